@@ -1,0 +1,146 @@
+-- The world after an event that nothing refused, by the answer that the record has.
+use Rattle.std.specs.Prelude.{ℕ, ◌/◌, Bool, true, ◌==◌, ◌&&◌, not, Option, Some, None, List, [], ◌∷◌, ◌++◌, filter}
+use Rattle.std.specs.List.{list_any}
+use Rattle.iofd_words.specs.Areas.{is_of, is_touched, with_area, with_leaving, all_paid}
+use Rattle.iofd_words.specs.Attachments.{attachment_of, has_device_on, devices_of, with_attachment, without_attachment}
+use Rattle.iofd_words.specs.Files.{user_of, device_of}
+use Rattle.iofd_words.specs.Frames.{without_frame}
+use Rattle.iofd_words.specs.Objects.{automatic_hwpt, binding_of, is_automatic, is_object, with_object, without_object}
+use Rattle.iofd_words.specs.Pages.{page_of, offset_of}
+use Rattle.iofd_words.specs.Pins.{pinned_pages, settled}
+use Rattle.iofd_words.specs.Rights.{is_writeable, rights_of}
+use Rattle.iofd_words.specs.Settings.{DeviceSettings}
+use Rattle.iofd_words.specs.Span.{span_from}
+use Rattle.iofd_words.specs.World.{World}
+use Rattle.iofd_words.specs.declared.event.Event.{Event}
+use Rattle.iofd_words.specs.declared.event.Event.TheVariants as event
+use Rattle.iofd_words.specs.declared.event.MapRequest.{MapRequest}
+use Rattle.iofd_words.specs.declared.numbers.DeviceNo.{DeviceNo}
+use Rattle.iofd_words.specs.declared.numbers.FileNo.{FileNo}
+use Rattle.iofd_words.specs.declared.numbers.ObjId.{ObjId}
+use Rattle.iofd_words.specs.declared.numbers.UserNo.{UserNo}
+use Rattle.iofd_words.specs.declared.reply.Reply.{Reply}
+use Rattle.iofd_words.specs.declared.reply.Reply.TheVariants as reply
+use Rattle.iofd_words.specs.declared.rows.Area.{Area}
+use Rattle.iofd_words.specs.declared.rows.Attachment.{Attachment}
+use Rattle.iofd_words.specs.declared.rows.MemoryObject.{MemoryObject}
+use Rattle.iofd_words.specs.declared.rows.Object.{Object}
+use Rattle.iofd_words.specs.declared.rows.ObjectKind.TheVariants as kind
+use Rattle.iofd_words.specs.declared.rows.Phase.TheVariants.{Live}
+use Rattle.iofd_words.specs.declared.width.Width.{Width}
+
+-- ---- pins follow the areas and the page tables
+
+-- the pins of the new world, where its pages' pins of the old one stay
+unfoldable pub settle : World → World → World
+settle old new =
+    record new { pins = settled (pinned_pages old.objects old.areas) (pinned_pages new.objects new.areas) new.memory new.user_pages old.pins }
+
+-- ---- areas come and go
+
+-- the memory object that a MAP makes; the position of its record is its number
+abbrev pub memory_object : ℕ → UserNo → MapRequest → MemoryObject
+memory_object at user request =
+    record { number = at; user = user; va = request.user_va; count = request.length / 4096; writable = is_writeable request.flags }
+
+abbrev pub mapped_area : ℕ → FileNo → MapRequest → Area
+mapped_area at file request =
+    record {
+      file = file;
+      ioas = request.ioas;
+      span = span_from request.iova.0 request.length;
+      memory = at;
+      rights = rights_of request.flags;
+      phase = Live;
+    }
+
+-- the areas that pass the test go, and with its last area a memory object
+unfoldable pub without_areas : (Area → Bool) → World → World
+without_areas goes w =
+    record w {
+      areas = filter (λ area. not (goes area)) w.areas;
+      memory = filter (λ m. list_any (λ area. area.memory == m.number && not (goes area)) w.areas) w.memory;
+    }
+
+-- a MAP of a file's user; each file has one
+abbrev pub map_changes : ℕ → World → FileNo → MapRequest → Option UserNo → World
+map_changes at w file request None = w
+map_changes at w file request (Some user) =
+    settle w (record w {
+      memory = w.memory ++ memory_object at user request ∷ [];
+      areas = with_area (mapped_area at file request) w.areas;
+    })
+
+-- ---- devices come and go
+
+-- the device translates by this page table of its file, which is made where there is no automatic one yet
+abbrev pub with_hwpt : FileNo → ObjId → ObjId → Width → Option Object → List Object → List Object
+with_hwpt file ioas id width (Some object) objects = objects
+with_hwpt file ioas id width None objects =
+    with_object (record { file = file; id = id; kind = kind.Hwpt ioas width true }) objects
+
+unfoldable pub attached : World → DeviceNo → ObjId → ObjId → Object → DeviceSettings → World
+attached w device ioas id bound settings =
+    record w {
+      objects = with_hwpt bound.file ioas id settings.width (automatic_hwpt w.objects bound.file ioas settings.width) w.objects;
+      attachments = with_attachment (record { device = device; file = bound.file; hwpt = id }) w.attachments;
+      areas = all_paid device w.areas;
+    }
+
+-- the page table of an attachment that ends, if it is an automatic one that no other device uses
+abbrev pub goes_with : List Attachment → Attachment → Object → Bool
+goes_with others a object =
+    is_object a.file a.hwpt object && is_automatic object.kind && not (has_device_on others a.file a.hwpt)
+
+unfoldable pub detached : World → DeviceNo → Attachment → World
+detached w device a =
+    record w {
+      objects = filter (λ object. not (goes_with (without_attachment device w.attachments) a object)) w.objects;
+      attachments = without_attachment device w.attachments;
+      areas = all_paid device w.areas;
+    }
+
+-- a device that is bound, and so is one of the settings, is attached; one that is attached is detached
+abbrev pub attach_changes : World → DeviceNo → ObjId → ObjId → Option Object → Option DeviceSettings → World
+attach_changes w device ioas id None settings = w
+attach_changes w device ioas id (Some bound) None = w
+attach_changes w device ioas id (Some bound) (Some settings) = settle w (attached w device ioas id bound settings)
+
+abbrev pub detach_changes : World → DeviceNo → Option Attachment → World
+detach_changes w device None = w
+detach_changes w device (Some a) = settle w (detached w device a)
+
+-- ---- the world after each event, at the record's position
+
+unfoldable pub changed : ℕ → World → Event → Reply → World
+changed at w (event.IoasAlloc file) (reply.Id id) =
+    record w { objects = with_object (record { file = file; id = id; kind = kind.Ioas }) w.objects }
+changed at w (event.Map file request) (reply.Iova iova) =
+    map_changes at w file request (user_of w.settings file)
+changed at w (event.Unmap file request) (reply.Bytes count) = settle w (without_areas (is_touched file request) w)
+changed at w (event.Unmap file request) (reply.Pending errno) =
+    record w { areas = with_leaving w.areas (devices_of w.objects w.attachments file request.ioas) file request }
+changed at w (event.Destroy file id) reply.Done =
+    settle w (record (without_areas (is_of file id) w) { objects = without_object file id w.objects })
+changed at w (event.Close file) reply.Done =
+    settle w (record (without_areas (λ area. area.file.0 == file.0) w) {
+      objects = filter (λ object. not (object.file.0 == file.0)) w.objects;
+      attachments = filter (λ a. not (a.file.0 == file.0)) w.attachments;
+      closed = w.closed ++ file ∷ [];
+    })
+changed at w (event.UserMap user va) (reply.Frame frame) =
+    record w {
+      user_pages = w.user_pages ++ record { user = user; page = page_of va; frame = frame } ∷ [];
+      writes = without_frame frame.0 w.writes;
+    }
+changed at w (event.Bind file device) (reply.Id id) =
+    record w { objects = with_object (record { file = file; id = id; kind = kind.Device device }) w.objects }
+changed at w (event.Attach device pt_id) (reply.Id id) =
+    attach_changes w device pt_id id (binding_of w.objects device) (device_of w.settings device)
+changed at w (event.Detach device) reply.Done =
+    detach_changes w device (attachment_of w.attachments device)
+changed at w (event.Flush device) reply.Done = record w { areas = all_paid device w.areas }
+changed at w (event.DeviceWrite device iova bytes) (reply.Passed frame) =
+    record w { writes = record { frame = frame.0; offset = offset_of iova.0; bytes = bytes } ∷ w.writes }
+-- a write that was denied leaves the world as it was
+changed at w event answer = w

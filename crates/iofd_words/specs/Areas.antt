@@ -1,0 +1,98 @@
+-- The areas of address spaces: live, or leaving until the devices that may have cached them have flushed.
+use Rattle.std.specs.Prelude.{ℕ, Bool, ◌==◌, ◌&&◌, not, nat_le, nat_lt, Option, List, [], ◌∷◌, length, map, filter, find, sum_by, if◌then◌else◌}
+use Rattle.std.specs.List.{list_any}
+use Rattle.iofd_words.specs.Bounds.{Bounds}
+use Rattle.iofd_words.specs.Span.{holds, meets, lies_in, size_of, span_from}
+use Rattle.iofd_words.specs.DeviceSet.{without_device}
+use Rattle.iofd_words.specs.declared.numbers.FileNo.{FileNo}
+use Rattle.iofd_words.specs.declared.numbers.ObjId.{ObjId}
+use Rattle.iofd_words.specs.declared.numbers.DeviceNo.{DeviceNo}
+use Rattle.iofd_words.specs.declared.event.UnmapRequest.{UnmapRequest}
+use Rattle.iofd_words.specs.declared.rows.Area.{Area}
+use Rattle.iofd_words.specs.declared.rows.Phase.{Phase}
+use Rattle.iofd_words.specs.declared.rows.Phase.TheVariants.{Live, Leaving}
+
+-- ---- one area
+
+-- an area of this address space
+abbrev pub is_of : FileNo → ObjId → Area → Bool
+is_of file ioas area = area.file.0 == file.0 && area.ioas.0 == ioas.0
+
+-- the devices that still have to flush, where those attached now are given
+abbrev pub owed_by : List ℕ → Phase → List ℕ
+owed_by attached Live = attached
+owed_by attached (Leaving owed tries) = owed
+
+-- live no longer: those attached now have to flush
+abbrev pub leaving : List ℕ → Phase → Phase
+leaving attached Live = Leaving attached 0
+leaving attached (Leaving owed tries) = Leaving owed tries
+
+-- the device has flushed
+abbrev pub paid : DeviceNo → Phase → Phase
+paid device Live = Live
+paid device (Leaving owed tries) = Leaving (without_device device.0 owed) tries
+
+abbrev pub with_phase : Phase → Area → Area
+with_phase phase area = record area { phase = phase }
+
+-- ---- all areas
+
+abbrev pub areas_of : List Area → FileNo → ObjId → List Area
+areas_of areas file ioas = filter (is_of file ioas) areas
+
+-- the area of the address space that holds the address
+abbrev pub area_at : List Area → FileNo → ObjId → ℕ → Option Area
+area_at areas file ioas address = find (λ area. is_of file ioas area && holds area.span address) areas
+
+-- some area of the address space meets the span
+abbrev pub meets_area : List Area → FileNo → ObjId → Bounds → Bool
+meets_area areas file ioas span = list_any (λ area. is_of file ioas area && meets area.span span) areas
+
+-- an address space has at most 65,535 areas
+abbrev pub has_no_room : List Area → FileNo → ObjId → Bool
+has_no_room areas file ioas = nat_le 65535 (length (areas_of areas file ioas))
+
+-- one more area, before the first of its address space that begins after it
+abbrev pub with_area : Area → List Area → List Area
+with_area area [] = area ∷ []
+with_area area (a ∷ areas) =
+    if is_of area.file area.ioas a && nat_lt area.span.first a.span.first then area ∷ a ∷ areas else a ∷ with_area area areas
+
+-- every area has heard of the device's flush
+abbrev pub all_paid : DeviceNo → List Area → List Area
+all_paid device areas = map (λ area. with_phase (paid device area.phase) area) areas
+
+-- ---- what an UNMAP names
+
+-- iova 0 with a length of 2^64 - 1 is every address, the last one too
+abbrev pub is_everything : UnmapRequest → Bool
+is_everything request = request.iova.0 == 0 && request.length == 0xffff_ffff_ffff_ffff
+
+abbrev pub unmapped_span : UnmapRequest → Bounds
+unmapped_span request =
+    if is_everything request then record { first = 0; last = 0xffff_ffff_ffff_ffff } else span_from request.iova.0 request.length
+
+-- the areas of its address space that meet its span
+abbrev pub is_touched : FileNo → UnmapRequest → Area → Bool
+is_touched file request area = is_of file request.ioas area && meets area.span (unmapped_span request)
+
+abbrev pub touched : List Area → FileNo → UnmapRequest → List Area
+touched areas file request = filter (is_touched file request) areas
+
+-- one that it would cut
+abbrev pub is_cut : FileNo → UnmapRequest → Area → Bool
+is_cut file request area = is_touched file request area && not (lies_in area.span (unmapped_span request))
+
+-- some device still has to flush before the touched areas may go
+abbrev pub is_waiting : List Area → List ℕ → FileNo → UnmapRequest → Bool
+is_waiting areas attached file request = list_any (λ area. not (length (owed_by attached area.phase) == 0)) (touched areas file request)
+
+-- how many bytes go
+abbrev pub touched_bytes : List Area → FileNo → UnmapRequest → ℕ
+touched_bytes areas file request = sum_by (λ area. size_of area.span) (touched areas file request)
+
+-- all touched areas are leaving
+abbrev pub with_leaving : List Area → List ℕ → FileNo → UnmapRequest → List Area
+with_leaving areas attached file request =
+    map (λ area. with_phase (if is_touched file request area then leaving attached area.phase else area.phase) area) areas

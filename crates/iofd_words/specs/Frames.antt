@@ -1,0 +1,47 @@
+-- Who reaches a frame, and what its bytes are.
+use Rattle.std.specs.Prelude.{ℕ, ◌+◌, ◌-◌, Bool, ◌==◌, ◌&&◌, ◌||◌, not, nat_le, nat_lt, Option, Some, None, List, [], ◌∷◌, length, map, filter, find, slice_index, if◌then◌else◌}
+use Rattle.std.specs.List.{list_any, range_with_len}
+use Rattle.iofd_words.specs.declared.numbers.FrameNo.{FrameNo}
+use Rattle.iofd_words.specs.declared.numbers.UserNo.{UserNo}
+use Rattle.iofd_words.specs.declared.rows.UserPage.{UserPage}
+use Rattle.iofd_words.specs.declared.rows.Pin.{Pin}
+
+-- the frame of a page in a user's memory
+abbrev pub frame_at : List UserPage → UserNo → ℕ → Option FrameNo
+frame_at pages user page =
+    elim (find (λ p. p.user.0 == user.0 && p.page == page) pages) [ Some p ↦ Some p.frame | None ↦ None ]
+
+-- a user's memory or a pin names the frame
+abbrev pub is_reached : List UserPage → List Pin → ℕ → Bool
+is_reached pages pins frame = list_any (λ p. p.frame.0 == frame) pages || list_any (λ pin. pin.frame.0 == frame) pins
+
+-- a frame of the pool that nobody reaches
+abbrev pub is_free : ℕ → List UserPage → List Pin → ℕ → Bool
+is_free pool pages pins frame = nat_lt frame pool && not (is_reached pages pins frame)
+
+abbrev pub has_free : ℕ → List UserPage → List Pin → Bool
+has_free pool pages pins = list_any (is_free pool pages pins) (range_with_len 0 pool)
+
+-- bytes that were written into a frame, from an offset on
+pub record FrameWrite : Type 0 where
+  pub frame : ℕ
+  pub offset : ℕ
+  pub bytes : List ℕ
+
+-- the write covers this byte
+abbrev pub covers : FrameWrite → ℕ → ℕ → Bool
+covers write frame offset =
+    write.frame == frame && nat_le write.offset offset && nat_lt offset (write.offset + length write.bytes)
+
+-- a byte of a frame: what was written there last, else zero
+abbrev pub byte_at : List FrameWrite → ℕ → ℕ → ℕ
+byte_at [] frame offset = 0
+byte_at (write ∷ writes) frame offset =
+    if covers write frame offset then slice_index write.bytes (offset - write.offset) else byte_at writes frame offset
+
+abbrev pub bytes_at : List FrameWrite → ℕ → ℕ → ℕ → List ℕ
+bytes_at writes frame offset len = map (byte_at writes frame) (range_with_len offset len)
+
+-- what is left of the writes when a frame is given out: its old bytes are gone
+abbrev pub without_frame : ℕ → List FrameWrite → List FrameWrite
+without_frame frame writes = filter (λ write. not (write.frame == frame)) writes

@@ -1,0 +1,94 @@
+-- The objects of a file (iommufd.rst, "User Objects").
+use Rattle.std.specs.Prelude.{◌-◌, ◌^◌, Bool, true, false, ◌==◌, ◌&&◌, ◌||◌, not, nat_le, nat_lt, Option, Some, None, is_some, List, [], ◌∷◌, length, filter, find, if◌then◌else◌}
+use Rattle.std.specs.List.{list_any}
+use Rattle.iofd_words.specs.Settings.{is_between}
+use Rattle.iofd_words.specs.declared.numbers.FileNo.{FileNo}
+use Rattle.iofd_words.specs.declared.numbers.ObjId.{ObjId}
+use Rattle.iofd_words.specs.declared.numbers.DeviceNo.{DeviceNo}
+use Rattle.iofd_words.specs.declared.width.Width.{Width}
+use Rattle.iofd_words.specs.declared.rows.Object.{Object}
+use Rattle.iofd_words.specs.declared.rows.ObjectKind.{ObjectKind}
+use Rattle.iofd_words.specs.declared.rows.ObjectKind.TheVariants as kind
+use Rattle.iofd_words.specs.Width.{bits_of}
+
+-- ---- one object
+
+abbrev pub is_object : FileNo → ObjId → Object → Bool
+is_object file id object = object.file.0 == file.0 && object.id.0 == id.0
+
+abbrev pub is_ioas : ObjectKind → Bool
+is_ioas kind.Ioas = true
+is_ioas (kind.Hwpt ioas width automatic) = false
+is_ioas (kind.Device device) = false
+
+-- a hardware page table over the address space
+abbrev pub is_hwpt_over : ObjId → ObjectKind → Bool
+is_hwpt_over ioas kind.Ioas = false
+is_hwpt_over ioas (kind.Hwpt over width automatic) = over.0 == ioas.0
+is_hwpt_over ioas (kind.Device device) = false
+
+-- an automatic one of the width
+abbrev pub is_automatic_over : ObjId → Width → ObjectKind → Bool
+is_automatic_over ioas width kind.Ioas = false
+is_automatic_over ioas width (kind.Hwpt over of automatic) = over.0 == ioas.0 && automatic && (bits_of of == bits_of width)
+is_automatic_over ioas width (kind.Device device) = false
+
+abbrev pub is_automatic : ObjectKind → Bool
+is_automatic kind.Ioas = false
+is_automatic (kind.Hwpt ioas width automatic) = automatic
+is_automatic (kind.Device device) = false
+
+abbrev pub is_bound_device : ObjectKind → Bool
+is_bound_device kind.Ioas = false
+is_bound_device (kind.Hwpt ioas width automatic) = false
+is_bound_device (kind.Device device) = true
+
+-- this device
+abbrev pub is_bound_as : DeviceNo → ObjectKind → Bool
+is_bound_as device kind.Ioas = false
+is_bound_as device (kind.Hwpt ioas width automatic) = false
+is_bound_as device (kind.Device bound) = bound.0 == device.0
+
+-- ---- all objects
+
+-- the kind of a file's object, if it has one of this id
+abbrev pub kind_of : List Object → FileNo → ObjId → Option ObjectKind
+kind_of objects file id = elim (find (is_object file id) objects) [ Some object ↦ Some object.kind | None ↦ None ]
+
+abbrev pub objects_of : List Object → FileNo → List Object
+objects_of objects file = filter (λ object. object.file.0 == file.0) objects
+
+-- the file has an object of this id, and it is an address space
+abbrev pub has_ioas : List Object → FileNo → ObjId → Bool
+has_ioas objects file id = elim (kind_of objects file id) [ Some kind ↦ is_ioas kind | None ↦ false ]
+
+-- the address space has a hardware page table
+abbrev pub has_hwpt : List Object → FileNo → ObjId → Bool
+has_hwpt objects file ioas = list_any (λ object. object.file.0 == file.0 && is_hwpt_over ioas object.kind) objects
+
+-- the automatic page table of this width
+abbrev pub automatic_hwpt : List Object → FileNo → ObjId → Width → Option Object
+automatic_hwpt objects file ioas width = find (λ object. object.file.0 == file.0 && is_automatic_over ioas width object.kind) objects
+
+-- the object by which a device is bound to a file
+abbrev pub binding_of : List Object → DeviceNo → Option Object
+binding_of objects device = find (λ object. is_bound_as device object.kind) objects
+
+-- a file has at most 65,535 objects
+abbrev pub is_full : List Object → FileNo → Bool
+is_full objects file = nat_le 65535 (length (objects_of objects file))
+
+-- an id that may be given out
+abbrev pub is_fresh : List Object → FileNo → ObjId → Bool
+is_fresh objects file id = is_between 1 (2 ^ 31 - 1) id.0 && not (is_some (kind_of objects file id))
+
+-- one more object, by rising file and then by rising id
+abbrev pub comes_before : Object → Object → Bool
+comes_before a b = nat_lt a.file.0 b.file.0 || (a.file.0 == b.file.0 && nat_lt a.id.0 b.id.0)
+
+abbrev pub with_object : Object → List Object → List Object
+with_object object [] = object ∷ []
+with_object object (o ∷ os) = if comes_before object o then object ∷ o ∷ os else o ∷ with_object object os
+
+abbrev pub without_object : FileNo → ObjId → List Object → List Object
+without_object file id objects = filter (λ object. not (is_object file id object)) objects

@@ -1,0 +1,81 @@
+-- What may come of a device's access (VT-d, "Address Translation" and "Fault Reasons", legacy mode).
+use Rattle.std.specs.Prelude.{ℕ, ◌-◌, ◌/◌, ◌^◌, nat_le, Option, Some, None, List, [], ◌∷◌, ◌++◌, if◌then◌else◌}
+use Rattle.iofd_words.specs.Areas.{area_at}
+use Rattle.iofd_words.specs.Attachments.{attachment_of, ioas_of_attachment}
+use Rattle.iofd_words.specs.DeviceSet.{has_device}
+use Rattle.iofd_words.specs.Fault.{denied_by}
+use Rattle.iofd_words.specs.Files.{device_of}
+use Rattle.iofd_words.specs.Pages.{page_of}
+use Rattle.iofd_words.specs.Pins.{ObjectPage, pinned_frame}
+use Rattle.iofd_words.specs.Rights.{has_right}
+use Rattle.iofd_words.specs.Settings.{DeviceSettings}
+use Rattle.iofd_words.specs.Width.{bits_of}
+use Rattle.iofd_words.specs.World.{World}
+use Rattle.iofd_words.specs.declared.fault.AccessKind.{AccessKind}
+use Rattle.iofd_words.specs.declared.fault.Fault.{Fault}
+use Rattle.iofd_words.specs.declared.fault.FaultReason.{FaultReason}
+use Rattle.iofd_words.specs.declared.fault.FaultReason.TheVariants.{NoContext, BeyondWidth}
+use Rattle.iofd_words.specs.declared.numbers.DeviceNo.{DeviceNo}
+use Rattle.iofd_words.specs.declared.numbers.FrameNo.{FrameNo}
+use Rattle.iofd_words.specs.declared.rows.Area.{Area}
+use Rattle.iofd_words.specs.declared.rows.Attachment.{Attachment}
+use Rattle.iofd_words.specs.declared.rows.Phase.{Phase}
+use Rattle.iofd_words.specs.declared.rows.Phase.TheVariants.{Live, Leaving}
+use Rattle.iofd_words.specs.declared.rows.Pin.{Pin}
+
+-- it passes at a frame, or is denied for a reason
+pub data Outcome : Type 0 where
+  Passes : FrameNo → Outcome
+  Denied : FaultReason → Outcome
+
+-- the page of its memory object that an area has at the address
+abbrev pub page_in : Area → ℕ → ObjectPage
+page_in area address = record { memory = area.memory; index = (address - area.span.first) / 4096 }
+
+-- passing at the frame of the page's pin
+abbrev pub passing : List Pin → Area → ℕ → List Outcome
+passing pins area address = elim (pinned_frame pins (page_in area address)) [ Some frame ↦ Passes frame ∷ [] | None ↦ [] ]
+
+-- a live area lets it pass; a leaving one may, as long as the device owes a flush, or may deny it
+abbrev pub by_phase : DeviceNo → Phase → List Outcome → List Outcome → List Outcome
+by_phase device Live pass deny = pass
+by_phase device (Leaving owed tries) pass deny = if has_device owed device.0 then pass ++ deny else deny
+
+-- what may come of it at the area that holds the address
+abbrev pub at_area : List Pin → DeviceNo → ℕ → AccessKind → Option Area → List Outcome
+at_area pins device address kind None = Denied (denied_by kind) ∷ []
+at_area pins device address kind (Some area) =
+    if has_right area.rights kind
+    then by_phase device area.phase (passing pins area address) (Denied (denied_by kind) ∷ [])
+    else Denied (denied_by kind) ∷ []
+
+-- where the device is attached
+abbrev pub translated : World → DeviceNo → ℕ → AccessKind → Attachment → List Outcome
+translated w device address kind a =
+    elim (ioas_of_attachment w.objects a) [
+      | Some ioas ↦ at_area w.pins device address kind (area_at w.areas a.file ioas address)
+      | None ↦ Denied (denied_by kind) ∷ []
+    ]
+
+-- the address is at or above the width of the device's tables
+abbrev pub is_beyond : Option DeviceSettings → ℕ → List Outcome → List Outcome → List Outcome
+is_beyond None address beyond within = within
+is_beyond (Some device) address beyond within = if nat_le (2 ^ bits_of device.width) address then beyond else within
+
+-- all that may come of it: no attachment, then the width, then the area
+unfoldable pub outcomes : World → DeviceNo → ℕ → AccessKind → List Outcome
+outcomes w device address kind =
+    elim (attachment_of w.attachments device) [
+      | None ↦ Denied NoContext ∷ []
+      | Some a ↦ is_beyond (device_of w.settings device) address (Denied BeyondWidth ∷ []) (translated w device address kind a)
+    ]
+
+-- how a denial is told: the device's source id, the address's page, the kind of access and the reason
+abbrev pub fault_of : World → DeviceNo → ℕ → AccessKind → FaultReason → Fault
+fault_of w device address kind reason =
+    record {
+      source = elim (device_of w.settings device) [ Some d ↦ d.source | None ↦ record { 0 = 0 } ];
+      page = page_of address;
+      kind = kind;
+      reason = reason;
+    }

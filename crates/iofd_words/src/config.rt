@@ -1,0 +1,216 @@
+//! What a server is opened with, and its limits.
+
+ghost use Rattle.std.specs.Prelude.{◌≡◌, None};
+ghost use Rattle.std.specs.List.{list_all};
+ghost use Rattle.iofd_words.specs.Settings.{is_between, is_device_in_limits};
+ghost use Rattle.iofd_words.specs.Span.{is_whole_pages};
+
+use crate::lists::SpanList;
+use crate::numbers::{SourceId, UserNo};
+use crate::span::Span;
+use crate::width::Width;
+use std::alloc::{Allocator, Global};
+use std::marker::Model;
+
+/// A device of a server: its source id, the width of its addresses, whether it has the interrupt range
+/// of x86, and its reserved spans.
+#[derive(Debug, Drop)]
+pub struct DeviceConfig<A: Allocator = Global> {
+    source: SourceId,
+    width: Width,
+    x86: bool,
+    reserved: SpanList<A>,
+}
+
+impl<A: Allocator> Model for DeviceConfig<A> {
+    ghost use Rattle.iofd_words.specs.Settings.{DeviceSettings};
+
+    ghost Value = { DeviceSettings };
+
+    ghost view = { λ device. record { source = device.source; width = device.width; x86 = device.x86; reserved = device.reserved } };
+}
+
+impl<A: Allocator> DeviceConfig<A> {
+    /// A device. It takes no memory.
+    pub fn new(source: SourceId, width: Width, x86: bool, reserved: SpanList<A>) -> DeviceConfig<A>
+        ensures { result ≡ record { source = source; width = width; x86 = x86; reserved = reserved } }
+    {
+        DeviceConfig {
+            source,
+            width,
+            x86,
+            reserved,
+        }
+    }
+
+    /// The id by which the IOMMU knows it.
+    pub fn source(&self) -> SourceId
+        ensures { result ≡ self.now.source }
+    {
+        self.source
+    }
+
+    /// The width of its addresses.
+    pub fn width(&self) -> Width
+        ensures { result ≡ self.now.width }
+    {
+        self.width
+    }
+
+    /// Whether it has the interrupt range of x86.
+    pub fn is_x86(&self) -> bool
+        ensures { result ≡ self.now.x86 }
+    {
+        self.x86
+    }
+
+    /// The spans that it must not be given addresses in.
+    pub fn reserved(&self) -> &[Span]
+        ensures { result.now ≡ self.now.reserved }
+    {
+        self.reserved.as_slice()
+    }
+}
+
+/// Which part of a configuration is outside its limits.
+#[derive(Clone, Copy, PartialEq, Eq, Debug)]
+pub enum ConfigError {
+    /// The pool has 1 to 4096 frames.
+    Pool,
+    /// There are 1 to 255 users.
+    Users,
+    /// There are 1 to 1024 files, each of a user that is there.
+    Files,
+    /// There are at most 256 devices, each with at most 16 reserved spans of whole pages.
+    Devices,
+    /// There are 1 to 1024 passes.
+    Passes,
+}
+
+/// What a server is opened with. Its values are within the limits.
+#[derive(Debug, Drop)]
+pub struct Config<A: Allocator = Global> {
+    pool: u32,
+    users: Vec<u64, A>,
+    files: Vec<UserNo, A>,
+    devices: Vec<DeviceConfig<A>, A>,
+    passes: u16,
+}
+
+impl<A: Allocator> Model for Config<A> {
+    ghost use Rattle.std.specs.Prelude.{◌≡◌, None};
+    ghost use Rattle.iofd_words.specs.Settings.{Settings};
+
+    ghost Value = { Settings };
+
+    ghost use Rattle.iofd_words.specs.Limits.{first_outside};
+
+    ghost view = { λ c. record { pool = c.pool; users = c.users.items; files = c.files.items; devices = c.devices.items; passes = c.passes } };
+
+    ghost invariant = { λ c. first_outside (record { pool = c.pool; users = c.users.items; files = c.files.items; devices = c.devices.items; passes = c.passes }) ≡ None };
+}
+
+impl<A: Allocator> Config<A> {
+    ghost use Rattle.iofd_words.specs.Limits.{opened, first_outside};
+
+    /// The configuration of a pool of so many frames, users with these limits of pinned pages (from
+    /// user 1 on), files of these users (from file 1 on), these devices (from device 1 on) and so
+    /// many passes. It takes no memory. The error is the first field that is outside its limits.
+    pub fn new(
+        pool: u32,
+        users: Vec<u64, A>,
+        files: Vec<UserNo, A>,
+        devices: Vec<DeviceConfig<A>, A>,
+        passes: u16,
+    ) -> Result<Config<A>, ConfigError>
+        ensures { result ≡ opened (record { pool = pool; users = users.items; files = files.items; devices = devices.items; passes = passes }) }
+    {
+        if pool == 0 || pool > 4096 {
+            return Err(ConfigError::Pool);
+        }
+        if users.is_empty() || users.len() > 255 {
+            return Err(ConfigError::Users);
+        }
+        if files.is_empty() || files.len() > 1024 || !are_known(&files, users.len()) {
+            return Err(ConfigError::Files);
+        }
+        if devices.len() > 256 || !are_in_limits(&devices) {
+            return Err(ConfigError::Devices);
+        }
+        if passes == 0 || passes > 1024 {
+            return Err(ConfigError::Passes);
+        }
+        Ok(Config {
+            pool,
+            users,
+            files,
+            devices,
+            passes,
+        })
+    }
+
+    /// How many frames the pool has, 1 to 4096.
+    pub fn pool(&self) -> u32
+        ensures value { result ≡ self.now.pool }
+        ensures within { first_outside self.now ≡ None }
+    {
+        self.pool
+    }
+
+    /// The limits of the users' pinned pages, from user 1 on.
+    pub fn users(&self) -> &[u64]
+        ensures { result.now ≡ self.now.users }
+    {
+        self.users.as_slice()
+    }
+
+    /// The users of the files, from file 1 on.
+    pub fn files(&self) -> &[UserNo]
+        ensures { result.now ≡ self.now.files }
+    {
+        self.files.as_slice()
+    }
+
+    /// The devices, from device 1 on.
+    pub fn devices(&self) -> &[DeviceConfig<A>]
+        ensures { result.now ≡ self.now.devices }
+    {
+        self.devices.as_slice()
+    }
+
+    /// How many callers there may be.
+    pub fn passes(&self) -> u16
+        ensures { result ≡ self.now.passes }
+    {
+        self.passes
+    }
+}
+
+// Whether each file's user is one of so many.
+fn are_known(files: &[UserNo], users: usize) -> bool
+    ensures { result ≡ list_all (λ user. is_between 1 users user.0) files.now }
+{
+    files
+        .iter()
+        .all(|user| user.0 >= 1 && usize::from(user.0) <= users)
+}
+
+// Whether each device's reserved spans are within their limits.
+fn are_in_limits<A: Allocator>(devices: &[DeviceConfig<A>]) -> bool
+    ensures { result ≡ list_all is_device_in_limits devices.now }
+{
+    devices.iter().all(|device| is_in_limits(device))
+}
+
+fn is_in_limits<A: Allocator>(device: &DeviceConfig<A>) -> bool
+    ensures { result ≡ is_device_in_limits device.now }
+{
+    let reserved = device.reserved();
+    reserved.len() <= 16 && are_whole_pages(reserved)
+}
+
+fn are_whole_pages(spans: &[Span]) -> bool
+    ensures { result ≡ list_all is_whole_pages spans.now }
+{
+    spans.iter().all(|span| span.is_whole_pages())
+}

@@ -1,0 +1,70 @@
+//! Laws of the definitions, each the contract of a function that does nothing.
+
+ghost use Rattle.std.specs.Prelude.{◌≡◌, ◌≢◌, ℕ, List, ◌∷◌, [], ◌++◌, Some, IsTrue};
+ghost use Rattle.iofd_words.specs.FirstScript as script;
+ghost use Rattle.iofd_words.specs.Laws.{are_apart, have_own_frames, WasFree, file_of, rows_of};
+ghost use Rattle.iofd_words.specs.Run.{IsRun, after, world_of};
+ghost use Rattle.iofd_words.specs.Settings.{Settings};
+ghost use Rattle.iofd_words.specs.World.{World};
+ghost use Rattle.iofd_words.specs.declared.numbers.FileNo.{FileNo};
+ghost use Rattle.iofd_words.specs.declared.numbers.FrameNo.{FrameNo};
+ghost use Rattle.iofd_words.specs.declared.record.Record.{Record};
+ghost use Rattle.iofd_words.specs.declared.reply.Reply.TheVariants as reply;
+ghost use Rattle.iofd_words.specs.Look.{answers_to};
+ghost use Rattle.iofd_words.specs.declared.fault.FaultReason.TheVariants.{ReadDenied};
+
+use std::alloc::Allocator;
+
+/// In every run, two areas of one address space never overlap, leaving ones included.
+pub fn areas_never_overlap<A: Allocator>()
+    ensures { (settings : Settings) (records : List (Record A)) → IsRun settings records →
+        IsTrue (are_apart (world_of settings records).areas) }
+{}
+
+/// In every run, a frame is the page of at most one user page.
+pub fn user_pages_have_own_frames<A: Allocator>()
+    ensures { (settings : Settings) (records : List (Record A)) → IsRun settings records →
+        IsTrue (have_own_frames (world_of settings records).user_pages) }
+{}
+
+/// In every run, a frame that is given out is one of the pool that no user and no pin had.
+pub fn only_free_frames_are_given_out<A: Allocator>()
+    ensures { (settings : Settings) (before : List (Record A)) (r : Record A) (later : List (Record A)) (frame : FrameNo) →
+        IsRun settings (before ++ r ∷ later) → r.reply ≡ reply.Frame frame → WasFree (world_of settings before) frame }
+{}
+
+/// A command of one file changes no row of another.
+pub fn files_are_apart<A: Allocator>()
+    ensures { (at : ℕ) (w : World) (r : Record A) (own other : FileNo) →
+        file_of r.event ≡ Some own → own.0 ≢ other.0 → rows_of other (after at w r) ≡ rows_of other w }
+{}
+
+/// The records of a script that was worked by hand are a run.
+pub fn worked_script_is_a_run()
+    ensures { IsRun script.settings script.whole }
+{}
+
+/// What the device is answered in that script, by the worlds that its records leave.
+pub fn worked_script_reads()
+    ensures bytes { answers_to (world_of script.settings script.beginning) (script.read 0x1ffe 2) ≡ script.bytes_read ∷ [] }
+    ensures crossing { answers_to (world_of script.settings script.beginning) (script.read 0x1fff 2) ≡ script.refused_read ∷ [] }
+    ensures elsewhere { answers_to (world_of script.settings script.beginning) (script.read 0x2000 1) ≡ script.denied 2 ∷ [] }
+{}
+
+/// Records that differ from those of the script in one place are no run.
+pub fn altered_scripts_are_no_runs()
+    // a frame that is a page of the user is given out again
+    ensures frame_again { IsRun script.settings (script.beginning ++ script.frame_again ∷ []) → ⊥ }
+    // a frame that the pool doesn't have is given out
+    ensures frame_beyond { IsRun script.settings (script.beginning ++ script.frame_beyond ∷ []) → ⊥ }
+    // a write to a live area is denied
+    ensures live_denied { IsRun script.settings (script.beginning ++ script.write_denied ReadDenied ∷ []) → ⊥ }
+    // a write is denied for the reason of a read, where the device still owes its flush
+    ensures other_reason { IsRun script.settings (script.beginning ++ script.still_owed ++ script.write_denied ReadDenied ∷ []) → ⊥ }
+    // an object of another file is destroyed
+    ensures other_file { IsRun script.settings (script.beginning ++ script.other_file ∷ []) → ⊥ }
+    // an UNMAP answers its bytes before the flush
+    ensures too_early { IsRun script.settings (script.beginning ++ script.too_early ∷ []) → ⊥ }
+    // of two causes that apply the second is answered
+    ensures wrong_cause { IsRun script.settings (script.beginning ++ script.wrong_cause ∷ []) → ⊥ }
+{}

@@ -1,0 +1,38 @@
+//! The words of the iommufd server: the values that every other crate names, and, in `specs/`, the
+//! definitions that every contract speaks of.
+#![tactic(auto)]
+
+mod burst;
+mod config;
+mod device_set;
+mod event;
+mod fault;
+mod flags;
+pub mod laws;
+mod lists;
+mod numbers;
+mod query;
+mod record;
+mod refusal;
+mod reply;
+mod rows;
+mod span;
+#[cfg(test)]
+mod tests;
+mod width;
+
+pub use burst::Burst;
+pub use config::{Config, ConfigError, DeviceConfig};
+pub use device_set::DeviceSet;
+pub use event::{Act, Event, MapRequest, UnmapRequest};
+pub use fault::{AccessKind, Fault, FaultReason};
+pub use flags::{MapFlags, Rights};
+pub use lists::{FrameList, SpanList};
+pub use numbers::{DeviceNo, FileNo, FrameNo, Iova, ObjId, PAGE_SIZE, PassNo, SourceId, UserNo};
+pub use query::{Answer, Query};
+pub use record::Record;
+pub use refusal::{Cause, Errno, NoMemory, Refusal};
+pub use reply::Reply;
+pub use rows::{Area, Attachment, MemoryObject, Object, ObjectKind, Phase, Pin, UserPage};
+pub use span::Span;
+pub use width::Width;

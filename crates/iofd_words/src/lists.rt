@@ -1,0 +1,84 @@
+//! Lists that contracts see as lists.
+
+ghost use Rattle.std.specs.Prelude.{◌≡◌};
+
+use crate::numbers::FrameNo;
+use crate::span::Span;
+use std::alloc::{Allocator, Global};
+use std::marker::Model;
+
+/// Frames, in the order in which they were taken or given back.
+#[derive(Debug, Drop)]
+pub struct FrameList<A: Allocator = Global> {
+    frames: Vec<FrameNo, A>,
+}
+
+impl<A: Allocator> Model for FrameList<A> {
+    ghost use Rattle.std.specs.Prelude.{List};
+    ghost use Rattle.iofd_words.specs.declared.numbers.FrameNo.{FrameNo};
+
+    ghost Value = { List FrameNo };
+
+    ghost view = { λ list. list.frames.items };
+}
+
+impl<A: Allocator> FrameList<A> {
+    /// The list of these frames. It takes no memory.
+    pub fn new(frames: Vec<FrameNo, A>) -> FrameList<A>
+        ensures { result ≡ frames.items }
+    {
+        FrameList { frames }
+    }
+
+    /// The frames, in order.
+    pub fn as_slice(&self) -> &[FrameNo]
+        ensures { result.now ≡ self.now }
+    {
+        self.frames.as_slice()
+    }
+
+    /// The frames as they were handed in. It takes no memory.
+    pub fn into_vec(self) -> Vec<FrameNo, A>
+        ensures { result.items ≡ self }
+    {
+        self.frames
+    }
+}
+
+/// Spans of addresses, in the order given.
+#[derive(Debug, Drop)]
+pub struct SpanList<A: Allocator = Global> {
+    spans: Vec<Span, A>,
+}
+
+impl<A: Allocator> Model for SpanList<A> {
+    ghost use Rattle.std.specs.Prelude.{List};
+    ghost use Rattle.iofd_words.specs.Bounds.{Bounds};
+
+    ghost Value = { List Bounds };
+
+    ghost view = { λ list. list.spans.items };
+}
+
+impl<A: Allocator> SpanList<A> {
+    /// The list of these spans. It takes no memory.
+    pub fn new(spans: Vec<Span, A>) -> SpanList<A>
+        ensures { result ≡ spans.items }
+    {
+        SpanList { spans }
+    }
+
+    /// The spans, in order.
+    pub fn as_slice(&self) -> &[Span]
+        ensures { result.now ≡ self.now }
+    {
+        self.spans.as_slice()
+    }
+
+    /// The spans as they were handed in. It takes no memory.
+    pub fn into_vec(self) -> Vec<Span, A>
+        ensures { result.items ≡ self }
+    {
+        self.spans
+    }
+}

@@ -1,0 +1,18 @@
+//! The history of a server is a list of records.
+
+use crate::event::Event;
+use crate::lists::FrameList;
+use crate::numbers::PassNo;
+use crate::reply::Reply;
+use std::alloc::{Allocator, Global};
+
+/// One step: who made it, what was asked, what was answered, and the table frames that it took from the
+/// pool and gave back, in order.
+#[derive(Debug, Drop)]
+pub struct Record<A: Allocator = Global> {
+    pub pass: PassNo,
+    pub event: Event,
+    pub reply: Reply,
+    pub taken: FrameList<A>,
+    pub given: FrameList<A>,
+}

@@ -1,0 +1,89 @@
+//! The rows of which the world is made. The definitions, the server and the auditor share them.
+
+use crate::device_set::DeviceSet;
+use crate::flags::Rights;
+use crate::numbers::{DeviceNo, FileNo, FrameNo, ObjId, UserNo};
+use crate::span::Span;
+use crate::width::Width;
+
+/// What an object is.
+#[derive(Clone, Copy, PartialEq, Eq, Debug)]
+pub enum ObjectKind {
+    /// An I/O address space.
+    Ioas,
+    /// A hardware page table over an address space; an automatic one goes with its last device.
+    Hwpt {
+        ioas: ObjId,
+        width: Width,
+        automatic: bool,
+    },
+    /// A bound device.
+    Device(DeviceNo),
+}
+
+/// An object of a file. Ids are unique in a file.
+#[derive(Clone, Copy, PartialEq, Eq, Debug)]
+pub struct Object {
+    pub file: FileNo,
+    pub id: ObjId,
+    pub kind: ObjectKind,
+}
+
+/// Pages of a user that a MAP made ready for devices. Its number is the position of that MAP's record.
+#[derive(Clone, Copy, PartialEq, Eq, Debug)]
+pub struct MemoryObject {
+    pub number: u64,
+    pub user: UserNo,
+    /// The user address of its first page.
+    pub va: u64,
+    /// How many pages it has.
+    pub count: u64,
+    pub writable: bool,
+}
+
+/// Whether an area is mapped, or on its way out.
+#[derive(Debug, Drop)]
+pub enum Phase {
+    Live,
+    /// An UNMAP was called; these devices still have to flush, and this many further calls came.
+    Leaving { owed: DeviceSet, tries: u8 },
+}
+
+/// A span of an address space that is mapped: page `i` of the memory object lies `4096 * i` after the
+/// span's first address.
+#[derive(Debug, Drop)]
+pub struct Area {
+    pub file: FileNo,
+    pub ioas: ObjId,
+    pub span: Span,
+    /// The number of its memory object.
+    pub memory: u64,
+    pub rights: Rights,
+    pub phase: Phase,
+}
+
+/// A page in a user's memory: the page at `4096 * page` is this frame.
+#[derive(Clone, Copy, PartialEq, Eq, Debug)]
+pub struct UserPage {
+    pub user: UserNo,
+    pub page: u64,
+    pub frame: FrameNo,
+}
+
+/// A page of a memory object that devices may reach, and the frame that it had when it was pinned.
+#[derive(Clone, Copy, PartialEq, Eq, Debug)]
+pub struct Pin {
+    /// The number of its memory object.
+    pub memory: u64,
+    /// Which of its pages, from 0.
+    pub index: u64,
+    pub frame: FrameNo,
+}
+
+/// A device that translates by a hardware page table of its file.
+#[derive(Clone, Copy, PartialEq, Eq, Debug)]
+pub struct Attachment {
+    pub device: DeviceNo,
+    pub file: FileNo,
+    pub hwpt: ObjId,
+}
