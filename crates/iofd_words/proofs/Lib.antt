@@ -1,8 +1,12 @@
 pub mod AreasApart
 pub mod Bits
 pub mod Bools
+pub mod Bound
 pub mod Contained
 pub mod FilesApart
+pub mod Found
+pub mod KeepsBound
 pub mod Members
 pub mod OwnFrames
+pub mod OwnIds
 pub mod Runs

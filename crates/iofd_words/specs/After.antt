@@ -142,5 +142,5 @@ changed at w (event.Detach device) reply.Done =
 changed at w (event.Flush device) reply.Done = record w { areas = all_paid device w.areas }
 changed at w (event.DeviceWrite device iova bytes) (reply.Passed frame) =
     record w { writes = record { frame = frame.0; offset = offset_of iova.0; bytes = bytes } ∷ w.writes }
--- a write that was denied leaves the world as it was
+-- a write that was denied leaves the world as it was; no other pair is an answer
 changed at w event answer = w

@@ -59,7 +59,7 @@ with_area area [] = area ∷ []
 with_area area (a ∷ areas) =
     if is_of area.file area.ioas a && nat_lt area.span.first a.span.first then area ∷ a ∷ areas else a ∷ with_area area areas
 
--- every area has heard of the device's flush
+-- the device owes no area a flush any more
 abbrev pub all_paid : DeviceNo → List Area → List Area
 all_paid device areas = map (λ area. with_phase (paid device area.phase) area) areas
 

@@ -27,7 +27,7 @@ use Rattle.iofd_words.specs.declared.rows.ObjectKind.{ObjectKind}
 use Rattle.iofd_words.specs.declared.rows.ObjectKind.TheVariants as kind
 use Rattle.iofd_words.specs.declared.rows.UserPage.{UserPage}
 
--- ---- words of the tests
+-- ---- parts of the tests
 
 -- the pages from this one on, so many of them, are in the user's memory
 abbrev pub has_pages : List UserPage → UserNo → ℕ → ℕ → Bool
@@ -78,7 +78,7 @@ checks w (event.IoasAlloc file) =
     ∷ []
 checks w (event.Map file request) =
     (cause.Id, not (is_open w.settings w.closed file))
-    -- no address is chosen yet
+    -- no address is chosen yet: this row goes when one is
     ∷ (cause.Unsupported, not (is_fixed request.flags))
     ∷ (cause.NoRight, not (is_readable request.flags || is_writeable request.flags))
     ∷ (cause.Sum, is_above_sum request.user_va request.length || is_above_sum request.iova.0 request.length)

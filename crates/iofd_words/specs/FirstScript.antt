@@ -7,7 +7,7 @@ use Rattle.iofd_words.specs.declared.event.Event.{Event}
 use Rattle.iofd_words.specs.declared.event.Event.TheVariants as event
 use Rattle.iofd_words.specs.declared.fault.AccessKind.TheVariants.{Read, Write}
 use Rattle.iofd_words.specs.declared.fault.FaultReason.{FaultReason}
-use Rattle.iofd_words.specs.declared.fault.FaultReason.TheVariants.{ReadDenied}
+use Rattle.iofd_words.specs.declared.fault.FaultReason.TheVariants.{NoContext, BeyondWidth, ReadDenied}
 use Rattle.iofd_words.specs.declared.numbers.DeviceNo.{DeviceNo}
 use Rattle.iofd_words.specs.declared.numbers.FileNo.{FileNo}
 use Rattle.iofd_words.specs.declared.numbers.ObjId.{ObjId}
@@ -23,7 +23,7 @@ use Rattle.iofd_words.specs.declared.reply.Reply.{Reply}
 use Rattle.iofd_words.specs.declared.reply.Reply.TheVariants as reply
 use Rattle.iofd_words.specs.declared.width.Width.TheVariants.{Bits39}
 
--- ---- short words for the rows
+-- ---- shorthands
 
 abbrev file : ℕ → FileNo
 file n = record { 0 = n }
@@ -63,17 +63,19 @@ unmap_page = event.Unmap (file 1) (record { ioas = id 1; iova = record { 0 = 0x1
 abbrev write : Event
 write = event.DeviceWrite device (record { 0 = 0x1ffe }) (0xbe ∷ 0xef ∷ [])
 
--- up to the device's write
-abbrev pub beginning : List (Record Global)
-beginning =
+-- up to the device's binding
+abbrev pub bound : List (Record Global)
+bound =
     step (event.IoasAlloc (file 1)) (reply.Id (id 1))
     ∷ step (event.IoasAlloc (file 2)) (reply.Id (id 1))
     ∷ step (event.UserMap (record { 0 = 1 }) 0x10000) (reply.Frame (record { 0 = 0 }))
     ∷ step map_page (reply.Iova (record { 0 = 0x1000 }))
     ∷ step (event.Bind (file 1) device) (reply.Id (id 2))
-    ∷ step (event.Attach device (id 1)) (reply.Id (id 3))
-    ∷ step write (reply.Passed (record { 0 = 0 }))
     ∷ []
+
+-- up to the device's write
+abbrev pub beginning : List (Record Global)
+beginning = bound ++ step (event.Attach device (id 1)) (reply.Id (id 3)) ∷ step write (reply.Passed (record { 0 = 0 })) ∷ []
 
 -- the UNMAP that waits for the flush
 abbrev pub unmapping : List (Record Global)
@@ -105,6 +107,13 @@ read address len = DeviceRead device (record { 0 = address }) len
 abbrev pub denied : ℕ → Answer
 denied page = answer.Fault (record { source = record { 0 = 0x18 }; page = page; kind = Read; reason = ReadDenied })
 
+-- the first address beyond the width, of an attached device and of one that isn't
+abbrev pub beyond_width : Answer
+beyond_width = answer.Fault (record { source = record { 0 = 0x18 }; page = 0x800_0000; kind = Read; reason = BeyondWidth })
+
+abbrev pub no_context : Answer
+no_context = answer.Fault (record { source = record { 0 = 0x18 }; page = 0x800_0000; kind = Read; reason = NoContext })
+
 abbrev pub bytes_read : Answer
 bytes_read = answer.Read (0xbe ∷ 0xef ∷ [])
 
@@ -132,6 +141,14 @@ write_denied reason = step write (reply.Fault (record { source = record { 0 = 0x
 -- an id of the other file is found
 abbrev pub other_file : Record Global
 other_file = step (event.Destroy (file 2) (id 2)) reply.Done
+
+-- the device has flushed
+abbrev pub flushed : List (Record Global)
+flushed = step (event.Flush device) reply.Done ∷ []
+
+-- a write that passes
+abbrev pub write_passed : Record Global
+write_passed = step write (reply.Passed (record { 0 = 0 }))
 
 -- the bytes are answered while the device owes its flush
 abbrev pub too_early : Record Global

@@ -1,4 +1,4 @@
--- The limits of what a server is opened with, in the order of a script's head.
+-- The limits of what a server is opened with: pool, users, files, devices and passes, in this order.
 use Rattle.std.specs.Prelude.{◌&&◌, not, nat_le, Option, Some, None, Result, Ok, Err, [], ◌∷◌, length}
 use Rattle.std.specs.List.{list_all}
 use Rattle.iofd_words.specs.FirstTrue.{first_true}

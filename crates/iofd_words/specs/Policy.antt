@@ -1,4 +1,11 @@
--- What may come of a device's access (VT-d, "Address Translation" and "Fault Reasons", legacy mode).
+-- What may come of a device's access (VT-d, "Address Translation" and "Fault Reasons", legacy mode). The first of
+-- these that applies:
+--   1. the device has no attachment: it is denied, no context;
+--   2. the address is at or above the width of its tables: it is denied, beyond the width;
+--   3. a live area of its address space holds the address and has the right: it passes, at the frame of the page's pin;
+--   4. a leaving area does, and the device still owes it a flush: it passes so, or is denied as in 5;
+--   5. else it is denied for want of the right, a write or a read.
+-- `outcomes`, at the end, is the whole; the words before it are its parts.
 use Rattle.std.specs.Prelude.{ℕ, ◌-◌, ◌/◌, ◌^◌, nat_le, Option, Some, None, List, [], ◌∷◌, ◌++◌, if◌then◌else◌}
 use Rattle.iofd_words.specs.Areas.{area_at}
 use Rattle.iofd_words.specs.Attachments.{attachment_of, ioas_of_attachment}
@@ -57,17 +64,17 @@ translated w device address kind a =
       | None ↦ Denied (denied_by kind) ∷ []
     ]
 
--- the address is at or above the width of the device's tables
-abbrev pub is_beyond : Option DeviceSettings → ℕ → List Outcome → List Outcome → List Outcome
-is_beyond None address beyond within = within
-is_beyond (Some device) address beyond within = if nat_le (2 ^ bits_of device.width) address then beyond else within
+-- one or the other: the address is at or above the width of the device's tables, or below it
+abbrev pub by_width : Option DeviceSettings → ℕ → List Outcome → List Outcome → List Outcome
+by_width None address beyond within = within
+by_width (Some device) address beyond within = if nat_le (2 ^ bits_of device.width) address then beyond else within
 
 -- all that may come of it: no attachment, then the width, then the area
 unfoldable pub outcomes : World → DeviceNo → ℕ → AccessKind → List Outcome
 outcomes w device address kind =
     elim (attachment_of w.attachments device) [
       | None ↦ Denied NoContext ∷ []
-      | Some a ↦ is_beyond (device_of w.settings device) address (Denied BeyondWidth ∷ []) (translated w device address kind a)
+      | Some a ↦ by_width (device_of w.settings device) address (Denied BeyondWidth ∷ []) (translated w device address kind a)
     ]
 
 -- how a denial is told: the device's source id, the address's page, the kind of access and the reason

@@ -1,5 +1,5 @@
--- What a server is opened with, and its limits.
-use Rattle.std.specs.Prelude.{ℕ, Bool, ◌&&◌, nat_le, List, length}
+-- What a server is opened with. `Limits` says within which limits.
+use Rattle.std.specs.Prelude.{ℕ, Bool, ◌&&◌, nat_le, nat_lt, List, length}
 use Rattle.std.specs.List.{list_all}
 use Rattle.iofd_words.specs.Bounds.{Bounds}
 use Rattle.iofd_words.specs.Span.{is_whole_pages}
@@ -26,6 +26,10 @@ pub record Settings : Type 0 where
 abbrev pub is_between : ℕ → ℕ → ℕ → Bool
 is_between low high n = nat_le low n && nat_le n high
 
--- a reserved span is of whole pages, and a device has at most 16
+-- a reserved span is of whole pages
+abbrev pub is_reserved_span : Bounds → Bool
+is_reserved_span span = nat_lt span.first span.last && is_whole_pages span
+
+-- a device has at most 16 of them
 abbrev pub is_device_in_limits : DeviceSettings → Bool
-is_device_in_limits device = nat_le (length device.reserved) 16 && list_all is_whole_pages device.reserved
+is_device_in_limits device = nat_le (length device.reserved) 16 && list_all is_reserved_span device.reserved

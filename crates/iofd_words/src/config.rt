@@ -2,8 +2,7 @@
 
 ghost use Rattle.std.specs.Prelude.{◌≡◌, None};
 ghost use Rattle.std.specs.List.{list_all};
-ghost use Rattle.iofd_words.specs.Settings.{is_between, is_device_in_limits};
-ghost use Rattle.iofd_words.specs.Span.{is_whole_pages};
+ghost use Rattle.iofd_words.specs.Settings.{is_between, is_device_in_limits, is_reserved_span};
 
 use crate::lists::SpanList;
 use crate::numbers::{SourceId, UserNo};
@@ -206,11 +205,13 @@ fn is_in_limits<A: Allocator>(device: &DeviceConfig<A>) -> bool
     ensures { result ≡ is_device_in_limits device.now }
 {
     let reserved = device.reserved();
-    reserved.len() <= 16 && are_whole_pages(reserved)
+    reserved.len() <= 16 && are_reserved_spans(reserved)
 }
 
-fn are_whole_pages(spans: &[Span]) -> bool
-    ensures { result ≡ list_all is_whole_pages spans.now }
+fn are_reserved_spans(spans: &[Span]) -> bool
+    ensures { result ≡ list_all is_reserved_span spans.now }
 {
-    spans.iter().all(|span| span.is_whole_pages())
+    spans
+        .iter()
+        .all(|span| span.first() < span.last() && span.is_whole_pages())
 }

@@ -34,6 +34,13 @@ impl DeviceSet {
         DeviceSet { words: [0; 4] }
     }
 
+    /// The same devices.
+    pub fn copied(&self) -> DeviceSet
+        ensures { result ≡ self.now }
+    {
+        DeviceSet { words: self.words }
+    }
+
     /// Whether the device is one of them.
     pub fn contains(&self, device: DeviceNo) -> bool
         ensures { result ≡ has_device self.now device.0 }

@@ -1,8 +1,8 @@
 //! Laws of the definitions, each the contract of a function that does nothing.
 
-ghost use Rattle.std.specs.Prelude.{◌≡◌, ◌≢◌, ℕ, List, ◌∷◌, [], ◌++◌, Some, IsTrue};
+ghost use Rattle.std.specs.Prelude.{◌≡◌, List, ◌∷◌, [], ◌++◌, length, IsTrue};
 ghost use Rattle.iofd_words.specs.FirstScript as script;
-ghost use Rattle.iofd_words.specs.Laws.{are_apart, have_own_frames, WasFree, file_of, rows_of};
+ghost use Rattle.iofd_words.specs.Laws.{are_apart, have_own_frames, have_own_ids, IsOfAnother, WasFree, rows_of};
 ghost use Rattle.iofd_words.specs.Run.{IsRun, after, world_of};
 ghost use Rattle.iofd_words.specs.Settings.{Settings};
 ghost use Rattle.iofd_words.specs.World.{World};
@@ -11,7 +11,7 @@ ghost use Rattle.iofd_words.specs.declared.numbers.FrameNo.{FrameNo};
 ghost use Rattle.iofd_words.specs.declared.record.Record.{Record};
 ghost use Rattle.iofd_words.specs.declared.reply.Reply.TheVariants as reply;
 ghost use Rattle.iofd_words.specs.Look.{answers_to};
-ghost use Rattle.iofd_words.specs.declared.fault.FaultReason.TheVariants.{ReadDenied};
+ghost use Rattle.iofd_words.specs.declared.fault.FaultReason.TheVariants.{ReadDenied, WriteDenied};
 
 use std::alloc::Allocator;
 
@@ -33,10 +33,18 @@ pub fn only_free_frames_are_given_out<A: Allocator>()
         IsRun settings (before ++ r ∷ later) → r.reply ≡ reply.Frame frame → WasFree (world_of settings before) frame }
 {}
 
-/// A command of one file changes no row of another.
+/// In every run, an id is that of at most one object of a file.
+pub fn ids_are_unique<A: Allocator>()
+    ensures { (settings : Settings) (records : List (Record A)) → IsRun settings records →
+        IsTrue (have_own_ids (world_of settings records).objects) }
+{}
+
+/// A record changes no object, area or attachment of a file that its event isn't of, and doesn't close it: not by a
+/// command of another file, nor by an event of a device that is bound to another file.
 pub fn files_are_apart<A: Allocator>()
-    ensures { (at : ℕ) (w : World) (r : Record A) (own other : FileNo) →
-        file_of r.event ≡ Some own → own.0 ≢ other.0 → rows_of other (after at w r) ≡ rows_of other w }
+    ensures { (settings : Settings) (before : List (Record A)) (r : Record A) (other : FileNo) → IsRun settings before →
+        IsOfAnother (world_of settings before) r.event other →
+        rows_of other (after (length before) (world_of settings before) r) ≡ rows_of other (world_of settings before) }
 {}
 
 /// The records of a script that was worked by hand are a run.
@@ -44,10 +52,19 @@ pub fn worked_script_is_a_run()
     ensures { IsRun script.settings script.whole }
 {}
 
+/// While the device owes its flush, its write may pass and may be denied.
+pub fn owed_flush_leaves_both_answers()
+    ensures passed { IsRun script.settings (script.beginning ++ script.still_owed ++ script.write_passed ∷ []) }
+    ensures denied { IsRun script.settings (script.beginning ++ script.still_owed ++ script.write_denied WriteDenied ∷ []) }
+{}
+
 /// What the device is answered in that script, by the worlds that its records leave.
 pub fn worked_script_reads()
     ensures bytes { answers_to (world_of script.settings script.beginning) (script.read 0x1ffe 2) ≡ script.bytes_read ∷ [] }
     ensures crossing { answers_to (world_of script.settings script.beginning) (script.read 0x1fff 2) ≡ script.refused_read ∷ [] }
+    ensures beyond { answers_to (world_of script.settings script.beginning) (script.read 0x80_0000_0000 1) ≡ script.beyond_width ∷ [] }
+    // no attachment comes before the width
+    ensures unattached { answers_to (world_of script.settings script.bound) (script.read 0x80_0000_0000 1) ≡ script.no_context ∷ [] }
     ensures elsewhere { answers_to (world_of script.settings script.beginning) (script.read 0x2000 1) ≡ script.denied 2 ∷ [] }
 {}
 
@@ -58,9 +75,11 @@ pub fn altered_scripts_are_no_runs()
     // a frame that the pool doesn't have is given out
     ensures frame_beyond { IsRun script.settings (script.beginning ++ script.frame_beyond ∷ []) → ⊥ }
     // a write to a live area is denied
-    ensures live_denied { IsRun script.settings (script.beginning ++ script.write_denied ReadDenied ∷ []) → ⊥ }
+    ensures live_denied { IsRun script.settings (script.beginning ++ script.write_denied WriteDenied ∷ []) → ⊥ }
     // a write is denied for the reason of a read, where the device still owes its flush
     ensures other_reason { IsRun script.settings (script.beginning ++ script.still_owed ++ script.write_denied ReadDenied ∷ []) → ⊥ }
+    // a write passes after the flush that the device owed
+    ensures flushed_passes { IsRun script.settings (script.beginning ++ script.still_owed ++ script.flushed ++ script.write_passed ∷ []) → ⊥ }
     // an object of another file is destroyed
     ensures other_file { IsRun script.settings (script.beginning ++ script.other_file ∷ []) → ⊥ }
     // an UNMAP answers its bytes before the flush

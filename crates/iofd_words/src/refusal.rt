@@ -3,6 +3,8 @@
 ghost use Rattle.std.specs.Prelude.{◌≡◌};
 ghost use Rattle.iofd_words.specs.Refusal.{number_of, errno_of, errno_number};
 
+use std::alloc::{AllocError, AllocFailed};
+
 /// An error number of Linux (`errno-base.h`, `errno.h`).
 #[derive(Clone, Copy, PartialEq, Eq, Debug)]
 pub enum Errno {
@@ -164,3 +166,15 @@ impl Refusal {
 /// nothing, and isn't recorded.
 #[derive(Clone, Copy, PartialEq, Eq, Debug)]
 pub struct NoMemory;
+
+impl From<AllocError> for NoMemory {
+    fn from(_error: AllocError) -> NoMemory {
+        NoMemory
+    }
+}
+
+impl<T: Drop> From<AllocFailed<T>> for NoMemory {
+    fn from(_failed: AllocFailed<T>) -> NoMemory {
+        NoMemory
+    }
+}

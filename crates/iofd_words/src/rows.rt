@@ -45,7 +45,8 @@ pub struct MemoryObject {
 #[derive(Debug, Drop)]
 pub enum Phase {
     Live,
-    /// An UNMAP was called; these devices still have to flush, and this many further calls came.
+    /// An UNMAP was called: these devices still have to flush. `tries` is for counting the calls that were
+    /// answered EAGAIN, and stays 0 until they are counted.
     Leaving { owed: DeviceSet, tries: u8 },
 }
 

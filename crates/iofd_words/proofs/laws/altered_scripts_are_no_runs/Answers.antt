@@ -20,6 +20,9 @@ use Rattle.iofd_words.proofs.laws.altered_scripts_are_no_runs.Goals as goal
 passed_or_denied : (frame : FrameNo) (fault : Fault) → reply.Passed frame ≡ reply.Fault fault → ⊥
 passed_or_denied frame fault is = cc
 
+passed_or_denied_too : (frame : FrameNo) (fault : Fault) → reply.Fault fault ≡ reply.Passed frame → ⊥
+passed_or_denied_too frame fault is = cc
+
 abbrev reason_in : Reply → FaultReason
 reason_in (reply.Fault fault) = fault.reason
 reason_in _ = ReadDenied
@@ -61,3 +64,8 @@ returns-clause-too_early c = λ run. let last = run.1.1.1.1.1.1.1.0.0.0 in cc
 pub returns-clause-wrong_cause : goal.returns-clause-wrong_cause
 unfolding IsRun Lawful after refusal checks Answers changed settle without_areas attached detached outcomes
 returns-clause-wrong_cause c = λ run. other_causes run.1.1.1.1.1.1.1.0.0
+
+-- beginning, the UNMAP and the flush, and then the write: the area is leaving, and the device owes nothing
+pub returns-clause-flushed_passes : goal.returns-clause-flushed_passes
+unfolding IsRun Lawful after refusal checks Answers changed settle without_areas attached detached outcomes
+returns-clause-flushed_passes c = λ run. passed_or_denied_too _ _ (contained_in_one _ _ run.1.1.1.1.1.1.1.1.1.0.0)

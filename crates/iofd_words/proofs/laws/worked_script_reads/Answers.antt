@@ -17,3 +17,11 @@ returns-clause-crossing c = refl
 pub returns-clause-elsewhere : goal.returns-clause-elsewhere
 unfolding answers_to world_of after refusal checks changed settle without_areas attached detached outcomes
 returns-clause-elsewhere c = refl
+
+pub returns-clause-beyond : goal.returns-clause-beyond
+unfolding answers_to world_of after refusal checks changed settle without_areas attached detached outcomes
+returns-clause-beyond c = refl
+
+pub returns-clause-unattached : goal.returns-clause-unattached
+unfolding answers_to world_of after refusal checks changed settle without_areas attached detached outcomes
+returns-clause-unattached c = refl

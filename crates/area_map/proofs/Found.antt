@@ -1,0 +1,155 @@
+-- What the first area that ends at an address or after it tells.
+use Rattle.std.proofs.Common.{◌≡◌, ℕ, suc, zero, ◌+◌, ◌<◌, ◌≤◌, Bool, true, false, cond, not, leb, ltb, ◌||◌, ◌&&◌, Option, Some, None, List, [], ◌∷◌, length, get_or, refl, sym, ap, ◌∙◌, arith, ⊎_elim, is_some}
+use Rattle.std.specs.List.{find, list_any, prefix_len, slice_get, AllWithin}
+use Rattle.std.proofs.lemmas.Bool.{cases_Bool, cases_lt}
+use Rattle.std.proofs.lemmas.Bool.Decides.{nat_tests}
+use Rattle.std.specs.Option.{option_copied, IfSome}
+use Rattle.std.proofs.lemmas.Option.{slice_get_past, slice_get_read}
+use denote.Ref.{Bor}
+use Rattle.iofd_words.specs.declared.rows.Area.{Area}
+use Rattle.iofd_words.specs.Bounds.{Bounds}
+use Rattle.iofd_words.specs.Span.{holds, meets, lies_in}
+use Rattle.area_map.specs.Areas.{AreApartFrom, AreApart, area_at, area_of, is_same, areas_meet, is_cut, begins_before, ends_after}
+
+-- the place that a binary search finds
+pub prefix_len-from_within : (p : Area → Bool) (xs : List Area) (i : ℕ) → i ≤ length xs → AllWithin (λ y. p y ≡ true) xs 0 i → AllWithin (λ y. p y ≡ false) xs i (length xs) → i ≡ prefix_len p xs
+prefix_len-from_within p [] i within passing failing = omega arith
+prefix_len-from_within p (x ∷ xs) zero within passing failing =
+    let here : p x ≡ false = failing 0 x (omega arith) (omega arith) in
+    grind (arith, nat_tests)
+prefix_len-from_within p (x ∷ xs) (suc i) within passing failing =
+    let here : p x ≡ true = passing 0 x (omega arith) (omega arith) in
+    let rest = prefix_len-from_within p xs i (omega arith) (λ k d low high. passing (suc k) d (omega arith) (omega arith)) (λ k d low high. failing (suc k) d (omega arith) (omega arith)) in
+    grind (arith, nat_tests)
+
+-- what `get` answers, as a value
+pub copied-from_get : (xs : List Area) (i : ℕ) (r : Option (Bor Area)) → is_some r ≡ ltb i (length xs) → IfSome r (λ x. x.now ≡ get_or xs i x.now) → option_copied r ≡ slice_get xs i
+copied-from_get xs i None variant item = sym (slice_get_past xs i (grind (arith, nat_tests)))
+copied-from_get xs i (Some x) variant item =
+    let within : i < length xs = grind (arith, nat_tests) in
+    sym (slice_get_read xs (length xs) i x.now refl within item)
+
+-- the first that isn't below the address
+pub find_reaching : (address : ℕ) (xs : List Area) → slice_get xs (prefix_len (λ (a : Area). ltb a.span.last address) xs) ≡ find (λ (a : Area). leb address a.span.last) xs
+find_reaching address [] = refl
+find_reaching address (x ∷ xs) =
+    let rest = find_reaching address xs in
+    ⊎_elim (λ (below : x.span.last < address). grind (arith, nat_tests)) (λ (above : address ≤ x.span.last). grind (arith, nat_tests)) (cases_lt x.span.last address)
+
+-- what is found passes
+pub find_passes : (p : Area → Bool) (xs : List Area) (a : Area) → find p xs ≡ Some a → p a ≡ true
+find_passes p [] a found = cc
+find_passes p (x ∷ xs) a found =
+    ⊎_elim (λ (yes : p x ≡ true). grind (arith, nat_tests))
+    (λ (fails : p x ≡ false). let later : find p xs ≡ Some a = grind (arith, nat_tests) in find_passes p xs a later) (cases_Bool (p x))
+
+-- some pass where one is found
+pub list_any-find : (p : Area → Bool) (xs : List Area) → list_any p xs ≡ is_some (find p xs)
+list_any-find p [] = refl
+list_any-find p (x ∷ xs) =
+    let rest = list_any-find p xs in
+    ⊎_elim (λ (yes : p x ≡ true). grind (arith, nat_tests)) (λ (fails : p x ≡ false). grind (arith, nat_tests)) (cases_Bool (p x))
+
+-- what fails from an address on is not found among what begins there
+pub find_none : (p : Area → Bool) (low : ℕ) (xs : List Area) → AreApartFrom low xs → ((b : Area) → low ≤ b.span.first → p b ≡ false) → find p xs ≡ None
+find_none p low [] apart fails = refl
+find_none p low (x ∷ xs) apart fails =
+    let here = fails x apart.0 in
+    let rest = find_none p (x.span.last + 1) xs apart.2 (λ b after. fails b (omega (arith, apart.0, apart.1))) in
+    grind (arith, nat_tests)
+
+-- the area, if there is one and it passes
+abbrev pub passing : (Area → Bool) → Option Area → Option Area
+passing p None = None
+passing p (Some a) = cond (p a) (Some a) None
+
+-- A test that fails below the address, and behind an area that reaches the address and fails, is answered by the
+-- first area that reaches the address.
+pub find_first : (p : Area → Bool) (address : ℕ)
+    → ((a : Area) → a.span.first ≤ a.span.last → a.span.last < address → p a ≡ false)
+    → ((a b : Area) → address ≤ a.span.last → a.span.first ≤ a.span.last → p a ≡ false → a.span.last < b.span.first → p b ≡ false)
+    → (low : ℕ) (xs : List Area) → AreApartFrom low xs
+    → find p xs ≡ passing p (find (λ (a : Area). leb address a.span.last) xs)
+find_first p address below behind low [] apart = refl
+find_first p address below behind low (x ∷ xs) apart =
+    let rest = find_first p address below behind (x.span.last + 1) xs apart.2 in
+    ⊎_elim
+    (λ (ended : x.span.last < address). let fails = below x apart.1 ended in grind (arith, nat_tests))
+    (λ (reached : address ≤ x.span.last).
+    ⊎_elim (λ (yes : p x ≡ true). grind (arith, nat_tests))
+    (λ (fails : p x ≡ false).
+    let none = find_none p (x.span.last + 1) xs apart.2 (λ b after. behind x b reached apart.1 fails (omega arith)) in
+    grind (arith, nat_tests))
+    (cases_Bool (p x)))
+    (cases_lt x.span.last address)
+
+-- the area at an address
+pub area_at-first : (iova : ℕ) (xs : List Area) → AreApart xs → area_at iova xs ≡ passing (λ area. holds area.span iova) (find (λ (a : Area). leb iova a.span.last) xs)
+area_at-first iova xs apart = find_first (λ area. holds area.span iova) iova (λ a ordered ended. grind (arith, nat_tests)) (λ a b reached ordered fails after. grind (arith, nat_tests)) 0 xs apart
+
+pub at_none : (iova : ℕ) (xs : List Area) → AreApart xs → find (λ (a : Area). leb iova a.span.last) xs ≡ None → area_at iova xs ≡ None
+at_none iova xs apart none = area_at-first iova xs apart ∙ ap (passing (λ area. holds area.span iova)) none
+
+pub at_some : (iova : ℕ) (xs : List Area) (a : Area) → AreApart xs → find (λ (a : Area). leb iova a.span.last) xs ≡ Some a → area_at iova xs ≡ cond (leb a.span.first iova) (Some a) None
+at_some iova xs a apart found =
+    let reached = find_passes (λ (a : Area). leb iova a.span.last) xs a found in
+    let same : holds a.span iova ≡ leb a.span.first iova = grind (arith, nat_tests) in
+    area_at-first iova xs apart ∙ ap (passing (λ area. holds area.span iova)) found ∙ ap (λ b. cond b (Some a) None) same
+
+-- the area of exactly a span
+pub area_of-first : (span : Bounds) (xs : List Area) → AreApart xs → area_of span xs ≡ passing (λ area. is_same area.span span) (find (λ (a : Area). leb span.first a.span.last) xs)
+area_of-first span xs apart =
+    find_first (λ area. is_same area.span span) span.first (λ a ordered ended. grind (arith, nat_tests)) (λ a b reached ordered fails after. grind (arith, nat_tests)) 0 xs apart
+
+-- whether some area meets a span
+pub meets-first : (span : Bounds) (xs : List Area) → AreApart xs → areas_meet span xs ≡ is_some (passing (λ area. meets area.span span) (find (λ (a : Area). leb span.first a.span.last) xs))
+meets-first span xs apart =
+    list_any-find (λ area. meets area.span span) xs
+    ∙ ap is_some (find_first (λ area. meets area.span span) span.first (λ a ordered ended. grind (arith, nat_tests)) (λ a b reached ordered fails after. grind (arith, nat_tests)) 0 xs apart)
+
+pub exact_none : (span : Bounds) (xs : List Area) → AreApart xs → find (λ (a : Area). leb span.first a.span.last) xs ≡ None → area_of span xs ≡ None
+exact_none span xs apart none = area_of-first span xs apart ∙ ap (passing (λ area. is_same area.span span)) none
+
+pub exact_some : (span : Bounds) (xs : List Area) (a : Area) → AreApart xs → find (λ (a : Area). leb span.first a.span.last) xs ≡ Some a → area_of span xs ≡ cond (is_same a.span span) (Some a) None
+exact_some span xs a apart found = area_of-first span xs apart ∙ ap (passing (λ area. is_same area.span span)) found
+
+pub meets_none : (span : Bounds) (xs : List Area) → AreApart xs → find (λ (a : Area). leb span.first a.span.last) xs ≡ None → areas_meet span xs ≡ false
+meets_none span xs apart none = meets-first span xs apart ∙ ap (λ found. is_some (passing (λ area. meets area.span span) found)) none
+
+is_some-cond : {A : Type 0} (b : Bool) (x : A) → is_some (cond b (Some x) None) ≡ b
+is_some-cond true x = refl
+is_some-cond false x = refl
+
+pub meets_some : (span : Bounds) (xs : List Area) (a : Area) → AreApart xs → find (λ (a : Area). leb span.first a.span.last) xs ≡ Some a → areas_meet span xs ≡ leb a.span.first span.last
+meets_some span xs a apart found =
+    let reached = find_passes (λ (a : Area). leb span.first a.span.last) xs a found in
+    let same : meets a.span span ≡ leb a.span.first span.last = grind (arith, nat_tests) in
+    meets-first span xs apart ∙ ap (λ found. is_some (passing (λ area. meets area.span span) found)) found ∙ is_some-cond (meets a.span span) a ∙ same
+
+-- a span is cut at its first or at its last address
+cut_from : (span : Bounds) (low : ℕ) (xs : List Area) → AreApartFrom low xs → span.first ≤ span.last
+    → is_cut span xs ≡ (begins_before span.first (area_at span.first xs) || ends_after span.last (area_at span.last xs))
+cut_from span low [] apart ordered = refl
+cut_from span low (x ∷ xs) apart ordered =
+    let rest = cut_from span (x.span.last + 1) xs apart.2 ordered in
+    let own : x.span.first ≤ x.span.last = apart.1 in
+    ⊎_elim
+    (λ (ended : x.span.last < span.first). grind (arith, nat_tests))
+    (λ (reached : span.first ≤ x.span.last).
+    let none_first = find_none (λ area. holds area.span span.first) (x.span.last + 1) xs apart.2 (λ b after. grind (arith, nat_tests)) in
+    ⊎_elim
+    (λ (before : x.span.first < span.first). grind (arith, nat_tests))
+    (λ (inside : span.first ≤ x.span.first).
+    ⊎_elim
+    (λ (last_above : x.span.last < span.last). grind (arith, nat_tests))
+    (λ (last_below : span.last ≤ x.span.last).
+    let none_last = find_none (λ area. holds area.span span.last) (x.span.last + 1) xs apart.2 (λ b after. grind (arith, nat_tests)) in
+    let none_cut = list_any-find (λ area. meets area.span span && not (lies_in area.span span)) xs ∙ ap is_some (find_none (λ area. meets area.span span && not (lies_in area.span span)) (x.span.last + 1) xs apart.2 (λ b after. grind (arith, nat_tests))) in
+    grind (arith, nat_tests))
+    (cases_lt x.span.last span.last))
+    (cases_lt x.span.first span.first))
+    (cases_lt x.span.last span.first)
+
+pub cut_first : (span : Bounds) (xs : List Area) → AreApart xs → span.first ≤ span.last
+    → is_cut span xs ≡ (begins_before span.first (area_at span.first xs) || ends_after span.last (area_at span.last xs))
+cut_first span xs apart ordered = cut_from span 0 xs apart ordered

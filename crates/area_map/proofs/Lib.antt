@@ -1,0 +1,6 @@
+pub mod Apart
+pub mod Found
+pub mod Added
+pub mod Covers
+pub mod Within
+pub mod Kept

@@ -1,0 +1,3 @@
+pub mod Areas
+pub mod AreaTable
+pub mod Insertion

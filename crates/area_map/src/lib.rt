@@ -1,0 +1,17 @@
+//! The areas of one I/O address space: which spans are mapped, over which memory, with which rights, and
+//! which of them are on their way out. The map is seen as the list of its areas by rising start.
+#![tactic(auto)]
+
+mod areas;
+mod insert_error;
+mod insertion;
+mod lookups;
+mod marking;
+mod removal;
+mod totals;
+
+pub use areas::Areas;
+pub use insert_error::InsertError;
+
+#[cfg(test)]
+mod tests;

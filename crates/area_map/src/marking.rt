@@ -1,0 +1,106 @@
+//! Areas on their way out: what they owe to devices.
+
+ghost use Rattle.std.specs.Prelude.{◌≡◌, map, vec_capacity};
+ghost use Rattle.iofd_words.specs.Areas.{leaving};
+ghost use Rattle.area_map.specs.Areas.{marked, without_debt, is_owing, tries_of, tried, tried_phase};
+
+use iofd_words::{Area, DeviceNo, DeviceSet, Phase, Span};
+use std::alloc::Allocator;
+
+/// Makes each live area that lies in the span leaving, with this debt.
+pub fn mark_leaving<A: Allocator>(areas: &mut Vec<Area, A>, span: Span, owed: &DeviceSet)
+    ensures areas { areas.new.items ≡ map (marked span owed.now) areas.old.items }
+    ensures capacity { vec_capacity areas.new ≡ vec_capacity areas.old }
+{
+    for area in areas.iter_mut() {
+        mark(area, span, owed);
+    }
+}
+
+// Makes the area leaving, if it is live and lies in the span.
+fn mark(area: &mut Area, span: Span, owed: &DeviceSet)
+    ensures { area.new ≡ marked span owed.now area.old }
+{
+    if area.span.lies_in(span) {
+        leave(&mut area.phase, owed);
+    }
+}
+
+// A live phase becomes leaving.
+fn leave(phase: &mut Phase, owed: &DeviceSet)
+    ensures { phase.new ≡ leaving owed.now phase.old }
+{
+    if let Phase::Live = phase {
+        *phase = Phase::Leaving {
+            owed: owed.copied(),
+            tries: 0,
+        };
+    }
+}
+
+/// Takes the device out of the debt of each leaving area.
+pub fn pay<A: Allocator>(areas: &mut Vec<Area, A>, device: DeviceNo)
+    ensures areas { areas.new.items ≡ map (without_debt device) areas.old.items }
+    ensures capacity { vec_capacity areas.new ≡ vec_capacity areas.old }
+{
+    for area in areas.iter_mut() {
+        pay_one(area, device);
+    }
+}
+
+// Takes the device out of the area's debt.
+fn pay_one(area: &mut Area, device: DeviceNo)
+    ensures { area.new ≡ without_debt device area.old }
+{
+    if let Phase::Leaving { owed, .. } = &mut area.phase {
+        owed.remove(device);
+    }
+}
+
+/// Whether a device still has to flush.
+pub fn is_owing(phase: &Phase) -> bool
+    ensures { result ≡ is_owing phase.now }
+{
+    match phase {
+        Phase::Live => false,
+        Phase::Leaving { owed, .. } => !owed.is_empty(),
+    }
+}
+
+/// Gives each leaving area that lies in the span this number of further calls.
+pub fn set_tries<A: Allocator>(areas: &mut Vec<Area, A>, span: Span, tries: u8)
+    ensures areas { areas.new.items ≡ map (tried span tries) areas.old.items }
+    ensures capacity { vec_capacity areas.new ≡ vec_capacity areas.old }
+{
+    for area in areas.iter_mut() {
+        set_tries_of(area, span, tries);
+    }
+}
+
+// Gives the area this number of further calls, if it is leaving and lies in the span.
+fn set_tries_of(area: &mut Area, span: Span, tries: u8)
+    ensures { area.new ≡ tried span tries area.old }
+{
+    if area.span.lies_in(span) {
+        set_tries_in(&mut area.phase, tries);
+    }
+}
+
+// Gives a leaving phase this number of further calls.
+fn set_tries_in(phase: &mut Phase, calls: u8)
+    ensures { phase.new ≡ tried_phase calls phase.old }
+{
+    if let Phase::Leaving { tries, .. } = phase {
+        *tries = calls;
+    }
+}
+
+/// How many further calls came; none of a live area.
+pub fn tries_of(phase: &Phase) -> u8
+    ensures { result ≡ tries_of phase.now }
+{
+    match phase {
+        Phase::Live => 0,
+        Phase::Leaving { tries, .. } => *tries,
+    }
+}

@@ -1,0 +1,15 @@
+use Rattle.std.proofs.Common.{refl}
+use Rattle.std.specs.Int.{w32, w64, to_le_bytes}
+use Rattle.ioctl_codec.specs.Layout.{structure_bytes}
+use Rattle.ioctl_codec.proofs.Writes.{untouched, write}
+use Rattle.ioctl_codec.proofs.writing.put_ioas_unmap.Goals as goal
+
+pub returns-clause-bytes : goal.returns-clause-bytes
+unfolding structure_bytes
+returns-clause-bytes c =
+    let begin = untouched c.args.out.now in
+    let to-size = write (to_le_bytes w32 24) 4 begin refl c.put_u32-at.ensures.written c.put_u32-at.ensures.next in
+    let to-ioas_id = write (to_le_bytes w32 c.args.unmap.ioas.0) 4 to-size refl c.put_u32-at-2.ensures.written c.put_u32-at-2.ensures.next in
+    let to-iova = write (to_le_bytes w64 c.args.unmap.iova.0) 8 to-ioas_id refl c.put_u64-at.ensures.written c.put_u64-at.ensures.next in
+    let to-length = write (to_le_bytes w64 c.args.unmap.length) 8 to-iova refl c.put_u64.ensures.written c.put_u64.ensures.next in
+    to-length.bytes

@@ -1,0 +1,4 @@
+pub mod Layout
+pub mod Structures
+pub mod Spelling
+pub mod Refusals

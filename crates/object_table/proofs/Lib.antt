@@ -1,0 +1,7 @@
+pub mod EntryRows
+pub mod FileRows
+pub mod Lookup
+pub mod Fresh
+pub mod Lists
+pub mod Rows
+pub mod Tables

@@ -1,0 +1,20 @@
+//! The objects of iommufd: for each open file a table of objects, each under an id of that file.
+//!
+//! Ids are unique in a file and say nothing in another file, as `Documentation/userspace-api/iommufd.rst`
+//! has it: each open of the iommu device has its own ids. Contracts see the whole table as a list of rows
+//! (file, id, kind, users, value) by rising file and then rising id.
+#![tactic(auto)]
+
+mod close;
+mod error;
+mod file_objects;
+mod insert;
+mod kind;
+mod table;
+#[cfg(test)]
+mod tests;
+mod users;
+
+pub use error::{InsertError, ReserveError};
+pub use kind::Kind;
+pub use table::ObjectTable;
