@@ -1,6 +1,6 @@
 //! From commands, and replies to them, to bytes.
 
-ghost use Rattle.std.specs.Prelude.{◌≡◌, ◌≤◌, ◌++◌, length, drop, IsTrue, IfOk};
+ghost use Rattle.std.specs.Prelude.{◌≡◌, ◌≤◌, ◌++◌, length, drop, IsTrue, IfOk, OnErr, ◌<◌};
 ghost use Rattle.ioctl_codec.specs.Structures.{is_spellable, structure_of};
 ghost use Rattle.ioctl_codec.specs.Spelling.{canonical, written_back, Spells, FitsFields};
 
@@ -53,10 +53,15 @@ pub fn encode_reply<A: Allocator>(
     command: &Command,
     reply: &Reply,
 ) -> Result<Vec<u8, A>, NoMemory>
-    ensures { IfOk result (λ bytes. bytes.items ≡ written_back command.now reply.now) }
+    ensures bytes { IfOk result (λ bytes. bytes.items ≡ written_back command.now reply.now) }
+    // Where nothing is written back no memory is asked for.
+    ensures memory { OnErr result (0 < length (written_back command.now reply.now)) }
 {
     let mut buffer = [0; 64];
     let count = encode_reply_to(command, reply, &mut buffer);
+    if count == 0 {
+        return Ok(Vec::new(alloc));
+    }
     owned(alloc, &buffer[..count])
 }
 

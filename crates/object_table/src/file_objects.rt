@@ -3,7 +3,7 @@
 ghost use Rattle.std.specs.Prelude.{◌≡◌, ℕ, Some, IsSome, IsOk, IfOk, OnOk, IfErr, None, false, option_copied};
 ghost use Rattle.std.specs.List.{list_any};
 ghost use Rattle.std.specs.Borrow.{sem};
-ghost use Rattle.slab.specs.Slab.{entries};
+ghost use Rattle.slab.specs.Slab.{entries, slab_len};
 ghost use Rattle.object_table.specs.Table.{IsWhy, inserted, removed, keeps_file_open};
 ghost use Rattle.object_table.specs.Layout.{entry_at, next_id, file_rows, file_refusal, row_of};
 
@@ -123,7 +123,8 @@ impl<V, A: Allocator> FileObjects<V, A> {
     pub(crate) fn close(&mut self)
     where
         V: Drop,
-        ensures { self.new.is_open ≡ false }
+        ensures closed { self.new.is_open ≡ false }
+        ensures emptied { slab_len self.new.objects ≡ 0 }
     {
         self.is_open = false;
         self.objects.clear();

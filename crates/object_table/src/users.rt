@@ -25,7 +25,8 @@ impl<V, A: Allocator> ObjectTable<V, A> {
         Ok(self.value_mut(file, id))
     }
 
-    /// Counts one more user of the object. Refused by 11 (ENOENT) as `get`, and then nothing changes.
+    /// Counts one more user of the object, which has fewer than 2^32 - 1 (`users` is the test). Refused by
+    /// 11 (ENOENT) as `get`, and then nothing changes.
     pub fn add_user(&mut self, file: FileNo, kind: Kind, id: ObjId) -> Result<(), Refusal>
         requires { ForSome (own self.old file kind id) (λ row. row.users < 4294967295) }
         ensures ok { OnOk result (IsSomeAnd (own self.old file kind id) (λ row. self.new ≡ record self.old {
@@ -40,7 +41,8 @@ impl<V, A: Allocator> ObjectTable<V, A> {
         Ok(())
     }
 
-    /// Counts one user of the object fewer. Refused by 11 (ENOENT) as `get`, and then nothing changes.
+    /// Counts one user of the object fewer, which has some (`users` is the test). Refused by 11 (ENOENT)
+    /// as `get`, and then nothing changes.
     pub fn remove_user(&mut self, file: FileNo, kind: Kind, id: ObjId) -> Result<(), Refusal>
         requires { ForSome (own self.old file kind id) (λ row. 0 < row.users) }
         ensures ok { OnOk result (IsSomeAnd (own self.old file kind id) (λ row. self.new ≡ record self.old {

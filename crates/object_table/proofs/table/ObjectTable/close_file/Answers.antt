@@ -31,4 +31,4 @@ returns-clause-closed g c =
     let place = c.in-Some.ensures in
     let within : c.in-Some.place < length files.items = omega (arith, files.ok.0, c.len.ensures, place.1) in
     let is_open : c.index_mut-objects.result.now.is_open ≡ true = c.if-not-objects.false in
-    rw (← c.self.view_is) (table_closed files.items c.args.file c.in-Some.place c.index_mut-objects.result.now place.0 within c.index_mut-objects.ensures.value c.close.new.self c.close.ensures)
+    rw (← c.self.view_is) (table_closed files.items c.args.file c.in-Some.place c.index_mut-objects.result.now place.0 within c.index_mut-objects.ensures.value c.close.new.self c.close.ensures.closed)
