@@ -154,5 +154,9 @@ fn lists(rt: HostRuntime) -> Result<(), Fail> {
     let frames = FrameList::new([FrameNo(2), FrameNo(3)].to_vec(rt.alloc())?);
     assert!(rt; frames.as_slice() == [FrameNo(2), FrameNo(3)].as_slice());
     assert_eq!(rt; frames.into_vec().len(), 2);
+    let page = Span::of_length(0x1000, 0x1000).ok_or("a page")?;
+    let spans = SpanList::new([page].to_vec(rt.alloc())?);
+    assert!(rt; spans.as_slice() == [page].as_slice());
+    assert!(rt; spans.into_vec().as_slice() == [page].as_slice());
     Ok(())
 }

@@ -97,13 +97,13 @@ impl<A: Allocator> Accounts<A> {
 fn opened<A: Allocator>(alloc: A, limits: &[u64]) -> Result<Vec<Account, A>, NoMemory>
     ensures { IfOk result (λ accounts. accounts.items ≡ map fresh limits.now) }
 {
-    let mut accounts = Vec::with_capacity(alloc, limits.len()).map_err(|_| NoMemory)?;
+    let mut accounts = Vec::with_capacity(alloc, limits.len())?;
     for limit in limits {
         let account = Account {
             limit: *limit,
             held: 0,
         };
-        accounts.push(account).map_err(|_| NoMemory)?;
+        accounts.push(account)?;
     }
     Ok(accounts)
 }
