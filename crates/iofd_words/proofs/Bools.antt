@@ -27,3 +27,14 @@ swapped true true r = refl
 swapped true false r = refl
 swapped false true r = refl
 swapped false false r = refl
+
+pub or_none : (p : Bool) → (p || false) ≡ p
+or_none true = refl
+or_none false = refl
+
+pub clash : (p : Bool) → p ≡ false → p ≡ true → ⊥
+clash p is other = cc
+
+pub and_rest : (p q : Bool) → p ≡ true → (p && q) ≡ false → q ≡ false
+and_rest true q is fails = fails
+and_rest false q is fails = cc

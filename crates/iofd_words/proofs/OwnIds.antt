@@ -27,7 +27,7 @@ use Rattle.iofd_words.proofs.Bools.{or_false, and_true, both_false, not_true, sw
 
 -- ---- an unused id
 
-any_found : {X : Type 0} (p : X → Bool) (xs : List X) → list_any p xs ≡ is_some (find p xs)
+pub any_found : {X : Type 0} (p : X → Bool) (xs : List X) → list_any p xs ≡ is_some (find p xs)
 any_found p [] = refl
 any_found p (x ∷ xs) = by_test (p x) (any_found p xs)
   where
@@ -39,7 +39,7 @@ kind_found : (o : Option Object) → is_some {T = ObjectKind} (elim o [ Some obj
 kind_found (Some object) = refl
 kind_found None = refl
 
-unused : (objects : List Object) (file : FileNo) (id : ObjId) → is_fresh objects file id ≡ true → list_any (is_object file id) objects ≡ false
+pub unused : (objects : List Object) (file : FileNo) (id : ObjId) → is_fresh objects file id ≡ true → list_any (is_object file id) objects ≡ false
 unused objects file id fresh =
     let parts = and_true (is_between 1 0x7fff_ffff id.0) (not (is_some (kind_of objects file id))) fresh in
     any_found (is_object file id) objects ∙ sym (kind_found (find (is_object file id) objects)) ∙ not_true _ parts.1

@@ -1,5 +1,5 @@
 -- What holds at the opening and is kept by each step holds after every run.
-use Rattle.std.proofs.Common.{◌≡◌, ℕ, zero, suc, ◌+◌, Bool, true, false, cond, Option, Some, None, List, [], ◌∷◌, ◌++◌, refl}
+use Rattle.std.proofs.Common.{◌≡◌, ℕ, zero, suc, ◌+◌, Bool, true, false, cond, Option, Some, None, List, [], ◌∷◌, ◌++◌, length, refl, subst, arith}
 use Rattle.iofd_words.specs.After.{changed}
 use Rattle.iofd_words.specs.Answers.{Answers}
 use Rattle.iofd_words.specs.Checks.{refusal}
@@ -24,6 +24,20 @@ module _ {A : Type 0} (P : World → Type 0) (keeps : (at : ℕ) (w : World) (e 
   pub run_keeps : (at : ℕ) (w : World) (records : List (Record A)) → IsRunFrom at w records → P w → P (world_from at w records)
   run_keeps at w [] run p = p
   run_keeps at w (r ∷ rs) run p = run_keeps (at + 1) (after at w r) rs run.1 (after_keeps at w r run.0 p)
+
+-- a step that keeps P, which may speak of the position too, where nothing refuses keeps it
+module _ {A : Type 0} (P : ℕ → World → Type 0) (later : (at : ℕ) (w : World) → P at w → P (at + 1) w) (keeps : (at : ℕ) (w : World) (e : Event) (answer : Reply) → refusal w e ≡ None → Answers w e answer → P at w → P (at + 1) (changed at w e answer)) where
+  by_answer_at : (at : ℕ) (w : World) (r : Record A) (o : Option Cause) → refusal w r.event ≡ o → IsAnswer w r o → P at w → P (at + 1) (after_answer at w r o)
+  by_answer_at at w r (Some cause) is answers p = later at w p
+  by_answer_at at w r None is answers p = keeps at w r.event r.reply is answers p
+
+  pub after_keeps_at : (at : ℕ) (w : World) (r : Record A) → Lawful w r → P at w → P (at + 1) (after at w r)
+  unfolding Lawful after
+  after_keeps_at at w r lawful p = by_answer_at at w r (refusal w r.event) refl lawful.0 p
+
+  pub run_keeps_at : (at end : ℕ) (w : World) (records : List (Record A)) → at + length records ≡ end → IsRunFrom at w records → P at w → P end (world_from at w records)
+  run_keeps_at at end w [] is run p = let same : at ≡ end = omega (arith, is) in subst (λ (n : ℕ). P n w) same p
+  run_keeps_at at end w (r ∷ rs) is run p = run_keeps_at (at + 1) end (after at w r) rs (omega (arith, is)) run.1 (after_keeps_at at w r run.0 p)
 
 -- a record of a run is lawful in the world that those before it have left
 pub lawful_at : {A : Type 0} (at : ℕ) (w : World) (before : List (Record A)) (r : Record A) (later : List (Record A)) → IsRunFrom at w (before ++ r ∷ later) → Lawful (world_from at w before) r

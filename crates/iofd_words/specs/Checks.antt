@@ -63,7 +63,7 @@ lacks_room_for_hwpt w file ioas (Some device) = is_none (automatic_hwpt w.object
 -- ---- the refusals
 
 -- those of Attach, of a device that is bound to the file
-abbrev attach_checks : World → DeviceNo → ObjId → FileNo → List (Cause × Bool)
+abbrev pub attach_checks : World → DeviceNo → ObjId → FileNo → List (Cause × Bool)
 attach_checks w device pt_id file =
     (cause.Bound, is_some (attachment_of w.attachments device))
     ∷ (cause.Id, not (has_ioas w.objects file pt_id))

@@ -5,9 +5,11 @@ pub mod Attachments
 pub mod Bounds
 pub mod Burst
 pub mod Checks
+pub mod Debts
 pub mod DeviceSet
 pub mod Fault
 pub mod Files
+pub mod Fits
 pub mod FirstScript
 pub mod FirstTrue
 pub mod Frames
@@ -16,6 +18,7 @@ pub mod Limits
 pub mod Look
 pub mod Objects
 pub mod Pages
+pub mod Pinned
 pub mod Pins
 pub mod Policy
 pub mod Refusal

@@ -1,11 +1,12 @@
 //! What a server is opened with, and its limits.
 
-ghost use Rattle.std.specs.Prelude.{◌≡◌, None};
+ghost use Rattle.std.specs.Prelude.{◌≡◌, IfOk, None};
 ghost use Rattle.std.specs.List.{list_all};
 ghost use Rattle.iofd_words.specs.Settings.{is_between, is_device_in_limits, is_reserved_span};
 
 use crate::lists::SpanList;
 use crate::numbers::{SourceId, UserNo};
+use crate::refusal::NoMemory;
 use crate::span::Span;
 use crate::width::Width;
 use std::alloc::{Allocator, Global};
@@ -40,6 +41,18 @@ impl<A: Allocator> DeviceConfig<A> {
             x86,
             reserved,
         }
+    }
+
+    /// The same device, its spans in new memory. It fails only where memory does.
+    pub fn copied<B: Allocator>(&self, alloc: B) -> Result<DeviceConfig<B>, NoMemory>
+        ensures { IfOk result (λ device. device ≡ self.now) }
+    {
+        Ok(DeviceConfig {
+            source: self.source,
+            width: self.width,
+            x86: self.x86,
+            reserved: self.reserved.copied(alloc)?,
+        })
     }
 
     /// The id by which the IOMMU knows it.
@@ -148,6 +161,19 @@ impl<A: Allocator> Config<A> {
         })
     }
 
+    /// The same configuration in new memory. It fails only where memory does.
+    pub fn copied<B: Allocator + Copy>(&self, alloc: B) -> Result<Config<B>, NoMemory>
+        ensures { IfOk result (λ config. config ≡ self.now) }
+    {
+        Ok(Config {
+            pool: self.pool,
+            users: copied(alloc, &self.users)?,
+            files: copied(alloc, &self.files)?,
+            devices: copied_devices(alloc, &self.devices)?,
+            passes: self.passes,
+        })
+    }
+
     /// How many frames the pool has, 1 to 4096.
     pub fn pool(&self) -> u32
         ensures value { result ≡ self.now.pool }
@@ -183,6 +209,28 @@ impl<A: Allocator> Config<A> {
     {
         self.passes
     }
+}
+
+// The same values in new memory.
+fn copied<T: Copy, B: Allocator>(alloc: B, values: &[T]) -> Result<Vec<T, B>, NoMemory>
+    ensures { IfOk result (λ copies. copies.items ≡ values.now) }
+{
+    Ok(Vec::from_slice(alloc, values)?)
+}
+
+// The same devices in new memory.
+fn copied_devices<A: Allocator, B: Allocator + Copy>(
+    alloc: B,
+    devices: &[DeviceConfig<A>],
+) -> Result<Vec<DeviceConfig<B>, B>, NoMemory>
+    ensures { IfOk result (λ copies. copies.items ≡ devices.now) }
+{
+    let mut copies = Vec::with_capacity(alloc, devices.len())?;
+    for device in devices {
+        let copy = device.copied(alloc)?;
+        copies.push(copy)?;
+    }
+    Ok(copies)
 }
 
 // Whether each file's user is one of so many.

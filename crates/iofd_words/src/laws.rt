@@ -1,8 +1,11 @@
 //! Laws of the definitions, each the contract of a function that does nothing.
 
 ghost use Rattle.std.specs.Prelude.{◌≡◌, List, ◌∷◌, [], ◌++◌, length, IsTrue};
+ghost use Rattle.iofd_words.specs.Debts.{DebtsAttached};
 ghost use Rattle.iofd_words.specs.FirstScript as script;
+ghost use Rattle.iofd_words.specs.Fits.{RowsFit};
 ghost use Rattle.iofd_words.specs.Laws.{are_apart, have_own_frames, have_own_ids, IsOfAnother, WasFree, rows_of};
+ghost use Rattle.iofd_words.specs.Pinned.{ArePinned};
 ghost use Rattle.iofd_words.specs.Run.{IsRun, after, world_of};
 ghost use Rattle.iofd_words.specs.Settings.{Settings};
 ghost use Rattle.iofd_words.specs.World.{World};
@@ -39,12 +42,33 @@ pub fn ids_are_unique<A: Allocator>()
         IsTrue (have_own_ids (world_of settings records).objects) }
 {}
 
+/// In every run, each page that is to be pinned has a pin, and no other page has one. Each area has a memory object of
+/// its own, which an earlier record made, and each memory object has an area.
+pub fn pins_are_those_of_pinned_pages<A: Allocator>()
+    ensures { (settings : Settings) (records : List (Record A)) → IsRun settings records →
+        ArePinned (length records) (world_of settings records) }
+{}
+
+/// In every run, each area is of whole pages and no longer than a user's memory, attachments rise by device, and
+/// users and pins have frames of the pool.
+pub fn rows_fit<A: Allocator>()
+    ensures { (settings : Settings) (records : List (Record A)) → IsRun settings records →
+        RowsFit (world_of settings records) }
+{}
+
 /// A record changes no object, area or attachment of a file that its event isn't of, and doesn't close it: not by a
 /// command of another file, nor by an event of a device that is bound to another file.
 pub fn files_are_apart<A: Allocator>()
     ensures { (settings : Settings) (before : List (Record A)) (r : Record A) (other : FileNo) → IsRun settings before →
         IsOfAnother (world_of settings before) r.event other →
         rows_of other (after (length before) (world_of settings before) r) ≡ rows_of other (world_of settings before) }
+{}
+
+/// In every run, each device that owes an area a flush is attached to that area's address space; each device is
+/// attached at most once, and each attachment, page table and area names what its file has.
+pub fn debtors_are_attached<A: Allocator>()
+    ensures { (settings : Settings) (records : List (Record A)) → IsRun settings records →
+        DebtsAttached (world_of settings records) }
 {}
 
 /// The records of a script that was worked by hand are a run.

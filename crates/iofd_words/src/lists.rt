@@ -1,8 +1,9 @@
 //! Lists that contracts see as lists.
 
-ghost use Rattle.std.specs.Prelude.{◌≡◌};
+ghost use Rattle.std.specs.Prelude.{◌≡◌, IfOk};
 
 use crate::numbers::FrameNo;
+use crate::refusal::NoMemory;
 use crate::span::Span;
 use std::alloc::{Allocator, Global};
 use std::marker::Model;
@@ -73,6 +74,16 @@ impl<A: Allocator> SpanList<A> {
         ensures { result.now ≡ self.now }
     {
         self.spans.as_slice()
+    }
+
+    /// The same spans in new memory. It fails only where memory does.
+    pub fn copied<B: Allocator>(&self, alloc: B) -> Result<SpanList<B>, NoMemory>
+        ensures { IfOk result (λ spans. spans ≡ self.now) }
+    {
+        match Vec::from_slice(alloc, &self.spans) {
+            Ok(spans) => Ok(SpanList { spans }),
+            Err(_) => Err(NoMemory),
+        }
     }
 
     /// The spans as they were handed in. It takes no memory.

@@ -1,8 +1,8 @@
 -- A slab's entries, each made a row, after one slot of the slab has changed.
-use Rattle.std.proofs.Common.{◌≡◌, ◌≢◌, ℕ, zero, suc, ◌+◌, ◌<◌, ◌≤◌, Bool, true, false, cond, List, [], ◌∷◌, ◌++◌, Option, Some, None, map, get_or, set, refl, sym, arith}
+use Rattle.std.proofs.Common.{◌≡◌, ◌≢◌, ℕ, zero, suc, ◌+◌, ◌<◌, ◌≤◌, Bool, true, false, cond, List, [], ◌∷◌, Option, Some, None, map, get_or, set, refl, sym, arith}
 use Rattle.std.specs.List.{filter, find, AllByRecursion}
 use Rattle.slab.specs.Slab.{entries_from}
-use Rattle.object_table.proofs.Lists.{filter_all, filter_none, map_same, find_none}
+use Rattle.object_table.proofs.Lists.{filter_all, map_same, find_none, put_before, put_before_all}
 
 module _ {T R : Type 0} (f : ℕ × T → R) where
   -- the rows of these slots, of which the first has this key
@@ -30,39 +30,37 @@ module _ {T R : Type 0} (f : ℕ × T → R) where
       let one : other ≡ value = cc in
       rw (one, rows_of_slots-same (first + 1) old new (λ key. same (suc key)))
 
-  -- tests that tell the rows before and after a key
-  pub record Parts (at : ℕ) (before after : R → Bool) : Type 0 where
-    pub early : (e : ℕ × T) → e.0 < at → (before (f e) ≡ true) × (after (f e) ≡ false)
-    pub here : (e : ℕ × T) → e.0 ≡ at → (before (f e) ≡ false) × (after (f e) ≡ false)
-    pub late : (e : ℕ × T) → at < e.0 → (before (f e) ≡ false) × (after (f e) ≡ true)
+  -- a test that tells the rows after a key from those before it
+  pub record Parts (at : ℕ) (after : R → Bool) : Type 0 where
+    pub early : (e : ℕ × T) → e.0 < at → after (f e) ≡ false
+    pub late : (e : ℕ × T) → at < e.0 → after (f e) ≡ true
 
-  -- a vacant slot that is filled puts its row between those before and those after
-  pub rows_of_slots-filled : (at : ℕ) (before after : R → Bool) → Parts at before after → (value : T) (key first : ℕ) → first + key ≡ at → (old new : List (Option T)) → get_or old key None ≡ None → get_or new key None ≡ Some value → ((other : ℕ) → other ≢ key → get_or new other None ≡ get_or old other None) → rows_of_slots first new ≡ filter before (rows_of_slots first old) ++ f (at, value) ∷ filter after (rows_of_slots first old)
-  rows_of_slots-filled at before after parts value zero first is old [] vacant filled others = absurd (cc)
-  rows_of_slots-filled at before after parts value (suc key) first is old [] vacant filled others = absurd (cc)
-  rows_of_slots-filled at before after parts value zero first is [] (slot ∷ new) vacant filled others =
+  -- a vacant slot that is filled puts its row before those that are after it
+  pub rows_of_slots-filled : (at : ℕ) (after : R → Bool) → Parts at after → (value : T) (key first : ℕ) → first + key ≡ at → (old new : List (Option T)) → get_or old key None ≡ None → get_or new key None ≡ Some value → ((other : ℕ) → other ≢ key → get_or new other None ≡ get_or old other None) → rows_of_slots first new ≡ put_before after (f (at, value)) (rows_of_slots first old)
+  rows_of_slots-filled at after parts value zero first is old [] vacant filled others = absurd (cc)
+  rows_of_slots-filled at after parts value (suc key) first is old [] vacant filled others = absurd (cc)
+  rows_of_slots-filled at after parts value zero first is [] (slot ∷ new) vacant filled others =
       let filled_here : slot ≡ Some value = filled in
       let same : first ≡ at = omega arith in
       let rest : rows_of_slots (first + 1) new ≡ [] = rows_of_slots-same (first + 1) [] new (λ other. others (suc other) (λ e. omega arith)) in
       rw (filled_here, rest, same)
-  rows_of_slots-filled at before after parts value zero first is (was ∷ old) (slot ∷ new) vacant filled others =
+  rows_of_slots-filled at after parts value zero first is (was ∷ old) (slot ∷ new) vacant filled others =
       let filled_here : slot ≡ Some value = filled in
       let was_vacant : was ≡ None = vacant in
       let same : first ≡ at = omega arith in
       let rest : rows_of_slots (first + 1) new ≡ rows_of_slots (first + 1) old = rows_of_slots-same (first + 1) old new (λ other. others (suc other) (λ e. omega arith)) in
-      let none : filter before (rows_of_slots (first + 1) old) ≡ [] = filter_none before _ (keys_from (λ r. before r ≡ false) (first + 1) old (λ e later. (parts.late e (omega arith)).0)) in
-      let all : filter after (rows_of_slots (first + 1) old) ≡ rows_of_slots (first + 1) old = filter_all after _ (keys_from (λ r. after r ≡ true) (first + 1) old (λ e later. (parts.late e (omega arith)).1)) in
-      rw (filled_here, was_vacant, rest, none, all, same)
-  rows_of_slots-filled at before after parts value (suc key) first is [] (slot ∷ new) vacant filled others =
+      let all = put_before_all after (f (at, value)) _ (keys_from (λ r. after r ≡ true) (first + 1) old (λ e later. parts.late e (omega arith))) in
+      rw (filled_here, was_vacant, rest, all, same)
+  rows_of_slots-filled at after parts value (suc key) first is [] (slot ∷ new) vacant filled others =
       let still_vacant : slot ≡ None = others 0 (λ e. omega arith) in
-      rw (still_vacant, rows_of_slots-filled at before after parts value key (first + 1) (omega arith) [] new refl filled (λ other differs. others (suc other) (λ e. differs (omega arith))))
-  rows_of_slots-filled at before after parts value (suc key) first is (None ∷ old) (slot ∷ new) vacant filled others =
+      rw (still_vacant, rows_of_slots-filled at after parts value key (first + 1) (omega arith) [] new refl filled (λ other differs. others (suc other) (λ e. differs (omega arith))))
+  rows_of_slots-filled at after parts value (suc key) first is (None ∷ old) (slot ∷ new) vacant filled others =
       let still_vacant : slot ≡ None = others 0 (λ e. omega arith) in
-      rw (still_vacant, rows_of_slots-filled at before after parts value key (first + 1) (omega arith) old new vacant filled (λ other differs. others (suc other) (λ e. differs (omega arith))))
-  rows_of_slots-filled at before after parts value (suc key) first is (Some was ∷ old) (slot ∷ new) vacant filled others =
+      rw (still_vacant, rows_of_slots-filled at after parts value key (first + 1) (omega arith) old new vacant filled (λ other differs. others (suc other) (λ e. differs (omega arith))))
+  rows_of_slots-filled at after parts value (suc key) first is (Some was ∷ old) (slot ∷ new) vacant filled others =
       let still_there : slot ≡ Some was = others 0 (λ e. omega arith) in
       let early = parts.early (first, was) (omega arith) in
-      rw (still_there, early.0, early.1, rows_of_slots-filled at before after parts value key (first + 1) (omega arith) old new vacant filled (λ other differs. others (suc other) (λ e. differs (omega arith))))
+      rw (still_there, early, rows_of_slots-filled at after parts value key (first + 1) (omega arith) old new vacant filled (λ other differs. others (suc other) (λ e. differs (omega arith))))
 
   -- a slot that is emptied loses its row
   pub rows_of_slots-emptied : (at : ℕ) (keep : R → Bool) → ((e : ℕ × T) → e.0 ≡ at → keep (f e) ≡ false) → ((e : ℕ × T) → e.0 ≢ at → keep (f e) ≡ true) → (key first : ℕ) → first + key ≡ at → (slots : List (Option T)) → rows_of_slots first (set slots key None) ≡ filter keep (rows_of_slots first slots)

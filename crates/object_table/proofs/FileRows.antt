@@ -1,5 +1,5 @@
 -- The rows of one file, after a change of its slab.
-use Rattle.std.proofs.Common.{◌≡◌, ℕ, ◌+◌, ◌-◌, ◌<◌, Bool, true, false, ◌&&◌, not, cond, List, [], length, Option, Some, None, IsSome, is_some, count_by, get_or, set, refl, sym, ◌∙◌, inl, inr, arith}
+use Rattle.std.proofs.Common.{◌≡◌, ℕ, ◌+◌, ◌-◌, ◌<◌, Bool, true, false, ◌&&◌, not, cond, List, [], length, map, Option, Some, None, IsSome, is_some, count_by, get_or, set, refl, sym, ◌∙◌, inl, inr, arith}
 use Rattle.std.proofs.lemmas.Bool.Decides.{nat_tests}
 use Rattle.std.proofs.lemmas.Bool.{cases_lt}
 use Rattle.std.proofs.lemmas.List.{length-map, get_or_past}
@@ -14,6 +14,7 @@ use Rattle.object_table.specs.declared.file_objects.FileObjects.{FileObjects}
 use Rattle.object_table.specs.Table.{Row, inserted, removed, changed_at, stands_before, is_at}
 use Rattle.object_table.specs.Layout.{row_of, keyed_row, entry_at, next_id, has_room, file_rows}
 use Rattle.object_table.proofs.Lookup.{is_at-here, is_at-other_id}
+use Rattle.object_table.proofs.Rows.{inserted_is}
 use Rattle.object_table.proofs.EntryRows.{Parts, rows_of_slots, rows_of_slots-filled, rows_of_slots-emptied, rows_of_slots-written}
 
 pub some_value : {T : Type 0} (o : Option T) → IsSome o → (value : T) × (o ≡ Some value)
@@ -45,13 +46,8 @@ some_from_map f None some = absurd (cc)
 some_from_map f (Some value) some = refl
 
 module _ {V : Type 0} where
-  parts : (number key : ℕ) (entry : Entry V) → Parts (keyed_row number) key (λ other. stands_before other (keyed_row number (key, entry))) (stands_before (keyed_row number (key, entry)))
-  parts number key entry =
-      record {
-        early = λ e lt. (grind (arith, nat_tests), grind (arith, nat_tests));
-        here = λ e same. (grind (arith, nat_tests), grind (arith, nat_tests));
-        late = λ e lt. (grind (arith, nat_tests), grind (arith, nat_tests));
-      }
+  parts : (number key : ℕ) (entry : Entry V) → Parts (keyed_row number) key (stands_before (keyed_row number (key, entry)))
+  parts number key entry = record { early = λ e lt. grind (arith, nat_tests); late = λ e lt. grind (arith, nat_tests) }
 
 module _ {V A : Type 0} where
   -- a file with an object at an id is open, the id isn't 0, and its slab has the object
@@ -79,7 +75,7 @@ module _ {V A : Type 0} where
   -- an object that is added comes in at its place
   pub file_rows-filled : (number key : ℕ) (old new : FileObjects V A) (entry : Entry V) → new.is_open ≡ old.is_open → old.is_open ≡ true → get old.objects key ≡ None → Updates old.objects new.objects key (Some entry) → file_rows number new ≡ inserted (keyed_row number (key, entry)) (file_rows number old)
   file_rows-filled number key old new entry mark is_open vacant updates =
-      rw (mark, is_open) (rows_of_slots-filled (keyed_row number) key _ _ (parts number key entry) entry key 0 (omega arith) old.objects.slots new.objects.slots vacant updates.changed updates.others)
+      rw (mark, is_open, inserted_is (keyed_row number (key, entry)) (map (keyed_row number) (entries old.objects))) (rows_of_slots-filled (keyed_row number) key _ (parts number key entry) entry key 0 (omega arith) old.objects.slots new.objects.slots vacant updates.changed updates.others)
 
   -- an object that is taken out leaves the other rows
   pub file_rows-emptied : (number : ℕ) (id : ObjId) (old new : FileObjects V A) → new.is_open ≡ old.is_open → 0 < id.0 → new.objects.slots ≡ set old.objects.slots (id.0 - 1) None → file_rows number new ≡ removed (record { 0 = number }) id (file_rows number old)

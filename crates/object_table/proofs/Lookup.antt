@@ -63,9 +63,8 @@ module _ {V A : Type 0} where
           same_found (Some entry) = let more : key + 1 ≡ suc key = omega arith in rw more
 
   -- no row is of a file that isn't there
-  pub find_outside : (files : List (FileObjects V A)) (number : ℕ) (test : Row V → Bool) → ((r : Row V) → r.file.0 ≢ number → test r ≡ false) → ((place : ℕ) → place + 1 ≡ number → length files ≤ place) → find test (rows_from 1 files) ≡ None
-  find_outside files number test others outside =
-      find_none test _ (both (rows_from 1 files) (rows_from-low 1 files) (rows_from-high 1 files))
+  pub fails_outside : (files : List (FileObjects V A)) (number : ℕ) (test : Row V → Bool) → ((r : Row V) → r.file.0 ≢ number → test r ≡ false) → ((place : ℕ) → place + 1 ≡ number → length files ≤ place) → AllByRecursion (λ r. test r ≡ false) (rows_from 1 files)
+  fails_outside files number test others outside = both (rows_from 1 files) (rows_from-low 1 files) (rows_from-high 1 files)
     where
       fails : (r : Row V) → 1 ≤ r.file.0 → r.file.0 < 1 + length files → test r ≡ false
       fails r low high = others r (λ same. let past = outside (number - 1) (omega arith) in omega arith)
@@ -73,6 +72,9 @@ module _ {V A : Type 0} where
       both : (rows : List (Row V)) → AllByRecursion (λ r. 1 ≤ r.file.0) rows → AllByRecursion (λ r. r.file.0 < 1 + length files) rows → AllByRecursion (λ r. test r ≡ false) rows
       both [] low high = tt
       both (r ∷ rows) low high = (fails r low.0 high.0, both rows low.1 high.1)
+
+  pub find_outside : (files : List (FileObjects V A)) (number : ℕ) (test : Row V → Bool) → ((r : Row V) → r.file.0 ≢ number → test r ≡ false) → ((place : ℕ) → place + 1 ≡ number → length files ≤ place) → find test (rows_from 1 files) ≡ None
+  find_outside files number test others outside = find_none test _ (fails_outside files number test others outside)
 
   -- a search of all rows, by a test that fails at every other file and id
   pub find_inside : (files : List (FileObjects V A)) (file : FileNo) (id : ObjId) (place : ℕ) (d : FileObjects V A) (test : Row V → Bool) → ((r : Row V) → r.file.0 ≢ file.0 → test r ≡ false) → ((r : Row V) → r.id.0 ≢ id.0 → test r ≡ false) → place + 1 ≡ file.0 → place < length files → find test (rows_from 1 files) ≡ found test file id (entry_at (get_or files place d) id)

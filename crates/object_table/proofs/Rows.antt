@@ -10,7 +10,12 @@ use Rattle.slab.specs.Slab.{entries}
 use Rattle.object_table.specs.Table.{Row, inserted, stands_before}
 use Rattle.object_table.specs.Layout.{file_rows, rows_from, keyed_row}
 use Rattle.object_table.specs.declared.file_objects.FileObjects.{FileObjects}
-use Rattle.object_table.proofs.Lists.{Each-weaken, Each-append, Each-map, filter_all, filter_none, map_same, find_none}
+use Rattle.object_table.proofs.Lists.{Each-weaken, Each-append, Each-map, filter_all, filter_none, map_same, find_none, put_before, put_before_none, put_before-append}
+
+-- a row comes in before the first that it stands before
+pub inserted_is : {V : Type 0} (row : Row V) (rows : List (Row V)) → inserted row rows ≡ put_before (stands_before row) row rows
+inserted_is row [] = refl
+inserted_is row (next ∷ rows) = rw (inserted_is row rows)
 
 -- these rows are mine, those of the files before and those of the files after
 pub record IsSplit {V : Type 0} (number : ℕ) (rows front mine back : List (Row V)) : Type 0 where
@@ -101,8 +106,6 @@ module _ {V : Type 0} (number : ℕ) (rows front mine back : List (Row V)) (spli
   -- a row of this file comes in among this file's rows
   pub inserted_mine : (row : Row V) → row.file.0 ≡ number → inserted row rows ≡ front ++ (inserted row mine ++ back)
   inserted_mine row is =
-      let front_before = filter_all (λ other. stands_before other row) front (Each-weaken (λ r. r.file.0 < number) (λ r. stands_before r row ≡ true) (λ r lt. grind (arith, nat_tests)) front split.before) in
-      let back_before = filter_none (λ other. stands_before other row) back (Each-weaken (λ r. number < r.file.0) (λ r. stands_before r row ≡ false) (λ r lt. grind (arith, nat_tests)) back split.after) in
-      let front_after = filter_none (stands_before row) front (Each-weaken (λ r. r.file.0 < number) (λ r. stands_before row r ≡ false) (λ r lt. grind (arith, nat_tests)) front split.before) in
-      let back_after = filter_all (stands_before row) back (Each-weaken (λ r. number < r.file.0) (λ r. stands_before row r ≡ true) (λ r lt. grind (arith, nat_tests)) back split.after) in
-      rw (split.whole, filter-append (λ other. stands_before other row) front (mine ++ back), filter-append (λ other. stands_before other row) mine back, filter-append (stands_before row) front (mine ++ back), filter-append (stands_before row) mine back, front_before, back_before, front_after, back_after) (simp (append_assoc, append-nil))
+      let first = put_before_none (stands_before row) row front (mine ++ back) (Each-weaken (λ r. r.file.0 < number) (λ r. stands_before row r ≡ false) (λ r lt. grind (arith, nat_tests)) front split.before) in
+      let last = put_before-append (stands_before row) row mine back (Each-weaken (λ r. number < r.file.0) (λ r. stands_before row r ≡ true) (λ r lt. grind (arith, nat_tests)) back split.after) in
+      rw (split.whole, inserted_is row (front ++ (mine ++ back)), inserted_is row mine, first, last)

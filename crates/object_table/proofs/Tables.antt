@@ -1,22 +1,22 @@
 -- What contracts see of all files, in terms of the file at one place, and after a change of that file.
-use Rattle.std.proofs.Common.{◌≡◌, ◌≢◌, ◌⊎◌, ℕ, suc, ◌+◌, ◌-◌, ◌<◌, ◌≤◌, Bool, true, false, not, cond, List, [], ◌++◌, length, Some, None, IsSome, Result, Ok, Err, IfOk, map, get_or, set, take, drop, refl, sym, ap, ◌∙◌, inl, inr, arith}
+use Rattle.std.proofs.Common.{◌≡◌, ◌≢◌, ◌⊎◌, ℕ, suc, ◌+◌, ◌-◌, ◌<◌, ◌≤◌, Bool, true, false, ◌&&◌, not, cond, List, [], ◌++◌, length, Some, None, IsSome, Result, Ok, Err, IfOk, OnErr, map, get_or, set, take, drop, refl, sym, ap, ◌∙◌, inl, inr, arith}
 use Rattle.std.proofs.lemmas.Bool.{cases_lt}
 use Rattle.std.proofs.lemmas.Bool.Decides.{nat_tests}
 use Rattle.std.proofs.lemmas.List.{length-map, map-set, get_or-map, get_or-set_same, get_or-set_other, get_or_past, set-get_or}
-use Rattle.std.specs.Prelude.{nat_lt}
+use Rattle.std.specs.Prelude.{nat_lt, nat_le}
 use Rattle.std.specs.Option.{option_map}
 use Rattle.std.specs.List.{filter, list_any}
-use Rattle.slab.specs.Slab.{entries}
+use Rattle.slab.specs.Slab.{entries, slab_len}
 use Rattle.iofd_words.specs.declared.numbers.FileNo.{FileNo}
 use Rattle.iofd_words.specs.declared.numbers.ObjId.{ObjId}
 use Rattle.iofd_words.specs.declared.refusal.Cause.TheVariants as cause
 use Rattle.object_table.specs.declared.kind.Kind.{Kind}
 use Rattle.object_table.specs.declared.file_objects.FileObjects.{FileObjects}
-use Rattle.object_table.specs.Table.{Row, Table, is_open, reserved_id, is_of_file, is_at, rows_of, row_at, own, inserted, removed, changed_at, closed, insert_refusal, close_refusal, keeps_file_open, OthersKeepRoom}
+use Rattle.object_table.specs.Table.{Row, Table, is_open, reserved_id, is_of_file, is_at, rows_of, row_at, own, inserted, removed, changed_at, closed, insert_refusal, close_refusal, keeps_file_open, greatest_count, OthersKeepRoom}
 use Rattle.object_table.specs.Layout.{row_of, keyed_row, own_row, entry_at, next_id, file_refusal, file_rows, rows_from, table_of}
 use Rattle.object_table.proofs.Lists.{Each-weaken, filter_all, filter_none, list_any-map}
 use Rattle.object_table.proofs.FileRows.{length-file_rows}
-use Rattle.object_table.proofs.Lookup.{find_inside, find_outside, found-is_at, found-is_own, is_at-other_file, is_at-other_id, is_own-other_file, is_own-other_id}
+use Rattle.object_table.proofs.Lookup.{find_inside, find_outside, fails_outside, found-is_at, found-is_own, is_at-other_file, is_at-other_id, is_own-other_file, is_own-other_id}
 use Rattle.object_table.proofs.Rows.{IsSplit, split_at, split_set, filter_mine, filter_only_mine, map_mine, inserted_mine, file_rows-numbers}
 
 pub same_table : {V : Type 0} (a b : Table V) → a.files ≡ b.files → a.reserved ≡ b.reserved → a.rows ≡ b.rows → a ≡ b
@@ -28,6 +28,10 @@ no_value same = cc
 pub IfOk-weaken : {T E : Type 0} (P Q : T → Type 0) → ((x : T) → P x → Q x) → (r : Result T E) → IfOk r P → IfOk r Q
 IfOk-weaken P Q weaker (Ok x) p = weaker x p
 IfOk-weaken P Q weaker (Err e) p = tt
+
+pub OnErr-weaken : {T E : Type 0} (P Q : Type 0) → (P → Q) → (r : Result T E) → OnErr r P → OnErr r Q
+OnErr-weaken P Q weaker (Ok x) p = tt
+OnErr-weaken P Q weaker (Err e) p = weaker p
 
 module _ {V A : Type 0} (files : List (FileObjects V A)) (file : FileNo) where
   -- a file that isn't there is closed, and has no room and no object
@@ -59,6 +63,15 @@ module _ {V A : Type 0} (files : List (FileObjects V A)) (file : FileNo) where
 
   pub outside_own : (kind : Kind) (id : ObjId) → IsOutside → own (table_of files) file kind id ≡ None
   outside_own kind id outside = find_outside files file.0 _ (λ r. is_own-other_file file kind id r) outside
+
+  pub outside_rows_of : IsOutside → rows_of (table_of files) file ≡ []
+  outside_rows_of outside = filter_none (is_of_file file) _ (fails_outside files file.0 (is_of_file file) (λ r differs. grind (arith, nat_tests)) outside)
+
+  pub outside_is_full : IsOutside → nat_le greatest_count (length (rows_of (table_of files) file)) ≡ false
+  outside_is_full outside = rw (outside_rows_of outside)
+
+  pub outside_is_held : IsOutside → list_any (λ row. keeps_file_open row.kind) (rows_of (table_of files) file) ≡ false
+  outside_is_held outside = rw (outside_rows_of outside)
 
   pub outside_insert_refusal : IsOutside → insert_refusal (table_of files) file ≡ Some cause.Id
   outside_insert_refusal outside = rw (outside_is_open outside)
@@ -130,6 +143,19 @@ module _ {V A : Type 0} (files : List (FileObjects V A)) (file : FileNo) (place 
       by_mark false e = rw (is_open-inside, e)
       by_mark true e = rw (is_open-inside, e, rows_of-inside, length-file_rows file.0 f e)
 
+  pub is_full-inside : nat_le greatest_count (length (rows_of (table_of files) file)) ≡ (f.is_open && nat_le greatest_count (slab_len f.objects))
+  is_full-inside = by_mark f.is_open refl
+    where
+      by_mark : (b : Bool) → f.is_open ≡ b → nat_le greatest_count (length (rows_of (table_of files) file)) ≡ (f.is_open && nat_le greatest_count (slab_len f.objects))
+      by_mark false e = rw (rows_of-inside, e)
+      by_mark true e = rw (rows_of-inside, length-file_rows file.0 f e, e)
+
+  pub is_held-inside : f.is_open ≡ true → list_any (λ row. keeps_file_open row.kind) (rows_of (table_of files) file) ≡ list_any (λ e. keeps_file_open e.1.kind) (entries f.objects)
+  is_held-inside e = rw (rows_of-inside, e) (list_any-map (λ row. keeps_file_open row.kind) (keyed_row file.0) (entries f.objects))
+
+  pub is_held-closed : f.is_open ≡ false → list_any (λ row. keeps_file_open row.kind) (rows_of (table_of files) file) ≡ false
+  is_held-closed e = rw (rows_of-inside, e)
+
   pub close_refusal-inside : f.is_open ≡ true → close_refusal (table_of files) file ≡ cond (list_any (λ e. keeps_file_open e.1.kind) (entries f.objects)) (Some cause.InUse) None
   close_refusal-inside e =
       rw (is_open-inside, e, rows_of-inside, e, list_any-map (λ row. keeps_file_open row.kind) (keyed_row file.0) (entries f.objects))
@@ -146,6 +172,12 @@ module _ {V A : Type 0} (files : List (FileObjects V A)) (file : FileNo) (place 
         let same : new.is_open ≡ get_or (map (λ (x : FileObjects V A). x.is_open) files) place false =
         mark ∙ ap (λ (x : FileObjects V A). x.is_open) stands ∙ sym (get_or-map (λ (x : FileObjects V A). x.is_open) files place f false within) in
         rw (map-set (λ (x : FileObjects V A). x.is_open) files place new, same, set-get_or)
+
+    rooms_kept : next_id new ≡ next_id f → (table_of (set files place new)).reserved ≡ (table_of files).reserved
+    rooms_kept room =
+        let same : next_id new ≡ get_or (map next_id files) place None =
+        room ∙ ap next_id stands ∙ sym (get_or-map next_id files place f None within) in
+        rw (map-set next_id files place new, same, set-get_or)
 
     pub others_keep_room : OthersKeepRoom file (table_of files) (table_of (set files place new))
     others_keep_room = λ other differs.
@@ -169,6 +201,10 @@ module _ {V A : Type 0} (files : List (FileObjects V A)) (file : FileNo) (place 
     pub rows_kept : file_rows file.0 new ≡ file_rows file.0 f → (table_of (set files place new)).rows ≡ (table_of files).rows
     rows_kept same = rw (whole_new, same) (sym split.whole)
 
+    -- a table is the same where its parts are
+    pub table_same : new.is_open ≡ f.is_open → next_id new ≡ next_id f → file_rows file.0 new ≡ file_rows file.0 f → table_of (set files place new) ≡ table_of files
+    table_same mark room rows = same_table _ _ (files_kept mark) (rooms_kept room) (rows_kept rows)
+
     pub rows_inserted : (row : Row V) → row.file.0 ≡ file.0 → file_rows file.0 new ≡ inserted row (file_rows file.0 f) → (table_of (set files place new)).rows ≡ inserted row (table_of files).rows
     rows_inserted row here comes = whole_new ∙ rw comes (sym (inserted_mine file.0 _ _ _ _ split row here))
 
@@ -180,11 +216,7 @@ module _ {V A : Type 0} (files : List (FileObjects V A)) (file : FileNo) (place 
 
     pub table_written : (id : ObjId) (change : Row V → Row V) → new.is_open ≡ f.is_open → next_id new ≡ next_id f → file_rows file.0 new ≡ changed_at file id change (file_rows file.0 f) → table_of (set files place new) ≡ record (table_of files) { rows = changed_at file id change (table_of files).rows }
     table_written id change mark room changes =
-        let same : next_id new ≡ get_or (map next_id files) place None =
-        room ∙ ap next_id stands ∙ sym (get_or-map next_id files place f None within) in
-        let rooms : (table_of (set files place new)).reserved ≡ (table_of files).reserved =
-        rw (map-set next_id files place new, same, set-get_or) in
-        same_table _ _ (files_kept mark) rooms (rows_changed id change changes)
+        same_table _ _ (files_kept mark) (rooms_kept room) (rows_changed id change changes)
 
     pub table_closed : new.is_open ≡ false → table_of (set files place new) ≡ closed (table_of files) file
     table_closed mark =

@@ -1,6 +1,7 @@
 -- How a table lays out its rows. No public clause cites this module.
-use Rattle.std.specs.Prelude.{ℕ, ◌+◌, ◌-◌, Bool, ◌&&◌, not, nat_lt, nat_le, if◌then◌else◌, Option, Some, None, List, [], ◌∷◌, ◌++◌, map}
-use Rattle.slab.specs.Slab.{Slab, get, entries, slab_len}
+use Rattle.std.specs.Prelude.{ℕ, ◌+◌, ◌-◌, ◌<◌, ◌≤◌, Bool, ◌&&◌, not, nat_lt, nat_le, if◌then◌else◌, Option, Some, None, List, [], ◌∷◌, ◌++◌, map}
+use Rattle.std.specs.List.{AllByRecursion}
+use Rattle.slab.specs.Slab.{Slab, get, ContainsKey, entries, slab_len}
 use Rattle.iofd_words.specs.FirstTrue.{first_true}
 use Rattle.iofd_words.specs.declared.refusal.Cause.{Cause}
 use Rattle.iofd_words.specs.declared.refusal.Cause.TheVariants as cause
@@ -32,6 +33,20 @@ module _ {V : Type 0} where
   own_row file kind id None = None
   own_row file kind id (Some entry) = if is_same_kind entry.kind kind then Some (row_of file id entry) else None
 
+  -- a file has at most as many objects as it may have, each under a key that has an id
+  pub record IsInLimits {A : Type 0} (file : FileObjects V A) : Type 0 where
+    pub count : slab_len file.objects ≤ greatest_count
+    pub keys : (key : ℕ) → ContainsKey file.objects key → key < key_end
+
+  -- the same of every file
+  abbrev pub AllInLimits : {A : Type 0} → List (FileObjects V A) → Type 0
+  AllInLimits files = AllByRecursion IsInLimits files
+
+  -- what an iterator has left stands under keys that have an id
+  abbrev pub HaveIds : Option (List (ℕ × Entry V)) → Type 0
+  HaveIds None = Unit {0}
+  HaveIds (Some left) = AllByRecursion (λ e. e.0 < key_end) left
+
   -- one more object fits with no allocation and within the limit, and its id is in range
   abbrev pub has_room : Slab (Entry V) → Bool
   has_room s = nat_lt (slab_len s) greatest_count && nat_lt (slab_len s) s.capacity && nat_lt s.vacant_key key_end
@@ -50,6 +65,11 @@ module _ {V : Type 0} where
   -- the rows of the file of this number
   abbrev pub file_rows : {A : Type 0} → ℕ → FileObjects V A → List (Row V)
   file_rows number file = if file.is_open then map (keyed_row number) (entries file.objects) else []
+
+  -- the rows of what an iterator over the objects of a file has left
+  abbrev pub rows_left : FileNo → Option (List (ℕ × Entry V)) → List (Row V)
+  rows_left file None = []
+  rows_left file (Some left) = map (keyed_row file.0) left
 
   -- the rows of these files, where the first has this number
   abbrev pub rows_from : {A : Type 0} → ℕ → List (FileObjects V A) → List (Row V)

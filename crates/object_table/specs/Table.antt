@@ -1,5 +1,5 @@
 -- The objects of all files, as contracts see them.
-use Rattle.std.specs.Prelude.{◌≡◌, ◌≢◌, ℕ, ◌-◌, Bool, true, false, ◌&&◌, ◌||◌, not, ◌==◌, nat_lt, nat_le, if◌then◌else◌, Option, Some, None, is_none, List, [], ◌∷◌, ◌++◌, length, map, filter, find, replicate, slice_index_or, slice_set}
+use Rattle.std.specs.Prelude.{◌≡◌, ◌≢◌, ℕ, ◌-◌, Bool, true, false, ◌&&◌, ◌||◌, not, ◌==◌, nat_lt, nat_le, if◌then◌else◌, Option, Some, None, is_none, List, [], ◌∷◌, length, map, filter, find, replicate, slice_index_or, slice_set}
 use Rattle.std.specs.List.{list_any}
 use Rattle.std.specs.Option.{option_map_or}
 use Rattle.iofd_words.specs.FirstTrue.{first_true}
@@ -87,7 +87,8 @@ module _ {V : Type 0} where
 
   -- the rows with one more, in its place
   abbrev pub inserted : Row V → List (Row V) → List (Row V)
-  inserted row rows = filter (λ other. stands_before other row) rows ++ row ∷ filter (stands_before row) rows
+  inserted row [] = row ∷ []
+  inserted row (next ∷ rows) = if stands_before row next then row ∷ next ∷ rows else next ∷ inserted row rows
 
   -- the rows without the one at this file and id
   abbrev pub removed : FileNo → ObjId → List (Row V) → List (Row V)

@@ -10,12 +10,13 @@ use iofd_words::{Cause, FileNo, ObjId, Refusal};
 use std::alloc::Allocator;
 
 impl<V, A: Allocator> ObjectTable<V, A> {
-    ghost use Rattle.object_table.specs.Table.{own, removed, closed, destroy_refusal, close_refusal, OthersKeepRoom};
+    ghost use Rattle.object_table.specs.Table.{own, removed, closed, reserved_id, destroy_refusal, close_refusal, OthersKeepRoom};
 
     /// Takes the object out of its file and hands back what it held (`IOMMU_DESTROY`). It takes no memory.
     ///
     /// Refused by 11 (ENOENT) as `get`, and then by 12 (EBUSY) where the object has users. A refused call
-    /// changes nothing; a good one changes no other row.
+    /// changes nothing; a good one changes no other row, and the next object of the file gets the id, for
+    /// which there is room.
     pub fn destroy(&mut self, file: FileNo, kind: Kind, id: ObjId) -> Result<V, Refusal>
         ensures value { IfOk result (λ value.
             option_map (λ row. row.value) (own self.old file kind id) ≡ Some value) }
@@ -23,6 +24,7 @@ impl<V, A: Allocator> ObjectTable<V, A> {
         ensures rows { OnOk result (self.new.rows ≡ removed file id self.old.rows) }
         ensures files { self.new.files ≡ self.old.files }
         ensures room { OthersKeepRoom file self.old self.new }
+        ensures next { OnOk result (reserved_id self.new file ≡ Some id) }
 
         ensures refused { IfErr result (λ refusal.
             destroy_refusal self.old file kind id ≡ Some refusal.cause) }

@@ -1,11 +1,11 @@
 //! The objects of one file, in a slab.
 
-ghost use Rattle.std.specs.Prelude.{◌≡◌, ℕ, Some, IsSome, IsOk, IfOk, OnOk, IfErr, None, false, option_copied};
+ghost use Rattle.std.specs.Prelude.{◌≡◌, if◌then◌else◌, ◌&&◌, ℕ, nat_le, Some, IsSome, IsOk, IfOk, OnOk, OnErr, IfErr, None, false, option_copied};
 ghost use Rattle.std.specs.List.{list_any};
 ghost use Rattle.std.specs.Borrow.{sem};
 ghost use Rattle.slab.specs.Slab.{entries, slab_len};
-ghost use Rattle.object_table.specs.Table.{IsWhy, inserted, removed, keeps_file_open};
-ghost use Rattle.object_table.specs.Layout.{entry_at, next_id, file_rows, file_refusal, row_of};
+ghost use Rattle.object_table.specs.Table.{IsWhy, inserted, removed, keeps_file_open, greatest_count};
+ghost use Rattle.object_table.specs.Layout.{IsInLimits, entry_at, next_id, file_rows, file_refusal, row_of};
 
 use crate::error::ReserveError;
 use crate::kind::Kind;
@@ -65,14 +65,18 @@ impl<V, A: Allocator> FileObjects<V, A> {
         ensures mark { self.new.is_open ≡ self.old.is_open }
         ensures rows { (number : ℕ) → file_rows number self.new ≡ file_rows number self.old }
         ensures had_room { IsSome (next_id self.old) → IsOk result × (self.new ≡ self.old) }
+        ensures kept { OnErr result (next_id self.new ≡ next_id self.old) }
+        ensures limits { IsInLimits self.old → IsInLimits self.new }
     {
         if !self.is_open {
             return Err(ReserveError::Refused(Refusal { cause: Cause::Id }));
         }
-        if self.objects.len() >= GREATEST_COUNT {
+        if self.is_full() {
             return Err(ReserveError::Refused(Refusal { cause: Cause::Full }));
         }
-        if self.objects.reserve(1).is_err() {
+        // Whether that worked is told by the room that there is now: so an error leaves none behind.
+        let _ = self.objects.reserve(1);
+        if self.objects.len() >= self.objects.capacity() {
             return Err(ReserveError::Memory(NoMemory));
         }
         let key = self.objects.vacant_key();
@@ -91,6 +95,7 @@ impl<V, A: Allocator> FileObjects<V, A> {
         ensures mark { self.new.is_open ≡ self.old.is_open }
         ensures rows { (number : ℕ) → file_rows number self.new ≡
             inserted (row_of (record { 0 = number }) result entry) (file_rows number self.old) }
+        ensures limits { IsInLimits self.old → IsInLimits self.new }
     {
         let key = self.objects.insert_reserved(entry);
         ObjId(key as u32 + 1)
@@ -103,8 +108,28 @@ impl<V, A: Allocator> FileObjects<V, A> {
         ensures mark { self.new.is_open ≡ self.old.is_open }
         ensures rows { (number : ℕ) → file_rows number self.new ≡
             removed (record { 0 = number }) id (file_rows number self.old) }
+        ensures next { IsInLimits self.old → next_id self.new ≡ Some id }
+        ensures limits { IsInLimits self.old → IsInLimits self.new }
     {
         self.objects.remove(id.0 as usize - 1)
+    }
+
+    /// The objects by rising key, if the file is open.
+    pub(crate) fn iter(&self) -> Option<slab::Iter<'_, Entry<V>>>
+        ensures { result ≡ (if self.now.is_open then Some (entries self.now.objects) else None) }
+    {
+        if self.is_open {
+            Some(self.objects.iter())
+        } else {
+            None
+        }
+    }
+
+    /// Whether the file is open and has as many objects as it may have.
+    pub(crate) fn is_full(&self) -> bool
+        ensures { result ≡ self.now.is_open && nat_le greatest_count (slab_len self.now.objects) }
+    {
+        self.is_open && self.objects.len() >= GREATEST_COUNT
     }
 
     /// Whether an object keeps the file from being closed.
@@ -125,6 +150,7 @@ impl<V, A: Allocator> FileObjects<V, A> {
         V: Drop,
         ensures closed { self.new.is_open ≡ false }
         ensures emptied { slab_len self.new.objects ≡ 0 }
+        ensures limits { IsInLimits self.new }
     {
         self.is_open = false;
         self.objects.clear();

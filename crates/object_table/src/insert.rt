@@ -17,13 +17,15 @@ impl<V, A: Allocator> ObjectTable<V, A> {
     /// it changes nothing.
     ///
     /// Refused by 11 (ENOENT) where the file is closed or unknown, and then by 23 (ENOSPC) where it has
-    /// 65,535 objects. Where nothing refuses it may still find no memory. No row changes.
+    /// 65,535 objects. Where nothing refuses it may still find no memory. An error changes nothing, and no call
+    /// changes a row.
     pub fn reserve(&mut self, file: FileNo) -> Result<ObjId, ReserveError>
         ensures id { IfOk result (λ id. reserved_id self.new file ≡ Some id) }
         ensures in_range { IfOk result (λ id. (0 < id.0) × (id.0 < 2 ^ 31)) }
         ensures unused { IfOk result (λ id. row_at self.old file id ≡ None) }
         ensures ok { OnOk result (insert_refusal self.old file ≡ None) }
         ensures why { IfErr result (IsWhy (insert_refusal self.old file)) }
+        ensures unchanged { OnErr result (self.new ≡ self.old) }
 
         ensures rows { self.new.rows ≡ self.old.rows }
         ensures files { self.new.files ≡ self.old.files }
@@ -61,7 +63,7 @@ impl<V, A: Allocator> ObjectTable<V, A> {
     ///
     /// Refused by 11 (ENOENT) where the file is closed or unknown, and then by 23 (ENOSPC) where it has
     /// 65,535 objects. Where nothing refuses it may still find no memory. An error hands the value back and
-    /// leaves all rows as they were.
+    /// changes nothing: it leaves no room reserved either.
     pub fn insert(&mut self, file: FileNo, kind: Kind, value: V) -> Result<ObjId, InsertError<V>>
         ensures in_range { IfOk result (λ id. (0 < id.0) × (id.0 < 2 ^ 31)) }
         ensures unused { IfOk result (λ id. row_at self.old file id ≡ None) }
@@ -71,7 +73,7 @@ impl<V, A: Allocator> ObjectTable<V, A> {
 
         ensures why { IfErr result (λ error. IsWhy (insert_refusal self.old file) error.reason) }
         ensures value_returned { IfErr result (λ error. error.value ≡ value) }
-        ensures err { OnErr result (self.new.rows ≡ self.old.rows) }
+        ensures unchanged { OnErr result (self.new ≡ self.old) }
 
         ensures files { self.new.files ≡ self.old.files }
         ensures room { OthersKeepRoom file self.old self.new }

@@ -9,6 +9,7 @@ mod close;
 mod error;
 mod file_objects;
 mod insert;
+mod iter;
 mod kind;
 mod table;
 #[cfg(test)]
@@ -16,5 +17,6 @@ mod tests;
 mod users;
 
 pub use error::{InsertError, ReserveError};
+pub use iter::{ObjectRef, Objects};
 pub use kind::Kind;
 pub use table::ObjectTable;

@@ -1,6 +1,7 @@
 //! The table of all files, and what it answers.
 
-ghost use Rattle.std.specs.Prelude.{◌≡◌, ℕ, ◌≤◌, ◌<◌, ◌+◌, None, IsSome, Some, IfOk, IfErr, MatchOption, option_copied};
+ghost use Rattle.std.specs.Prelude.{◌≡◌, ℕ, ◌≤◌, ◌<◌, ◌+◌, None, IsSome, Some, IfOk, IfErr, MatchOption, nat_le, length, option_copied};
+ghost use Rattle.std.specs.List.{list_any};
 ghost use Rattle.std.specs.Option.{option_map};
 ghost use Rattle.std.specs.Borrow.{sem};
 
@@ -24,9 +25,11 @@ impl<V, A: Allocator> Model for ObjectTable<V, A> {
 
     ghost Value = { Table V };
 
-    ghost use Rattle.object_table.specs.Layout.{table_of};
+    ghost use Rattle.object_table.specs.Layout.{table_of, AllInLimits};
 
     ghost view = { λ t. table_of t.files.items };
+
+    ghost invariant = { λ t. AllInLimits t.files.items };
 }
 
 /// Where the file stands among so many.
@@ -63,7 +66,7 @@ impl<V, A: Allocator + Copy> ObjectTable<V, A> {
 }
 
 impl<V, A: Allocator> ObjectTable<V, A> {
-    ghost use Rattle.object_table.specs.Table.{is_open, row_at, own};
+    ghost use Rattle.object_table.specs.Table.{is_open, row_at, own, rows_of, greatest_count, keeps_file_open};
     ghost use Rattle.object_table.specs.Layout.{row_of, own_row};
     ghost use Rattle.object_table.specs.Lends.{lends_users, lends_value};
 
@@ -82,6 +85,38 @@ impl<V, A: Allocator> ObjectTable<V, A> {
         ensures { result ≡ option_map (λ row. row.kind) (row_at self.now file id) }
     {
         Some(self.entry(file, id)?.kind)
+    }
+
+    /// What the object holds that has the id in the file, of whatever kind, if the file is open and has one.
+    pub fn value(&self, file: FileNo, id: ObjId) -> Option<&V>
+        ensures { option_copied result ≡ option_map (λ row. row.value) (row_at self.now file id) }
+    {
+        Some(&self.entry(file, id)?.value)
+    }
+
+    /// Whether the file has as many objects as it may have, 65,535, so that another is refused. A closed or
+    /// unknown file isn't full. It doesn't count them.
+    pub fn is_full(&self, file: FileNo) -> bool
+        ensures { result ≡ nat_le greatest_count (length (rows_of self.now file)) }
+    {
+        match place_of(file, self.files.len()) {
+            Some(place) => self.files[place].is_full(),
+            None => false,
+        }
+    }
+
+    /// Whether an object keeps the file from being closed, a device or an access. None does so in a closed or
+    /// unknown file. It looks at every object of the file.
+    pub fn is_held(&self, file: FileNo) -> bool
+        ensures { result ≡ list_any (λ row. keeps_file_open row.kind) (rows_of self.now file) }
+    {
+        match place_of(file, self.files.len()) {
+            Some(place) => {
+                let objects = &self.files[place];
+                objects.is_open && objects.is_held()
+            }
+            None => false,
+        }
     }
 
     /// What the object of this kind holds that has the id in the file.

@@ -42,6 +42,8 @@ fn ids_belong_to_a_file(rt: HostRuntime) -> Result<(), Fail> {
     }
     assert_eq!(rt; table.kind_of(FIRST, ObjId(3)), Some(Kind::Hwpt));
     assert_eq!(rt; table.kind_of(SECOND, ObjId(3)), None);
+    assert_eq!(rt; table.value(FIRST, ObjId(3)), Some(&30));
+    assert_eq!(rt; table.value(SECOND, ObjId(3)), None);
     assert_eq!(rt;
         told(table.insert(FileNo(3), Kind::Ioas, 50)),
         Err(no_room(Cause::Id))
@@ -74,17 +76,53 @@ fn values_and_users(rt: HostRuntime) -> Result<(), Fail> {
 }
 
 #[test]
+fn objects_come_by_rising_id(rt: HostRuntime) -> Result<(), Fail> {
+    let mut table = ObjectTable::new(rt.alloc(), 2)?;
+    for (kind, value) in [(Kind::Ioas, 10), (Kind::Device, 20), (Kind::Hwpt, 30)] {
+        assert!(rt; table.insert(FIRST, kind, value).is_ok());
+    }
+    assert_eq!(rt; told(table.insert(SECOND, Kind::Access, 40)), Ok(ObjId(1)));
+    assert_eq!(rt; table.destroy(FIRST, Kind::Ioas, ObjId(1)), Ok(10));
+    assert_eq!(rt; told(table.insert(FIRST, Kind::Access, 50)), Ok(ObjId(1)));
+    assert_eq!(rt; table.destroy(FIRST, Kind::Device, ObjId(2)), Ok(20));
+    let shown = table
+        .iter(FIRST)
+        .map(|object| (
+            object.file,
+            object.id,
+            object.kind,
+            object.users,
+            *object.value,
+        ))
+        .collect::<Vec<_>>(rt.alloc())?;
+    assert_eq!(rt;
+        shown.as_slice(),
+        [
+            (FIRST, ObjId(1), Kind::Access, 0, 50),
+            (FIRST, ObjId(3), Kind::Hwpt, 0, 30),
+        ]
+        .as_slice()
+    );
+    assert_eq!(rt; table.iter(FIRST).size_hint(), (2, Some(2)));
+    assert!(rt; table.iter(FileNo(3)).next().is_none());
+    Ok(())
+}
+
+#[test]
 fn a_file_closes_alone(rt: HostRuntime) -> Result<(), Fail> {
     let mut table = ObjectTable::new(rt.alloc(), 2)?;
     for file in [FIRST, SECOND] {
         assert_eq!(rt; told(table.insert(file, Kind::Device, 1)), Ok(ObjId(1)));
         assert_eq!(rt; told(table.insert(file, Kind::Ioas, 2)), Ok(ObjId(2)));
     }
+    assert!(rt; table.is_held(FIRST));
     assert_eq!(rt; table.close_file(FIRST), refused(Cause::InUse));
     assert_eq!(rt; table.destroy(FIRST, Kind::Device, ObjId(1)), Ok(1));
+    assert!(rt; !table.is_held(FIRST));
     assert!(rt; table.is_open(FIRST));
     assert_eq!(rt; table.close_file(FIRST), Ok(()));
     assert!(rt; !table.is_open(FIRST));
+    assert!(rt; table.iter(FIRST).next().is_none());
     assert_eq!(rt; table.close_file(FIRST), refused(Cause::Id));
     assert_eq!(rt; table.get(FIRST, Kind::Ioas, ObjId(2)), refused(Cause::Id));
     assert_eq!(rt; table.reserve(FIRST), Err(no_room(Cause::Id)));
@@ -101,12 +139,15 @@ fn a_file_has_65535_objects(rt: HostRuntime) -> Result<(), Fail> {
             Ok(ObjId(number))
         );
     }
+    assert!(rt; table.is_full(FIRST));
+    assert!(rt; !table.is_full(SECOND));
     assert_eq!(rt;
         told(table.insert(FIRST, Kind::Ioas, 0)),
         Err(no_room(Cause::Full))
     );
     assert_eq!(rt; told(table.insert(SECOND, Kind::Ioas, 0)), Ok(ObjId(1)));
     assert_eq!(rt; table.destroy(FIRST, Kind::Ioas, ObjId(7)), Ok(7));
+    assert!(rt; !table.is_full(FIRST));
     assert_eq!(rt; told(table.insert(FIRST, Kind::Ioas, 8)), Ok(ObjId(7)));
     assert_eq!(rt; table.get(FIRST, Kind::Ioas, ObjId(65_535)), Ok(&65_535));
     Ok(())

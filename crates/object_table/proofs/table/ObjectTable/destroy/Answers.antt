@@ -2,7 +2,8 @@ use Rattle.std.proofs.Common.{◌≡◌, arith, refl, sym, ap, ◌∙◌, Some}
 use Rattle.std.specs.Option.{option_map}
 use Rattle.object_table.specs.Layout.{row_of}
 use Rattle.object_table.proofs.FileRows.{some_from_map}
-use Rattle.object_table.proofs.Tables.{place_of_row, row_at-inside, rows_removed, files_kept, others_keep_room}
+use Rattle.object_table.proofs.Tables.{place_of_row, row_at-inside, reserved_id-new, rows_removed, files_kept, others_keep_room}
+use Rattle.object_table.proofs.Keys.{IsInLimits-at, AllInLimits-set}
 use Rattle.object_table.proofs.table.ObjectTable.destroy.Goals as goal
 
 pub overflow_sub-file : goal.overflow_sub-file
@@ -54,3 +55,19 @@ returns-clause-room g c =
     let found = rw (← c.self.view_is) at c.in_ok-own_entry.ensures.at in
     let place = place_of_row files c.args.file c.args.id (rw found refl) in
     rw (← c.self.view_is) (others_keep_room files c.args.file _ c.index_mut.result.now place.0 place.1 c.index_mut.ensures.value c.take-value.new.self)
+
+pub invariant_of-self : goal.invariant_of-self
+invariant_of-self g c =
+    let files = c.self.inside.files.items in
+    let found = rw (← c.self.view_is) at c.in_ok-own_entry.ensures.at in
+    let place = place_of_row files c.args.file c.args.id (rw found refl) in
+    let before = IsInLimits-at files _ c.index_mut.result.now place.1 c.index_mut.ensures.value c.self.invariant in
+    AllInLimits-set files _ c.take-value.new.self c.self.invariant (c.take-value.ensures.limits before)
+
+pub returns-clause-next : goal.returns-clause-next
+returns-clause-next g c =
+    let files = c.self.inside.files.items in
+    let found = rw (← c.self.view_is) at c.in_ok-own_entry.ensures.at in
+    let place = place_of_row files c.args.file c.args.id (rw found refl) in
+    let before = IsInLimits-at files _ c.index_mut.result.now place.1 c.index_mut.ensures.value c.self.invariant in
+    reserved_id-new files c.args.file _ c.index_mut.result.now place.0 place.1 c.index_mut.ensures.value c.take-value.new.self ∙ c.take-value.ensures.next before

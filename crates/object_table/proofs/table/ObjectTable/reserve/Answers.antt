@@ -1,7 +1,7 @@
 use Rattle.std.proofs.Common.{◌≡◌, ◌<◌, None, length, arith, ◌∙◌}
 use Rattle.object_table.specs.Table.{row_at}
 use Rattle.object_table.specs.Layout.{entry_at, table_of}
-use Rattle.object_table.proofs.Tables.{no_value, outside_insert_refusal, outside_reserved, IfOk-weaken, reserved_id-inside, reserved_id-new, row_at-inside, insert_refusal-inside, rows_kept, files_kept, table_kept, others_keep_room}
+use Rattle.object_table.proofs.Tables.{no_value, outside_insert_refusal, outside_reserved, IfOk-weaken, OnErr-weaken, table_same, reserved_id-inside, reserved_id-new, row_at-inside, insert_refusal-inside, rows_kept, files_kept, table_kept, others_keep_room}
 use Rattle.object_table.proofs.table.ObjectTable.reserve.Goals as goal
 
 pub returns-in-Some-clause-id : goal.returns-in-Some-clause-id
@@ -32,6 +32,13 @@ returns-in-Some-clause-why g c =
     let place = c.in-Some.ensures in
     let within : c.in-Some.place < length files.items = omega (arith, files.ok.0, c.len.ensures, place.1) in
     rw (← c.self.view_is, insert_refusal-inside files.items c.args.file c.in-Some.place c.index_mut.result.now place.0 within c.index_mut.ensures.value) c.reserve.ensures.why
+
+pub returns-in-Some-clause-unchanged : goal.returns-in-Some-clause-unchanged
+returns-in-Some-clause-unchanged g c =
+    let files = c.self.inside.files in
+    let place = c.in-Some.ensures in
+    let within : c.in-Some.place < length files.items = omega (arith, files.ok.0, c.len.ensures, place.1) in
+    rw (← c.self.view_is) (OnErr-weaken _ _ (λ room. table_same files.items c.args.file c.in-Some.place c.index_mut.result.now place.0 within c.index_mut.ensures.value c.reserve.new.self c.reserve.ensures.mark room (c.reserve.ensures.rows c.args.file.0)) c.reserve.result c.reserve.ensures.kept)
 
 pub returns-in-Some-clause-rows : goal.returns-in-Some-clause-rows
 returns-in-Some-clause-rows g c =

@@ -1,0 +1,24 @@
+-- How long areas are, in which order attachments stand, and which frames there are.
+use Rattle.std.specs.Prelude.{◌≡◌, ◌^◌, Bool, true, ◌&&◌, nat_le, nat_lt, List, [], ◌∷◌}
+use Rattle.std.specs.List.{list_all}
+use Rattle.iofd_words.specs.Pages.{is_whole}
+use Rattle.iofd_words.specs.Span.{size_of}
+use Rattle.iofd_words.specs.World.{World}
+use Rattle.iofd_words.specs.declared.rows.Area.{Area}
+use Rattle.iofd_words.specs.declared.rows.Attachment.{Attachment}
+
+-- the area has whole pages, and no more bytes than a user's memory
+abbrev pub is_of_pages : Area → Bool
+is_of_pages area = is_whole (size_of area.span) && nat_le (size_of area.span) (2 ^ 48)
+
+-- each attachment's device is below those of the later ones
+abbrev pub devices_rise : List Attachment → Bool
+devices_rise [] = true
+devices_rise (a ∷ attachments) = list_all (λ b. nat_lt a.device.0 b.device.0) attachments && devices_rise attachments
+
+pub record RowsFit (w : World) : Type 0 where
+  pub pages : list_all is_of_pages w.areas ≡ true
+  pub rise : devices_rise w.attachments ≡ true
+  -- the frames of user pages and of pins are frames of the pool
+  pub user_frames : list_all (λ p. nat_lt p.frame.0 w.settings.pool) w.user_pages ≡ true
+  pub pin_frames : list_all (λ pin. nat_lt pin.frame.0 w.settings.pool) w.pins ≡ true

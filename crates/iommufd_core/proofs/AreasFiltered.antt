@@ -1,0 +1,56 @@
+-- The areas of one address space, taken from all areas: what tests of them tell.
+use Rattle.std.proofs.Common.{◌≡◌, ℕ, Bool, true, false, cond, ◌&&◌, not, eqb, ltb, List, [], ◌∷◌, length, refl, ap, sym, ◌∙◌, arith}
+use Rattle.std.specs.List.{filter, list_any}
+use Rattle.std.proofs.lemmas.Bool.Decides.{nat_tests}
+use Rattle.area_map.specs.Areas.{areas_meet, is_cut}
+use Rattle.area_map.specs.Areas as own
+use Rattle.iofd_words.proofs.ListTests.{any-filter}
+use Rattle.iofd_words.specs.Areas.{areas_of, is_of, meets_area, is_touched, touched, unmapped_span}
+use Rattle.iofd_words.specs.Areas as world
+use Rattle.iofd_words.specs.Bounds.{Bounds}
+use Rattle.iofd_words.specs.Span.{lies_in, meets}
+use Rattle.iofd_words.specs.declared.event.UnmapRequest.{UnmapRequest}
+use Rattle.iofd_words.specs.declared.numbers.FileNo.{FileNo}
+use Rattle.iofd_words.specs.declared.numbers.ObjId.{ObjId}
+use Rattle.iofd_words.specs.declared.rows.Area.{Area}
+
+-- ---- tests
+
+pub meets_filtered : (areas : List Area) (file : FileNo) (ioas : ObjId) (span : Bounds) → meets_area areas file ioas span ≡ areas_meet span (areas_of areas file ioas)
+meets_filtered areas file ioas span = sym (any-filter (λ (a : Area). meets a.span span) (is_of file ioas) areas)
+
+-- some area is touched
+pub touched_none : (areas : List Area) (file : FileNo) (request : UnmapRequest) → eqb (length (touched areas file request)) 0 ≡ not (areas_meet (unmapped_span request) (areas_of areas file request.ioas))
+touched_none [] file request = refl
+touched_none (a ∷ areas) file request = let rest = touched_none areas file request in grind (arith, nat_tests)
+
+-- some area is cut
+pub cut_filtered : (areas : List Area) (file : FileNo) (request : UnmapRequest) → list_any (world.is_cut file request) areas ≡ is_cut (unmapped_span request) (areas_of areas file request.ioas)
+cut_filtered [] file request = refl
+cut_filtered (a ∷ areas) file request = let rest = cut_filtered areas file request in grind (arith, nat_tests)
+
+-- ---- one more area
+
+module _ (x : Area) where
+  same_space : is_of x.file x.ioas x ≡ true
+  same_space = grind (arith, nat_tests)
+
+  -- among those of its address space
+  pub with_area_own : (areas : List Area) → areas_of (world.with_area x areas) x.file x.ioas ≡ own.with_area x (areas_of areas x.file x.ioas)
+  with_area_own [] = rw same_space refl
+  with_area_own (a ∷ areas) = by_tests (is_of x.file x.ioas a) (ltb x.span.first a.span.first) refl refl (with_area_own areas)
+    where
+      by_tests : (b l : Bool) → is_of x.file x.ioas a ≡ b → ltb x.span.first a.span.first ≡ l → areas_of (world.with_area x areas) x.file x.ioas ≡ own.with_area x (areas_of areas x.file x.ioas)
+          → areas_of (cond (b && l) (x ∷ a ∷ areas) (a ∷ world.with_area x areas)) x.file x.ioas ≡ own.with_area x (cond b (a ∷ areas_of areas x.file x.ioas) (areas_of areas x.file x.ioas))
+      by_tests true true is before rest = rw (same_space, is, before) refl
+      by_tests true false is before rest = rw (is, before, rest) refl
+      by_tests false l is before rest = rw is rest
+
+  -- another address space has those that it had
+  pub with_area_other : (areas : List Area) (f : FileNo) (i : ObjId) → is_of f i x ≡ false → areas_of (world.with_area x areas) f i ≡ areas_of areas f i
+  with_area_other [] f i other = rw other refl
+  with_area_other (a ∷ areas) f i other = by_order (is_of x.file x.ioas a && ltb x.span.first a.span.first) (with_area_other areas f i other)
+    where
+      by_order : (b : Bool) → areas_of (world.with_area x areas) f i ≡ areas_of areas f i → areas_of (cond b (x ∷ a ∷ areas) (a ∷ world.with_area x areas)) f i ≡ areas_of (a ∷ areas) f i
+      by_order true rest = rw other refl
+      by_order false rest = ap (λ (l : List Area). cond (is_of f i a) (a ∷ l) l) rest

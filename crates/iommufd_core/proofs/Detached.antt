@@ -1,0 +1,226 @@
+-- An attachment that ends: its page table may go with it, and the pins of its address space with the page table.
+use Rattle.std.proofs.Common.{◌≡◌, ℕ, Bool, true, false, ◌&&◌, ◌||◌, not, eqb, Option, Some, None, List, [], ◌∷◌, Contains, refl, sym, ◌∙◌, ap, arith, inl, inr, ◌⊎◌, zero, suc}
+use Rattle.std.specs.List.{filter, list_all, list_any}
+use Rattle.std.proofs.lemmas.Bool.Decides.{nat_tests}
+use Rattle.iofd_words.specs.After.{goes_with}
+use Rattle.iofd_words.specs.Areas.{all_paid, areas_of, is_of}
+use Rattle.iofd_words.specs.Attachments.{has_device_on, ioas_of, ioas_of_attachment}
+use Rattle.iofd_words.specs.Laws.{have_own_ids}
+use Rattle.iofd_words.specs.Objects.{binding_of, has_hwpt, is_automatic, is_bound_as, is_hwpt_over, is_object, kind_of, without_object}
+use Rattle.iofd_words.specs.Pinned.{ArePinned, have_own_memory}
+use Rattle.iofd_words.specs.Pins.{ObjectPage, is_page, pinned_pages, settled}
+use Rattle.iofd_words.specs.World.{World}
+use Rattle.iofd_words.specs.declared.numbers.DeviceNo.{DeviceNo}
+use Rattle.iofd_words.specs.declared.numbers.FileNo.{FileNo}
+use Rattle.iofd_words.specs.declared.numbers.ObjId.{ObjId}
+use Rattle.iofd_words.specs.declared.rows.Area.{Area}
+use Rattle.iofd_words.specs.declared.rows.Attachment.{Attachment}
+use Rattle.iofd_words.specs.declared.rows.Object.{Object}
+use Rattle.iofd_words.specs.declared.rows.ObjectKind.{ObjectKind}
+use Rattle.iofd_words.specs.declared.rows.ObjectKind.TheVariants as kind
+use Rattle.iofd_words.proofs.Bools.{and_true, both_true, clash, not_true}
+use Rattle.iofd_words.proofs.Each.{IsIn, of_any}
+use Rattle.iofd_words.proofs.Found.{find-filter, none_both}
+use Rattle.iofd_words.proofs.ListTests.{any-filter, false_else}
+use Rattle.iofd_words.proofs.Named.{file_is, id_is, kind_only}
+use Rattle.iofd_words.proofs.PageLists.{all_pages}
+use Rattle.iofd_words.proofs.PageTables.{hwpt-filter}
+use Rattle.iofd_words.proofs.Settled.{kept_pins, settled_same}
+use Rattle.iommufd_core.specs.PinLists.{is_idle, is_unpinned}
+
+-- ---- rows of a list
+
+pub in_contained : {X : Type 0} (xs : List X) (x : X) → Contains xs x → IsIn xs x
+in_contained [] x (k, within, is) = absurd (omega (arith, within))
+in_contained (y ∷ xs) x (zero, within, is) = inl is
+in_contained (y ∷ xs) x (suc k, within, is) = inr (in_contained xs x (k, omega (arith, within), is))
+
+-- some row passes the test
+pub some_row : {X : Type 0} (p : X → Bool) (xs : List X) → list_any p xs ≡ true → (x : X) × IsIn xs x × (p x ≡ true)
+some_row p [] some = cc
+some_row {X = X} p (y ∷ xs) some = by_test (p y) refl some (λ later. some_row p xs later)
+  where
+    by_test : (b : Bool) → p y ≡ b → (b || list_any p xs) ≡ true → (list_any p xs ≡ true → (x : X) × IsIn xs x × (p x ≡ true)) → (x : X) × IsIn (y ∷ xs) x × (p x ≡ true)
+    by_test true is here later = (y, inl refl, is)
+    by_test false is here later = let rest = later here in (rest.0, inr rest.1, rest.2)
+
+pub filter_same_on : {X : Type 0} (p q : X → Bool) (xs : List X) → ((x : X) → IsIn xs x → p x ≡ q x) → filter p xs ≡ filter q xs
+filter_same_on p q [] same = refl
+filter_same_on p q (x ∷ xs) same = rw (same x (inl refl), filter_same_on p q xs (λ y later. same y (inr later))) refl
+
+pub filter_true : {X : Type 0} (xs : List X) → filter (λ (x : X). not false) xs ≡ xs
+filter_true [] = refl
+filter_true (x ∷ xs) = ap (λ rest. x ∷ rest) (filter_true xs)
+
+-- ---- the page table that goes
+
+pub goes_is : (objects : List Object) (others : List Attachment) (a : Attachment) → have_own_ids objects ≡ true → (object : Object) → IsIn objects object → goes_with others a object ≡ (is_object a.file a.hwpt object && is_idle objects others a.file a.hwpt)
+goes_is objects others a own object within = by_name (is_object a.file a.hwpt object) refl
+  where
+    by_name : (b : Bool) → is_object a.file a.hwpt object ≡ b → ((b && is_automatic object.kind) && not (has_device_on others a.file a.hwpt)) ≡ (b && is_idle objects others a.file a.hwpt)
+    by_name true is =
+        let names = and_true (eqb object.file.0 a.file.0) (eqb object.id.0 a.hwpt.0) is in
+        let here : kind_of objects a.file a.hwpt ≡ Some object.kind = rw (← file_is object.file a.file names.0, ← id_is object.id a.hwpt names.1) (kind_only objects object own within) in
+        ap (λ (o : Option ObjectKind). elim o [ Some k ↦ is_automatic k | None ↦ false ] && not (has_device_on others a.file a.hwpt)) (sym here)
+    by_name false is = refl
+
+abbrev pub left_of : List Attachment → Attachment → List Object → List Object
+left_of others a objects = filter (λ object. not (goes_with others a object)) objects
+
+-- none goes
+pub none_goes : (objects : List Object) (others : List Attachment) (a : Attachment) → have_own_ids objects ≡ true → is_idle objects others a.file a.hwpt ≡ false → left_of others a objects ≡ objects
+none_goes objects others a own busy =
+    filter_same_on (λ object. not (goes_with others a object)) (λ object. not false) objects (λ object within. ap not (goes_is objects others a own object within ∙ ap (λ b. is_object a.file a.hwpt object && b) busy ∙ never (is_object a.file a.hwpt object)))
+    ∙ filter_true objects
+  where
+    never : (b : Bool) → (b && false) ≡ false
+    never true = refl
+    never false = refl
+
+pub one_goes : (objects : List Object) (others : List Attachment) (a : Attachment) → have_own_ids objects ≡ true → is_idle objects others a.file a.hwpt ≡ true → left_of others a objects ≡ without_object a.file a.hwpt objects
+one_goes objects others a own idle =
+    filter_same_on (λ object. not (goes_with others a object)) (λ object. not (is_object a.file a.hwpt object)) objects (λ object within. ap not (goes_is objects others a own object within ∙ ap (λ b. is_object a.file a.hwpt object && b) idle ∙ always (is_object a.file a.hwpt object)))
+  where
+    always : (b : Bool) → (b && true) ≡ b
+    always true = refl
+    always false = refl
+
+-- all devices stay bound
+pub bindings_stay : (objects : List Object) (others : List Attachment) (a : Attachment) (device : DeviceNo) → binding_of (left_of others a objects) device ≡ binding_of objects device
+bindings_stay objects others a device =
+    find-filter (λ (object : Object). is_bound_as device object.kind) (λ object. not (goes_with others a object)) objects
+    (none_both (λ (object : Object). is_bound_as device object.kind) (λ object. not (goes_with others a object)) objects (λ object bound. stays object.kind (is_object a.file a.hwpt object) bound))
+  where
+    stays : (k : ObjectKind) (named : Bool) → is_bound_as device k ≡ true → not ((named && is_automatic k) && not (has_device_on others a.file a.hwpt)) ≡ true
+    stays kind.Ioas named bound = cc
+    stays (kind.Hwpt ioas width automatic) named bound = cc
+    stays (kind.Device d) true bound = refl
+    stays (kind.Device d) false bound = refl
+
+-- ---- paid areas
+
+pub pinned_paid : (objects : List Object) (device : DeviceNo) (areas : List Area) → pinned_pages objects (all_paid device areas) ≡ pinned_pages objects areas
+pinned_paid objects device [] = refl
+pinned_paid objects device (area ∷ areas) = rw (pinned_paid objects device areas) refl
+
+memory_paid : (n : ℕ) (device : DeviceNo) (areas : List Area) → list_any (λ (a : Area). eqb a.memory n) (all_paid device areas) ≡ list_any (λ (a : Area). eqb a.memory n) areas
+memory_paid n device [] = refl
+memory_paid n device (area ∷ areas) = rw (memory_paid n device areas) refl
+
+-- ---- the pins that go
+
+-- no other area has the area's memory object
+pub one_memory : (areas : List Area) (x y : Area) → have_own_memory areas ≡ true → IsIn areas x → IsIn areas y → eqb x.memory y.memory ≡ true → x ≡ y
+one_memory [] x y own first second same = absurd first
+one_memory (area ∷ areas) x y own first second same =
+    let owns = and_true (not (list_any (λ (a : Area). eqb a.memory area.memory) areas)) (have_own_memory areas) own in
+    both (not_true (list_any (λ (a : Area). eqb a.memory area.memory) areas) owns.0) first second (λ f s. one_memory areas x y owns.1 f s same)
+  where
+    both : list_any (λ (a : Area). eqb a.memory area.memory) areas ≡ false → (area ≡ x) ⊎ IsIn areas x → (area ≡ y) ⊎ IsIn areas y → (IsIn areas x → IsIn areas y → x ≡ y) → x ≡ y
+    both others (inl a) (inl b) rest = sym a ∙ b
+    both others (inl a) (inr b) rest =
+        let again = of_any (λ (z : Area). eqb z.memory area.memory) areas y b (swapped y.memory x.memory area.memory (ap (λ (z : Area). z.memory) a) same) in
+        absurd (clash (list_any (λ (z : Area). eqb z.memory area.memory) areas) others again)
+      where
+        swapped : (m n o : ℕ) → o ≡ n → eqb n m ≡ true → eqb m o ≡ true
+        swapped m n o is alike = grind (arith, nat_tests)
+    both others (inr a) (inl b) rest =
+        let again = of_any (λ (z : Area). eqb z.memory area.memory) areas x a (joined x.memory y.memory area.memory (ap (λ (z : Area). z.memory) b) same) in
+        absurd (clash (list_any (λ (z : Area). eqb z.memory area.memory) areas) others again)
+      where
+        joined : (m n o : ℕ) → o ≡ n → eqb m n ≡ true → eqb m o ≡ true
+        joined m n o is alike = grind (arith, nat_tests)
+    both others (inr a) (inr b) rest = rest a b
+
+same_space : (k : ObjectKind) (over ioas : ObjId) → is_hwpt_over over k ≡ true → ioas_of k ≡ Some ioas → eqb over.0 ioas.0 ≡ true
+same_space kind.Ioas over ioas of is = cc
+same_space (kind.Hwpt i width automatic) over ioas of is = let same : i ≡ ioas = cc in let number = ap (λ (j : ObjId). j.0) same in grind (arith, nat_tests)
+same_space (kind.Device device) over ioas of is = cc
+
+-- an object over another address space is not the page table of the attachment
+other_stays : (w : World) (others : List Attachment) (a : Attachment) (ioas over : ObjId) (file : FileNo) → have_own_ids w.objects ≡ true → ioas_of_attachment w.objects a ≡ Some ioas → (eqb a.file.0 file.0 && eqb ioas.0 over.0) ≡ false → has_hwpt w.objects file over ≡ true → has_hwpt (left_of others a w.objects) file over ≡ true
+other_stays w others a ioas over file own attached other has =
+    let (object, within, is) = some_row (λ (object : Object). eqb object.file.0 file.0 && is_hwpt_over over object.kind) w.objects has in
+    any-filter (λ (object : Object). eqb object.file.0 file.0 && is_hwpt_over over object.kind) (λ object. not (goes_with others a object)) w.objects
+    ∙ of_any (λ object. not (goes_with others a object) && (eqb object.file.0 file.0 && is_hwpt_over over object.kind)) w.objects object within
+    (both_true _ _ (stays object (is_object a.file a.hwpt object) refl within is) is)
+  where
+    stays : (object : Object) (b : Bool) → is_object a.file a.hwpt object ≡ b → IsIn w.objects object → (eqb object.file.0 file.0 && is_hwpt_over over object.kind) ≡ true → not ((b && is_automatic object.kind) && not (has_device_on others a.file a.hwpt)) ≡ true
+    stays object false named within is = refl
+    stays object true named within is =
+        let names = and_true (eqb object.file.0 a.file.0) (eqb object.id.0 a.hwpt.0) named in
+        let parts = and_true (eqb object.file.0 file.0) (is_hwpt_over over object.kind) is in
+        let here : kind_of w.objects a.file a.hwpt ≡ Some object.kind = rw (← file_is object.file a.file names.0, ← id_is object.id a.hwpt names.1) (kind_only w.objects object own within) in
+        let to : ioas_of object.kind ≡ Some ioas = sym (ap (λ (o : Option ObjectKind). elim o [ Some k ↦ ioas_of k | None ↦ None ]) here) ∙ attached in
+        let same = same_space object.kind over ioas parts.1 to in
+        absurd (contrary object.file.0 a.file.0 file.0 over.0 ioas.0 names.0 parts.0 same other)
+      where
+        contrary : (o f g m n : ℕ) → eqb o f ≡ true → eqb o g ≡ true → eqb m n ≡ true → (eqb f g && eqb n m) ≡ false → ⊥
+        contrary o f g m n first second third fails = grind (arith, nat_tests)
+
+-- the pins that stay are those of all other areas
+pub unpinned : (at : ℕ) (w : World) (others : List Attachment) (a : Attachment) (ioas : ObjId) (device : DeviceNo) → ArePinned at w → have_own_ids w.objects ≡ true → ioas_of_attachment w.objects a ≡ Some ioas
+    → settled (pinned_pages w.objects w.areas) (pinned_pages (left_of others a w.objects) (all_paid device w.areas)) w.memory w.user_pages w.pins
+    ≡ filter (λ pin. not (is_unpinned (left_of others a w.objects) a.file ioas (all_paid device (areas_of w.areas a.file ioas)) pin)) w.pins
+unpinned at w others a ioas device pinned own attached =
+    ap (λ pages. settled (pinned_pages w.objects w.areas) pages w.memory w.user_pages w.pins) (pinned_paid left device w.areas ∙ ap (pinned_pages left) (sym (filter_true w.areas)))
+    ∙ kept_pins (λ (area : Area). false) gone w.objects left w.areas w.memory w.user_pages w.pins pinned.own pinned.only (hwpt-filter (λ object. not (goes_with others a object)) w.objects) names
+  where
+    left : List Object
+    left = left_of others a w.objects
+
+    gone : ℕ → Bool
+    gone n = not (has_hwpt left a.file ioas) && list_any (λ (area : Area). eqb area.memory n) (all_paid device (areas_of w.areas a.file ioas))
+
+    in_space : ℕ → Bool
+    in_space n = list_any (λ (x : Area). is_of a.file ioas x && eqb x.memory n) w.areas
+
+    in_space_is : (n : ℕ) → list_any (λ (area : Area). eqb area.memory n) (all_paid device (areas_of w.areas a.file ioas)) ≡ in_space n
+    in_space_is n = memory_paid n device (areas_of w.areas a.file ioas) ∙ any-filter (λ (area : Area). eqb area.memory n) (is_of a.file ioas) w.areas
+
+    own_one : (n : ℕ) → eqb n n ≡ true
+    own_one n = grind (arith, nat_tests)
+
+    not_twice : (b : Bool) → (not b && true) ≡ not b
+    not_twice true = refl
+    not_twice false = refl
+
+    never : (b : Bool) → (not b && false) ≡ false
+    never true = refl
+    never false = refl
+
+    by_space : (area : Area) (b : Bool) → is_of a.file ioas area ≡ b → IsIn w.areas area → has_hwpt w.objects area.file area.ioas ≡ true → gone area.memory ≡ not (has_hwpt left area.file area.ioas)
+    by_space area true is within had =
+        let parts = and_true (eqb area.file.0 a.file.0) (eqb area.ioas.0 ioas.0) is in
+        let there = in_space_is area.memory ∙ of_any (λ (x : Area). is_of a.file ioas x && eqb x.memory area.memory) w.areas area within (both_true _ _ is (own_one area.memory)) in
+        ap (λ b. not (has_hwpt left a.file ioas) && b) there
+        ∙ not_twice (has_hwpt left a.file ioas)
+        ∙ rw (file_is area.file a.file parts.0, id_is area.ioas ioas parts.1) refl
+    by_space area false is within had =
+        let none : in_space area.memory ≡ false = false_else (in_space area.memory) (λ some.
+        let (x, among, both) = some_row (λ (x : Area). is_of a.file ioas x && eqb x.memory area.memory) w.areas some in
+        let parts = and_true (is_of a.file ioas x) (eqb x.memory area.memory) both in
+        let same = one_memory w.areas x area pinned.own among within parts.1 in
+        clash (is_of a.file ioas area) is (ap (is_of a.file ioas) (sym same) ∙ parts.0)) in
+        let has = other_stays w others a ioas area.ioas area.file own attached (turned area.file.0 a.file.0 area.ioas.0 ioas.0 is) had in
+        ap (λ b. not (has_hwpt left a.file ioas) && b) (in_space_is area.memory ∙ none)
+        ∙ never (has_hwpt left a.file ioas)
+        ∙ sym (ap not has)
+      where
+        turned : (f g m n : ℕ) → (eqb f g && eqb m n) ≡ false → (eqb g f && eqb n m) ≡ false
+        turned f g m n fails = grind (arith, nat_tests)
+
+    names : (area : Area) → Contains w.areas area → has_hwpt w.objects area.file area.ioas ≡ true → gone area.memory ≡ not (not false && has_hwpt left area.file area.ioas)
+    names area among had = by_space area (is_of a.file ioas area) refl (in_contained w.areas area among) had
+
+-- no pin goes where the objects stay
+pub all_pinned : (at : ℕ) (w : World) (device : DeviceNo) → ArePinned at w → settled (pinned_pages w.objects w.areas) (pinned_pages w.objects (all_paid device w.areas)) w.memory w.user_pages w.pins ≡ w.pins
+all_pinned at w device pinned =
+    ap (λ pages. settled (pinned_pages w.objects w.areas) pages w.memory w.user_pages w.pins) (pinned_paid w.objects device w.areas)
+    ∙ settled_same pages pages w.memory w.user_pages w.pins same same pinned.only
+  where
+    pages : List ObjectPage
+    pages = pinned_pages w.objects w.areas
+
+    same : list_all (λ page. list_any (is_page page) pages) pages ≡ true
+    same = all_pages (λ page. list_any (is_page page) pages) pages (λ page within. within)

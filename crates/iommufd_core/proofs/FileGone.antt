@@ -1,0 +1,308 @@
+-- A file that was closed: all its objects, areas and attachments are gone.
+use Rattle.std.proofs.Common.{◌≡◌, ◌≢◌, ℕ, zero, suc, ◌-◌, ◌<◌, Vec, Bool, true, false, cond, ◌&&◌, ◌||◌, not, eqb, ltb, is_some, Option, Some, None, List, [], ◌∷◌, ◌++◌, Contains, map, get_or, set, refl, sym, ◌∙◌, ap, arith, ◌⊎◌, inl, inr, get_or-set_other}
+use Rattle.std.specs.List.{find, filter, list_all, list_any}
+use Rattle.std.proofs.lemmas.Bool.{eqb-true}
+use Rattle.std.proofs.lemmas.Bool.Decides.{nat_tests}
+use Rattle.std.proofs.lemmas.List.Folds.{list_any-append}
+use Rattle.iofd_words.specs.After.{settle, without_areas}
+use Rattle.iofd_words.specs.Areas.{areas_of, is_of}
+use Rattle.iofd_words.specs.Checks.{checks, refusal}
+use Rattle.iofd_words.specs.Files as files
+use Rattle.iofd_words.specs.Laws.{have_own_ids}
+use Rattle.iofd_words.specs.Objects.{has_hwpt, is_bound_as, is_bound_device, is_object, objects_of}
+use Rattle.iofd_words.specs.Pins.{pinned_pages, settled}
+use Rattle.iofd_words.specs.World.{World}
+use Rattle.iofd_words.specs.declared.event.Event.TheVariants as event
+use Rattle.iofd_words.specs.declared.numbers.DeviceNo.{DeviceNo}
+use Rattle.iofd_words.specs.declared.numbers.FileNo.{FileNo}
+use Rattle.iofd_words.specs.declared.numbers.ObjId.{ObjId}
+use Rattle.iofd_words.specs.declared.rows.Area.{Area}
+use Rattle.iofd_words.specs.declared.rows.Attachment.{Attachment}
+use Rattle.iofd_words.specs.declared.rows.MemoryObject.{MemoryObject}
+use Rattle.iofd_words.specs.declared.rows.Object.{Object}
+use Rattle.iofd_words.specs.declared.rows.ObjectKind.{ObjectKind}
+use Rattle.iofd_words.specs.declared.rows.ObjectKind.TheVariants as kind
+use Rattle.iofd_words.specs.declared.rows.Pin.{Pin}
+use Rattle.iofd_words.proofs.Bools.{and_true, both_true, clash, not_true}
+use Rattle.iofd_words.proofs.Each.{IsIn, in_filter, in_found, of_any}
+use Rattle.iofd_words.proofs.Found.{all_filter, find-filter}
+use Rattle.iofd_words.proofs.ListTests.{alike, any-filter, any_weaker, none_stronger}
+use Rattle.iofd_words.proofs.Named.{file_is}
+use Rattle.iofd_words.proofs.PageTables.{hwpt-filter}
+use Rattle.iofd_words.proofs.Runs.{tests_false}
+use Rattle.iofd_words.proofs.Settled.{kept_memory, kept_pins, named_by_area}
+use Rattle.iommufd_core.proofs.ObjectsGone.{device_rows, some_in}
+use Rattle.iommufd_core.specs.Held.{is_proper, areas_at, areas_in, kind_in, object_of, objects_in, table_kind}
+use Rattle.iommufd_core.specs.Memory.{is_over, holds_memory, without_memory, without_pins}
+use Rattle.iommufd_core.specs.Shows.{Shows}
+use Rattle.iommufd_core.specs.Step.{IsTidy}
+use Rattle.iommufd_core.specs.declared.held.Held.{Held}
+use Rattle.iommufd_core.specs.declared.state.State.{State}
+use Rattle.object_table.specs.Table.{Row, Table, close_refusal, closed, is_at, is_of_file, is_open, is_same_kind, keeps_file_open, rows_of}
+use Rattle.object_table.specs.declared.kind.Kind.{Kind}
+use Rattle.object_table.specs.declared.kind.Kind.TheVariants as tablekind
+
+-- ---- files
+
+closed_here : (l : List Bool) (i : ℕ) → get_or (set l i false) i false ≡ false
+closed_here [] i = refl
+closed_here (x ∷ l) zero = refl
+closed_here (x ∷ l) (suc i) = closed_here l i
+
+-- the file isn't open any more, and others are as they were
+open_after : (l : List Bool) (file number : ℕ) → 0 < file → (ltb 0 number && get_or (set l (file - 1) false) (number - 1) false) ≡ ((ltb 0 number && get_or l (number - 1) false) && not (eqb file number))
+open_after l file number above = by_tests (eqb file number) (ltb 0 number) refl refl
+  where
+    none : (b : Bool) → (b && false) ≡ false
+    none true = refl
+    none false = refl
+
+    all : (b : Bool) → (b && true) ≡ b
+    all true = refl
+    all false = refl
+
+    by_tests : (same some : Bool) → eqb file number ≡ same → ltb 0 number ≡ some → (some && get_or (set l (file - 1) false) (number - 1) false) ≡ ((some && get_or l (number - 1) false) && not same)
+    by_tests true some is has =
+        let numbers = eqb-true file number is in
+        rw (← numbers, closed_here l (file - 1), none some) (sym (none (some && get_or l (file - 1) false)))
+    by_tests false false is has = refl
+    by_tests false true is has =
+        let positive : 0 < number = search (has, arith, nat_tests) in
+        let differ : file ≢ number = search (is, arith, nat_tests) in
+        let other : number - 1 ≢ file - 1 = λ same. differ (omega arith) in
+        get_or-set_other l (file - 1) (number - 1) false false other ∙ sym (all (get_or l (number - 1) false))
+
+both_closed : (u any same : Bool) → ((u && not any) && not same) ≡ (u && not (any || (same || false)))
+both_closed true true same = refl
+both_closed true false true = refl
+both_closed true false false = refl
+both_closed false any same = refl
+
+-- ---- the world's rows of other files
+
+hwpt_other : (objects : List Object) (file f : FileNo) (i : ObjId) → eqb f.0 file.0 ≡ false → has_hwpt (filter (λ object. not (eqb object.file.0 file.0)) objects) f i ≡ has_hwpt objects f i
+hwpt_other [] file f i other = refl
+hwpt_other (object ∷ objects) file f i other = let rest = hwpt_other objects file f i other in grind (arith, nat_tests)
+
+areas_closed : (areas : List Area) (file f : FileNo) (i : ObjId) → eqb f.0 file.0 ≡ true → areas_of (filter (λ area. not (eqb area.file.0 file.0)) areas) f i ≡ []
+areas_closed [] file f i same = refl
+areas_closed (area ∷ areas) file f i same = let rest = areas_closed areas file f i same in grind (arith, nat_tests)
+
+areas_other : (areas : List Area) (file f : FileNo) (i : ObjId) → eqb f.0 file.0 ≡ false → areas_of (filter (λ area. not (eqb area.file.0 file.0)) areas) f i ≡ areas_of areas f i
+areas_other [] file f i other = refl
+areas_other (area ∷ areas) file f i other = let rest = areas_other areas file f i other in grind (arith, nat_tests)
+
+-- an object under its kind keeps the file open where it is a device
+keeps_open : (a : Kind) (k : ObjectKind) → is_same_kind a (table_kind k) ≡ true → keeps_file_open a ≡ is_bound_device k
+keeps_open tablekind.Ioas kind.Ioas same = refl
+keeps_open tablekind.Hwpt kind.Ioas same = cc
+keeps_open tablekind.Device kind.Ioas same = cc
+keeps_open tablekind.Access kind.Ioas same = cc
+keeps_open tablekind.Ioas (kind.Hwpt ioas width automatic) same = cc
+keeps_open tablekind.Hwpt (kind.Hwpt ioas width automatic) same = refl
+keeps_open tablekind.Device (kind.Hwpt ioas width automatic) same = cc
+keeps_open tablekind.Access (kind.Hwpt ioas width automatic) same = cc
+keeps_open tablekind.Ioas (kind.Device device) same = cc
+keeps_open tablekind.Hwpt (kind.Device device) same = cc
+keeps_open tablekind.Device (kind.Device device) same = refl
+keeps_open tablekind.Access (kind.Device device) same = cc
+
+module _ {A : Type 0} where
+  -- ---- the table's rows of other files
+
+  objects-closed : (rows : List (Row (Held A))) (file : FileNo) → map object_of (filter (λ row. not (is_of_file file row)) rows) ≡ filter (λ object. not (eqb object.file.0 file.0)) (map object_of rows)
+  objects-closed [] file = refl
+  objects-closed (row ∷ rows) file = let rest = objects-closed rows file in grind (arith, nat_tests)
+
+  rows_closed : (rows : List (Row (Held A))) (file f : FileNo) (i : ObjId) → eqb f.0 file.0 ≡ true → areas_at (filter (λ row. not (is_of_file file row)) rows) f i ≡ []
+  rows_closed [] file f i same = refl
+  rows_closed (row ∷ rows) file f i same = let rest = rows_closed rows file f i same in grind (arith, nat_tests)
+
+  rows_other : (rows : List (Row (Held A))) (file f : FileNo) (i : ObjId) → eqb f.0 file.0 ≡ false → areas_at (filter (λ row. not (is_of_file file row)) rows) f i ≡ areas_at rows f i
+  rows_other [] file f i other = refl
+  rows_other (row ∷ rows) file f i other = let rest = rows_other rows file f i other in grind (arith, nat_tests)
+
+  areas-closed : (areas : List Area) (rows : List (Row (Held A))) (file : FileNo) → ((f : FileNo) (i : ObjId) → areas_of areas f i ≡ areas_at rows f i)
+      → (f : FileNo) (i : ObjId) → areas_of (filter (λ area. not (eqb area.file.0 file.0)) areas) f i ≡ areas_at (filter (λ row. not (is_of_file file row)) rows) f i
+  areas-closed areas rows file same f i = by_file (eqb f.0 file.0) refl
+    where
+      by_file : (b : Bool) → eqb f.0 file.0 ≡ b → areas_of (filter (λ area. not (eqb area.file.0 file.0)) areas) f i ≡ areas_at (filter (λ row. not (is_of_file file row)) rows) f i
+      by_file true is = areas_closed areas file f i is ∙ sym (rows_closed rows file f i is)
+      by_file false is = areas_other areas file f i is ∙ same f i ∙ sym (rows_other rows file f i is)
+
+  -- ---- the memory objects of a file's areas
+
+  any_rows : (p : Object → Bool) (rows : List (Row (Held A))) → list_any p (map object_of rows) ≡ list_any (λ row. p (object_of row)) rows
+  any_rows p [] = refl
+  any_rows p (row ∷ rows) = ap (λ b. p (object_of row) || b) (any_rows p rows)
+
+  -- a row is the one at its file and id
+  row_only : (rows : List (Row (Held A))) (row : Row (Held A)) → have_own_ids (map object_of rows) ≡ true → IsIn rows row → find (is_at row.file row.id) rows ≡ Some row
+  row_only [] row unique within = absurd within
+  row_only (x ∷ rows) row unique within =
+      let parts = and_true (not (list_any (is_object x.file x.id) (map object_of rows))) (have_own_ids (map object_of rows)) unique in
+      by_name (is_at row.file row.id x) refl within (not_true _ parts.0) (λ later. row_only rows row parts.1 later)
+    where
+      flipped : eqb x.file.0 row.file.0 ≡ true → eqb x.id.0 row.id.0 ≡ true → (eqb row.file.0 x.file.0 && eqb row.id.0 x.id.0) ≡ true
+      flipped of_file of_id = grind (arith, nat_tests)
+
+      itself : (r : Row (Held A)) → is_at r.file r.id r ≡ true
+      itself r = grind (arith, nat_tests)
+
+      by_name : (b : Bool) → is_at row.file row.id x ≡ b → (x ≡ row) ⊎ IsIn rows row → list_any (is_object x.file x.id) (map object_of rows) ≡ false → (IsIn rows row → find (is_at row.file row.id) rows ≡ Some row) → cond b (Some x) (find (is_at row.file row.id) rows) ≡ Some row
+      by_name true is (inl same) none rest = ap Some same
+      by_name true is (inr later) none rest =
+          let names = and_true (eqb x.file.0 row.file.0) (eqb x.id.0 row.id.0) is in
+          let again = of_any (λ (r : Row (Held A)). is_object x.file x.id (object_of r)) rows row later (flipped names.0 names.1) in
+          absurd (clash _ none (any_rows (is_object x.file x.id) rows ∙ again))
+      by_name false is (inl same) none rest = absurd (clash _ is (ap (λ (r : Row (Held A)). is_at row.file row.id r) same ∙ itself row))
+      by_name false is (inr later) none rest = rest later
+
+  abbrev areas_of_row : Option (Row (Held A)) → List Area
+  areas_of_row o = elim o [ Some row ↦ areas_in row.value | None ↦ [] ]
+
+  -- what the file's address spaces hold is what the file's areas are over
+  pub held_by_file : (areas : List Area) (rows : List (Row (Held A))) (file : FileNo) (n : ℕ) → have_own_ids (map object_of rows) ≡ true → ((f : FileNo) (i : ObjId) → areas_of areas f i ≡ areas_at rows f i)
+      → holds_memory (filter (is_of_file file) rows) n ≡ list_any (λ area. eqb area.file.0 file.0 && eqb area.memory n) areas
+  held_by_file areas rows file n unique same = alike (holds_memory (filter (is_of_file file) rows) n) (list_any (λ area. eqb area.file.0 file.0 && eqb area.memory n) areas) to from
+    where
+      to : holds_memory (filter (is_of_file file) rows) n ≡ true → list_any (λ area. eqb area.file.0 file.0 && eqb area.memory n) areas ≡ true
+      to holds =
+          let (row, within, over) = some_in (λ row. is_over (areas_in row.value) n) (filter (is_of_file file) rows) holds in
+          let (among, of_file) = in_filter (is_of_file file) rows row within in
+          let found : areas_at rows row.file row.id ≡ areas_in row.value = ap areas_of_row (row_only rows row unique among) in
+          let some : is_over (areas_of areas row.file row.id) n ≡ true = ap (λ l. is_over l n) (same row.file row.id ∙ found) ∙ over in
+          any_weaker (λ area. is_of row.file row.id area && eqb area.memory n) (λ area. eqb area.file.0 file.0 && eqb area.memory n) areas
+          (λ area both.
+          let parts = and_true (is_of row.file row.id area) (eqb area.memory n) both in
+          let names = and_true (eqb area.file.0 row.file.0) (eqb area.ioas.0 row.id.0) parts.0 in
+          both_true _ _ (ap (λ (f : FileNo). eqb area.file.0 f.0) (sym (file_is row.file file of_file)) ∙ names.0) parts.1)
+          (sym (any-filter (λ area. eqb area.memory n) (is_of row.file row.id) areas) ∙ some)
+
+      by_found : (o : Option (Row (Held A))) (ioas : ObjId) → find (is_at file ioas) rows ≡ o → is_over (areas_of_row o) n ≡ true → holds_memory (filter (is_of_file file) rows) n ≡ true
+      by_found None ioas found over = cc
+      by_found (Some row) ioas found over =
+          let (within, is) = in_found (is_at file ioas) rows row found in
+          let names = and_true (is_of_file file row) (eqb row.id.0 ioas.0) is in
+          any-filter (λ (row : Row (Held A)). is_over (areas_in row.value) n) (is_of_file file) rows
+          ∙ of_any (λ (row : Row (Held A)). is_of_file file row && is_over (areas_in row.value) n) rows row within (both_true _ _ names.0 over)
+
+      from : list_any (λ area. eqb area.file.0 file.0 && eqb area.memory n) areas ≡ true → holds_memory (filter (is_of_file file) rows) n ≡ true
+      from some =
+          let (area, within, both) = some_in (λ area. eqb area.file.0 file.0 && eqb area.memory n) areas some in
+          let parts = and_true (eqb area.file.0 file.0) (eqb area.memory n) both in
+          let over : is_over (areas_of areas file area.ioas) n ≡ true =
+          any-filter (λ area. eqb area.memory n) (is_of file area.ioas) areas
+          ∙ of_any (λ (a : Area). is_of file area.ioas a && eqb a.memory n) areas area within (both_true _ _ (both_true _ _ parts.0 (itself area.ioas.0)) parts.1) in
+          by_found (find (is_at file area.ioas) rows) area.ioas refl (ap (λ l. is_over l n) (sym (same file area.ioas)) ∙ over)
+        where
+          itself : (m : ℕ) → eqb m m ≡ true
+          itself m = grind (arith, nat_tests)
+
+  -- ---- the table lets the file go
+
+  held_open : (rows : List (Row (Held A))) (file : FileNo) → list_all is_proper rows ≡ true → list_any (λ row. keeps_file_open row.kind) (filter (is_of_file file) rows) ≡ list_any (λ row. is_bound_device (kind_in row.value)) (filter (is_of_file file) rows)
+  held_open [] file proper = refl
+  held_open (row ∷ rows) file proper =
+      let parts = and_true (is_proper row) (list_all is_proper rows) proper in
+      let here = and_true (is_same_kind row.kind (table_kind (kind_in row.value))) (eqb row.users 0) parts.0 in
+      by_file (is_of_file file row) (keeps_open row.kind (kind_in row.value) here.0) (held_open rows file parts.1)
+    where
+      by_file : (b : Bool) → keeps_file_open row.kind ≡ is_bound_device (kind_in row.value) → list_any (λ (row : Row (Held A)). keeps_file_open row.kind) (filter (is_of_file file) rows) ≡ list_any (λ (row : Row (Held A)). is_bound_device (kind_in row.value)) (filter (is_of_file file) rows)
+          → list_any (λ (row : Row (Held A)). keeps_file_open row.kind) (cond b (row ∷ filter (is_of_file file) rows) (filter (is_of_file file) rows)) ≡ list_any (λ (row : Row (Held A)). is_bound_device (kind_in row.value)) (cond b (row ∷ filter (is_of_file file) rows) (filter (is_of_file file) rows))
+      by_file true here rest = rw (here, rest) refl
+      by_file false here rest = rest
+
+  module _ (at : ℕ) (w : World) (s : State A) (file : FileNo) (tidy : IsTidy at w) (shows : Shows w s) (none : refusal w (event.Close file) ≡ None) where
+    no_device : list_any (λ (object : Object). is_bound_device object.kind) (objects_of w.objects file) ≡ false
+    unfolding refusal checks
+    no_device = tests_false (checks w (event.Close file)) 1 none
+
+    opened : is_open s.objects file ≡ true
+    unfolding refusal checks
+    opened = shows.files file ∙ not_false_true _ (tests_false (checks w (event.Close file)) 0 none)
+      where
+        not_false_true : (b : Bool) → not b ≡ false → b ≡ true
+        not_false_true true is = refl
+        not_false_true false is = cc
+
+    may_close : close_refusal s.objects file ≡ None
+    may_close =
+        let no = held_open s.objects.rows file shows.proper ∙ sym (device_rows s.objects.rows file) ∙ ap (λ (l : List Object). list_any (λ object. is_bound_device object.kind) (objects_of l file)) (sym shows.objects) ∙ no_device in
+        rw (opened, no) refl
+
+    -- the same files are open, but for this one
+    files_left : (number : FileNo) → is_open (closed s.objects file) number ≡ files.is_open w.settings (w.closed ++ file ∷ []) number
+    files_left number =
+        let above : 0 < file.0 = positive file.0 (and_true (ltb 0 file.0) _ opened).0 in
+        open_after s.objects.files file.0 number.0 above
+        ∙ ap (λ b. b && not (eqb file.0 number.0)) (shows.files number)
+        ∙ both_closed (is_some (files.user_of w.settings number)) (list_any (λ f. eqb f.0 number.0) w.closed) (eqb file.0 number.0)
+        ∙ ap (λ b. is_some (files.user_of w.settings number) && not b) (sym (list_any-append (λ (f : FileNo). eqb f.0 number.0) w.closed (file ∷ [])))
+      where
+        positive : (n : ℕ) → ltb 0 n ≡ true → 0 < n
+        positive n is = search (is, arith, nat_tests)
+
+    -- no device is bound to it
+    bound_left : (device : DeviceNo) → find (λ (o : Object). is_bound_as device o.kind) (filter (λ (o : Object). not (eqb o.file.0 file.0)) w.objects) ≡ find (λ (o : Object). is_bound_as device o.kind) w.objects
+    bound_left device =
+        find-filter (λ (o : Object). is_bound_as device o.kind) (λ (o : Object). not (eqb o.file.0 file.0)) w.objects
+        (none_stronger (λ (o : Object). is_bound_as device o.kind && not (not (eqb o.file.0 file.0))) (λ (o : Object). eqb o.file.0 file.0 && is_bound_device o.kind) w.objects
+        (λ o both. let parts = and_true (is_bound_as device o.kind) (not (not (eqb o.file.0 file.0))) both in both_true _ _ (twice _ parts.1) (bound o.kind parts.0))
+        (sym (any-filter (λ (o : Object). is_bound_device o.kind) (λ (o : Object). eqb o.file.0 file.0) w.objects) ∙ no_device))
+      where
+        twice : (b : Bool) → not (not b) ≡ true → b ≡ true
+        twice true is = refl
+        twice false is = cc
+
+        bound : (k : ObjectKind) → is_bound_as device k ≡ true → is_bound_device k ≡ true
+        bound kind.Ioas is = cc
+        bound (kind.Hwpt ioas width automatic) is = cc
+        bound (kind.Device d) is = refl
+
+    held_names : (area : Area) → Contains w.areas area → holds_memory (rows_of s.objects file) area.memory ≡ eqb area.file.0 file.0
+    held_names area within =
+        held_by_file w.areas s.objects.rows file area.memory (ap have_own_ids (sym shows.objects) ∙ tidy.ids) shows.areas
+        ∙ named_by_area (λ (a : Area). eqb a.file.0 file.0) w.areas area tidy.pins.own within
+
+    memory_left : filter (λ (m : MemoryObject). list_any (λ (area : Area). eqb area.memory m.number && not (eqb area.file.0 file.0)) w.areas) w.memory ≡ without_memory (holds_memory (rows_of s.objects file)) w.memory
+    memory_left = kept_memory (λ (a : Area). eqb a.file.0 file.0) (holds_memory (rows_of s.objects file)) w.areas w.memory tidy.pins.own tidy.pins.used held_names
+
+    pins_left : (memory : List MemoryObject) → settled (pinned_pages w.objects w.areas) (pinned_pages (filter (λ (o : Object). not (eqb o.file.0 file.0)) w.objects) (filter (λ (area : Area). not (eqb area.file.0 file.0)) w.areas)) memory w.user_pages w.pins ≡ without_pins (holds_memory (rows_of s.objects file)) w.pins
+    pins_left memory =
+        kept_pins (λ (a : Area). eqb a.file.0 file.0) (holds_memory (rows_of s.objects file)) w.objects (filter (λ (o : Object). not (eqb o.file.0 file.0)) w.objects) w.areas memory w.user_pages w.pins tidy.pins.own tidy.pins.only
+        (λ f i has. hwpt-filter (λ (o : Object). not (eqb o.file.0 file.0)) w.objects f i has)
+        (λ area within has. held_names area within ∙ names area has (eqb area.file.0 file.0) refl)
+      where
+        names : (area : Area) → has_hwpt w.objects area.file area.ioas ≡ true → (b : Bool) → eqb area.file.0 file.0 ≡ b → b ≡ not (not b && has_hwpt (filter (λ (o : Object). not (eqb o.file.0 file.0)) w.objects) area.file area.ioas)
+        names area has true is = refl
+        names area has false is = rw (hwpt_other w.objects file area.file area.ioas is, has) refl
+
+    pub shows_closed : (table : Table (Held A)) (attachments : Vec Attachment A) (memory : Vec MemoryObject A) (pins : Vec Pin A) → (close_refusal s.objects file ≡ None → table ≡ closed s.objects file)
+        → attachments.items ≡ filter (λ (a : Attachment). not (eqb a.file.0 file.0)) s.attachments.items
+        → memory.items ≡ without_memory (holds_memory (rows_of s.objects file)) s.memory.items
+        → pins.items ≡ without_pins (holds_memory (rows_of s.objects file)) s.pins.items
+        → Shows
+        (settle w (record (without_areas (λ area. eqb area.file.0 file.0) w) {
+          objects = filter (λ (o : Object). not (eqb o.file.0 file.0)) w.objects;
+          attachments = filter (λ (a : Attachment). not (eqb a.file.0 file.0)) w.attachments;
+          closed = w.closed ++ file ∷ [];
+        }))
+        (record s { objects = table; attachments = attachments; memory = memory; pins = pins })
+    unfolding settle without_areas
+    shows_closed table attachments memory pins closes detached dropped unpinned =
+        let is = closes may_close in
+        record {
+          settings = shows.settings;
+          objects = ap (filter (λ (o : Object). not (eqb o.file.0 file.0))) shows.objects ∙ sym (objects-closed s.objects.rows file) ∙ ap objects_in (sym is);
+          proper = rw is (all_filter is_proper (λ row. not (is_of_file file row)) s.objects.rows shows.proper);
+          areas = λ f i. areas-closed w.areas s.objects.rows file shows.areas f i ∙ ap (λ (t : Table (Held A)). areas_at t.rows f i) (sym is);
+          files = λ number. ap (λ (t : Table (Held A)). is_open t number) is ∙ files_left number;
+          bindings = λ device. bound_left device ∙ shows.bindings device;
+          attachments = ap (filter (λ (a : Attachment). not (eqb a.file.0 file.0))) shows.attachments ∙ sym detached;
+          memory = memory_left ∙ ap (without_memory (holds_memory (rows_of s.objects file))) shows.memory ∙ sym dropped;
+          user_pages = shows.user_pages;
+          pins = pins_left _ ∙ ap (without_pins (holds_memory (rows_of s.objects file))) shows.pins ∙ sym unpinned;
+          frames = shows.frames;
+          bytes = shows.bytes;
+        }

@@ -1,0 +1,39 @@
+-- What one more record makes of a run.
+use Rattle.std.proofs.Common.{◌≡◌, ℕ, zero, suc, ◌+◌, true, List, [], ◌∷◌, ◌++◌, length, refl, sym, ◌∙◌, ap, subst, arith}
+use Rattle.iofd_words.proofs.KeepsDebts.{IsSound, keeps_sound}
+use Rattle.iofd_words.proofs.KeepsFits.{keeps_fit}
+use Rattle.iofd_words.proofs.KeepsPins.{opening_pinned, later_pinned, keeps_pins}
+use Rattle.iofd_words.proofs.Runs.{run_keeps, run_keeps_at}
+use Rattle.iofd_words.specs.After.{changed, settle, without_areas, attached, detached, map_changes, attach_changes, detach_changes}
+use Rattle.iofd_words.specs.Fits.{RowsFit}
+use Rattle.iofd_words.specs.Pinned.{ArePinned}
+use Rattle.iofd_words.specs.Run.{IsRun, IsRunFrom, Lawful, after, world_from, world_of}
+use Rattle.iofd_words.specs.Settings.{Settings}
+use Rattle.iofd_words.specs.World.{World, opening}
+use Rattle.iofd_words.specs.declared.record.Record.{Record}
+use Rattle.iommufd_core.specs.Step.{IsTidy}
+
+module _ {A : Type 0} where
+  run_from_more : (at : ℕ) (w : World) (records : List (Record A)) (r : Record A) → IsRunFrom at w records → Lawful (world_from at w records) r → IsRunFrom at w (records ++ r ∷ [])
+  run_from_more at w [] r run lawful = (lawful, tt)
+  run_from_more at w (first ∷ records) r run lawful = (run.0, run_from_more (at + 1) (after at w first) records r run.1 lawful)
+
+  pub run_more : (settings : Settings) (records : List (Record A)) (r : Record A) → IsRun settings records → Lawful (world_of settings records) r → IsRun settings (records ++ r ∷ [])
+  unfolding IsRun world_of
+  run_more settings records r run lawful = run_from_more 0 (opening settings) records r run lawful
+
+  world_from_more : (at : ℕ) (w : World) (records : List (Record A)) (r : Record A) → world_from at w (records ++ r ∷ []) ≡ after (at + length records) (world_from at w records) r
+  world_from_more at w [] r = let same : at + 0 ≡ at = omega arith in rw same refl
+  world_from_more at w (first ∷ records) r = let same : at + suc (length records) ≡ at + 1 + length records = omega arith in rw same (world_from_more (at + 1) (after at w first) records r)
+
+  pub world_more : (settings : Settings) (records : List (Record A)) (r : Record A) → world_of settings (records ++ r ∷ []) ≡ after (length records) (world_of settings records) r
+  unfolding world_of
+  world_more settings records r = let same : 0 + length records ≡ length records = omega arith in rw same at (world_from_more 0 (opening settings) records r)
+
+  pub tidy_run : (settings : Settings) (records : List (Record A)) → IsRun settings records → IsTidy (length records) (world_of settings records)
+  unfolding IsRun world_of
+  tidy_run settings records run =
+      let sound = run_keeps IsSound keeps_sound 0 (opening settings) records run (record { own_ids = refl; debts = record { once = refl; debtors = refl; tables = refl; spaces = refl; areas = refl } }) in
+      let fit = run_keeps RowsFit keeps_fit 0 (opening settings) records run (record { pages = refl; rise = refl; user_frames = refl; pin_frames = refl }) in
+      let pins = run_keeps_at ArePinned later_pinned keeps_pins 0 (length records) (opening settings) records (omega arith) run (opening_pinned settings) in
+      record { pins = pins; debts = sound.debts; ids = sound.own_ids; fit = fit }

@@ -1,0 +1,210 @@
+-- The world after an UNMAP is shown.
+use Rattle.std.proofs.Common.{◌≡◌, ℕ, ◌+◌, ◌*◌, ◌<◌, ◌≤◌, leb, Bool, true, false, ◌&&◌, not, eqb, Option, Some, None, is_some, Vec, List, [], ◌∷◌, ◌++◌, length, map, Contains, refl, sym, ◌∙◌, ap, arith}
+use Rattle.std.specs.List.{filter, list_all, list_any}
+use Rattle.std.specs.Option.{option_map}
+use Rattle.std.specs.Prelude.{Result, Ok, Err}
+use Rattle.std.specs.Result.{OkIff}
+use Rattle.area_map.specs.Areas.{AreKept, areas_outside, areas_within, bytes_of, marked, memories_of}
+use Rattle.std.proofs.lemmas.Bool.Decides.{nat_tests}
+use Rattle.std.proofs.lemmas.List.Sums.{sum_by-cons}
+use Rattle.area_map.specs.Areas as own
+use Rattle.area_map.proofs.Kept.{length-filter-le}
+use Rattle.iofd_words.proofs.Bools.{and_true}
+use Rattle.iofd_words.proofs.Found.{all_filter}
+use Rattle.iofd_words.proofs.Runs.{tests_false}
+use Rattle.iofd_words.proofs.Settled.{kept_memory, kept_pins, named_by_area}
+use Rattle.iofd_words.specs.After.{settle, without_areas}
+use Rattle.iofd_words.specs.Areas.{areas_of, is_of, is_touched, is_waiting, touched, touched_bytes, unmapped_span, with_leaving}
+use Rattle.iofd_words.specs.Attachments.{devices_of}
+use Rattle.iofd_words.specs.Bounds.{Bounds}
+use Rattle.iofd_words.specs.Checks.{checks, refusal}
+use Rattle.iofd_words.specs.Fits.{devices_rise, is_of_pages}
+use Rattle.iofd_words.specs.Pages.{is_above_sum, is_whole}
+use Rattle.iofd_words.specs.Span.{lies_in, size_of}
+use Rattle.iofd_words.specs.World.{World}
+use Rattle.iofd_words.specs.declared.event.Event.TheVariants as event
+use Rattle.iofd_words.specs.declared.event.UnmapRequest.{UnmapRequest}
+use Rattle.iofd_words.specs.declared.numbers.FileNo.{FileNo}
+use Rattle.iofd_words.specs.declared.numbers.ObjId.{ObjId}
+use Rattle.iofd_words.specs.declared.rows.Area.{Area}
+use Rattle.iofd_words.specs.declared.rows.Attachment.{Attachment}
+use Rattle.iofd_words.specs.declared.rows.MemoryObject.{MemoryObject}
+use Rattle.iofd_words.specs.declared.rows.Object.{Object}
+use Rattle.iofd_words.specs.declared.rows.Pin.{Pin}
+use Rattle.iommufd_core.proofs.AreasFiltered.{cut_filtered}
+use Rattle.iommufd_core.proofs.AreasHeld.{areas_absent, areas_found}
+use Rattle.iommufd_core.proofs.Mapped.{areas_become, orderly}
+use Rattle.iommufd_core.proofs.Touched.{AreAlike, alike, among_touched, leaving_other, leaving_own, left_other, left_own, met_marked, met_within, touched_own, unmet_outside, waits_filtered}
+use Rattle.iommufd_core.specs.Held.{areas_at, areas_in, objects_in}
+use Rattle.iommufd_core.specs.Shows.{Shows}
+use Rattle.iommufd_core.specs.Spaces.{HasAreas, IsOrderly}
+use Rattle.iommufd_core.specs.Step.{IsTidy}
+use Rattle.iommufd_core.specs.Mapping.{is_among, own_areas, some_waits}
+use Rattle.iommufd_core.specs.declared.held.Held.{Held}
+use Rattle.iommufd_core.specs.declared.state.State.{State}
+use Rattle.object_table.specs.Table as table
+use Rattle.object_table.specs.Table.{Row, Table}
+use Rattle.object_table.specs.declared.kind.Kind.TheVariants.{Ioas}
+
+module _ {A : Type 0} where
+  -- the areas of an address space are those at its id
+  own_at : (t : Table (Held A)) (file : FileNo) (ioas : ObjId) → IsOrderly t → own_areas t file ioas ≡ areas_at t.rows file ioas
+  own_at t file ioas is = by_row (table.own t file Ioas ioas) refl
+    where
+      by_row : (o : Option (Row (Held A))) → table.own t file Ioas ioas ≡ o → elim o as (λ _. List Area) [ Some row ↦ areas_in row.value | None ↦ [] ] ≡ areas_at t.rows file ioas
+      by_row None found = sym (areas_absent t file ioas is found)
+      by_row (Some row) found = sym (areas_found t file Ioas ioas row.value is (ap (option_map (λ (r : Row (Held A)). r.value)) found))
+
+  module _ (at : ℕ) (w : World) (s : State A) (file : FileNo) (request : UnmapRequest) (tidy : IsTidy at w) (shows : Shows w s) where
+    pub own_shown : own_areas s.objects file request.ioas ≡ areas_of w.areas file request.ioas
+    own_shown = own_at s.objects file request.ioas (orderly at w s tidy shows) ∙ sym (shows.areas file request.ioas)
+
+    -- the devices attached to it
+    attached_shown : devices_of (objects_in s.objects) s.attachments.items file request.ioas ≡ devices_of w.objects w.attachments file request.ioas
+    attached_shown =
+        ap (λ (objects : List Object). devices_of objects s.attachments.items file request.ioas) (sym shows.objects)
+        ∙ ap (λ (attachments : List Attachment). devices_of w.objects attachments file request.ioas) (sym shows.attachments)
+
+    pub attached_is : (attached : List ℕ) (attachments : List Attachment) → attachments ≡ s.attachments.items
+        → (devices_rise attachments ≡ true → attached ≡ devices_of (objects_in s.objects) attachments file request.ioas)
+        → attached ≡ devices_of w.objects w.attachments file request.ioas
+    attached_is attached attachments is gathered =
+        let rise : devices_rise attachments ≡ true = rw (is, ← shows.attachments) tidy.fit.rise in
+        gathered rise
+        ∙ ap (λ (rows : List Attachment). devices_of (objects_in s.objects) rows file request.ioas) is
+        ∙ attached_shown
+
+    -- whether a device has to flush before
+    pub waits_shown : (span : Bounds) (attached : List ℕ) → span ≡ unmapped_span request → attached ≡ devices_of w.objects w.attachments file request.ioas
+        → is_waiting w.areas (devices_of w.objects w.attachments file request.ioas) file request ≡ some_waits span attached (own_areas s.objects file request.ioas)
+    waits_shown span attached is_span is_attached =
+        rw (is_span, is_attached, own_shown) (waits_filtered file request (devices_of w.objects w.attachments file request.ioas) w.areas)
+
+    module _ (none : refusal w (event.Unmap file request) ≡ None) (kept : AreKept (own_areas s.objects file request.ioas)) where
+      -- no area is cut
+      uncut : own.is_cut (unmapped_span request) (areas_of w.areas file request.ioas) ≡ false
+      unfolding refusal checks
+      uncut = sym (cut_filtered w.areas file request) ∙ tests_false (checks w (event.Unmap file request)) 5 none
+
+      are : AreAlike (unmapped_span request) (areas_of w.areas file request.ioas)
+      are = let here : AreKept (areas_of w.areas file request.ioas) = rw own_shown at kept in alike (unmapped_span request) 0 (areas_of w.areas file request.ioas) here.apart uncut
+
+      -- the touched areas are on their way out
+      pub shows_pending : (span : Bounds) (attached : List ℕ) (t : Table (Held A)) → span ≡ unmapped_span request → attached ≡ devices_of w.objects w.attachments file request.ioas
+          → (IsOrderly s.objects → HasAreas file request.ioas (map (marked span attached) (areas_at s.objects.rows file request.ioas)) s.objects t)
+          → Shows (record w { areas = with_leaving w.areas (devices_of w.objects w.attachments file request.ioas) file request }) (record s { objects = t })
+      shows_pending span attached t is_span is_attached marks =
+          let devices = devices_of w.objects w.attachments file request.ioas in
+          let has : HasAreas file request.ioas (map (marked (unmapped_span request) (devices_of w.objects w.attachments file request.ioas)) (areas_at s.objects.rows file request.ioas)) s.objects t = rw (is_span, is_attached) at (marks (orderly at w s tidy shows)) in
+          record {
+            settings = shows.settings;
+            objects = shows.objects ∙ sym has.objects;
+            proper = has.proper;
+            areas =
+                areas_become (with_leaving w.areas devices file request) w s file request.ioas (map (marked (unmapped_span request) devices) (areas_at s.objects.rows file request.ioas)) t shows has
+                (leaving_own file request devices w.areas ∙ met_marked (unmapped_span request) devices (areas_of w.areas file request.ioas) are ∙ ap (map (marked (unmapped_span request) devices)) (shows.areas file request.ioas))
+                (leaving_other file request devices w.areas);
+            files = λ number. rw has.files (shows.files number);
+            bindings = shows.bindings;
+            attachments = shows.attachments;
+            memory = shows.memory;
+            user_pages = shows.user_pages;
+            pins = shows.pins;
+            frames = shows.frames;
+            bytes = shows.bytes;
+          }
+
+      -- the touched areas are those of the address space that lie in the span
+      touched_within : (span : Bounds) → span ≡ unmapped_span request → touched w.areas file request ≡ areas_within span (own_areas s.objects file request.ioas)
+      touched_within span is_span = rw (is_span, own_shown) (touched_own file request w.areas ∙ met_within (unmapped_span request) (areas_of w.areas file request.ioas) are)
+
+      pub bytes_shown : (span : Bounds) → span ≡ unmapped_span request → touched_bytes w.areas file request ≡ bytes_of (areas_within span (own_areas s.objects file request.ioas))
+      bytes_shown span is_span = ap bytes_of (touched_within span is_span)
+
+      -- their memory objects are named
+      named : (span : Bounds) → span ≡ unmapped_span request → (area : Area) → Contains w.areas area → is_among (memories_of (areas_within span (own_areas s.objects file request.ioas))) area.memory ≡ is_touched file request area
+      named span is_span area among =
+          ap (λ (areas : List Area). is_among (memories_of areas) area.memory) (sym (touched_within span is_span))
+          ∙ among_touched file request w.areas area.memory
+          ∙ named_by_area (is_touched file request) w.areas area tidy.pins.own among
+
+      -- the touched areas go
+      pub shows_removed : (span : Bounds) (numbers : List ℕ) (t : Table (Held A)) (memory : Vec MemoryObject A) (pins : Vec Pin A) → span ≡ unmapped_span request
+          → numbers ≡ memories_of (areas_within span (own_areas s.objects file request.ioas))
+          → (IsOrderly s.objects → HasAreas file request.ioas (areas_outside span (areas_at s.objects.rows file request.ioas)) s.objects t)
+          → memory.items ≡ filter (λ (m : MemoryObject). not (is_among numbers m.number)) s.memory.items
+          → pins.items ≡ filter (λ (pin : Pin). not (is_among numbers pin.memory)) s.pins.items
+          → Shows (settle w (without_areas (is_touched file request) w)) (record s { objects = t; memory = memory; pins = pins })
+      unfolding settle without_areas
+      shows_removed span numbers t memory pins is_span is_numbers removes dropped unpinned =
+          let has : HasAreas file request.ioas (areas_outside (unmapped_span request) (areas_at s.objects.rows file request.ioas)) s.objects t = rw is_span at (removes (orderly at w s tidy shows)) in
+          let names : (area : Area) → Contains w.areas area → is_among numbers area.memory ≡ is_touched file request area = λ area among. rw is_numbers (named span is_span area among) in
+          record {
+            settings = shows.settings;
+            objects = shows.objects ∙ sym has.objects;
+            proper = has.proper;
+            areas =
+                areas_become (filter (λ (a : Area). not (is_touched file request a)) w.areas) w s file request.ioas (areas_outside (unmapped_span request) (areas_at s.objects.rows file request.ioas)) t shows has
+                (left_own file request w.areas ∙ unmet_outside (unmapped_span request) (areas_of w.areas file request.ioas) are ∙ ap (areas_outside (unmapped_span request)) (shows.areas file request.ioas))
+                (left_other file request w.areas);
+            files = λ number. rw has.files (shows.files number);
+            bindings = shows.bindings;
+            attachments = shows.attachments;
+            memory =
+                kept_memory (is_touched file request) (is_among numbers) w.areas w.memory tidy.pins.own tidy.pins.used names
+                ∙ ap (filter (λ (m : MemoryObject). not (is_among numbers m.number))) shows.memory ∙ sym dropped;
+            user_pages = shows.user_pages;
+            pins =
+                kept_pins (is_touched file request) (is_among numbers) w.objects w.objects w.areas _ w.user_pages w.pins tidy.pins.own tidy.pins.only (λ f i table. table)
+                (λ area among table. names area among ∙ (let kept : (b c : Bool) → c ≡ true → b ≡ not (not b && c) = twice in kept _ _ table))
+                ∙ ap (filter (λ (pin : Pin). not (is_among numbers pin.memory))) shows.pins ∙ sym unpinned;
+            frames = shows.frames;
+            bytes = shows.bytes;
+          }
+        where
+          twice : (b c : Bool) → c ≡ true → b ≡ not (not b && c)
+          twice true c is = refl
+          twice false c is = rw is refl
+
+-- ---- how many bytes go
+
+-- areas of at most 2^48 bytes each
+bytes_few : (areas : List Area) → list_all is_of_pages areas ≡ true → bytes_of areas ≤ length areas * 281474976710656
+bytes_few [] all = omega arith
+bytes_few (a ∷ areas) all =
+    let parts = and_true (is_of_pages a) (list_all is_of_pages areas) all in
+    let sizes = and_true (is_whole (size_of a.span)) (leb (size_of a.span) 281474976710656) parts.0 in
+    let here : size_of a.span ≤ 281474976710656 = let is = sizes.1 in grind (arith, nat_tests) in
+    let rest = bytes_few areas parts.1 in
+    let sum : bytes_of (a ∷ areas) ≡ size_of a.span + bytes_of areas = sum_by-cons (λ (area : Area). size_of area.span) a areas in
+    let more : length (a ∷ areas) ≡ length areas + 1 = omega arith in
+    omega (arith, here, rest, sum, more)
+
+-- they are fewer than 2^64
+pub bytes_fit : {A : Type 0} (at : ℕ) (w : World) (s : State A) (file : FileNo) (request : UnmapRequest) (span : Bounds) → IsTidy at w → Shows w s → AreKept (own_areas s.objects file request.ioas)
+    → bytes_of (areas_within span (own_areas s.objects file request.ioas)) < 18446744073709551616
+bytes_fit at w s file request span tidy shows kept =
+    let own = own_areas s.objects file request.ioas in
+    let all : list_all is_of_pages (own_areas s.objects file request.ioas) ≡ true = rw (own_shown at w s file request tidy shows) (all_filter is_of_pages (is_of file request.ioas) w.areas tidy.fit.pages) in
+    let few = bytes_few (areas_within span own) (all_filter is_of_pages (λ (a : Area). lies_in a.span span) own all) in
+    let fewer = length-filter-le (λ (a : Area). lies_in a.span span) own in
+    let most = kept.few in
+    omega (arith, few, fewer, most)
+
+-- a number that fits is converted
+pub converted : {T E P : Type 0} (r : Result T E) (v : T) → OkIff r P v → P → ((x : T) → r ≡ Ok x → ⊥) → ⊥
+converted (Ok x) v is fits never = never x refl
+converted (Err e) v is fits never = is fits
+
+-- ---- where nothing refuses
+
+-- it names a span
+pub names_span : {X : Type 0} (w : World) (file : FileNo) (request : UnmapRequest) (o : Option X) → refusal w (event.Unmap file request) ≡ None → o ≡ None
+    → (0 < request.length → is_above_sum request.iova.0 request.length ≡ false → is_some o ≡ true) → ⊥
+unfolding refusal checks
+names_span w file request o none lacks some =
+    let sum : is_above_sum request.iova.0 request.length ≡ false = tests_false (checks w (event.Unmap file request)) 1 none in
+    let length : eqb request.length 0 ≡ false = tests_false (checks w (event.Unmap file request)) 2 none in
+    let positive : 0 < request.length = grind (arith, nat_tests) in
+    let told = some positive sum in
+    cc

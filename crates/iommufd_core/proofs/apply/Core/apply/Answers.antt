@@ -1,0 +1,61 @@
+use Rattle.std.proofs.Common.{◌≡◌, true, Some, None, List, ◌++◌, ◌∷◌, [], length, refl, sym, ◌∙◌, ap, subst}
+use Rattle.iofd_words.specs.Run.{IsRun, world_of}
+use Rattle.iommufd_core.proofs.Applied.{may_use, unchanged_config, unchanged_kept, applied_config, applied_kept, applied_chosen}
+use Rattle.iommufd_core.specs.Choice.{IsChosen, MayUse}
+use Rattle.iommufd_core.specs.History.{may_apply, recorded, world}
+use Rattle.iommufd_core.specs.Kept.{IsKept}
+use Rattle.iommufd_core.specs.Step.{Answered, TidyShowsSame}
+use Rattle.iommufd_core.proofs.apply.Core.apply.Goals as goal
+
+pub invariant_of-self-in_default : goal.invariant_of-self-in_default
+invariant_of-self-in_default g c =
+    let at : c.len-at.result ≡ length c.self.inside.records.items = c.len-at.ensures ∙ c.self.inside.records.ok.0 in
+    let stays = subst (λ n. TidyShowsSame n c.self.inside.state c.answer.new.state) at c.in_default.ensures.err in
+    rw c.reserve.ensures.items (unchanged_kept c.self.inside.state c.answer.new.state c.self.inside.records.items c.self.invariant stays)
+
+pub returns-in_default-clause-run : goal.returns-in_default-clause-run
+returns-in_default-clause-run g c = (invariant_of-self-in_default g c).run
+
+pub returns-in_default-clause-unchanged : goal.returns-in_default-clause-unchanged
+returns-in_default-clause-unchanged g c =
+    let at : c.len-at.result ≡ length c.self.inside.records.items = c.len-at.ensures ∙ c.self.inside.records.ok.0 in
+    let stays = subst (λ n. TidyShowsSame n c.self.inside.state c.answer.new.state) at c.in_default.ensures.err in
+    let config = unchanged_config c.self.inside.state c.answer.new.state c.self.inside.records.items c.self.invariant stays in
+    rw (config, c.reserve.ensures.items) c.self.view_is
+
+pub invariant_of-self-2 : goal.invariant_of-self-2
+invariant_of-self-2 g c =
+    let old = c.self.inside.state in
+    let new = c.answer.new.state in
+    let records = c.self.inside.records.items in
+    let act = c.args.act.now in
+    let at : c.len-at.result ≡ length records = c.len-at.ensures ∙ c.self.inside.records.ok.0 in
+    let answered = subst (λ n. Answered n act.event act.via old c.in-Ok.reply new) at c.in-Ok.ensures.ok in
+    let may : MayUse (world_of old.config records) act.event act.via = may_use (record { settings = old.config; records = records }) act.event act.via (rw (← c.self.view_is) at c.requires) in
+    let kept = applied_kept old new records c.self.invariant c.args.pass act.event act.via c.in-Ok.reply may answered in
+    rw (c.push_reserved.ensures.items, c.reserve.ensures.items, c.new-2.ensures, c.new.ensures.items, c.new-4.ensures, c.new-3.ensures.items) kept
+
+pub returns-clause-record : goal.returns-clause-record
+returns-clause-record g c =
+    let old = c.self.inside.state in
+    let new = c.answer.new.state in
+    let records = c.self.inside.records.items in
+    let act = c.args.act.now in
+    let at : c.len-at.result ≡ length records = c.len-at.ensures ∙ c.self.inside.records.ok.0 in
+    let answered = subst (λ n. Answered n act.event act.via old c.in-Ok.reply new) at c.in-Ok.ensures.ok in
+    let may : MayUse (world_of old.config records) act.event act.via = may_use (record { settings = old.config; records = records }) act.event act.via (rw (← c.self.view_is) at c.requires) in
+    let config = applied_config old new records c.self.invariant c.args.pass act.event act.via c.in-Ok.reply may answered in
+    rw (← c.self.view_is, config, c.push_reserved.ensures.items, c.reserve.ensures.items, c.new-2.ensures, c.new.ensures.items, c.new-4.ensures, c.new-3.ensures.items) refl
+
+pub returns-clause-run : goal.returns-clause-run
+returns-clause-run g c = (invariant_of-self-2 g c).run
+
+pub returns-clause-chosen : goal.returns-clause-chosen
+returns-clause-chosen g c =
+    let old = c.self.inside.state in
+    let records = c.self.inside.records.items in
+    let act = c.args.act.now in
+    let at : c.len-at.result ≡ length records = c.len-at.ensures ∙ c.self.inside.records.ok.0 in
+    let answered = subst (λ n. Answered n act.event act.via old c.in-Ok.reply c.answer.new.state) at c.in-Ok.ensures.ok in
+    let may : MayUse (world_of old.config records) act.event act.via = may_use (record { settings = old.config; records = records }) act.event act.via (rw (← c.self.view_is) at c.requires) in
+    rw (← c.self.view_is) (applied_chosen old c.answer.new.state records c.self.invariant c.args.pass act.event act.via c.in-Ok.reply may answered)

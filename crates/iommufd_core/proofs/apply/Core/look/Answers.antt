@@ -1,0 +1,10 @@
+use Rattle.std.proofs.Common.{length}
+use Rattle.iofd_words.specs.Run.{world_of}
+use Rattle.iommufd_core.proofs.Histories.{tidy_run}
+use Rattle.iommufd_core.proofs.apply.Core.look.Goals as goal
+
+pub returns : goal.returns
+returns g c =
+    let settings = c.self.inside.state.config in
+    let records = c.self.inside.records.items in
+    rw (← c.self.view_is, c.parts_of-len.ensures) (c.look.ensures (length records) (world_of settings records) (tidy_run settings records c.self.invariant.run) c.self.invariant.shows)

@@ -1,0 +1,25 @@
+use Rattle.std.proofs.Common.{◌≡◌, Bool, true, false, ◌&&◌, Option, Some, None, is_none, is_some, length, refl, sym, ◌∙◌, ap}
+use Rattle.std.specs.List.{list_any}
+use Rattle.iofd_words.specs.FirstTrue.{first_true}
+use Rattle.iofd_words.specs.Look.{query_checks}
+use Rattle.iofd_words.specs.Run.{world_of}
+use Rattle.iofd_words.specs.declared.query.Query.TheVariants.{DeviceRead}
+use Rattle.iommufd_core.proofs.DeviceReads.{same_tests}
+use Rattle.iommufd_core.proofs.OutcomesShown.{known_same}
+use Rattle.iommufd_core.specs.History.{is_pass_at, passes_in}
+use Rattle.iommufd_core.proofs.apply.Core.may_pass.Goals as goal
+
+none_if : {X : Type 0} (o : Option X) → is_some o ≡ false → is_none o ≡ true
+none_if None is = refl
+none_if (Some x) is = cc
+
+pub returns-then-is_none : goal.returns-then-is_none
+returns-then-is_none g c =
+    let state = c.self.inside.state in
+    let w = world_of state.config c.self.inside.records.items in
+    let shows = c.self.invariant.shows in
+    let same = same_tests w state shows c.args.device c.args.iova c.args.len in
+    let none : is_none (first_true (query_checks w (DeviceRead c.args.device c.args.iova c.args.len))) ≡ true =
+    ap (λ rows. is_none (first_true rows)) (sym same) ∙ ap is_none (sym c.refusal.ensures) ∙ none_if c.refusal.result c.if-is_none.ensures
+    in
+    rw (← c.self.view_is, none) (c.may_pass.ensures ∙ ap (list_any (is_pass_at c.args.frame)) (known_same w state shows c.args.device c.args.iova.0 c.args.right))

@@ -1,0 +1,12 @@
+use Rattle.std.proofs.Common.{◌≡◌, List, [], refl, sym, ◌∙◌, ap, subst}
+use Rattle.iofd_words.specs.Run.{IsRun, world_of}
+use Rattle.iofd_words.specs.World.{opening}
+use Rattle.iommufd_core.specs.Shows.{Shows}
+use Rattle.iommufd_core.proofs.apply.Core.new.Goals as goal
+
+pub invariant_of-result : goal.invariant_of-result
+unfolding IsRun world_of
+invariant_of-result g c = rw c.new.ensures.items (record {
+  run = tt;
+  shows = subst (λ settings. Shows (opening settings) c.in_ok-opened.field-0) (sym c.in_ok-opened.ensures.config) c.in_ok-opened.ensures.shows;
+})

@@ -1,0 +1,60 @@
+use Rattle.std.proofs.Common.{◌≡◌, ℕ, ◌+◌, ◌*◌, ◌%◌, ◌<◌, ◌≤◌, Bool, false, ◌||◌, Contains, length, refl, sym, ◌∙◌, ap, subst, arith}
+use Rattle.std.proofs.lemmas.Bool.Decides.{nat_tests}
+use Rattle.iofd_words.proofs.Runs.{tests_false}
+use Rattle.iofd_words.specs.After.{changed}
+use Rattle.iofd_words.specs.Checks.{checks, refusal}
+use Rattle.iofd_words.specs.Pages.{crosses}
+use Rattle.iofd_words.specs.Policy.{Outcome, Passes, Denied, outcomes, fault_of}
+use Rattle.iofd_words.specs.declared.event.Event.TheVariants as event
+use Rattle.iofd_words.specs.declared.fault.AccessKind.TheVariants.{Write}
+use Rattle.iofd_words.specs.declared.reply.Reply.TheVariants as reply
+use Rattle.iommufd_core.proofs.BytesShown.{written, same_length}
+use Rattle.iommufd_core.proofs.DeviceWrites.{chosen_answer, pass_in_pool}
+use Rattle.iommufd_core.proofs.OutcomesShown.{known_same}
+use Rattle.iommufd_core.specs.Bytes.{overwritten}
+use Rattle.iommufd_core.specs.Outcomes.{given_outcome}
+use Rattle.iommufd_core.proofs.device_write.commit.Goals as goal
+
+-- an access that crosses no page ends in its page
+ends_in_page : (address len : ℕ) → crosses address len ≡ false → address % 4096 + len ≤ 4096
+ends_in_page address len is = search (is, arith, nat_tests)
+
+pub returns-in-Ok : goal.returns-in-Ok
+unfolding changed refusal checks
+returns-in-Ok g c = λ at w tidy shows none may.
+    let frame = c.in-Ok.frame in
+    let iova = c.args.iova in
+    let bytes = c.args.bytes.now in
+    let told : Passes frame ≡ given_outcome c.args.via (outcomes w c.args.device iova.0 Write) = c.in-Ok.ensures ∙ ap (given_outcome c.args.via) (known_same w c.args.state.now shows c.args.device iova.0 Write) in
+    let answer = chosen_answer at w c.args.device iova bytes c.args.via (Passes frame) tidy told may in
+    let within = pass_in_pool w tidy.fit.pin_frames c.args.device iova.0 Write frame answer.0 in
+    let short = ends_in_page iova.0 (length bytes) (tests_false (checks w (event.DeviceWrite c.args.device iova bytes)) 1 none) in
+    let old = c.args.state.now.frames.items in
+    let put : c.put.new.frames.items ≡ overwritten (frame.0 * 4096 + iova.0 % 4096) bytes old = rw (c.start_of.ensures.value, c.as_slice.ensures.value) at c.put.ensures in
+    let fits : frame.0 * 4096 + iova.0 % 4096 + length bytes ≤ length old = rw shows.frames (omega (arith, within, short)) in (
+      answer.1,
+      answer.2,
+      record {
+        settings = shows.settings;
+        objects = shows.objects;
+        proper = shows.proper;
+        areas = shows.areas;
+        files = shows.files;
+        bindings = shows.bindings;
+        attachments = shows.attachments;
+        memory = shows.memory;
+        user_pages = shows.user_pages;
+        pins = shows.pins;
+        frames = rw put (same_length (frame.0 * 4096 + iova.0 % 4096) bytes old fits ∙ shows.frames);
+        bytes = rw put (written w.settings.pool w.writes old shows.frames shows.bytes frame.0 (iova.0 % 4096) bytes within short);
+      },
+    )
+
+pub returns-in-Err : goal.returns-in-Err
+unfolding changed
+returns-in-Err g c = λ at w tidy shows none may.
+    let iova = c.args.iova in
+    let told = c.in-Err.ensures ∙ ap (given_outcome c.args.via) (known_same w c.args.state.now shows c.args.device iova.0 Write) in
+    let answer = chosen_answer at w c.args.device iova c.args.bytes.now c.args.via _ tidy told may in
+    let fault = c.fault_of.ensures w shows.settings in
+    (rw fault answer.1, rw fault answer.2, shows)

@@ -1,0 +1,19 @@
+use Rattle.std.proofs.Common.{◌≡◌, Some, None, refl, sym, ◌∙◌, subst}
+use Rattle.iommufd_core.proofs.Answering.{refused_lawful, refused_after, answered_lawful, answered_after, if_ok}
+use Rattle.iofd_words.specs.declared.refusal.Cause.{Cause}
+use Rattle.iommufd_core.specs.Shows.{Shows}
+use Rattle.iommufd_core.proofs.events.answer.Goals as goal
+
+never : (cause : Cause) → Some cause ≡ None → ⊥
+never cause is = cc
+
+pub returns-in-Some-clause-ok : goal.returns-in-Some-clause-ok
+returns-in-Some-clause-ok g c = λ pass w tidy shows may.
+    let is = sym (c.refusal.ensures w shows) ∙ c.in-Some.is in
+    (refused_lawful _ c.args.at w pass c.args.act.now.event _ is, λ none. absurd (never _ (sym is ∙ none)), subst (λ after. Shows after c.args.state.now) (sym (refused_after _ c.args.at w pass c.args.act.now.event _ _ is)) shows)
+
+pub returns-in-None-clause-ok : goal.returns-in-None-clause-ok
+returns-in-None-clause-ok g c = if_ok c.commit.result _ _ (λ reply steps pass w tidy shows may.
+    let is = sym (c.refusal.ensures w shows) ∙ c.in-None.is in
+    let told = steps w tidy shows is (may is) in
+    (answered_lawful _ c.args.at w pass c.args.act.now.event reply is told.0, λ none. told.1, subst (λ after. Shows after c.commit.new.state) (sym (answered_after _ c.args.at w pass c.args.act.now.event reply is)) told.2)) c.commit.ensures.ok

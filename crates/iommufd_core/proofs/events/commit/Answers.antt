@@ -1,0 +1,23 @@
+use Rattle.std.proofs.Common.{◌≡◌, sym, subst}
+use Rattle.iofd_words.specs.declared.event.Event.{Event}
+use Rattle.iommufd_core.proofs.Answering.{if_ok, on_err}
+use Rattle.iommufd_core.specs.Step.{ChosenSteps}
+use Rattle.iommufd_core.proofs.events.commit.Goals as goal
+
+pub returns-in-IoasAlloc-clause-err : goal.returns-in-IoasAlloc-clause-err
+returns-in-IoasAlloc-clause-err g c = on_err c.commit.result _ _ (λ same w tidy shows. same w shows) c.commit.ensures.err
+
+pub returns-in-Unmap-clause-err : goal.returns-in-Unmap-clause-err
+returns-in-Unmap-clause-err g c = on_err c.commit-in-Unmap.result _ _ (λ same w tidy shows. same w shows) c.commit-in-Unmap.ensures.err
+
+pub returns-in-UserMap-clause-ok : goal.returns-in-UserMap-clause-ok
+returns-in-UserMap-clause-ok g c = if_ok c.commit-in-UserMap.result _ _ (λ reply steps. subst (λ (e : Event). ChosenSteps c.args.at e c.args.act.now.via c.args.state.now reply c.commit-in-UserMap.new.state) (sym c.in-UserMap.is) (steps c.args.at c.args.act.now.via)) c.commit-in-UserMap.ensures.ok
+
+pub returns-in-UserMap-clause-err : goal.returns-in-UserMap-clause-err
+returns-in-UserMap-clause-err g c = on_err c.commit-in-UserMap.result _ _ (λ same w tidy shows. same w shows) c.commit-in-UserMap.ensures.err
+
+pub returns-in-Bind-clause-err : goal.returns-in-Bind-clause-err
+returns-in-Bind-clause-err g c = on_err c.commit-in-Bind.result _ _ (λ same w tidy shows. same w shows) c.commit-in-Bind.ensures.err
+
+pub returns-in-Attach-clause-err : goal.returns-in-Attach-clause-err
+returns-in-Attach-clause-err g c = on_err c.commit-in-Attach.result _ _ (λ same w tidy shows. same w shows) c.commit-in-Attach.ensures.err

@@ -1,0 +1,25 @@
+use Rattle.std.proofs.Common.{◌≡◌, None, refl, sym, ◌∙◌, ap}
+use Rattle.iofd_words.specs.Answers.{Answers}
+use Rattle.iofd_words.specs.Files.{user_of}
+use Rattle.iommufd_core.proofs.Mapped.{has_user, is_span, shows_mapped, some_length}
+use Rattle.iommufd_core.proofs.map.commit.Goals as goal
+
+pub returns-in_default-clause-ok : goal.returns-in_default-clause-ok
+returns-in_default-clause-ok g c = λ w tidy shows none.
+    let lacks : user_of w.settings c.args.file ≡ None = rw shows.settings (sym c.user_of.ensures ∙ c.in_default.is) in
+    absurd (has_user w c.args.file c.args.request none lacks)
+
+pub returns-in_default-mapped_span-clause-ok : goal.returns-in_default-mapped_span-clause-ok
+returns-in_default-mapped_span-clause-ok g c = λ w tidy shows none. absurd (is_span w c.args.file c.args.request none c.mapped_span.result c.in_default-mapped_span.is c.mapped_span.ensures.some)
+
+pub returns-clause-ok : goal.returns-clause-ok
+unfolding Answers
+returns-clause-ok g c = λ w tidy shows none. (
+  refl,
+  shows_mapped c.args.at w c.args.state.now c.args.file c.args.request c.in-Some.user _ _ _ tidy shows
+      (some_length w c.args.file c.args.request none)
+      (sym c.user_of.ensures ∙ c.in-Some.is)
+      (rw c.mapped_area-area.ensures at c.in_ok-insert.ensures.ok)
+      (rw (c.memory_object-object.ensures, c.reserve.ensures.items) at c.push_reserved.ensures.items)
+      (rw (c.memory_object-object.ensures, c.reserve-2.ensures.items, c.deref.ensures.value, c.pinned_count-pinned.ensures.value) at c.pin_first.ensures),
+)

@@ -1,0 +1,54 @@
+-- What a core is seen as: what it was opened with, and its records.
+use Rattle.std.specs.Prelude.{◌≡◌, ℕ, Bool, true, false, ◌&&◌, ◌==◌, Option, Some, None, is_none, List, [], ◌∷◌, ◌++◌, length}
+use Rattle.std.specs.List.{list_any}
+use Rattle.iofd_words.specs.Checks.{refusal}
+use Rattle.iofd_words.specs.FirstTrue.{first_true}
+use Rattle.iofd_words.specs.Look.{query_checks}
+use Rattle.iofd_words.specs.Policy.{Outcome, Passes, Denied, outcomes}
+use Rattle.iofd_words.specs.Run.{IsRun, world_of}
+use Rattle.iofd_words.specs.Settings.{Settings}
+use Rattle.iofd_words.specs.World.{World}
+use Rattle.iofd_words.specs.declared.event.Act.{Act}
+use Rattle.iofd_words.specs.declared.event.Event.{Event}
+use Rattle.iofd_words.specs.declared.event.Event.TheVariants as event
+use Rattle.iofd_words.specs.declared.fault.AccessKind.{AccessKind}
+use Rattle.iofd_words.specs.declared.fault.AccessKind.TheVariants.{Write}
+use Rattle.iofd_words.specs.declared.numbers.DeviceNo.{DeviceNo}
+use Rattle.iofd_words.specs.declared.numbers.FrameNo.{FrameNo}
+use Rattle.iofd_words.specs.declared.numbers.PassNo.{PassNo}
+use Rattle.iofd_words.specs.declared.query.Query.TheVariants.{DeviceRead}
+use Rattle.iofd_words.specs.declared.numbers.Iova.{Iova}
+use Rattle.iofd_words.specs.declared.record.Record.{Record}
+use Rattle.iofd_words.specs.declared.reply.Reply.{Reply}
+
+pub record History (A : Type 0) : Type 0 where
+  pub settings : Settings
+  pub records : List (Record A)
+
+-- what may_pass asks: nothing refuses the access, and the policy lets it pass at this frame
+abbrev pub is_pass_at : FrameNo → Outcome → Bool
+is_pass_at frame (Passes at) = at.0 == frame.0
+is_pass_at frame (Denied reason) = false
+
+abbrev pub passes_in : World → DeviceNo → Iova → ℕ → AccessKind → FrameNo → Bool
+passes_in w device iova len kind frame =
+    is_none (first_true (query_checks w (DeviceRead device iova len))) && list_any (is_pass_at frame) (outcomes w device iova.0 kind)
+
+module _ {A : Type 0} where
+  -- the world that the records have left
+  abbrev pub world : History A → World
+  world h = world_of h.settings h.records
+
+  -- the record of this caller, with this event and reply, and no table frames
+  abbrev pub recorded : PassNo → Event → Reply → Record A
+  recorded pass event reply = record { pass = pass; event = event; reply = reply; taken = []; given = [] }
+
+  -- one more record
+  abbrev pub with_record : PassNo → Event → Reply → History A → History A
+  with_record pass event reply h = record h { records = h.records ++ recorded pass event reply ∷ [] }
+
+  -- an act may be applied: it has no cached frame, or is a device's write that may pass at that frame
+  abbrev pub may_apply : History A → Event → Option FrameNo → Bool
+  may_apply h e None = true
+  may_apply h (event.DeviceWrite device iova bytes) (Some frame) = passes_in (world h) device iova (length bytes) Write frame
+  may_apply h e (Some frame) = false

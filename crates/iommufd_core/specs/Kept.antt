@@ -1,0 +1,10 @@
+-- What holds of a core's fields: its records are a run, and the rest shows the world that they leave.
+use Rattle.std.specs.Prelude.{List}
+use Rattle.iofd_words.specs.Run.{IsRun, world_of}
+use Rattle.iofd_words.specs.declared.record.Record.{Record}
+use Rattle.iommufd_core.specs.Shows.{Shows}
+use Rattle.iommufd_core.specs.declared.state.State.{State}
+
+pub record IsKept {A : Type 0} (state : State A) (records : List (Record A)) : Type 0 where
+  pub run : IsRun state.config records
+  pub shows : Shows (world_of state.config records) state

@@ -1,0 +1,14 @@
+pub mod Bytes
+pub mod Choice
+pub mod Held
+pub mod History
+pub mod Kept
+pub mod Mapping
+pub mod Memory
+pub mod Outcomes
+pub mod Pages
+pub mod PinLists
+pub mod Refusals
+pub mod Shows
+pub mod Spaces
+pub mod Step

@@ -1,0 +1,59 @@
+-- What one step does to what is kept.
+use Rattle.std.specs.Prelude.{◌≡◌, ℕ, true, Option, None}
+use Rattle.iofd_words.specs.After.{changed}
+use Rattle.iofd_words.specs.Answers.{Answers}
+use Rattle.iofd_words.specs.Checks.{refusal}
+use Rattle.iofd_words.specs.Debts.{DebtsAttached}
+use Rattle.iofd_words.specs.Fits.{RowsFit}
+use Rattle.iofd_words.specs.Laws.{have_own_ids}
+use Rattle.iofd_words.specs.Pinned.{ArePinned}
+use Rattle.iofd_words.specs.World.{World}
+use Rattle.iofd_words.specs.declared.event.Event.{Event}
+use Rattle.iofd_words.specs.declared.numbers.FrameNo.{FrameNo}
+use Rattle.iofd_words.specs.declared.refusal.Cause.{Cause}
+use Rattle.iofd_words.specs.declared.reply.Reply.{Reply}
+use Rattle.iofd_words.specs.Run.{Lawful, after}
+use Rattle.iofd_words.specs.declared.numbers.PassNo.{PassNo}
+use Rattle.iommufd_core.specs.Choice.{IsChosen, MayUse}
+use Rattle.iommufd_core.specs.History.{recorded}
+use Rattle.iommufd_core.specs.Shows.{Shows}
+use Rattle.iommufd_core.specs.declared.state.State.{State}
+
+-- the world of a run: what laws say of it, at the position of the next record
+pub record IsTidy (at : ℕ) (w : World) : Type 0 where
+  pub pins : ArePinned at w
+  pub debts : DebtsAttached w
+  pub ids : have_own_ids w.objects ≡ true
+  pub fit : RowsFit w
+
+module _ {A : Type 0} where
+  -- this is the cause for which the event is refused, if any
+  abbrev pub IsRefusal : State A → Event → Option Cause → Type 0
+  IsRefusal s event cause = (w : World) → Shows w s → cause ≡ refusal w event
+
+  -- an event that nothing refuses is answered so, and the world after it is shown
+  abbrev pub Steps : ℕ → Event → State A → Reply → State A → Type 0
+  Steps at event old reply new =
+      (w : World) → IsTidy at w → Shows w old → refusal w event ≡ None → Answers w event reply × Shows (changed at w event reply) new
+
+  -- the same world is shown
+  abbrev pub ShowsSame : State A → State A → Type 0
+  ShowsSame old new = (w : World) → Shows w old → Shows w new
+
+  -- the same world of a run is shown
+  abbrev pub TidyShowsSame : ℕ → State A → State A → Type 0
+  TidyShowsSame at old new = (w : World) → IsTidy at w → Shows w old → Shows w new
+
+  -- the same of an event that may have a cached frame, and the reply is the one that is chosen
+  abbrev pub ChosenSteps : ℕ → Event → Option FrameNo → State A → Reply → State A → Type 0
+  ChosenSteps at event via old reply new =
+      (w : World) → IsTidy at w → Shows w old → refusal w event ≡ None → MayUse w event via
+      → Answers w event reply × IsChosen w event via reply × Shows (changed at w event reply) new
+
+  -- whatever the event: its record is one that may be made, its reply is the one that is chosen, and the world
+  -- after it is shown
+  abbrev pub Answered : ℕ → Event → Option FrameNo → State A → Reply → State A → Type 0
+  Answered at event via old reply new =
+      (pass : PassNo) (w : World) → IsTidy at w → Shows w old → (refusal w event ≡ None → MayUse w event via)
+      → Lawful w (recorded {A = A} pass event reply) × (refusal w event ≡ None → IsChosen w event via reply)
+      × Shows (after at w (recorded {A = A} pass event reply)) new

@@ -1,0 +1,191 @@
+//! What comes of a device's access (VT-d, "Address Translation").
+
+ghost use Rattle.std.specs.Prelude.{◌≡◌, ◌-◌, ◌/◌, ◌^◌, ◌∷◌, [], false, nat_le};
+ghost use Rattle.std.specs.List.{list_any};
+ghost use Rattle.std.specs.Option.{option_copied, option_map_or};
+ghost use Rattle.area_map.specs.Areas.{area_at};
+ghost use Rattle.iofd_words.specs.Files as files;
+ghost use Rattle.iofd_words.specs.Pins as pinned;
+ghost use Rattle.iofd_words.specs.Policy as policy;
+ghost use Rattle.iofd_words.specs.Width.{bits_of};
+ghost use Rattle.iommufd_core.specs.Held.{areas_at};
+ghost use Rattle.iommufd_core.specs.History.{is_pass_at};
+ghost use Rattle.iommufd_core.specs.Outcomes.{given_outcome, outcome_told, known_outcomes, known_where, outcomes_of, passes_at};
+
+use crate::held::Held;
+use crate::lookups;
+use crate::state::State;
+use iofd_words::{
+    AccessKind, Area, Attachment, Config, DeviceNo, FaultReason, FileNo, FrameNo, ObjId,
+    ObjectKind, Phase, Pin,
+};
+use object_table::ObjectTable;
+use std::alloc::Allocator;
+
+/// What may come of an access.
+#[derive(Clone, Copy, PartialEq, Eq, Debug)]
+enum Access {
+    /// It passes, at this frame.
+    Passes(FrameNo),
+    /// It is denied.
+    Denied(FaultReason),
+    /// The device still owes a flush: the access may pass and may be denied.
+    Either(FrameNo, FaultReason),
+}
+
+/// What may come of the device's access to this address. None where the area has no pin for the page, which
+/// no run of the server leads to.
+#[tactic(auto, unfolding(crate::specs::Outcomes::known_outcomes))]
+fn of_device<A: Allocator>(
+    state: &State<A>,
+    device: DeviceNo,
+    address: u64,
+    kind: AccessKind,
+) -> Option<Access>
+    ensures { outcomes_of result ≡ known_outcomes state.now device address kind }
+{
+    let Some(attachment) = state.attachment_of(device) else {
+        return Some(Access::Denied(FaultReason::NoContext));
+    };
+    if is_beyond(&state.config, device, address) {
+        return Some(Access::Denied(FaultReason::BeyondWidth));
+    }
+    translated(state, device, *attachment, address, kind)
+}
+
+/// The frame at which the access passes, or why it is denied: at the cached frame, if there is one; else
+/// where the policy lets it pass, and while the device owes the area a flush it is denied.
+pub(crate) fn given<A: Allocator>(
+    state: &State<A>,
+    device: DeviceNo,
+    address: u64,
+    kind: AccessKind,
+    cached: Option<FrameNo>,
+) -> Result<FrameNo, FaultReason>
+    ensures { outcome_told result ≡ given_outcome cached (known_outcomes state.now device address kind) }
+{
+    if let Some(frame) = cached {
+        return Ok(frame);
+    }
+    match of_device(state, device, address, kind) {
+        Some(Access::Passes(frame)) => Ok(frame),
+        Some(Access::Denied(reason)) | Some(Access::Either(_, reason)) => Err(reason),
+        None => Err(FaultReason::WriteDenied),
+    }
+}
+
+/// Whether the policy lets the access pass at this frame.
+pub(crate) fn may_pass<A: Allocator>(
+    state: &State<A>,
+    device: DeviceNo,
+    address: u64,
+    kind: AccessKind,
+    frame: FrameNo,
+) -> bool
+    ensures { result ≡ list_any (is_pass_at frame) (known_outcomes state.now device address kind) }
+{
+    match of_device(state, device, address, kind) {
+        Some(Access::Passes(at)) | Some(Access::Either(at, _)) => at == frame,
+        Some(Access::Denied(_)) | None => false,
+    }
+}
+
+/// What comes of it where the device is attached.
+fn translated<A: Allocator>(
+    state: &State<A>,
+    device: DeviceNo,
+    attachment: Attachment,
+    address: u64,
+    kind: AccessKind,
+) -> Option<Access>
+    ensures { outcomes_of result ≡ known_where state.now device address kind attachment }
+{
+    let denied = Some(Access::Denied(kind.denied()));
+    let Some(ObjectKind::Hwpt { ioas, .. }) = lookups::kind_of(
+        &state.objects,
+        attachment.file,
+        attachment.hwpt,
+    ) else {
+        return denied;
+    };
+    match area_at(&state.objects, attachment.file, ioas, address) {
+        Some(area) => at_area(&state.pins, device, address, kind, area),
+        None => denied,
+    }
+}
+
+/// The area of the address space that holds the address.
+#[tactic(auto, using(crate::proofs::Objects::no_space))]
+fn area_at<A: Allocator>(
+    table: &ObjectTable<Held<A>, A>,
+    file: FileNo,
+    ioas: ObjId,
+    address: u64,
+) -> Option<&Area>
+    ensures { option_copied result ≡ area_at address (areas_at table.now.rows file ioas) }
+{
+    match lookups::areas_of(table, file, ioas) {
+        Some(areas) => areas.at(address),
+        None => None,
+    }
+}
+
+/// What comes of it at the area that holds the address.
+fn at_area(
+    pins: &[Pin],
+    device: DeviceNo,
+    address: u64,
+    kind: AccessKind,
+    area: &Area,
+) -> Option<Access>
+    ensures { outcomes_of result ≡ policy.at_area pins.now device address kind (Some area.now) }
+{
+    if !area.rights.allow(kind) {
+        return Some(Access::Denied(kind.denied()));
+    }
+    let page = address.saturating_sub(area.span.first()) / 4096;
+    let frame = pinned_frame(pins, area.memory, page);
+    by_phase(device, &area.phase, frame, kind.denied())
+}
+
+/// A live area lets it pass; a leaving one may, as long as the device owes a flush.
+fn by_phase(
+    device: DeviceNo,
+    phase: &Phase,
+    frame: Option<FrameNo>,
+    denied: FaultReason,
+) -> Option<Access>
+    ensures { outcomes_of result ≡ policy.by_phase device phase.now (passes_at frame) (policy.Denied denied ∷ []) }
+{
+    match (phase, frame) {
+        (Phase::Live, None) => None,
+        (Phase::Live, Some(frame)) => Some(Access::Passes(frame)),
+        (Phase::Leaving { owed, .. }, Some(frame)) if owed.contains(device) => {
+            Some(Access::Either(frame, denied))
+        }
+        (Phase::Leaving { .. }, _) => Some(Access::Denied(denied)),
+    }
+}
+
+/// The frame at which the page of a memory object is pinned.
+pub(crate) fn pinned_frame(pins: &[Pin], memory: u64, index: u64) -> Option<FrameNo>
+    ensures { result ≡ pinned.pinned_frame pins.now (record { memory = memory; index = index }) }
+{
+    let found = pins
+        .iter()
+        .find(|pin| pin.memory == memory && pin.index == index)?;
+    Some(found.frame)
+}
+
+/// Whether the address is at or above the width of the device's tables.
+fn is_beyond<A: Allocator>(config: &Config<A>, device: DeviceNo, address: u64) -> bool
+    ensures { result ≡ option_map_or (λ d. nat_le (2 ^ bits_of d.width) address) (files.device_of config.now device) false }
+{
+    if device.0 == 0 {
+        return false;
+    }
+    match config.devices().get(device.0 as usize - 1) {
+        Some(settings) => address >= settings.width().end(),
+        None => false,
+    }
+}

@@ -1,0 +1,123 @@
+//! The core: a state, and the records of all steps that led to it.
+
+ghost use Rattle.std.specs.Prelude.{◌≡◌, ◌+◌, [], IfOk, IsTrue, Some, OnErr, length, None};
+ghost use Rattle.iofd_words.specs.Checks as checks;
+ghost use Rattle.iofd_words.specs.Look.{answers_to};
+ghost use Rattle.iofd_words.specs.Run.{IsRun};
+ghost use Rattle.iommufd_core.specs.Choice.{IsChosen, last_of};
+ghost use Rattle.iommufd_core.specs.History.{may_apply, passes_in, with_record, world};
+
+use crate::state::State;
+use crate::{access, device_read, events, opening};
+use iofd_words::{
+    AccessKind, Act, Answer, Config, DeviceNo, FrameList, FrameNo, Iova, NoMemory, PassNo, Query,
+    Record, Reply,
+};
+use std::alloc::{Allocator, Global};
+use std::marker::Model;
+
+/// Where a record stands in the history, from 0, and its reply.
+#[derive(Clone, Copy, PartialEq, Eq, Debug)]
+pub struct Stamp {
+    pub at: u64,
+    pub reply: Reply,
+}
+
+/// The server of one thread: what it was opened with, and its history. A contract sees both; the world is
+/// what the records have left.
+#[derive(Drop)]
+pub struct Core<A: Allocator = Global> {
+    state: State<A>,
+    records: Vec<Record<A>, A>,
+}
+
+impl<A: Allocator> Model for Core<A> {
+    ghost use Rattle.iommufd_core.specs.History.{History};
+    ghost use Rattle.iommufd_core.specs.Kept.{IsKept};
+
+    ghost Value = { History A };
+
+    ghost view = { λ c. record { settings = c.state.config; records = c.records.items } };
+
+    ghost invariant = { λ c. IsKept c.state c.records.items };
+}
+
+impl<A: Allocator + Copy> Core<A> {
+    /// A core with this configuration and no record: all frames are free, all files open and empty. It fails
+    /// only where memory does.
+    pub fn new<B: Allocator>(alloc: A, config: &Config<B>) -> Result<Core<A>, NoMemory>
+        ensures { IfOk result (λ core. core ≡ record { settings = config.now; records = [] }) }
+    {
+        Ok(Core {
+            state: opening::opened(alloc, config)?,
+            records: Vec::new(alloc),
+        })
+    }
+
+    /// Applies an event: exactly one record is appended, of this caller, with the event and its reply, at the
+    /// position that the stamp names. Without a cached frame a device's write that may pass or be denied, since
+    /// a flush is owed, is denied; with one it passes there.
+    ///
+    /// NoMemory comes only where a growth was really refused, and leaves everything as it was.
+    pub fn apply(&mut self, pass: PassNo, act: &Act) -> Result<Stamp, NoMemory>
+        requires { IsTrue (may_apply self.old act.now.event act.now.via) }
+        ensures record { IfOk result (λ stamp. self.new ≡ with_record pass act.now.event stamp.reply self.old) }
+        ensures at { IfOk result (λ stamp. stamp.at ≡ length self.old.records) }
+        ensures run { IsRun self.new.settings self.new.records }
+        ensures chosen { IfOk result (λ stamp.
+            checks.refusal (world self.old) act.now.event ≡ None → IsChosen (world self.old) act.now.event act.now.via stamp.reply) }
+        ensures unchanged { OnErr result (self.new ≡ self.old) }
+    {
+        let at = self.records.len() as u64;
+        if self.records.reserve(1).is_err() {
+            return Err(NoMemory);
+        }
+        let Ok(reply) = events::answer(&mut self.state, at, act) else {
+            return Err(NoMemory);
+        };
+        let alloc = self.state.alloc;
+        self.records.push_reserved(Record {
+            pass,
+            event: act.event,
+            reply,
+            taken: FrameList::new(Vec::new(alloc)),
+            given: FrameList::new(Vec::new(alloc)),
+        });
+        Ok(Stamp { at, reply })
+    }
+}
+
+impl<A: Allocator> Core<A> {
+    /// Answers a question about the world. It takes no memory and changes nothing. A device that owes the area
+    /// a flush is denied.
+    pub fn look(&self, query: &Query) -> Answer
+        ensures { last_of (answers_to (world self.now) query.now) ≡ Some result }
+    {
+        let (device, iova, len) = device_read::parts_of(query);
+        device_read::look(&self.state, device, iova, len)
+    }
+
+    /// Whether nothing refuses the device's access to so many bytes, and the policy lets it pass at this frame: the
+    /// test of what `apply` asks of an act with a cached frame. It takes no memory.
+    pub fn may_pass(
+        &self,
+        device: DeviceNo,
+        iova: Iova,
+        len: u8,
+        right: AccessKind,
+        frame: FrameNo,
+    ) -> bool
+        ensures { result ≡ passes_in (world self.now) device iova len right frame }
+    {
+        device_read::refusal(&self.state, device, iova, len).is_none()
+            && access::may_pass(&self.state, device, iova.0, right, frame)
+    }
+
+    /// The records, from the first on.
+    pub fn records(&self) -> &[Record<A>]
+        ensures value { result.now ≡ self.now.records }
+        ensures run { IsRun self.now.settings self.now.records }
+    {
+        self.records.as_slice()
+    }
+}

@@ -1,0 +1,172 @@
+//! Changes of one address space's areas: one comes, or some go.
+
+ghost use Rattle.std.specs.Prelude.{◌≡◌, ◌==◌, ◌+◌, ◌≤◌, ◌++◌, not, [], length, map, OnOk, OnErr, MatchOption, vec_len, vec_capacity};
+ghost use Rattle.area_map.specs.Areas.{AreKept, areas_outside, areas_within, bytes_of, marked, memories_of, with_area};
+ghost use Rattle.iofd_words.specs.Areas.{owed_by};
+ghost use Rattle.iommufd_core.specs.Held.{areas_at, areas_in};
+ghost use Rattle.iommufd_core.specs.Spaces.{IsOrderly, IsWith, HasAreas};
+ghost use Rattle.iommufd_core.specs.Mapping.{own_areas, some_waits};
+
+use crate::held::Held;
+use area_map::Areas;
+use iofd_words::{Area, DeviceSet, FileNo, NoMemory, ObjId, Phase, Span};
+use object_table::{Kind, ObjectTable};
+use std::alloc::Allocator;
+
+/// Adds the area to those of this address space, where it meets no other and there is room for it. The only
+/// error is want of memory; then no area changes.
+#[tactic(auto, using(crate::proofs::AreasHeld::rewritten, crate::proofs::AreasHeld::unwritten, crate::proofs::AreasHeld::areas_absent))]
+pub(crate) fn insert<A: Allocator>(
+    table: &mut ObjectTable<Held<A>, A>,
+    file: FileNo,
+    ioas: ObjId,
+    area: Area,
+) -> Result<(), NoMemory>
+    ensures ok { OnOk result (IsOrderly table.old → HasAreas file ioas (with_area area (areas_at table.old.rows file ioas)) table.old table.new) }
+    ensures err { OnErr result (IsOrderly table.old → HasAreas file ioas (areas_at table.old.rows file ioas) table.old table.new) }
+{
+    match table.get_mut(file, Kind::Ioas, ioas) {
+        Ok(held) => insert_held(held, area),
+        Err(_) => Err(NoMemory),
+    }
+}
+
+fn insert_held<A: Allocator>(held: &mut Held<A>, area: Area) -> Result<(), NoMemory>
+    ensures ok { OnOk result (IsWith (with_area area (areas_in held.old)) held.old held.new) }
+    ensures err { OnErr result (IsWith (areas_in held.old) held.old held.new) }
+{
+    if let Held::Ioas(areas) = held {
+        if areas.insert(area).is_ok() {
+            return Ok(());
+        }
+    }
+    Err(NoMemory)
+}
+
+/// The areas in this address space. None where there is no such address space.
+fn own_areas<A: Allocator>(
+    table: &ObjectTable<Held<A>, A>,
+    file: FileNo,
+    ioas: ObjId,
+) -> Option<&Areas<A>>
+    ensures { MatchOption result (own_areas table.now file ioas ≡ []) (λ areas. own_areas table.now file ioas ≡ areas.now.areas) }
+{
+    match table.get(file, Kind::Ioas, ioas) {
+        Ok(Held::Ioas(areas)) => Some(areas),
+        _ => None,
+    }
+}
+
+/// Whether a device still has to flush before the areas that meet the span may go: one of those attached for a live
+/// area, one of those that it waits for for a leaving area.
+pub(crate) fn some_waits<A: Allocator>(
+    table: &ObjectTable<Held<A>, A>,
+    file: FileNo,
+    ioas: ObjId,
+    span: Span,
+    attached: &DeviceSet,
+) -> bool
+    ensures value { result ≡ some_waits span attached.now (own_areas table.now file ioas) }
+    ensures kept { AreKept (own_areas table.now file ioas) }
+{
+    match own_areas(table, file, ioas) {
+        Some(areas) => areas.iter().any(|area| area.span.meets(span)
+            && waits(&area.phase, attached)),
+        None => false,
+    }
+}
+
+/// Whether some device still has to flush, where these are attached.
+fn waits(phase: &Phase, attached: &DeviceSet) -> bool
+    ensures { result ≡ not (length (owed_by attached.now phase.now) == 0) }
+{
+    match phase {
+        Phase::Live => !attached.is_empty(),
+        Phase::Leaving { owed, .. } => !owed.is_empty(),
+    }
+}
+
+/// How many areas of the address space lie in the span.
+pub(crate) fn count_within<A: Allocator>(
+    table: &ObjectTable<Held<A>, A>,
+    file: FileNo,
+    ioas: ObjId,
+    span: Span,
+) -> usize
+    ensures { result ≡ length (areas_within span (own_areas table.now file ioas)) }
+{
+    match own_areas(table, file, ioas) {
+        Some(areas) => areas.count_within(span),
+        None => 0,
+    }
+}
+
+/// How many addresses those areas have together.
+pub(crate) fn bytes_within<A: Allocator>(
+    table: &ObjectTable<Held<A>, A>,
+    file: FileNo,
+    ioas: ObjId,
+    span: Span,
+) -> u128
+    ensures { result ≡ bytes_of (areas_within span (own_areas table.now file ioas)) }
+{
+    match own_areas(table, file, ioas) {
+        Some(areas) => areas.bytes_within(span),
+        None => 0,
+    }
+}
+
+/// The live areas of the address space that lie in the span are leaving now, and wait for these devices.
+#[tactic(auto, using(crate::proofs::AreasHeld::areas_absent))]
+pub(crate) fn mark_leaving<A: Allocator>(
+    table: &mut ObjectTable<Held<A>, A>,
+    file: FileNo,
+    ioas: ObjId,
+    span: Span,
+    owed: &DeviceSet,
+)
+    ensures { IsOrderly table.old → HasAreas file ioas (map (marked span owed.now) (areas_at table.old.rows file ioas)) table.old table.new }
+{
+    match table.get_mut(file, Kind::Ioas, ioas) {
+        Ok(held) => mark_held(held, span, owed),
+        Err(_) => (),
+    }
+}
+
+fn mark_held<A: Allocator>(held: &mut Held<A>, span: Span, owed: &DeviceSet)
+    ensures { IsWith (map (marked span owed.now) (areas_in held.old)) held.old held.new }
+{
+    if let Held::Ioas(areas) = held {
+        areas.mark_leaving(span, owed);
+    }
+}
+
+/// Takes away the areas of the address space that lie in the span, and appends the numbers of their memory objects to
+/// `removed`, which has room for them.
+#[tactic(auto, using(crate::proofs::AreasHeld::areas_absent, crate::proofs::AreasHeld::unwritten))]
+pub(crate) fn remove_within<A: Allocator>(
+    table: &mut ObjectTable<Held<A>, A>,
+    file: FileNo,
+    ioas: ObjId,
+    span: Span,
+    removed: &mut Vec<u64, A>,
+)
+    requires { vec_len removed.old + length (areas_within span (own_areas table.old file ioas)) ≤ vec_capacity removed.old }
+    ensures areas { IsOrderly table.old → HasAreas file ioas (areas_outside span (areas_at table.old.rows file ioas)) table.old table.new }
+    ensures removed { removed.new.items ≡ removed.old.items ++ memories_of (areas_within span (own_areas table.old file ioas)) }
+{
+    match table.get_mut(file, Kind::Ioas, ioas) {
+        Ok(held) => remove_held(held, span, removed),
+        Err(_) => (),
+    }
+}
+
+fn remove_held<A: Allocator>(held: &mut Held<A>, span: Span, removed: &mut Vec<u64, A>)
+    requires { vec_len removed.old + length (areas_within span (areas_in held.old)) ≤ vec_capacity removed.old }
+    ensures areas { IsWith (areas_outside span (areas_in held.old)) held.old held.new }
+    ensures removed { removed.new.items ≡ removed.old.items ++ memories_of (areas_within span (areas_in held.old)) }
+{
+    if let Held::Ioas(areas) = held {
+        areas.remove_within(span, removed);
+    }
+}

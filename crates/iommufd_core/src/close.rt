@@ -1,0 +1,74 @@
+//! Close: a file goes, with all that it has.
+
+ghost use Rattle.std.specs.Prelude.{◌≡◌, ℕ, not, ◌==◌, filter, None};
+ghost use Rattle.std.specs.List.{list_any};
+ghost use Rattle.iofd_words.specs.FirstTrue.{first_true};
+ghost use Rattle.iofd_words.specs.Objects.{objects_of, is_bound_device};
+ghost use Rattle.iofd_words.specs.declared.event.Event.TheVariants as event;
+ghost use Rattle.object_table.specs.Table.{close_refusal, closed};
+ghost use Rattle.iommufd_core.specs.Held.{kind_in, objects_in};
+ghost use Rattle.iommufd_core.specs.Refusals.{tests};
+ghost use Rattle.iommufd_core.specs.Step.{Steps};
+
+use crate::held::Held;
+use crate::memory_objects;
+use crate::state::State;
+use iofd_words::{Attachment, Cause, FileNo, Reply};
+use object_table::ObjectTable;
+use std::alloc::Allocator;
+
+/// Why it is refused.
+#[tactic(auto, unfolding(crate::specs::Refusals::tests))]
+pub(crate) fn refusal<A: Allocator>(state: &State<A>, file: FileNo) -> Option<Cause>
+    ensures { result ≡ first_true (tests state.now (event.Close file)) }
+{
+    if !state.objects.is_open(file) {
+        return Some(Cause::Id);
+    }
+    if has_device(&state.objects, file) {
+        return Some(Cause::InUse);
+    }
+    None
+}
+
+/// Whether a device is bound to the file.
+fn has_device<A: Allocator>(table: &ObjectTable<Held<A>, A>, file: FileNo) -> bool
+    ensures { result ≡ list_any (λ object. is_bound_device object.kind) (objects_of (objects_in table.now) file) }
+{
+    table.iter(file).any(|object| is_device(object.value))
+}
+
+fn is_device<A: Allocator>(held: &Held<A>) -> bool
+    ensures { result ≡ is_bound_device (kind_in held.now) }
+{
+    matches!(held, Held::Device(_))
+}
+
+/// What it does where nothing refuses it: the file's objects and attachments go, and its areas with their memory
+/// objects and the pins of their pages.
+pub(crate) fn commit<A: Allocator>(state: &mut State<A>, file: FileNo) -> Reply
+    ensures { (at : ℕ) → Steps at (event.Close file) state.old result state.new }
+{
+    memory_objects::drop_of_file(&mut state.memory, &state.objects, file);
+    memory_objects::unpin_file(&mut state.pins, &state.objects, file);
+    detach_all(&mut state.attachments, file);
+    close_table(&mut state.objects, file);
+    Reply::Done
+}
+
+/// Drops the attachments of the file's devices.
+fn detach_all<A: Allocator>(attachments: &mut Vec<Attachment, A>, file: FileNo)
+    ensures { attachments.new.items ≡ filter (λ a. not (a.file.0 == file.0)) attachments.old.items }
+{
+    attachments.retain(|a| a.file != file);
+}
+
+/// Closes the file's table, if nothing there refuses it.
+fn close_table<A: Allocator>(table: &mut ObjectTable<Held<A>, A>, file: FileNo)
+    ensures { close_refusal table.old file ≡ None → table.new ≡ closed table.old file }
+{
+    match table.close_file(file) {
+        Ok(()) => (),
+        Err(_) => (),
+    }
+}

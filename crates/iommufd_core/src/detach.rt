@@ -1,0 +1,109 @@
+//! Detach: a device translates no more.
+
+ghost use Rattle.std.specs.Prelude.{◌≡◌, ℕ, Some, None, false, not, filter};
+ghost use Rattle.iofd_words.specs.FirstTrue.{first_true};
+ghost use Rattle.iofd_words.specs.Objects as objects;
+ghost use Rattle.iofd_words.specs.declared.event.Event.TheVariants as event;
+ghost use Rattle.iommufd_core.specs.Held.{areas_at, objects_in};
+ghost use Rattle.iommufd_core.specs.PinLists.{is_idle, is_unpinned};
+ghost use Rattle.iommufd_core.specs.Refusals.{tests};
+ghost use Rattle.iommufd_core.specs.Step.{Steps};
+ghost use Rattle.object_table.specs.Table.{destroy_refusal, removed};
+ghost use Rattle.object_table.specs.declared.kind.Kind.TheVariants as of_kind;
+
+use crate::held::Held;
+use crate::state::State;
+use crate::{attachments, lookups, pins, spaces};
+use iofd_words::{Attachment, Cause, DeviceNo, FileNo, ObjId, ObjectKind, Pin, Reply};
+use object_table::{Kind, ObjectTable};
+use std::alloc::Allocator;
+
+/// Why it is refused.
+#[tactic(auto, unfolding(crate::specs::Refusals::tests))]
+pub(crate) fn refusal<A: Allocator>(state: &State<A>, device: DeviceNo) -> Option<Cause>
+    ensures { result ≡ first_true (tests state.now (event.Detach device)) }
+{
+    if state.binding_of(device).is_none() {
+        return Some(Cause::Id);
+    }
+    if state.attachment_of(device).is_none() {
+        return Some(Cause::Unattached);
+    }
+    None
+}
+
+/// What it does where nothing refuses it: the device owes no area a flush any more, and an automatic page
+/// table goes with its last device. It takes no memory.
+pub(crate) fn commit<A: Allocator>(state: &mut State<A>, device: DeviceNo) -> Reply
+    ensures { (at : ℕ) → Steps at (event.Detach device) state.old result state.new }
+{
+    let Some(attachment) = state.attachment_of(device) else {
+        return Reply::Done;
+    };
+    let Attachment { file, hwpt, .. } = *attachment;
+    let Some((_, ioas)) = state.space_of(device) else {
+        return Reply::Done;
+    };
+    spaces::pay(&mut state.objects, file, ioas, device);
+    attachments::remove(&mut state.attachments, device);
+    if is_idle(&state.objects, &state.attachments, file, hwpt) {
+        drop_table(&mut state.objects, &mut state.pins, file, ioas, hwpt);
+    }
+    Reply::Done
+}
+
+/// Whether the page table is an automatic one that no device is on.
+fn is_idle<A: Allocator>(
+    table: &ObjectTable<Held<A>, A>,
+    attachments: &[Attachment],
+    file: FileNo,
+    hwpt: ObjId,
+) -> bool
+    ensures { result ≡ is_idle (objects_in table.now) attachments.now file hwpt }
+{
+    is_automatic(table, file, hwpt) && !attachments::has_device_on(attachments, file, hwpt)
+}
+
+/// Whether the object is an automatic page table.
+fn is_automatic<A: Allocator>(table: &ObjectTable<Held<A>, A>, file: FileNo, id: ObjId) -> bool
+    ensures { result ≡ elim (objects.kind_of (objects_in table.now) file id) [ Some kind ↦ objects.is_automatic kind | None ↦ false ] }
+{
+    match lookups::kind_of(table, file, id) {
+        Some(ObjectKind::Hwpt { automatic, .. }) => automatic,
+        _ => false,
+    }
+}
+
+/// The page table over the address space goes, and with its last one the pins of its areas. All other
+/// objects, areas and pins stay.
+fn drop_table<A: Allocator>(
+    table: &mut ObjectTable<Held<A>, A>,
+    pins: &mut Vec<Pin, A>,
+    file: FileNo,
+    ioas: ObjId,
+    hwpt: ObjId,
+)
+    ensures rows { destroy_refusal table.old file of_kind.Hwpt hwpt ≡ None → table.new.rows ≡ removed file hwpt table.old.rows }
+    ensures files { table.new.files ≡ table.old.files }
+    ensures pins { pins.new.items ≡ filter (λ pin. not (is_unpinned (objects_in table.new) file ioas (areas_at table.new.rows file ioas) pin)) pins.old.items }
+{
+    let _ = table.destroy(file, Kind::Hwpt, hwpt);
+    drop_pins(table, pins, file, ioas);
+}
+
+/// Where the address space has no page table, the pins of its areas go. All others stay.
+fn drop_pins<A: Allocator>(
+    table: &ObjectTable<Held<A>, A>,
+    pins: &mut Vec<Pin, A>,
+    file: FileNo,
+    ioas: ObjId,
+)
+    ensures { pins.new.items ≡ filter (λ pin. not (is_unpinned (objects_in table.now) file ioas (areas_at table.now.rows file ioas) pin)) pins.old.items }
+{
+    if lookups::has_hwpt(table, file, ioas) {
+        return;
+    }
+    if let Some(areas) = lookups::areas_of(table, file, ioas) {
+        pins::drop_areas(pins, areas.iter().as_slice());
+    }
+}

@@ -1,0 +1,102 @@
+//! DeviceWrite: a device writes memory.
+
+ghost use Rattle.std.specs.Prelude.{◌≡◌, ℕ};
+ghost use Rattle.std.specs.Option.{option_map_or};
+ghost use Rattle.iofd_words.specs.Files as files;
+ghost use Rattle.iofd_words.specs.FirstTrue.{first_true};
+ghost use Rattle.iofd_words.specs.Pages.{crosses};
+ghost use Rattle.iofd_words.specs.Policy as policy;
+ghost use Rattle.iofd_words.specs.World.{World};
+ghost use Rattle.iofd_words.specs.declared.event.Event.TheVariants as event;
+ghost use Rattle.iommufd_core.specs.Refusals.{tests};
+ghost use Rattle.iommufd_core.specs.Step.{ChosenSteps};
+
+use crate::state::State;
+use crate::{access, bytes};
+use iofd_words::{
+    AccessKind, Burst, Cause, Config, DeviceNo, Fault, FaultReason, FrameNo, Iova, Reply, SourceId,
+};
+use std::alloc::Allocator;
+
+/// Why it is refused.
+#[tactic(auto, unfolding(crate::specs::Refusals::tests))]
+pub(crate) fn refusal<A: Allocator>(
+    state: &State<A>,
+    device: DeviceNo,
+    iova: Iova,
+    bytes: &Burst,
+) -> Option<Cause>
+    ensures { result ≡ first_true (tests state.now (event.DeviceWrite device iova bytes.now)) }
+{
+    if state.binding_of(device).is_none() {
+        return Some(Cause::Id);
+    }
+    if crosses(iova, bytes.as_slice().len()) {
+        return Some(Cause::Cross);
+    }
+    None
+}
+
+/// Whether so many bytes are none or more than 64, or leave the page.
+pub(crate) fn crosses(iova: Iova, len: usize) -> bool
+    ensures { result ≡ crosses iova.0 len }
+{
+    len == 0 || len > 64 || iova.0 % 4096 + len as u64 > 4096
+}
+
+/// How a denial is told.
+pub(crate) fn fault_of<A: Allocator>(
+    config: &Config<A>,
+    device: DeviceNo,
+    iova: Iova,
+    kind: AccessKind,
+    reason: FaultReason,
+) -> Fault
+    ensures { (w : World) → w.settings ≡ config.now → result ≡ policy.fault_of w device iova.0 kind reason }
+{
+    Fault {
+        source: source_of(config, device),
+        page: iova.0 / 4096,
+        kind,
+        reason,
+    }
+}
+
+fn source_of<A: Allocator>(config: &Config<A>, device: DeviceNo) -> SourceId
+    ensures { result ≡ option_map_or (λ d. d.source) (files.device_of config.now device) (record { 0 = 0 }) }
+{
+    if device.0 == 0 {
+        return SourceId(0);
+    }
+    match config.devices().get(device.0 as usize - 1) {
+        Some(settings) => settings.source(),
+        None => SourceId(0),
+    }
+}
+
+/// What it does where nothing refuses it. With a cached frame the write passes there; without one it passes
+/// where the policy lets it, and is denied while the device owes the area a flush.
+pub(crate) fn commit<A: Allocator>(
+    state: &mut State<A>,
+    device: DeviceNo,
+    iova: Iova,
+    bytes: &Burst,
+    via: Option<FrameNo>,
+) -> Reply
+    ensures { (at : ℕ) → ChosenSteps at (event.DeviceWrite device iova bytes.now) via state.old result state.new }
+{
+    match access::given(state, device, iova.0, AccessKind::Write, via) {
+        Ok(frame) => {
+            let start = bytes::start_of(frame) + iova.0 % 4096;
+            bytes::put(&mut state.frames, start, bytes.as_slice());
+            Reply::Passed(frame)
+        }
+        Err(reason) => Reply::Fault(fault_of(
+            &state.config,
+            device,
+            iova,
+            AccessKind::Write,
+            reason,
+        )),
+    }
+}

@@ -1,0 +1,70 @@
+//! Each event, refused or carried out.
+
+ghost use Rattle.std.specs.Prelude.{IfOk, OnErr};
+ghost use Rattle.iommufd_core.specs.Step.{Answered, ChosenSteps, IsRefusal, TidyShowsSame};
+
+use crate::state::State;
+use crate::{
+    attach, bind, close, destroy, detach, device_write, flush, ioas_alloc, map, unmap, user_map,
+};
+use iofd_words::{Act, Cause, Event, NoMemory, Refusal, Reply};
+use std::alloc::Allocator;
+
+/// Answers the event, at this position, and carries it out if nothing refuses it. An error leaves the world
+/// as it was.
+pub(crate) fn answer<A: Allocator + Copy>(
+    state: &mut State<A>,
+    at: u64,
+    act: &Act,
+) -> Result<Reply, NoMemory>
+    ensures ok { IfOk result (λ reply. Answered at act.now.event act.now.via state.old reply state.new) }
+    ensures err { OnErr result (TidyShowsSame at state.old state.new) }
+{
+    match refusal(state, &act.event) {
+        Some(cause) => Ok(Reply::Refused(Refusal { cause })),
+        None => commit(state, at, act),
+    }
+}
+
+/// Why the event is refused, if it is. It takes no memory.
+fn refusal<A: Allocator>(state: &State<A>, event: &Event) -> Option<Cause>
+    ensures { IsRefusal state.now event.now result }
+{
+    match event {
+        Event::IoasAlloc(file) => ioas_alloc::refusal(state, *file),
+        Event::Map(file, request) => map::refusal(state, *file, *request),
+        Event::Unmap(file, request) => unmap::refusal(state, *file, *request),
+        Event::Destroy(file, id) => destroy::refusal(state, *file, *id),
+        Event::Close(file) => close::refusal(state, *file),
+        Event::UserMap(user, va) => user_map::refusal(state, *user, *va),
+        Event::Bind(file, device) => bind::refusal(state, *file, *device),
+        Event::Attach(device, pt_id) => attach::refusal(state, *device, *pt_id),
+        Event::Detach(device) => detach::refusal(state, *device),
+        Event::Flush(device) => flush::refusal(state, *device),
+        Event::DeviceWrite(device, iova, bytes) => {
+            device_write::refusal(state, *device, *iova, bytes)
+        }
+    }
+}
+
+/// Carries out an event that nothing refuses, at this position. An error leaves the world as it was.
+fn commit<A: Allocator + Copy>(state: &mut State<A>, at: u64, act: &Act) -> Result<Reply, NoMemory>
+    ensures ok { IfOk result (λ reply. ChosenSteps at act.now.event act.now.via state.old reply state.new) }
+    ensures err { OnErr result (TidyShowsSame at state.old state.new) }
+{
+    match &act.event {
+        Event::IoasAlloc(file) => ioas_alloc::commit(state, *file),
+        Event::Map(file, request) => map::commit(state, at, *file, *request),
+        Event::Unmap(file, request) => unmap::commit(state, *file, *request),
+        Event::Destroy(file, id) => Ok(destroy::commit(state, *file, *id)),
+        Event::Close(file) => Ok(close::commit(state, *file)),
+        Event::UserMap(user, va) => user_map::commit(state, *user, *va),
+        Event::Bind(file, device) => bind::commit(state, *file, *device),
+        Event::Attach(device, pt_id) => attach::commit(state, *device, *pt_id),
+        Event::Detach(device) => Ok(detach::commit(state, *device)),
+        Event::Flush(device) => Ok(flush::commit(state, *device)),
+        Event::DeviceWrite(device, iova, bytes) => {
+            Ok(device_write::commit(state, *device, *iova, bytes, act.via))
+        }
+    }
+}

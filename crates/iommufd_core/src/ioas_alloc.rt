@@ -1,0 +1,45 @@
+//! IoasAlloc: a file gets a new address space.
+
+ghost use Rattle.std.specs.Prelude.{◌≡◌, ℕ, IfOk, OnErr};
+ghost use Rattle.iofd_words.specs.FirstTrue.{first_true};
+ghost use Rattle.iofd_words.specs.declared.event.Event.TheVariants as event;
+ghost use Rattle.iommufd_core.specs.Refusals.{tests};
+ghost use Rattle.iommufd_core.specs.Step.{ShowsSame, Steps};
+
+use crate::held::Held;
+use crate::state::State;
+use area_map::Areas;
+use iofd_words::{Cause, FileNo, NoMemory, Reply};
+use object_table::Kind;
+use std::alloc::Allocator;
+
+/// Why it is refused.
+#[tactic(auto, using(crate::proofs::ObjectsMoved::is_full_rows), unfolding(crate::specs::Refusals::tests))]
+pub(crate) fn refusal<A: Allocator>(state: &State<A>, file: FileNo) -> Option<Cause>
+    ensures { result ≡ first_true (tests state.now (event.IoasAlloc file)) }
+{
+    if !state.objects.is_open(file) {
+        return Some(Cause::Id);
+    }
+    if state.objects.is_full(file) {
+        return Some(Cause::Full);
+    }
+    None
+}
+
+/// What it does where nothing refuses it: the file has one more address space, with no areas, under an unused id.
+pub(crate) fn commit<A: Allocator + Copy>(
+    state: &mut State<A>,
+    file: FileNo,
+) -> Result<Reply, NoMemory>
+    ensures ok { IfOk result (λ reply. (at : ℕ) → Steps at (event.IoasAlloc file) state.old reply state.new) }
+    ensures err { OnErr result (ShowsSame state.old state.new) }
+{
+    // Nothing refuses the object: where there is no room for it, memory is short.
+    if state.objects.reserve(file).is_err() {
+        return Err(NoMemory);
+    }
+    let held = Held::Ioas(Areas::new(state.alloc));
+    let id = state.objects.insert_reserved(file, Kind::Ioas, held);
+    Ok(Reply::Id(id))
+}

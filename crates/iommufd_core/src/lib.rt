@@ -1,0 +1,33 @@
+//! The core of the server: one step of the policy at a time, and the history of all steps.
+#![tactic(auto)]
+
+mod access;
+mod apply;
+mod area_changes;
+mod attach;
+mod attachments;
+mod bind;
+mod bytes;
+mod close;
+mod destroy;
+mod detach;
+mod device_read;
+mod device_write;
+mod devices;
+mod events;
+mod flush;
+mod held;
+mod ioas_alloc;
+mod lookups;
+mod map;
+mod map_pins;
+mod memory_objects;
+mod opening;
+mod pages;
+mod pins;
+mod spaces;
+mod state;
+mod unmap;
+mod user_map;
+
+pub use apply::{Core, Stamp};
