@@ -1,4 +1,4 @@
--- Areas are of whole pages, attachments rise by device, and frames are of the pool.
+-- Areas are of whole pages, attachments rise by device, frames are of the pool, and objects and devices are known.
 use Rattle.std.proofs.Common.{◌≡◌, ℕ, ◌+◌, ◌<◌, ◌≤◌, ◌^◌, Bool, true, false, cond, ◌&&◌, not, eqb, ltb, is_some, Option, Some, None, List, [], ◌∷◌, refl, arith, ◌++◌, IsTrue}
 use Rattle.std.specs.List.{filter, list_all, find, filter_map, list_any}
 use Rattle.std.proofs.lemmas.Bool.Decides.{nat_tests}
@@ -10,7 +10,7 @@ use Rattle.iofd_words.specs.Checks.{attach_checks, checks, refusal}
 use Rattle.iofd_words.specs.Files.{user_of, device_of}
 use Rattle.iofd_words.specs.Fits.{RowsFit, devices_rise, is_of_pages}
 use Rattle.iofd_words.specs.Frames.{frame_at, is_free}
-use Rattle.iofd_words.specs.Objects.{binding_of}
+use Rattle.iofd_words.specs.Objects.{automatic_hwpt, binding_of}
 use Rattle.iofd_words.specs.Pages.{is_whole, is_above_user, page_of}
 use Rattle.iofd_words.specs.Pins.{ObjectPage, frame_now, is_page, pin_now, settled}
 use Rattle.iofd_words.specs.Settings.{DeviceSettings}
@@ -29,10 +29,12 @@ use Rattle.iofd_words.specs.declared.rows.Area.{Area}
 use Rattle.iofd_words.specs.declared.rows.Attachment.{Attachment}
 use Rattle.iofd_words.specs.declared.rows.MemoryObject.{MemoryObject}
 use Rattle.iofd_words.specs.declared.rows.Object.{Object}
+use Rattle.iofd_words.specs.declared.rows.ObjectKind.TheVariants as kind
 use Rattle.iofd_words.specs.declared.rows.Pin.{Pin}
 use Rattle.iofd_words.specs.declared.rows.UserPage.{UserPage}
 use Rattle.iofd_words.proofs.Bools.{or_false, and_true, both_true}
 use Rattle.iofd_words.proofs.Found.{all_filter, all_map, found_passes}
+use Rattle.iofd_words.proofs.Known.{alloc_open, attached_one, bind_device, bind_open, bound_known, is_known, known_closed, known_hwpt, known_one}
 use Rattle.iofd_words.proofs.Runs.{tests_false}
 
 -- ---- a span of a length has that many numbers
@@ -166,36 +168,39 @@ free_below pool pages pins frame free = (and_true (ltb frame pool) _ free).0
 
 pub keeps_fit : (at : ℕ) (w : World) (e : Event) (answer : Reply) → refusal w e ≡ None → Answers w e answer → RowsFit w → RowsFit (changed at w e answer)
 unfolding changed settle without_areas attached detached Answers
-keeps_fit at w (event.IoasAlloc file) (reply.Id id) none answers fits = record { pages = fits.pages; rise = fits.rise; user_frames = fits.user_frames; pin_frames = fits.pin_frames }
+keeps_fit at w (event.IoasAlloc file) (reply.Id id) none answers fits = record { pages = fits.pages; rise = fits.rise; user_frames = fits.user_frames; pin_frames = fits.pin_frames; known = known_one (is_known w.settings w.closed) (record { file = file; id = id; kind = kind.Ioas }) w.objects (both_true _ _ (alloc_open w file none) refl) fits.known; attached = fits.attached }
 keeps_fit at w (event.Map file request) (reply.Iova iova) none answers fits = mapped (user_of w.settings file)
   where
     mapped : (user : Option UserNo) → RowsFit (map_changes at w file request user)
     mapped None = fits
-    mapped (Some user) = record { pages = pages-with_area (mapped_area at file request) w.areas (mapped_pages at w file request none) fits.pages; rise = fits.rise; user_frames = fits.user_frames; pin_frames = settled_below w.settings.pool _ w.user_pages fits.user_frames _ _ w.pins fits.pin_frames }
-keeps_fit at w (event.Unmap file request) (reply.Bytes count) none answers fits = record { pages = all_filter is_of_pages _ w.areas fits.pages; rise = fits.rise; user_frames = fits.user_frames; pin_frames = settled_below w.settings.pool _ w.user_pages fits.user_frames _ _ w.pins fits.pin_frames }
-keeps_fit at w (event.Unmap file request) (reply.Pending errno) none answers fits = record { pages = all_map is_of_pages is_of_pages _ w.areas (λ area is. is) fits.pages; rise = fits.rise; user_frames = fits.user_frames; pin_frames = fits.pin_frames }
-keeps_fit at w (event.Destroy file id) reply.Done none answers fits = record { pages = all_filter is_of_pages _ w.areas fits.pages; rise = fits.rise; user_frames = fits.user_frames; pin_frames = settled_below w.settings.pool _ w.user_pages fits.user_frames _ _ w.pins fits.pin_frames }
-keeps_fit at w (event.Close file) reply.Done none answers fits = record { pages = all_filter is_of_pages _ w.areas fits.pages; rise = rise-filter _ w.attachments fits.rise; user_frames = fits.user_frames; pin_frames = settled_below w.settings.pool _ w.user_pages fits.user_frames _ _ w.pins fits.pin_frames }
+    mapped (Some user) = record { pages = pages-with_area (mapped_area at file request) w.areas (mapped_pages at w file request none) fits.pages; rise = fits.rise; user_frames = fits.user_frames; pin_frames = settled_below w.settings.pool _ w.user_pages fits.user_frames _ _ w.pins fits.pin_frames; known = fits.known; attached = fits.attached }
+keeps_fit at w (event.Unmap file request) (reply.Bytes count) none answers fits = record { pages = all_filter is_of_pages _ w.areas fits.pages; rise = fits.rise; user_frames = fits.user_frames; pin_frames = settled_below w.settings.pool _ w.user_pages fits.user_frames _ _ w.pins fits.pin_frames; known = fits.known; attached = fits.attached }
+keeps_fit at w (event.Unmap file request) (reply.Pending errno) none answers fits = record { pages = all_map is_of_pages is_of_pages _ w.areas (λ area is. is) fits.pages; rise = fits.rise; user_frames = fits.user_frames; pin_frames = fits.pin_frames; known = fits.known; attached = fits.attached }
+keeps_fit at w (event.Destroy file id) reply.Done none answers fits = record { pages = all_filter is_of_pages _ w.areas fits.pages; rise = fits.rise; user_frames = fits.user_frames; pin_frames = settled_below w.settings.pool _ w.user_pages fits.user_frames _ _ w.pins fits.pin_frames; known = all_filter (is_known w.settings w.closed) _ w.objects fits.known; attached = fits.attached }
+keeps_fit at w (event.Close file) reply.Done none answers fits = record { pages = all_filter is_of_pages _ w.areas fits.pages; rise = rise-filter _ w.attachments fits.rise; user_frames = fits.user_frames; pin_frames = settled_below w.settings.pool _ w.user_pages fits.user_frames _ _ w.pins fits.pin_frames; known = known_closed w.settings w.closed file w.objects fits.known; attached = all_filter _ _ w.attachments fits.attached }
 keeps_fit at w (event.UserMap user va) (reply.Frame frame) none answers fits =
     record {
       pages = fits.pages;
       rise = fits.rise;
       user_frames = all_both (λ (p : UserPage). ltb p.frame.0 w.settings.pool) w.user_pages _ fits.user_frames (both_true _ _ (free_below w.settings.pool w.user_pages w.pins frame.0 answers) refl);
       pin_frames = fits.pin_frames;
+      known = fits.known;
+      attached = fits.attached;
     }
-keeps_fit at w (event.Bind file device) (reply.Id id) none answers fits = record { pages = fits.pages; rise = fits.rise; user_frames = fits.user_frames; pin_frames = fits.pin_frames }
+keeps_fit at w (event.Bind file device) (reply.Id id) none answers fits = record { pages = fits.pages; rise = fits.rise; user_frames = fits.user_frames; pin_frames = fits.pin_frames; known = known_one (is_known w.settings w.closed) (record { file = file; id = id; kind = kind.Device device }) w.objects (both_true _ _ (bind_open w file device none) (bind_device w file device none)) fits.known; attached = fits.attached }
 keeps_fit at w (event.Attach device pt_id) (reply.Id id) none answers fits = bound (binding_of w.objects device) refl (device_of w.settings device)
   where
     bound : (object : Option Object) → binding_of w.objects device ≡ object → (settings : Option DeviceSettings) → RowsFit (attach_changes w device pt_id id object settings)
     bound None is settings = fits
     bound (Some object) is None = fits
     bound (Some object) is (Some settings) =
-        record { pages = all_map is_of_pages is_of_pages _ w.areas (λ area is. is) fits.pages; rise = rise-with_attachment (record { device = device; file = object.file; hwpt = id }) w.attachments (attach_free w device object pt_id is none) fits.rise; user_frames = fits.user_frames; pin_frames = settled_below w.settings.pool _ w.user_pages fits.user_frames _ _ w.pins fits.pin_frames }
+        let here = bound_known w.settings w.closed w.objects device object fits.known is in
+        record { pages = all_map is_of_pages is_of_pages _ w.areas (λ area is. is) fits.pages; rise = rise-with_attachment (record { device = device; file = object.file; hwpt = id }) w.attachments (attach_free w device object pt_id is none) fits.rise; user_frames = fits.user_frames; pin_frames = settled_below w.settings.pool _ w.user_pages fits.user_frames _ _ w.pins fits.pin_frames; known = known_hwpt w.settings w.closed object.file pt_id id settings.width (automatic_hwpt w.objects object.file pt_id settings.width) w.objects here.0 fits.known; attached = attached_one w.settings (record { device = device; file = object.file; hwpt = id }) w.attachments here.1 fits.attached }
 keeps_fit at w (event.Detach device) reply.Done none answers fits = attached_or_not (attachment_of w.attachments device)
   where
     attached_or_not : (a : Option Attachment) → RowsFit (detach_changes w device a)
     attached_or_not None = fits
-    attached_or_not (Some a) = record { pages = all_map is_of_pages is_of_pages _ w.areas (λ area is. is) fits.pages; rise = rise-filter _ w.attachments fits.rise; user_frames = fits.user_frames; pin_frames = settled_below w.settings.pool _ w.user_pages fits.user_frames _ _ w.pins fits.pin_frames }
-keeps_fit at w (event.Flush device) reply.Done none answers fits = record { pages = all_map is_of_pages is_of_pages _ w.areas (λ area is. is) fits.pages; rise = fits.rise; user_frames = fits.user_frames; pin_frames = fits.pin_frames }
-keeps_fit at w (event.DeviceWrite device iova bytes) (reply.Passed frame) none answers fits = record { pages = fits.pages; rise = fits.rise; user_frames = fits.user_frames; pin_frames = fits.pin_frames }
+    attached_or_not (Some a) = record { pages = all_map is_of_pages is_of_pages _ w.areas (λ area is. is) fits.pages; rise = rise-filter _ w.attachments fits.rise; user_frames = fits.user_frames; pin_frames = settled_below w.settings.pool _ w.user_pages fits.user_frames _ _ w.pins fits.pin_frames; known = all_filter (is_known w.settings w.closed) _ w.objects fits.known; attached = all_filter _ _ w.attachments fits.attached }
+keeps_fit at w (event.Flush device) reply.Done none answers fits = record { pages = all_map is_of_pages is_of_pages _ w.areas (λ area is. is) fits.pages; rise = fits.rise; user_frames = fits.user_frames; pin_frames = fits.pin_frames; known = fits.known; attached = fits.attached }
+keeps_fit at w (event.DeviceWrite device iova bytes) (reply.Passed frame) none answers fits = record { pages = fits.pages; rise = fits.rise; user_frames = fits.user_frames; pin_frames = fits.pin_frames; known = fits.known; attached = fits.attached }
 keeps_fit at w e answer none answers fits = fits

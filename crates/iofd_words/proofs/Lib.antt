@@ -12,6 +12,7 @@ pub mod KeepsBound
 pub mod KeepsDebts
 pub mod KeepsFits
 pub mod KeepsPins
+pub mod Known
 pub mod ListTests
 pub mod MappedPages
 pub mod Members

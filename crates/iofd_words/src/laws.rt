@@ -50,7 +50,8 @@ pub fn pins_are_those_of_pinned_pages<A: Allocator>()
 {}
 
 /// In every run, each area is of whole pages and no longer than a user's memory, attachments rise by device, and
-/// users and pins have frames of the pool.
+/// users and pins have frames of the pool. Each object is of an open file, and each bound or attached device is one
+/// of the settings.
 pub fn rows_fit<A: Allocator>()
     ensures { (settings : Settings) (records : List (Record A)) → IsRun settings records →
         RowsFit (world_of settings records) }

@@ -110,7 +110,8 @@ fn configurations(rt: HostRuntime) -> Result<(), Fail> {
     let files = [UserNo(1), UserNo(1)].to_vec(rt.alloc())?;
     let config = Config::new(8, users, files, one_device(reserved, &rt)?, 1);
     assert!(rt; config.is_ok());
-    if let Ok(config) = config {
+    if let Ok(given) = config {
+        let config = given.copied(rt.alloc())?;
         assert_eq!(rt; config.pool(), 8);
         assert_eq!(rt; config.passes(), 1);
         assert!(rt; config.users() == [4].as_slice());

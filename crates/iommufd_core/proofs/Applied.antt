@@ -1,5 +1,5 @@
 -- What applying an event makes of what a core keeps.
-use Rattle.std.proofs.Common.{◌≡◌, ℕ, zero, suc, ◌<◌, Bool, true, false, ◌&&◌, ◌||◌, cond, eqb, is_none, Option, Some, None, List, [], ◌∷◌, ◌++◌, length, Contains, refl, sym, ◌∙◌, ap, subst, arith}
+use Rattle.std.proofs.Common.{◌≡◌, ℕ, suc, Bool, true, false, ◌||◌, eqb, is_none, Option, Some, None, List, [], ◌∷◌, ◌++◌, length, Contains, refl, sym, ◌∙◌, ap, subst, arith}
 use Rattle.std.specs.List.{list_any}
 use Rattle.std.proofs.lemmas.Bool.Decides.{nat_tests}
 use Rattle.iofd_words.proofs.Bools.{and_true}
@@ -9,8 +9,8 @@ use Rattle.iofd_words.specs.Checks.{refusal}
 use Rattle.iofd_words.specs.Files.{user_of, device_of}
 use Rattle.iofd_words.specs.Objects.{binding_of}
 use Rattle.iofd_words.specs.Policy.{Outcome, Passes, Denied, outcomes}
-use Rattle.iofd_words.specs.Run.{IsRun, Lawful, after, after_answer, world_of}
-use Rattle.iofd_words.specs.Settings.{Settings, DeviceSettings}
+use Rattle.iofd_words.specs.Run.{Lawful, after, after_answer, world_of}
+use Rattle.iofd_words.specs.Settings.{DeviceSettings}
 use Rattle.iofd_words.specs.World.{World}
 use Rattle.iofd_words.specs.declared.event.Event.{Event}
 use Rattle.iofd_words.specs.declared.event.Event.TheVariants as event
@@ -26,10 +26,10 @@ use Rattle.iofd_words.specs.declared.rows.Attachment.{Attachment}
 use Rattle.iofd_words.specs.declared.rows.Object.{Object}
 use Rattle.iommufd_core.proofs.Histories.{run_more, tidy_run, world_more}
 use Rattle.iommufd_core.specs.Choice.{IsChosen, MayUse}
-use Rattle.iommufd_core.specs.History.{History, is_pass_at, may_apply, passes_in, recorded, world}
+use Rattle.iommufd_core.specs.History.{History, is_pass_at, may_apply, recorded, world}
 use Rattle.iommufd_core.specs.Kept.{IsKept}
 use Rattle.iommufd_core.specs.Shows.{Shows}
-use Rattle.iommufd_core.specs.Step.{Answered, IsTidy, TidyShowsSame}
+use Rattle.iommufd_core.specs.Step.{Answered, TidyShowsSame}
 use Rattle.iommufd_core.specs.declared.state.State.{State}
 
 -- ---- no event changes what the core was opened with

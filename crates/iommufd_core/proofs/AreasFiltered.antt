@@ -1,6 +1,6 @@
 -- The areas of one address space, taken from all areas: what tests of them tell.
-use Rattle.std.proofs.Common.{◌≡◌, ℕ, Bool, true, false, cond, ◌&&◌, not, eqb, ltb, List, [], ◌∷◌, length, refl, ap, sym, ◌∙◌, arith}
-use Rattle.std.specs.List.{filter, list_any}
+use Rattle.std.proofs.Common.{◌≡◌, Bool, true, false, cond, ◌&&◌, not, eqb, ltb, List, [], ◌∷◌, length, refl, ap, sym, arith}
+use Rattle.std.specs.List.{list_any}
 use Rattle.std.proofs.lemmas.Bool.Decides.{nat_tests}
 use Rattle.area_map.specs.Areas.{areas_meet, is_cut}
 use Rattle.area_map.specs.Areas as own
@@ -8,7 +8,7 @@ use Rattle.iofd_words.proofs.ListTests.{any-filter}
 use Rattle.iofd_words.specs.Areas.{areas_of, is_of, meets_area, is_touched, touched, unmapped_span}
 use Rattle.iofd_words.specs.Areas as world
 use Rattle.iofd_words.specs.Bounds.{Bounds}
-use Rattle.iofd_words.specs.Span.{lies_in, meets}
+use Rattle.iofd_words.specs.Span.{meets}
 use Rattle.iofd_words.specs.declared.event.UnmapRequest.{UnmapRequest}
 use Rattle.iofd_words.specs.declared.numbers.FileNo.{FileNo}
 use Rattle.iofd_words.specs.declared.numbers.ObjId.{ObjId}

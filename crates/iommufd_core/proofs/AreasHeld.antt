@@ -1,11 +1,11 @@
 -- What a change of one address space's areas leaves as it was.
-use Rattle.std.proofs.Common.{◌≡◌, ℕ, Bool, true, false, cond, ◌&&◌, ◌||◌, not, eqb, Option, Some, None, List, [], ◌∷◌, map, refl, sym, ◌∙◌, ap, arith}
-use Rattle.std.specs.List.{find, filter, list_all, list_any}
+use Rattle.std.proofs.Common.{◌≡◌, Bool, true, false, cond, ◌&&◌, not, eqb, Option, Some, None, List, [], ◌∷◌, map, refl, sym, ◌∙◌, ap, arith}
+use Rattle.std.specs.List.{find, list_all, list_any}
 use Rattle.std.specs.Option.{option_map}
 use Rattle.std.proofs.lemmas.Bool.Decides.{nat_tests}
-use Rattle.iofd_words.proofs.Bools.{or_false, and_true, both_true, not_true}
+use Rattle.iofd_words.proofs.Bools.{and_true, not_true}
 use Rattle.iofd_words.specs.Laws.{have_own_ids}
-use Rattle.iofd_words.specs.Objects.{is_object}
+use Rattle.iofd_words.specs.Objects.{has_ioas, is_ioas, is_object, kind_of}
 use Rattle.iofd_words.specs.declared.numbers.FileNo.{FileNo}
 use Rattle.iofd_words.specs.declared.numbers.ObjId.{ObjId}
 use Rattle.iofd_words.specs.declared.rows.Area.{Area}
@@ -14,7 +14,7 @@ use Rattle.iommufd_core.specs.Held.{is_proper, areas_at, areas_in, kind_in, obje
 use Rattle.iommufd_core.specs.Spaces.{IsOrderly, IsWith, HasAreas, is_space}
 use Rattle.iommufd_core.specs.declared.held.Held.{Held}
 use Rattle.iommufd_core.specs.declared.held.Held.TheVariants as held
-use Rattle.iommufd_core.proofs.Objects.{areas_at_rows, areas_of_held}
+use Rattle.iommufd_core.proofs.Objects.{areas_at_rows, areas_of_held, kind_at, kind_of_rows}
 use Rattle.object_table.specs.Table.{Row, Table, is_at, is_own, is_same_kind, changed_at, with_value, own}
 use Rattle.object_table.specs.declared.kind.Kind.{Kind}
 use Rattle.object_table.specs.declared.kind.Kind.TheVariants as tablekind
@@ -167,3 +167,35 @@ module _ {A : Type 0} where
   rewritten change table file kind ioas old new found with orderly =
       let same = areas_found table file kind ioas old orderly found in
       written table file kind ioas old new (change (areas_at table.rows file ioas)) orderly found (record { kind = with.kind; has = with.has ∙ ap change (sym same) })
+
+  -- ---- whether there is such an address space
+
+  -- what the object is that was found
+  kind_found : (table : Table (Held A)) (file : FileNo) (kind : Kind) (ioas : ObjId) (old : Held A) → IsOrderly table → option_map (λ (row : Row (Held A)). row.value) (own table file kind ioas) ≡ Some old → kind_of (objects_in table) file ioas ≡ Some (kind_in old)
+  kind_found table file kind ioas old orderly found = kind_of_rows table.rows file ioas ∙ ap kind_at (own_is_first table.rows file kind ioas old orderly.ids found)
+
+  pub space_found : (table : Table (Held A)) (file : FileNo) (kind : Kind) (ioas : ObjId) (old : Held A) → IsOrderly table → option_map (λ (row : Row (Held A)). row.value) (own table file kind ioas) ≡ Some old → has_ioas (objects_in table) file ioas ≡ true → is_ioas (kind_in old) ≡ true
+  space_found table file kind ioas old orderly found has = rw (kind_found table file kind ioas old orderly found, has_ioas) at has
+
+  no_ioas : (row : Row (Held A)) (held : Held A) → row.value ≡ held → is_proper row ≡ true → is_same_kind row.kind tablekind.Ioas ≡ false → is_ioas (kind_in held) ≡ false
+  no_ioas row (held.Ioas areas) is proper other =
+      let parts = and_true (is_same_kind row.kind (table_kind (kind_in row.value))) (eqb row.users 0) proper in
+      let same : is_same_kind row.kind tablekind.Ioas ≡ true = rw is at parts.0 in
+      cc
+  no_ioas row (held.Hwpt ioas width automatic) is proper other = refl
+  no_ioas row (held.Device device) is proper other = refl
+
+  none_held : (rows : List (Row (Held A))) (file : FileNo) (ioas : ObjId) → list_all is_proper rows ≡ true → find (is_own file tablekind.Ioas ioas) rows ≡ None → has_ioas (map object_of rows) file ioas ≡ false
+  none_held [] file ioas proper none = refl
+  none_held (row ∷ rows) file ioas proper none =
+      let propers = and_true (is_proper row) (list_all is_proper rows) proper in
+      by_tests (is_at file ioas row) (is_same_kind row.kind tablekind.Ioas) refl refl none propers.0 (λ later. none_held rows file ioas propers.1 later)
+    where
+      by_tests : (b k : Bool) → is_at file ioas row ≡ b → is_same_kind row.kind tablekind.Ioas ≡ k → cond (b && k) (Some row) (find (is_own file tablekind.Ioas ioas) rows) ≡ None → is_proper row ≡ true
+          → (find (is_own file tablekind.Ioas ioas) rows ≡ None → has_ioas (map object_of rows) file ioas ≡ false) → has_ioas (map object_of (row ∷ rows)) file ioas ≡ false
+      by_tests true true is kind none proper later = cc
+      by_tests true false is kind none proper later = rw (has_ioas, is) (no_ioas row row.value refl proper kind)
+      by_tests false k is kind none proper later = rw (has_ioas, is) (later none)
+
+  pub space_absent : (table : Table (Held A)) (file : FileNo) (ioas : ObjId) → IsOrderly table → own table file tablekind.Ioas ioas ≡ None → has_ioas (objects_in table) file ioas ≡ true → ⊥
+  space_absent table file ioas orderly found has = let none = none_held table.rows file ioas orderly.proper found in cc

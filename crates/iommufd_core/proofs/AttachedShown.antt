@@ -36,7 +36,7 @@ use Rattle.iommufd_core.specs.declared.state.State.{State}
 use Rattle.iommufd_core.proofs.Attached.{hwpt_object, never_unbound, pins_grown, was_unattached}
 use Rattle.iommufd_core.proofs.Detached.{all_pinned}
 use Rattle.iommufd_core.proofs.Objects.{kind_at, kind_of_rows}
-use Rattle.iommufd_core.proofs.TableRows.{areas_inserted, objects_inserted, proper_inserted}
+use Rattle.iommufd_core.proofs.ObjectsMoved.{areas-inserted, objects-inserted, proper-inserted}
 use Rattle.object_table.specs.Table.{Row, Table, inserted, is_at, row_at}
 use Rattle.object_table.specs.declared.kind.Kind.TheVariants as of_kind
 
@@ -153,9 +153,9 @@ module _ {A : Type 0} where
       rw (shows.pins, shows.memory, shows.user_pages, ← newly) pins in
       joined at w (record s { objects = new.objects; attachments = new.attachments; pins = new.pins }) device pt_id id bound width None binding_w (ap (λ settings. width_of settings device) shows.settings ∙ wide) absent (fresh_id w s bound.file id shows above below free_s) (record {
         settings = shows.settings;
-        objects = ap (with_object (hwpt_object bound.file pt_id id width)) shows.objects ∙ sym (objects_inserted (new_row bound.file pt_id id width) s.objects.rows) ∙ ap (map object_of) (sym rows_s);
-        proper = ap (list_all is_proper) rows_s ∙ proper_inserted (new_row bound.file pt_id id width) s.objects.rows refl shows.proper;
-        areas = λ f i. ap (λ (areas : List Area). areas_of areas f i) paid ∙ shows.areas f i ∙ sym (areas_inserted (new_row bound.file pt_id id width) s.objects.rows refl free_s f i) ∙ ap (λ rows. areas_at rows f i) (sym rows_s);
+        objects = ap (with_object (hwpt_object bound.file pt_id id width)) shows.objects ∙ sym (objects-inserted (new_row bound.file pt_id id width) s.objects.rows) ∙ ap (map object_of) (sym rows_s);
+        proper = ap (list_all is_proper) rows_s ∙ proper-inserted (new_row bound.file pt_id id width) s.objects.rows refl shows.proper;
+        areas = λ f i. ap (λ (areas : List Area). areas_of areas f i) paid ∙ shows.areas f i ∙ sym (areas-inserted (new_row bound.file pt_id id width) s.objects.rows f i refl free_s) ∙ ap (λ rows. areas_at rows f i) (sym rows_s);
         files = λ number. rw files_s (shows.files number);
         bindings = λ d. find-with_object (λ (object : Object). is_bound_as d object.kind) (hwpt_object bound.file pt_id id width) w.objects refl ∙ shows.bindings d;
         attachments = ap (with_attachment (record { device = device; file = bound.file; hwpt = id })) shows.attachments ∙ sym added;

@@ -1,10 +1,9 @@
 -- The refusals by what is kept are those of the world that is shown.
-use Rattle.std.proofs.Common.{◌≡◌, Option, is_none, ◌∷◌, [], length, List, ℕ, refl, ap, sym, ◌∙◌}
+use Rattle.std.proofs.Common.{◌≡◌, Option, List, ℕ, refl, ap, sym, ◌∙◌}
 use Rattle.iofd_words.specs.Checks.{checks, refusal}
 use Rattle.iofd_words.specs.FirstTrue.{first_true}
 use Rattle.iofd_words.specs.declared.event.Event.{Event}
 use Rattle.iofd_words.specs.declared.refusal.Cause.{Cause}
-use Rattle.iofd_words.specs.Pages.{crosses}
 use Rattle.iofd_words.specs.World.{World}
 use Rattle.iofd_words.specs.declared.event.Event.TheVariants as event
 use Rattle.iofd_words.specs.declared.numbers.DeviceNo.{DeviceNo}

@@ -29,7 +29,8 @@ use Rattle.iommufd_core.specs.declared.held.Held.{Held}
 use Rattle.iommufd_core.specs.declared.state.State.{State}
 use Rattle.iommufd_core.proofs.Detached.{all_pinned, bindings_stay, left_of, none_goes, one_goes, unpinned}
 use Rattle.iommufd_core.proofs.Flushed.{attached_to, shows_paid, unattached}
-use Rattle.iommufd_core.proofs.TableRows.{areas_removed, destroyable, objects_removed}
+use Rattle.iommufd_core.proofs.ObjectsGone.{objects-removed}
+use Rattle.iommufd_core.proofs.TableRows.{areas_removed, destroyable}
 use Rattle.object_table.specs.Table.{Table, destroy_refusal, is_at, removed}
 use Rattle.object_table.specs.declared.kind.Kind.TheVariants as of_kind
 
@@ -122,7 +123,7 @@ module _ {A : Type 0} where
       let kind_table : kind_of (objects_in table) a.file a.hwpt ≡ Some (kind.Hwpt ioas width automatic) = sym (ap (λ (objects : List Object). kind_of objects a.file a.hwpt) paid_shown.objects) ∙ kind_w in
       let rows : new.objects.rows ≡ removed a.file a.hwpt table.rows = dropped (destroyable table a.file a.hwpt ioas width automatic paid_shown.proper kind_table) in
       let objects : left_of (without_attachment device w.attachments) a w.objects ≡ map object_of new.objects.rows =
-      left ∙ ap (without_object a.file a.hwpt) paid_shown.objects ∙ sym (objects_removed table.rows a.file a.hwpt) ∙ ap (map object_of) (sym rows) in
+      left ∙ ap (without_object a.file a.hwpt) paid_shown.objects ∙ sym (objects-removed table.rows a.file a.hwpt) ∙ ap (map object_of) (sym rows) in
       let areas : (f : FileNo) (i : ObjId) → areas_of (all_paid device w.areas) f i ≡ areas_at new.objects.rows f i =
       λ f i. paid_shown.areas f i ∙ sym (areas_removed table.rows a.file a.hwpt ioas width automatic kind_table f i) ∙ ap (λ rows. areas_at rows f i) (sym rows) in
       let here : areas_at new.objects.rows a.file ioas ≡ all_paid device (areas_of w.areas a.file ioas) = sym (areas a.file ioas) ∙ paid_areas_of device w.areas a.file ioas in

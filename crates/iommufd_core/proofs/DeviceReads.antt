@@ -1,5 +1,5 @@
 -- What a device's read is answered.
-use Rattle.std.proofs.Common.{◌≡◌, ℕ, zero, suc, ◌+◌, ◌*◌, ◌<◌, ◌≤◌, Bool, true, false, cond, Option, Some, None, is_none, is_some, List, [], ◌∷◌, map, length, take, drop, get_or, Contains, refl, sym, ◌∙◌, ap, arith}
+use Rattle.std.proofs.Common.{◌≡◌, ℕ, zero, suc, ◌+◌, ◌*◌, ◌<◌, ◌≤◌, Some, None, List, [], ◌∷◌, map, length, take, drop, get_or, Contains, refl, sym, ◌∙◌, ap, arith}
 use Rattle.std.specs.List.{range_with_len}
 use Rattle.iofd_words.specs.FirstTrue.{first_true}
 use Rattle.iofd_words.specs.Frames.{FrameWrite, byte_at}
@@ -9,9 +9,7 @@ use Rattle.iofd_words.specs.World.{World}
 use Rattle.iofd_words.specs.declared.fault.AccessKind.TheVariants.{Read}
 use Rattle.iofd_words.specs.declared.numbers.DeviceNo.{DeviceNo}
 use Rattle.iofd_words.specs.declared.numbers.Iova.{Iova}
-use Rattle.iofd_words.specs.declared.query.Answer.{Answer}
 use Rattle.iofd_words.specs.declared.query.Answer.TheVariants as answer
-use Rattle.iofd_words.specs.declared.query.Query.{Query}
 use Rattle.iofd_words.specs.declared.query.Query.TheVariants as query
 use Rattle.iofd_words.specs.declared.refusal.Cause.{Cause}
 use Rattle.iommufd_core.proofs.BytesShown.{AreShown}

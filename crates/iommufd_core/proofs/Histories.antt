@@ -1,10 +1,9 @@
 -- What one more record makes of a run.
-use Rattle.std.proofs.Common.{◌≡◌, ℕ, zero, suc, ◌+◌, true, List, [], ◌∷◌, ◌++◌, length, refl, sym, ◌∙◌, ap, subst, arith}
+use Rattle.std.proofs.Common.{◌≡◌, ℕ, suc, ◌+◌, List, [], ◌∷◌, ◌++◌, length, refl, arith}
 use Rattle.iofd_words.proofs.KeepsDebts.{IsSound, keeps_sound}
 use Rattle.iofd_words.proofs.KeepsFits.{keeps_fit}
 use Rattle.iofd_words.proofs.KeepsPins.{opening_pinned, later_pinned, keeps_pins}
 use Rattle.iofd_words.proofs.Runs.{run_keeps, run_keeps_at}
-use Rattle.iofd_words.specs.After.{changed, settle, without_areas, attached, detached, map_changes, attach_changes, detach_changes}
 use Rattle.iofd_words.specs.Fits.{RowsFit}
 use Rattle.iofd_words.specs.Pinned.{ArePinned}
 use Rattle.iofd_words.specs.Run.{IsRun, IsRunFrom, Lawful, after, world_from, world_of}
@@ -34,6 +33,6 @@ module _ {A : Type 0} where
   unfolding IsRun world_of
   tidy_run settings records run =
       let sound = run_keeps IsSound keeps_sound 0 (opening settings) records run (record { own_ids = refl; debts = record { once = refl; debtors = refl; tables = refl; spaces = refl; areas = refl } }) in
-      let fit = run_keeps RowsFit keeps_fit 0 (opening settings) records run (record { pages = refl; rise = refl; user_frames = refl; pin_frames = refl }) in
+      let fit = run_keeps RowsFit keeps_fit 0 (opening settings) records run (record { pages = refl; rise = refl; user_frames = refl; pin_frames = refl; known = refl; attached = refl }) in
       let pins = run_keeps_at ArePinned later_pinned keeps_pins 0 (length records) (opening settings) records (omega arith) run (opening_pinned settings) in
       record { pins = pins; debts = sound.debts; ids = sound.own_ids; fit = fit }

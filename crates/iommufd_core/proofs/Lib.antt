@@ -21,6 +21,7 @@ pub mod Histories
 pub mod MapPins
 pub mod MapTests
 pub mod Mapped
+pub mod NeverRefused
 pub mod NewPins
 pub mod ObjectTests
 pub mod Objects

@@ -1,7 +1,8 @@
 -- The world after a MAP is shown.
-use Rattle.std.proofs.Common.{◌≡◌, ℕ, ◌<◌, ◌/◌, Bool, true, false, cond, ◌&&◌, ◌||◌, not, eqb, Option, Some, None, is_some, Vec, List, [], ◌∷◌, ◌++◌, refl, sym, ◌∙◌, ap, arith}
+use Rattle.std.proofs.Common.{◌≡◌, ℕ, ◌<◌, ◌/◌, Bool, true, false, cond, leb, length, ◌&&◌, ◌||◌, not, eqb, Option, Some, None, is_some, Vec, List, [], ◌∷◌, ◌++◌, refl, sym, ◌∙◌, ap, arith}
 use Rattle.std.proofs.lemmas.Bool.Decides.{nat_tests}
 use Rattle.area_map.specs.Areas as own
+use Rattle.area_map.specs.Insertion.{insert_refusal}
 use Rattle.std.specs.List.{list_any}
 use Rattle.iofd_words.proofs.Bools.{and_true, or_false}
 use Rattle.iofd_words.proofs.Named.{file_is, id_is}
@@ -12,7 +13,9 @@ use Rattle.iofd_words.specs.Areas.{areas_of, is_of}
 use Rattle.iofd_words.specs.Areas as world
 use Rattle.iofd_words.specs.Files.{is_open, user_of}
 use Rattle.iofd_words.specs.Pages.{is_above_sum, is_whole}
-use Rattle.iofd_words.specs.Objects.{has_hwpt}
+use Rattle.iofd_words.specs.FirstTrue.{first_true}
+use Rattle.iofd_words.specs.Objects.{has_hwpt, has_ioas}
+use Rattle.iofd_words.specs.Span.{span_from}
 use Rattle.iofd_words.specs.World.{World}
 use Rattle.iofd_words.specs.declared.event.Event.TheVariants as event
 use Rattle.iofd_words.specs.declared.event.MapRequest.{MapRequest}
@@ -25,10 +28,13 @@ use Rattle.iofd_words.specs.declared.rows.MemoryObject.{MemoryObject}
 use Rattle.iofd_words.specs.declared.rows.Object.{Object}
 use Rattle.iofd_words.specs.declared.rows.Pin.{Pin}
 use Rattle.iofd_words.specs.declared.rows.UserPage.{UserPage}
+use Rattle.iommufd_core.proofs.Flushed.{orderly}
 use Rattle.iommufd_core.proofs.AreasFiltered.{with_area_own, with_area_other}
 use Rattle.iommufd_core.proofs.MapPins.{mapped_pins}
+use Rattle.iommufd_core.proofs.MapTests.{map_tests}
 use Rattle.iommufd_core.specs.Held.{areas_at, objects_in}
 use Rattle.iommufd_core.specs.Mapping.{first_pins}
+use Rattle.iommufd_core.specs.Refusals.{tests}
 use Rattle.iommufd_core.specs.Shows.{Shows}
 use Rattle.iommufd_core.specs.Spaces.{HasAreas, IsOrderly, is_space}
 use Rattle.iommufd_core.specs.Step.{IsTidy}
@@ -41,9 +47,6 @@ not_of : (area : Area) (f : FileNo) (i : ObjId) → is_space area.file area.ioas
 not_of area f i other = grind (arith, nat_tests)
 
 module _ {A : Type 0} where
-  pub orderly : (at : ℕ) (w : World) (s : State A) → IsTidy at w → Shows w s → IsOrderly s.objects
-  orderly at w s tidy shows = record { proper = shows.proper; ids = rw shows.objects at tidy.ids }
-
   -- what is made of the areas of one address space, where no other area changes
   pub areas_become : (areas : List Area) (w : World) (s : State A) (file : FileNo) (ioas : ObjId) (after : List Area) (table : Table (Held A)) → Shows w s → HasAreas file ioas after s.objects table
       → areas_of areas file ioas ≡ after
@@ -132,3 +135,21 @@ module _ (w : World) (file : FileNo) (request : MapRequest) (none : refusal w (e
       let told = some sums.1 in
       let here = rw (lacks, aligned) at told in
       cc
+
+-- its address space takes the area
+module _ {A : Type 0} (w : World) (s : State A) (file : FileNo) (request : MapRequest) (shows : Shows w s) (none : refusal w (event.Map file request) ≡ None) where
+  passed : first_true (tests s (event.Map file request)) ≡ None
+  unfolding refusal
+  passed = rw (map_tests w s file shows request) none
+
+  opposite : (b : Bool) → not b ≡ false → b ≡ true
+  opposite true is = refl
+  opposite false is = cc
+
+  pub area_taken : (at : ℕ) {X : Type 0} → (has_ioas (objects_in s.objects) file request.ioas ≡ true → insert_refusal (mapped_area at file request).span (areas_at s.objects.rows file request.ioas) ≡ None → X) → X
+  unfolding tests
+  area_taken at result =
+      let space = opposite _ (tests_false (tests s (event.Map file request)) 6 passed) in
+      let apart : own.areas_meet (span_from request.iova.0 request.length) (areas_at s.objects.rows file request.ioas) ≡ false = tests_false (tests s (event.Map file request)) 7 passed in
+      let roomy : leb 65535 (length (areas_at s.objects.rows file request.ioas)) ≡ false = tests_false (tests s (event.Map file request)) 8 passed in
+      result space (rw (apart, roomy) refl)

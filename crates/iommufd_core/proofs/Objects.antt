@@ -1,19 +1,19 @@
 -- The objects of the world that a table has.
-use Rattle.std.proofs.Common.{◌≡◌, ℕ, Bool, true, false, ◌&&◌, eqb, Option, Some, None, List, [], ◌∷◌, map, find, refl, sym, ◌∙◌, arith}
+use Rattle.std.proofs.Common.{◌≡◌, Bool, false, Option, Some, None, List, [], ◌∷◌, map, find, refl, sym, ◌∙◌, arith}
 use Rattle.std.specs.List.{filter, list_any}
 use Rattle.std.specs.Option.{option_map}
 use Rattle.std.proofs.lemmas.Bool.Decides.{nat_tests}
-use Rattle.iofd_words.specs.Objects.{is_object, is_ioas, is_hwpt_over, is_automatic_over, kind_of, has_ioas, has_hwpt, automatic_hwpt}
+use Rattle.iofd_words.specs.Objects.{is_ioas, is_hwpt_over, is_automatic_over, kind_of, has_ioas, has_hwpt, automatic_hwpt}
 use Rattle.iofd_words.specs.declared.numbers.FileNo.{FileNo}
 use Rattle.iofd_words.specs.declared.numbers.ObjId.{ObjId}
 use Rattle.iofd_words.specs.declared.rows.Area.{Area}
 use Rattle.iofd_words.specs.declared.rows.Object.{Object}
 use Rattle.iofd_words.specs.declared.rows.ObjectKind.{ObjectKind}
 use Rattle.iofd_words.specs.declared.width.Width.{Width}
-use Rattle.iommufd_core.specs.Held.{kind_in, object_of, objects_in, areas_in, areas_at}
+use Rattle.iommufd_core.specs.Held.{kind_in, object_of, areas_in, areas_at}
 use Rattle.iommufd_core.specs.declared.held.Held.{Held}
 use Rattle.iommufd_core.specs.declared.held.Held.TheVariants as held
-use Rattle.object_table.specs.Table.{Row, Table, is_at, is_of_file, row_at}
+use Rattle.object_table.specs.Table.{Row, is_at, is_of_file}
 
 module _ {A : Type 0} where
   -- the kind of what stands at an id

@@ -1,5 +1,5 @@
 -- What is kept at the opening shows the world of the opening.
-use Rattle.std.proofs.Common.{◌≡◌, ℕ, zero, suc, ◌+◌, ◌*◌, ◌<◌, ◌-◌, Bool, true, false, ◌&&◌, cond, ltb, is_some, Option, Some, None, List, [], ◌∷◌, length, replicate, get_or, refl, sym, ◌∙◌, ap, arith}
+use Rattle.std.proofs.Common.{◌≡◌, ℕ, zero, suc, ◌+◌, ◌*◌, ◌<◌, ◌-◌, Bool, true, false, ◌&&◌, ltb, is_some, List, [], ◌∷◌, length, replicate, get_or, refl, arith}
 use Rattle.std.specs.List.{slice_get}
 use Rattle.std.proofs.lemmas.Bool.Decides.{nat_tests}
 use Rattle.std.proofs.lemmas.List.{get_or-replicate}
@@ -8,7 +8,7 @@ use Rattle.iofd_words.specs.Settings.{Settings}
 use Rattle.iofd_words.specs.declared.numbers.FileNo.{FileNo}
 use Rattle.iofd_words.specs.declared.numbers.UserNo.{UserNo}
 use Rattle.iommufd_core.specs.declared.held.Held.{Held}
-use Rattle.object_table.specs.Table.{Table, fresh_table, is_open}
+use Rattle.object_table.specs.Table.{fresh_table, is_open}
 
 -- ---- the files
 

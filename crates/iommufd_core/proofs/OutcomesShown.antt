@@ -1,11 +1,9 @@
 -- What may come of an access in the world that is shown.
-use Rattle.std.proofs.Common.{◌≡◌, ℕ, ◌+◌, ◌-◌, ◌/◌, ◌<◌, ◌≤◌, Bool, true, false, cond, ◌&&◌, ◌||◌, not, eqb, ltb, leb, is_some, Option, Some, None, List, [], ◌∷◌, ◌++◌, map, refl, sym, ◌∙◌, ap, arith}
-use Rattle.std.specs.List.{filter, find, list_all, list_any}
-use Rattle.std.proofs.lemmas.Bool.Decides.{nat_tests}
+use Rattle.std.proofs.Common.{◌≡◌, ℕ, Bool, true, false, cond, ◌&&◌, Option, Some, None, List, [], ◌∷◌, refl, sym, ◌∙◌, ap}
 use Rattle.area_map.specs.Areas as map_areas
 use Rattle.iofd_words.specs.Areas.{area_at, areas_of, is_of}
 use Rattle.iofd_words.specs.Attachments.{attachment_of, ioas_of_attachment}
-use Rattle.iofd_words.specs.Policy.{Outcome, Passes, Denied, at_area, by_width, outcomes, translated}
+use Rattle.iofd_words.specs.Policy.{Outcome, Denied, at_area, by_width, outcomes, translated}
 use Rattle.iofd_words.specs.Fault.{denied_by}
 use Rattle.iofd_words.specs.Files.{device_of}
 use Rattle.iofd_words.specs.declared.fault.FaultReason.TheVariants.{NoContext, BeyondWidth}

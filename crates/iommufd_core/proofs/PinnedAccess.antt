@@ -1,17 +1,17 @@
 -- Where an area lets an access pass, its page has a pin.
-use Rattle.std.proofs.Common.{◌≡◌, ℕ, zero, suc, ◌+◌, ◌-◌, ◌*◌, ◌/◌, ◌%◌, ◌^◌, ◌<◌, ◌≤◌, Bool, true, false, cond, ◌&&◌, ◌||◌, not, eqb, ltb, leb, is_some, Option, Some, None, List, [], ◌∷◌, ◌++◌, map, refl, sym, ◌∙◌, ap, arith}
+use Rattle.std.proofs.Common.{◌≡◌, ℕ, zero, suc, ◌+◌, ◌-◌, ◌*◌, ◌/◌, ◌%◌, ◌^◌, ◌<◌, ◌≤◌, Bool, true, false, cond, ◌&&◌, ◌||◌, eqb, leb, is_some, Option, Some, None, List, [], ◌∷◌, ◌++◌, map, refl, sym, ◌∙◌, arith}
 use Rattle.std.proofs.Math.Nat.{div-lt_iff_lt-mul, div-add-mod}
-use Rattle.std.specs.List.{filter, find, list_all, list_any, range_with_len}
+use Rattle.std.specs.List.{find, list_all, list_any, range_with_len}
 use Rattle.std.proofs.lemmas.Bool.Decides.{nat_tests}
 use Rattle.iofd_words.proofs.Bools.{and_true, both_true}
 use Rattle.iofd_words.proofs.PageTables.{hwpt_alike}
-use Rattle.iofd_words.proofs.PageLists.{any-pinned, at_page, pins_page, page_itself}
+use Rattle.iofd_words.proofs.PageLists.{any-pinned, at_page, pins_page}
 use Rattle.iofd_words.specs.Areas.{area_at, is_of}
 use Rattle.iofd_words.specs.Attachments.{attachment_of, ioas_of, ioas_of_attachment}
 use Rattle.iofd_words.specs.Fits.{is_of_pages}
 use Rattle.iofd_words.specs.Objects.{has_hwpt, is_hwpt_over, is_object, kind_of}
 use Rattle.iofd_words.specs.Pages.{is_whole}
-use Rattle.iofd_words.specs.Pins.{ObjectPage, is_page, pages_of, pinned_frame, pinned_pages}
+use Rattle.iofd_words.specs.Pins.{is_page, pages_of, pinned_frame, pinned_pages}
 use Rattle.iofd_words.specs.Policy.{Outcome, Passes, Denied, at_area, by_phase, by_width, outcomes, page_in, passing, translated}
 use Rattle.iofd_words.specs.DeviceSet.{has_device}
 use Rattle.iofd_words.specs.Fault.{denied_by}
@@ -28,7 +28,6 @@ use Rattle.iofd_words.specs.Span.{holds, size_of}
 use Rattle.iofd_words.specs.World.{World}
 use Rattle.iofd_words.specs.declared.fault.AccessKind.{AccessKind}
 use Rattle.iofd_words.specs.declared.numbers.DeviceNo.{DeviceNo}
-use Rattle.iofd_words.specs.declared.numbers.FileNo.{FileNo}
 use Rattle.iofd_words.specs.declared.numbers.ObjId.{ObjId}
 use Rattle.iofd_words.specs.declared.rows.Area.{Area}
 use Rattle.iofd_words.specs.declared.rows.Attachment.{Attachment}

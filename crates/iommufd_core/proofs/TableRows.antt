@@ -2,7 +2,7 @@
 use Rattle.std.proofs.Common.{◌≡◌, ℕ, Bool, true, false, cond, ◌&&◌, not, eqb, ltb, Option, Some, None, List, [], ◌∷◌, map, refl, sym, ◌∙◌, ap, arith}
 use Rattle.std.specs.List.{find, list_all}
 use Rattle.std.proofs.lemmas.Bool.Decides.{nat_tests}
-use Rattle.iofd_words.specs.Objects.{has_ioas, is_ioas, is_object, kind_of, with_object, without_object}
+use Rattle.iofd_words.specs.Objects.{has_ioas, is_ioas, is_object, kind_of}
 use Rattle.iofd_words.specs.declared.numbers.FileNo.{FileNo}
 use Rattle.iofd_words.specs.declared.numbers.ObjId.{ObjId}
 use Rattle.iofd_words.specs.declared.rows.Area.{Area}
@@ -15,19 +15,11 @@ use Rattle.iofd_words.proofs.Named.{file_is, id_is}
 use Rattle.iommufd_core.specs.Held.{areas_at, areas_in, is_proper, kind_in, object_of, objects_in, table_kind}
 use Rattle.iommufd_core.specs.declared.held.Held.{Held}
 use Rattle.iommufd_core.proofs.Unpinned.{areas_of_other}
-use Rattle.object_table.specs.Table.{Row, Table, destroy_refusal, inserted, is_at, is_own, is_same_kind, removed, stands_before}
+use Rattle.object_table.specs.Table.{Row, Table, destroy_refusal, is_at, is_own, is_same_kind, removed}
 use Rattle.object_table.specs.declared.kind.Kind.TheVariants as of_kind
 
 module _ {A : Type 0} where
   -- ---- a row goes
-
-  pub objects_removed : (rows : List (Row (Held A))) (file : FileNo) (id : ObjId) → map object_of (removed file id rows) ≡ without_object file id (map object_of rows)
-  objects_removed [] file id = refl
-  objects_removed (row ∷ rows) file id = by_test (is_at file id row) (objects_removed rows file id)
-    where
-      by_test : (b : Bool) → map object_of (removed file id rows) ≡ without_object file id (map object_of rows) → map object_of (cond (not b) (row ∷ removed file id rows) (removed file id rows)) ≡ cond (not b) (object_of row ∷ without_object file id (map object_of rows)) (without_object file id (map object_of rows))
-      by_test true rest = rest
-      by_test false rest = ap (λ objects. object_of row ∷ objects) rest
 
   abbrev areas_of_row : Option (Row (Held A)) → List Area
   areas_of_row o = elim o [ Some row ↦ areas_in row.value | None ↦ [] ]
@@ -79,51 +71,3 @@ module _ {A : Type 0} where
               none : (n : ℕ) → eqb n 0 ≡ true → ltb 0 n ≡ false
               none n is = grind (arith, nat_tests)
           by_test false at good is later = let rest = later is in (rest.0, rw at rest.1, rest.2)
-
-  -- ---- a row comes
-
-  pub objects_inserted : (row : Row (Held A)) (rows : List (Row (Held A))) → map object_of (inserted row rows) ≡ with_object (object_of row) (map object_of rows)
-  objects_inserted row [] = refl
-  objects_inserted row (next ∷ rows) = by_order (stands_before row next) (objects_inserted row rows)
-    where
-      by_order : (b : Bool) → map object_of (inserted row rows) ≡ with_object (object_of row) (map object_of rows) → map object_of (cond b (row ∷ next ∷ rows) (next ∷ inserted row rows)) ≡ cond b (object_of row ∷ object_of next ∷ map object_of rows) (object_of next ∷ with_object (object_of row) (map object_of rows))
-      by_order true rest = refl
-      by_order false rest = ap (λ objects. object_of next ∷ objects) rest
-
-  pub proper_inserted : (row : Row (Held A)) (rows : List (Row (Held A))) → is_proper row ≡ true → list_all is_proper rows ≡ true → list_all is_proper (inserted row rows) ≡ true
-  proper_inserted row [] here proper = rw here refl
-  proper_inserted row (next ∷ rows) here proper =
-      let propers = and_true (is_proper next) (list_all is_proper rows) proper in
-      by_order (stands_before row next) propers.0 propers.1 (proper_inserted row rows here propers.1)
-    where
-      by_order : (b : Bool) → is_proper next ≡ true → list_all is_proper rows ≡ true → list_all is_proper (inserted row rows) ≡ true → list_all is_proper (cond b (row ∷ next ∷ rows) (next ∷ inserted row rows)) ≡ true
-      by_order true first others rest = rw (here, first) others
-      by_order false first others rest = rw first rest
-
-  find_inserted : (p : Row (Held A) → Bool) (row : Row (Held A)) (rows : List (Row (Held A))) → p row ≡ false → find p (inserted row rows) ≡ find p rows
-  find_inserted p row [] other = rw other refl
-  find_inserted p row (next ∷ rows) other = by_order (stands_before row next) (find_inserted p row rows other)
-    where
-      by_order : (b : Bool) → find p (inserted row rows) ≡ find p rows → find p (cond b (row ∷ next ∷ rows) (next ∷ inserted row rows)) ≡ find p (next ∷ rows)
-      by_order true rest = rw other refl
-      by_order false rest = ap (cond (p next) (Some next)) rest
-
-  found_inserted : (p : Row (Held A) → Bool) (row : Row (Held A)) (rows : List (Row (Held A))) → p row ≡ true → find p rows ≡ None → find p (inserted row rows) ≡ Some row
-  found_inserted p row [] passes none = rw passes refl
-  found_inserted p row (next ∷ rows) passes none = by_tests (stands_before row next) (p next) refl none (found_inserted p row rows passes)
-    where
-      by_tests : (b n : Bool) → p next ≡ n → cond n (Some next) (find p rows) ≡ None → (find p rows ≡ None → find p (inserted row rows) ≡ Some row) → find p (cond b (row ∷ next ∷ rows) (next ∷ inserted row rows)) ≡ Some row
-      by_tests true n is none rest = rw passes refl
-      by_tests false true is none rest = cc
-      by_tests false false is none rest = rw is (rest none)
-
-  -- a new page table has no areas, so all stay
-  pub areas_inserted : (row : Row (Held A)) (rows : List (Row (Held A))) → areas_in row.value ≡ [] → find (is_at row.file row.id) rows ≡ None → (f : FileNo) (i : ObjId) → areas_at (inserted row rows) f i ≡ areas_at rows f i
-  areas_inserted row rows empty free f i = by_test (is_at f i row) refl
-    where
-      by_test : (b : Bool) → is_at f i row ≡ b → areas_at (inserted row rows) f i ≡ areas_at rows f i
-      by_test true is =
-          let parts = and_true (eqb row.file.0 f.0) (eqb row.id.0 i.0) is in
-          let none : find (is_at f i) rows ≡ None = rw (file_is row.file f parts.0, id_is row.id i parts.1) at free in
-          ap areas_of_row (found_inserted (is_at f i) row rows is none) ∙ empty ∙ sym (ap areas_of_row none)
-      by_test false is = ap areas_of_row (find_inserted (is_at f i) row rows is)

@@ -1,6 +1,6 @@
 -- The world after an UNMAP is shown.
-use Rattle.std.proofs.Common.{◌≡◌, ℕ, ◌+◌, ◌*◌, ◌<◌, ◌≤◌, leb, Bool, true, false, ◌&&◌, not, eqb, Option, Some, None, is_some, Vec, List, [], ◌∷◌, ◌++◌, length, map, Contains, refl, sym, ◌∙◌, ap, arith}
-use Rattle.std.specs.List.{filter, list_all, list_any}
+use Rattle.std.proofs.Common.{◌≡◌, ℕ, ◌+◌, ◌*◌, ◌<◌, ◌≤◌, leb, Bool, true, false, ◌&&◌, not, eqb, Option, Some, None, is_some, Vec, List, [], ◌∷◌, length, map, Contains, refl, sym, ◌∙◌, ap, arith}
+use Rattle.std.specs.List.{filter, list_all}
 use Rattle.std.specs.Option.{option_map}
 use Rattle.std.specs.Prelude.{Result, Ok, Err}
 use Rattle.std.specs.Result.{OkIff}
@@ -33,7 +33,8 @@ use Rattle.iofd_words.specs.declared.rows.Object.{Object}
 use Rattle.iofd_words.specs.declared.rows.Pin.{Pin}
 use Rattle.iommufd_core.proofs.AreasFiltered.{cut_filtered}
 use Rattle.iommufd_core.proofs.AreasHeld.{areas_absent, areas_found}
-use Rattle.iommufd_core.proofs.Mapped.{areas_become, orderly}
+use Rattle.iommufd_core.proofs.Flushed.{orderly}
+use Rattle.iommufd_core.proofs.Mapped.{areas_become}
 use Rattle.iommufd_core.proofs.Touched.{AreAlike, alike, among_touched, leaving_other, leaving_own, left_other, left_own, met_marked, met_within, touched_own, unmet_outside, waits_filtered}
 use Rattle.iommufd_core.specs.Held.{areas_at, areas_in, objects_in}
 use Rattle.iommufd_core.specs.Shows.{Shows}

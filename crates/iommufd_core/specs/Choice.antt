@@ -1,5 +1,5 @@
 -- Which of the lawful answers is given: where a flush is owed the fault, and to a user's new page the least free frame.
-use Rattle.std.specs.Prelude.{◌≡◌, ℕ, Option, Some, None, List, [], ◌∷◌, map, Contains}
+use Rattle.std.specs.Prelude.{◌≡◌, Option, Some, None, List, [], ◌∷◌, map, Contains}
 use Rattle.iofd_words.specs.Policy.{Passes, outcomes}
 use Rattle.iofd_words.specs.World.{World}
 use Rattle.iofd_words.specs.declared.event.Event.{Event}

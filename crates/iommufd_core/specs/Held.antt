@@ -1,6 +1,5 @@
 -- What the objects of a table are in the world.
 use Rattle.std.specs.Prelude.{Bool, ◌==◌, ◌&&◌, Option, Some, None, List, [], find, map}
-use Rattle.area_map.specs.AreaTable.{AreaTable}
 use Rattle.iofd_words.specs.Attachments.{ioas_of_attachment}
 use Rattle.iofd_words.specs.declared.numbers.FileNo.{FileNo}
 use Rattle.iofd_words.specs.declared.numbers.ObjId.{ObjId}

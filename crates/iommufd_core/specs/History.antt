@@ -1,14 +1,12 @@
 -- What a core is seen as: what it was opened with, and its records.
-use Rattle.std.specs.Prelude.{◌≡◌, ℕ, Bool, true, false, ◌&&◌, ◌==◌, Option, Some, None, is_none, List, [], ◌∷◌, ◌++◌, length}
+use Rattle.std.specs.Prelude.{ℕ, Bool, true, false, ◌&&◌, ◌==◌, Option, Some, None, is_none, List, [], ◌∷◌, ◌++◌, length}
 use Rattle.std.specs.List.{list_any}
-use Rattle.iofd_words.specs.Checks.{refusal}
 use Rattle.iofd_words.specs.FirstTrue.{first_true}
 use Rattle.iofd_words.specs.Look.{query_checks}
 use Rattle.iofd_words.specs.Policy.{Outcome, Passes, Denied, outcomes}
-use Rattle.iofd_words.specs.Run.{IsRun, world_of}
+use Rattle.iofd_words.specs.Run.{world_of}
 use Rattle.iofd_words.specs.Settings.{Settings}
 use Rattle.iofd_words.specs.World.{World}
-use Rattle.iofd_words.specs.declared.event.Act.{Act}
 use Rattle.iofd_words.specs.declared.event.Event.{Event}
 use Rattle.iofd_words.specs.declared.event.Event.TheVariants as event
 use Rattle.iofd_words.specs.declared.fault.AccessKind.{AccessKind}

@@ -1,5 +1,5 @@
 -- When what is kept shows a world: each list of the world can be told from it.
-use Rattle.std.specs.Prelude.{◌≡◌, ◌<◌, ◌+◌, ◌*◌, ℕ, true, List, length, map, find, slice_index}
+use Rattle.std.specs.Prelude.{◌≡◌, ◌<◌, ◌+◌, ◌*◌, ℕ, true, length, map, find, slice_index}
 use Rattle.std.specs.List.{list_all}
 use Rattle.iofd_words.specs.Areas.{areas_of}
 use Rattle.iofd_words.specs.Files as file

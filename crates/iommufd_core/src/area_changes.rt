@@ -1,20 +1,22 @@
 //! Changes of one address space's areas: one comes, or some go.
 
-ghost use Rattle.std.specs.Prelude.{◌≡◌, ◌==◌, ◌+◌, ◌≤◌, ◌++◌, not, [], length, map, OnOk, OnErr, MatchOption, vec_len, vec_capacity};
+ghost use Rattle.std.specs.Prelude.{◌≡◌, ◌==◌, ◌+◌, ◌≤◌, ◌++◌, not, true, None, [], length, map, OnOk, OnErr, MatchOption, vec_len, vec_capacity};
 ghost use Rattle.area_map.specs.Areas.{AreKept, areas_outside, areas_within, bytes_of, marked, memories_of, with_area};
+ghost use Rattle.area_map.specs.Insertion.{insert_refusal};
 ghost use Rattle.iofd_words.specs.Areas.{owed_by};
-ghost use Rattle.iommufd_core.specs.Held.{areas_at, areas_in};
+ghost use Rattle.iofd_words.specs.Objects.{has_ioas, is_ioas};
+ghost use Rattle.iommufd_core.specs.Held.{areas_at, areas_in, kind_in, objects_in};
 ghost use Rattle.iommufd_core.specs.Spaces.{IsOrderly, IsWith, HasAreas};
 ghost use Rattle.iommufd_core.specs.Mapping.{own_areas, some_waits};
 
 use crate::held::Held;
-use area_map::Areas;
+use area_map::{Areas, InsertError};
 use iofd_words::{Area, DeviceSet, FileNo, NoMemory, ObjId, Phase, Span};
 use object_table::{Kind, ObjectTable};
 use std::alloc::Allocator;
 
-/// Adds the area to those of this address space, where it meets no other and there is room for it. The only
-/// error is want of memory; then no area changes.
+/// Adds the area to those of this address space, where it meets no other and there may be one more. Elsewhere, or where
+/// there is no such address space, it changes nothing. The only error is want of memory; then no area changes.
 #[tactic(auto, using(crate::proofs::AreasHeld::rewritten, crate::proofs::AreasHeld::unwritten, crate::proofs::AreasHeld::areas_absent))]
 pub(crate) fn insert<A: Allocator>(
     table: &mut ObjectTable<Held<A>, A>,
@@ -22,25 +24,26 @@ pub(crate) fn insert<A: Allocator>(
     ioas: ObjId,
     area: Area,
 ) -> Result<(), NoMemory>
-    ensures ok { OnOk result (IsOrderly table.old → HasAreas file ioas (with_area area (areas_at table.old.rows file ioas)) table.old table.new) }
+    ensures ok { OnOk result (IsOrderly table.old → has_ioas (objects_in table.old) file ioas ≡ true → insert_refusal area.span (areas_at table.old.rows file ioas) ≡ None → HasAreas file ioas (with_area area (areas_at table.old.rows file ioas)) table.old table.new) }
     ensures err { OnErr result (IsOrderly table.old → HasAreas file ioas (areas_at table.old.rows file ioas) table.old table.new) }
 {
     match table.get_mut(file, Kind::Ioas, ioas) {
         Ok(held) => insert_held(held, area),
-        Err(_) => Err(NoMemory),
+        Err(_) => Ok(()),
     }
 }
 
 fn insert_held<A: Allocator>(held: &mut Held<A>, area: Area) -> Result<(), NoMemory>
-    ensures ok { OnOk result (IsWith (with_area area (areas_in held.old)) held.old held.new) }
+    ensures ok { OnOk result (is_ioas (kind_in held.old) ≡ true → insert_refusal area.span (areas_in held.old) ≡ None → IsWith (with_area area (areas_in held.old)) held.old held.new) }
     ensures err { OnErr result (IsWith (areas_in held.old) held.old held.new) }
 {
-    if let Held::Ioas(areas) = held {
-        if areas.insert(area).is_ok() {
-            return Ok(());
-        }
+    match held {
+        Held::Ioas(areas) => match areas.insert(area) {
+            Err(InsertError::Memory(no_memory)) => Err(no_memory),
+            Ok(()) | Err(InsertError::Refused(_)) => Ok(()),
+        },
+        _ => Ok(()),
     }
-    Err(NoMemory)
 }
 
 /// The areas in this address space. None where there is no such address space.

@@ -18,7 +18,7 @@ use crate::{attachments, lookups, pins};
 use iofd_words::{
     Area, Attachment, Cause, Config, DeviceNo, FileNo, NoMemory, ObjId, Reply, Width,
 };
-use object_table::{Kind, ObjectTable};
+use object_table::{Kind, ObjectTable, ReserveError};
 use std::alloc::Allocator;
 
 /// Why it is refused.
@@ -63,17 +63,20 @@ pub(crate) fn commit<A: Allocator>(
         return Ok(Reply::Done);
     };
     let file = bound.file;
-    // Each bound device has settings, so this isn't reached.
     let Some(width) = width_of(&state.config, device) else {
-        return Err(NoMemory);
+        // Never: each bound device is one of the configuration.
+        return Ok(Reply::Done);
     };
     state.attachments.reserve(1)?;
     if let Some(hwpt) = lookups::automatic_hwpt(&state.objects, file, pt_id, width) {
         attachments::insert(&mut state.attachments, Attachment { device, file, hwpt });
         return Ok(Reply::Id(hwpt));
     }
-    if state.objects.reserve(file).is_err() {
-        return Err(NoMemory);
+    match state.objects.reserve(file) {
+        Ok(_) => (),
+        // Never: the file is open and not full.
+        Err(ReserveError::Refused(_)) => return Ok(Reply::Done),
+        Err(ReserveError::Memory(no_memory)) => return Err(no_memory),
     }
     let areas = areas_to_pin(&state.objects, file, pt_id);
     pins::reserve_areas(&mut state.pins, areas)?;

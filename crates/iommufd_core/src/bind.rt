@@ -2,15 +2,15 @@
 
 ghost use Rattle.std.specs.Prelude.{◌≡◌, ℕ, IfOk, OnErr};
 ghost use Rattle.iofd_words.specs.FirstTrue.{first_true};
-ghost use Rattle.iofd_words.specs.Files as files;
 ghost use Rattle.iofd_words.specs.declared.event.Event.TheVariants as event;
 ghost use Rattle.iommufd_core.specs.Refusals.{tests};
 ghost use Rattle.iommufd_core.specs.Step.{ShowsSame, Steps};
 
+use crate::devices::is_device;
 use crate::held::Held;
 use crate::state::State;
-use iofd_words::{Cause, Config, DeviceNo, FileNo, NoMemory, Object, ObjectKind, Reply};
-use object_table::Kind;
+use iofd_words::{Cause, DeviceNo, FileNo, NoMemory, Object, ObjectKind, Reply};
+use object_table::{Kind, ReserveError};
 use std::alloc::Allocator;
 
 /// Why it is refused.
@@ -25,7 +25,7 @@ pub(crate) fn refusal<A: Allocator>(
     if !state.objects.is_open(file) {
         return Some(Cause::Id);
     }
-    if !has_device(&state.config, device) {
+    if !is_device(&state.config, device) {
         return Some(Cause::Id);
     }
     if state.binding_of(device).is_some() {
@@ -37,13 +37,6 @@ pub(crate) fn refusal<A: Allocator>(
     None
 }
 
-/// Whether there is such a device.
-fn has_device<A: Allocator>(config: &Config<A>, device: DeviceNo) -> bool
-    ensures { result ≡ files.is_device config.now device }
-{
-    device.0 >= 1 && usize::from(device.0) <= config.devices().len()
-}
-
 /// What it does where nothing refuses it: the file has one more object, by which the device is bound, under an unused id.
 pub(crate) fn commit<A: Allocator>(
     state: &mut State<A>,
@@ -53,10 +46,13 @@ pub(crate) fn commit<A: Allocator>(
     ensures ok { IfOk result (λ reply. (at : ℕ) → Steps at (event.Bind file device) state.old reply state.new) }
     ensures err { OnErr result (ShowsSame state.old state.new) }
 {
-    // Nothing refuses the object: where there is no room for it, memory is short.
-    if state.objects.reserve(file).is_err() || state.bindings.reserve(1).is_err() {
-        return Err(NoMemory);
+    match state.objects.reserve(file) {
+        Ok(_) => (),
+        // Never: the file is open and not full.
+        Err(ReserveError::Refused(_)) => return Ok(Reply::Done),
+        Err(ReserveError::Memory(no_memory)) => return Err(no_memory),
     }
+    state.bindings.reserve(1)?;
     let id = state
         .objects
         .insert_reserved(file, Kind::Device, Held::Device(device));

@@ -1,34 +1,46 @@
-//! The devices that are attached to an address space.
+//! Devices of the configuration, and those that are attached to an address space.
 
 ghost use Rattle.std.specs.Prelude.{◌≡◌, ◌==◌, ◌≤◌, true, false, IfSome, IfNone};
 ghost use Rattle.std.specs.List.{list_all};
 ghost use Rattle.iofd_words.specs.Attachments.{devices_of, is_attached_to};
+ghost use Rattle.iofd_words.specs.Files as files;
 ghost use Rattle.iofd_words.specs.Fits.{devices_rise};
-ghost use Rattle.iofd_words.specs.Settings.{is_between};
 ghost use Rattle.iommufd_core.specs.Held.{objects_in};
 ghost use Rattle.iommufd_core.specs.Mapping.{is_over};
 
 use crate::held::Held;
 use crate::lookups;
-use iofd_words::{Attachment, DeviceNo, DeviceSet, FileNo, ObjId, ObjectKind};
+use iofd_words::{Attachment, Config, DeviceNo, DeviceSet, FileNo, ObjId, ObjectKind};
 use object_table::ObjectTable;
 use std::alloc::Allocator;
 
-/// The devices that are attached to the file's address space of this id. None where the number of one isn't that of a
-/// device, 1 to 256, which never is.
+/// Whether there is such a device. Its number is 1 to 256 then.
+pub(crate) fn is_device<A: Allocator>(config: &Config<A>, device: DeviceNo) -> bool
+    ensures value { result ≡ files.is_device config.now device }
+    ensures from { result ≡ true → 1 ≤ device.0 }
+    ensures to { result ≡ true → device.0 ≤ 256 }
+{
+    // Called for its contract alone: a configuration is within its limits, one of which is 256 devices.
+    config.pool();
+    device.0 >= 1 && usize::from(device.0) <= config.devices().len()
+}
+
+/// The devices that are attached to the file's address space of this id. None where some attachment is of a device that
+/// there isn't.
 pub(crate) fn attached_to<A: Allocator>(
+    config: &Config<A>,
     table: &ObjectTable<Held<A>, A>,
     attachments: &[Attachment],
     file: FileNo,
     ioas: ObjId,
 ) -> Option<DeviceSet>
-    ensures none { IfNone result (list_all (λ a. is_between 1 256 a.device.0) attachments.now ≡ false) }
+    ensures none { IfNone result (list_all (λ a. files.is_device config.now a.device) attachments.now ≡ false) }
     ensures some { IfSome result (λ devices. devices_rise attachments.now ≡ true → devices ≡ devices_of (objects_in table.now) attachments.now file ioas) }
 {
     let mut devices = DeviceSet::new();
     for attachment in attachments {
         if is_attached_to(table, file, ioas, attachment) {
-            if !is_numbered(attachment.device) {
+            if !is_device(config, attachment.device) {
                 return None;
             }
             devices.insert(attachment.device);
@@ -59,11 +71,4 @@ fn is_table_over<A: Allocator>(
         Some(ObjectKind::Hwpt { ioas: over, .. }) => over == ioas,
         _ => false,
     }
-}
-
-/// Whether it is the number of a device.
-fn is_numbered(device: DeviceNo) -> bool
-    ensures { result ≡ is_between 1 256 device.0 }
-{
-    device.0 >= 1 && device.0 <= DeviceSet::MAX
 }

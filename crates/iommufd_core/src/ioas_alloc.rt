@@ -10,7 +10,7 @@ use crate::held::Held;
 use crate::state::State;
 use area_map::Areas;
 use iofd_words::{Cause, FileNo, NoMemory, Reply};
-use object_table::Kind;
+use object_table::{Kind, ReserveError};
 use std::alloc::Allocator;
 
 /// Why it is refused.
@@ -35,9 +35,11 @@ pub(crate) fn commit<A: Allocator + Copy>(
     ensures ok { IfOk result (λ reply. (at : ℕ) → Steps at (event.IoasAlloc file) state.old reply state.new) }
     ensures err { OnErr result (ShowsSame state.old state.new) }
 {
-    // Nothing refuses the object: where there is no room for it, memory is short.
-    if state.objects.reserve(file).is_err() {
-        return Err(NoMemory);
+    match state.objects.reserve(file) {
+        Ok(_) => (),
+        // Never: the file is open and not full.
+        Err(ReserveError::Refused(_)) => return Ok(Reply::Done),
+        Err(ReserveError::Memory(no_memory)) => return Err(no_memory),
     }
     let held = Held::Ioas(Areas::new(state.alloc));
     let id = state.objects.insert_reserved(file, Kind::Ioas, held);

@@ -63,9 +63,15 @@ pub(crate) fn commit<A: Allocator + Copy>(
         return Ok(Reply::Done);
     };
     let ioas = request.ioas;
-    let Some(attached) = devices::attached_to(&state.objects, &state.attachments, file, ioas) else {
-        // Never: devices are numbered from 1 to 256.
-        return Err(NoMemory);
+    let Some(attached) = devices::attached_to(
+        &state.config,
+        &state.objects,
+        &state.attachments,
+        file,
+        ioas,
+    ) else {
+        // Never: each attached device is one of the configuration.
+        return Ok(Reply::Done);
     };
     if area_changes::some_waits(&state.objects, file, ioas, span, &attached) {
         area_changes::mark_leaving(&mut state.objects, file, ioas, span, &attached);

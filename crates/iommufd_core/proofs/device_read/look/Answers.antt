@@ -1,4 +1,4 @@
-use Rattle.std.proofs.Common.{◌≡◌, sym, ap, ◌∙◌}
+use Rattle.std.proofs.Common.{sym, ap, ◌∙◌}
 use Rattle.iofd_words.proofs.Runs.{tests_false}
 use Rattle.iommufd_core.specs.Choice.{last_of}
 use Rattle.iommufd_core.specs.Refusals.{read_tests}

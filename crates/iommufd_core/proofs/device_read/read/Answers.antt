@@ -1,7 +1,7 @@
-use Rattle.std.proofs.Common.{◌≡◌, ℕ, ◌+◌, ◌*◌, ◌%◌, ◌<◌, ◌≤◌, Bool, false, Option, Some, None, List, length, take, drop, refl, sym, ◌∙◌, ap, arith}
+use Rattle.std.proofs.Common.{◌≡◌, ℕ, ◌+◌, ◌*◌, ◌%◌, ◌<◌, ◌≤◌, false, Some, None, List, length, take, drop, sym, ◌∙◌, ap, arith}
 use Rattle.iofd_words.specs.Frames.{bytes_at}
 use Rattle.iofd_words.specs.Pages.{crosses}
-use Rattle.iofd_words.specs.Policy.{Outcome, Passes, Denied, outcomes}
+use Rattle.iofd_words.specs.Policy.{Passes, outcomes}
 use Rattle.iofd_words.specs.declared.fault.AccessKind.TheVariants.{Read}
 use Rattle.iofd_words.specs.declared.query.Answer.TheVariants as answer
 use Rattle.std.proofs.lemmas.Bool.Decides.{nat_tests}

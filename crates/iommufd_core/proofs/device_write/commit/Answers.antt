@@ -1,13 +1,12 @@
-use Rattle.std.proofs.Common.{◌≡◌, ℕ, ◌+◌, ◌*◌, ◌%◌, ◌<◌, ◌≤◌, Bool, false, ◌||◌, Contains, length, refl, sym, ◌∙◌, ap, subst, arith}
+use Rattle.std.proofs.Common.{◌≡◌, ℕ, ◌+◌, ◌*◌, ◌%◌, ◌≤◌, false, length, ◌∙◌, ap, arith}
 use Rattle.std.proofs.lemmas.Bool.Decides.{nat_tests}
 use Rattle.iofd_words.proofs.Runs.{tests_false}
 use Rattle.iofd_words.specs.After.{changed}
 use Rattle.iofd_words.specs.Checks.{checks, refusal}
 use Rattle.iofd_words.specs.Pages.{crosses}
-use Rattle.iofd_words.specs.Policy.{Outcome, Passes, Denied, outcomes, fault_of}
+use Rattle.iofd_words.specs.Policy.{Passes, outcomes}
 use Rattle.iofd_words.specs.declared.event.Event.TheVariants as event
 use Rattle.iofd_words.specs.declared.fault.AccessKind.TheVariants.{Write}
-use Rattle.iofd_words.specs.declared.reply.Reply.TheVariants as reply
 use Rattle.iommufd_core.proofs.BytesShown.{written, same_length}
 use Rattle.iommufd_core.proofs.DeviceWrites.{chosen_answer, pass_in_pool}
 use Rattle.iommufd_core.proofs.OutcomesShown.{known_same}

@@ -1,4 +1,4 @@
-use Rattle.std.proofs.Common.{◌≡◌, sym, subst}
+use Rattle.std.proofs.Common.{sym, subst}
 use Rattle.iofd_words.specs.declared.event.Event.{Event}
 use Rattle.iommufd_core.proofs.Answering.{if_ok, on_err}
 use Rattle.iommufd_core.specs.Step.{ChosenSteps}

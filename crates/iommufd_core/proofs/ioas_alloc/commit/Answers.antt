@@ -3,8 +3,12 @@ use Rattle.iofd_words.specs.After.{changed}
 use Rattle.iofd_words.specs.Answers.{Answers}
 use Rattle.iofd_words.specs.Objects.{is_bound_as}
 use Rattle.iofd_words.proofs.Found.{find-with_object}
+use Rattle.iommufd_core.proofs.NeverRefused.{alloc_taken}
 use Rattle.iommufd_core.proofs.ObjectsMoved.{fresh_id, shows_inserted}
 use Rattle.iommufd_core.proofs.ioas_alloc.commit.Goals as goal
+
+pub returns-in-Err-Refused-clause-ok : goal.returns-in-Err-Refused-clause-ok
+returns-in-Err-Refused-clause-ok g c = λ at w tidy shows none. absurd (alloc_taken w c.args.state.now c.args.file c.in-Err-Refused.field-0 c.in-Err-Refused.field-0-0 shows none c.in-Err-Refused.field-0-is c.in-Err-Refused.ensures.why)
 
 pub returns-clause-ok : goal.returns-clause-ok
 unfolding changed Answers

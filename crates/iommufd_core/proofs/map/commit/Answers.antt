@@ -1,7 +1,7 @@
-use Rattle.std.proofs.Common.{◌≡◌, None, refl, sym, ◌∙◌, ap}
+use Rattle.std.proofs.Common.{◌≡◌, None, refl, sym, ◌∙◌}
 use Rattle.iofd_words.specs.Answers.{Answers}
 use Rattle.iofd_words.specs.Files.{user_of}
-use Rattle.iommufd_core.proofs.Mapped.{has_user, is_span, shows_mapped, some_length}
+use Rattle.iommufd_core.proofs.Mapped.{area_taken, has_user, is_span, shows_mapped, some_length}
 use Rattle.iommufd_core.proofs.map.commit.Goals as goal
 
 pub returns-in_default-clause-ok : goal.returns-in_default-clause-ok
@@ -19,7 +19,7 @@ returns-clause-ok g c = λ w tidy shows none. (
   shows_mapped c.args.at w c.args.state.now c.args.file c.args.request c.in-Some.user _ _ _ tidy shows
       (some_length w c.args.file c.args.request none)
       (sym c.user_of.ensures ∙ c.in-Some.is)
-      (rw c.mapped_area-area.ensures at c.in_ok-insert.ensures.ok)
+      (λ orderly. area_taken w c.args.state.now c.args.file c.args.request shows none c.args.at ((rw c.mapped_area-area.ensures at c.in_ok-insert.ensures.ok) orderly))
       (rw (c.memory_object-object.ensures, c.reserve.ensures.items) at c.push_reserved.ensures.items)
       (rw (c.memory_object-object.ensures, c.reserve-2.ensures.items, c.deref.ensures.value, c.pinned_count-pinned.ensures.value) at c.pin_first.ensures),
 )

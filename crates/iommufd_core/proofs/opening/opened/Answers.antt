@@ -1,7 +1,6 @@
-use Rattle.std.proofs.Common.{◌≡◌, ℕ, ◌*◌, List, [], length, replicate, refl, sym, ◌∙◌, ap}
+use Rattle.std.proofs.Common.{ℕ, ◌*◌, refl, sym}
 use Rattle.std.proofs.lemmas.List.{length-replicate}
 use Rattle.iommufd_core.proofs.Opened.{all_open, all_zero}
-use Rattle.iommufd_core.specs.Shows.{Shows}
 use Rattle.iommufd_core.proofs.opening.opened.Goals as goal
 
 pub returns-clause-shows : goal.returns-clause-shows

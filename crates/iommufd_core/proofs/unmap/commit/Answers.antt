@@ -1,17 +1,17 @@
-use Rattle.std.proofs.Common.{◌≡◌, ◌<◌, ◌^◌, Bool, true, false, not, List, [], ◌++◌, refl, sym, ◌∙◌, ap}
+use Rattle.std.proofs.Common.{refl, sym, ◌∙◌}
 use Rattle.std.proofs.lemmas.Result.{OkIff-at_ok}
-use Rattle.area_map.specs.Areas.{areas_within, bytes_of, memories_of}
 use Rattle.iofd_words.specs.After.{changed}
 use Rattle.iofd_words.specs.Answers.{Answers}
-use Rattle.iofd_words.specs.Areas.{is_waiting}
-use Rattle.iofd_words.specs.Attachments.{devices_of}
 use Rattle.iofd_words.proofs.Bools.{not_false}
+use Rattle.iommufd_core.proofs.NeverRefused.{never_strange}
 use Rattle.iommufd_core.proofs.Unmapped.{attached_is, bytes_fit, bytes_shown, converted, names_span, shows_pending, shows_removed, waits_shown}
-use Rattle.iommufd_core.specs.Mapping.{own_areas}
 use Rattle.iommufd_core.proofs.unmap.commit.Goals as goal
 
 pub returns-in_default-clause-ok : goal.returns-in_default-clause-ok
 returns-in_default-clause-ok g c = λ at w tidy shows none. absurd (names_span w c.args.file c.args.request c.unmapped_span.result none c.in_default.is c.unmapped_span.ensures.some)
+
+pub returns-in_default-attached_to-clause-ok : goal.returns-in_default-attached_to-clause-ok
+returns-in_default-attached_to-clause-ok g c = λ at w tidy shows none. absurd (never_strange at w c.args.state.now c.deref.result.now tidy shows c.deref.ensures.value c.in_default-attached_to.ensures.none)
 
 pub returns-then-some_waits-clause-ok : goal.returns-then-some_waits-clause-ok
 unfolding changed Answers

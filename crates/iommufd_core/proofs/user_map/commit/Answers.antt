@@ -1,10 +1,10 @@
-use Rattle.std.proofs.Common.{◌≡◌, ℕ, ◌<◌, ◌≤◌, ◌+◌, ◌*◌, ◌/◌, true, false, Some, None, List, [], ◌∷◌, ◌++◌, length, replicate, get_or, refl, sym, ◌∙◌, ap, arith, not, is_some}
+use Rattle.std.proofs.Common.{◌≡◌, ℕ, ◌<◌, ◌≤◌, ◌+◌, ◌*◌, ◌/◌, true, false, Some, None, [], ◌∷◌, ◌++◌, length, replicate, sym, ◌∙◌, ap, arith, not, is_some}
 use Rattle.std.proofs.lemmas.List.{get_or-replicate, length-replicate}
 use Rattle.iofd_words.specs.After.{changed}
 use Rattle.iofd_words.specs.Answers.{Answers}
 use Rattle.iofd_words.proofs.Runs.{tests_false}
 use Rattle.iofd_words.specs.Checks.{checks, refusal}
-use Rattle.iofd_words.specs.Frames.{is_free, has_free}
+use Rattle.iofd_words.specs.Frames.{has_free}
 use Rattle.iofd_words.specs.declared.event.Event.TheVariants as event
 use Rattle.std.specs.Option.{option_map}
 use Rattle.iofd_words.specs.declared.reply.Reply.TheVariants as reply

@@ -1,9 +1,7 @@
-use Rattle.std.proofs.Common.{◌≡◌, true, Some, None, List, ◌++◌, ◌∷◌, [], length, refl, sym, ◌∙◌, ap, subst}
-use Rattle.iofd_words.specs.Run.{IsRun, world_of}
+use Rattle.std.proofs.Common.{◌≡◌, length, refl, ◌∙◌, subst}
+use Rattle.iofd_words.specs.Run.{world_of}
 use Rattle.iommufd_core.proofs.Applied.{may_use, unchanged_config, unchanged_kept, applied_config, applied_kept, applied_chosen}
-use Rattle.iommufd_core.specs.Choice.{IsChosen, MayUse}
-use Rattle.iommufd_core.specs.History.{may_apply, recorded, world}
-use Rattle.iommufd_core.specs.Kept.{IsKept}
+use Rattle.iommufd_core.specs.Choice.{MayUse}
 use Rattle.iommufd_core.specs.Step.{Answered, TidyShowsSame}
 use Rattle.iommufd_core.proofs.apply.Core.apply.Goals as goal
 

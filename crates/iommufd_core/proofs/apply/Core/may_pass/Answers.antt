@@ -1,4 +1,4 @@
-use Rattle.std.proofs.Common.{◌≡◌, Bool, true, false, ◌&&◌, Option, Some, None, is_none, is_some, length, refl, sym, ◌∙◌, ap}
+use Rattle.std.proofs.Common.{◌≡◌, true, false, Option, Some, None, is_none, is_some, refl, sym, ◌∙◌, ap}
 use Rattle.std.specs.List.{list_any}
 use Rattle.iofd_words.specs.FirstTrue.{first_true}
 use Rattle.iofd_words.specs.Look.{query_checks}
@@ -6,7 +6,7 @@ use Rattle.iofd_words.specs.Run.{world_of}
 use Rattle.iofd_words.specs.declared.query.Query.TheVariants.{DeviceRead}
 use Rattle.iommufd_core.proofs.DeviceReads.{same_tests}
 use Rattle.iommufd_core.proofs.OutcomesShown.{known_same}
-use Rattle.iommufd_core.specs.History.{is_pass_at, passes_in}
+use Rattle.iommufd_core.specs.History.{is_pass_at}
 use Rattle.iommufd_core.proofs.apply.Core.may_pass.Goals as goal
 
 none_if : {X : Type 0} (o : Option X) → is_some o ≡ false → is_none o ≡ true

@@ -1,0 +1,4 @@
+pub mod FreeMap
+pub mod Kept
+pub mod Pool
+pub mod UserPages

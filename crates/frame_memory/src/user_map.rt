@@ -1,0 +1,130 @@
+//! The pages of the users' memory.
+
+ghost use Rattle.std.specs.Prelude.{◌≡◌, ◌<◌, ◌-◌, [], slice_index, IfOk, IfSome, IfNone, OnOk, OnErr, IsOkUnless};
+ghost use Rattle.iofd_words.specs.Frames.{frame_at};
+ghost use Rattle.iofd_words.specs.Pages.{page_of};
+ghost use Rattle.frame_memory.specs.Pool.{given, least_free, with_holds};
+ghost use Rattle.frame_memory.specs.UserPages.{with_page, without_page, map_refusal};
+
+use crate::map_error::MapError;
+use crate::pool::Pool;
+use iofd_words::{Cause, FrameNo, NoMemory, PAGE_SIZE, Refusal, UserNo, UserPage};
+use std::alloc::{Allocator, Global};
+use std::marker::Model;
+
+/// Which page of which user's memory is which frame. A contract sees the pages, in the order in which they
+/// were given.
+#[derive(Debug, Drop)]
+pub struct UserMap<A: Allocator = Global> {
+    pages: Vec<UserPage, A>,
+}
+
+impl<A: Allocator> Model for UserMap<A> {
+    ghost use Rattle.std.specs.Prelude.{List};
+    ghost use Rattle.iofd_words.specs.declared.rows.UserPage.{UserPage};
+
+    ghost Value = { List UserPage };
+
+    ghost view = { λ map. map.pages.items };
+}
+
+impl<A: Allocator> UserMap<A> {
+    /// No pages. It takes no memory.
+    pub fn new(alloc: A) -> UserMap<A>
+        ensures { result ≡ [] }
+    {
+        UserMap {
+            pages: Vec::new(alloc),
+        }
+    }
+
+    /// The frame of the user's page that holds this user address, in bytes. It takes no memory.
+    pub fn frame_at(&self, user: UserNo, va: u64) -> Option<FrameNo>
+        ensures { result ≡ frame_at self.now user (page_of va) }
+    {
+        let page = va / PAGE_SIZE;
+        self.pages
+            .iter()
+            .find(|row| row.user.0 == user.0 && row.page == page)
+            .map(|row| row.frame)
+    }
+
+    /// Gives the user the page that holds this user address, in bytes: the least free frame, with one hold, which
+    /// reads zero.
+    ///
+    /// Refused, in this order: Overlap (9, EEXIST) where the user has the page already; Frames (6, ENOMEM)
+    /// where no frame is free. An error, want of memory too, leaves the map and the pool as they were.
+    pub fn map<B: Allocator>(
+        &mut self,
+        pool: &mut Pool<B>,
+        user: UserNo,
+        va: u64,
+    ) -> Result<FrameNo, MapError>
+        ensures refused { IfSome (map_refusal self.old pool.old.holds user (page_of va))
+            (λ cause. result ≡ Err (MapError.Refused (record { cause = cause }))) }
+        ensures taken { IfNone (map_refusal self.old pool.old.holds user (page_of va))
+            (IsOkUnless result (MapError.Memory (record {}))) }
+        ensures least { IfOk result (λ frame. least_free pool.old.holds ≡ Some frame.0) }
+        ensures pages { IfOk result (λ frame. self.new ≡ with_page self.old user (page_of va) frame) }
+        ensures pool { IfOk result (λ frame. pool.new ≡ given pool.old frame.0) }
+        ensures err { OnErr result (self.new ≡ self.old) }
+        ensures pool_err { OnErr result (pool.new ≡ pool.old) }
+    {
+        if self.frame_at(user, va).is_some() {
+            return Err(refused(Cause::Overlap));
+        }
+        if !pool.has_free() {
+            return Err(refused(Cause::Frames));
+        }
+        if self.pages.reserve(1).is_err() {
+            return Err(MapError::Memory(NoMemory));
+        }
+        match pool.take() {
+            Ok(frame) => {
+                self.pages.push_reserved(UserPage {
+                    user,
+                    page: va / PAGE_SIZE,
+                    frame,
+                });
+                Ok(frame)
+            }
+            Err(refusal) => Err(MapError::Refused(refusal)),
+        }
+    }
+
+    /// Takes the user's page that holds this user address away, and a hold off its frame. It is refused by 8
+    /// (EFAULT, cause Absent) exactly where the user hasn't the page, and then nothing changes. It takes no memory.
+    pub fn unmap<B: Allocator>(
+        &mut self,
+        pool: &mut Pool<B>,
+        user: UserNo,
+        va: u64,
+    ) -> Result<(), Refusal>
+        requires { IfSome (frame_at self.old user (page_of va)) (λ frame. 0 < slice_index pool.old.holds frame.0) }
+        ensures refused { IfNone (frame_at self.old user (page_of va)) (result ≡ Err (record { cause = Cause.Absent })) }
+        ensures taken { IfSome (frame_at self.old user (page_of va)) (λ frame. result ≡ Ok (record {})) }
+        ensures pages { OnOk result (self.new ≡ without_page self.old user (page_of va)) }
+        ensures pool { IfSome (frame_at self.old user (page_of va))
+            (λ frame. pool.new ≡ with_holds pool.old frame.0 (slice_index pool.old.holds frame.0 - 1)) }
+        ensures err { OnErr result (self.new ≡ self.old) }
+        ensures pool_err { OnErr result (pool.new ≡ pool.old) }
+    {
+        let Some(frame) = self.frame_at(user, va) else {
+            return Err(Refusal {
+                cause: Cause::Absent,
+            });
+        };
+        let page = va / PAGE_SIZE;
+        self.pages
+            .retain(|row| !(row.user.0 == user.0 && row.page == page));
+        pool.release(frame);
+        Ok(())
+    }
+}
+
+// The refusal for this cause.
+fn refused(cause: Cause) -> MapError
+    ensures { result ≡ MapError.Refused (record { cause = cause }) }
+{
+    MapError::Refused(Refusal { cause })
+}
