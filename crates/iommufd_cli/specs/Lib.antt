@@ -1,0 +1,3 @@
+pub mod Names
+pub mod Replies
+pub mod Steps

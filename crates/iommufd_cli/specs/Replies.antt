@@ -1,0 +1,83 @@
+-- The lines that a session answers to the steps of a script, in ASCII.
+use Rattle.std.specs.Prelude.{ℕ, false, List, ◌++◌, codes, decimal}
+use Rattle.std.specs.Int.{w16, to_be_bytes}
+use Rattle.std.specs.Fmt.{digits}
+use Rattle.hex.specs.Hex.{encode_lower}
+use Rattle.iofd_words.specs.Refusal.{errno_of, errno_number}
+use Rattle.iofd_words.specs.Fault.{reason_number}
+use Rattle.iofd_words.specs.declared.refusal.Cause.{Cause}
+use Rattle.iofd_words.specs.declared.refusal.Errno.{Errno}
+use Rattle.iofd_words.specs.declared.fault.Fault.{Fault}
+use Rattle.iofd_words.specs.declared.reply.Reply.{Reply}
+use Rattle.iofd_words.specs.declared.reply.Reply.TheVariants as reply
+use Rattle.iofd_words.specs.declared.query.Answer.{Answer}
+use Rattle.iofd_words.specs.declared.query.Answer.TheVariants as answer
+use Rattle.ioctl_codec.specs.Spelling.{written_back}
+use Rattle.ioctl_codec.specs.declared.command.Command.{Command}
+use Rattle.iommufd_cli.specs.Names.{cause_name, kind_name}
+
+-- a text as a line: a line feed ends it
+abbrev pub line : List ℕ → List ℕ
+line text = text ++ codes "\n"
+
+-- the errno, and the cause's name
+abbrev pub refusal_text : Cause → List ℕ
+refusal_text cause = decimal (errno_number (errno_of cause)) ++ codes " " ++ cause_name cause
+
+-- an UNMAP that has to be called again
+abbrev pub pending_text : Errno → List ℕ
+pending_text errno = decimal (errno_number errno) ++ codes " Pending"
+
+-- want of memory
+abbrev pub memory_text : List ℕ
+memory_text = codes "12 Memory"
+
+-- which line of a script is bad, counted from 1
+abbrev pub bad_line_text : ℕ → List ℕ
+bad_line_text number = codes "bad line " ++ decimal number
+
+-- the reason and the page have no leading zeros; the source id has four digits, those of its high byte first
+abbrev pub fault_text : Fault → List ℕ
+fault_text fault =
+    codes "fault " ++ decimal (reason_number fault.reason)
+    ++ codes " source " ++ encode_lower (to_be_bytes w16 fault.source.0)
+    ++ codes " page " ++ digits 16 false fault.page
+    ++ codes " " ++ kind_name fault.kind
+
+-- a step that is no ioctl
+abbrev pub reply_text : Reply → List ℕ
+reply_text reply.Done = codes "ok"
+reply_text (reply.Id id) = codes "ok id " ++ decimal id.0
+reply_text (reply.Iova iova) = codes "ok"
+reply_text (reply.Bytes count) = codes "ok"
+reply_text (reply.Pending errno) = pending_text errno
+reply_text (reply.Frame frame) = codes "ok frame " ++ decimal frame.0
+reply_text (reply.Passed frame) = codes "ok"
+reply_text (reply.Fault fault) = fault_text fault
+reply_text (reply.Refused refusal) = refusal_text refusal.cause
+
+-- errno 0, and in hex what is written back; it's nothing for a reply that the command never gets
+abbrev pub written_text : Command → Reply → List ℕ
+written_text command reply = codes "0 " ++ encode_lower (written_back command reply)
+
+-- an ioctl that was given this command
+abbrev pub ioctl_text : Command → Reply → List ℕ
+ioctl_text command (reply.Pending errno) = pending_text errno
+ioctl_text command (reply.Refused refusal) = refusal_text refusal.cause
+ioctl_text command reply.Done = written_text command reply.Done
+ioctl_text command (reply.Id id) = written_text command (reply.Id id)
+ioctl_text command (reply.Iova iova) = written_text command (reply.Iova iova)
+ioctl_text command (reply.Bytes count) = written_text command (reply.Bytes count)
+ioctl_text command (reply.Frame frame) = written_text command (reply.Frame frame)
+ioctl_text command (reply.Passed frame) = written_text command (reply.Passed frame)
+ioctl_text command (reply.Fault fault) = written_text command (reply.Fault fault)
+
+-- a look
+abbrev pub answer_text : Answer → List ℕ
+answer_text (answer.Read bytes) = codes "ok " ++ encode_lower bytes
+answer_text (answer.Fault fault) = fault_text fault
+answer_text (answer.Refused refusal) = refusal_text refusal.cause
+
+-- no memory to read the script or to open the server: the whole output
+abbrev pub no_memory_text : List ℕ
+no_memory_text = codes "no memory"

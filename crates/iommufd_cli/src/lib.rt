@@ -1,0 +1,17 @@
+//! The command-line program's texts. So far: the lines that it answers to the steps of a script.
+#![tactic(auto)]
+
+mod digits;
+mod line;
+mod names;
+mod replies;
+mod steps;
+
+pub use line::Line;
+pub use replies::{
+    answer_line, bad_line, ioctl_line, memory_line, no_memory_line, refusal_line, reply_line,
+};
+pub use steps::answer_step;
+
+#[cfg(test)]
+mod tests;

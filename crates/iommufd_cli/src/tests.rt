@@ -1,0 +1,203 @@
+//! Worked lines of the session's format, each with the line feed that ends it.
+
+use super::*;
+use ioctl_codec::Command;
+use iofd_words::{
+    AccessKind, Answer, Burst, Cause, Errno, Fault, FaultReason, FrameNo, Iova, MapFlags,
+    MapRequest, ObjId, Refusal, Reply, SourceId, UnmapRequest,
+};
+use std::test::Fail;
+
+const MAP: MapRequest = MapRequest {
+    flags: MapFlags(7),
+    ioas: ObjId(1),
+    user_va: 0x10000,
+    length: 0x1000,
+    iova: Iova(0x1000),
+};
+
+const UNMAP: UnmapRequest = UnmapRequest {
+    ioas: ObjId(1),
+    iova: Iova(0x4fff),
+    length: 0x1002,
+};
+
+const ALL_BYTES: &str = "ok 000102030405060708090a0b0c0d0e0f101112131415161718191a1b1c1d1e1f\
+202122232425262728292a2b2c2d2e2f303132333435363738393a3b3c3d3e3f\n";
+
+// Each cause, and the line of its refusal.
+const REFUSALS: [(Cause, &str); 29] = [
+    (Cause::Number, "25 Number\n"),
+    (Cause::Short, "22 Short\n"),
+    (Cause::Tail, "7 Tail\n"),
+    (Cause::Unsupported, "95 Unsupported\n"),
+    (Cause::Array, "22 Array\n"),
+    (Cause::Frames, "12 Frames\n"),
+    (Cause::Account, "12 Account\n"),
+    (Cause::Absent, "14 Absent\n"),
+    (Cause::Overlap, "17 Overlap\n"),
+    (Cause::Span, "2 Span\n"),
+    (Cause::Id, "2 Id\n"),
+    (Cause::InUse, "16 InUse\n"),
+    (Cause::Bound, "16 Bound\n"),
+    (Cause::Width, "22 Width\n"),
+    (Cause::Narrow, "98 Narrow\n"),
+    (Cause::Rights, "1 Rights\n"),
+    (Cause::Leaving, "22 Leaving\n"),
+    (Cause::NotHeld, "22 NotHeld\n"),
+    (Cause::Sum, "75 Sum\n"),
+    (Cause::Align, "22 Align\n"),
+    (Cause::NoRight, "22 NoRight\n"),
+    (Cause::Reserved, "22 Reserved\n"),
+    (Cause::Full, "28 Full\n"),
+    (Cause::List, "22 List\n"),
+    (Cause::Places, "90 Places\n"),
+    (Cause::Cross, "22 Cross\n"),
+    (Cause::InterruptRange, "22 InterruptRange\n"),
+    (Cause::Unattached, "2 Unattached\n"),
+    (Cause::Pending, "16 Pending\n"),
+];
+
+fn denied(source: u16, page: u64, kind: AccessKind, reason: FaultReason) -> Fault {
+    Fault {
+        source: SourceId(source),
+        page,
+        kind,
+        reason,
+    }
+}
+
+#[test]
+fn steps(rt: HostRuntime) -> Result<(), Fail> {
+    let beyond = denied(0x0100, 1 << 36, AccessKind::Read, FaultReason::BeyondWidth);
+    let denied_write = denied(0xbeef, 0, AccessKind::Write, FaultReason::WriteDenied);
+    let refusal = Refusal { cause: Cause::Id };
+    for (reply, text) in [
+        (Reply::Done, "ok\n"),
+        (Reply::Id(ObjId(2)), "ok id 2\n"),
+        (Reply::Id(ObjId(0x7fff_ffff)), "ok id 2147483647\n"),
+        (Reply::Frame(FrameNo(0)), "ok frame 0\n"),
+        (Reply::Frame(FrameNo(120)), "ok frame 120\n"),
+        (Reply::Passed(FrameNo(3)), "ok\n"),
+        (Reply::Pending(Errno::EAGAIN), "11 Pending\n"),
+        (
+            Reply::Fault(beyond),
+            "fault 4 source 0100 page 1000000000 read\n",
+        ),
+        (
+            Reply::Fault(denied_write),
+            "fault 5 source beef page 0 write\n",
+        ),
+        (Reply::Refused(refusal), "2 Id\n"),
+    ] {
+        assert_eq!(rt; reply_line(&reply).as_slice(), text.as_bytes());
+    }
+    Ok(())
+}
+
+#[test]
+fn ioctls(rt: HostRuntime) -> Result<(), Fail> {
+    let refusal = Refusal {
+        cause: Cause::Overlap,
+    };
+    let commands = [
+        Command::IoasAlloc,
+        Command::Destroy(ObjId(1)),
+        Command::IoasMap(MAP),
+        Command::IoasUnmap(UNMAP),
+    ];
+    let good = [
+        (Reply::Id(ObjId(1)), "0 0c0000000000000001000000\n"),
+        (Reply::Done, "0 0800000001000000\n"),
+        (
+            Reply::Iova(Iova(0x1000)),
+            "0 28000000070000000100000000000000000001000000000000100000000000000010000000000000\n",
+        ),
+        (
+            Reply::Bytes(0x1000),
+            "0 1800000001000000ff4f0000000000000010000000000000\n",
+        ),
+    ];
+    for (command, (reply, text)) in commands.iter().zip(good) {
+        assert_eq!(rt; ioctl_line(command, &reply).as_slice(), text.as_bytes());
+    }
+    for command in commands {
+        for (reply, text) in [
+            (Reply::Pending(Errno::EAGAIN), "11 Pending\n"),
+            (Reply::Pending(Errno::EDEADLOCK), "35 Pending\n"),
+            (Reply::Refused(refusal), "17 Overlap\n"),
+        ] {
+            assert_eq!(rt; ioctl_line(&command, &reply).as_slice(), text.as_bytes());
+        }
+    }
+    Ok(())
+}
+
+#[test]
+fn answers(rt: HostRuntime) -> Result<(), Fail> {
+    let fault = denied(0x18, 2, AccessKind::Read, FaultReason::ReadDenied);
+    let answer = Answer::Fault(fault);
+    let text = "fault 6 source 0018 page 2 read\n";
+    assert_eq!(rt; answer_line(&answer).as_slice(), text.as_bytes());
+    let refusal = Refusal {
+        cause: Cause::Cross,
+    };
+    let answer = Answer::Refused(refusal);
+    assert_eq!(rt; answer_line(&answer).as_slice(), b"22 Cross\n".as_slice());
+    Ok(())
+}
+
+#[test]
+fn bytes_read(rt: HostRuntime) -> Result<(), Fail> {
+    let mut all = [0; 64];
+    for (i, byte) in all.iter_mut().enumerate() {
+        *byte = i as u8;
+    }
+    let reads: [(&[u8], &str); 3] = [
+        (&[0xbe, 0xef], "ok beef\n"),
+        (&[0; 4], "ok 00000000\n"),
+        (&all, ALL_BYTES),
+    ];
+    for (bytes, text) in reads {
+        let answer = Answer::Read(Burst::new(bytes).expect(&rt, "1 to 64 bytes"));
+        assert_eq!(rt; answer_line(&answer).as_slice(), text.as_bytes());
+    }
+    Ok(())
+}
+
+#[test]
+fn refusals(rt: HostRuntime) -> Result<(), Fail> {
+    for (cause, text) in REFUSALS {
+        assert_eq!(rt; refusal_line(Refusal { cause }).as_slice(), text.as_bytes());
+    }
+    Ok(())
+}
+
+#[test]
+fn pages(rt: HostRuntime) -> Result<(), Fail> {
+    for (page, text) in [
+        (9, "fault 2 source 0010 page 9 read\n"),
+        (0x10, "fault 2 source 0010 page 10 read\n"),
+        (0xfee00, "fault 2 source 0010 page fee00 read\n"),
+        (u64::MAX, "fault 2 source 0010 page ffffffffffffffff read\n"),
+    ] {
+        let fault = denied(0x10, page, AccessKind::Read, FaultReason::NoContext);
+        assert_eq!(rt;
+            reply_line(&Reply::Fault(fault)).as_slice(),
+            text.as_bytes()
+        );
+    }
+    Ok(())
+}
+
+#[test]
+fn whole_outputs(rt: HostRuntime) -> Result<(), Fail> {
+    assert_eq!(rt; memory_line().as_slice(), b"12 Memory\n".as_slice());
+    assert_eq!(rt; no_memory_line().as_slice(), b"no memory\n".as_slice());
+    assert_eq!(rt; bad_line(8).as_slice(), b"bad line 8\n".as_slice());
+    assert_eq!(rt;
+        bad_line(u64::MAX).as_slice(),
+        b"bad line 18446744073709551615\n".as_slice()
+    );
+    Ok(())
+}

@@ -1,0 +1,13 @@
+use Rattle.std.proofs.Common.{◌≡◌, ◌+◌, ◌≤◌, length}
+use Rattle.iommufd_script.specs.Lines.{lines}
+use Rattle.iommufd_script.specs.Script.{first_bad, start}
+use Rattle.iommufd_script.proofs.script.first_bad_line.Given as goal
+
+abbrev pub invariant-loop-rest : goal.invariant-loop-rest
+invariant-loop-rest l = record {
+  same : first_bad l.number l.place (lines l.rest) ≡ first_bad 0 start (lines l.initial.rest);
+  count : l.number + length l.rest ≤ length l.initial.rest;
+}
+
+abbrev pub decreases-loop-rest : goal.decreases-loop-rest
+decreases-loop-rest l = length l.rest

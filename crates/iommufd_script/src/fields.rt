@@ -1,0 +1,170 @@
+//! The fields of a line, taken from its front.
+
+ghost use Rattle.std.specs.Prelude.{◌≡◌, ◌==◌, [], ◌∷◌, MatchOption, if◌then◌else◌, Some, None, length};
+ghost use Rattle.iommufd_script.specs.Fields.{fields, next, Decimal, Hex, Length, Source, AddressWidth, Bytes, Access};
+
+use crate::digits;
+use crate::hex_bytes::HexBytes;
+use crate::split::first_place;
+use iofd_words::{Burst, Width};
+use std::marker::Model;
+
+// The fields that are left of a line. There may be none, and a field may be empty.
+#[derive(Drop)]
+pub struct Fields<'a> {
+    rest: Option<&'a [u8]>,
+}
+
+impl<'a> Model for Fields<'a> {
+    ghost use Rattle.std.specs.Prelude.{List, ℕ};
+    ghost use Rattle.iommufd_script.specs.Fields.{fields_left};
+
+    ghost Value = { List (List ℕ) };
+
+    ghost view = { λ f. fields_left f.rest };
+}
+
+impl<'a> Fields<'a> {
+    // The fields of a line, at least one.
+    pub fn of(line: &'a [u8]) -> Fields<'a>
+        ensures { result ≡ fields line.now }
+    {
+        Fields { rest: Some(line) }
+    }
+
+    // The first field and those behind it.
+    pub fn split(self) -> Option<(&'a [u8], Fields<'a>)>
+        ensures { MatchOption result (self.entry ≡ []) (λ parts. self.entry ≡ parts.0.now ∷ parts.1) }
+    {
+        let line = self.rest?;
+        let end = first_place(line, b' ');
+        if end == line.len() {
+            return Some((line, Fields { rest: None }));
+        }
+        let (field, others) = line.split_at(end);
+        Some((
+            field,
+            Fields {
+                rest: Some(&others[1..]),
+            },
+        ))
+    }
+
+    // Whether no field is left.
+    fn is_empty(&self) -> bool
+        ensures { result ≡ (length self.now == 0) }
+    {
+        match self.rest {
+            None => true,
+            Some(_) => false,
+        }
+    }
+
+    // What was made of a line's fields, if none is left.
+    pub fn end<T: Drop>(self, made: T) -> Option<T>
+        ensures { result ≡ (if length self.entry == 0 then Some made else None) }
+    {
+        if self.is_empty() { Some(made) } else { None }
+    }
+
+    // A decimal number below 2^16.
+    #[tactic(auto, unfolding(crate::specs::Fields::next))]
+    pub fn decimal_u16(self) -> Option<(u16, Fields<'a>)>
+        ensures { result ≡ next (Decimal 16) self.entry }
+    {
+        let (field, others) = self.split()?;
+        Some((digits::decimal_u16(field)?, others))
+    }
+
+    // A decimal number below 2^32.
+    #[tactic(auto, unfolding(crate::specs::Fields::next))]
+    pub fn decimal_u32(self) -> Option<(u32, Fields<'a>)>
+        ensures { result ≡ next (Decimal 32) self.entry }
+    {
+        let (field, others) = self.split()?;
+        Some((digits::decimal_u32(field)?, others))
+    }
+
+    // A decimal number below 2^64.
+    #[tactic(auto, unfolding(crate::specs::Fields::next))]
+    pub fn decimal_u64(self) -> Option<(u64, Fields<'a>)>
+        ensures { result ≡ next (Decimal 64) self.entry }
+    {
+        let (field, others) = self.split()?;
+        Some((digits::decimal_u64(field)?, others))
+    }
+
+    // A hexadecimal number below 2^32.
+    #[tactic(auto, unfolding(crate::specs::Fields::next))]
+    pub fn hexadecimal_u32(self) -> Option<(u32, Fields<'a>)>
+        ensures { result ≡ next (Hex 32) self.entry }
+    {
+        let (field, others) = self.split()?;
+        Some((digits::hexadecimal_u32(field)?, others))
+    }
+
+    // A hexadecimal number below 2^64.
+    #[tactic(auto, unfolding(crate::specs::Fields::next))]
+    pub fn hexadecimal_u64(self) -> Option<(u64, Fields<'a>)>
+        ensures { result ≡ next (Hex 64) self.entry }
+    {
+        let (field, others) = self.split()?;
+        Some((digits::hexadecimal_u64(field)?, others))
+    }
+
+    // How many bytes an access has, 1 to 64.
+    #[tactic(auto, unfolding(crate::specs::Fields::next))]
+    pub fn length(self) -> Option<(u8, Fields<'a>)>
+        ensures { result ≡ next Length self.entry }
+    {
+        let (field, others) = self.split()?;
+        let length = digits::decimal_u64(field)?;
+        if length == 0 || length > 64 {
+            return None;
+        }
+        Some((length as u8, others))
+    }
+
+    // A device's source id.
+    #[tactic(auto, unfolding(crate::specs::Fields::next))]
+    pub fn source(self) -> Option<(u16, Fields<'a>)>
+        ensures { result ≡ next Source self.entry }
+    {
+        let (field, others) = self.split()?;
+        if field.len() != 4 {
+            return None;
+        }
+        Some((digits::hexadecimal_u16(field)?, others))
+    }
+
+    // The width of a device's addresses.
+    #[tactic(auto, unfolding(crate::specs::Fields::next))]
+    pub fn width(self) -> Option<(Width, Fields<'a>)>
+        ensures { result ≡ next AddressWidth self.entry }
+    {
+        let (field, others) = self.split()?;
+        if field == b"39".as_slice() {
+            Some((Width::Bits39, others))
+        } else {
+            None
+        }
+    }
+
+    // Bytes, or `-` for none.
+    #[tactic(auto, unfolding(crate::specs::Fields::next))]
+    pub fn bytes(self) -> Option<(HexBytes<'a>, Fields<'a>)>
+        ensures { result ≡ next Bytes self.entry }
+    {
+        let (field, others) = self.split()?;
+        Some((HexBytes::of(field)?, others))
+    }
+
+    // The bytes of one access, 1 to 64.
+    #[tactic(auto, unfolding(crate::specs::Fields::next))]
+    pub fn access(self) -> Option<(Burst, Fields<'a>)>
+        ensures { result ≡ next Access self.entry }
+    {
+        let (field, others) = self.split()?;
+        Some((HexBytes::of(field)?.to_burst()?, others))
+    }
+}

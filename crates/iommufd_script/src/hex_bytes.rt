@@ -1,0 +1,124 @@
+//! Bytes that a script spells in hexadecimal.
+
+ghost use Rattle.std.specs.Prelude.{◌≡◌, ◌==◌, ◌%◌, ◌/◌, ◌&&◌, ◌≤◌, Some, IfOk, IfSome, IsSome, ◌↔◌, length, nat_lt, slice_index, if◌then◌else◌, None, true, ◌<◌, ◌+◌, ◌*◌};
+ghost use Rattle.std.specs.Char.{digit_value};
+ghost use Rattle.std.specs.List.{list_all};
+ghost use Rattle.iofd_words.specs.Settings.{is_between};
+ghost use Rattle.iommufd_script.specs.Digits.{bytes_of, is_lower_digit, pairs};
+ghost use Rattle.iommufd_script.specs.Fields.{kept_if};
+
+use crate::digits::digit_of;
+use iofd_words::{Burst, NoMemory};
+use std::alloc::Allocator;
+use std::marker::Model;
+
+/// Bytes, as the digits that the script has for them. They take no memory.
+#[derive(Debug, Drop)]
+pub struct HexBytes<'a> {
+    // Two lower-case digits for each byte, the high four bits first.
+    digits: &'a [u8],
+}
+
+impl<'a> Model for HexBytes<'a> {
+    ghost use Rattle.std.specs.Prelude.{List, ℕ};
+    ghost use Rattle.std.specs.Prelude.{◌≡◌, true};
+    ghost use Rattle.std.specs.List.{list_all};
+    ghost use Rattle.iommufd_script.specs.Digits.{pairs, is_lower_digit};
+
+    ghost Value = { List ℕ };
+
+    ghost view = { λ bytes. pairs bytes.digits.now };
+
+    ghost invariant = { λ bytes. list_all is_lower_digit bytes.digits.now ≡ true };
+}
+
+// Whether each character is a hexadecimal digit in lower case.
+fn are_lower_digits(text: &[u8]) -> bool
+    ensures { result ≡ list_all is_lower_digit text.now }
+{
+    text.iter().all(|c| is_lower_digit(*c))
+}
+
+fn is_lower_digit(c: u8) -> bool
+    ensures { result ≡ is_lower_digit c }
+{
+    digit_of(c) < 16 && !c.is_ascii_uppercase()
+}
+
+// The byte of two digits, the high four bits first.
+fn byte_of(high: u8, low: u8) -> u8
+    requires high { digit_value high < 16 }
+    requires low { digit_value low < 16 }
+    ensures { result ≡ 16 * digit_value high + digit_value low }
+{
+    digit_of(high) * 16 + digit_of(low)
+}
+
+// The byte at a place of those that the digits are.
+#[tactic(auto, using(crate::proofs::Pairs::pair_at, crate::proofs::Pairs::lower_small))]
+fn pair_at(digits: &[u8], i: usize) -> u8
+    requires within { 2 * i + 1 < length digits.now }
+    requires lower { list_all is_lower_digit digits.now ≡ true }
+    ensures { result ≡ slice_index (pairs digits.now) i }
+{
+    byte_of(digits[2 * i], digits[2 * i + 1])
+}
+
+impl<'a> HexBytes<'a> {
+    // The bytes of a field: `-` for none, or the digits of at least one.
+    #[tactic(auto, unfolding(crate::specs::Digits::bytes_of))]
+    pub fn of(text: &'a [u8]) -> Option<HexBytes<'a>>
+        ensures { result ≡ bytes_of text.now }
+    {
+        if text == b"-".as_slice() {
+            return Some(HexBytes { digits: &[] });
+        }
+        if text.is_empty() || text.len() % 2 != 0 || !are_lower_digits(text) {
+            return None;
+        }
+        Some(HexBytes { digits: text })
+    }
+
+    /// How many they are.
+    #[tactic(auto, using(crate::proofs::Pairs::length_pairs))]
+    pub fn len(&self) -> usize
+        ensures { result ≡ length self.now }
+    {
+        self.digits.len() / 2
+    }
+
+    // The byte at a place.
+    #[tactic(auto, using(crate::proofs::Pairs::length_pairs))]
+    fn byte_at(&self, i: usize) -> u8
+        requires { i < length self.now }
+        ensures { result ≡ slice_index self.now i }
+    {
+        pair_at(self.digits, i)
+    }
+
+    /// They, in memory of this allocator. The error comes only where the memory was refused.
+    pub fn to_vec<A: Allocator>(&self, alloc: A) -> Result<Vec<u8, A>, NoMemory>
+        ensures { IfOk result (λ bytes. bytes.items ≡ self.now) }
+    {
+        let mut bytes = Vec::with_capacity(alloc, self.len())?;
+        for i in 0..self.len() {
+            bytes.push(self.byte_at(i))?;
+        }
+        Ok(bytes)
+    }
+
+    // They, as the bytes of one access; None where they aren't 1 to 64.
+    pub fn to_burst(&self) -> Option<Burst>
+        ensures { result ≡ (if is_between 1 64 (length self.now) then Some self.now else None) }
+    {
+        let len = self.len();
+        if len > Burst::MAX {
+            return None;
+        }
+        let mut bytes = [0; 64];
+        for i in 0..len {
+            bytes[i] = self.byte_at(i);
+        }
+        Burst::new(&bytes[..len])
+    }
+}

@@ -1,0 +1,25 @@
+//! The script of `iommufd session`: its lines, the head that they open a server with, and its steps.
+#![tactic(auto)]
+
+mod digits;
+mod error;
+mod fields;
+mod hex_bytes;
+mod keyword;
+pub mod laws;
+mod line;
+mod opening;
+mod parsing;
+mod place;
+mod script;
+mod split;
+
+pub use error::ScriptError;
+pub use hex_bytes::HexBytes;
+pub use line::{HeadLine, Line, Step};
+pub use opening::read_script;
+pub use parsing::parse_line;
+pub use script::{Steps, first_bad_line};
+
+#[cfg(test)]
+mod tests;

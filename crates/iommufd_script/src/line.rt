@@ -1,0 +1,53 @@
+//! What the lines of a script say.
+
+use crate::hex_bytes::HexBytes;
+use iofd_words::{Burst, DeviceNo, FileNo, Iova, ObjId, SourceId, UserNo, Width};
+
+/// A line of the head.
+#[derive(Clone, Copy, PartialEq, Eq, Debug)]
+pub enum HeadLine {
+    /// The pool has so many frames.
+    Pool(u32),
+    /// The next user may pin so many pages.
+    User(u64),
+    /// The next file is this user's.
+    File(UserNo),
+    /// The next device has this source id and address width.
+    Device(SourceId, Width),
+    /// The steps begin.
+    Begin,
+}
+
+/// A step.
+#[derive(Debug, Drop)]
+pub enum Step<'a> {
+    /// A command of a file, by its number (0x3B80 and on) and its bytes.
+    Ioctl(FileNo, u32, HexBytes<'a>),
+    /// Closes a file.
+    Close(FileNo),
+    /// Gives a user a page at this user address.
+    UserMap(UserNo, u64),
+    /// Binds a device to a file.
+    Bind(FileNo, DeviceNo),
+    /// Attaches a device to the address space or the page table of this id.
+    Attach(DeviceNo, ObjId),
+    /// Ends a device's attachment.
+    Detach(DeviceNo),
+    /// A device forgets what it has cached.
+    Flush(DeviceNo),
+    /// A device reads so many bytes, 1 to 64.
+    DeviceRead(DeviceNo, Iova, u8),
+    /// A device writes these bytes.
+    DeviceWrite(DeviceNo, Iova, Burst),
+}
+
+/// A line of a script.
+#[derive(Debug, Drop)]
+pub enum Line<'a> {
+    /// An empty line, or one that begins with `#`: it says nothing.
+    Skipped,
+    /// A line of the head.
+    Head(HeadLine),
+    /// A step.
+    Step(Step<'a>),
+}

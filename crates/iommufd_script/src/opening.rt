@@ -1,0 +1,120 @@
+//! What a script opens a server with.
+
+ghost use Rattle.std.specs.Prelude.{◌≡◌, None, IfOk, OnOk};
+ghost use Rattle.iofd_words.specs.Limits.{first_outside};
+ghost use Rattle.iommufd_script.specs.Script.{first_bad_line};
+ghost use Rattle.iommufd_script.specs.Opening.{nothing_set, set_by, settings_of, script_of, Answers};
+
+use crate::error::ScriptError;
+use crate::line::{HeadLine, Line};
+use crate::parsing::parse_line;
+use crate::script::{Steps, first_bad_line};
+use crate::split::split_line;
+use iofd_words::{Config, DeviceConfig, NoMemory, SpanList, UserNo};
+use std::alloc::Allocator;
+use std::marker::Model;
+
+// What the lines of the head have said so far.
+#[derive(Drop)]
+struct Head<A: Allocator> {
+    pool: u32,
+    users: Vec<u64, A>,
+    files: Vec<UserNo, A>,
+    devices: Vec<DeviceConfig<A>, A>,
+}
+
+impl<A: Allocator> Model for Head<A> {
+    ghost use Rattle.iofd_words.specs.Settings.{Settings};
+
+    ghost Value = { Settings };
+
+    ghost view = { λ head. record { pool = head.pool; users = head.users.items; files = head.files.items; devices = head.devices.items; passes = 1 } };
+}
+
+impl<A: Allocator + Copy> Head<A> {
+    // Before the first line. It takes no memory.
+    fn new(alloc: A) -> Head<A>
+        ensures { result ≡ nothing_set }
+    {
+        Head {
+            pool: 0,
+            users: Vec::new(alloc),
+            files: Vec::new(alloc),
+            devices: Vec::new(alloc),
+        }
+    }
+
+    // Adds what a line says.
+    fn add(&mut self, alloc: A, line: HeadLine) -> Result<(), NoMemory>
+        ensures { OnOk result (self.new ≡ set_by self.old line) }
+    {
+        match line {
+            HeadLine::Pool(frames) => self.pool = frames,
+            HeadLine::User(limit) => self.users.push(limit)?,
+            HeadLine::File(user) => self.files.push(user)?,
+            HeadLine::Device(source, width) => {
+                let reserved = SpanList::new(Vec::new(alloc));
+                self.devices
+                    .push(DeviceConfig::new(source, width, false, reserved))?;
+            }
+            HeadLine::Begin => {}
+        }
+        Ok(())
+    }
+}
+
+// What the lines up to `begin` say.
+#[tactic(auto, unfolding(crate::specs::Opening::settings_of))]
+fn read_head<A: Allocator + Copy>(alloc: A, text: &[u8]) -> Result<Head<A>, NoMemory>
+    ensures { IfOk result (λ head. head ≡ settings_of text.now) }
+{
+    let mut head = Head::new(alloc);
+    let mut rest = text;
+    while !rest.is_empty() {
+        let (line, others) = split_line(rest);
+        rest = others;
+        if let Some(Line::Head(heading)) = parse_line(line) {
+            if heading == HeadLine::Begin {
+                return Ok(head);
+            }
+            head.add(alloc, heading)?;
+        }
+    }
+    Ok(head)
+}
+
+// The configuration that the head asks for.
+fn opened<A: Allocator>(head: Head<A>) -> Config<A>
+    requires { first_outside head ≡ None }
+    ensures { result ≡ head }
+{
+    let Head {
+        pool,
+        users,
+        files,
+        devices,
+    } = head;
+    match Config::new(pool, users, files, devices, 1) {
+        Ok(config) => config,
+        Err(_) => unreachable!(),
+    }
+}
+
+/// Reads a script whole: what it opens a server with, and its steps, of which each is read from the text
+/// as it is taken.
+///
+/// The error is BadLine with the number of the first bad line (`first_bad_line`), whatever memory there
+/// is; else NoMemory where the memory for the head was refused.
+#[tactic(auto, using(crate::proofs::Within::good_settings), unfolding(crate::specs::Opening::script_of))]
+pub fn read_script<'a, A: Allocator + Copy>(
+    alloc: A,
+    text: &'a [u8],
+) -> Result<(Config<A>, Steps<'a>), ScriptError>
+    ensures { Answers (λ script. script) result (script_of text.now) }
+{
+    if let Some(number) = first_bad_line(text) {
+        return Err(ScriptError::BadLine(number));
+    }
+    let head = read_head(alloc, text)?;
+    Ok((opened(head), Steps::of(text)))
+}

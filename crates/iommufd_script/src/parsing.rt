@@ -1,0 +1,200 @@
+//! From the text of a line to what it says.
+#![tactic(auto, unfolding(crate::specs::Grammar::head_of, crate::specs::Grammar::step_at))]
+
+ghost use Rattle.std.specs.Prelude.{◌≡◌};
+ghost use Rattle.std.specs.Char.{is_ascii};
+ghost use Rattle.std.specs.List.{list_all};
+ghost use Rattle.iommufd_script.specs.Grammar.{head_of, step_at};
+ghost use Rattle.iommufd_script.specs.Lines.{is_skipped, line_of};
+ghost use Rattle.iommufd_script.specs.declared.keyword.HeadKeyword.TheVariants as head;
+ghost use Rattle.iommufd_script.specs.declared.keyword.StepKeyword.TheVariants as step;
+
+use crate::fields::Fields;
+use crate::keyword::{HeadKeyword, StepKeyword, head_keyword, step_keyword};
+use crate::line::{HeadLine, Line, Step};
+use iofd_words::{DeviceNo, FileNo, Iova, ObjId, SourceId, UserNo};
+
+// `pool <n>`
+fn pool(fields: Fields<'_>) -> Option<HeadLine>
+    ensures { result ≡ head_of head.Pool fields.entry }
+{
+    let (frames, fields) = fields.decimal_u32()?;
+    fields.end(HeadLine::Pool(frames))
+}
+
+// `user <n>`
+fn user(fields: Fields<'_>) -> Option<HeadLine>
+    ensures { result ≡ head_of head.User fields.entry }
+{
+    let (limit, fields) = fields.decimal_u64()?;
+    fields.end(HeadLine::User(limit))
+}
+
+// `file <n>`
+fn file(fields: Fields<'_>) -> Option<HeadLine>
+    ensures { result ≡ head_of head.File fields.entry }
+{
+    let (user, fields) = fields.decimal_u16()?;
+    fields.end(HeadLine::File(UserNo(user)))
+}
+
+// `device <4 hex digits> 39`
+fn device(fields: Fields<'_>) -> Option<HeadLine>
+    ensures { result ≡ head_of head.Device fields.entry }
+{
+    let (source, fields) = fields.source()?;
+    let (width, fields) = fields.width()?;
+    fields.end(HeadLine::Device(SourceId(source), width))
+}
+
+// `begin`
+fn begin(fields: Fields<'_>) -> Option<HeadLine>
+    ensures { result ≡ head_of head.Begin fields.entry }
+{
+    fields.end(HeadLine::Begin)
+}
+
+// A line of the head, by its word and the fields behind it.
+#[tactic(auto)]
+fn head_line(keyword: HeadKeyword, fields: Fields<'_>) -> Option<HeadLine>
+    ensures { result ≡ head_of keyword fields.entry }
+{
+    match keyword {
+        HeadKeyword::Pool => pool(fields),
+        HeadKeyword::User => user(fields),
+        HeadKeyword::File => file(fields),
+        HeadKeyword::Device => device(fields),
+        HeadKeyword::Begin => begin(fields),
+    }
+}
+
+// `ioctl <file> <x> <h>`
+fn ioctl<'a>(fields: Fields<'a>) -> Option<Step<'a>>
+    ensures { result ≡ step_at step.Ioctl fields.entry }
+{
+    let (file, fields) = fields.decimal_u16()?;
+    let (number, fields) = fields.hexadecimal_u32()?;
+    let (bytes, fields) = fields.bytes()?;
+    fields.end(Step::Ioctl(FileNo(file), number, bytes))
+}
+
+// `close <file>`
+fn close<'a>(fields: Fields<'a>) -> Option<Step<'a>>
+    ensures { result ≡ step_at step.Close fields.entry }
+{
+    let (file, fields) = fields.decimal_u16()?;
+    fields.end(Step::Close(FileNo(file)))
+}
+
+// `umap <user> <x>`
+fn umap<'a>(fields: Fields<'a>) -> Option<Step<'a>>
+    ensures { result ≡ step_at step.UserMap fields.entry }
+{
+    let (user, fields) = fields.decimal_u16()?;
+    let (address, fields) = fields.hexadecimal_u64()?;
+    fields.end(Step::UserMap(UserNo(user), address))
+}
+
+// `bind <file> <device>`
+fn bind<'a>(fields: Fields<'a>) -> Option<Step<'a>>
+    ensures { result ≡ step_at step.Bind fields.entry }
+{
+    let (file, fields) = fields.decimal_u16()?;
+    let (device, fields) = fields.decimal_u16()?;
+    fields.end(Step::Bind(FileNo(file), DeviceNo(device)))
+}
+
+// `attach <device> <id>`
+fn attach<'a>(fields: Fields<'a>) -> Option<Step<'a>>
+    ensures { result ≡ step_at step.Attach fields.entry }
+{
+    let (device, fields) = fields.decimal_u16()?;
+    let (id, fields) = fields.decimal_u32()?;
+    fields.end(Step::Attach(DeviceNo(device), ObjId(id)))
+}
+
+// `detach <device>`
+fn detach<'a>(fields: Fields<'a>) -> Option<Step<'a>>
+    ensures { result ≡ step_at step.Detach fields.entry }
+{
+    let (device, fields) = fields.decimal_u16()?;
+    fields.end(Step::Detach(DeviceNo(device)))
+}
+
+// `flush <device>`
+fn flush<'a>(fields: Fields<'a>) -> Option<Step<'a>>
+    ensures { result ≡ step_at step.Flush fields.entry }
+{
+    let (device, fields) = fields.decimal_u16()?;
+    fields.end(Step::Flush(DeviceNo(device)))
+}
+
+// `dread <device> <x> <len>`
+fn dread<'a>(fields: Fields<'a>) -> Option<Step<'a>>
+    ensures { result ≡ step_at step.DeviceRead fields.entry }
+{
+    let (device, fields) = fields.decimal_u16()?;
+    let (iova, fields) = fields.hexadecimal_u64()?;
+    let (length, fields) = fields.length()?;
+    fields.end(Step::DeviceRead(DeviceNo(device), Iova(iova), length))
+}
+
+// `dwrite <device> <x> <h>`
+fn dwrite<'a>(fields: Fields<'a>) -> Option<Step<'a>>
+    ensures { result ≡ step_at step.DeviceWrite fields.entry }
+{
+    let (device, fields) = fields.decimal_u16()?;
+    let (iova, fields) = fields.hexadecimal_u64()?;
+    let (bytes, fields) = fields.access()?;
+    fields.end(Step::DeviceWrite(DeviceNo(device), Iova(iova), bytes))
+}
+
+// A step, by its word and the fields behind it.
+#[tactic(auto)]
+fn step<'a>(keyword: StepKeyword, fields: Fields<'a>) -> Option<Step<'a>>
+    ensures { result ≡ step_at keyword fields.entry }
+{
+    match keyword {
+        StepKeyword::Ioctl => ioctl(fields),
+        StepKeyword::Close => close(fields),
+        StepKeyword::UserMap => umap(fields),
+        StepKeyword::Bind => bind(fields),
+        StepKeyword::Attach => attach(fields),
+        StepKeyword::Detach => detach(fields),
+        StepKeyword::Flush => flush(fields),
+        StepKeyword::DeviceRead => dread(fields),
+        StepKeyword::DeviceWrite => dwrite(fields),
+    }
+}
+
+fn is_ascii_text(text: &[u8]) -> bool
+    ensures { result ≡ list_all is_ascii text.now }
+{
+    text.iter().all(|c| c.is_ascii())
+}
+
+// Whether the line says nothing: it's empty, or begins with `#`.
+fn is_skipped(text: &[u8]) -> bool
+    ensures { result ≡ is_skipped text.now }
+{
+    text.is_empty() || text[0] == b'#'
+}
+
+/// What a line says, given without its line feed; None where it isn't of the grammar. It takes no
+/// memory, and takes time by the line's length alone.
+#[tactic(auto, unfolding(crate::specs::Lines::line_of))]
+pub fn parse_line(text: &[u8]) -> Option<Line<'_>>
+    ensures { result ≡ line_of text.now }
+{
+    if !is_ascii_text(text) {
+        return None;
+    }
+    if is_skipped(text) {
+        return Some(Line::Skipped);
+    }
+    let (word, fields) = Fields::of(text).split()?;
+    if let Some(keyword) = head_keyword(word) {
+        return Some(Line::Head(head_line(keyword, fields)?));
+    }
+    Some(Line::Step(step(step_keyword(word)?, fields)?))
+}

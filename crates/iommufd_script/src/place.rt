@@ -1,0 +1,89 @@
+//! The order of a script's lines.
+
+ghost use Rattle.std.specs.Prelude.{◌≡◌, IsTrue};
+ghost use Rattle.iommufd_script.specs.Script.{start, allows, behind, after};
+
+use crate::line::{HeadLine, Line};
+
+/// How far a script has come: whether its pool was given, how many users, files and devices were, and
+/// whether the steps have begun.
+#[derive(Clone, Copy, PartialEq, Eq, Debug)]
+pub struct Place {
+    pub pool: bool,
+    pub users: u16,
+    pub files: u16,
+    pub devices: u16,
+    pub begun: bool,
+}
+
+impl Place {
+    // Before the first line.
+    pub fn start() -> Place
+        ensures { result ≡ start }
+    {
+        Place {
+            pool: false,
+            users: 0,
+            files: 0,
+            devices: 0,
+            begun: false,
+        }
+    }
+
+    // Whether such a line of the head may come here.
+    fn allows(self, line: HeadLine) -> bool
+        ensures { result ≡ allows self line }
+    {
+        match line {
+            HeadLine::Pool(frames) => !self.pool && frames >= 1 && frames <= 4096,
+            HeadLine::User(_) => self.pool && self.files == 0 && self.users < 255,
+            HeadLine::File(user) => {
+                user.0 >= 1 && user.0 <= self.users && self.devices == 0 && self.files < 1024
+            }
+            HeadLine::Device(_, _) => self.files > 0 && self.devices == 0,
+            HeadLine::Begin => self.files > 0,
+        }
+    }
+
+    // The place behind it.
+    fn behind(self, line: HeadLine) -> Place
+        requires { IsTrue (allows self line) }
+        ensures { result ≡ behind self line }
+    {
+        match line {
+            HeadLine::Pool(_) => Place { pool: true, ..self },
+            HeadLine::User(_) => Place {
+                users: self.users + 1,
+                ..self
+            },
+            HeadLine::File(_) => Place {
+                files: self.files + 1,
+                ..self
+            },
+            HeadLine::Device(_, _) => Place {
+                devices: self.devices + 1,
+                ..self
+            },
+            HeadLine::Begin => Place {
+                begun: true,
+                ..self
+            },
+        }
+    }
+
+    // The place behind a line; None where it may not come here, or isn't of the grammar.
+    pub fn after(self, line: Option<Line<'_>>) -> Option<Place>
+        ensures { result ≡ after self line.entry }
+    {
+        match line? {
+            Line::Skipped => Some(self),
+            Line::Head(heading) => {
+                if self.begun || !self.allows(heading) {
+                    return None;
+                }
+                Some(self.behind(heading))
+            }
+            Line::Step(_) => { if self.begun { Some(self) } else { None } }
+        }
+    }
+}
