@@ -1,1 +1,2 @@
 pub mod HexDigits
+pub mod Written

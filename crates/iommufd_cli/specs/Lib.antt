@@ -1,3 +1,4 @@
 pub mod Names
 pub mod Replies
 pub mod Steps
+pub mod Session

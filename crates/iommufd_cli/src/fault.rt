@@ -1,0 +1,18 @@
+//! Why a program of the command line fails.
+
+use std::io;
+use thiserror::Error;
+
+/// Why reading or writing failed.
+#[derive(Debug, Drop, Error)]
+pub enum CliFault {
+    /// The input has more than 2^24 bytes.
+    #[error("the input has more than 16777216 bytes")]
+    Input,
+    /// The input couldn't be read.
+    #[error("can't read the input: {0}")]
+    Read(io::Error),
+    /// The output couldn't be written.
+    #[error("can't write the output: {0}")]
+    Write(io::Error),
+}
