@@ -5,7 +5,7 @@ use Rattle.std.specs.Io.KnownBytes.{Appends}
 use Rattle.std.specs.Option.{IfSome, option_map}
 use Rattle.iommufd_cli.specs.Session.{StepsText}
 use Rattle.iommufd_cli.specs.Steps.{IsAnswered}
-use Rattle.iommufd_core.specs.History.{History}
+use Rattle.iommufd_core.specs.Server.{Server}
 use Rattle.iommufd_script.specs.declared.line.Step.{Step}
 
 -- bytes, and then more
@@ -22,11 +22,11 @@ appends_none (Some xs) = sym (append-nil xs)
 
 module _ {A : Type 0} where
   -- the lines of a step and of the steps behind it
-  pub text_more : (h after : History A) (steps others : List Step) (step : Step) (text rest : List ℕ) → steps ≡ step ∷ others → IsAnswered h step text after → StepsText after others rest → StepsText h steps (text ++ rest)
-  text_more h after steps others step text rest is answered later = subst (λ l. StepsText h l (text ++ rest)) (sym is) (text, after, rest, answered, later, refl)
+  pub text_more : (s after : Server A) (steps others : List Step) (step : Step) (text rest : List ℕ) → steps ≡ step ∷ others → IsAnswered s step text after → StepsText after others rest → StepsText s steps (text ++ rest)
+  text_more s after steps others step text rest is answered later = subst (λ l. StepsText s l (text ++ rest)) (sym is) (text, after, rest, answered, later, refl)
 
-  pub text_none : (h : History A) (steps : List Step) → steps ≡ [] → StepsText h steps []
-  text_none h steps is = subst (λ l. StepsText h l []) (sym is) refl
+  pub text_none : (s : Server A) (steps : List Step) → steps ≡ [] → StepsText s steps []
+  text_none s steps is = subst (λ l. StepsText s l []) (sym is) refl
 
 -- ---- reading
 

@@ -1,5 +1,5 @@
--- One step of a session: the line that it is answered with, and the history behind it.
-use Rattle.std.specs.Prelude.{◌≡◌, ◌⊎◌, ℕ, Some, None, List}
+-- One step of a session: the line that it is answered with, and the server behind it.
+use Rattle.std.specs.Prelude.{◌≡◌, ◌⊎◌, ◌<◌, ℕ, Some, None, List, length}
 use Rattle.iofd_words.specs.Checks.{refusal}
 use Rattle.iofd_words.specs.Look.{answers_to}
 use Rattle.iofd_words.specs.Run.{IsRun}
@@ -16,7 +16,8 @@ use Rattle.ioctl_codec.specs.declared.command.Command.{Command}
 use Rattle.ioctl_codec.specs.declared.command.Command.TheVariants as command
 use Rattle.iommufd_cli.specs.Replies.{answer_text, ioctl_text, line, memory_text, refusal_text, reply_text}
 use Rattle.iommufd_core.specs.Choice.{IsChosen, last_of}
-use Rattle.iommufd_core.specs.History.{History, with_record, world}
+use Rattle.iommufd_core.specs.History.{with_record, world}
+use Rattle.iommufd_core.specs.Server.{MayWant, Server}
 use Rattle.iommufd_script.specs.declared.line.Step.{Step}
 use Rattle.iommufd_script.specs.declared.line.Step.TheVariants as step
 
@@ -29,41 +30,48 @@ event_of file (command.IoasUnmap request) = event.Unmap file request
 
 module _ {A : Type 0} where
   -- the event is recorded with this reply, which is the one that is chosen, as caller 0's
-  pub record IsRecorded (h : History A) (e : Event) (reply : Reply) (after : History A) : Type 0 where
-    pub record_is : after ≡ with_record (record { 0 = 0 }) e reply h
-    pub run : IsRun after.settings after.records
-    pub chosen : refusal (world h) e ≡ None → IsChosen (world h) e None reply
+  pub record IsRecorded (s : Server A) (e : Event) (reply : Reply) (after : Server A) : Type 0 where
+    pub record_is : after.history ≡ with_record (record { 0 = 0 }) e reply s.history
+    pub run : IsRun after.history.settings after.history.records
+    pub chosen : refusal (world s.history) e ≡ None → IsChosen (world s.history) e None reply
 
-  -- memory was wanting: nothing changes
-  pub record IsWanting (h : History A) (text : List ℕ) (after : History A) : Type 0 where
-    pub same : after ≡ h
+  -- memory was wanting for the event or its record: nothing changes
+  pub record IsWanting (s : Server A) (e : Event) (text : List ℕ) (after : Server A) : Type 0 where
+    pub wants : MayWant s e
+    pub same : after.history ≡ s.history
+    pub text_is : text ≡ line memory_text
+
+  -- memory was wanting for the bytes of an ioctl: nothing changes
+  pub record IsUnread (s : Server A) (bytes text : List ℕ) (after : Server A) : Type 0 where
+    pub some : 0 < length bytes
+    pub same : after ≡ s
     pub text_is : text ≡ line memory_text
 
   -- an event: it is recorded, and the line tells its reply; or memory was wanting
-  abbrev pub IsApplied : History A → Event → (Reply → List ℕ) → List ℕ → History A → Type 0
-  IsApplied h e told text after = ((reply : Reply) × IsRecorded h e reply after × (text ≡ line (told reply))) ⊎ IsWanting h text after
+  abbrev pub IsApplied : Server A → Event → (Reply → List ℕ) → List ℕ → Server A → Type 0
+  IsApplied s e told text after = ((reply : Reply) × IsRecorded s e reply after × (text ≡ line (told reply))) ⊎ IsWanting s e text after
 
   -- bytes that spell no command are refused
-  pub record IsUndecoded (h : History A) (number : ℕ) (bytes text : List ℕ) (after : History A) : Type 0 where
+  pub record IsUndecoded (s : Server A) (number : ℕ) (bytes text : List ℕ) (after : Server A) : Type 0 where
     pub cause : Cause
     pub first : codec.refusal number bytes ≡ Some cause
-    pub same : after ≡ h
+    pub same : after ≡ s
     pub text_is : text ≡ line (refusal_text cause)
 
   -- an ioctl: its bytes are refused, or the event of the command that they spell is applied
-  abbrev pub IsIoctl : History A → FileNo → ℕ → List ℕ → List ℕ → History A → Type 0
-  IsIoctl h file number bytes text after =
-      IsUndecoded h number bytes text after ⊎ ((c : Command) × Spells number bytes c × IsApplied h (event_of file c) (ioctl_text c) text after) ⊎ IsWanting h text after
+  abbrev pub IsIoctl : Server A → FileNo → ℕ → List ℕ → List ℕ → Server A → Type 0
+  IsIoctl s file number bytes text after =
+      IsUndecoded s number bytes text after ⊎ ((c : Command) × Spells number bytes c × IsApplied s (event_of file c) (ioctl_text c) text after) ⊎ IsUnread s bytes text after
 
   -- a step of the script
-  abbrev pub IsAnswered : History A → Step → List ℕ → History A → Type 0
-  IsAnswered h (step.Ioctl file number bytes) text after = IsIoctl h file number bytes text after
-  IsAnswered h (step.Close file) text after = IsApplied h (event.Close file) reply_text text after
-  IsAnswered h (step.UserMap user va) text after = IsApplied h (event.UserMap user va) reply_text text after
-  IsAnswered h (step.Bind file device) text after = IsApplied h (event.Bind file device) reply_text text after
-  IsAnswered h (step.Attach device pt_id) text after = IsApplied h (event.Attach device pt_id) reply_text text after
-  IsAnswered h (step.Detach device) text after = IsApplied h (event.Detach device) reply_text text after
-  IsAnswered h (step.Flush device) text after = IsApplied h (event.Flush device) reply_text text after
-  IsAnswered h (step.DeviceRead device iova len) text after =
-      (after ≡ h) × (answer : Answer) × (last_of (answers_to (world h) (query.DeviceRead device iova len)) ≡ Some answer) × (text ≡ line (answer_text answer))
-  IsAnswered h (step.DeviceWrite device iova bytes) text after = IsApplied h (event.DeviceWrite device iova bytes) reply_text text after
+  abbrev pub IsAnswered : Server A → Step → List ℕ → Server A → Type 0
+  IsAnswered s (step.Ioctl file number bytes) text after = IsIoctl s file number bytes text after
+  IsAnswered s (step.Close file) text after = IsApplied s (event.Close file) reply_text text after
+  IsAnswered s (step.UserMap user va) text after = IsApplied s (event.UserMap user va) reply_text text after
+  IsAnswered s (step.Bind file device) text after = IsApplied s (event.Bind file device) reply_text text after
+  IsAnswered s (step.Attach device pt_id) text after = IsApplied s (event.Attach device pt_id) reply_text text after
+  IsAnswered s (step.Detach device) text after = IsApplied s (event.Detach device) reply_text text after
+  IsAnswered s (step.Flush device) text after = IsApplied s (event.Flush device) reply_text text after
+  IsAnswered s (step.DeviceRead device iova len) text after =
+      (after ≡ s) × (answer : Answer) × (last_of (answers_to (world s.history) (query.DeviceRead device iova len)) ≡ Some answer) × (text ≡ line (answer_text answer))
+  IsAnswered s (step.DeviceWrite device iova bytes) text after = IsApplied s (event.DeviceWrite device iova bytes) reply_text text after

@@ -38,3 +38,8 @@ if_ok (Err e) P Q weaker known = known
 pub on_err : {X E : Type 0} (r : Result X E) (P Q : Type 0) → (P → Q) → OnErr r P → OnErr r Q
 on_err (Ok x) P Q weaker known = known
 on_err (Err e) P Q weaker known = weaker known
+
+-- what holds anyway holds on an error
+pub on_err_same : {X E : Type 0} (r : Result X E) (P : Type 0) → P → OnErr r P
+on_err_same (Ok x) P known = tt
+on_err_same (Err e) P known = known

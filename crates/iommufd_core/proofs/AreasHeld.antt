@@ -63,7 +63,7 @@ module _ {A : Type 0} where
       by_test false is none later = rw is (ap (λ l. object_of row ∷ l) (later (rw (not_first row rows file kind id is) at found)))
 
   -- the row of this kind is the first at the id
-  own_is_first : (rows : List (Row (Held A))) (file : FileNo) (kind : Kind) (id : ObjId) (old : Held A) → have_own_ids (map object_of rows) ≡ true → option_map (λ (row : Row (Held A)). row.value) (find (is_own file kind id) rows) ≡ Some old
+  pub own_is_first : (rows : List (Row (Held A))) (file : FileNo) (kind : Kind) (id : ObjId) (old : Held A) → have_own_ids (map object_of rows) ≡ true → option_map (λ (row : Row (Held A)). row.value) (find (is_own file kind id) rows) ≡ Some old
       → option_map (λ (row : Row (Held A)). row.value) (find (is_at file id) rows) ≡ Some old
   own_is_first [] file kind id old ids found = found
   own_is_first (row ∷ rows) file kind id old ids found =

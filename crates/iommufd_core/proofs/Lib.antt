@@ -33,6 +33,7 @@ pub mod PinnedAccess
 pub mod Placed
 pub mod Present
 pub mod Pushed
+pub mod RoomFound
 pub mod TableRows
 pub mod Touched
 pub mod Unmapped

@@ -37,7 +37,7 @@ use Rattle.iommufd_core.specs.Mapping.{first_pins}
 use Rattle.iommufd_core.specs.Refusals.{tests}
 use Rattle.iommufd_core.specs.Shows.{Shows}
 use Rattle.iommufd_core.specs.Spaces.{HasAreas, IsOrderly, is_space}
-use Rattle.iommufd_core.specs.Step.{IsTidy}
+use Rattle.iommufd_core.specs.Step.{IsTidy, TidyShowsSame}
 use Rattle.iommufd_core.specs.declared.held.Held.{Held}
 use Rattle.iommufd_core.specs.declared.state.State.{State}
 use Rattle.object_table.specs.Table.{Table}
@@ -61,6 +61,28 @@ module _ {A : Type 0} where
           let of_id = id_is i ioas parts.1 in
           rw (of_file, of_id) (here ∙ sym has.here)
       by_test false is = others f i is ∙ shows.areas f i ∙ sym (has.others f i is)
+
+  -- an area that doesn't come changes nothing
+  pub shows_unmapped : (at : ℕ) (s : State A) (file : FileNo) (ioas : ObjId) (table : Table (Held A)) (memory : Vec MemoryObject A) (pins : Vec Pin A)
+      → (IsOrderly s.objects → HasAreas file ioas (areas_at s.objects.rows file ioas) s.objects table)
+      → memory.items ≡ s.memory.items → pins.items ≡ s.pins.items
+      → TidyShowsSame at s (record s { objects = table; memory = memory; pins = pins })
+  shows_unmapped at s file ioas table memory pins stays same_memory same_pins w tidy shows =
+      let has = stays (orderly at w s tidy shows) in
+      record {
+        settings = shows.settings;
+        objects = shows.objects ∙ sym has.objects;
+        proper = has.proper;
+        areas = areas_become w.areas w s file ioas (areas_at s.objects.rows file ioas) table shows has (shows.areas file ioas) (λ f i other. refl);
+        files = λ number. rw has.files (shows.files number);
+        bindings = shows.bindings;
+        attachments = shows.attachments;
+        memory = shows.memory ∙ sym same_memory;
+        user_pages = shows.user_pages;
+        pins = shows.pins ∙ sym same_pins;
+        frames = shows.frames;
+        bytes = shows.bytes;
+      }
 
   -- pins at what is kept
   pins_shown : (w : World) (s : State A) (m : MemoryObject) (file : FileNo) (ioas : ObjId) (count : ℕ) → Shows w s

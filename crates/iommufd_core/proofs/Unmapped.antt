@@ -116,7 +116,7 @@ module _ {A : Type 0} where
           }
 
       -- the touched areas are those of the address space that lie in the span
-      touched_within : (span : Bounds) → span ≡ unmapped_span request → touched w.areas file request ≡ areas_within span (own_areas s.objects file request.ioas)
+      pub touched_within : (span : Bounds) → span ≡ unmapped_span request → touched w.areas file request ≡ areas_within span (own_areas s.objects file request.ioas)
       touched_within span is_span = rw (is_span, own_shown) (touched_own file request w.areas ∙ met_within (unmapped_span request) (areas_of w.areas file request.ioas) are)
 
       pub bytes_shown : (span : Bounds) → span ≡ unmapped_span request → touched_bytes w.areas file request ≡ bytes_of (areas_within span (own_areas s.objects file request.ioas))

@@ -9,6 +9,8 @@ pub mod Outcomes
 pub mod Pages
 pub mod PinLists
 pub mod Refusals
+pub mod Room
+pub mod Server
 pub mod Shows
 pub mod Spaces
 pub mod Step

@@ -16,6 +16,7 @@ use Rattle.iofd_words.specs.Run.{Lawful, after}
 use Rattle.iofd_words.specs.declared.numbers.PassNo.{PassNo}
 use Rattle.iommufd_core.specs.Choice.{IsChosen, MayUse}
 use Rattle.iommufd_core.specs.History.{recorded}
+use Rattle.iommufd_core.specs.Room.{Lacks, room_of}
 use Rattle.iommufd_core.specs.Shows.{Shows}
 use Rattle.iommufd_core.specs.declared.state.State.{State}
 
@@ -57,3 +58,11 @@ module _ {A : Type 0} where
       (pass : PassNo) (w : World) → IsTidy at w → Shows w old → (refusal w event ≡ None → MayUse w event via)
       → Lawful w (recorded {A = A} pass event reply) × (refusal w event ≡ None → IsChosen w event via reply)
       × Shows (after at w (recorded {A = A} pass event reply)) new
+
+  -- where nothing refuses the event, it needs a place that isn't there
+  abbrev pub LacksPlace : ℕ → Event → State A → Type 0
+  LacksPlace at event s = (records : ℕ) (w : World) → IsTidy at w → Shows w s → refusal w event ≡ None → Lacks (room_of s records) w event
+
+  -- nothing refuses the event, and it needs a place that isn't there
+  abbrev pub MayWant : ℕ → Event → State A → Type 0
+  MayWant at event s = (records : ℕ) (w : World) → IsTidy at w → Shows w s → (refusal w event ≡ None) × Lacks (room_of s records) w event

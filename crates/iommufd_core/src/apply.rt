@@ -6,6 +6,7 @@ ghost use Rattle.iofd_words.specs.Look.{answers_to};
 ghost use Rattle.iofd_words.specs.Run.{IsRun};
 ghost use Rattle.iommufd_core.specs.Choice.{IsChosen, last_of};
 ghost use Rattle.iommufd_core.specs.History.{may_apply, passes_in, with_record, world};
+ghost use Rattle.iommufd_core.specs.Server.{MayWant};
 
 use crate::state::State;
 use crate::{access, device_read, events, opening};
@@ -23,8 +24,8 @@ pub struct Stamp {
     pub reply: Reply,
 }
 
-/// The server of one thread: what it was opened with, and its history. A contract sees both; the world is
-/// what the records have left.
+/// The server of one thread: what it was opened with, and its history. A contract sees both, and the places that are
+/// left in its lists; the world is what the records have left.
 #[derive(Drop)]
 pub struct Core<A: Allocator = Global> {
     state: State<A>,
@@ -32,12 +33,17 @@ pub struct Core<A: Allocator = Global> {
 }
 
 impl<A: Allocator> Model for Core<A> {
-    ghost use Rattle.iommufd_core.specs.History.{History};
+    ghost use Rattle.std.specs.Prelude.{◌-◌, vec_len, vec_capacity};
     ghost use Rattle.iommufd_core.specs.Kept.{IsKept};
+    ghost use Rattle.iommufd_core.specs.Room.{room_of};
+    ghost use Rattle.iommufd_core.specs.Server.{Server};
 
-    ghost Value = { History A };
+    ghost Value = { Server A };
 
-    ghost view = { λ c. record { settings = c.state.config; records = c.records.items } };
+    ghost view = { λ c. record {
+      history = record { settings = c.state.config; records = c.records.items };
+      room = room_of c.state (vec_capacity c.records - vec_len c.records);
+    } };
 
     ghost invariant = { λ c. IsKept c.state c.records.items };
 }
@@ -46,7 +52,7 @@ impl<A: Allocator + Copy> Core<A> {
     /// A core with this configuration and no record: all frames are free, all files open and empty. It fails
     /// only where memory does.
     pub fn new<B: Allocator>(alloc: A, config: &Config<B>) -> Result<Core<A>, NoMemory>
-        ensures { IfOk result (λ core. core ≡ record { settings = config.now; records = [] }) }
+        ensures { IfOk result (λ core. core.history ≡ record { settings = config.now; records = [] }) }
     {
         Ok(Core {
             state: opening::opened(alloc, config)?,
@@ -60,13 +66,16 @@ impl<A: Allocator + Copy> Core<A> {
     ///
     /// NoMemory comes only where a growth was really refused, and leaves everything as it was.
     pub fn apply(&mut self, pass: PassNo, act: &Act) -> Result<Stamp, NoMemory>
-        requires { IsTrue (may_apply self.old act.now.event act.now.via) }
-        ensures record { IfOk result (λ stamp. self.new ≡ with_record pass act.now.event stamp.reply self.old) }
-        ensures at { IfOk result (λ stamp. stamp.at ≡ length self.old.records) }
-        ensures run { IsRun self.new.settings self.new.records }
+        requires { IsTrue (may_apply self.old.history act.now.event act.now.via) }
+        ensures record { IfOk result (λ stamp. self.new.history ≡ with_record pass act.now.event stamp.reply self.old.history) }
+        ensures at { IfOk result (λ stamp. stamp.at ≡ length self.old.history.records) }
+        ensures run { IsRun self.new.history.settings self.new.history.records }
         ensures chosen { IfOk result (λ stamp.
-            checks.refusal (world self.old) act.now.event ≡ None → IsChosen (world self.old) act.now.event act.now.via stamp.reply) }
-        ensures unchanged { OnErr result (self.new ≡ self.old) }
+            checks.refusal (world self.old.history) act.now.event ≡ None → IsChosen (world self.old.history) act.now.event act.now.via stamp.reply) }
+
+        // Want of memory comes only where a place is lacking that the event or its record needs, and changes nothing.
+        ensures memory { OnErr result (MayWant self.old act.now.event) }
+        ensures unchanged { OnErr result (self.new.history ≡ self.old.history) }
     {
         let at = self.records.len() as u64;
         if self.records.reserve(1).is_err() {
@@ -91,7 +100,7 @@ impl<A: Allocator> Core<A> {
     /// Answers a question about the world. It takes no memory and changes nothing. A device that owes the area
     /// a flush is denied.
     pub fn look(&self, query: &Query) -> Answer
-        ensures { last_of (answers_to (world self.now) query.now) ≡ Some result }
+        ensures { last_of (answers_to (world self.now.history) query.now) ≡ Some result }
     {
         let (device, iova, len) = device_read::parts_of(query);
         device_read::look(&self.state, device, iova, len)
@@ -107,7 +116,7 @@ impl<A: Allocator> Core<A> {
         right: AccessKind,
         frame: FrameNo,
     ) -> bool
-        ensures { result ≡ passes_in (world self.now) device iova len right frame }
+        ensures { result ≡ passes_in (world self.now.history) device iova len right frame }
     {
         device_read::refusal(&self.state, device, iova, len).is_none()
             && access::may_pass(&self.state, device, iova.0, right, frame)
@@ -115,8 +124,8 @@ impl<A: Allocator> Core<A> {
 
     /// The records, from the first on.
     pub fn records(&self) -> &[Record<A>]
-        ensures value { result.now ≡ self.now.records }
-        ensures run { IsRun self.now.settings self.now.records }
+        ensures value { result.now ≡ self.now.history.records }
+        ensures run { IsRun self.now.history.settings self.now.history.records }
     {
         self.records.as_slice()
     }

@@ -8,6 +8,7 @@ ghost use Rattle.iofd_words.specs.Objects.{has_ioas, is_ioas};
 ghost use Rattle.iommufd_core.specs.Held.{areas_at, areas_in, kind_in, objects_in};
 ghost use Rattle.iommufd_core.specs.Spaces.{IsOrderly, IsWith, HasAreas};
 ghost use Rattle.iommufd_core.specs.Mapping.{own_areas, some_waits};
+ghost use Rattle.iommufd_core.specs.Room.{areas_left, left_in, space_room};
 
 use crate::held::Held;
 use area_map::{Areas, InsertError};
@@ -26,6 +27,7 @@ pub(crate) fn insert<A: Allocator>(
 ) -> Result<(), NoMemory>
     ensures ok { OnOk result (IsOrderly table.old → has_ioas (objects_in table.old) file ioas ≡ true → insert_refusal area.span (areas_at table.old.rows file ioas) ≡ None → HasAreas file ioas (with_area area (areas_at table.old.rows file ioas)) table.old table.new) }
     ensures err { OnErr result (IsOrderly table.old → HasAreas file ioas (areas_at table.old.rows file ioas) table.old table.new) }
+    ensures memory { OnErr result (IsOrderly table.old → areas_left (map space_room table.old.rows) file ioas ≡ 0) }
 {
     match table.get_mut(file, Kind::Ioas, ioas) {
         Ok(held) => insert_held(held, area),
@@ -36,6 +38,7 @@ pub(crate) fn insert<A: Allocator>(
 fn insert_held<A: Allocator>(held: &mut Held<A>, area: Area) -> Result<(), NoMemory>
     ensures ok { OnOk result (is_ioas (kind_in held.old) ≡ true → insert_refusal area.span (areas_in held.old) ≡ None → IsWith (with_area area (areas_in held.old)) held.old held.new) }
     ensures err { OnErr result (IsWith (areas_in held.old) held.old held.new) }
+    ensures memory { OnErr result (left_in held.old ≡ 0) }
 {
     match held {
         Held::Ioas(areas) => match areas.insert(area) {

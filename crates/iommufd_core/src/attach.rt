@@ -10,7 +10,7 @@ ghost use Rattle.iofd_words.specs.declared.event.Event.TheVariants as event;
 ghost use Rattle.iommufd_core.specs.Held.{areas_at, objects_in};
 ghost use Rattle.iommufd_core.specs.PinLists as words;
 ghost use Rattle.iommufd_core.specs.Refusals.{tests, lacks_attached_page, lacks_room_for_hwpt};
-ghost use Rattle.iommufd_core.specs.Step.{Steps, ShowsSame};
+ghost use Rattle.iommufd_core.specs.Step.{LacksPlace, ShowsSame, Steps};
 
 use crate::held::Held;
 use crate::state::State;
@@ -58,6 +58,7 @@ pub(crate) fn commit<A: Allocator>(
 ) -> Result<Reply, NoMemory>
     ensures ok { IfOk result (λ reply. (at : ℕ) → Steps at (event.Attach device pt_id) state.old reply state.new) }
     ensures err { OnErr result (ShowsSame state.old state.new) }
+    ensures memory { OnErr result ((at : ℕ) → LacksPlace at (event.Attach device pt_id) state.old) }
 {
     let Some(bound) = state.binding_of(device) else {
         return Ok(Reply::Done);

@@ -1,7 +1,7 @@
 //! Each event, refused or carried out.
 
 ghost use Rattle.std.specs.Prelude.{IfOk, OnErr};
-ghost use Rattle.iommufd_core.specs.Step.{Answered, ChosenSteps, IsRefusal, TidyShowsSame};
+ghost use Rattle.iommufd_core.specs.Step.{Answered, ChosenSteps, IsRefusal, LacksPlace, MayWant, TidyShowsSame};
 
 use crate::state::State;
 use crate::{
@@ -19,6 +19,7 @@ pub(crate) fn answer<A: Allocator + Copy>(
 ) -> Result<Reply, NoMemory>
     ensures ok { IfOk result (λ reply. Answered at act.now.event act.now.via state.old reply state.new) }
     ensures err { OnErr result (TidyShowsSame at state.old state.new) }
+    ensures memory { OnErr result (MayWant at act.now.event state.old) }
 {
     match refusal(state, &act.event) {
         Some(cause) => Ok(Reply::Refused(Refusal { cause })),
@@ -51,6 +52,7 @@ fn refusal<A: Allocator>(state: &State<A>, event: &Event) -> Option<Cause>
 fn commit<A: Allocator + Copy>(state: &mut State<A>, at: u64, act: &Act) -> Result<Reply, NoMemory>
     ensures ok { IfOk result (λ reply. ChosenSteps at act.now.event act.now.via state.old reply state.new) }
     ensures err { OnErr result (TidyShowsSame at state.old state.new) }
+    ensures memory { OnErr result (LacksPlace at act.now.event state.old) }
 {
     match &act.event {
         Event::IoasAlloc(file) => ioas_alloc::commit(state, *file),

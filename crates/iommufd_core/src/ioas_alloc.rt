@@ -4,7 +4,7 @@ ghost use Rattle.std.specs.Prelude.{◌≡◌, ℕ, IfOk, OnErr};
 ghost use Rattle.iofd_words.specs.FirstTrue.{first_true};
 ghost use Rattle.iofd_words.specs.declared.event.Event.TheVariants as event;
 ghost use Rattle.iommufd_core.specs.Refusals.{tests};
-ghost use Rattle.iommufd_core.specs.Step.{ShowsSame, Steps};
+ghost use Rattle.iommufd_core.specs.Step.{LacksPlace, ShowsSame, Steps};
 
 use crate::held::Held;
 use crate::state::State;
@@ -34,6 +34,7 @@ pub(crate) fn commit<A: Allocator + Copy>(
 ) -> Result<Reply, NoMemory>
     ensures ok { IfOk result (λ reply. (at : ℕ) → Steps at (event.IoasAlloc file) state.old reply state.new) }
     ensures err { OnErr result (ShowsSame state.old state.new) }
+    ensures memory { OnErr result ((at : ℕ) → LacksPlace at (event.IoasAlloc file) state.old) }
 {
     match state.objects.reserve(file) {
         Ok(_) => (),

@@ -1,6 +1,6 @@
 //! Pins: which frames devices may reach, page by page.
 
-ghost use Rattle.std.specs.Prelude.{◌≡◌, ◌<◌, ◌≤◌, ◌+◌, ◌/◌, ◌^◌, ◌++◌, ◌==◌, not, length, find, filter, OnOk, vec_len, vec_capacity};
+ghost use Rattle.std.specs.Prelude.{◌≡◌, ◌<◌, ◌≤◌, ◌+◌, ◌/◌, ◌^◌, ◌++◌, ◌==◌, not, length, find, filter, OnErr, OnOk, vec_len, vec_capacity};
 ghost use Rattle.std.specs.List.{flat_map, filter_map, list_any};
 ghost use Rattle.std.specs.Option.{option_copied};
 ghost use Rattle.iofd_words.specs.Pins as spec;
@@ -147,6 +147,7 @@ pub(crate) fn reserve_areas<A: Allocator>(
 ) -> Result<(), NoMemory>
     ensures items { pins.new.items ≡ pins.old.items }
     ensures ok { OnOk result (vec_len pins.new + length (flat_map spec.pages_of areas.now) ≤ vec_capacity pins.new) }
+    ensures memory { OnErr result (vec_capacity pins.old < vec_len pins.old + length (flat_map spec.pages_of areas.now)) }
 {
     let mut count = 0_usize;
     for area in areas {

@@ -6,7 +6,7 @@ ghost use Rattle.iofd_words.specs.FirstTrue.{first_true};
 ghost use Rattle.iofd_words.specs.Pages.{is_above_sum};
 ghost use Rattle.iofd_words.specs.declared.event.Event.TheVariants as event;
 ghost use Rattle.iommufd_core.specs.Refusals.{tests};
-ghost use Rattle.iommufd_core.specs.Step.{ShowsSame, Steps};
+ghost use Rattle.iommufd_core.specs.Step.{LacksPlace, ShowsSame, Steps};
 ghost use Rattle.iommufd_core.specs.Mapping.{is_among};
 
 use crate::map::is_above_sum;
@@ -57,6 +57,7 @@ pub(crate) fn commit<A: Allocator + Copy>(
 ) -> Result<Reply, NoMemory>
     ensures ok { IfOk result (λ reply. (at : ℕ) → Steps at (event.Unmap file request) state.old reply state.new) }
     ensures err { OnErr result (ShowsSame state.old state.new) }
+    ensures memory { OnErr result ((at : ℕ) → LacksPlace at (event.Unmap file request) state.old) }
 {
     // Nothing refuses it: so it names a span.
     let Some(span) = unmapped_span(request) else {

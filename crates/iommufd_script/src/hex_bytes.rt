@@ -1,6 +1,6 @@
 //! Bytes that a script spells in hexadecimal.
 
-ghost use Rattle.std.specs.Prelude.{◌≡◌, ◌==◌, ◌%◌, ◌/◌, ◌&&◌, ◌≤◌, Some, IfOk, IfSome, IsSome, ◌↔◌, length, nat_lt, slice_index, if◌then◌else◌, None, true, ◌<◌, ◌+◌, ◌*◌};
+ghost use Rattle.std.specs.Prelude.{◌≡◌, ◌==◌, ◌%◌, ◌/◌, ◌&&◌, ◌≤◌, Some, IfOk, OnErr, IfSome, IsSome, ◌↔◌, length, nat_lt, slice_index, if◌then◌else◌, None, true, ◌<◌, ◌+◌, ◌*◌};
 ghost use Rattle.std.specs.Char.{digit_value};
 ghost use Rattle.std.specs.List.{list_all};
 ghost use Rattle.iofd_words.specs.Settings.{is_between};
@@ -96,9 +96,10 @@ impl<'a> HexBytes<'a> {
         pair_at(self.digits, i)
     }
 
-    /// They, in memory of this allocator. The error comes only where the memory was refused.
+    /// They, in memory of this allocator. The error comes only where the memory was refused; no bytes need none.
     pub fn to_vec<A: Allocator>(&self, alloc: A) -> Result<Vec<u8, A>, NoMemory>
-        ensures { IfOk result (λ bytes. bytes.items ≡ self.now) }
+        ensures ok { IfOk result (λ bytes. bytes.items ≡ self.now) }
+        ensures memory { OnErr result (0 < length self.now) }
     {
         let mut bytes = Vec::with_capacity(alloc, self.len())?;
         for i in 0..self.len() {

@@ -1,7 +1,9 @@
-use Rattle.std.proofs.Common.{◌≡◌, None, refl, sym, ◌∙◌}
+use Rattle.std.proofs.Common.{◌≡◌, inr, None, refl, sym, ◌∙◌}
 use Rattle.iofd_words.specs.Answers.{Answers}
 use Rattle.iofd_words.specs.Files.{user_of}
-use Rattle.iommufd_core.proofs.Mapped.{area_taken, has_user, is_span, shows_mapped, some_length}
+use Rattle.iommufd_core.proofs.Mapped.{area_taken, has_user, is_span, shows_mapped, shows_unmapped, some_length}
+use Rattle.iommufd_core.proofs.Flushed.{orderly}
+use Rattle.iommufd_core.proofs.Answering.{on_err_same}
 use Rattle.iommufd_core.proofs.map.commit.Goals as goal
 
 pub returns-in_default-clause-ok : goal.returns-in_default-clause-ok
@@ -23,3 +25,11 @@ returns-clause-ok g c = λ w tidy shows none. (
       (rw (c.memory_object-object.ensures, c.reserve.ensures.items) at c.push_reserved.ensures.items)
       (rw (c.memory_object-object.ensures, c.reserve-2.ensures.items, c.deref.ensures.value, c.pinned_count-pinned.ensures.value) at c.pin_first.ensures),
 )
+
+pub returns-in_err-insert-clause-err : goal.returns-in_err-insert-clause-err
+returns-in_err-insert-clause-err g c =
+    on_err_same c.from_residual-in_err-insert.result _ (shows_unmapped c.args.at c.args.state.now c.args.file c.args.request.ioas _ _ _ c.in_err-insert.ensures.err c.reserve.ensures.items c.reserve-2.ensures.items)
+
+pub returns-in_err-insert-clause-memory : goal.returns-in_err-insert-clause-memory
+returns-in_err-insert-clause-memory g c =
+    on_err_same c.from_residual-in_err-insert.result _ (λ records w tidy shows none. inr (inr (c.in_err-insert.ensures.memory (orderly c.args.at w c.args.state.now tidy shows))))

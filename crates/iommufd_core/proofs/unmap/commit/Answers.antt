@@ -1,10 +1,11 @@
-use Rattle.std.proofs.Common.{refl, sym, ◌∙◌}
+use Rattle.std.proofs.Common.{◌≡◌, ◌<◌, ℕ, true, false, length, arith, refl, sym, ◌∙◌, ap}
 use Rattle.std.proofs.lemmas.Result.{OkIff-at_ok}
 use Rattle.iofd_words.specs.After.{changed}
 use Rattle.iofd_words.specs.Answers.{Answers}
 use Rattle.iofd_words.proofs.Bools.{not_false}
+use Rattle.iommufd_core.proofs.Answering.{on_err_same}
 use Rattle.iommufd_core.proofs.NeverRefused.{never_strange}
-use Rattle.iommufd_core.proofs.Unmapped.{attached_is, bytes_fit, bytes_shown, converted, names_span, shows_pending, shows_removed, waits_shown}
+use Rattle.iommufd_core.proofs.Unmapped.{attached_is, bytes_fit, bytes_shown, converted, names_span, shows_pending, shows_removed, touched_within, waits_shown}
 use Rattle.iommufd_core.proofs.unmap.commit.Goals as goal
 
 pub returns-in_default-clause-ok : goal.returns-in_default-clause-ok
@@ -39,3 +40,20 @@ returns-clause-ok g c = λ at w tidy shows none.
           (rw c.deref-2.ensures.value at c.drop_memory.ensures)
           (rw c.deref-3.ensures.value at c.drop_pins.ensures),
     )
+
+differ : false ≡ true → ⊥
+differ is = cc
+
+some_go : (count within : ℕ) → count ≡ within → (count ≡ 0 → false ≡ true) → 0 < within
+some_go count within is none =
+    let some : count ≡ 0 → ⊥ = λ zero. differ (none zero) in
+    omega (arith, is, some)
+
+pub returns-in_err-removed-clause-memory : goal.returns-in_err-removed-clause-memory
+returns-in_err-removed-clause-memory g c = on_err_same c.from_residual.result _ (λ at records w tidy shows none.
+    let devices = attached_is at w c.args.state.now c.args.file c.args.request tidy shows c.in-Some-attached_to.attached c.deref.result.now c.deref.ensures.value c.in-Some-attached_to.ensures.some in
+    let waits = waits_shown at w c.args.state.now c.args.file c.args.request tidy shows c.in-Some.span c.in-Some-attached_to.attached c.in-Some.ensures.value devices in
+    let go = touched_within at w c.args.state.now c.args.file c.args.request tidy shows none c.some_waits.ensures.kept c.in-Some.span c.in-Some.ensures.value in (
+      not_false _ (waits ∙ sym c.some_waits.ensures.value ∙ c.if-some_waits.false),
+      some_go _ _ (c.count_within-count.ensures ∙ sym (ap length go)) c.in_err-removed.ensures.succeeds,
+    ))

@@ -1,7 +1,10 @@
-use Rattle.std.proofs.Common.{◌≡◌, length, refl, ◌∙◌, subst}
+use Rattle.std.proofs.Common.{◌≡◌, length, inr, refl, ◌∙◌, ap, subst}
 use Rattle.iofd_words.specs.Run.{world_of}
 use Rattle.iommufd_core.proofs.Applied.{may_use, unchanged_config, unchanged_kept, applied_config, applied_kept, applied_chosen}
 use Rattle.iommufd_core.specs.Choice.{MayUse}
+use Rattle.iommufd_core.proofs.Histories.{tidy_run}
+use Rattle.iommufd_core.specs.Server.{Server}
+use Rattle.iommufd_core.specs.Step as step
 use Rattle.iommufd_core.specs.Step.{Answered, TidyShowsSame}
 use Rattle.iommufd_core.proofs.apply.Core.apply.Goals as goal
 
@@ -19,7 +22,7 @@ returns-in_default-clause-unchanged g c =
     let at : c.len-at.result ≡ length c.self.inside.records.items = c.len-at.ensures ∙ c.self.inside.records.ok.0 in
     let stays = subst (λ n. TidyShowsSame n c.self.inside.state c.answer.new.state) at c.in_default.ensures.err in
     let config = unchanged_config c.self.inside.state c.answer.new.state c.self.inside.records.items c.self.invariant stays in
-    rw (config, c.reserve.ensures.items) c.self.view_is
+    rw (config, c.reserve.ensures.items) (ap (λ (s : Server _). s.history) c.self.view_is)
 
 pub invariant_of-self-2 : goal.invariant_of-self-2
 invariant_of-self-2 g c =
@@ -57,3 +60,11 @@ returns-clause-chosen g c =
     let answered = subst (λ n. Answered n act.event act.via old c.in-Ok.reply c.answer.new.state) at c.in-Ok.ensures.ok in
     let may : MayUse (world_of old.config records) act.event act.via = may_use (record { settings = old.config; records = records }) act.event act.via (rw (← c.self.view_is) at c.requires) in
     rw (← c.self.view_is) (applied_chosen old c.answer.new.state records c.self.invariant c.args.pass act.event act.via c.in-Ok.reply may answered)
+
+pub returns-in_default-clause-memory : goal.returns-in_default-clause-memory
+returns-in_default-clause-memory g c =
+    let old = c.self.inside.state in
+    let records = c.self.inside.records.items in
+    let at : c.len-at.result ≡ length records = c.len-at.ensures ∙ c.self.inside.records.ok.0 in
+    let wants = subst (λ n. step.MayWant n c.args.act.now.event old) at c.in_default.ensures.memory in
+    rw (← c.self.view_is) (inr (wants _ (world_of old.config records) (tidy_run old.config records c.self.invariant.run) c.self.invariant.shows))
