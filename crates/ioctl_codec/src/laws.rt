@@ -14,6 +14,8 @@ pub fn spellable_commands()
 /// Decoding the canonical spelling of a command gives that command: the spelling spells it, so it is
 /// what `decode` answers, and nothing refuses it.
 pub fn round_trip()
-    ensures spelled { (c : Command) → FitsFields c → IsTrue (is_spellable c) → Spells (structure_of c).number (canonical c) c }
-    ensures accepted { (c : Command) → FitsFields c → IsTrue (is_spellable c) → refusal (structure_of c).number (canonical c) ≡ None }
+    ensures spelled { (c : Command) → FitsFields c → IsTrue (is_spellable c)
+        → Spells (structure_of c).number (canonical c) c }
+    ensures accepted { (c : Command) → FitsFields c → IsTrue (is_spellable c)
+        → refusal (structure_of c).number (canonical c) ≡ None }
 {}

@@ -50,7 +50,9 @@ pub fn put_ioas_alloc(out: &mut [u8; 64], out_ioas_id: ObjId) -> usize
 
 pub fn put_ioas_map(out: &mut [u8; 64], map: MapRequest) -> usize
     ensures count { result ≡ 40 }
-    ensures bytes { out.new ≡ structure_bytes ioas_map (map.flags.0 ∷ map.ioas.0 ∷ map.user_va ∷ map.length ∷ map.iova.0 ∷ []) None ++ drop result out.old }
+    ensures bytes { out.new
+        ≡ structure_bytes ioas_map (map.flags.0 ∷ map.ioas.0 ∷ map.user_va ∷ map.length ∷ map.iova.0 ∷ []) None
+        ++ drop result out.old }
     ensures fits { AreOfWidth ioas_map.fields (filled ioas_map.fields (map.flags.0 ∷ map.ioas.0 ∷ map.user_va ∷ map.length ∷ map.iova.0 ∷ []) None) }
 {
     let at = put_u32(out, 0, IOAS_MAP_LENGTH);
@@ -64,7 +66,8 @@ pub fn put_ioas_map(out: &mut [u8; 64], map: MapRequest) -> usize
 
 pub fn put_ioas_unmap(out: &mut [u8; 64], unmap: UnmapRequest) -> usize
     ensures count { result ≡ 24 }
-    ensures bytes { out.new ≡ structure_bytes ioas_unmap (unmap.ioas.0 ∷ unmap.iova.0 ∷ unmap.length ∷ []) None ++ drop result out.old }
+    ensures bytes { out.new
+        ≡ structure_bytes ioas_unmap (unmap.ioas.0 ∷ unmap.iova.0 ∷ unmap.length ∷ []) None ++ drop result out.old }
     ensures fits { AreOfWidth ioas_unmap.fields (filled ioas_unmap.fields (unmap.ioas.0 ∷ unmap.iova.0 ∷ unmap.length ∷ []) None) }
 {
     let at = put_u32(out, 0, IOAS_UNMAP_LENGTH);

@@ -67,7 +67,8 @@ impl<A: Allocator + Copy> Core<A> {
     /// NoMemory comes only where a growth was really refused, and leaves everything as it was.
     pub fn apply(&mut self, pass: PassNo, act: &Act) -> Result<Stamp, NoMemory>
         requires { IsTrue (may_apply self.old.history act.now.event act.now.via) }
-        ensures record { IfOk result (λ stamp. self.new.history ≡ with_record pass act.now.event stamp.reply self.old.history) }
+        ensures record { IfOk result (λ stamp. self.new.history
+            ≡ with_record pass act.now.event stamp.reply self.old.history) }
         ensures at { IfOk result (λ stamp. stamp.at ≡ length self.old.history.records) }
         ensures run { IsRun self.new.history.settings self.new.history.records }
         ensures chosen { IfOk result (λ stamp.

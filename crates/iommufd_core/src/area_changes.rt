@@ -25,8 +25,11 @@ pub(crate) fn insert<A: Allocator>(
     ioas: ObjId,
     area: Area,
 ) -> Result<(), NoMemory>
-    ensures ok { OnOk result (IsOrderly table.old → has_ioas (objects_in table.old) file ioas ≡ true → insert_refusal area.span (areas_at table.old.rows file ioas) ≡ None → HasAreas file ioas (with_area area (areas_at table.old.rows file ioas)) table.old table.new) }
-    ensures err { OnErr result (IsOrderly table.old → HasAreas file ioas (areas_at table.old.rows file ioas) table.old table.new) }
+    ensures ok { OnOk result (IsOrderly table.old → has_ioas (objects_in table.old) file ioas ≡ true
+        → insert_refusal area.span (areas_at table.old.rows file ioas) ≡ None
+        → HasAreas file ioas (with_area area (areas_at table.old.rows file ioas)) table.old table.new) }
+    ensures err { OnErr result (IsOrderly table.old
+        → HasAreas file ioas (areas_at table.old.rows file ioas) table.old table.new) }
     ensures memory { OnErr result (IsOrderly table.old → areas_left (map space_room table.old.rows) file ioas ≡ 0) }
 {
     match table.get_mut(file, Kind::Ioas, ioas) {
@@ -36,7 +39,8 @@ pub(crate) fn insert<A: Allocator>(
 }
 
 fn insert_held<A: Allocator>(held: &mut Held<A>, area: Area) -> Result<(), NoMemory>
-    ensures ok { OnOk result (is_ioas (kind_in held.old) ≡ true → insert_refusal area.span (areas_in held.old) ≡ None → IsWith (with_area area (areas_in held.old)) held.old held.new) }
+    ensures ok { OnOk result (is_ioas (kind_in held.old) ≡ true → insert_refusal area.span (areas_in held.old) ≡ None
+        → IsWith (with_area area (areas_in held.old)) held.old held.new) }
     ensures err { OnErr result (IsWith (areas_in held.old) held.old held.new) }
     ensures memory { OnErr result (left_in held.old ≡ 0) }
 {
@@ -55,7 +59,8 @@ fn own_areas<A: Allocator>(
     file: FileNo,
     ioas: ObjId,
 ) -> Option<&Areas<A>>
-    ensures { MatchOption result (own_areas table.now file ioas ≡ []) (λ areas. own_areas table.now file ioas ≡ areas.now.areas) }
+    ensures { MatchOption result (own_areas table.now file ioas ≡ []) (λ areas. own_areas table.now file ioas
+        ≡ areas.now.areas) }
 {
     match table.get(file, Kind::Ioas, ioas) {
         Ok(Held::Ioas(areas)) => Some(areas),
@@ -131,7 +136,8 @@ pub(crate) fn mark_leaving<A: Allocator>(
     span: Span,
     owed: &DeviceSet,
 )
-    ensures { IsOrderly table.old → HasAreas file ioas (map (marked span owed.now) (areas_at table.old.rows file ioas)) table.old table.new }
+    ensures { IsOrderly table.old
+        → HasAreas file ioas (map (marked span owed.now) (areas_at table.old.rows file ioas)) table.old table.new }
 {
     match table.get_mut(file, Kind::Ioas, ioas) {
         Ok(held) => mark_held(held, span, owed),
@@ -158,8 +164,10 @@ pub(crate) fn remove_within<A: Allocator>(
     removed: &mut Vec<u64, A>,
 )
     requires { vec_len removed.old + length (areas_within span (own_areas table.old file ioas)) ≤ vec_capacity removed.old }
-    ensures areas { IsOrderly table.old → HasAreas file ioas (areas_outside span (areas_at table.old.rows file ioas)) table.old table.new }
-    ensures removed { removed.new.items ≡ removed.old.items ++ memories_of (areas_within span (own_areas table.old file ioas)) }
+    ensures areas { IsOrderly table.old
+        → HasAreas file ioas (areas_outside span (areas_at table.old.rows file ioas)) table.old table.new }
+    ensures removed { removed.new.items
+        ≡ removed.old.items ++ memories_of (areas_within span (own_areas table.old file ioas)) }
 {
     match table.get_mut(file, Kind::Ioas, ioas) {
         Ok(held) => remove_held(held, span, removed),

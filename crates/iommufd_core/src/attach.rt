@@ -136,7 +136,8 @@ fn lacks_page<A: Allocator>(state: &State<A>, file: FileNo, ioas: ObjId) -> bool
 /// The areas whose pages another page table over the address space would pin: where it would be the first,
 /// all of them, else none.
 fn areas_to_pin<A: Allocator>(table: &ObjectTable<Held<A>, A>, file: FileNo, ioas: ObjId) -> &[Area]
-    ensures { flat_map spec.pages_of result.now ≡ words.newly_pinned (objects_in table.now) file ioas (areas_at table.now.rows file ioas) }
+    ensures { flat_map spec.pages_of result.now
+        ≡ words.newly_pinned (objects_in table.now) file ioas (areas_at table.now.rows file ioas) }
 {
     if lookups::has_hwpt(table, file, ioas) {
         return &[];

@@ -83,7 +83,8 @@ fn drop_table<A: Allocator>(
     ioas: ObjId,
     hwpt: ObjId,
 )
-    ensures rows { destroy_refusal table.old file of_kind.Hwpt hwpt ≡ None → table.new.rows ≡ removed file hwpt table.old.rows }
+    ensures rows { destroy_refusal table.old file of_kind.Hwpt hwpt ≡ None
+        → table.new.rows ≡ removed file hwpt table.old.rows }
     ensures files { table.new.files ≡ table.old.files }
     ensures pins { pins.new.items ≡ filter (λ pin. not (is_unpinned (objects_in table.new) file ioas (areas_at table.new.rows file ioas) pin)) pins.old.items }
 {

@@ -31,7 +31,8 @@ pub(crate) fn parts_of(query: &Query) -> (DeviceNo, Iova, u8)
 
 /// What the device is answered. Where it owes the area a flush, its access is denied.
 pub(crate) fn look<A: Allocator>(state: &State<A>, device: DeviceNo, iova: Iova, len: u8) -> Answer
-    ensures { (at : ℕ) (w : World) → IsTidy at w → Shows w state.now → last_of (answers_to w (queries.DeviceRead device iova len)) ≡ Some result }
+    ensures { (at : ℕ) (w : World) → IsTidy at w → Shows w state.now
+        → last_of (answers_to w (queries.DeviceRead device iova len)) ≡ Some result }
 {
     match refusal(state, device, iova, len) {
         Some(cause) => Answer::Refused(Refusal { cause }),
@@ -77,7 +78,8 @@ fn denied<A: Allocator>(
     iova: Iova,
     reason: FaultReason,
 ) -> Answer
-    ensures { (w : World) → w.settings ≡ state.now.config → result ≡ answer.Fault (fault_of w device iova.0 AccessKind.Read reason) }
+    ensures { (w : World) → w.settings ≡ state.now.config
+        → result ≡ answer.Fault (fault_of w device iova.0 AccessKind.Read reason) }
 {
     Answer::Fault(fault_of(&state.config, device, iova, AccessKind::Read, reason))
 }

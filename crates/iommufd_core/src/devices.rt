@@ -35,7 +35,8 @@ pub(crate) fn attached_to<A: Allocator>(
     ioas: ObjId,
 ) -> Option<DeviceSet>
     ensures none { IfNone result (list_all (λ a. files.is_device config.now a.device) attachments.now ≡ false) }
-    ensures some { IfSome result (λ devices. devices_rise attachments.now ≡ true → devices ≡ devices_of (objects_in table.now) attachments.now file ioas) }
+    ensures some { IfSome result (λ devices. devices_rise attachments.now ≡ true
+        → devices ≡ devices_of (objects_in table.now) attachments.now file ioas) }
 {
     let mut devices = DeviceSet::new();
     for attachment in attachments {

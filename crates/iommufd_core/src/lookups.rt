@@ -78,7 +78,8 @@ fn automatic_object<A: Allocator>(
     ioas: ObjId,
     width: Width,
 ) -> Option<ObjectRef<'_, Held<A>>>
-    ensures { option_map row_shown result ≡ find (λ row. objects.is_automatic_over ioas width (kind_in row.value)) (rows_of table.now file) }
+    ensures { option_map row_shown result
+        ≡ find (λ row. objects.is_automatic_over ioas width (kind_in row.value)) (rows_of table.now file) }
 {
     table
         .iter(file)
@@ -134,7 +135,8 @@ impl<A: Allocator> State<A> {
 
     /// The object by which the device is bound.
     pub(crate) fn binding_of(&self, device: DeviceNo) -> Option<&Object>
-        ensures { option_copied result ≡ find (λ object. objects.is_bound_as device object.kind) self.now.bindings.items }
+        ensures { option_copied result
+            ≡ find (λ object. objects.is_bound_as device object.kind) self.now.bindings.items }
     {
         self.bindings
             .iter()

@@ -95,7 +95,8 @@ pub(crate) fn commit<A: Allocator>(
 
 /// How many pages it pins: all where the address space has a page table, else none.
 fn pinned_count<A: Allocator>(state: &State<A>, file: FileNo, request: MapRequest) -> u64
-    ensures value { result ≡ (if has_hwpt (objects_in state.now.objects) file request.ioas then request.length / 4096 else 0) }
+    ensures value { result
+        ≡ (if has_hwpt (objects_in state.now.objects) file request.ioas then request.length / 4096 else 0) }
     ensures few { result ≤ 2 ^ 52 }
 {
     if lookups::has_hwpt(&state.objects, file, request.ioas) {

@@ -113,7 +113,8 @@ pub(crate) fn push_pages<A: Allocator>(
 )
     requires count { count ≤ 2 ^ 52 }
     requires room { vec_len pins.old + count ≤ vec_capacity pins.old }
-    ensures items { pins.new.items ≡ pins.old.items ++ filter_map (spec.pin_now memory.now user_pages.now) (pages_from number count) }
+    ensures items { pins.new.items
+        ≡ pins.old.items ++ filter_map (spec.pin_now memory.now user_pages.now) (pages_from number count) }
     ensures len { vec_len pins.new ≤ vec_len pins.old + count }
     ensures capacity { vec_capacity pins.new ≡ vec_capacity pins.old }
 {
@@ -133,7 +134,8 @@ pub(crate) fn push_areas<A: Allocator>(
     areas: &[Area],
 )
     requires { vec_len pins.old + length (flat_map spec.pages_of areas.now) ≤ vec_capacity pins.old }
-    ensures { pins.new.items ≡ pins.old.items ++ filter_map (spec.pin_now memory.now user_pages.now) (flat_map spec.pages_of areas.now) }
+    ensures { pins.new.items
+        ≡ pins.old.items ++ filter_map (spec.pin_now memory.now user_pages.now) (flat_map spec.pages_of areas.now) }
 {
     for area in areas {
         push_pages(pins, memory, user_pages, area.memory, count_of(area));
@@ -164,7 +166,8 @@ pub(crate) fn reserve_areas<A: Allocator>(
 
 /// Takes away the pins of these areas' memory objects. All others stay.
 pub(crate) fn drop_areas<A: Allocator>(pins: &mut Vec<Pin, A>, areas: &[Area])
-    ensures { pins.new.items ≡ filter (λ pin. not (list_any (λ area. area.memory == pin.memory) areas.now)) pins.old.items }
+    ensures { pins.new.items
+        ≡ filter (λ pin. not (list_any (λ area. area.memory == pin.memory) areas.now)) pins.old.items }
 {
     pins.retain(|pin| !have_memory(areas, pin.memory));
 }

@@ -17,7 +17,8 @@ pub(crate) fn pay<A: Allocator>(
     ioas: ObjId,
     device: DeviceNo,
 )
-    ensures { IsOrderly table.old → HasAreas file ioas (all_paid device (areas_at table.old.rows file ioas)) table.old table.new }
+    ensures { IsOrderly table.old
+        → HasAreas file ioas (all_paid device (areas_at table.old.rows file ioas)) table.old table.new }
 {
     match table.get_mut(file, Kind::Ioas, ioas) {
         Ok(held) => pay_held(held, device),

@@ -41,7 +41,8 @@ pub(crate) fn commit<A: Allocator>(
     user: UserNo,
     va: u64,
 ) -> Result<Reply, NoMemory>
-    ensures ok { IfOk result (λ reply. (at : ℕ) (via : Option FrameNo) → ChosenSteps at (event.UserMap user va) via state.old reply state.new) }
+    ensures ok { IfOk result (λ reply. (at : ℕ) (via : Option FrameNo)
+        → ChosenSteps at (event.UserMap user va) via state.old reply state.new) }
     ensures err { OnErr result (ShowsSame state.old state.new) }
     ensures memory { OnErr result ((at : ℕ) → LacksPlace at (event.UserMap user va) state.old) }
 {
