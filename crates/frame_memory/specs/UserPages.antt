@@ -9,6 +9,11 @@ use Rattle.iofd_words.specs.declared.refusal.Cause.TheVariants as cause
 use Rattle.iofd_words.specs.declared.rows.UserPage.{UserPage}
 use Rattle.frame_memory.specs.Pool.{least_free}
 
+-- the pages, in the order in which they were given, and how many more there is room for
+pub record UserPages : Type 0 where
+  pub pages : List UserPage
+  pub room : ℕ
+
 -- the row is of this page of the user
 abbrev pub is_page : UserNo → ℕ → UserPage → Bool
 is_page user page row = row.user.0 == user.0 && row.page == page

@@ -13,25 +13,25 @@ use std::alloc::{Allocator, Global};
 use std::marker::Model;
 
 /// Which page of which user's memory is which frame. A contract sees the pages, in the order in which they
-/// were given.
+/// were given, and how many more there is room for.
 #[derive(Debug, Drop)]
 pub struct UserMap<A: Allocator = Global> {
     pages: Vec<UserPage, A>,
 }
 
 impl<A: Allocator> Model for UserMap<A> {
-    ghost use Rattle.std.specs.Prelude.{List};
-    ghost use Rattle.iofd_words.specs.declared.rows.UserPage.{UserPage};
+    ghost use Rattle.std.specs.Prelude.{◌-◌, vec_len, vec_capacity};
+    ghost use Rattle.frame_memory.specs.UserPages.{UserPages};
 
-    ghost Value = { List UserPage };
+    ghost Value = { UserPages };
 
-    ghost view = { λ map. map.pages.items };
+    ghost view = { λ map. record { pages = map.pages.items; room = vec_capacity map.pages - vec_len map.pages } };
 }
 
 impl<A: Allocator> UserMap<A> {
     /// No pages. It takes no memory.
     pub fn new(alloc: A) -> UserMap<A>
-        ensures { result ≡ [] }
+        ensures { result.pages ≡ [] }
     {
         UserMap {
             pages: Vec::new(alloc),
@@ -40,7 +40,7 @@ impl<A: Allocator> UserMap<A> {
 
     /// The frame of the user's page that holds this user address, in bytes. It takes no memory.
     pub fn frame_at(&self, user: UserNo, va: u64) -> Option<FrameNo>
-        ensures { result ≡ frame_at self.now user (page_of va) }
+        ensures { result ≡ frame_at self.now.pages user (page_of va) }
     {
         let page = va / PAGE_SIZE;
         self.pages
@@ -53,21 +53,23 @@ impl<A: Allocator> UserMap<A> {
     /// reads zero.
     ///
     /// Refused, in this order: Overlap (9, EEXIST) where the user has the page already; Frames (6, ENOMEM)
-    /// where no frame is free. An error, want of memory too, leaves the map and the pool as they were.
+    /// where no frame is free. An error leaves the pages and the pool as they were; want of memory comes only where there
+    /// was no room for one more page.
     pub fn map<B: Allocator>(
         &mut self,
         pool: &mut Pool<B>,
         user: UserNo,
         va: u64,
     ) -> Result<FrameNo, MapError>
-        ensures refused { IfSome (map_refusal self.old pool.old.holds user (page_of va))
+        ensures refused { IfSome (map_refusal self.old.pages pool.old.holds user (page_of va))
             (λ cause. result ≡ Err (MapError.Refused (record { cause = cause }))) }
-        ensures taken { IfNone (map_refusal self.old pool.old.holds user (page_of va))
+        ensures taken { IfNone (map_refusal self.old.pages pool.old.holds user (page_of va))
             (IsOkUnless result (MapError.Memory (record {}))) }
+        ensures memory { result ≡ Err (MapError.Memory (record {})) → self.old.room ≡ 0 }
         ensures least { IfOk result (λ frame. least_free pool.old.holds ≡ Some frame.0) }
-        ensures pages { IfOk result (λ frame. self.new ≡ with_page self.old user (page_of va) frame) }
+        ensures pages { IfOk result (λ frame. self.new.pages ≡ with_page self.old.pages user (page_of va) frame) }
         ensures pool { IfOk result (λ frame. pool.new ≡ given pool.old frame.0) }
-        ensures err { OnErr result (self.new ≡ self.old) }
+        ensures err { OnErr result (self.new.pages ≡ self.old.pages) }
         ensures pool_err { OnErr result (pool.new ≡ pool.old) }
     {
         if self.frame_at(user, va).is_some() {
@@ -100,13 +102,13 @@ impl<A: Allocator> UserMap<A> {
         user: UserNo,
         va: u64,
     ) -> Result<(), Refusal>
-        requires { IfSome (frame_at self.old user (page_of va)) (λ frame. 0 < slice_index pool.old.holds frame.0) }
-        ensures refused { IfNone (frame_at self.old user (page_of va)) (result ≡ Err (record { cause = Cause.Absent })) }
-        ensures taken { IfSome (frame_at self.old user (page_of va)) (λ frame. result ≡ Ok (record {})) }
-        ensures pages { OnOk result (self.new ≡ without_page self.old user (page_of va)) }
-        ensures pool { IfSome (frame_at self.old user (page_of va))
+        requires { IfSome (frame_at self.old.pages user (page_of va)) (λ frame. 0 < slice_index pool.old.holds frame.0) }
+        ensures refused { IfNone (frame_at self.old.pages user (page_of va)) (result ≡ Err (record { cause = Cause.Absent })) }
+        ensures taken { IfSome (frame_at self.old.pages user (page_of va)) (λ frame. result ≡ Ok (record {})) }
+        ensures pages { OnOk result (self.new.pages ≡ without_page self.old.pages user (page_of va)) }
+        ensures pool { IfSome (frame_at self.old.pages user (page_of va))
             (λ frame. pool.new ≡ with_holds pool.old frame.0 (slice_index pool.old.holds frame.0 - 1)) }
-        ensures err { OnErr result (self.new ≡ self.old) }
+        ensures err { OnErr result (self.new.pages ≡ self.old.pages) }
         ensures pool_err { OnErr result (pool.new ≡ pool.old) }
     {
         let Some(frame) = self.frame_at(user, va) else {
