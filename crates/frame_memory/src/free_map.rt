@@ -1,6 +1,6 @@
 //! Which frames are free, as bits.
 
-ghost use Rattle.std.specs.Prelude.{◌≡◌, ◌≢◌, ◌<◌, ◌/◌, ◌%◌, ℕ, true, false, IfSome, IfNone};
+ghost use Rattle.std.specs.Prelude.{◌≡◌, ◌≢◌, ◌<◌, ◌≤◌, ◌/◌, ◌%◌, ℕ, true, false, nat_lt, IfSome, IfNone, IsTrue};
 ghost use Rattle.frame_memory.specs.FreeMap.{has_frame, IsLeast};
 
 use std::marker::Model;
@@ -35,9 +35,22 @@ impl FreeMap {
         }
     }
 
-    /// Whether the frame is one of them.
+    /// The frames below this number, at most 4096.
+    pub fn below(count: u32) -> FreeMap
+        requires { count ≤ 4096 }
+        ensures { (f : ℕ) → has_frame result f ≡ nat_lt f count }
+    {
+        let mut frames = FreeMap::new();
+        for frame in 0..count {
+            frames.insert(frame);
+        }
+        frames
+    }
+
+    /// Whether the frame is one of them. None is from 4096 on.
     pub fn contains(&self, frame: u32) -> bool
-        ensures { result ≡ has_frame self.now frame }
+        ensures value { result ≡ has_frame self.now frame }
+        ensures within { IsTrue result → frame < 4096 }
     {
         let words = &self.words;
         if frame >= 4096 {

@@ -8,6 +8,7 @@ mod map_error;
 mod pool;
 mod user_map;
 
+pub use free_map::FreeMap;
 pub use map_error::MapError;
 pub use pool::Pool;
 pub use user_map::UserMap;

@@ -1,7 +1,6 @@
 //! The pool of frames.
 
 ghost use Rattle.std.specs.Prelude.{ℕ, ◌≡◌, ◌≢◌, ◌⊎◌, ◌<◌, ◌≤◌, ◌+◌, ◌-◌, ◌^◌, nat_lt, false, length, slice_index, replicate, is_some, IfOk, IfSome, IfNone, OnErr};
-ghost use Rattle.frame_memory.specs.FreeMap.{has_frame};
 ghost use Rattle.frame_memory.specs.Pool.{fresh, is_free, least_free, free_count, with_holds, given, bytes_at, written, word_at, with_word, zeros, AreApart};
 
 use crate::content::{overwrite, word_of, zero_bytes};
@@ -47,7 +46,7 @@ impl<A: Allocator> Pool<A> {
         let frames = fresh_frames(alloc, count)?;
         Ok(Pool {
             frames,
-            free: all_below(count),
+            free: FreeMap::below(count),
             free_count: count,
         })
     }
@@ -202,16 +201,4 @@ fn fresh_frames<A: Allocator>(alloc: A, count: u32) -> Result<Vec<Frame, A>, NoM
         })?;
     }
     Ok(frames)
-}
-
-// The frames below this number.
-fn all_below(count: u32) -> FreeMap
-    requires { count ≤ 4096 }
-    ensures { (f : ℕ) → has_frame result f ≡ nat_lt f count }
-{
-    let mut free = FreeMap::new();
-    for frame in 0..count {
-        free.insert(frame);
-    }
-    free
 }

@@ -36,6 +36,20 @@ fn set_word(rt: &impl Abort, pool: &mut Pool, frame: u32, index: usize, value: u
 }
 
 #[test]
+fn the_least_free_frame_is_found_across_words(rt: HostRuntime) {
+    let mut free = FreeMap::below(4096);
+    assert!(rt; free.contains(4095) && !free.contains(4096));
+    for frame in 0..70 {
+        free.remove(frame);
+    }
+    assert_eq!(rt; free.first(), Some(70));
+    free.insert(3);
+    assert_eq!(rt; free.first(), Some(3));
+    assert_eq!(rt; FreeMap::new().first(), None);
+    assert_eq!(rt; FreeMap::below(0).first(), None);
+}
+
+#[test]
 fn the_least_free_frame_is_given_out(rt: HostRuntime) -> Result<(), Fail> {
     let mut pool = Pool::new(rt.alloc(), 3)?;
     assert_eq!(rt; pool.len(), 3);

@@ -18,4 +18,6 @@ pub use run::session;
 pub use steps::answer_step;
 
 #[cfg(test)]
+mod refusal_order_tests;
+#[cfg(test)]
 mod tests;

@@ -1,27 +1,83 @@
 -- The frame that a user's new page gets.
-use Rattle.std.proofs.Common.{◌≡◌, ◌≤◌, ◌<◌, ℕ, zero, suc, ◌+◌, Bool, true, false, cond, not, ltb, Option, Some, None, is_some, List, [], ◌∷◌, refl, sym, ◌∙◌, subst, arith}
-use Rattle.std.specs.List.{find, range_with_len}
+use Rattle.std.proofs.Common.{◌≡◌, ◌≤◌, ◌<◌, ℕ, zero, suc, ◌+◌, Bool, true, false, ◌&&◌, ◌||◌, cond, not, eqb, ltb, Option, Some, None, is_some, List, [], ◌∷◌, refl, sym, ◌∙◌, ap, subst, arith, length, take, take_all, get_or}
+use Rattle.std.specs.List.{find, list_any, range_with_len}
+use Rattle.std.proofs.lemmas.Bool.{eqb-true}
+use Rattle.std.proofs.lemmas.List.Folds.{list_any_more}
+use Rattle.frame_memory.specs.FreeMap.{IsLeast, has_frame}
 use Rattle.std.specs.Option.{option_map}
 use Rattle.std.proofs.lemmas.Bool.Decides.{nat_tests}
 use Rattle.iofd_words.proofs.Bools.{and_true}
 use Rattle.iofd_words.proofs.OwnIds.{any_found}
 use Rattle.iofd_words.specs.Frames.{is_free, is_reached, has_free}
+use Rattle.iofd_words.specs.Limits.{first_outside}
+use Rattle.iofd_words.specs.Settings.{Settings, is_between}
 use Rattle.iofd_words.specs.declared.numbers.FrameNo.{FrameNo}
 use Rattle.iofd_words.specs.declared.rows.Pin.{Pin}
 use Rattle.iofd_words.specs.declared.rows.UserPage.{UserPage}
 use Rattle.iommufd_core.specs.Pages.{free_frame}
 
-module _ (pool : ℕ) (pages : List UserPage) (pins : List Pin) where
-  -- below the pool's end a frame is free where nobody reaches it
-  below : (from count : ℕ) → from + count ≤ pool → find (is_free pool pages pins) (range_with_len from count) ≡ find (λ frame. not (is_reached pages pins frame)) (range_with_len from count)
-  below from zero within = refl
-  below from (suc count) within =
-      let rest = below (from + 1) count (omega arith) in
-      let here : ltb from pool ≡ true = search (arith, nat_tests) in
-      rw (here, rest) refl
+-- the first of the numbers from one on that passes, where none below it does
+found_first : (p : ℕ → Bool) (from count number : ℕ) → from ≤ number → number < from + count → p number ≡ true → ((n : ℕ) → n < number → p n ≡ false)
+    → find p (range_with_len from count) ≡ Some number
+found_first p from zero number above within passes below = absurd (omega (arith, above, within))
+found_first p from (suc count) number above within passes below = by_test (eqb from number) refl (λ apart. found_first p (from + 1) count number (omega (arith, apart)) (omega (arith, within)) passes below)
+  where
+    by_test : (b : Bool) → eqb from number ≡ b → (from < number → find p (range_with_len (from + 1) count) ≡ Some number) → find p (range_with_len from (suc count)) ≡ Some number
+    by_test true is later =
+        let same = eqb-true from number is in
+        let here : p from ≡ true = subst (λ n. p n ≡ true) (sym same) passes in
+        rw here (ap Some same)
+    by_test false is later =
+        let apart : from < number = search (above, is, arith, nat_tests) in
+        rw (below from apart) (later apart)
 
-  pub find_free : find (λ frame. not (is_reached pages pins frame)) (range_with_len 0 pool) ≡ find (is_free pool pages pins) (range_with_len 0 pool)
-  find_free = sym (below 0 pool (omega arith))
+none_found : (p : ℕ → Bool) (from count : ℕ) → ((n : ℕ) → p n ≡ false) → find p (range_with_len from count) ≡ None
+none_found p from zero none = refl
+none_found p from (suc count) none = rw (none from) (none_found p (from + 1) count none)
+
+both_left : (below pages pins : Bool) → (below && not pages) && not pins ≡ below && not (pages || pins)
+both_left true true pins = refl
+both_left true false pins = refl
+both_left false pages pins = refl
+
+-- ---- frames that are taken away one by one
+
+pub none_gone : (there : Bool) → there ≡ there && true
+none_gone true = refl
+none_gone false = refl
+
+module _ {X : Type 0} (number : X → ℕ) (f : ℕ) where
+  pub one_gone : (xs : List X) (i : ℕ) (d : X) (all some left : Bool) → i < length xs
+      → some ≡ all && not (list_any (λ (y : X). eqb (number y) f) (take i xs)) → left ≡ some && not (eqb (number (get_or xs i d)) f)
+      → left ≡ all && not (list_any (λ (y : X). eqb (number y) f) (take (i + 1) xs))
+  one_gone xs i d all some left within before here =
+      here ∙ ap (λ b. b && not (eqb (number (get_or xs i d)) f)) before
+      ∙ both_left all (list_any (λ (y : X). eqb (number y) f) (take i xs)) (eqb (number (get_or xs i d)) f)
+      ∙ ap (λ b. all && not b) (sym (list_any_more (λ (y : X). eqb (number y) f) xs i d within))
+
+  pub all_gone : (xs : List X) (i : ℕ) (all some : Bool) → length xs ≤ i → some ≡ all && not (list_any (λ (y : X). eqb (number y) f) (take i xs)) → some ≡ all && not (list_any (λ (y : X). eqb (number y) f) xs)
+  all_gone xs i all some end before = before ∙ ap (λ ys. all && not (list_any (λ (y : X). eqb (number y) f) ys)) (take_all i xs end)
+
+-- ---- the frame that is found
+
+module _ (pool : ℕ) (pages : List UserPage) (pins : List Pin) where
+  -- what is left of the frames below the pool's end, without those of pages and of pins, is what is free
+  pub left_free : (all some free : List ℕ) → ((f : ℕ) → has_frame all f ≡ ltb f pool)
+      → ((f : ℕ) → has_frame some f ≡ has_frame all f && not (list_any (λ (p : UserPage). eqb p.frame.0 f) pages))
+      → ((f : ℕ) → has_frame free f ≡ has_frame some f && not (list_any (λ (pin : Pin). eqb pin.frame.0 f) pins))
+      → (f : ℕ) → has_frame free f ≡ is_free pool pages pins f
+  left_free all some free below without_pages without_pins f =
+      without_pins f ∙ ap (λ b. b && not (list_any (λ (pin : Pin). eqb pin.frame.0 f) pins)) (without_pages f ∙ ap (λ b. b && not (list_any (λ (p : UserPage). eqb p.frame.0 f) pages)) (below f))
+      ∙ both_left (ltb f pool) (list_any (λ (p : UserPage). eqb p.frame.0 f) pages) (list_any (λ (pin : Pin). eqb pin.frame.0 f) pins)
+
+  pub first_free : (free : List ℕ) (frame : ℕ) → ((f : ℕ) → has_frame free f ≡ is_free pool pages pins f) → IsLeast free frame → find (is_free pool pages pins) (range_with_len 0 pool) ≡ Some frame
+  first_free free frame is least =
+      let passes : is_free pool pages pins frame ≡ true = sym (is frame) ∙ least.there in
+      let within = and_true (ltb frame pool) (not (is_reached pages pins frame)) passes in
+      found_first (is_free pool pages pins) 0 pool frame (omega arith) (search (within.0, arith, nat_tests)) passes (λ n below. sym (is n) ∙ least.below n below)
+
+  pub none_free : (free : List ℕ) → ((f : ℕ) → has_frame free f ≡ is_free pool pages pins f) → ((f : ℕ) → has_frame free f ≡ false) → find (is_free pool pages pins) (range_with_len 0 pool) ≡ None
+  none_free free is none = none_found (is_free pool pages pins) 0 pool (λ f. sym (is f) ∙ none f)
 
   some_number : (o : Option ℕ) → is_some {T = FrameNo} (elim o [ Some frame ↦ Some (record { 0 = frame }) | None ↦ None ]) ≡ is_some o
   some_number None = refl
@@ -66,3 +122,11 @@ chosen_is_free pool pages pins frame chosen = by_found (find (is_free pool pages
 
 pub in_pool : (pool : ℕ) (pages : List UserPage) (pins : List Pin) (frame : ℕ) → is_free pool pages pins frame ≡ true → frame < pool
 in_pool pool pages pins frame free = let below = and_true (ltb frame pool) (not (is_reached pages pins frame)) free in search (below.0, arith, nat_tests)
+
+-- the pool of a configuration within its limits
+pub small_pool : (s : Settings) → first_outside s ≡ None → s.pool ≤ 4096
+small_pool s within = by_test (is_between 1 4096 s.pool) refl within
+  where
+    by_test : (b : Bool) → is_between 1 4096 s.pool ≡ b → first_outside s ≡ None → s.pool ≤ 4096
+    by_test true is within = search (is, arith, nat_tests)
+    by_test false is within = let first = rw is at within in cc

@@ -1,11 +1,13 @@
-//! Pages of users' memory, and who reaches a frame.
+//! Pages of users' memory, and the frame that a new one gets.
 
-ghost use Rattle.std.specs.Prelude.{◌≡◌, ◌==◌, not, find};
-ghost use Rattle.std.specs.List.{list_any, range_with_len};
+ghost use Rattle.std.specs.Prelude.{◌≡◌, ◌≤◌, ◌==◌, ◌&&◌, ℕ, not};
+ghost use Rattle.std.specs.List.{list_any};
+ghost use Rattle.frame_memory.specs.FreeMap.{has_frame};
 ghost use Rattle.iofd_words.specs.Files as files;
 ghost use Rattle.iofd_words.specs.Frames as frames;
 ghost use Rattle.iommufd_core.specs.Pages.{free_frame};
 
+use frame_memory::FreeMap;
 use iofd_words::{Config, FrameNo, Pin, UserNo, UserPage};
 use std::alloc::Allocator;
 
@@ -24,38 +26,44 @@ pub(crate) fn frame_at(pages: &[UserPage], user: UserNo, page: u64) -> Option<Fr
     Some(found.frame)
 }
 
-/// Whether a page of a user's memory or a pin names the frame.
-fn is_reached(pages: &[UserPage], pins: &[Pin], frame: u32) -> bool
-    ensures { result ≡ frames.is_reached pages.now pins.now frame }
-{
-    is_user_page(pages, frame) || is_pinned(pins, frame)
-}
-
-fn is_user_page(pages: &[UserPage], frame: u32) -> bool
-    ensures { result ≡ list_any (λ p. p.frame.0 == frame) pages.now }
-{
-    pages.iter().any(|p| p.frame.0 == frame)
-}
-
-fn is_pinned(pins: &[Pin], frame: u32) -> bool
-    ensures { result ≡ list_any (λ pin. pin.frame.0 == frame) pins.now }
-{
-    pins.iter().any(|pin| pin.frame.0 == frame)
-}
-
-/// The least frame of the pool that nobody reaches.
-#[tactic(auto, using(crate::proofs::FreeFrames::find_free))]
+/// The least frame of the pool that nobody reaches. It takes time by the number of pages and pins, and no memory.
+#[tactic(auto, using(crate::proofs::FreeFrames::first_free, crate::proofs::FreeFrames::none_free))]
 pub(crate) fn free_frame(pool: u32, pages: &[UserPage], pins: &[Pin]) -> Option<FrameNo>
+    requires { pool ≤ 4096 }
     ensures { result ≡ free_frame pool pages.now pins.now }
 {
-    match free_number(pool, pages, pins) {
+    let mut free = FreeMap::below(pool);
+    drop_user_pages(&mut free, pages);
+    drop_pinned(&mut free, pins);
+    match free.first() {
         Some(frame) => Some(FrameNo(frame)),
         None => None,
     }
 }
 
-fn free_number(pool: u32, pages: &[UserPage], pins: &[Pin]) -> Option<u32>
-    ensures { result ≡ find (λ frame. not (frames.is_reached pages.now pins.now frame)) (range_with_len 0 pool) }
+// Takes the frames of users' pages away.
+fn drop_user_pages(free: &mut FreeMap, pages: &[UserPage])
+    ensures { (f : ℕ) → has_frame free.new f ≡ has_frame free.old f && not (list_any (λ p. p.frame.0 == f) pages.now) }
 {
-    (0..pool).find(|frame| !is_reached(pages, pins, *frame))
+    for page in pages {
+        drop_frame(free, page.frame);
+    }
+}
+
+// Takes the frames of pins away.
+fn drop_pinned(free: &mut FreeMap, pins: &[Pin])
+    ensures { (f : ℕ) → has_frame free.new f ≡ has_frame free.old f && not (list_any (λ pin. pin.frame.0 == f) pins.now) }
+{
+    for pin in pins {
+        drop_frame(free, pin.frame);
+    }
+}
+
+// Takes the frame away, if it is there.
+fn drop_frame(free: &mut FreeMap, frame: FrameNo)
+    ensures { (f : ℕ) → has_frame free.new f ≡ has_frame free.old f && not (frame.0 == f) }
+{
+    if free.contains(frame.0) {
+        free.remove(frame.0);
+    }
 }
