@@ -31,7 +31,7 @@ use Rattle.iofd_words.specs.declared.width.Width.{Width}
 
 -- ---- pins follow the areas and the page tables
 
--- the pins of the new world, where its pages' pins of the old one stay
+-- the new world with its pins: a page that stays pinned keeps its pin, a newly pinned one takes the frame that its user has there now
 unfoldable pub settle : World → World → World
 settle old new =
     record new { pins = settled (pinned_pages old.objects old.areas) (pinned_pages new.objects new.areas) new.memory new.user_pages old.pins }

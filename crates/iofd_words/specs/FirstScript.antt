@@ -154,7 +154,7 @@ write_passed = step write (reply.Passed (record { 0 = 0 }))
 abbrev pub too_early : Record Global
 too_early = step unmap_page (reply.Bytes 0x1000)
 
--- two causes apply, an unknown id and an iova that is no multiple of a page, and the second is answered
+-- two causes apply, an iova that is no multiple of a page and an unknown id, and the second is answered
 abbrev pub wrong_cause : Record Global
 wrong_cause =
     step

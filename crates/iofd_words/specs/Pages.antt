@@ -12,7 +12,7 @@ page_of address = address / 4096
 abbrev pub offset_of : ℕ → ℕ
 offset_of address = address % 4096
 
--- start plus length is above 2^64, or above 2^48, where user addresses end; the sum itself may be either
+-- start plus length is above 2^64, or above 2^48, where user addresses end; a sum of just that is good
 abbrev pub is_above_sum : ℕ → ℕ → Bool
 is_above_sum start length = nat_lt (2 ^ 64) (start + length)
 

@@ -33,7 +33,7 @@ pub record Room : Type 0 where
   pub memory : ℕ
   pub user_pages : ℕ
   pub pins : ℕ
-  -- for each file, from number 1 on: the id of the next object that it takes
+  -- for each file, from number 1 on: the id of the next object that it takes; None where it has no place
   pub objects : List (Option ObjId)
   -- for each object
   pub spaces : List SpaceRoom
@@ -56,7 +56,7 @@ mapped_pins w file request = if has_hwpt w.objects file request.ioas then reques
 abbrev pub attached_pins : World → FileNo → ObjId → ℕ
 attached_pins w file ioas = length (newly_pinned w.objects file ioas (areas_of w.areas file ioas))
 
--- a device of a file needs a page table that isn't there, and there is no place for it or for the pins that come with it
+-- a device of a file needs a page table that isn't there, and there is no place for it or for its pins
 pub record LacksTable (room : Room) (w : World) (device : DeviceNo) (pt_id : ObjId) : Type 0 where
   pub bound : Object
   pub bound_is : binding_of w.objects device ≡ Some bound

@@ -1,4 +1,4 @@
-//! The worked script of the first path, each call once, and a refused growth at each step.
+//! The worked script, each call once, and a refused growth at each step.
 
 use crate::{Core, Stamp};
 use iofd_words::{

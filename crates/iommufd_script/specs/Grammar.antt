@@ -63,7 +63,7 @@ step_row step.Close = record { kinds = Decimal 16 ∷ []; makes = λ file. made.
 step_row step.UserMap = record { kinds = Decimal 16 ∷ Hex 64 ∷ []; makes = λ user va. made.UserMap (record { 0 = user }) va }
 -- file, device
 step_row step.Bind = record { kinds = Decimal 16 ∷ Decimal 16 ∷ []; makes = λ file device. made.Bind (record { 0 = file }) (record { 0 = device }) }
--- device, id of an address space or a page table
+-- device, id of an address space
 step_row step.Attach = record { kinds = Decimal 16 ∷ Decimal 32 ∷ []; makes = λ device id. made.Attach (record { 0 = device }) (record { 0 = id }) }
 -- device
 step_row step.Detach = record { kinds = Decimal 16 ∷ []; makes = λ device. made.Detach (record { 0 = device }) }

@@ -1,4 +1,4 @@
-//! The script of `iommufd session`: its lines, the head that they open a server with, and its steps.
+//! A script: its lines, the head that they open a server with, and its steps.
 #![tactic(auto)]
 
 mod digits;

@@ -29,7 +29,7 @@ pub enum Step<'a> {
     UserMap(UserNo, u64),
     /// Binds a device to a file.
     Bind(FileNo, DeviceNo),
-    /// Attaches a device to the address space or the page table of this id.
+    /// Attaches a device to the address space of this id.
     Attach(DeviceNo, ObjId),
     /// Ends a device's attachment.
     Detach(DeviceNo),
