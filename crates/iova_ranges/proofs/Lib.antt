@@ -1,0 +1,10 @@
+pub mod Added
+pub mod Bounded
+pub mod Covering
+pub mod Errors
+pub mod Fitted
+pub mod Merged
+pub mod Reaching
+pub mod Removed
+pub mod Rooms
+pub mod Same

@@ -1,0 +1,21 @@
+//! Sets of I/O virtual addresses: which addresses an address space may use, and where in them new areas fit. A set
+//! is seen as its spans by rising start, of which no two overlap or adjoin.
+#![tactic(auto)]
+
+mod adding;
+mod allowed;
+mod between;
+mod fitting;
+pub mod laws;
+mod lookups;
+mod range_set;
+mod removing;
+mod reserved;
+
+pub use allowed::Allowed;
+pub use fitting::starts_rise;
+pub use range_set::RangeSet;
+pub use reserved::{Reserved, ReservedSpan};
+
+#[cfg(test)]
+mod tests;
