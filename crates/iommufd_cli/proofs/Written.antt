@@ -1,11 +1,15 @@
 -- What is written in turn.
-use Rattle.std.proofs.Common.{◌≡◌, ℕ, zero, suc, ◌<◌, Option, Some, None, List, [], ◌∷◌, ◌++◌, length, take, refl, sym, ◌∙◌, ap, subst, arith}
+use Rattle.std.proofs.Common.{◌≡◌, ℕ, zero, suc, ◌<◌, Option, Some, None, List, [], ◌∷◌, ◌++◌, length, take, Result, Ok, Err, OnErr, inl, inr, refl, sym, ◌∙◌, ap, subst, arith}
 use Rattle.std.proofs.lemmas.List.{append_assoc, append-nil}
 use Rattle.std.specs.Io.KnownBytes.{Appends}
 use Rattle.std.specs.Option.{IfSome, option_map}
+use Rattle.iofd_words.specs.Settings.{Settings}
+use Rattle.iommufd_cli.specs.Failures.{BeginsLines, BeginsRunText, BeginsText}
+use Rattle.iommufd_cli.specs.Output.{IsFront}
 use Rattle.iommufd_cli.specs.Session.{StepsText}
 use Rattle.iommufd_cli.specs.Steps.{IsAnswered}
 use Rattle.iommufd_core.specs.Server.{Server}
+use Rattle.iommufd_script.specs.Opening.{script_of}
 use Rattle.iommufd_script.specs.declared.line.Step.{Step}
 
 -- bytes, and then more
@@ -20,13 +24,47 @@ pub appends_none : (known : Option (List ℕ)) → Appends known known []
 appends_none None = tt
 appends_none (Some xs) = sym (append-nil xs)
 
-module _ {A : Type 0} where
-  -- the lines of a step and of the steps behind it
-  pub text_more : (s after : Server A) (steps others : List Step) (step : Step) (text rest : List ℕ) → steps ≡ step ∷ others → IsAnswered s step text after → StepsText after others rest → StepsText s steps (text ++ rest)
-  text_more s after steps others step text rest is answered later = subst (λ l. StepsText s l (text ++ rest)) (sym is) (text, after, rest, answered, later, refl)
+pub on_err : {T E P : Type 0} (r : Result T E) → P → OnErr r P
+on_err (Ok x) p = tt
+on_err (Err e) p = p
 
-  pub text_none : (s : Server A) (steps : List Step) → steps ≡ [] → StepsText s steps []
-  text_none s steps is = subst (λ l. StepsText s l []) (sym is) refl
+pub split_on : (steps first left others : List Step) (step : Step) → steps ≡ first ++ left → left ≡ step ∷ others → steps ≡ (first ++ step ∷ []) ++ others
+split_on steps first left others step split next = split ∙ ap (λ l. first ++ l) next ∙ sym (append_assoc first (step ∷ []) others)
+
+-- from one server on, the lines of some steps are out, which leads to another
+module _ {A : Type 0} where
+  abbrev pub Leads : Server A → List Step → List ℕ → Server A → Type 0
+  Leads s first out now = (others : List Step) (rest : List ℕ) → StepsText now others rest → StepsText s (first ++ others) (out ++ rest)
+
+  pub leads_on : (s now after : Server A) (first : List Step) (step : Step) (out line : List ℕ) → Leads s first out now → IsAnswered now step line after
+      → Leads s (first ++ step ∷ []) (out ++ line) after
+  leads_on s now after first step out line leads answered others rest later =
+      rw (append_assoc first (step ∷ []) others, append_assoc out line rest) (leads (step ∷ others) (line ++ rest) (line, after, rest, answered, later, refl))
+
+  -- no step is left
+  pub whole_text : (s now : Server A) (steps first left : List Step) (out : List ℕ) → Leads s first out now → steps ≡ first ++ left → left ≡ [] → StepsText s steps out
+  whole_text s now steps first left out leads split none =
+      let all : steps ≡ first ++ [] = split ∙ ap (λ l. first ++ l) none in
+      rw all (subst (StepsText s (first ++ [])) (append-nil out) (leads [] [] refl))
+
+  -- of the next step's line there's a front
+  pub begun_text : (s now after : Server A) (steps first left others : List Step) (step : Step) (out line front : List ℕ) → Leads s first out now → steps ≡ first ++ left
+      → left ≡ step ∷ others → IsAnswered now step line after → IsFront front line → BeginsLines s steps (out ++ front)
+  begun_text s now after steps first left others step out line front leads split next answered short = record {
+    first = first ++ step ∷ [];
+    others = others;
+    split = split_on steps first left others step split next;
+    text = out ++ line;
+    lines = subst (λ l. StepsText s (first ++ step ∷ []) (out ++ l)) (append-nil line) (leads (step ∷ []) (line ++ []) (line, after, [], answered, refl, refl));
+    front = (short.0, short.1, ap (λ l. out ++ l) short.2 ∙ sym (append_assoc out front short.0));
+  }
+
+  -- a beginning of what is written for a head and steps is one of the script's text
+  pub begins_text : (input out : List ℕ) (settings : Settings) (steps : List Step) → script_of input ≡ Ok (settings, steps) → BeginsRunText A settings steps out → BeginsText A input out
+  begins_text input out settings steps good begun = elim begun [
+    | inl lines ↦ inr (inl (record { settings = settings; steps = steps; good = good; lines = lines }))
+    | inr front ↦ inr (inr front)
+  ]
 
 -- ---- reading
 

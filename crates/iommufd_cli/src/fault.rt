@@ -14,5 +14,5 @@ pub enum CliFault {
     Read(io::Error),
     /// The output couldn't be written.
     #[error("can't write the output: {0}")]
-    Write(io::Error),
+    Output(io::Error),
 }

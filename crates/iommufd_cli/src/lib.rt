@@ -1,14 +1,17 @@
-//! The command-line program's texts. So far: the lines that it answers to the steps of a script.
+//! The command-line program: what its words ask for, and a session, from a script's bytes to its reply lines.
 #![tactic(auto)]
 
+mod command_line;
 mod digits;
 mod fault;
 mod line;
 mod names;
+mod output;
 mod replies;
 mod run;
 mod steps;
 
+pub use command_line::{Choice, choose};
 pub use fault::CliFault;
 pub use line::Line;
 pub use replies::{
@@ -18,6 +21,12 @@ pub use run::session;
 pub use steps::answer_step;
 
 #[cfg(test)]
+mod command_line_tests;
+#[cfg(test)]
+mod fakes;
+#[cfg(test)]
 mod refusal_order_tests;
+#[cfg(test)]
+mod session_tests;
 #[cfg(test)]
 mod tests;

@@ -1,11 +1,14 @@
 //! A session: from a script's bytes to the lines of its replies.
 
-ghost use Rattle.std.specs.Prelude.{◌≡◌, ◌≤◌, ℕ, List, IfOk, IfSome, OnOk, length};
+ghost use Rattle.std.specs.Prelude.{◌≡◌, ◌≤◌, ◌^◌, IfErr, IfOk, IfSome, OnErr, OnOk, length};
 ghost use Rattle.std.specs.Io.KnownBytes.{Appends};
+ghost use Rattle.iommufd_cli.specs.Failures.{BeginsLines, BeginsRunText, BeginsText, IsReadFault, IsWithin, Leaves};
+ghost use Rattle.iommufd_cli.specs.Output.{IsFinal, IsFront, Writes};
 ghost use Rattle.iommufd_cli.specs.Session.{IsRunText, IsText, StepsText};
 
 use crate::fault::CliFault;
 use crate::line::Line;
+use crate::output::put;
 use crate::replies::{bad_line, no_memory_line};
 use crate::steps::answer_step;
 use iofd_words::Config;
@@ -21,28 +24,29 @@ const MOST_BYTES: u64 = 1 << 24;
 /// script has a bad line or there is no memory for it. The answer is the exit status: 0, or 1 in those two cases.
 ///
 /// The errors are a read that fails, a script of more than 2^24 bytes, and a write that fails. The first two write
-/// nothing.
+/// nothing. At the last a beginning of the lines was written, and never all of them.
 pub fn session<R: Read, W: Write, A: Allocator + Copy>(
     alloc: A,
     reader: &mut R,
     writer: &mut W,
 ) -> Result<u8, CliFault>
-    ensures { IfOk result (λ status. IfSome (R.remaining reader.old) (λ input.
-        (out : List ℕ) × IsText A input out status × Appends (W.contents writer.old) (W.contents writer.new) out)) }
+    ensures text { IfOk result (λ status. IfSome (R.remaining reader.old) (λ input.
+        Writes (λ out. IsText A input out status × IsWithin input out status) (W.contents writer.old) (W.contents writer.new))) }
+    ensures fault { IfErr result (λ fault.
+        Leaves A fault (R.remaining reader.old) (W.contents writer.old) (W.contents writer.new)) }
 {
-    match read_all(alloc, reader)? {
+    let written = match read_all(alloc, reader)? {
         Some(bytes) => run_text(alloc, &bytes, writer),
         None => told(writer, no_memory_line()),
-    }
+    };
+    written.map_err(CliFault::Output)
 }
 
 // Carries out a script, given whole.
-fn run_text<W: Write, A: Allocator + Copy>(
-    alloc: A,
-    text: &[u8],
-    writer: &mut W,
-) -> Result<u8, CliFault>
-    ensures { IfOk result (λ status. (out : List ℕ) × IsText A text.now out status × Appends (W.contents writer.old) (W.contents writer.new) out) }
+fn run_text<W: Write, A: Allocator + Copy>(alloc: A, text: &[u8], writer: &mut W) -> io::Result<u8>
+    ensures text { IfOk result (λ status. Writes (λ out. IsText A text.now out status) (W.contents writer.old) (W.contents writer.new)) }
+    ensures begun { OnErr result (Writes (BeginsText A text.now) (W.contents writer.old) (W.contents writer.new)) }
+    ensures retried { IfErr result IsFinal }
 {
     match read_script(alloc, text) {
         Ok((config, mut steps)) => run_script(alloc, &config, &mut steps, writer),
@@ -57,21 +61,26 @@ fn run_script<W: Write, A: Allocator + Copy>(
     config: &Config<A>,
     steps: &mut Steps<'_>,
     writer: &mut W,
-) -> Result<u8, CliFault>
-    ensures { IfOk result (λ status. (out : List ℕ) × IsRunText A config.now steps.old out status × Appends (W.contents writer.old) (W.contents writer.new) out) }
+) -> io::Result<u8>
+    ensures text { IfOk result (λ status.
+        Writes (λ out. IsRunText A config.now steps.old out status) (W.contents writer.old) (W.contents writer.new)) }
+    ensures begun { OnErr result (Writes (BeginsRunText A config.now steps.old) (W.contents writer.old) (W.contents writer.new)) }
+    ensures retried { IfErr result IsFinal }
 {
     match Core::new(alloc, config) {
-        Ok(mut core) => match run_steps(alloc, &mut core, steps, writer) {
-            Ok(()) => Ok(0),
-            Err(error) => Err(CliFault::Write(error)),
-        },
+        Ok(mut core) => {
+            run_steps(alloc, &mut core, steps, writer)?;
+            Ok(0)
+        }
         Err(_) => told(writer, no_memory_line()),
     }
 }
 
 // All bytes of the reader; None where there is no memory for them.
 fn read_all<R: Read, A: Allocator>(alloc: A, reader: &mut R) -> Result<Option<Vec<u8, A>>, CliFault>
-    ensures { IfOk result (λ read. IfSome read (λ bytes. IfSome (R.remaining reader.old) (λ input. bytes.items ≡ input))) }
+    ensures bytes { IfOk result (λ read. IfSome read (λ bytes. IfSome (R.remaining reader.old) (λ input. bytes.items ≡ input))) }
+    ensures most { IfOk result (λ read. IfSome read (λ bytes. length bytes.items ≤ 2 ^ 24)) }
+    ensures fault { IfErr result (λ fault. IsReadFault fault (R.remaining reader.old)) }
 {
     let mut bytes = Vec::new(alloc);
     match reader.take(MOST_BYTES + 1).read_to_end(&mut bytes) {
@@ -83,13 +92,13 @@ fn read_all<R: Read, A: Allocator>(alloc: A, reader: &mut R) -> Result<Option<Ve
 }
 
 // One line alone, and status 1.
-fn told<W: Write>(writer: &mut W, line: Line) -> Result<u8, CliFault>
-    ensures { IfOk result (λ status. (status ≡ 1) × Appends (W.contents writer.old) (W.contents writer.new) line) }
+fn told<W: Write>(writer: &mut W, line: Line) -> io::Result<u8>
+    ensures text { IfOk result (λ status. (status ≡ 1) × Appends (W.contents writer.old) (W.contents writer.new) line) }
+    ensures begun { OnErr result (Writes (λ out. IsFront out line) (W.contents writer.old) (W.contents writer.new)) }
+    ensures retried { IfErr result IsFinal }
 {
-    match writer.write_all(line.as_slice()) {
-        Ok(()) => Ok(1),
-        Err(error) => Err(CliFault::Write(error)),
-    }
+    put(writer, line.as_slice())?;
+    Ok(1)
 }
 
 // Carries out the steps in turn, and writes the line of each.
@@ -99,11 +108,13 @@ fn run_steps<W: Write, A: Allocator + Copy>(
     steps: &mut Steps<'_>,
     writer: &mut W,
 ) -> io::Result<()>
-    ensures { OnOk result ((out : List ℕ) × StepsText core.old steps.old out × Appends (W.contents writer.old) (W.contents writer.new) out) }
+    ensures text { OnOk result (Writes (StepsText core.old steps.old) (W.contents writer.old) (W.contents writer.new)) }
+    ensures begun { OnErr result (Writes (BeginsLines core.old steps.old) (W.contents writer.old) (W.contents writer.new)) }
+    ensures retried { IfErr result IsFinal }
 {
     while let Some(step) = steps.next_step() {
-        let line = answer_step(alloc, core, &step);
-        writer.write_all(line.as_slice())?;
+        let answer = answer_step(alloc, core, &step);
+        put(writer, answer.as_slice())?;
     }
     Ok(())
 }

@@ -1,9 +1,9 @@
-use Rattle.std.proofs.Common.{◌≡◌, ℕ, ◌+◌, ◌<◌, ◌≤◌, true, length, arith, ◌∙◌, sym}
+use Rattle.std.proofs.Common.{◌≡◌, ◌<◌, length, arith, ◌∙◌, sym}
 use Rattle.iommufd_cli.proofs.Written.{all_read}
 use Rattle.iommufd_cli.proofs.run.read_all.Goals as goal
 
-pub returns-in-Ok : goal.returns-in-Ok
-returns-in-Ok g c =
+pub returns-in-Ok-clause-bytes : goal.returns-in-Ok-clause-bytes
+returns-in-Ok-clause-bytes g c =
     let count : length c.read_to_end.new.buf.items ≡ c.len.result = sym (c.len.ensures ∙ c.read_to_end.new.buf.ok.0) in
     let short : length c.read_to_end.new.buf.items < 16777217 = rw count (omega (arith, c.if-len-le-MOST_BYTES.true)) in
     all_read (g.R.Read.remaining c.args.reader.now) 16777217 c.new-bytes.result.items c.read_to_end.new.buf.items c.new-bytes.ensures.items (rw (c.take.ensures.limit, c.take.ensures.inner) at c.in-Ok.ensures.bytes) short

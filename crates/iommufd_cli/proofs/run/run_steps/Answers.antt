@@ -1,22 +1,37 @@
-use Rattle.std.proofs.Common.{◌≡◌, List, [], ◌++◌, sym, ◌∙◌, subst}
-use Rattle.std.proofs.lemmas.List.{append_assoc, append-nil}
+use Rattle.std.proofs.Common.{[], ◌∷◌, ◌++◌, refl, subst}
 use Rattle.std.specs.Io.KnownBytes.{Appends}
-use Rattle.iommufd_cli.proofs.Written.{appends_more, text_more, text_none}
-use Rattle.iommufd_cli.specs.Session.{StepsText}
+use Rattle.iommufd_cli.proofs.Written.{appends_more, appends_none, begun_text, leads_on, on_err, split_on, whole_text}
+use Rattle.iommufd_cli.specs.Failures.{BeginsLines}
+use Rattle.iommufd_cli.specs.Output.{IsFront, Writes}
 use Rattle.iommufd_cli.proofs.run.run_steps.Goals as goal
+
+pub loop-step-init : goal.loop-step-init
+loop-step-init g c = ([], [], refl, appends_none _, λ others rest text. text)
 
 pub loop-step-preserved : goal.loop-step-preserved
 loop-step-preserved g c =
-    let (out, written, cont) = c.loop-step.invariant in
-    let line = c.answer_step-line.result in
-    let more = subst (λ text. Appends (g.W.Write.contents c.loop-step.writer) (g.W.Write.contents c.write_all.new.self) text) c.as_slice.ensures.bytes c.in_ok-write_all.ensures.bytes in (
+    let (first, out, split, written, leads) = c.loop-step.invariant in
+    let line = c.answer_step-answer.result in
+    let step = c.in-Some.step in
+    let more = subst (λ text. Appends (g.W.Write.contents c.loop-step.writer) (g.W.Write.contents c.put.new.writer) text) c.as_slice.ensures.bytes c.in_ok-put.ensures.ok in (
+      first ++ step ∷ [],
       out ++ line,
+      split_on _ first _ _ step split c.in-Some.ensures,
       appends_more _ _ _ out line written more,
-      λ rest text.
-          subst (λ all. StepsText c.args.core.now c.args.steps.now all) (sym (append_assoc out line rest)) (cont (line ++ rest) (text_more _ _ _ _ c.in-Some.step line rest c.in-Some.ensures c.answer_step-line.ensures text)),
+      leads_on _ _ _ first step out line leads c.answer_step-answer.ensures,
     )
 
-pub returns : goal.returns
-returns g c =
-    let (out, written, cont) = c.loop-step.invariant in
-    (out, subst (λ all. StepsText c.args.core.now c.args.steps.now all) (append-nil out) (cont [] (text_none _ _ c.in_default.ensures.0)), written)
+pub returns-clause-text : goal.returns-clause-text
+returns-clause-text g c =
+    let (first, out, split, written, leads) = c.loop-step.invariant in
+    (out, whole_text _ _ _ first _ out leads split c.in_default.ensures.0, written)
+
+pub returns-in_err-put-clause-begun : goal.returns-in_err-put-clause-begun
+returns-in_err-put-clause-begun g c =
+    let (first, out, split, written, leads) = c.loop-step.invariant in
+    let line = c.answer_step-answer.result in
+    let (front, is_front, more) = c.in_err-put.ensures.err in
+    let short = subst (λ text. IsFront front text) c.as_slice.ensures.bytes is_front in
+    let all : Writes (BeginsLines c.args.core.now c.args.steps.now) (g.W.Write.contents c.args.writer.now) (g.W.Write.contents c.put.new.writer) =
+    (out ++ front, begun_text _ _ _ _ first _ _ c.in-Some.step out line front leads split c.in-Some.ensures c.answer_step-answer.ensures short, appends_more _ _ _ out front written more) in
+    on_err c.from_residual.result all

@@ -1,0 +1,66 @@
+-- What a session leaves where reading or writing fails.
+use Rattle.std.specs.Prelude.{◌≡◌, ◌≢◌, ◌⊎◌, ◌<◌, ◌≤◌, ◌^◌, ℕ, Ok, Err, IfSome, Option, List, [], ◌++◌, length}
+use Rattle.std.specs.Io.KnownBytes.{Keeps}
+use Rattle.std.specs.IoError.{error_kind}
+use Rattle.std.specs.declared.io.ErrorKind.TheVariants.{OutOfMemory}
+use Rattle.iofd_words.specs.Settings.{Settings}
+use Rattle.iommufd_cli.specs.Output.{IsFinal, IsFront, Writes}
+use Rattle.iommufd_cli.specs.Replies.{bad_line_text, line, no_memory_text}
+use Rattle.iommufd_cli.specs.Session.{IsWithoutMemory, StepsText}
+use Rattle.iommufd_cli.specs.declared.fault.CliFault.{CliFault}
+use Rattle.iommufd_cli.specs.declared.fault.CliFault.TheVariants as fault
+use Rattle.iommufd_core.specs.Server.{Server}
+use Rattle.iommufd_script.specs.Opening.{script_of}
+use Rattle.iommufd_script.specs.declared.line.Step.{Step}
+
+-- of the lines of the first steps, from this server on, the first bytes and not all
+pub record BeginsLines {A : Type 0} (s : Server A) (steps : List Step) (out : List ℕ) : Type 0 where
+  pub first : List Step
+  pub others : List Step
+  pub split : steps ≡ first ++ others
+  pub text : List ℕ
+  pub lines : StepsText s first text
+  pub front : IsFront out text
+
+-- the same, from a server on that was just opened
+abbrev pub BeginsSession : Type 0 → Settings → List Step → List ℕ → Type 0
+BeginsSession A settings steps out =
+    (s : Server A) × (s.history ≡ record { settings = settings; records = [] }) × BeginsLines s steps out
+
+-- a beginning of what is written for a head and steps
+abbrev pub BeginsRunText : Type 0 → Settings → List Step → List ℕ → Type 0
+BeginsRunText A settings steps out = BeginsSession A settings steps out ⊎ IsFront out (line no_memory_text)
+
+-- a beginning of a bad script's line
+pub record BeginsBad (input out : List ℕ) : Type 0 where
+  pub number : ℕ
+  pub bad : script_of input ≡ Err number
+  pub front : IsFront out (line (bad_line_text number))
+
+-- a beginning of a good script's lines
+pub record BeginsGood (A : Type 0) (input out : List ℕ) : Type 0 where
+  pub settings : Settings
+  pub steps : List Step
+  pub good : script_of input ≡ Ok (settings, steps)
+  pub lines : BeginsSession A settings steps out
+
+-- a beginning of a text of the script, and not all of it
+abbrev pub BeginsText : Type 0 → List ℕ → List ℕ → Type 0
+BeginsText A input out = BeginsBad input out ⊎ BeginsGood A input out ⊎ IsFront out (line no_memory_text)
+
+-- a script of more bytes is never carried out
+abbrev pub IsWithin : List ℕ → List ℕ → ℕ → Type 0
+IsWithin input out status = (length input ≤ 2 ^ 24) ⊎ IsWithoutMemory out status
+
+-- a fault of a reader that had these bytes, where they are known; want of memory is none
+abbrev pub IsReadFault : CliFault → Option (List ℕ) → Type 0
+IsReadFault fault.Input known = IfSome known (λ input. 2 ^ 24 < length input)
+IsReadFault (fault.Read error) known = IsFinal error × (error_kind error ≢ OutOfMemory)
+IsReadFault (fault.Output error) known = ⊥
+
+-- what a fault leaves: of a reader's nothing was written, and of a writer's a beginning of a text
+abbrev pub Leaves : Type 0 → CliFault → Option (List ℕ) → Option (List ℕ) → Option (List ℕ) → Type 0
+Leaves A fault.Input known old new = IsReadFault fault.Input known × Keeps old new
+Leaves A (fault.Read error) known old new = IsReadFault (fault.Read error) known × Keeps old new
+Leaves A (fault.Output error) known old new =
+    IsFinal error × IfSome known (λ input. Writes (BeginsText A input) old new)
