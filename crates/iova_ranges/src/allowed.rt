@@ -1,6 +1,6 @@
 //! The ranges to which the addresses of an address space are bounded.
 
-ghost use Rattle.std.specs.Prelude.{◌≡◌, ◌==◌, ◌↔◌, ℕ, [], length, not, IsTrue, IfOk, OnOk, OnErr};
+ghost use Rattle.std.specs.Prelude.{◌≡◌, ◌==◌, ◌<◌, ◌↔◌, ℕ, [], length, not, IsTrue, IfOk, OnOk, OnErr};
 ghost use Rattle.iova_ranges.specs.Allowed.{IsAllowed, is_allowed, is_allowed_number};
 ghost use Rattle.iova_ranges.specs.Ranges.{AreMerged, in_spans};
 
@@ -83,6 +83,7 @@ impl<A: Allocator + Copy> Allowed<A> {
         ensures lifted { OnOk result ((length self.new == 0) ≡ (length spans.now == 0)) }
         ensures merged { AreMerged self.new }
         ensures err { OnErr result (self.new ≡ self.old) }
+        ensures memory { OnErr result (0 < length spans.now) }
     {
         let ranges = RangeSet::of(*self.ranges.allocator(), spans)?;
         self.ranges = ranges;

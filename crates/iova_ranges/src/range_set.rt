@@ -42,11 +42,12 @@ impl<A: Allocator> RangeSet<A> {
     }
 
     /// The set of the numbers of these spans, which may stand in any order and overlap. It fails only where memory
-    /// does.
+    /// does; no spans need none.
     pub fn of(alloc: A, spans: &[Span]) -> Result<RangeSet<A>, NoMemory>
         ensures set { IfOk result (λ set. (n : ℕ) → in_spans set.spans n ≡ in_spans spans.now n) }
         ensures merged { IfOk result (λ set. AreMerged set.spans) }
         ensures empty { IfOk result (λ set. (length set.spans == 0) ≡ (length spans.now == 0)) }
+        ensures memory { OnErr result (0 < length spans.now) }
     {
         let mut set = RangeSet::new(alloc);
         for span in spans {

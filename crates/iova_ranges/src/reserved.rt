@@ -92,6 +92,7 @@ impl<A: Allocator> Reserved<A> {
         ensures set { IfOk result
             (λ rest. (n : ℕ) → in_spans rest.spans n ≡ (in_spans set.spans n && not (is_reserved self.now.rows n))) }
         ensures merged { IfOk result (λ rest. AreMerged rest.spans) }
+        ensures memory { OnErr result (0 < length self.now.rows) }
     {
         let mut rest = set;
         for row in &self.rows {
