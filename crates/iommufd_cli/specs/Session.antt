@@ -33,7 +33,7 @@ pub record IsGood (A : Type 0) (input out : List ℕ) (status : ℕ) : Type 0 wh
   pub lines : SessionText A settings steps out
   pub status_is : status ≡ 0
 
--- no memory to read the script or to open the server: that alone, and status 1
+-- no memory: that alone, and status 1
 pub record IsWithoutMemory (out : List ℕ) (status : ℕ) : Type 0 where
   pub out_is : out ≡ line no_memory_text
   pub status_is : status ≡ 1
@@ -41,6 +41,11 @@ pub record IsWithoutMemory (out : List ℕ) (status : ℕ) : Type 0 where
 -- what is written for a head and steps: their lines and status 0, or that there is no memory to open a server
 abbrev pub IsRunText : Type 0 → Settings → List Step → List ℕ → ℕ → Type 0
 IsRunText A settings steps out status = (SessionText A settings steps out × (status ≡ 0)) ⊎ IsWithoutMemory out status
+
+-- a text of a script whose bytes are at hand, and the status: a bad one needs no memory
+abbrev pub IsReadText : Type 0 → List ℕ → List ℕ → ℕ → Type 0
+IsReadText A input out status =
+    IsBad input out status ⊎ IsGood A input out status ⊎ (IsWithoutMemory out status × (good : Settings × List Step) × (script_of input ≡ Ok good))
 
 -- a text of the script, and the status
 abbrev pub IsText : Type 0 → List ℕ → List ℕ → ℕ → Type 0

@@ -58,10 +58,14 @@ module _ {A : Type 0} where
     pub same : after ≡ s
     pub text_is : text ≡ line (refusal_text cause)
 
-  -- an ioctl: its bytes are refused, or the event of the command that they spell is applied
+  -- an ioctl whose bytes are at hand: they are refused, or the event of the command that they spell is applied
+  abbrev pub IsDecoded : Server A → FileNo → ℕ → List ℕ → List ℕ → Server A → Type 0
+  IsDecoded s file number bytes text after =
+      IsUndecoded s number bytes text after ⊎ ((c : Command) × Spells number bytes c × IsApplied s (event_of file c) (ioctl_text c) text after)
+
+  -- an ioctl, unless memory was wanting for its bytes
   abbrev pub IsIoctl : Server A → FileNo → ℕ → List ℕ → List ℕ → Server A → Type 0
-  IsIoctl s file number bytes text after =
-      IsUndecoded s number bytes text after ⊎ ((c : Command) × Spells number bytes c × IsApplied s (event_of file c) (ioctl_text c) text after) ⊎ IsUnread s bytes text after
+  IsIoctl s file number bytes text after = IsDecoded s file number bytes text after ⊎ IsUnread s bytes text after
 
   -- a step of the script
   abbrev pub IsAnswered : Server A → Step → List ℕ → Server A → Type 0

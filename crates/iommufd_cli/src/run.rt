@@ -4,7 +4,7 @@ ghost use Rattle.std.specs.Prelude.{◌≡◌, ◌≤◌, ◌^◌, IfErr, IfOk, 
 ghost use Rattle.std.specs.Io.KnownBytes.{Appends};
 ghost use Rattle.iommufd_cli.specs.Failures.{BeginsLines, BeginsRunText, BeginsText, IsReadFault, IsWithin, Leaves};
 ghost use Rattle.iommufd_cli.specs.Output.{IsFinal, IsFront, Writes};
-ghost use Rattle.iommufd_cli.specs.Session.{IsRunText, IsText, StepsText};
+ghost use Rattle.iommufd_cli.specs.Session.{IsReadText, IsRunText, IsText, StepsText};
 
 use crate::fault::CliFault;
 use crate::line::Line;
@@ -44,7 +44,8 @@ pub fn session<R: Read, W: Write, A: Allocator + Copy>(
 
 // Carries out a script, given whole.
 fn run_text<W: Write, A: Allocator + Copy>(alloc: A, text: &[u8], writer: &mut W) -> io::Result<u8>
-    ensures text { IfOk result (λ status. Writes (λ out. IsText A text.now out status) (W.contents writer.old) (W.contents writer.new)) }
+    ensures text { IfOk result (λ status.
+        Writes (λ out. IsReadText A text.now out status) (W.contents writer.old) (W.contents writer.new)) }
     ensures begun { OnErr result (Writes (BeginsText A text.now) (W.contents writer.old) (W.contents writer.new)) }
     ensures retried { IfErr result IsFinal }
 {

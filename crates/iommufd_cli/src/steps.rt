@@ -3,7 +3,7 @@
 ghost use Rattle.std.specs.Prelude.{◌≡◌, ℕ, List};
 ghost use Rattle.iommufd_cli.specs.Replies.{ioctl_text, reply_text};
 ghost use Rattle.iommufd_script.specs.declared.line.Step.TheVariants as step;
-ghost use Rattle.iommufd_cli.specs.Steps.{IsAnswered, IsApplied, IsIoctl, event_of};
+ghost use Rattle.iommufd_cli.specs.Steps.{IsAnswered, IsApplied, IsDecoded, IsIoctl, event_of};
 
 use crate::line::Line;
 use crate::replies::{answer_line, ioctl_line, memory_line, refusal_line, reply_line};
@@ -63,10 +63,22 @@ fn answer_ioctl<A: Allocator + Copy>(
 ) -> Line
     ensures { IsIoctl core.old file number bytes.now result core.new }
 {
-    let Ok(bytes) = bytes.to_vec(alloc) else {
-        return memory_line();
-    };
-    match decode(number, &bytes) {
+    match bytes.to_vec(alloc) {
+        Ok(bytes) => answer_bytes(core, file, number, &bytes),
+        Err(_) => memory_line(),
+    }
+}
+
+// The line for an ioctl whose bytes are at hand.
+fn answer_bytes<A: Allocator + Copy>(
+    core: &mut Core<A>,
+    file: FileNo,
+    number: u32,
+    bytes: &[u8],
+) -> Line
+    ensures { IsDecoded core.old file number bytes.now result core.new }
+{
+    match decode(number, bytes) {
         Ok(command) => answer_command(core, file, command),
         Err(DecodeError::Refused(refusal)) => refusal_line(refusal),
     }

@@ -194,3 +194,27 @@ fn a_refused_growth_changes_nothing(rt: HostRuntime) -> Result<(), Fail> {
     assert!(rt; refused_growths >= 2, "the first growth and a later one");
     Ok(())
 }
+
+/// Gives the file objects until memory is wanting, at most 1024. How many they are.
+fn insert_all(table: &mut ObjectTable<u32, &LocalHeap>, file: FileNo) -> u32 {
+    for number in 0..1024u32 {
+        if table.insert(file, Kind::Ioas, number).is_err() {
+            return number;
+        }
+    }
+    1024
+}
+
+#[test]
+fn a_closed_files_memory_goes_back(rt: HostRuntime) -> Result<(), Fail> {
+    let heap = LocalHeap::new(rt.alloc(), 4096)?;
+    let mut table = ObjectTable::new(&heap, 2)?;
+    let first = insert_all(&mut table, FIRST);
+    assert!(rt; first > 8 && first < 1024);
+    // The rest of the heap is taken, so the second file lives on what the first gives back.
+    let _blocks = fill(rt.alloc(), &heap)?;
+    assert_eq!(rt; insert_all(&mut table, SECOND), 0);
+    assert_eq!(rt; table.close_file(FIRST), Ok(()));
+    assert!(rt; insert_all(&mut table, SECOND) > 8);
+    Ok(())
+}
