@@ -113,17 +113,19 @@ impl<A: Allocator> Areas<A> {
         ensures ok { OnOk result (self.new.areas ≡ with_area area self.old.areas) }
         ensures err { OnErr result (self.new.areas ≡ self.old.areas) }
         ensures room { self.old.room ≤ self.new.room + 1 }
+        ensures err_room { OnErr result (self.old.room ≤ self.new.room) }
     {
         insertion::insert(&mut self.sorted, area)
     }
 
     /// Takes memory for one more area, if there is no room. The areas stay. After an Ok the next `insert`
-    /// doesn't want for memory.
+    /// doesn't want for memory; an error changes nothing.
     pub fn reserve(&mut self) -> Result<(), NoMemory>
         ensures areas { self.new.areas ≡ self.old.areas }
         ensures ok { OnOk result (0 < self.new.room) }
         ensures full { OnErr result (self.old.room ≡ 0) }
         ensures room { self.old.room ≤ self.new.room }
+        ensures unchanged { OnErr result (self.new ≡ self.old) }
     {
         match self.sorted.reserve(1) {
             Ok(()) => Ok(()),
@@ -146,9 +148,10 @@ impl<A: Allocator> Areas<A> {
         }
     }
 
-    /// The spans of all areas, by rising start. Its only error is a refused growth.
+    /// The spans of all areas, by rising start. Its only error is a refused growth; no areas need no memory.
     pub fn spans<B: Allocator>(&self, alloc: B) -> Result<Vec<Span, B>, NoMemory>
-        ensures { IfOk result (λ spans. spans.items ≡ map (λ area. area.span) self.now.areas) }
+        ensures ok { IfOk result (λ spans. spans.items ≡ map (λ area. area.span) self.now.areas) }
+        ensures memory { OnErr result (0 < length self.now.areas) }
     {
         totals::spans(alloc, &self.sorted)
     }

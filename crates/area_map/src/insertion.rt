@@ -25,6 +25,7 @@ pub fn insert<A: Allocator>(areas: &mut Vec<Area, A>, area: Area) -> Result<(), 
     ensures err { OnErr result (areas.new.items ≡ areas.old.items) }
     ensures capacity { vec_capacity areas.old ≤ vec_capacity areas.new }
     ensures len { vec_len areas.new ≤ vec_len areas.old + 1 }
+    ensures err_len { OnErr result (vec_len areas.new ≡ vec_len areas.old) }
 {
     let span = area.span;
     if lookups::meets(areas, span) {

@@ -1,6 +1,6 @@
 //! What areas amount to.
 
-ghost use Rattle.std.specs.Prelude.{◌≡◌, ◌≤◌, ◌^◌, IfOk, length, map};
+ghost use Rattle.std.specs.Prelude.{◌≡◌, ◌<◌, ◌≤◌, ◌^◌, IfOk, OnErr, length, map};
 ghost use Rattle.std.specs.List.{list_any};
 ghost use Rattle.iofd_words.specs.Span.{size_of};
 ghost use Rattle.area_map.specs.Areas.{bytes_of, is_owing, most_areas, most_tries};
@@ -31,8 +31,12 @@ fn size_of(span: Span) -> u128
 
 /// The spans of the areas.
 pub fn spans<B: Allocator>(alloc: B, areas: &[Area]) -> Result<Vec<Span, B>, NoMemory>
-    ensures { IfOk result (λ spans. spans.items ≡ map (λ area. area.span) areas.now) }
+    ensures ok { IfOk result (λ spans. spans.items ≡ map (λ area. area.span) areas.now) }
+    ensures memory { OnErr result (0 < length areas.now) }
 {
+    if areas.is_empty() {
+        return Ok(Vec::new(alloc));
+    }
     match collect_spans(alloc, areas) {
         Ok(spans) => Ok(spans),
         Err(_) => Err(NoMemory),

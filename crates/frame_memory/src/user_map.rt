@@ -1,6 +1,6 @@
 //! The pages of the users' memory.
 
-ghost use Rattle.std.specs.Prelude.{◌≡◌, ◌<◌, ◌-◌, [], slice_index, IfOk, IfSome, IfNone, OnOk, OnErr, IsOkUnless};
+ghost use Rattle.std.specs.Prelude.{◌≡◌, ◌<◌, ◌≤◌, ◌+◌, ◌-◌, [], slice_index, IfOk, IfSome, IfNone, OnOk, OnErr, IsOkUnless};
 ghost use Rattle.iofd_words.specs.Frames.{frame_at};
 ghost use Rattle.iofd_words.specs.Pages.{page_of};
 ghost use Rattle.frame_memory.specs.Pool.{given, least_free, with_holds};
@@ -53,8 +53,8 @@ impl<A: Allocator> UserMap<A> {
     /// reads zero.
     ///
     /// Refused, in this order: Overlap (9, EEXIST) where the user has the page already; Frames (6, ENOMEM)
-    /// where no frame is free. An error leaves the pages and the pool as they were; want of memory comes only where there
-    /// was no room for one more page.
+    /// where no frame is free. An error leaves the pages, their room and the pool as they were; want of memory
+    /// comes only where there was no room for one more page.
     pub fn map<B: Allocator>(
         &mut self,
         pool: &mut Pool<B>,
@@ -69,7 +69,8 @@ impl<A: Allocator> UserMap<A> {
         ensures least { IfOk result (λ frame. least_free pool.old.holds ≡ Some frame.0) }
         ensures pages { IfOk result (λ frame. self.new.pages ≡ with_page self.old.pages user (page_of va) frame) }
         ensures pool { IfOk result (λ frame. pool.new ≡ given pool.old frame.0) }
-        ensures err { OnErr result (self.new.pages ≡ self.old.pages) }
+        ensures room { self.old.room ≤ self.new.room + 1 }
+        ensures err { OnErr result (self.new ≡ self.old) }
         ensures pool_err { OnErr result (pool.new ≡ pool.old) }
     {
         if self.frame_at(user, va).is_some() {
@@ -108,7 +109,8 @@ impl<A: Allocator> UserMap<A> {
         ensures pages { OnOk result (self.new.pages ≡ without_page self.old.pages user (page_of va)) }
         ensures pool { IfSome (frame_at self.old.pages user (page_of va))
             (λ frame. pool.new ≡ with_holds pool.old frame.0 (slice_index pool.old.holds frame.0 - 1)) }
-        ensures err { OnErr result (self.new.pages ≡ self.old.pages) }
+        ensures room { self.old.room ≤ self.new.room }
+        ensures err { OnErr result (self.new ≡ self.old) }
         ensures pool_err { OnErr result (pool.new ≡ pool.old) }
     {
         let Some(frame) = self.frame_at(user, va) else {

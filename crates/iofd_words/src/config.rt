@@ -1,6 +1,6 @@
 //! What a server is opened with, and its limits.
 
-ghost use Rattle.std.specs.Prelude.{◌≡◌, IfOk, None};
+ghost use Rattle.std.specs.Prelude.{◌≡◌, ◌<◌, IfOk, OnErr, None, length};
 ghost use Rattle.std.specs.List.{list_all};
 ghost use Rattle.iofd_words.specs.Settings.{is_between, is_device_in_limits, is_reserved_span};
 
@@ -43,9 +43,10 @@ impl<A: Allocator> DeviceConfig<A> {
         }
     }
 
-    /// The same device, its spans in new memory. It fails only where memory does.
+    /// The same device, its spans in new memory. It fails only where memory does; without spans it needs none.
     pub fn copied<B: Allocator>(&self, alloc: B) -> Result<DeviceConfig<B>, NoMemory>
-        ensures { IfOk result (λ device. device ≡ self.now) }
+        ensures ok { IfOk result (λ device. device ≡ self.now) }
+        ensures memory { OnErr result (0 < length self.now.reserved) }
     {
         Ok(DeviceConfig {
             source: self.source,

@@ -1,6 +1,6 @@
 //! Lists that contracts see as lists.
 
-ghost use Rattle.std.specs.Prelude.{◌≡◌, IfOk};
+ghost use Rattle.std.specs.Prelude.{◌≡◌, ◌<◌, IfOk, OnErr, length};
 
 use crate::numbers::FrameNo;
 use crate::refusal::NoMemory;
@@ -76,14 +76,14 @@ impl<A: Allocator> SpanList<A> {
         self.spans.as_slice()
     }
 
-    /// The same spans in new memory. It fails only where memory does.
+    /// The same spans in new memory. It fails only where memory does; no spans need none.
     pub fn copied<B: Allocator>(&self, alloc: B) -> Result<SpanList<B>, NoMemory>
-        ensures { IfOk result (λ spans. spans ≡ self.now) }
+        ensures ok { IfOk result (λ spans. spans ≡ self.now) }
+        ensures memory { OnErr result (0 < length self.now) }
     {
-        match Vec::from_slice(alloc, &self.spans) {
-            Ok(spans) => Ok(SpanList { spans }),
-            Err(_) => Err(NoMemory),
-        }
+        let mut spans = Vec::with_capacity(alloc, self.spans.len())?;
+        spans.extend_from_slice(&self.spans)?;
+        Ok(SpanList { spans })
     }
 
     /// The spans as they were handed in. It takes no memory.

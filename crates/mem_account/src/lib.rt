@@ -1,7 +1,7 @@
 //! How many pinned pages each user has, and may have (iommufd.rst, accounting of locked memory).
 #![tactic(auto)]
 
-ghost use Rattle.std.specs.Prelude.{◌≡◌, ◌↔◌, ◌+◌, ◌<◌, ◌≤◌, map, IsErr, IfErr, IfOk, IsTrue, OnOk, OnErr};
+ghost use Rattle.std.specs.Prelude.{◌≡◌, ◌↔◌, ◌+◌, ◌<◌, ◌≤◌, length, map, IsErr, IfErr, IfOk, IsTrue, OnOk, OnErr};
 ghost use Rattle.mem_account.specs.Accounts.{charged, fresh, held_by, is_user, limit_of, refunded};
 
 use iofd_words::{Cause, NoMemory, Refusal, UserNo};
@@ -38,9 +38,10 @@ impl<A: Allocator> Model for Accounts<A> {
 
 impl<A: Allocator> Accounts<A> {
     /// Accounts with these limits, from user 1 on, which hold nothing. It takes all the memory that
-    /// accounts ever need; NoMemory where that is refused.
+    /// accounts ever need; NoMemory where that is refused. No users need none.
     pub fn new(alloc: A, limits: &[u64]) -> Result<Accounts<A>, NoMemory>
-        ensures { IfOk result (λ accounts. accounts ≡ map fresh limits.now) }
+        ensures ok { IfOk result (λ accounts. accounts ≡ map fresh limits.now) }
+        ensures memory { OnErr result (0 < length limits.now) }
     {
         let accounts = opened(alloc, limits)?;
         Ok(Accounts { accounts })
@@ -95,7 +96,8 @@ impl<A: Allocator> Accounts<A> {
 
 // An account that holds nothing, for each limit.
 fn opened<A: Allocator>(alloc: A, limits: &[u64]) -> Result<Vec<Account, A>, NoMemory>
-    ensures { IfOk result (λ accounts. accounts.items ≡ map fresh limits.now) }
+    ensures ok { IfOk result (λ accounts. accounts.items ≡ map fresh limits.now) }
+    ensures memory { OnErr result (0 < length limits.now) }
 {
     let mut accounts = Vec::with_capacity(alloc, limits.len())?;
     for limit in limits {

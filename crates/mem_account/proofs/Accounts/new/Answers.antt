@@ -10,4 +10,4 @@ fresh_within (limit ∷ limits) zero d below = omega arith
 fresh_within (limit ∷ limits) (suc k) d below = fresh_within limits k d (omega (arith, below))
 
 pub invariant_of-result : goal.invariant_of-result
-invariant_of-result g c = rw c.in_ok-accounts.ensures (fresh_within c.args.limits.now)
+invariant_of-result g c = rw c.in_ok-accounts.ensures.ok (fresh_within c.args.limits.now)
