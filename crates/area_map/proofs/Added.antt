@@ -4,7 +4,8 @@ use Rattle.std.specs.List.{insert, prefix_len}
 use Rattle.std.proofs.lemmas.Bool.{cases_lt}
 use Rattle.std.proofs.lemmas.Bool.Decides.{nat_tests}
 use Rattle.iofd_words.specs.declared.rows.Area.{Area}
-use Rattle.area_map.specs.Areas.{AreApartFrom, AreApart, areas_meet, with_area}
+use Rattle.area_map.specs.Areas.{AreApartFrom, AreApart, with_area}
+use Rattle.iofd_words.specs.Areas.{areas_meet}
 
 insert_behind : (x : Area) (xs : List Area) (n : ℕ) (a : Area) → insert (x ∷ xs) (1 + n) a ≡ x ∷ insert xs n a
 insert_behind x xs n a = let next : 1 + n ≡ suc n = omega arith in rw next refl

@@ -9,7 +9,8 @@ use denote.Ref.{Bor}
 use Rattle.iofd_words.specs.declared.rows.Area.{Area}
 use Rattle.iofd_words.specs.Bounds.{Bounds}
 use Rattle.iofd_words.specs.Span.{holds, meets, lies_in}
-use Rattle.area_map.specs.Areas.{AreApartFrom, AreApart, area_at, area_of, is_same, areas_meet, is_cut, begins_before, ends_after}
+use Rattle.area_map.specs.Areas.{AreApartFrom, AreApart, area_of, is_same, begins_before, ends_after}
+use Rattle.iofd_words.specs.Areas.{area_at, areas_meet, is_cut}
 
 -- the place that a binary search finds
 pub prefix_len-from_within : (p : Area → Bool) (xs : List Area) (i : ℕ) → i ≤ length xs → AllWithin (λ y. p y ≡ true) xs 0 i → AllWithin (λ y. p y ≡ false) xs i (length xs) → i ≡ prefix_len p xs

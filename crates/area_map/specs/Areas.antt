@@ -1,17 +1,13 @@
 -- Lists of areas: which areas a span names, and what a step makes of them.
 use Rattle.std.specs.Prelude.{ℕ, ◌+◌, ◌≤◌, ◌≡◌, Bool, true, false, ◌==◌, ◌&&◌, not, nat_lt, nat_le, Option, Some, None, List, [], ◌∷◌, length, map, filter, sum_by, fold, max, find, if◌then◌else◌}
 use Rattle.std.specs.List.{list_any}
-use Rattle.iofd_words.specs.Areas.{leaving, paid}
+use Rattle.iofd_words.specs.Areas.{area_at, leaving, most_areas, paid}
 use Rattle.iofd_words.specs.Bounds.{Bounds}
-use Rattle.iofd_words.specs.Span.{meets, lies_in, holds, size_of}
+use Rattle.iofd_words.specs.Span.{lies_in, holds, size_of}
 use Rattle.iofd_words.specs.declared.numbers.DeviceNo.{DeviceNo}
 use Rattle.iofd_words.specs.declared.rows.Area.{Area}
 use Rattle.iofd_words.specs.declared.rows.Phase.{Phase}
 use Rattle.iofd_words.specs.declared.rows.Phase.TheVariants.{Live, Leaving}
-
--- an address space has at most 65,535 areas
-abbrev pub most_areas : ℕ
-most_areas = 65535
 
 -- no area begins below this number, and each ends below the beginning of the next one
 abbrev pub AreApartFrom : ℕ → List Area → Type 0
@@ -33,18 +29,6 @@ abbrev pub with_area : Area → List Area → List Area
 with_area area [] = area ∷ []
 with_area area (next ∷ others) =
     if nat_lt area.span.first next.span.first then area ∷ next ∷ others else next ∷ with_area area others
-
--- some area, of any phase, meets the span
-abbrev pub areas_meet : Bounds → List Area → Bool
-areas_meet span areas = list_any (λ area. meets area.span span) areas
-
--- some area meets the span and isn't wholly in it
-abbrev pub is_cut : Bounds → List Area → Bool
-is_cut span areas = list_any (λ area. meets area.span span && not (lies_in area.span span)) areas
-
--- the area that holds the address
-abbrev pub area_at : ℕ → List Area → Option Area
-area_at iova areas = find (λ area. holds area.span iova) areas
 
 -- there is an area, and it begins before the address
 abbrev pub begins_before : ℕ → Option Area → Bool

@@ -3,7 +3,8 @@
 ghost use Rattle.std.specs.Prelude.{◌≡◌, ◌==◌, ◌↔◌, ◌+◌, ◌<◌, ◌≤◌, ◌++◌, [], length, map, is_ok, IsOk, IfOk, IfErr, IfSome, IfNone, OnOk, OnErr, IsOkUnless, vec_len, vec_capacity};
 ghost use Rattle.std.specs.Option.{option_copied};
 ghost use Rattle.std.specs.Slice.Iter.{iter_rest};
-ghost use Rattle.area_map.specs.Areas.{AreKept, with_area, areas_meet, is_cut, area_at, area_of, is_covered, IsCovered, HasGap, marked, without_debt, areas_owe, areas_within, areas_outside, memories_of, bytes_of, most_tries, tried};
+ghost use Rattle.area_map.specs.Areas.{AreKept, with_area, area_of, is_covered, IsCovered, HasGap, marked, without_debt, areas_owe, areas_within, areas_outside, memories_of, bytes_of, most_tries, tried};
+ghost use Rattle.iofd_words.specs.Areas.{areas_meet, is_cut, area_at};
 ghost use Rattle.area_map.specs.Insertion.{insert_refusal};
 
 use crate::insert_error::InsertError;

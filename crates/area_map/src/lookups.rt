@@ -3,7 +3,8 @@
 ghost use Rattle.std.specs.Prelude.{◌≡◌, ◌≤◌, find, nat_lt, nat_le, length, MatchBool};
 ghost use Rattle.std.specs.List.{prefix_len};
 ghost use Rattle.std.specs.Option.{option_copied};
-ghost use Rattle.area_map.specs.Areas.{AreApart, areas_meet, is_cut, area_at, area_of, begins_before, ends_after, runs_on, areas_within, is_covered, IsCovered, HasGap};
+ghost use Rattle.area_map.specs.Areas.{AreApart, area_of, begins_before, ends_after, runs_on, areas_within, is_covered, IsCovered, HasGap};
+ghost use Rattle.iofd_words.specs.Areas.{areas_meet, is_cut, area_at};
 
 use iofd_words::{Area, Span};
 

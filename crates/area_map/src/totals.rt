@@ -3,7 +3,8 @@
 ghost use Rattle.std.specs.Prelude.{◌≡◌, ◌<◌, ◌≤◌, ◌^◌, IfOk, OnErr, length, map};
 ghost use Rattle.std.specs.List.{list_any};
 ghost use Rattle.iofd_words.specs.Span.{size_of};
-ghost use Rattle.area_map.specs.Areas.{bytes_of, is_owing, most_areas, most_tries};
+ghost use Rattle.area_map.specs.Areas.{bytes_of, is_owing, most_tries};
+ghost use Rattle.iofd_words.specs.Areas.{most_areas};
 
 use crate::marking;
 use iofd_words::{Area, NoMemory, Span};

@@ -10,6 +10,7 @@ use Rattle.iofd_words.specs.Checks.{attach_checks, checks, refusal, lacks_attach
 use Rattle.iofd_words.specs.FirstTrue.{first_true}
 use Rattle.iofd_words.specs.Objects.{binding_of, has_hwpt}
 use Rattle.iofd_words.specs.Pins.{ObjectPage, are_present, frame_now, is_page, pages_of, pinned_pages}
+use Rattle.iofd_words.specs.View.{view}
 use Rattle.iofd_words.specs.World.{World}
 use Rattle.iofd_words.specs.declared.event.Event.TheVariants as event
 use Rattle.iofd_words.specs.declared.numbers.DeviceNo.{DeviceNo}
@@ -28,14 +29,14 @@ use Rattle.iofd_words.proofs.Runs.{tests_false}
 
 -- ---- what the refusals rule out
 
-attach_has_pages : (w : World) (device : DeviceNo) (ioas : ObjId) (object : Object) → refusal w (event.Attach device ioas) ≡ None → binding_of w.objects device ≡ Some object → lacks_attached_page w object.file ioas ≡ false
+attach_has_pages : (w : World) (device : DeviceNo) (ioas : ObjId) (object : Object) → refusal w (event.Attach device ioas) ≡ None → binding_of w.objects device ≡ Some object → lacks_attached_page (view w) object.file ioas ≡ false
 unfolding refusal checks
 attach_has_pages w device ioas object none is =
-    let named : first_true (attach_checks w device ioas object.file) ≡ None = rw (is, checks) at none in
-    tests_false (attach_checks w device ioas object.file) 3 named
+    let named : first_true (attach_checks (view w) device ioas object.file) ≡ None = rw (is, checks) at none in
+    tests_false (attach_checks (view w) device ioas object.file) 3 named
 
 -- without a page table before, all pages of the address space are there
-all_present : (w : World) (file : FileNo) (ioas : ObjId) → has_hwpt w.objects file ioas ≡ false → lacks_attached_page w file ioas ≡ false → are_present w.memory w.user_pages (flat_map pages_of (areas_of w.areas file ioas)) ≡ true
+all_present : (w : World) (file : FileNo) (ioas : ObjId) → has_hwpt w.objects file ioas ≡ false → lacks_attached_page (view w) file ioas ≡ false → are_present w.memory w.user_pages (flat_map pages_of (areas_of w.areas file ioas)) ≡ true
 all_present w file ioas none lacks = not-false _ (and_rest (not (has_hwpt w.objects file ioas)) _ (not_false _ none) lacks)
 
 -- ---- the pages of an address space

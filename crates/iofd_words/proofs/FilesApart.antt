@@ -14,6 +14,7 @@ use Rattle.iofd_words.specs.Laws.{FileRows, IsOfAnother, file_of_device, rows_of
 use Rattle.iofd_words.specs.Objects.{automatic_hwpt, binding_of, comes_before, objects_of, with_object}
 use Rattle.iofd_words.specs.Run.{after, after_answer}
 use Rattle.iofd_words.specs.Settings.{DeviceSettings}
+use Rattle.iofd_words.specs.View.{view}
 use Rattle.iofd_words.specs.World.{World}
 use Rattle.iofd_words.specs.declared.event.Event.{Event}
 use Rattle.iofd_words.specs.declared.event.Event.TheVariants as event
@@ -201,11 +202,11 @@ elsewhere w device object file another is = another object.file (ap (λ o. elim 
 
 flush_bound : (w : World) (device : DeviceNo) → refusal w (event.Flush device) ≡ None → is_none (binding_of w.objects device) ≡ false
 unfolding refusal checks
-flush_bound w device none = tests_false (checks w (event.Flush device)) 0 none
+flush_bound w device none = tests_false (checks (view w) (event.Flush device)) 0 none
 
 detach_is_bound : (w : World) (device : DeviceNo) → refusal w (event.Detach device) ≡ None → is_none (binding_of w.objects device) ≡ false
 unfolding refusal checks
-detach_is_bound w device none = tests_false (checks w (event.Detach device)) 0 none
+detach_is_bound w device none = tests_false (checks (view w) (event.Detach device)) 0 none
 
 pub keeps_others : (at : ℕ) (w : World) (e : Event) (answer : Reply) (file : FileNo) → AreBound w → refusal w e ≡ None → IsOfAnother w e file → rows_of file (changed at w e answer) ≡ rows_of file w
 unfolding changed settle without_areas attached detached

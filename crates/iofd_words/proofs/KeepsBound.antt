@@ -11,6 +11,7 @@ use Rattle.iofd_words.specs.Files.{user_of, device_of}
 use Rattle.iofd_words.specs.Laws.{have_own_ids}
 use Rattle.iofd_words.specs.Objects.{automatic_hwpt, binding_of, is_automatic, is_bound_as, is_bound_device, is_object, kind_of, objects_of}
 use Rattle.iofd_words.specs.Settings.{DeviceSettings}
+use Rattle.iofd_words.specs.View.{view}
 use Rattle.iofd_words.specs.World.{World}
 use Rattle.iofd_words.specs.declared.event.Event.{Event}
 use Rattle.iofd_words.specs.declared.event.Event.TheVariants as event
@@ -93,15 +94,15 @@ detached_bound w device a b =
 
 destroy_no_device : (w : World) (file : FileNo) (id : ObjId) → refusal w (event.Destroy file id) ≡ None → is_device_object (kind_of w.objects file id) ≡ false
 unfolding refusal checks
-destroy_no_device w file id none = tests_false (checks w (event.Destroy file id)) 3 none
+destroy_no_device w file id none = tests_false (checks (view w) (event.Destroy file id)) 3 none
 
 close_no_device : (w : World) (file : FileNo) → refusal w (event.Close file) ≡ None → list_any (λ (o : Object). is_bound_device o.kind) (objects_of w.objects file) ≡ false
 unfolding refusal checks
-close_no_device w file none = tests_false (checks w (event.Close file)) 1 none
+close_no_device w file none = tests_false (checks (view w) (event.Close file)) 1 none
 
 bind_unbound : (w : World) (file : FileNo) (device : DeviceNo) → refusal w (event.Bind file device) ≡ None → is_some (binding_of w.objects device) ≡ false
 unfolding refusal checks
-bind_unbound w file device none = tests_false (checks w (event.Bind file device)) 2 none
+bind_unbound w file device none = tests_false (checks (view w) (event.Bind file device)) 2 none
 
 -- ---- each event
 

@@ -10,6 +10,7 @@ use Rattle.iofd_words.specs.Files.{user_of, device_of}
 use Rattle.iofd_words.specs.Laws.{have_own_ids}
 use Rattle.iofd_words.specs.Objects.{binding_of, has_ioas, kind_of}
 use Rattle.iofd_words.specs.Settings.{DeviceSettings}
+use Rattle.iofd_words.specs.View.{view}
 use Rattle.iofd_words.specs.World.{World}
 use Rattle.iofd_words.specs.declared.event.Event.{Event}
 use Rattle.iofd_words.specs.declared.event.Event.TheVariants as event
@@ -46,19 +47,19 @@ not_not false is = cc
 
 map_has_space : (w : World) (file : FileNo) (request : MapRequest) → refusal w (event.Map file request) ≡ None → has_ioas w.objects file request.ioas ≡ true
 unfolding refusal checks
-map_has_space w file request none = not_not _ (tests_false (checks w (event.Map file request)) 6 none)
+map_has_space w file request none = not_not _ (tests_false (checks (view w) (event.Map file request)) 6 none)
 
-destroy_unused : (w : World) (file : FileNo) (id : ObjId) → refusal w (event.Destroy file id) ≡ None → is_used w file id (kind_of w.objects file id) ≡ false
+destroy_unused : (w : World) (file : FileNo) (id : ObjId) → refusal w (event.Destroy file id) ≡ None → is_used (view w) file id (kind_of w.objects file id) ≡ false
 unfolding refusal checks
-destroy_unused w file id none = tests_false (checks w (event.Destroy file id)) 2 none
+destroy_unused w file id none = tests_false (checks (view w) (event.Destroy file id)) 2 none
 
 attach_free : (w : World) (device : DeviceNo) (pt_id : ObjId) (object : Object) → binding_of w.objects device ≡ Some object → refusal w (event.Attach device pt_id) ≡ None → is_some (attachment_of w.attachments device) ≡ false
 unfolding refusal checks
-attach_free w device pt_id object is none = let test = tests_false (checks w (event.Attach device pt_id)) 0 none in rw (is, test_at) at test
+attach_free w device pt_id object is none = let test = tests_false (checks (view w) (event.Attach device pt_id)) 0 none in rw (is, test_at) at test
 
 attach_has_space : (w : World) (device : DeviceNo) (pt_id : ObjId) (object : Object) → binding_of w.objects device ≡ Some object → refusal w (event.Attach device pt_id) ≡ None → has_ioas w.objects object.file pt_id ≡ true
 unfolding refusal checks
-attach_has_space w device pt_id object is none = let test = tests_false (checks w (event.Attach device pt_id)) 1 none in not_not _ (rw (is, test_at) at test)
+attach_has_space w device pt_id object is none = let test = tests_false (checks (view w) (event.Attach device pt_id)) 1 none in not_not _ (rw (is, test_at) at test)
 
 -- ---- each event
 

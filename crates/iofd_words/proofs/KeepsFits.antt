@@ -15,6 +15,7 @@ use Rattle.iofd_words.specs.Pages.{is_whole, is_above_user, page_of}
 use Rattle.iofd_words.specs.Pins.{ObjectPage, frame_now, is_page, pin_now, settled}
 use Rattle.iofd_words.specs.Settings.{DeviceSettings}
 use Rattle.iofd_words.specs.Span.{size_of, span_from}
+use Rattle.iofd_words.specs.View.{view}
 use Rattle.iofd_words.specs.World.{World}
 use Rattle.iofd_words.specs.declared.event.Event.{Event}
 use Rattle.iofd_words.specs.declared.event.Event.TheVariants as event
@@ -64,8 +65,8 @@ short_length va length is = search (is, arith, nat_tests)
 mapped_pages : (at : ℕ) (w : World) (file : FileNo) (request : MapRequest) → refusal w (event.Map file request) ≡ None → is_of_pages (mapped_area at file request) ≡ true
 unfolding refusal checks
 mapped_pages at w file request none =
-    let align = or_false (eqb request.length 0) (not (is_whole request.length && is_whole request.user_va && is_whole request.iova.0)) (tests_false (checks w (event.Map file request)) 4 none) in
-    let short : is_above_user request.user_va request.length ≡ false = tests_false (checks w (event.Map file request)) 5 none in
+    let align = or_false (eqb request.length 0) (not (is_whole request.length && is_whole request.user_va && is_whole request.iova.0)) (tests_false (checks (view w) (event.Map file request)) 4 none) in
+    let short : is_above_user request.user_va request.length ≡ false = tests_false (checks (view w) (event.Map file request)) 5 none in
     let size = from_size request.iova.0 request.length align.0 in
     let length_whole = whole_length (is_whole request.length) (is_whole request.user_va) (is_whole request.iova.0) align.1 in
     let below : request.length ≤ 2 ^ 48 = short_length request.user_va request.length short in
@@ -116,7 +117,7 @@ rise-filter p (a ∷ attachments) rise =
 
 attach_free : (w : World) (device : DeviceNo) (object : Object) (ioas : _) → binding_of w.objects device ≡ Some object → refusal w (event.Attach device ioas) ≡ None → is_some (attachment_of w.attachments device) ≡ false
 unfolding refusal checks
-attach_free w device object ioas is none = tests_false (attach_checks w device ioas object.file) 0 (rw (is, checks) at none)
+attach_free w device object ioas is none = tests_false (attach_checks (view w) device ioas object.file) 0 (rw (is, checks) at none)
 
 -- ---- frames of the pool
 

@@ -10,6 +10,7 @@ use Rattle.iofd_words.specs.Files.{is_device, is_open, numbered, user_of}
 use Rattle.iofd_words.specs.Fits.{is_known_device}
 use Rattle.iofd_words.specs.Objects.{binding_of, is_bound_as, with_object}
 use Rattle.iofd_words.specs.Settings.{Settings}
+use Rattle.iofd_words.specs.View.{view}
 use Rattle.iofd_words.specs.World.{World}
 use Rattle.iofd_words.specs.declared.event.Event.TheVariants as event
 use Rattle.iofd_words.specs.declared.numbers.DeviceNo.{DeviceNo}
@@ -108,12 +109,12 @@ opened false is = cc
 
 pub alloc_open : (w : World) (file : FileNo) → refusal w (event.IoasAlloc file) ≡ None → is_open w.settings w.closed file ≡ true
 unfolding refusal checks
-alloc_open w file none = opened _ (tests_false (checks w (event.IoasAlloc file)) 0 none)
+alloc_open w file none = opened _ (tests_false (checks (view w) (event.IoasAlloc file)) 0 none)
 
 pub bind_open : (w : World) (file : FileNo) (device : DeviceNo) → refusal w (event.Bind file device) ≡ None → is_open w.settings w.closed file ≡ true
 unfolding refusal checks
-bind_open w file device none = opened _ (tests_false (checks w (event.Bind file device)) 0 none)
+bind_open w file device none = opened _ (tests_false (checks (view w) (event.Bind file device)) 0 none)
 
 pub bind_device : (w : World) (file : FileNo) (device : DeviceNo) → refusal w (event.Bind file device) ≡ None → is_device w.settings device ≡ true
 unfolding refusal checks
-bind_device w file device none = opened _ (tests_false (checks w (event.Bind file device)) 1 none)
+bind_device w file device none = opened _ (tests_false (checks (view w) (event.Bind file device)) 1 none)

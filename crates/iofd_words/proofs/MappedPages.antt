@@ -11,6 +11,7 @@ use Rattle.iofd_words.specs.Objects.{has_hwpt}
 use Rattle.iofd_words.specs.Pages.{page_of}
 use Rattle.iofd_words.specs.Pins.{are_present, frame_now, pages_of}
 use Rattle.iofd_words.specs.Span.{size_of, span_from}
+use Rattle.iofd_words.specs.View.{view}
 use Rattle.iofd_words.specs.World.{World}
 use Rattle.iofd_words.specs.declared.event.Event.TheVariants as event
 use Rattle.iofd_words.specs.declared.event.MapRequest.{MapRequest}
@@ -26,17 +27,17 @@ use Rattle.iofd_words.proofs.Runs.{tests_false}
 
 map_not_empty : (w : World) (file : FileNo) (request : MapRequest) → refusal w (event.Map file request) ≡ None → eqb request.length 0 ≡ false
 unfolding refusal checks
-map_not_empty w file request none = (or_false _ _ (tests_false (checks w (event.Map file request)) 4 none)).0
+map_not_empty w file request none = (or_false _ _ (tests_false (checks (view w) (event.Map file request)) 4 none)).0
 
-map_has_pages : (w : World) (file : FileNo) (request : MapRequest) → refusal w (event.Map file request) ≡ None → lacks_mapped_page w file request ≡ false
+map_has_pages : (w : World) (file : FileNo) (request : MapRequest) → refusal w (event.Map file request) ≡ None → lacks_mapped_page (view w) file request ≡ false
 unfolding refusal checks
-map_has_pages w file request none = tests_false (checks w (event.Map file request)) 9 none
+map_has_pages w file request none = tests_false (checks (view w) (event.Map file request)) 9 none
 
 present_for : (f : UserNo → Bool) (o : Option UserNo) (user : UserNo) → o ≡ Some user → elim o [ Some u ↦ not (f u) | None ↦ true ] ≡ false → f user ≡ true
 present_for f (Some u) user is present = let same : u ≡ user = cc in ap f (sym same) ∙ not-false (f u) present
 present_for f None user is present = cc
 
-not_lacking : (w : World) (file : FileNo) (request : MapRequest) (user : UserNo) → user_of w.settings file ≡ Some user → has_hwpt w.objects file request.ioas ≡ true → lacks_mapped_page w file request ≡ false → has_pages w.user_pages user (page_of request.user_va) (request.length / 4096) ≡ true
+not_lacking : (w : World) (file : FileNo) (request : MapRequest) (user : UserNo) → user_of w.settings file ≡ Some user → has_hwpt w.objects file request.ioas ≡ true → lacks_mapped_page (view w) file request ≡ false → has_pages w.user_pages user (page_of request.user_va) (request.length / 4096) ≡ true
 not_lacking w file request user is has lacks =
     present_for (λ u. has_pages w.user_pages u (page_of request.user_va) (request.length / 4096)) (user_of w.settings file) user is (and_rest (has_hwpt w.objects file request.ioas) _ has lacks)
 

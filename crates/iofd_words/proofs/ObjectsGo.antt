@@ -5,6 +5,7 @@ use Rattle.iofd_words.specs.Areas.{is_of}
 use Rattle.iofd_words.specs.Attachments.{has_device_on, ioas_of}
 use Rattle.iofd_words.specs.Checks.{is_used}
 use Rattle.iofd_words.specs.Objects.{is_hwpt_over, is_object, kind_of}
+use Rattle.iofd_words.specs.View.{view}
 use Rattle.iofd_words.specs.World.{World}
 use Rattle.iofd_words.specs.declared.numbers.FileNo.{FileNo}
 use Rattle.iofd_words.specs.declared.numbers.ObjId.{ObjId}
@@ -27,7 +28,7 @@ other_name : (objects : List Object) (file f : FileNo) (id i : ObjId) (k : Objec
 other_name objects file f id i k other is = kind_kept (λ object. not (is_object file id object)) objects f i k (λ object of_file of_id of_kind. rw (of_file, of_id) (not_false _ other)) is
 
 -- no attachment is by it
-no_table : (w : World) (file : FileNo) (id : ObjId) (a : Attachment) (ioas : ObjId) (width : Width) (automatic : Bool) → is_used w file id (kind_of w.objects file id) ≡ false → IsIn w.attachments a → kind_of w.objects a.file a.hwpt ≡ Some (kind.Hwpt ioas width automatic) → (eqb a.file.0 file.0 && eqb a.hwpt.0 id.0) ≡ false
+no_table : (w : World) (file : FileNo) (id : ObjId) (a : Attachment) (ioas : ObjId) (width : Width) (automatic : Bool) → is_used (view w) file id (kind_of w.objects file id) ≡ false → IsIn w.attachments a → kind_of w.objects a.file a.hwpt ≡ Some (kind.Hwpt ioas width automatic) → (eqb a.file.0 file.0 && eqb a.hwpt.0 id.0) ≡ false
 no_table w file id a ioas width automatic unused within table = by_name (eqb a.file.0 file.0 && eqb a.hwpt.0 id.0) refl
   where
     by_name : (b : Bool) → (eqb a.file.0 file.0 && eqb a.hwpt.0 id.0) ≡ b → b ≡ false
@@ -35,7 +36,7 @@ no_table w file id a ioas width automatic unused within table = by_name (eqb a.f
     by_name true is =
         let names = and_true (eqb a.file.0 file.0) (eqb a.hwpt.0 id.0) is in
         let here : kind_of w.objects file id ≡ Some (kind.Hwpt ioas width automatic) = rw (← file_is a.file file names.0, ← id_is a.hwpt id names.1) table in
-        let no_device : has_device_on w.attachments file id ≡ false = sym (ap (is_used w file id) here) ∙ unused in
+        let no_device : has_device_on w.attachments file id ≡ false = sym (ap (is_used (view w) file id) here) ∙ unused in
         let device = of_any (λ (c : Attachment). eqb c.file.0 file.0 && eqb c.hwpt.0 id.0) w.attachments a within is in
         cc
 
@@ -45,7 +46,7 @@ hwpt_over (kind.Hwpt ioas width automatic) over id is same = let here : ioas ≡
 hwpt_over (kind.Device device) over id is same = cc
 
 -- no page table is over it
-no_space : (w : World) (file : FileNo) (id : ObjId) (object : Object) (ioas : ObjId) → is_used w file id (kind_of w.objects file id) ≡ false → IsIn w.objects object → ioas_of object.kind ≡ Some ioas → IsSpace w.objects object.file ioas → (eqb object.file.0 file.0 && eqb ioas.0 id.0) ≡ false
+no_space : (w : World) (file : FileNo) (id : ObjId) (object : Object) (ioas : ObjId) → is_used (view w) file id (kind_of w.objects file id) ≡ false → IsIn w.objects object → ioas_of object.kind ≡ Some ioas → IsSpace w.objects object.file ioas → (eqb object.file.0 file.0 && eqb ioas.0 id.0) ≡ false
 no_space w file id object ioas unused within over space = by_name (eqb object.file.0 file.0 && eqb ioas.0 id.0) refl
   where
     by_name : (b : Bool) → (eqb object.file.0 file.0 && eqb ioas.0 id.0) ≡ b → b ≡ false
@@ -53,11 +54,11 @@ no_space w file id object ioas unused within over space = by_name (eqb object.fi
     by_name true is =
         let names = and_true (eqb object.file.0 file.0) (eqb ioas.0 id.0) is in
         let here : kind_of w.objects file id ≡ Some kind.Ioas = rw (← file_is object.file file names.0, ← id_is ioas id names.1) space in
-        let no_hwpt : list_any (λ (o : Object). eqb o.file.0 file.0 && is_hwpt_over id o.kind) w.objects ≡ false = sym (ap (is_used w file id) here) ∙ unused in
+        let no_hwpt : list_any (λ (o : Object). eqb o.file.0 file.0 && is_hwpt_over id o.kind) w.objects ≡ false = sym (ap (is_used (view w) file id) here) ∙ unused in
         let hwpt = of_any (λ (o : Object). eqb o.file.0 file.0 && is_hwpt_over id o.kind) w.objects object within (both_true _ _ names.0 (hwpt_over object.kind ioas id over names.1)) in
         cc
 
-pub owed_destroyed : (w : World) (file : FileNo) (id : ObjId) → is_used w file id (kind_of w.objects file id) ≡ false → EachOwed w.objects w.attachments w.areas → EachOwed (filter (λ object. not (is_object file id object)) w.objects) w.attachments (filter (λ area. not (is_of file id area)) w.areas)
+pub owed_destroyed : (w : World) (file : FileNo) (id : ObjId) → is_used (view w) file id (kind_of w.objects file id) ≡ false → EachOwed w.objects w.attachments w.areas → EachOwed (filter (λ object. not (is_object file id object)) w.objects) w.attachments (filter (λ area. not (is_of file id area)) w.areas)
 owed_destroyed w file id unused each =
     let table : (a : Attachment) (ioas : ObjId) (width : Width) (automatic : Bool) → IsIn w.attachments a → kind_of w.objects a.file a.hwpt ≡ Some (kind.Hwpt ioas width automatic) → kind_of (filter (λ object. not (is_object file id object)) w.objects) a.file a.hwpt ≡ Some (kind.Hwpt ioas width automatic) = λ a ioas width automatic within is.
     other_name w.objects file a.file id a.hwpt _ (no_table w file id a ioas width automatic unused within is) is in

@@ -36,22 +36,36 @@ paid device (Leaving owed tries) = Leaving (without_device device.0 owed) tries
 abbrev pub with_phase : Phase → Area → Area
 with_phase phase area = record area { phase = phase }
 
+-- ---- the areas of one address space
+
+-- an address space has at most 65,535 areas
+abbrev pub most_areas : ℕ
+most_areas = 65535
+
+-- so there is no room for one more
+abbrev pub has_no_room : List Area → Bool
+has_no_room areas = nat_le most_areas (length areas)
+
+-- some area, of any phase, meets the span
+abbrev pub areas_meet : Bounds → List Area → Bool
+areas_meet span areas = list_any (λ area. meets area.span span) areas
+
+-- some area meets the span and isn't wholly in it
+abbrev pub is_cut : Bounds → List Area → Bool
+is_cut span areas = list_any (λ area. meets area.span span && not (lies_in area.span span)) areas
+
+-- the area that holds the address
+abbrev pub area_at : ℕ → List Area → Option Area
+area_at iova areas = find (λ area. holds area.span iova) areas
+
 -- ---- all areas
 
 abbrev pub areas_of : List Area → FileNo → ObjId → List Area
 areas_of areas file ioas = filter (is_of file ioas) areas
 
--- the area of the address space that holds the address
-abbrev pub area_at : List Area → FileNo → ObjId → ℕ → Option Area
-area_at areas file ioas address = find (λ area. is_of file ioas area && holds area.span address) areas
-
 -- some area of the address space meets the span
 abbrev pub meets_area : List Area → FileNo → ObjId → Bounds → Bool
-meets_area areas file ioas span = list_any (λ area. is_of file ioas area && meets area.span span) areas
-
--- an address space has at most 65,535 areas
-abbrev pub has_no_room : List Area → FileNo → ObjId → Bool
-has_no_room areas file ioas = nat_le 65535 (length (areas_of areas file ioas))
+meets_area areas file ioas span = areas_meet span (areas_of areas file ioas)
 
 -- one more area, before the first of its address space that begins after it
 abbrev pub with_area : Area → List Area → List Area
@@ -79,10 +93,6 @@ is_touched file request area = is_of file request.ioas area && meets area.span (
 
 abbrev pub touched : List Area → FileNo → UnmapRequest → List Area
 touched areas file request = filter (is_touched file request) areas
-
--- one that it would cut
-abbrev pub is_cut : FileNo → UnmapRequest → Area → Bool
-is_cut file request area = is_touched file request area && not (lies_in area.span (unmapped_span request))
 
 -- some device still has to flush before the touched areas may go
 abbrev pub is_waiting : List Area → List ℕ → FileNo → UnmapRequest → Bool

@@ -26,5 +26,6 @@ pub mod Rights
 pub mod Run
 pub mod Settings
 pub mod Span
+pub mod View
 pub mod Width
 pub mod World

@@ -2,9 +2,9 @@
 use Rattle.std.specs.Prelude.{ℕ, Bool, Some, None, is_none, List, [], ◌∷◌, map}
 use Rattle.iofd_words.specs.FirstTrue.{first_true}
 use Rattle.iofd_words.specs.Frames.{bytes_at}
-use Rattle.iofd_words.specs.Objects.{binding_of}
 use Rattle.iofd_words.specs.Pages.{offset_of, crosses}
 use Rattle.iofd_words.specs.Policy.{Outcome, Passes, Denied, outcomes, fault_of}
+use Rattle.iofd_words.specs.View.{View, view}
 use Rattle.iofd_words.specs.World.{World}
 use Rattle.iofd_words.specs.declared.fault.AccessKind.TheVariants.{Read}
 use Rattle.iofd_words.specs.declared.numbers.DeviceNo.{DeviceNo}
@@ -16,9 +16,9 @@ use Rattle.iofd_words.specs.declared.refusal.Cause.{Cause}
 use Rattle.iofd_words.specs.declared.refusal.Cause.TheVariants as cause
 
 -- the refusals of a question, in their order
-abbrev pub query_checks : World → Query → List (Cause × Bool)
-query_checks w (DeviceRead device iova len) =
-    (cause.Id, is_none (binding_of w.objects device))
+abbrev pub query_checks : View → Query → List (Cause × Bool)
+query_checks v (DeviceRead device iova len) =
+    (cause.Id, is_none (v.binding_of device))
     ∷ (cause.Cross, crosses iova.0 len)
     ∷ []
 
@@ -34,4 +34,4 @@ lawful_answers w (DeviceRead device iova len) = map (read_answer w device iova.0
 -- all lawful answers
 unfoldable pub answers_to : World → Query → List Answer
 answers_to w query =
-    elim (first_true (query_checks w query)) [ Some cause ↦ answer.Refused (record { cause = cause }) ∷ [] | None ↦ lawful_answers w query ]
+    elim (first_true (query_checks (view w) query)) [ Some cause ↦ answer.Refused (record { cause = cause }) ∷ [] | None ↦ lawful_answers w query ]

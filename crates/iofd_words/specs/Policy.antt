@@ -5,7 +5,7 @@
 --   3. a live area of its address space holds the address and has the right: it passes, at the frame of the page's pin;
 --   4. a leaving area does, and the device still owes it a flush: it passes so, or is denied as in 5;
 --   5. else it is denied for want of the right, a write or a read.
--- `outcomes`, at the end, is the whole; the words before it are its parts.
+-- `access_outcomes` is the whole, by what is read of a world, and `outcomes` the same of a world; the words before are its parts.
 use Rattle.std.specs.Prelude.{ℕ, ◌-◌, ◌/◌, ◌^◌, nat_le, Option, Some, None, List, [], ◌∷◌, ◌++◌, if◌then◌else◌}
 use Rattle.iofd_words.specs.Areas.{area_at}
 use Rattle.iofd_words.specs.Attachments.{attachment_of, ioas_of_attachment}
@@ -17,6 +17,7 @@ use Rattle.iofd_words.specs.Pins.{ObjectPage, pinned_frame}
 use Rattle.iofd_words.specs.Rights.{has_right}
 use Rattle.iofd_words.specs.Settings.{DeviceSettings}
 use Rattle.iofd_words.specs.Width.{bits_of}
+use Rattle.iofd_words.specs.View.{View, view}
 use Rattle.iofd_words.specs.World.{World}
 use Rattle.iofd_words.specs.declared.fault.AccessKind.{AccessKind}
 use Rattle.iofd_words.specs.declared.fault.Fault.{Fault}
@@ -57,10 +58,10 @@ at_area pins device address kind (Some area) =
     else Denied (denied_by kind) ∷ []
 
 -- where the device is attached
-abbrev pub translated : World → DeviceNo → ℕ → AccessKind → Attachment → List Outcome
-translated w device address kind a =
-    elim (ioas_of_attachment w.objects a) [
-      | Some ioas ↦ at_area w.pins device address kind (area_at w.areas a.file ioas address)
+abbrev pub translated : View → DeviceNo → ℕ → AccessKind → Attachment → List Outcome
+translated v device address kind a =
+    elim (ioas_of_attachment v.objects a) [
+      | Some ioas ↦ at_area v.pins device address kind (area_at address (v.areas_of a.file ioas))
       | None ↦ Denied (denied_by kind) ∷ []
     ]
 
@@ -70,12 +71,16 @@ by_width None address beyond within = within
 by_width (Some device) address beyond within = if nat_le (2 ^ bits_of device.width) address then beyond else within
 
 -- all that may come of it: no attachment, then the width, then the area
-unfoldable pub outcomes : World → DeviceNo → ℕ → AccessKind → List Outcome
-outcomes w device address kind =
-    elim (attachment_of w.attachments device) [
+unfoldable pub access_outcomes : View → DeviceNo → ℕ → AccessKind → List Outcome
+access_outcomes v device address kind =
+    elim (attachment_of v.attachments device) [
       | None ↦ Denied NoContext ∷ []
-      | Some a ↦ by_width (device_of w.settings device) address (Denied BeyondWidth ∷ []) (translated w device address kind a)
+      | Some a ↦ by_width (device_of v.settings device) address (Denied BeyondWidth ∷ []) (translated v device address kind a)
     ]
+
+-- the same, in this world
+unfoldable pub outcomes : World → DeviceNo → ℕ → AccessKind → List Outcome
+outcomes w device address kind = access_outcomes (view w) device address kind
 
 -- how a denial is told: the device's source id, the address's page, the kind of access and the reason
 abbrev pub fault_of : World → DeviceNo → ℕ → AccessKind → FaultReason → Fault

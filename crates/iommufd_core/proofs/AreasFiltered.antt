@@ -1,35 +1,12 @@
--- The areas of one address space, taken from all areas: what tests of them tell.
-use Rattle.std.proofs.Common.{◌≡◌, Bool, true, false, cond, ◌&&◌, not, eqb, ltb, List, [], ◌∷◌, length, refl, ap, sym, arith}
-use Rattle.std.specs.List.{list_any}
+-- The areas of one address space, taken from all areas, where one more comes.
+use Rattle.std.proofs.Common.{◌≡◌, Bool, true, false, cond, ◌&&◌, ltb, List, [], ◌∷◌, refl, ap, arith}
 use Rattle.std.proofs.lemmas.Bool.Decides.{nat_tests}
-use Rattle.area_map.specs.Areas.{areas_meet, is_cut}
 use Rattle.area_map.specs.Areas as own
-use Rattle.iofd_words.proofs.ListTests.{any-filter}
-use Rattle.iofd_words.specs.Areas.{areas_of, is_of, meets_area, is_touched, touched, unmapped_span}
+use Rattle.iofd_words.specs.Areas.{areas_of, is_of}
 use Rattle.iofd_words.specs.Areas as world
-use Rattle.iofd_words.specs.Bounds.{Bounds}
-use Rattle.iofd_words.specs.Span.{meets}
-use Rattle.iofd_words.specs.declared.event.UnmapRequest.{UnmapRequest}
 use Rattle.iofd_words.specs.declared.numbers.FileNo.{FileNo}
 use Rattle.iofd_words.specs.declared.numbers.ObjId.{ObjId}
 use Rattle.iofd_words.specs.declared.rows.Area.{Area}
-
--- ---- tests
-
-pub meets_filtered : (areas : List Area) (file : FileNo) (ioas : ObjId) (span : Bounds) → meets_area areas file ioas span ≡ areas_meet span (areas_of areas file ioas)
-meets_filtered areas file ioas span = sym (any-filter (λ (a : Area). meets a.span span) (is_of file ioas) areas)
-
--- some area is touched
-pub touched_none : (areas : List Area) (file : FileNo) (request : UnmapRequest) → eqb (length (touched areas file request)) 0 ≡ not (areas_meet (unmapped_span request) (areas_of areas file request.ioas))
-touched_none [] file request = refl
-touched_none (a ∷ areas) file request = let rest = touched_none areas file request in grind (arith, nat_tests)
-
--- some area is cut
-pub cut_filtered : (areas : List Area) (file : FileNo) (request : UnmapRequest) → list_any (world.is_cut file request) areas ≡ is_cut (unmapped_span request) (areas_of areas file request.ioas)
-cut_filtered [] file request = refl
-cut_filtered (a ∷ areas) file request = let rest = cut_filtered areas file request in grind (arith, nat_tests)
-
--- ---- one more area
 
 module _ (x : Area) where
   same_space : is_of x.file x.ioas x ≡ true

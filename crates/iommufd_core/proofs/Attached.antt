@@ -12,6 +12,7 @@ use Rattle.iofd_words.specs.FirstTrue.{first_true}
 use Rattle.iofd_words.specs.Objects.{binding_of, has_hwpt, with_object}
 use Rattle.iofd_words.specs.Pinned.{ArePinned, have_own_memory}
 use Rattle.iofd_words.specs.Pins.{ObjectPage, is_page, pages_of, pin_now, pinned_pages, settled}
+use Rattle.iofd_words.specs.View.{view}
 use Rattle.iofd_words.specs.World.{World}
 use Rattle.iofd_words.specs.declared.event.Event.TheVariants as event
 use Rattle.iofd_words.specs.declared.numbers.DeviceNo.{DeviceNo}
@@ -47,8 +48,8 @@ never_unbound w device pt_id none is = let refused = rw (is, checks) at none in 
 pub was_unattached : (w : World) (device : DeviceNo) (pt_id : ObjId) (bound : Object) → refusal w (event.Attach device pt_id) ≡ None → binding_of w.objects device ≡ Some bound → attachment_of w.attachments device ≡ None
 unfolding refusal checks
 was_unattached w device pt_id bound none is =
-    let named : first_true (attach_checks w device pt_id bound.file) ≡ None = rw (is, checks) at none in
-    absent (attachment_of w.attachments device) (tests_false (attach_checks w device pt_id bound.file) 0 named)
+    let named : first_true (attach_checks (view w) device pt_id bound.file) ≡ None = rw (is, checks) at none in
+    absent (attachment_of w.attachments device) (tests_false (attach_checks (view w) device pt_id bound.file) 0 named)
   where
     absent : (o : Option Attachment) → is_some o ≡ false → o ≡ None
     absent None is = refl

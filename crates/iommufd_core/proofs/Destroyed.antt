@@ -10,6 +10,7 @@ use Rattle.iofd_words.specs.Laws.{have_own_ids}
 use Rattle.iofd_words.specs.Objects.{has_hwpt, is_bound_as, is_bound_device, is_hwpt_over, is_object, kind_of, without_object}
 use Rattle.iofd_words.specs.Pinned.{ArePinned, have_own_memory}
 use Rattle.iofd_words.specs.Pins.{pinned_pages, settled}
+use Rattle.iofd_words.specs.View.{view}
 use Rattle.iofd_words.specs.World.{World}
 use Rattle.iofd_words.specs.declared.event.Event.TheVariants as event
 use Rattle.iofd_words.specs.declared.numbers.DeviceNo.{DeviceNo}
@@ -161,9 +162,9 @@ module _ (at : ℕ) (w : World) (file : FileNo) (id : ObjId) (pinned : ArePinned
 -- ---- what is kept
 
 -- nothing stands on it
-unused : (w : World) (file : FileNo) (id : ObjId) (k : ObjectKind) → refusal w (event.Destroy file id) ≡ None → kind_of w.objects file id ≡ Some k → is_used w file id (Some k) ≡ false
+unused : (w : World) (file : FileNo) (id : ObjId) (k : ObjectKind) → refusal w (event.Destroy file id) ≡ None → kind_of w.objects file id ≡ Some k → is_used (view w) file id (Some k) ≡ false
 unfolding refusal checks
-unused w file id k none is_kind = ap (is_used w file id) (sym is_kind) ∙ tests_false (checks w (event.Destroy file id)) 2 none
+unused w file id k none is_kind = ap (is_used (view w) file id) (sym is_kind) ∙ tests_false (checks (view w) (event.Destroy file id)) 2 none
 
 module _ {A : Type 0} where
   no_areas_in : (o : Option (Held A)) (ioas : ObjId) (width : Width) (automatic : Bool) → kind_at o ≡ Some (kind.Hwpt ioas width automatic) → areas_of_held o ≡ []
@@ -268,10 +269,10 @@ module _ {A : Type 0} where
   unfolding refusal checks
   never_device w s file id device shows none is_kind =
       let of_world = kind_shown w s file id (kind.Device device) shows is_kind in
-      clash true (ap is_device_object (sym of_world) ∙ tests_false (checks w (event.Destroy file id)) 3 none) refl
+      clash true (ap is_device_object (sym of_world) ∙ tests_false (checks (view w) (event.Destroy file id)) 3 none) refl
 
   pub never_none : (w : World) (s : State A) (file : FileNo) (id : ObjId) → Shows w s → refusal w (event.Destroy file id) ≡ None → kind_of (objects_in s.objects) file id ≡ None → ⊥
   unfolding refusal checks
   never_none w s file id shows none is_kind =
       let of_world = ap (λ (l : List Object). kind_of l file id) shows.objects ∙ is_kind in
-      clash true (ap (λ (o : Option ObjectKind). is_none o) (sym of_world) ∙ tests_false (checks w (event.Destroy file id)) 1 none) refl
+      clash true (ap (λ (o : Option ObjectKind). is_none o) (sym of_world) ∙ tests_false (checks (view w) (event.Destroy file id)) 1 none) refl

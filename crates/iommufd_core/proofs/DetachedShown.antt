@@ -7,6 +7,7 @@ use Rattle.iofd_words.specs.Areas.{all_paid, areas_of}
 use Rattle.iofd_words.specs.Attachments.{attachment_of, ioas_of_attachment, without_attachment}
 use Rattle.iofd_words.specs.Checks.{checks, refusal}
 use Rattle.iofd_words.specs.Objects.{kind_of, without_object}
+use Rattle.iofd_words.specs.View.{view}
 use Rattle.iofd_words.specs.World.{World}
 use Rattle.iofd_words.specs.declared.event.Event.TheVariants as event
 use Rattle.iofd_words.specs.declared.numbers.DeviceNo.{DeviceNo}
@@ -38,7 +39,7 @@ use Rattle.object_table.specs.declared.kind.Kind.TheVariants as of_kind
 pub never_unattached : {X : Type 0} (w : World) (device : DeviceNo) → refusal w (event.Detach device) ≡ None → attachment_of w.attachments device ≡ None → X
 unfolding refusal checks
 never_unattached w device none is =
-    let attached : is_none (attachment_of w.attachments device) ≡ false = tests_false (checks w (event.Detach device)) 1 none in
+    let attached : is_none (attachment_of w.attachments device) ≡ false = tests_false (checks (view w) (event.Detach device)) 1 none in
     let other : is_none (attachment_of w.attachments device) ≡ true = ap (λ (o : Option Attachment). is_none o) is in
     absurd (differ (sym other ∙ attached))
   where

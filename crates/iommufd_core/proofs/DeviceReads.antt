@@ -1,23 +1,26 @@
 -- What a device's read is answered.
-use Rattle.std.proofs.Common.{◌≡◌, ℕ, zero, suc, ◌+◌, ◌*◌, ◌<◌, ◌≤◌, Some, None, List, [], ◌∷◌, map, length, take, drop, get_or, Contains, refl, sym, ◌∙◌, ap, arith}
+use Rattle.std.proofs.Common.{◌≡◌, ℕ, zero, suc, ◌+◌, ◌*◌, ◌<◌, ◌≤◌, Some, None, List, [], ◌∷◌, map, length, take, drop, get_or, Contains, refl, sym, ◌∙◌, arith}
 use Rattle.std.specs.List.{range_with_len}
 use Rattle.iofd_words.specs.FirstTrue.{first_true}
 use Rattle.iofd_words.specs.Frames.{FrameWrite, byte_at}
 use Rattle.iofd_words.specs.Look.{answers_to, lawful_answers, query_checks, read_answer}
 use Rattle.iofd_words.specs.Policy.{Outcome, outcomes}
+use Rattle.iofd_words.specs.View.{view}
 use Rattle.iofd_words.specs.World.{World}
 use Rattle.iofd_words.specs.declared.fault.AccessKind.TheVariants.{Read}
 use Rattle.iofd_words.specs.declared.numbers.DeviceNo.{DeviceNo}
 use Rattle.iofd_words.specs.declared.numbers.Iova.{Iova}
 use Rattle.iofd_words.specs.declared.query.Answer.TheVariants as answer
+use Rattle.iofd_words.specs.declared.query.Query.{Query}
 use Rattle.iofd_words.specs.declared.query.Query.TheVariants as query
 use Rattle.iofd_words.specs.declared.refusal.Cause.{Cause}
 use Rattle.iommufd_core.proofs.BytesShown.{AreShown}
 use Rattle.iommufd_core.proofs.DeviceWrites.{given_last, last_contained, last_map}
 use Rattle.iommufd_core.proofs.PinnedAccess.{some_outcome}
+use Rattle.iommufd_core.proofs.ViewShown.{same_query_refusal}
 use Rattle.iommufd_core.specs.Choice.{last_of}
 use Rattle.iommufd_core.specs.Outcomes.{given_outcome}
-use Rattle.iommufd_core.specs.Refusals.{read_tests}
+use Rattle.iommufd_core.specs.Seen.{seen}
 use Rattle.iommufd_core.specs.Shows.{Shows}
 use Rattle.iommufd_core.specs.Step.{IsTidy}
 use Rattle.iommufd_core.specs.declared.state.State.{State}
@@ -49,14 +52,16 @@ chosen_read at w device iova len o tidy is =
     let last = given_last (outcomes w device iova.0 Read) o (some_outcome at w device iova.0 Read tidy) is in
     (last_contained (outcomes w device iova.0 Read) o last, last_map (read_answer w device iova.0 len) (outcomes w device iova.0 Read) o last)
 
-module _ {A : Type 0} (w : World) (s : State A) (shows : Shows w s) (device : DeviceNo) (iova : Iova) (len : ℕ) where
-  pub same_tests : read_tests s device iova.0 len ≡ query_checks w (query.DeviceRead device iova len)
-  same_tests = rw (shows.bindings device) refl
-
-  pub refused_read : (cause : Cause) → Some cause ≡ first_true (read_tests s device iova.0 len) → last_of (answers_to w (query.DeviceRead device iova len)) ≡ Some (answer.Refused (record { cause = cause }))
+module _ {A : Type 0} (w : World) (s : State A) (shows : Shows w s) (q : Query) where
+  pub refused_read : (cause : Cause) → Some cause ≡ first_true (query_checks (seen s) q)
+      → last_of (answers_to w q) ≡ Some (answer.Refused (record { cause = cause }))
   unfolding answers_to
-  refused_read cause is = let first : first_true (query_checks w (query.DeviceRead device iova len)) ≡ Some cause = sym (ap first_true same_tests) ∙ sym is in rw (first, answers_to) refl
+  refused_read cause is =
+      let first : first_true (query_checks (view w) q) ≡ Some cause = sym (same_query_refusal w s shows q) ∙ sym is in
+      rw (first, answers_to) refl
 
-  pub answered_read : None ≡ first_true (read_tests s device iova.0 len) → answers_to w (query.DeviceRead device iova len) ≡ lawful_answers w (query.DeviceRead device iova len)
+  pub answered_read : None ≡ first_true (query_checks (seen s) q) → answers_to w q ≡ lawful_answers w q
   unfolding answers_to
-  answered_read is = let first : first_true (query_checks w (query.DeviceRead device iova len)) ≡ None = sym (ap first_true same_tests) ∙ sym is in rw (first, answers_to) refl
+  answered_read is =
+      let first : first_true (query_checks (view w) q) ≡ None = sym (same_query_refusal w s shows q) ∙ sym is in
+      rw (first, answers_to) refl

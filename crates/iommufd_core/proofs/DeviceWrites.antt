@@ -5,15 +5,16 @@ use Rattle.std.proofs.lemmas.List.Folds.{list_all-append}
 use Rattle.std.proofs.lemmas.Bool.Decides.{nat_tests}
 use Rattle.iofd_words.proofs.Bools.{and_true, both_true}
 use Rattle.iofd_words.specs.Answers.{Answers, write_reply}
-use Rattle.iofd_words.specs.Areas.{area_at}
+use Rattle.iofd_words.specs.Areas.{area_at, areas_of}
 use Rattle.iofd_words.specs.Attachments.{attachment_of, ioas_of_attachment}
 use Rattle.iofd_words.specs.DeviceSet.{has_device}
 use Rattle.iofd_words.specs.Fault.{denied_by}
 use Rattle.iofd_words.specs.Files.{device_of}
 use Rattle.iofd_words.specs.Pins.{ObjectPage, is_page, page_of_pin, pinned_frame}
-use Rattle.iofd_words.specs.Policy.{Outcome, Passes, Denied, at_area, by_phase, by_width, outcomes, page_in, passing, translated}
+use Rattle.iofd_words.specs.Policy.{Outcome, Passes, Denied, at_area, by_phase, by_width, access_outcomes, outcomes, page_in, passing, translated}
 use Rattle.iofd_words.specs.Rights.{has_right}
 use Rattle.iofd_words.specs.Settings.{DeviceSettings}
+use Rattle.iofd_words.specs.View.{view}
 use Rattle.iofd_words.specs.Width.{bits_of}
 use Rattle.iofd_words.specs.World.{World}
 use Rattle.iofd_words.specs.declared.event.Event.TheVariants as event
@@ -117,12 +118,12 @@ module _ (w : World) (pin_frames : list_all (λ (pin : Pin). ltb pin.frame.0 w.s
       by_right true = phase_in_pool device area.phase (passing w.pins area address) (denied_by kind) (passing_in_pool area address)
       by_right false = refl
 
-  translated_in_pool : (device : DeviceNo) (address : ℕ) (kind : AccessKind) (a : Attachment) → list_all (is_in_pool w.settings.pool) (translated w device address kind a) ≡ true
+  translated_in_pool : (device : DeviceNo) (address : ℕ) (kind : AccessKind) (a : Attachment) → list_all (is_in_pool w.settings.pool) (translated (view w) device address kind a) ≡ true
   translated_in_pool device address kind a = by_space (ioas_of_attachment w.objects a) refl
     where
-      by_space : (o : Option ObjId) → ioas_of_attachment w.objects a ≡ o → list_all (is_in_pool w.settings.pool) (translated w device address kind a) ≡ true
+      by_space : (o : Option ObjId) → ioas_of_attachment w.objects a ≡ o → list_all (is_in_pool w.settings.pool) (translated (view w) device address kind a) ≡ true
       by_space None space = rw (space, translated) refl
-      by_space (Some ioas) space = rw (space, translated) (area_in_pool device address kind (area_at w.areas a.file ioas address))
+      by_space (Some ioas) space = rw (space, translated) (area_in_pool device address kind (area_at address (areas_of w.areas a.file ioas)))
 
   within_in_pool : (o : Option DeviceSettings) (address : ℕ) (reason : _) (within : List Outcome) → list_all (is_in_pool w.settings.pool) within ≡ true → list_all (is_in_pool w.settings.pool) (by_width o address (Denied reason ∷ []) within) ≡ true
   within_in_pool None address reason within all = all
@@ -133,12 +134,12 @@ module _ (w : World) (pin_frames : list_all (λ (pin : Pin). ltb pin.frame.0 w.s
       by_test false = all
 
   outcomes_in_pool : (device : DeviceNo) (address : ℕ) (kind : AccessKind) → list_all (is_in_pool w.settings.pool) (outcomes w device address kind) ≡ true
-  unfolding outcomes
+  unfolding outcomes access_outcomes
   outcomes_in_pool device address kind = by_attachment (attachment_of w.attachments device) refl
     where
       by_attachment : (o : Option Attachment) → attachment_of w.attachments device ≡ o → list_all (is_in_pool w.settings.pool) (outcomes w device address kind) ≡ true
-      by_attachment None found = rw (found, outcomes) refl
-      by_attachment (Some a) found = rw (found, outcomes) (within_in_pool (device_of w.settings device) address BeyondWidth (translated w device address kind a) (translated_in_pool device address kind a))
+      by_attachment None found = rw (found, outcomes, access_outcomes) refl
+      by_attachment (Some a) found = rw (found, outcomes, access_outcomes) (within_in_pool (device_of w.settings device) address BeyondWidth (translated (view w) device address kind a) (translated_in_pool device address kind a))
 
   pub pass_in_pool : (device : DeviceNo) (address : ℕ) (kind : AccessKind) (frame : FrameNo) → Contains (outcomes w device address kind) (Passes frame) → frame.0 < w.settings.pool
   pass_in_pool device address kind frame has =

@@ -11,6 +11,7 @@ use Rattle.iofd_words.specs.Files as files
 use Rattle.iofd_words.specs.Laws.{have_own_ids}
 use Rattle.iofd_words.specs.Objects.{has_hwpt, is_bound_as, is_bound_device, is_object, objects_of}
 use Rattle.iofd_words.specs.Pins.{pinned_pages, settled}
+use Rattle.iofd_words.specs.View.{view}
 use Rattle.iofd_words.specs.World.{World}
 use Rattle.iofd_words.specs.declared.event.Event.TheVariants as event
 use Rattle.iofd_words.specs.declared.numbers.DeviceNo.{DeviceNo}
@@ -216,11 +217,11 @@ module _ {A : Type 0} where
   module _ (at : ℕ) (w : World) (s : State A) (file : FileNo) (tidy : IsTidy at w) (shows : Shows w s) (none : refusal w (event.Close file) ≡ None) where
     no_device : list_any (λ (object : Object). is_bound_device object.kind) (objects_of w.objects file) ≡ false
     unfolding refusal checks
-    no_device = tests_false (checks w (event.Close file)) 1 none
+    no_device = tests_false (checks (view w) (event.Close file)) 1 none
 
     opened : is_open s.objects file ≡ true
     unfolding refusal checks
-    opened = shows.files file ∙ not_false_true _ (tests_false (checks w (event.Close file)) 0 none)
+    opened = shows.files file ∙ not_false_true _ (tests_false (checks (view w) (event.Close file)) 0 none)
       where
         not_false_true : (b : Bool) → not b ≡ false → b ≡ true
         not_false_true true is = refl

@@ -1,5 +1,5 @@
 -- The world after a MAP is shown.
-use Rattle.std.proofs.Common.{◌≡◌, ℕ, ◌<◌, ◌/◌, Bool, true, false, cond, leb, length, ◌&&◌, ◌||◌, not, eqb, Option, Some, None, is_some, Vec, List, [], ◌∷◌, ◌++◌, refl, sym, ◌∙◌, ap, arith}
+use Rattle.std.proofs.Common.{◌≡◌, ℕ, ◌<◌, ◌/◌, Bool, true, false, cond, ◌&&◌, ◌||◌, not, eqb, Option, Some, None, is_some, Vec, List, [], ◌∷◌, ◌++◌, refl, sym, ◌∙◌, ap, arith}
 use Rattle.std.proofs.lemmas.Bool.Decides.{nat_tests}
 use Rattle.area_map.specs.Areas as own
 use Rattle.area_map.specs.Insertion.{insert_refusal}
@@ -9,13 +9,14 @@ use Rattle.iofd_words.proofs.Named.{file_is, id_is}
 use Rattle.iofd_words.proofs.Runs.{tests_false}
 use Rattle.iofd_words.specs.Checks.{checks, refusal}
 use Rattle.iofd_words.specs.After.{changed, mapped_area, memory_object, settle}
-use Rattle.iofd_words.specs.Areas.{areas_of, is_of}
+use Rattle.iofd_words.specs.Areas.{areas_meet, areas_of, has_no_room, is_of}
 use Rattle.iofd_words.specs.Areas as world
 use Rattle.iofd_words.specs.Files.{is_open, user_of}
 use Rattle.iofd_words.specs.Pages.{is_above_sum, is_whole}
 use Rattle.iofd_words.specs.FirstTrue.{first_true}
 use Rattle.iofd_words.specs.Objects.{has_hwpt, has_ioas}
 use Rattle.iofd_words.specs.Span.{span_from}
+use Rattle.iofd_words.specs.View.{view}
 use Rattle.iofd_words.specs.World.{World}
 use Rattle.iofd_words.specs.declared.event.Event.TheVariants as event
 use Rattle.iofd_words.specs.declared.event.MapRequest.{MapRequest}
@@ -31,10 +32,10 @@ use Rattle.iofd_words.specs.declared.rows.UserPage.{UserPage}
 use Rattle.iommufd_core.proofs.Flushed.{orderly}
 use Rattle.iommufd_core.proofs.AreasFiltered.{with_area_own, with_area_other}
 use Rattle.iommufd_core.proofs.MapPins.{mapped_pins}
-use Rattle.iommufd_core.proofs.MapTests.{map_tests}
+use Rattle.iommufd_core.proofs.ViewShown.{same_refusal}
 use Rattle.iommufd_core.specs.Held.{areas_at, objects_in}
 use Rattle.iommufd_core.specs.Mapping.{first_pins}
-use Rattle.iommufd_core.specs.Refusals.{tests}
+use Rattle.iommufd_core.specs.Seen.{seen}
 use Rattle.iommufd_core.specs.Shows.{Shows}
 use Rattle.iommufd_core.specs.Spaces.{HasAreas, IsOrderly, is_space}
 use Rattle.iommufd_core.specs.Step.{IsTidy, TidyShowsSame}
@@ -135,7 +136,7 @@ module _ (w : World) (file : FileNo) (request : MapRequest) (none : refusal w (e
   pub some_length : 0 < request.length
   unfolding refusal checks
   some_length =
-      let tests = or_false (eqb request.length 0) _ (tests_false (checks w (event.Map file request)) 4 none) in
+      let tests = or_false (eqb request.length 0) _ (tests_false (checks (view w) (event.Map file request)) 4 none) in
       let other = tests.0 in
       grind (arith, nat_tests)
 
@@ -143,7 +144,7 @@ module _ (w : World) (file : FileNo) (request : MapRequest) (none : refusal w (e
   pub has_user : user_of w.settings file ≡ None → ⊥
   unfolding refusal checks
   has_user lacks =
-      let closed : not (is_open w.settings w.closed file) ≡ false = tests_false (checks w (event.Map file request)) 0 none in
+      let closed : not (is_open w.settings w.closed file) ≡ false = tests_false (checks (view w) (event.Map file request)) 0 none in
       let still : not (is_some {T = UserNo} None && not (list_any (λ f. eqb f.0 file.0) w.closed)) ≡ false = rw lacks at closed in
       cc
 
@@ -152,26 +153,25 @@ module _ (w : World) (file : FileNo) (request : MapRequest) (none : refusal w (e
       → (is_above_sum request.iova.0 request.length ≡ false → is_some o ≡ not (eqb request.length 0 || not (is_whole request.length && is_whole request.user_va && is_whole request.iova.0))) → ⊥
   unfolding refusal checks
   is_span o lacks some =
-      let sums = or_false (is_above_sum request.user_va request.length) (is_above_sum request.iova.0 request.length) (tests_false (checks w (event.Map file request)) 3 none) in
-      let aligned : (eqb request.length 0 || not (is_whole request.length && is_whole request.user_va && is_whole request.iova.0)) ≡ false = tests_false (checks w (event.Map file request)) 4 none in
+      let sums = or_false (is_above_sum request.user_va request.length) (is_above_sum request.iova.0 request.length) (tests_false (checks (view w) (event.Map file request)) 3 none) in
+      let aligned : (eqb request.length 0 || not (is_whole request.length && is_whole request.user_va && is_whole request.iova.0)) ≡ false = tests_false (checks (view w) (event.Map file request)) 4 none in
       let told = some sums.1 in
       let here = rw (lacks, aligned) at told in
       cc
 
 -- its address space takes the area
 module _ {A : Type 0} (w : World) (s : State A) (file : FileNo) (request : MapRequest) (shows : Shows w s) (none : refusal w (event.Map file request) ≡ None) where
-  passed : first_true (tests s (event.Map file request)) ≡ None
-  unfolding refusal
-  passed = rw (map_tests w s file shows request) none
+  passed : first_true (checks (seen s) (event.Map file request)) ≡ None
+  passed = same_refusal w s shows (event.Map file request) ∙ none
 
   opposite : (b : Bool) → not b ≡ false → b ≡ true
   opposite true is = refl
   opposite false is = cc
 
   pub area_taken : (at : ℕ) {X : Type 0} → (has_ioas (objects_in s.objects) file request.ioas ≡ true → insert_refusal (mapped_area at file request).span (areas_at s.objects.rows file request.ioas) ≡ None → X) → X
-  unfolding tests
+  unfolding checks
   area_taken at result =
-      let space = opposite _ (tests_false (tests s (event.Map file request)) 6 passed) in
-      let apart : own.areas_meet (span_from request.iova.0 request.length) (areas_at s.objects.rows file request.ioas) ≡ false = tests_false (tests s (event.Map file request)) 7 passed in
-      let roomy : leb 65535 (length (areas_at s.objects.rows file request.ioas)) ≡ false = tests_false (tests s (event.Map file request)) 8 passed in
+      let space = opposite _ (tests_false (checks (seen s) (event.Map file request)) 6 passed) in
+      let apart : areas_meet (span_from request.iova.0 request.length) (areas_at s.objects.rows file request.ioas) ≡ false = tests_false (checks (seen s) (event.Map file request)) 7 passed in
+      let roomy : has_no_room (areas_at s.objects.rows file request.ioas) ≡ false = tests_false (checks (seen s) (event.Map file request)) 8 passed in
       result space (rw (apart, roomy) refl)

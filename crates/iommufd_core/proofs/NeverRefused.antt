@@ -7,6 +7,7 @@ use Rattle.iofd_words.specs.Files as files
 use Rattle.iofd_words.specs.Files.{device_of, is_device}
 use Rattle.iofd_words.specs.Objects.{automatic_hwpt, binding_of, is_bound_as, is_full}
 use Rattle.iofd_words.specs.Settings.{DeviceSettings}
+use Rattle.iofd_words.specs.View.{view}
 use Rattle.iofd_words.specs.World.{World}
 use Rattle.iofd_words.specs.declared.event.Event.TheVariants as event
 use Rattle.iofd_words.specs.declared.numbers.DeviceNo.{DeviceNo}
@@ -33,9 +34,9 @@ room_for_hwpt : (w : World) (device : DeviceNo) (pt_id : ObjId) (bound : Object)
     → refusal w (event.Attach device pt_id) ≡ None → is_full w.objects bound.file ≡ false
 unfolding refusal checks
 room_for_hwpt w device pt_id bound width binding wide automatic none =
-    by_device (device_of w.settings device) wide (tests_false (attach_checks w device pt_id bound.file) 2 (rw (binding, checks) at none))
+    by_device (device_of w.settings device) wide (tests_false (attach_checks (view w) device pt_id bound.file) 2 (rw (binding, checks) at none))
   where
-    by_device : (o : Option DeviceSettings) → elim o as (λ _. Option Width) [ Some d ↦ Some d.width | None ↦ None ] ≡ Some width → lacks_room_for_hwpt w bound.file pt_id o ≡ false → is_full w.objects bound.file ≡ false
+    by_device : (o : Option DeviceSettings) → elim o as (λ _. Option Width) [ Some d ↦ Some d.width | None ↦ None ] ≡ Some width → lacks_room_for_hwpt (view w) bound.file pt_id o ≡ false → is_full w.objects bound.file ≡ false
     by_device None wide room = cc
     by_device (Some d) wide room = let same : d.width ≡ width = cc in rw (same, automatic) at room
 
@@ -52,11 +53,11 @@ module _ {A : Type 0} where
 
   pub alloc_taken : (w : World) (s : State A) (file : FileNo) (error : ReserveError) (r : Refusal) → Shows w s → refusal w (event.IoasAlloc file) ≡ None → error ≡ Refused r → IsWhy (insert_refusal s.objects file) error → ⊥
   unfolding refusal checks
-  alloc_taken w s file error r shows none = takes_object w s file error r shows (alloc_open w file none) (tests_false (checks w (event.IoasAlloc file)) 1 none)
+  alloc_taken w s file error r shows none = takes_object w s file error r shows (alloc_open w file none) (tests_false (checks (view w) (event.IoasAlloc file)) 1 none)
 
   pub bind_taken : (w : World) (s : State A) (file : FileNo) (device : DeviceNo) (error : ReserveError) (r : Refusal) → Shows w s → refusal w (event.Bind file device) ≡ None → error ≡ Refused r → IsWhy (insert_refusal s.objects file) error → ⊥
   unfolding refusal checks
-  bind_taken w s file device error r shows none = takes_object w s file error r shows (bind_open w file device none) (tests_false (checks w (event.Bind file device)) 3 none)
+  bind_taken w s file device error r shows none = takes_object w s file error r shows (bind_open w file device none) (tests_false (checks (view w) (event.Bind file device)) 3 none)
 
   -- ---- of an attachment
 

@@ -1,17 +1,14 @@
 -- What another page table over an address space pins.
 use Rattle.std.proofs.Common.{◌≡◌, Bool, true, false, cond, ◌&&◌, not, List, [], refl}
 use Rattle.std.specs.List.{flat_map}
+use Rattle.iofd_words.specs.Checks.{lacks_attached_page}
 use Rattle.iofd_words.specs.Objects.{has_hwpt, has_ioas}
 use Rattle.iofd_words.specs.Pins.{ObjectPage, are_present, pages_of}
+use Rattle.iofd_words.specs.View.{View}
 use Rattle.iofd_words.specs.declared.numbers.FileNo.{FileNo}
 use Rattle.iofd_words.specs.declared.numbers.ObjId.{ObjId}
-use Rattle.iofd_words.specs.declared.rows.Area.{Area}
-use Rattle.iofd_words.specs.declared.rows.MemoryObject.{MemoryObject}
-use Rattle.iofd_words.specs.declared.rows.Object.{Object}
-use Rattle.iofd_words.specs.declared.rows.UserPage.{UserPage}
 use Rattle.iommufd_core.specs.Held.{areas_at, objects_in}
 use Rattle.iommufd_core.specs.PinLists.{newly_pinned}
-use Rattle.iommufd_core.specs.Refusals.{lacks_attached_page}
 use Rattle.iommufd_core.specs.declared.held.Held.{Held}
 use Rattle.iommufd_core.proofs.Unpinned.{areas_of_other}
 use Rattle.object_table.specs.Table.{Table}
@@ -26,9 +23,12 @@ module _ {A : Type 0} where
       by_table false = refl
 
 -- another page table lacks a page where one that it would pin isn't there
-pub lacks_newly : (objects : List Object) (memory : List MemoryObject) (user_pages : List UserPage) (file : FileNo) (ioas : ObjId) (areas : List Area) → not (are_present memory user_pages (newly_pinned objects file ioas areas)) ≡ lacks_attached_page objects memory user_pages file ioas areas
-lacks_newly objects memory user_pages file ioas areas = by_table (has_hwpt objects file ioas)
+pub lacks_newly : (v : View) (file : FileNo) (ioas : ObjId)
+    → not (are_present v.memory v.user_pages (newly_pinned v.objects file ioas (v.areas_of file ioas)))
+    ≡ lacks_attached_page v file ioas
+lacks_newly v file ioas = by_table (has_hwpt v.objects file ioas)
   where
-    by_table : (b : Bool) → not (are_present memory user_pages (cond b [] (flat_map pages_of areas))) ≡ (not b && not (are_present memory user_pages (flat_map pages_of areas)))
+    by_table : (b : Bool) → not (are_present v.memory v.user_pages (cond b [] (flat_map pages_of (v.areas_of file ioas))))
+        ≡ (not b && not (are_present v.memory v.user_pages (flat_map pages_of (v.areas_of file ioas))))
     by_table true = refl
     by_table false = refl

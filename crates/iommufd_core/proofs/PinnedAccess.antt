@@ -1,23 +1,24 @@
 -- Where an area lets an access pass, its page has a pin.
-use Rattle.std.proofs.Common.{◌≡◌, ℕ, zero, suc, ◌+◌, ◌-◌, ◌*◌, ◌/◌, ◌%◌, ◌^◌, ◌<◌, ◌≤◌, Bool, true, false, cond, ◌&&◌, ◌||◌, eqb, leb, is_some, Option, Some, None, List, [], ◌∷◌, ◌++◌, map, refl, sym, ◌∙◌, arith}
+use Rattle.std.proofs.Common.{◌≡◌, ℕ, zero, suc, ◌+◌, ◌-◌, ◌*◌, ◌/◌, ◌%◌, ◌^◌, ◌<◌, ◌≤◌, Bool, true, false, cond, ◌&&◌, ◌||◌, eqb, leb, is_some, Option, Some, None, List, [], ◌∷◌, ◌++◌, map, refl, sym, ◌∙◌, ap, arith}
 use Rattle.std.proofs.Math.Nat.{div-lt_iff_lt-mul, div-add-mod}
-use Rattle.std.specs.List.{find, list_all, list_any, range_with_len}
+use Rattle.std.specs.List.{filter, find, list_all, list_any, range_with_len}
 use Rattle.std.proofs.lemmas.Bool.Decides.{nat_tests}
 use Rattle.iofd_words.proofs.Bools.{and_true, both_true}
 use Rattle.iofd_words.proofs.PageTables.{hwpt_alike}
 use Rattle.iofd_words.proofs.PageLists.{any-pinned, at_page, pins_page}
-use Rattle.iofd_words.specs.Areas.{area_at, is_of}
+use Rattle.iofd_words.specs.Areas.{area_at, areas_of, is_of}
 use Rattle.iofd_words.specs.Attachments.{attachment_of, ioas_of, ioas_of_attachment}
 use Rattle.iofd_words.specs.Fits.{is_of_pages}
 use Rattle.iofd_words.specs.Objects.{has_hwpt, is_hwpt_over, is_object, kind_of}
 use Rattle.iofd_words.specs.Pages.{is_whole}
 use Rattle.iofd_words.specs.Pins.{is_page, pages_of, pinned_frame, pinned_pages}
-use Rattle.iofd_words.specs.Policy.{Outcome, Passes, Denied, at_area, by_phase, by_width, outcomes, page_in, passing, translated}
+use Rattle.iofd_words.specs.Policy.{Outcome, Passes, Denied, at_area, by_phase, by_width, access_outcomes, outcomes, page_in, passing, translated}
 use Rattle.iofd_words.specs.DeviceSet.{has_device}
 use Rattle.iofd_words.specs.Fault.{denied_by}
 use Rattle.iofd_words.specs.Files.{device_of}
 use Rattle.iofd_words.specs.Rights.{has_right}
 use Rattle.iofd_words.specs.Settings.{DeviceSettings}
+use Rattle.iofd_words.specs.View.{view}
 use Rattle.iofd_words.specs.Width.{bits_of}
 use Rattle.iofd_words.specs.declared.fault.FaultReason.TheVariants.{NoContext, BeyondWidth}
 use Rattle.iofd_words.specs.declared.numbers.FrameNo.{FrameNo}
@@ -108,6 +109,16 @@ attached_hwpt objects a ioas is = by_found (find (is_object a.file a.hwpt) objec
 
 -- ---- the page of a passing access has a pin
 
+-- what is found among the rows that a filter keeps
+found_kept : {X : Type 0} (p q : X → Bool) (xs : List X) → find (λ x. q x && p x) xs ≡ find p (filter q xs)
+found_kept p q [] = refl
+found_kept p q (x ∷ xs) = by_test (q x) (found_kept p q xs)
+  where
+    by_test : (b : Bool) → find (λ x. q x && p x) xs ≡ find p (filter q xs)
+        → cond (b && p x) (Some x) (find (λ x. q x && p x) xs) ≡ find p (cond b (x ∷ filter q xs) (filter q xs))
+    by_test true rest = ap (cond (p x) (Some x)) rest
+    by_test false rest = rest
+
 -- a test holds of what is found, where it holds of each
 pub found_holds : {X : Type 0} (p q : X → Bool) (xs : List X) (x : X) → list_all p xs ≡ true → find q xs ≡ Some x → p x ≡ true
 found_holds p q [] x all found = cc
@@ -119,9 +130,10 @@ found_holds p q (y ∷ xs) x all found =
     by_test true found here later = let same : y ≡ x = cc in rw (← same) here
     by_test false found here later = later found
 
-pub page_pinned : (at : ℕ) (w : World) (a : Attachment) (ioas : ObjId) (area : Area) (address : ℕ) → IsTidy at w → ioas_of_attachment w.objects a ≡ Some ioas → area_at w.areas a.file ioas address ≡ Some area
+pub page_pinned : (at : ℕ) (w : World) (a : Attachment) (ioas : ObjId) (area : Area) (address : ℕ) → IsTidy at w → ioas_of_attachment w.objects a ≡ Some ioas → area_at address (areas_of w.areas a.file ioas) ≡ Some area
     → is_some (pinned_frame w.pins (page_in area address)) ≡ true
-page_pinned at w a ioas area address tidy space found =
+page_pinned at w a ioas area address tidy space found_own =
+    let found = found_kept (λ (x : Area). holds x.span address) (is_of a.file ioas) w.areas ∙ found_own in
     let passes = found_passes (λ (x : Area). is_of a.file ioas x && holds x.span address) w.areas area found in
     let parts = and_true (is_of a.file ioas area) (holds area.span address) passes in
     let ids = and_true (eqb area.file.0 a.file.0) (eqb area.ioas.0 ioas.0) parts.0 in
@@ -168,22 +180,22 @@ area_not_empty pins device address kind area frame pinned is = by_right (has_rig
     by_right false is = cc
 
 pub some_outcome : (at : ℕ) (w : World) (device : DeviceNo) (address : ℕ) (kind : AccessKind) → IsTidy at w → outcomes w device address kind ≡ [] → ⊥
-unfolding outcomes
+unfolding outcomes access_outcomes
 some_outcome at w device address kind tidy none = by_attachment (attachment_of w.attachments device) refl
   where
-    by_frame : (a : Attachment) (ioas : ObjId) → ioas_of_attachment w.objects a ≡ Some ioas → (area : Area) → area_at w.areas a.file ioas address ≡ Some area → (o : Option FrameNo) → pinned_frame w.pins (page_in area address) ≡ o
+    by_frame : (a : Attachment) (ioas : ObjId) → ioas_of_attachment w.objects a ≡ Some ioas → (area : Area) → area_at address (areas_of w.areas a.file ioas) ≡ Some area → (o : Option FrameNo) → pinned_frame w.pins (page_in area address) ≡ o
         → at_area w.pins device address kind (Some area) ≡ [] → ⊥
     by_frame a ioas space area there None pinned is = let some = rw pinned at (page_pinned at w a ioas area address tidy space there) in cc
     by_frame a ioas space area there (Some frame) pinned is = area_not_empty w.pins device address kind area frame pinned is
 
-    by_area : (a : Attachment) (ioas : ObjId) → ioas_of_attachment w.objects a ≡ Some ioas → (o : Option Area) → area_at w.areas a.file ioas address ≡ o → at_area w.pins device address kind o ≡ [] → ⊥
+    by_area : (a : Attachment) (ioas : ObjId) → ioas_of_attachment w.objects a ≡ Some ioas → (o : Option Area) → area_at address (areas_of w.areas a.file ioas) ≡ o → at_area w.pins device address kind o ≡ [] → ⊥
     by_area a ioas space None there is = cc
     by_area a ioas space (Some area) there is = by_frame a ioas space area there (pinned_frame w.pins (page_in area address)) refl is
 
-    by_space : (a : Attachment) → (o : Option ObjId) → ioas_of_attachment w.objects a ≡ o → translated w device address kind a ≡ [] → ⊥
+    by_space : (a : Attachment) → (o : Option ObjId) → ioas_of_attachment w.objects a ≡ o → translated (view w) device address kind a ≡ [] → ⊥
     by_space a None space is = not_empty (Denied (denied_by kind)) [] (rw (space, translated) at is)
-    by_space a (Some ioas) space is = by_area a ioas space (area_at w.areas a.file ioas address) refl (rw (space, translated) at is)
+    by_space a (Some ioas) space is = by_area a ioas space (area_at address (areas_of w.areas a.file ioas)) refl (rw (space, translated) at is)
 
     by_attachment : (o : Option Attachment) → attachment_of w.attachments device ≡ o → ⊥
-    by_attachment None found = not_empty (Denied NoContext) [] (rw (found, outcomes) at none)
-    by_attachment (Some a) found = by_space a (ioas_of_attachment w.objects a) refl (within_empty (device_of w.settings device) address (Denied BeyondWidth) (translated w device address kind a) (rw (found, outcomes) at none))
+    by_attachment None found = not_empty (Denied NoContext) [] (rw (found, outcomes, access_outcomes) at none)
+    by_attachment (Some a) found = by_space a (ioas_of_attachment w.objects a) refl (within_empty (device_of w.settings device) address (Denied BeyondWidth) (translated (view w) device address kind a) (rw (found, outcomes, access_outcomes) at none))

@@ -7,20 +7,20 @@ use Rattle.std.specs.Result.{OkIff}
 use Rattle.area_map.specs.Areas.{AreKept, areas_outside, areas_within, bytes_of, marked, memories_of}
 use Rattle.std.proofs.lemmas.Bool.Decides.{nat_tests}
 use Rattle.std.proofs.lemmas.List.Sums.{sum_by-cons}
-use Rattle.area_map.specs.Areas as own
 use Rattle.area_map.proofs.Kept.{length-filter-le}
 use Rattle.iofd_words.proofs.Bools.{and_true}
 use Rattle.iofd_words.proofs.Found.{all_filter}
 use Rattle.iofd_words.proofs.Runs.{tests_false}
 use Rattle.iofd_words.proofs.Settled.{kept_memory, kept_pins, named_by_area}
 use Rattle.iofd_words.specs.After.{settle, without_areas}
-use Rattle.iofd_words.specs.Areas.{areas_of, is_of, is_touched, is_waiting, touched, touched_bytes, unmapped_span, with_leaving}
+use Rattle.iofd_words.specs.Areas.{areas_of, is_cut, is_of, is_touched, is_waiting, touched, touched_bytes, unmapped_span, with_leaving}
 use Rattle.iofd_words.specs.Attachments.{devices_of}
 use Rattle.iofd_words.specs.Bounds.{Bounds}
 use Rattle.iofd_words.specs.Checks.{checks, refusal}
 use Rattle.iofd_words.specs.Fits.{devices_rise, is_of_pages}
 use Rattle.iofd_words.specs.Pages.{is_above_sum, is_whole}
 use Rattle.iofd_words.specs.Span.{lies_in, size_of}
+use Rattle.iofd_words.specs.View.{view}
 use Rattle.iofd_words.specs.World.{World}
 use Rattle.iofd_words.specs.declared.event.Event.TheVariants as event
 use Rattle.iofd_words.specs.declared.event.UnmapRequest.{UnmapRequest}
@@ -31,7 +31,6 @@ use Rattle.iofd_words.specs.declared.rows.Attachment.{Attachment}
 use Rattle.iofd_words.specs.declared.rows.MemoryObject.{MemoryObject}
 use Rattle.iofd_words.specs.declared.rows.Object.{Object}
 use Rattle.iofd_words.specs.declared.rows.Pin.{Pin}
-use Rattle.iommufd_core.proofs.AreasFiltered.{cut_filtered}
 use Rattle.iommufd_core.proofs.AreasHeld.{areas_absent, areas_found}
 use Rattle.iommufd_core.proofs.Flushed.{orderly}
 use Rattle.iommufd_core.proofs.Mapped.{areas_become}
@@ -83,9 +82,9 @@ module _ {A : Type 0} where
 
     module _ (none : refusal w (event.Unmap file request) ≡ None) (kept : AreKept (own_areas s.objects file request.ioas)) where
       -- no area is cut
-      uncut : own.is_cut (unmapped_span request) (areas_of w.areas file request.ioas) ≡ false
+      uncut : is_cut (unmapped_span request) (areas_of w.areas file request.ioas) ≡ false
       unfolding refusal checks
-      uncut = sym (cut_filtered w.areas file request) ∙ tests_false (checks w (event.Unmap file request)) 5 none
+      uncut = tests_false (checks (view w) (event.Unmap file request)) 5 none
 
       are : AreAlike (unmapped_span request) (areas_of w.areas file request.ioas)
       are = let here : AreKept (areas_of w.areas file request.ioas) = rw own_shown at kept in alike (unmapped_span request) 0 (areas_of w.areas file request.ioas) here.apart uncut
@@ -204,8 +203,8 @@ pub names_span : {X : Type 0} (w : World) (file : FileNo) (request : UnmapReques
     → (0 < request.length → is_above_sum request.iova.0 request.length ≡ false → is_some o ≡ true) → ⊥
 unfolding refusal checks
 names_span w file request o none lacks some =
-    let sum : is_above_sum request.iova.0 request.length ≡ false = tests_false (checks w (event.Unmap file request)) 1 none in
-    let length : eqb request.length 0 ≡ false = tests_false (checks w (event.Unmap file request)) 2 none in
+    let sum : is_above_sum request.iova.0 request.length ≡ false = tests_false (checks (view w) (event.Unmap file request)) 1 none in
+    let length : eqb request.length 0 ≡ false = tests_false (checks (view w) (event.Unmap file request)) 2 none in
     let positive : 0 < request.length = grind (arith, nat_tests) in
     let told = some positive sum in
     cc

@@ -6,6 +6,7 @@ use Rattle.iofd_words.specs.Look.{query_checks}
 use Rattle.iofd_words.specs.Policy.{Outcome, Passes, Denied, outcomes}
 use Rattle.iofd_words.specs.Run.{world_of}
 use Rattle.iofd_words.specs.Settings.{Settings}
+use Rattle.iofd_words.specs.View.{view}
 use Rattle.iofd_words.specs.World.{World}
 use Rattle.iofd_words.specs.declared.event.Event.{Event}
 use Rattle.iofd_words.specs.declared.event.Event.TheVariants as event
@@ -30,7 +31,7 @@ is_pass_at frame (Denied reason) = false
 
 abbrev pub passes_in : World → DeviceNo → Iova → ℕ → AccessKind → FrameNo → Bool
 passes_in w device iova len kind frame =
-    is_none (first_true (query_checks w (DeviceRead device iova len))) && list_any (is_pass_at frame) (outcomes w device iova.0 kind)
+    is_none (first_true (query_checks (view w) (DeviceRead device iova len))) && list_any (is_pass_at frame) (outcomes w device iova.0 kind)
 
 module _ {A : Type 0} where
   -- the world that the records have left

@@ -8,8 +8,8 @@ pub mod Memory
 pub mod Outcomes
 pub mod Pages
 pub mod PinLists
-pub mod Refusals
 pub mod Room
+pub mod Seen
 pub mod Server
 pub mod Shows
 pub mod Spaces

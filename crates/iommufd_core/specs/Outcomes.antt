@@ -1,20 +1,11 @@
--- What may come of a device's access, by what is kept. It is what may come of it in the world that is shown.
-use Rattle.std.specs.Prelude.{ℕ, Option, Some, None, Result, Ok, Err, List, [], ◌∷◌}
-use Rattle.area_map.specs.Areas.{area_at}
-use Rattle.iofd_words.specs.Attachments.{attachment_of, ioas_of_attachment}
-use Rattle.iofd_words.specs.Fault.{denied_by}
-use Rattle.iofd_words.specs.Files.{device_of}
-use Rattle.iofd_words.specs.Policy.{Outcome, Passes, Denied, at_area, by_width}
-use Rattle.iofd_words.specs.declared.fault.AccessKind.{AccessKind}
-use Rattle.iofd_words.specs.declared.fault.FaultReason.TheVariants.{NoContext, BeyondWidth, WriteDenied}
+-- The core's words for what may come of a device's access, and which outcome is given.
+use Rattle.std.specs.Prelude.{Option, Some, None, Result, Ok, Err, List, [], ◌∷◌}
+use Rattle.iofd_words.specs.Policy.{Outcome, Passes, Denied}
+use Rattle.iofd_words.specs.declared.fault.FaultReason.TheVariants.{WriteDenied}
 use Rattle.iofd_words.specs.declared.fault.FaultReason.{FaultReason}
-use Rattle.iofd_words.specs.declared.numbers.DeviceNo.{DeviceNo}
 use Rattle.iofd_words.specs.declared.numbers.FrameNo.{FrameNo}
-use Rattle.iofd_words.specs.declared.rows.Attachment.{Attachment}
-use Rattle.iommufd_core.specs.Held.{areas_at, objects_in}
 use Rattle.iommufd_core.specs.declared.access.Access.{Access}
 use Rattle.iommufd_core.specs.declared.access.Access.TheVariants as access
-use Rattle.iommufd_core.specs.declared.state.State.{State}
 
 -- the outcomes that an access may have
 abbrev pub outcomes_in : Access → List Outcome
@@ -43,18 +34,3 @@ given_outcome None (x ∷ y ∷ ys) = given_outcome None (y ∷ ys)
 abbrev pub outcome_told : Result FrameNo FaultReason → Outcome
 outcome_told (Ok frame) = Passes frame
 outcome_told (Err reason) = Denied reason
-
-module _ {A : Type 0} where
-  abbrev pub known_where : State A → DeviceNo → ℕ → AccessKind → Attachment → List Outcome
-  known_where s device address kind a =
-      elim (ioas_of_attachment (objects_in s.objects) a) [
-        | Some ioas ↦ at_area s.pins.items device address kind (area_at address (areas_at s.objects.rows a.file ioas))
-        | None ↦ Denied (denied_by kind) ∷ []
-      ]
-
-  unfoldable pub known_outcomes : State A → DeviceNo → ℕ → AccessKind → List Outcome
-  known_outcomes s device address kind =
-      elim (attachment_of s.attachments.items device) [
-        | None ↦ Denied NoContext ∷ []
-        | Some a ↦ by_width (device_of s.config device) address (Denied BeyondWidth ∷ []) (known_where s device address kind a)
-      ]

@@ -10,7 +10,6 @@ use Rattle.iofd_words.specs.Pinned.{ArePinned}
 use Rattle.iofd_words.specs.World.{World}
 use Rattle.iofd_words.specs.declared.event.Event.{Event}
 use Rattle.iofd_words.specs.declared.numbers.FrameNo.{FrameNo}
-use Rattle.iofd_words.specs.declared.refusal.Cause.{Cause}
 use Rattle.iofd_words.specs.declared.reply.Reply.{Reply}
 use Rattle.iofd_words.specs.Run.{Lawful, after}
 use Rattle.iofd_words.specs.declared.numbers.PassNo.{PassNo}
@@ -28,10 +27,6 @@ pub record IsTidy (at : ℕ) (w : World) : Type 0 where
   pub fit : RowsFit w
 
 module _ {A : Type 0} where
-  -- this is the cause for which the event is refused, if any
-  abbrev pub IsRefusal : State A → Event → Option Cause → Type 0
-  IsRefusal s event cause = (w : World) → Shows w s → cause ≡ refusal w event
-
   -- an event that nothing refuses is answered so, and the world after it is shown
   abbrev pub Steps : ℕ → Event → State A → Reply → State A → Type 0
   Steps at event old reply new =

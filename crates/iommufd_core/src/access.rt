@@ -3,14 +3,15 @@
 ghost use Rattle.std.specs.Prelude.{◌≡◌, ◌-◌, ◌/◌, ◌^◌, ◌∷◌, [], false, nat_le};
 ghost use Rattle.std.specs.List.{list_any};
 ghost use Rattle.std.specs.Option.{option_copied, option_map_or};
-ghost use Rattle.area_map.specs.Areas.{area_at};
+ghost use Rattle.iofd_words.specs.Areas.{area_at};
 ghost use Rattle.iofd_words.specs.Files as files;
 ghost use Rattle.iofd_words.specs.Pins as pinned;
 ghost use Rattle.iofd_words.specs.Policy as policy;
 ghost use Rattle.iofd_words.specs.Width.{bits_of};
 ghost use Rattle.iommufd_core.specs.Held.{areas_at};
 ghost use Rattle.iommufd_core.specs.History.{is_pass_at};
-ghost use Rattle.iommufd_core.specs.Outcomes.{given_outcome, outcome_told, known_outcomes, known_where, outcomes_of, passes_at};
+ghost use Rattle.iommufd_core.specs.Outcomes.{given_outcome, outcome_told, outcomes_of, passes_at};
+ghost use Rattle.iommufd_core.specs.Seen.{seen};
 
 use crate::held::Held;
 use crate::lookups;
@@ -35,14 +36,14 @@ enum Access {
 
 /// What may come of the device's access to this address. None where the area has no pin for the page, which
 /// no run of the server leads to.
-#[tactic(auto, unfolding(crate::specs::Outcomes::known_outcomes))]
+#[tactic(auto, unfolding(iofd_words::specs::Policy::access_outcomes))]
 fn of_device<A: Allocator>(
     state: &State<A>,
     device: DeviceNo,
     address: u64,
     kind: AccessKind,
 ) -> Option<Access>
-    ensures { outcomes_of result ≡ known_outcomes state.now device address kind }
+    ensures { outcomes_of result ≡ policy.access_outcomes (seen state.now) device address kind }
 {
     let Some(attachment) = state.attachment_of(device) else {
         return Some(Access::Denied(FaultReason::NoContext));
@@ -62,7 +63,7 @@ pub(crate) fn given<A: Allocator>(
     kind: AccessKind,
     cached: Option<FrameNo>,
 ) -> Result<FrameNo, FaultReason>
-    ensures { outcome_told result ≡ given_outcome cached (known_outcomes state.now device address kind) }
+    ensures { outcome_told result ≡ given_outcome cached (policy.access_outcomes (seen state.now) device address kind) }
 {
     if let Some(frame) = cached {
         return Ok(frame);
@@ -82,7 +83,7 @@ pub(crate) fn may_pass<A: Allocator>(
     kind: AccessKind,
     frame: FrameNo,
 ) -> bool
-    ensures { result ≡ list_any (is_pass_at frame) (known_outcomes state.now device address kind) }
+    ensures { result ≡ list_any (is_pass_at frame) (policy.access_outcomes (seen state.now) device address kind) }
 {
     match of_device(state, device, address, kind) {
         Some(Access::Passes(at)) | Some(Access::Either(at, _)) => at == frame,
@@ -98,7 +99,7 @@ fn translated<A: Allocator>(
     address: u64,
     kind: AccessKind,
 ) -> Option<Access>
-    ensures { outcomes_of result ≡ known_where state.now device address kind attachment }
+    ensures { outcomes_of result ≡ policy.translated (seen state.now) device address kind attachment }
 {
     let denied = Some(Access::Denied(kind.denied()));
     let Some(ObjectKind::Hwpt { ioas, .. }) = lookups::kind_of(

@@ -2,6 +2,7 @@
 
 ghost use Rattle.std.specs.Prelude.{◌≡◌, ℕ, IfOk, OnErr};
 ghost use Rattle.std.specs.List.{flat_map};
+ghost use Rattle.iofd_words.specs.Checks.{checks, lacks_attached_page, lacks_room_for_hwpt};
 ghost use Rattle.iofd_words.specs.FirstTrue.{first_true};
 ghost use Rattle.iofd_words.specs.Files.{device_of};
 ghost use Rattle.iofd_words.specs.Objects as objects;
@@ -9,7 +10,7 @@ ghost use Rattle.iofd_words.specs.Pins as spec;
 ghost use Rattle.iofd_words.specs.declared.event.Event.TheVariants as event;
 ghost use Rattle.iommufd_core.specs.Held.{areas_at, objects_in};
 ghost use Rattle.iommufd_core.specs.PinLists as words;
-ghost use Rattle.iommufd_core.specs.Refusals.{tests, lacks_attached_page, lacks_room_for_hwpt};
+ghost use Rattle.iommufd_core.specs.Seen.{seen};
 ghost use Rattle.iommufd_core.specs.Step.{LacksPlace, ShowsSame, Steps};
 
 use crate::held::Held;
@@ -22,13 +23,13 @@ use object_table::{Kind, ObjectTable, ReserveError};
 use std::alloc::Allocator;
 
 /// Why it is refused.
-#[tactic(auto, unfolding(crate::specs::Refusals::tests))]
+#[tactic(auto, unfolding(iofd_words::specs::Checks::checks))]
 pub(crate) fn refusal<A: Allocator>(
     state: &State<A>,
     device: DeviceNo,
     pt_id: ObjId,
 ) -> Option<Cause>
-    ensures { result ≡ first_true (tests state.now (event.Attach device pt_id)) }
+    ensures { result ≡ first_true (checks (seen state.now) (event.Attach device pt_id)) }
 {
     let Some(bound) = state.binding_of(device) else {
         return Some(Cause::Id);
@@ -116,7 +117,7 @@ fn is_full<A: Allocator>(table: &ObjectTable<Held<A>, A>, file: FileNo) -> bool
 
 /// Whether a page table would have to be made for which the file has no room.
 fn lacks_room<A: Allocator>(state: &State<A>, device: DeviceNo, file: FileNo, ioas: ObjId) -> bool
-    ensures { result ≡ lacks_room_for_hwpt (objects_in state.now.objects) file ioas (device_of state.now.config device) }
+    ensures { result ≡ lacks_room_for_hwpt (seen state.now) file ioas (device_of state.now.config device) }
 {
     match width_of(&state.config, device) {
         Some(width) => lookups::automatic_hwpt(&state.objects, file, ioas, width).is_none()
@@ -127,7 +128,7 @@ fn lacks_room<A: Allocator>(state: &State<A>, device: DeviceNo, file: FileNo, io
 
 /// Whether another page table would have to pin a page that isn't in its user's memory.
 fn lacks_page<A: Allocator>(state: &State<A>, file: FileNo, ioas: ObjId) -> bool
-    ensures { result ≡ lacks_attached_page (objects_in state.now.objects) state.now.memory.items state.now.user_pages.items file ioas (areas_at state.now.objects.rows file ioas) }
+    ensures { result ≡ lacks_attached_page (seen state.now) file ioas }
 {
     let areas = areas_to_pin(&state.objects, file, ioas);
     !pins::are_present(&state.memory, &state.user_pages, areas)

@@ -1,9 +1,10 @@
 //! Bind: a device is bound to a file.
 
 ghost use Rattle.std.specs.Prelude.{◌≡◌, ℕ, IfOk, OnErr};
+ghost use Rattle.iofd_words.specs.Checks.{checks};
 ghost use Rattle.iofd_words.specs.FirstTrue.{first_true};
 ghost use Rattle.iofd_words.specs.declared.event.Event.TheVariants as event;
-ghost use Rattle.iommufd_core.specs.Refusals.{tests};
+ghost use Rattle.iommufd_core.specs.Seen.{seen};
 ghost use Rattle.iommufd_core.specs.Step.{LacksPlace, ShowsSame, Steps};
 
 use crate::devices::is_device;
@@ -14,13 +15,13 @@ use object_table::{Kind, ReserveError};
 use std::alloc::Allocator;
 
 /// Why it is refused.
-#[tactic(auto, using(crate::proofs::ObjectsMoved::is_full_rows), unfolding(crate::specs::Refusals::tests))]
+#[tactic(auto, using(crate::proofs::ObjectsMoved::is_full_rows), unfolding(iofd_words::specs::Checks::checks))]
 pub(crate) fn refusal<A: Allocator>(
     state: &State<A>,
     file: FileNo,
     device: DeviceNo,
 ) -> Option<Cause>
-    ensures { result ≡ first_true (tests state.now (event.Bind file device)) }
+    ensures { result ≡ first_true (checks (seen state.now) (event.Bind file device)) }
 {
     if !state.objects.is_open(file) {
         return Some(Cause::Id);

@@ -2,12 +2,13 @@
 
 ghost use Rattle.std.specs.Prelude.{◌≡◌, ℕ, not, ◌==◌, filter, None};
 ghost use Rattle.std.specs.List.{list_any};
+ghost use Rattle.iofd_words.specs.Checks.{checks};
 ghost use Rattle.iofd_words.specs.FirstTrue.{first_true};
 ghost use Rattle.iofd_words.specs.Objects.{objects_of, is_bound_device};
 ghost use Rattle.iofd_words.specs.declared.event.Event.TheVariants as event;
 ghost use Rattle.object_table.specs.Table.{close_refusal, closed};
 ghost use Rattle.iommufd_core.specs.Held.{kind_in, objects_in};
-ghost use Rattle.iommufd_core.specs.Refusals.{tests};
+ghost use Rattle.iommufd_core.specs.Seen.{seen};
 ghost use Rattle.iommufd_core.specs.Step.{Steps};
 
 use crate::held::Held;
@@ -18,9 +19,9 @@ use object_table::ObjectTable;
 use std::alloc::Allocator;
 
 /// Why it is refused.
-#[tactic(auto, unfolding(crate::specs::Refusals::tests))]
+#[tactic(auto, unfolding(iofd_words::specs::Checks::checks))]
 pub(crate) fn refusal<A: Allocator>(state: &State<A>, file: FileNo) -> Option<Cause>
-    ensures { result ≡ first_true (tests state.now (event.Close file)) }
+    ensures { result ≡ first_true (checks (seen state.now) (event.Close file)) }
 {
     if !state.objects.is_open(file) {
         return Some(Cause::Id);

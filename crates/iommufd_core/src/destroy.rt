@@ -2,12 +2,11 @@
 
 ghost use Rattle.std.specs.Prelude.{◌≡◌, ℕ, Some, None};
 ghost use Rattle.iofd_words.specs.Attachments.{has_device_on};
-ghost use Rattle.iofd_words.specs.Checks.{is_device_object};
+ghost use Rattle.iofd_words.specs.Checks.{checks, is_device_object, is_used};
 ghost use Rattle.iofd_words.specs.FirstTrue.{first_true};
 ghost use Rattle.iofd_words.specs.declared.event.Event.TheVariants as event;
 ghost use Rattle.object_table.specs.Table.{destroy_refusal, removed};
-ghost use Rattle.iommufd_core.specs.Held.{objects_in};
-ghost use Rattle.iommufd_core.specs.Refusals.{tests, is_used};
+ghost use Rattle.iommufd_core.specs.Seen.{seen};
 ghost use Rattle.iommufd_core.specs.Step.{Steps};
 
 use crate::held::Held;
@@ -18,9 +17,9 @@ use object_table::{Kind, ObjectTable};
 use std::alloc::Allocator;
 
 /// Why it is refused.
-#[tactic(auto, unfolding(crate::specs::Refusals::tests))]
+#[tactic(auto, unfolding(iofd_words::specs::Checks::checks))]
 pub(crate) fn refusal<A: Allocator>(state: &State<A>, file: FileNo, id: ObjId) -> Option<Cause>
-    ensures { result ≡ first_true (tests state.now (event.Destroy file id)) }
+    ensures { result ≡ first_true (checks (seen state.now) (event.Destroy file id)) }
 {
     if !state.objects.is_open(file) {
         return Some(Cause::Id);
@@ -39,7 +38,7 @@ pub(crate) fn refusal<A: Allocator>(state: &State<A>, file: FileNo, id: ObjId) -
 
 /// Whether others stand on the file's object of this id and kind: page tables on an address space, devices on a page table.
 fn is_used<A: Allocator>(state: &State<A>, file: FileNo, id: ObjId, kind: ObjectKind) -> bool
-    ensures { result ≡ is_used (objects_in state.now.objects) state.now.attachments.items file id (Some kind) }
+    ensures { result ≡ is_used (seen state.now) file id (Some kind) }
 {
     match kind {
         ObjectKind::Ioas => lookups::has_hwpt(&state.objects, file, id),

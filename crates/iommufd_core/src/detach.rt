@@ -1,12 +1,13 @@
 //! Detach: a device translates no more.
 
 ghost use Rattle.std.specs.Prelude.{◌≡◌, ℕ, Some, None, false, not, filter};
+ghost use Rattle.iofd_words.specs.Checks.{checks};
 ghost use Rattle.iofd_words.specs.FirstTrue.{first_true};
 ghost use Rattle.iofd_words.specs.Objects as objects;
 ghost use Rattle.iofd_words.specs.declared.event.Event.TheVariants as event;
 ghost use Rattle.iommufd_core.specs.Held.{areas_at, objects_in};
 ghost use Rattle.iommufd_core.specs.PinLists.{is_idle, is_unpinned};
-ghost use Rattle.iommufd_core.specs.Refusals.{tests};
+ghost use Rattle.iommufd_core.specs.Seen.{seen};
 ghost use Rattle.iommufd_core.specs.Step.{Steps};
 ghost use Rattle.object_table.specs.Table.{destroy_refusal, removed};
 ghost use Rattle.object_table.specs.declared.kind.Kind.TheVariants as of_kind;
@@ -19,9 +20,9 @@ use object_table::{Kind, ObjectTable};
 use std::alloc::Allocator;
 
 /// Why it is refused.
-#[tactic(auto, unfolding(crate::specs::Refusals::tests))]
+#[tactic(auto, unfolding(iofd_words::specs::Checks::checks))]
 pub(crate) fn refusal<A: Allocator>(state: &State<A>, device: DeviceNo) -> Option<Cause>
-    ensures { result ≡ first_true (tests state.now (event.Detach device)) }
+    ensures { result ≡ first_true (checks (seen state.now) (event.Detach device)) }
 {
     if state.binding_of(device).is_none() {
         return Some(Cause::Id);

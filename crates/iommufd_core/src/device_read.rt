@@ -2,14 +2,14 @@
 
 ghost use Rattle.std.specs.Prelude.{◌≡◌, ◌+◌, ◌<◌, ◌≤◌, ◌*◌, ◌%◌, ℕ, Some, false, length, take, drop};
 ghost use Rattle.iofd_words.specs.FirstTrue.{first_true};
-ghost use Rattle.iofd_words.specs.Look.{answers_to, lawful_answers};
+ghost use Rattle.iofd_words.specs.Look.{answers_to, lawful_answers, query_checks};
 ghost use Rattle.iofd_words.specs.Pages.{crosses};
 ghost use Rattle.iofd_words.specs.Policy.{fault_of};
 ghost use Rattle.iofd_words.specs.World.{World};
 ghost use Rattle.iofd_words.specs.declared.query.Answer.TheVariants as answer;
 ghost use Rattle.iofd_words.specs.declared.query.Query.TheVariants as queries;
 ghost use Rattle.iommufd_core.specs.Choice.{last_of};
-ghost use Rattle.iommufd_core.specs.Refusals.{read_tests};
+ghost use Rattle.iommufd_core.specs.Seen.{seen};
 ghost use Rattle.iommufd_core.specs.Shows.{Shows};
 ghost use Rattle.iommufd_core.specs.Step.{IsTidy};
 
@@ -47,7 +47,7 @@ pub(crate) fn refusal<A: Allocator>(
     iova: Iova,
     len: u8,
 ) -> Option<Cause>
-    ensures { result ≡ first_true (read_tests state.now device iova.0 len) }
+    ensures { result ≡ first_true (query_checks (seen state.now) (queries.DeviceRead device iova len)) }
 {
     if state.binding_of(device).is_none() {
         return Some(Cause::Id);

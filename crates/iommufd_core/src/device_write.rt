@@ -3,12 +3,13 @@
 ghost use Rattle.std.specs.Prelude.{◌≡◌, ℕ};
 ghost use Rattle.std.specs.Option.{option_map_or};
 ghost use Rattle.iofd_words.specs.Files as files;
+ghost use Rattle.iofd_words.specs.Checks.{checks};
 ghost use Rattle.iofd_words.specs.FirstTrue.{first_true};
 ghost use Rattle.iofd_words.specs.Pages.{crosses};
 ghost use Rattle.iofd_words.specs.Policy as policy;
 ghost use Rattle.iofd_words.specs.World.{World};
 ghost use Rattle.iofd_words.specs.declared.event.Event.TheVariants as event;
-ghost use Rattle.iommufd_core.specs.Refusals.{tests};
+ghost use Rattle.iommufd_core.specs.Seen.{seen};
 ghost use Rattle.iommufd_core.specs.Step.{ChosenSteps};
 
 use crate::state::State;
@@ -19,14 +20,14 @@ use iofd_words::{
 use std::alloc::Allocator;
 
 /// Why it is refused.
-#[tactic(auto, unfolding(crate::specs::Refusals::tests))]
+#[tactic(auto, unfolding(iofd_words::specs::Checks::checks))]
 pub(crate) fn refusal<A: Allocator>(
     state: &State<A>,
     device: DeviceNo,
     iova: Iova,
     bytes: &Burst,
 ) -> Option<Cause>
-    ensures { result ≡ first_true (tests state.now (event.DeviceWrite device iova bytes.now)) }
+    ensures { result ≡ first_true (checks (seen state.now) (event.DeviceWrite device iova bytes.now)) }
 {
     if state.binding_of(device).is_none() {
         return Some(Cause::Id);

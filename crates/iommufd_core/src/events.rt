@@ -1,7 +1,10 @@
 //! Each event, refused or carried out.
 
-ghost use Rattle.std.specs.Prelude.{IfOk, OnErr};
-ghost use Rattle.iommufd_core.specs.Step.{Answered, ChosenSteps, IsRefusal, LacksPlace, MayWant, TidyShowsSame};
+ghost use Rattle.std.specs.Prelude.{◌≡◌, IfOk, OnErr};
+ghost use Rattle.iofd_words.specs.Checks.{checks};
+ghost use Rattle.iofd_words.specs.FirstTrue.{first_true};
+ghost use Rattle.iommufd_core.specs.Seen.{seen};
+ghost use Rattle.iommufd_core.specs.Step.{Answered, ChosenSteps, LacksPlace, MayWant, TidyShowsSame};
 
 use crate::state::State;
 use crate::{
@@ -29,7 +32,7 @@ pub(crate) fn answer<A: Allocator + Copy>(
 
 /// Why the event is refused, if it is. It takes no memory.
 fn refusal<A: Allocator>(state: &State<A>, event: &Event) -> Option<Cause>
-    ensures { IsRefusal state.now event.now result }
+    ensures { result ≡ first_true (checks (seen state.now) event.now) }
 {
     match event {
         Event::IoasAlloc(file) => ioas_alloc::refusal(state, *file),

@@ -1,9 +1,10 @@
 //! Flush: a device has forgotten what it had cached.
 
 ghost use Rattle.std.specs.Prelude.{◌≡◌, ℕ};
+ghost use Rattle.iofd_words.specs.Checks.{checks};
 ghost use Rattle.iofd_words.specs.FirstTrue.{first_true};
 ghost use Rattle.iofd_words.specs.declared.event.Event.TheVariants as event;
-ghost use Rattle.iommufd_core.specs.Refusals.{tests};
+ghost use Rattle.iommufd_core.specs.Seen.{seen};
 ghost use Rattle.iommufd_core.specs.Step.{Steps};
 
 use crate::spaces;
@@ -12,9 +13,9 @@ use iofd_words::{Cause, DeviceNo, Reply};
 use std::alloc::Allocator;
 
 /// Why it is refused.
-#[tactic(auto, unfolding(crate::specs::Refusals::tests))]
+#[tactic(auto, unfolding(iofd_words::specs::Checks::checks))]
 pub(crate) fn refusal<A: Allocator>(state: &State<A>, device: DeviceNo) -> Option<Cause>
-    ensures { result ≡ first_true (tests state.now (event.Flush device)) }
+    ensures { result ≡ first_true (checks (seen state.now) (event.Flush device)) }
 {
     if state.binding_of(device).is_none() {
         return Some(Cause::Id);

@@ -1,14 +1,15 @@
 //! MAP: pages of a user's memory at an address of the caller's choice.
 
-ghost use Rattle.std.specs.Prelude.{◌≡◌, ◌==◌, ◌&&◌, ◌||◌, not, false, is_some, IfSome, IfOk, OnErr, nat_le, [], ◌∷◌, ◌/◌, ◌≤◌, ◌^◌, length, if◌then◌else◌};
-ghost use Rattle.area_map.specs.Areas.{areas_meet};
+ghost use Rattle.std.specs.Prelude.{◌≡◌, ◌==◌, ◌&&◌, ◌||◌, not, false, is_some, IfSome, IfOk, OnErr, [], ◌∷◌, ◌/◌, ◌≤◌, ◌^◌, if◌then◌else◌};
 ghost use Rattle.iofd_words.specs.After.{mapped_area, memory_object};
+ghost use Rattle.iofd_words.specs.Areas.{areas_meet, has_no_room};
+ghost use Rattle.iofd_words.specs.Checks.{checks, lacks_mapped_page};
 ghost use Rattle.iofd_words.specs.FirstTrue.{first_true};
 ghost use Rattle.iofd_words.specs.Span.{span_from};
 ghost use Rattle.iofd_words.specs.Objects.{has_hwpt};
 ghost use Rattle.iofd_words.specs.Pages.{is_above_sum, is_above_user, is_whole};
 ghost use Rattle.iofd_words.specs.declared.event.Event.TheVariants as event;
-ghost use Rattle.iommufd_core.specs.Refusals.{tests, lacks_mapped_page};
+ghost use Rattle.iommufd_core.specs.Seen.{seen};
 ghost use Rattle.iommufd_core.specs.Step.{LacksPlace, Steps, TidyShowsSame};
 ghost use Rattle.iommufd_core.specs.Held.{objects_in};
 
@@ -27,13 +28,13 @@ const MOST_AREAS: usize = 65_535;
 const USER_END: u128 = 1 << 48;
 
 /// Why it is refused.
-#[tactic(auto, unfolding(crate::specs::Refusals::tests))]
+#[tactic(auto, unfolding(iofd_words::specs::Checks::checks))]
 pub(crate) fn refusal<A: Allocator>(
     state: &State<A>,
     file: FileNo,
     request: MapRequest,
 ) -> Option<Cause>
-    ensures { result ≡ first_true (tests state.now (event.Map file request)) }
+    ensures { result ≡ first_true (checks (seen state.now) (event.Map file request)) }
 {
     if !state.objects.is_open(file) {
         return Some(Cause::Id);
@@ -142,8 +143,8 @@ fn refusal_by_areas<A: Allocator>(
 ) -> Option<Cause>
     ensures { result ≡ first_true (
         (Cause.Overlap, areas_meet span areas.now.areas)
-        ∷ (Cause.Full, nat_le 65535 (length areas.now.areas))
-        ∷ (Cause.Absent, lacks_mapped_page state.now.config (objects_in state.now.objects) state.now.user_pages.items file request)
+        ∷ (Cause.Full, has_no_room areas.now.areas)
+        ∷ (Cause.Absent, lacks_mapped_page (seen state.now) file request)
         ∷ []) }
 {
     if areas.meets(span) {
@@ -160,7 +161,7 @@ fn refusal_by_areas<A: Allocator>(
 
 /// Whether there are as many areas as an address space may have.
 fn is_full<A: Allocator>(areas: &Areas<A>) -> bool
-    ensures { result ≡ nat_le 65535 (length areas.now.areas) }
+    ensures { result ≡ has_no_room areas.now.areas }
 {
     areas.len() >= MOST_AREAS
 }
@@ -193,7 +194,7 @@ fn is_above_user(start: u64, length: u64) -> bool
 
 /// Whether the address space has a page table, and a page is not in the memory of the file's user.
 fn lacks_page<A: Allocator>(state: &State<A>, file: FileNo, request: MapRequest) -> bool
-    ensures { result ≡ lacks_mapped_page state.now.config (objects_in state.now.objects) state.now.user_pages.items file request }
+    ensures { result ≡ lacks_mapped_page (seen state.now) file request }
 {
     if !lookups::has_hwpt(&state.objects, file, request.ioas) {
         return false;

@@ -2,10 +2,11 @@
 
 ghost use Rattle.std.specs.Prelude.{◌≡◌, ◌<◌, ℕ, false, not, filter, IfSome, IsSome, IfOk, OnErr};
 ghost use Rattle.iofd_words.specs.Areas.{is_everything, unmapped_span};
+ghost use Rattle.iofd_words.specs.Checks.{checks};
 ghost use Rattle.iofd_words.specs.FirstTrue.{first_true};
 ghost use Rattle.iofd_words.specs.Pages.{is_above_sum};
 ghost use Rattle.iofd_words.specs.declared.event.Event.TheVariants as event;
-ghost use Rattle.iommufd_core.specs.Refusals.{tests};
+ghost use Rattle.iommufd_core.specs.Seen.{seen};
 ghost use Rattle.iommufd_core.specs.Step.{LacksPlace, ShowsSame, Steps};
 ghost use Rattle.iommufd_core.specs.Mapping.{is_among};
 
@@ -16,13 +17,13 @@ use iofd_words::{Cause, Errno, FileNo, MemoryObject, NoMemory, Pin, Reply, Span,
 use std::alloc::Allocator;
 
 /// Why it is refused.
-#[tactic(auto, unfolding(crate::specs::Refusals::tests))]
+#[tactic(auto, unfolding(iofd_words::specs::Checks::checks))]
 pub(crate) fn refusal<A: Allocator>(
     state: &State<A>,
     file: FileNo,
     request: UnmapRequest,
 ) -> Option<Cause>
-    ensures { result ≡ first_true (tests state.now (event.Unmap file request)) }
+    ensures { result ≡ first_true (checks (seen state.now) (event.Unmap file request)) }
 {
     if !state.objects.is_open(file) {
         return Some(Cause::Id);

@@ -1,10 +1,11 @@
 //! UserMap: a page of a user's memory gets a frame.
 
 ghost use Rattle.std.specs.Prelude.{◌≡◌, ℕ, Option, IfOk, OnErr};
+ghost use Rattle.iofd_words.specs.Checks.{checks};
 ghost use Rattle.iofd_words.specs.FirstTrue.{first_true};
 ghost use Rattle.iofd_words.specs.declared.event.Event.TheVariants as event;
 ghost use Rattle.iofd_words.specs.declared.numbers.FrameNo.{FrameNo};
-ghost use Rattle.iommufd_core.specs.Refusals.{tests};
+ghost use Rattle.iommufd_core.specs.Seen.{seen};
 ghost use Rattle.iommufd_core.specs.Step.{ChosenSteps, LacksPlace, ShowsSame};
 
 use crate::state::State;
@@ -16,9 +17,9 @@ use std::alloc::Allocator;
 const USER_END: u64 = 1 << 48;
 
 /// Why it is refused.
-#[tactic(auto, using(crate::proofs::FreeFrames::has_free_frame), unfolding(crate::specs::Refusals::tests))]
+#[tactic(auto, using(crate::proofs::FreeFrames::has_free_frame), unfolding(iofd_words::specs::Checks::checks))]
 pub(crate) fn refusal<A: Allocator>(state: &State<A>, user: UserNo, va: u64) -> Option<Cause>
-    ensures { result ≡ first_true (tests state.now (event.UserMap user va)) }
+    ensures { result ≡ first_true (checks (seen state.now) (event.UserMap user va)) }
 {
     if !pages::has_user(&state.config, user) {
         return Some(Cause::Id);

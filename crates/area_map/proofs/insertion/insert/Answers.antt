@@ -1,5 +1,6 @@
 use Rattle.std.proofs.Common.{◌≡◌, ◌∙◌, ◌≤◌, false, length, sym, ap, arith}
-use Rattle.area_map.specs.Areas.{areas_meet, with_area}
+use Rattle.area_map.specs.Areas.{with_area}
+use Rattle.iofd_words.specs.Areas.{areas_meet}
 use Rattle.std.specs.List.{insert}
 use Rattle.area_map.proofs.Added.{with_area-place, with_area-apart, length-with_area}
 use Rattle.area_map.proofs.insertion.insert.Goals as goal

@@ -2,13 +2,13 @@ use Rattle.std.proofs.Common.{refl, arith}
 use Rattle.iofd_words.specs.After.{changed, settle, without_areas, attached, detached}
 use Rattle.iofd_words.specs.Answers.{Answers}
 use Rattle.iofd_words.specs.Checks.{checks, refusal}
-use Rattle.iofd_words.specs.Policy.{outcomes}
+use Rattle.iofd_words.specs.Policy.{access_outcomes, outcomes}
 use Rattle.iofd_words.specs.Run.{IsRun, Lawful, after}
 use Rattle.iofd_words.proofs.laws.owed_flush_leaves_both_answers.Goals as goal
 
 -- the frame is the first of the two answers, the denial the second
 pub returns-clause-passed : goal.returns-clause-passed
-unfolding IsRun Lawful after refusal checks Answers changed settle without_areas attached detached outcomes
+unfolding IsRun Lawful after refusal checks Answers changed settle without_areas attached detached outcomes access_outcomes
 returns-clause-passed c = (
   (refl, refl, refl),
   (
@@ -30,7 +30,7 @@ returns-clause-passed c = (
 )
 
 pub returns-clause-denied : goal.returns-clause-denied
-unfolding IsRun Lawful after refusal checks Answers changed settle without_areas attached detached outcomes
+unfolding IsRun Lawful after refusal checks Answers changed settle without_areas attached detached outcomes access_outcomes
 returns-clause-denied c = (
   (refl, refl, refl),
   (

@@ -2,6 +2,7 @@ use Rattle.std.proofs.Common.{◌∙◌, ap, ◌++◌, ◌∷◌, []}
 use Rattle.iofd_words.specs.After.{changed}
 use Rattle.iofd_words.specs.Answers.{Answers}
 use Rattle.iofd_words.specs.Checks.{checks, refusal}
+use Rattle.iofd_words.specs.View.{view}
 use Rattle.iofd_words.specs.declared.event.Event.TheVariants as event
 use Rattle.iofd_words.specs.declared.rows.Object.{Object}
 use Rattle.iofd_words.specs.declared.rows.ObjectKind.TheVariants as kind
@@ -21,6 +22,6 @@ returns-clause-ok g c = λ at w tidy shows none.
     let unused = rw reserved.rows at inserted.unused in
     let object : Object = record { file = c.args.file; id = c.insert_reserved-id.result; kind = kind.Device c.args.device } in (
       rw shows.objects (fresh_id c.args.state.now.objects.rows c.args.file c.insert_reserved-id.result inserted.in_range.0 inserted.in_range.1 unused),
-      shows_bound w c.args.state.now c.args.file c.insert_reserved-id.result c.args.device c.insert_reserved-id.new.self c.push_reserved.new.self shows (tests_false (checks w (event.Bind c.args.file c.args.device)) 2 none) unused
+      shows_bound w c.args.state.now c.args.file c.insert_reserved-id.result c.args.device c.insert_reserved-id.new.self c.push_reserved.new.self shows (tests_false (checks (view w) (event.Bind c.args.file c.args.device)) 2 none) unused
           (rw reserved.rows at inserted.rows) (inserted.files ∙ reserved.files) (c.push_reserved.ensures.items ∙ ap (λ l. l ++ object ∷ []) c.reserve-2.ensures.items),
     )

@@ -7,7 +7,7 @@ use Rattle.iofd_words.specs.declared.query.Answer.TheVariants as answer
 use Rattle.std.proofs.lemmas.Bool.Decides.{nat_tests}
 use Rattle.iommufd_core.proofs.DeviceReads.{chosen_read, read_bytes}
 use Rattle.iommufd_core.proofs.DeviceWrites.{pass_in_pool}
-use Rattle.iommufd_core.proofs.OutcomesShown.{known_same}
+use Rattle.iommufd_core.proofs.ViewShown.{same_outcomes}
 use Rattle.iommufd_core.specs.Outcomes.{given_outcome}
 use Rattle.iommufd_core.proofs.device_read.read.Goals as goal
 
@@ -26,7 +26,7 @@ returns-in-Some g c = λ at w tidy shows short.
     let frame = c.in-Ok.frame in
     let iova = c.args.iova in
     let size = parts iova.0 c.args.len short in
-    let told : Passes frame ≡ given_outcome None (outcomes w c.args.device iova.0 Read) = c.in-Ok.ensures ∙ ap (given_outcome None) (known_same w c.args.state.now shows c.args.device iova.0 Read) in
+    let told : Passes frame ≡ given_outcome None (outcomes w c.args.device iova.0 Read) = c.in-Ok.ensures ∙ ap (given_outcome None) (same_outcomes w c.args.state.now shows c.args.device iova.0 Read) in
     let chosen = chosen_read at w c.args.device iova c.args.len (Passes frame) tidy told in
     let within = pass_in_pool w tidy.fit.pin_frames c.args.device iova.0 Read frame chosen.0 in
     let items = c.args.state.now.frames.items in
@@ -42,7 +42,7 @@ returns-in-None g c = λ at w tidy shows short.
     let frame = c.in-Ok.frame in
     let iova = c.args.iova in
     let size = parts iova.0 c.args.len short in
-    let told : Passes frame ≡ given_outcome None (outcomes w c.args.device iova.0 Read) = c.in-Ok.ensures ∙ ap (given_outcome None) (known_same w c.args.state.now shows c.args.device iova.0 Read) in
+    let told : Passes frame ≡ given_outcome None (outcomes w c.args.device iova.0 Read) = c.in-Ok.ensures ∙ ap (given_outcome None) (same_outcomes w c.args.state.now shows c.args.device iova.0 Read) in
     let chosen = chosen_read at w c.args.device iova c.args.len (Passes frame) tidy told in
     let within = pass_in_pool w tidy.fit.pin_frames c.args.device iova.0 Read frame chosen.0 in
     let items = c.args.state.now.frames.items in
@@ -52,7 +52,7 @@ returns-in-None g c = λ at w tidy shows short.
 
 pub returns-in-Err : goal.returns-in-Err
 returns-in-Err g c = λ at w tidy shows short.
-    let told = c.in-Err.ensures ∙ ap (given_outcome None) (known_same w c.args.state.now shows c.args.device c.args.iova.0 Read) in
+    let told = c.in-Err.ensures ∙ ap (given_outcome None) (same_outcomes w c.args.state.now shows c.args.device c.args.iova.0 Read) in
     let chosen = chosen_read at w c.args.device c.args.iova c.args.len _ tidy told in
     let fault = c.denied-in-Err.ensures w shows.settings in
     rw fault chosen.1

@@ -5,11 +5,12 @@ use Rattle.iofd_words.specs.After.{changed}
 use Rattle.iofd_words.specs.Checks.{checks, refusal}
 use Rattle.iofd_words.specs.Pages.{crosses}
 use Rattle.iofd_words.specs.Policy.{Passes, outcomes}
+use Rattle.iofd_words.specs.View.{view}
 use Rattle.iofd_words.specs.declared.event.Event.TheVariants as event
 use Rattle.iofd_words.specs.declared.fault.AccessKind.TheVariants.{Write}
 use Rattle.iommufd_core.proofs.BytesShown.{written, same_length}
 use Rattle.iommufd_core.proofs.DeviceWrites.{chosen_answer, pass_in_pool}
-use Rattle.iommufd_core.proofs.OutcomesShown.{known_same}
+use Rattle.iommufd_core.proofs.ViewShown.{same_outcomes}
 use Rattle.iommufd_core.specs.Bytes.{overwritten}
 use Rattle.iommufd_core.specs.Outcomes.{given_outcome}
 use Rattle.iommufd_core.proofs.device_write.commit.Goals as goal
@@ -24,10 +25,10 @@ returns-in-Ok g c = λ at w tidy shows none may.
     let frame = c.in-Ok.frame in
     let iova = c.args.iova in
     let bytes = c.args.bytes.now in
-    let told : Passes frame ≡ given_outcome c.args.via (outcomes w c.args.device iova.0 Write) = c.in-Ok.ensures ∙ ap (given_outcome c.args.via) (known_same w c.args.state.now shows c.args.device iova.0 Write) in
+    let told : Passes frame ≡ given_outcome c.args.via (outcomes w c.args.device iova.0 Write) = c.in-Ok.ensures ∙ ap (given_outcome c.args.via) (same_outcomes w c.args.state.now shows c.args.device iova.0 Write) in
     let answer = chosen_answer at w c.args.device iova bytes c.args.via (Passes frame) tidy told may in
     let within = pass_in_pool w tidy.fit.pin_frames c.args.device iova.0 Write frame answer.0 in
-    let short = ends_in_page iova.0 (length bytes) (tests_false (checks w (event.DeviceWrite c.args.device iova bytes)) 1 none) in
+    let short = ends_in_page iova.0 (length bytes) (tests_false (checks (view w) (event.DeviceWrite c.args.device iova bytes)) 1 none) in
     let old = c.args.state.now.frames.items in
     let put : c.put.new.frames.items ≡ overwritten (frame.0 * 4096 + iova.0 % 4096) bytes old = rw (c.start_of.ensures.value, c.as_slice.ensures.value) at c.put.ensures in
     let fits : frame.0 * 4096 + iova.0 % 4096 + length bytes ≤ length old = rw shows.frames (omega (arith, within, short)) in (
@@ -53,7 +54,7 @@ pub returns-in-Err : goal.returns-in-Err
 unfolding changed
 returns-in-Err g c = λ at w tidy shows none may.
     let iova = c.args.iova in
-    let told = c.in-Err.ensures ∙ ap (given_outcome c.args.via) (known_same w c.args.state.now shows c.args.device iova.0 Write) in
+    let told = c.in-Err.ensures ∙ ap (given_outcome c.args.via) (same_outcomes w c.args.state.now shows c.args.device iova.0 Write) in
     let answer = chosen_answer at w c.args.device iova c.args.bytes.now c.args.via _ tidy told may in
     let fault = c.fault_of.ensures w shows.settings in
     (rw fault answer.1, rw fault answer.2, shows)

@@ -1,4 +1,5 @@
 use Rattle.std.proofs.Common.{◌≡◌, Some, None, sym, ◌∙◌, subst}
+use Rattle.iommufd_core.proofs.ViewShown.{same_refusal}
 use Rattle.iommufd_core.proofs.Answering.{refused_lawful, refused_after, answered_lawful, answered_after, if_ok, on_err}
 use Rattle.iofd_words.specs.declared.refusal.Cause.{Cause}
 use Rattle.iommufd_core.specs.Shows.{Shows}
@@ -9,16 +10,16 @@ never cause is = cc
 
 pub returns-in-Some-clause-ok : goal.returns-in-Some-clause-ok
 returns-in-Some-clause-ok g c = λ pass w tidy shows may.
-    let is = sym (c.refusal.ensures w shows) ∙ c.in-Some.is in
+    let is = sym (c.refusal.ensures ∙ same_refusal w c.args.state.now shows c.args.act.now.event) ∙ c.in-Some.is in
     (refused_lawful _ c.args.at w pass c.args.act.now.event _ is, λ none. absurd (never _ (sym is ∙ none)), subst (λ after. Shows after c.args.state.now) (sym (refused_after _ c.args.at w pass c.args.act.now.event _ _ is)) shows)
 
 pub returns-in-None-clause-ok : goal.returns-in-None-clause-ok
 returns-in-None-clause-ok g c = if_ok c.commit.result _ _ (λ reply steps pass w tidy shows may.
-    let is = sym (c.refusal.ensures w shows) ∙ c.in-None.is in
+    let is = sym (c.refusal.ensures ∙ same_refusal w c.args.state.now shows c.args.act.now.event) ∙ c.in-None.is in
     let told = steps w tidy shows is (may is) in
     (answered_lawful _ c.args.at w pass c.args.act.now.event reply is told.0, λ none. told.1, subst (λ after. Shows after c.commit.new.state) (sym (answered_after _ c.args.at w pass c.args.act.now.event reply is)) told.2)) c.commit.ensures.ok
 
 pub returns-in-None-clause-memory : goal.returns-in-None-clause-memory
 returns-in-None-clause-memory g c = on_err c.commit.result _ _ (λ lacks records w tidy shows.
-    let is = sym (c.refusal.ensures w shows) ∙ c.in-None.is in
+    let is = sym (c.refusal.ensures ∙ same_refusal w c.args.state.now shows c.args.act.now.event) ∙ c.in-None.is in
     (is, lacks records w tidy shows is)) c.commit.ensures.memory

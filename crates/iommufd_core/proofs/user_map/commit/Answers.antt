@@ -5,6 +5,7 @@ use Rattle.iofd_words.specs.Answers.{Answers}
 use Rattle.iofd_words.proofs.Runs.{tests_false}
 use Rattle.iofd_words.specs.Checks.{checks, refusal}
 use Rattle.iofd_words.specs.Frames.{has_free}
+use Rattle.iofd_words.specs.View.{view}
 use Rattle.iofd_words.specs.declared.event.Event.TheVariants as event
 use Rattle.std.specs.Option.{option_map}
 use Rattle.iofd_words.specs.declared.reply.Reply.TheVariants as reply
@@ -23,7 +24,7 @@ returns-in_default-clause-ok g c = λ at via w tidy shows none may.
     let chosen : free_frame w.settings.pool w.user_pages w.pins ≡ None =
     let told = c.free_frame.ensures in let number = c.pool.ensures.value in let pages = c.deref.ensures.value in let pins = c.deref-2.ensures.value in let is = c.in_default.is in let pages_shown = shows.user_pages in let pins_shown = shows.pins in cc
     in
-    let free : not (has_free w.settings.pool w.user_pages w.pins) ≡ false = tests_false (checks w (event.UserMap c.args.user c.args.va)) 3 none in
+    let free : not (has_free w.settings.pool w.user_pages w.pins) ≡ false = tests_false (checks (view w) (event.UserMap c.args.user c.args.va)) 3 none in
     let lost = has_free_frame w.settings.pool w.user_pages w.pins ∙ ap (λ o. is_some o) chosen in
     absurd (never (rw lost at free))
 

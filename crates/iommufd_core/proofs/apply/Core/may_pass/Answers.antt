@@ -3,9 +3,9 @@ use Rattle.std.specs.List.{list_any}
 use Rattle.iofd_words.specs.FirstTrue.{first_true}
 use Rattle.iofd_words.specs.Look.{query_checks}
 use Rattle.iofd_words.specs.Run.{world_of}
+use Rattle.iofd_words.specs.View.{view}
 use Rattle.iofd_words.specs.declared.query.Query.TheVariants.{DeviceRead}
-use Rattle.iommufd_core.proofs.DeviceReads.{same_tests}
-use Rattle.iommufd_core.proofs.OutcomesShown.{known_same}
+use Rattle.iommufd_core.proofs.ViewShown.{same_outcomes, same_query_refusal}
 use Rattle.iommufd_core.specs.History.{is_pass_at}
 use Rattle.iommufd_core.proofs.apply.Core.may_pass.Goals as goal
 
@@ -18,8 +18,8 @@ returns-then-is_none g c =
     let state = c.self.inside.state in
     let w = world_of state.config c.self.inside.records.items in
     let shows = c.self.invariant.shows in
-    let same = same_tests w state shows c.args.device c.args.iova c.args.len in
-    let none : is_none (first_true (query_checks w (DeviceRead c.args.device c.args.iova c.args.len))) ≡ true =
-    ap (λ rows. is_none (first_true rows)) (sym same) ∙ ap is_none (sym c.refusal.ensures) ∙ none_if c.refusal.result c.if-is_none.ensures
+    let query = DeviceRead c.args.device c.args.iova c.args.len in
+    let none : is_none (first_true (query_checks (view w) query)) ≡ true =
+    ap is_none (sym (c.refusal.ensures ∙ same_query_refusal w state shows query)) ∙ none_if c.refusal.result c.if-is_none.ensures
     in
-    rw (← c.self.view_is, none) (c.may_pass.ensures ∙ ap (list_any (is_pass_at c.args.frame)) (known_same w state shows c.args.device c.args.iova.0 c.args.right))
+    rw (← c.self.view_is, none) (c.may_pass.ensures ∙ ap (list_any (is_pass_at c.args.frame)) (same_outcomes w state shows c.args.device c.args.iova.0 c.args.right))
