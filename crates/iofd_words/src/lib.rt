@@ -8,7 +8,6 @@ mod device_set;
 mod event;
 mod fault;
 mod flags;
-pub mod laws;
 mod lists;
 mod numbers;
 mod query;

@@ -10,7 +10,7 @@ use Rattle.iofd_words.specs.Attachments.{attachment_of}
 use Rattle.iofd_words.specs.Checks.{attach_checks, checks, refusal}
 use Rattle.iofd_words.specs.FirstTrue.{first_true}
 use Rattle.iofd_words.specs.Objects.{binding_of, has_hwpt, with_object}
-use Rattle.iofd_words.specs.Pinned.{ArePinned, have_own_memory}
+use Rattle.iofd_laws.specs.Pinned.{ArePinned, have_own_memory}
 use Rattle.iofd_words.specs.Pins.{ObjectPage, is_page, pages_of, pin_now, pinned_pages, settled}
 use Rattle.iofd_words.specs.View.{view}
 use Rattle.iofd_words.specs.World.{World}
@@ -23,14 +23,14 @@ use Rattle.iofd_words.specs.declared.rows.Attachment.{Attachment}
 use Rattle.iofd_words.specs.declared.rows.Object.{Object}
 use Rattle.iofd_words.specs.declared.rows.ObjectKind.TheVariants as kind
 use Rattle.iofd_words.specs.declared.width.Width.{Width}
-use Rattle.iofd_words.proofs.Bools.{and_true, both_true, clash}
-use Rattle.iofd_words.proofs.Each.{IsIn, of_any}
-use Rattle.iofd_words.proofs.ListTests.{false_else, filter_all, filter_nothing, or_right}
-use Rattle.iofd_words.proofs.Named.{file_is, id_is}
-use Rattle.iofd_words.proofs.PageLists.{all_pages, any-pinned, memory_of_page, pins_page}
-use Rattle.iofd_words.proofs.PageTables.{hwpt-with_object, hwpt_alike, pinned_alike, pinned_within}
-use Rattle.iofd_words.proofs.Runs.{tests_false}
-use Rattle.iofd_words.proofs.Settled.{settled_more, settled_same}
+use Rattle.iofd_laws.proofs.Bools.{and_true, both_true, clash}
+use Rattle.iofd_laws.proofs.Each.{IsIn, of_any}
+use Rattle.iofd_laws.proofs.ListTests.{false_else, filter_all, filter_nothing, or_right}
+use Rattle.iofd_laws.proofs.Named.{file_is, id_is}
+use Rattle.iofd_laws.proofs.PageLists.{all_pages, any-pinned, memory_of_page, pins_page}
+use Rattle.iofd_laws.proofs.PageTables.{hwpt-with_object, hwpt_alike, pinned_alike, pinned_within}
+use Rattle.iofd_laws.proofs.Runs.{tests_false}
+use Rattle.iofd_laws.proofs.Settled.{settled_more, settled_same}
 use Rattle.iommufd_core.specs.PinLists.{newly_pinned}
 use Rattle.iommufd_core.proofs.Detached.{one_memory, pinned_paid, some_row}
 

@@ -23,9 +23,9 @@ use Rattle.iofd_words.specs.declared.rows.Area.{Area}
 use Rattle.iofd_words.specs.declared.rows.Object.{Object}
 use Rattle.iofd_words.specs.declared.rows.ObjectKind.{ObjectKind}
 use Rattle.iofd_words.specs.declared.width.Width.{Width}
-use Rattle.iofd_words.proofs.Bools.{both_true}
-use Rattle.iofd_words.proofs.Found.{find-with_object}
-use Rattle.iofd_words.proofs.Paid.{pays_none}
+use Rattle.iofd_laws.proofs.Bools.{both_true}
+use Rattle.iofd_laws.proofs.Found.{find-with_object}
+use Rattle.iofd_laws.proofs.Paid.{pays_none}
 use Rattle.iommufd_core.specs.Held.{areas_at, is_proper, object_of, objects_in}
 use Rattle.iommufd_core.specs.PinLists.{newly_pinned, width_of}
 use Rattle.iommufd_core.specs.Shows.{Shows}

@@ -6,9 +6,9 @@ use Rattle.std.proofs.lemmas.List.Folds.{list_any_at}
 use Rattle.iofd_words.specs.After.{settle, without_areas}
 use Rattle.iofd_words.specs.Areas.{areas_of, is_of}
 use Rattle.iofd_words.specs.Checks.{checks, is_device_object, is_used, refusal}
-use Rattle.iofd_words.specs.Laws.{have_own_ids}
+use Rattle.iofd_laws.specs.Laws.{have_own_ids}
 use Rattle.iofd_words.specs.Objects.{has_hwpt, is_bound_as, is_bound_device, is_hwpt_over, is_object, kind_of, without_object}
-use Rattle.iofd_words.specs.Pinned.{ArePinned, have_own_memory}
+use Rattle.iofd_laws.specs.Pinned.{ArePinned, have_own_memory}
 use Rattle.iofd_words.specs.Pins.{pinned_pages, settled}
 use Rattle.iofd_words.specs.View.{view}
 use Rattle.iofd_words.specs.World.{World}
@@ -23,12 +23,12 @@ use Rattle.iofd_words.specs.declared.rows.ObjectKind.{ObjectKind}
 use Rattle.iofd_words.specs.declared.rows.ObjectKind.TheVariants as kind
 use Rattle.iofd_words.specs.declared.rows.Pin.{Pin}
 use Rattle.iofd_words.specs.declared.width.Width.{Width}
-use Rattle.iofd_words.proofs.Bools.{and_true, clash}
-use Rattle.iofd_words.proofs.Found.{all_filter}
-use Rattle.iofd_words.proofs.ListTests.{any-filter, false_else, filter_all}
-use Rattle.iofd_words.proofs.PageTables.{hwpt-filter, hwpt_alike}
-use Rattle.iofd_words.proofs.Runs.{tests_false}
-use Rattle.iofd_words.proofs.Settled.{kept_memory, kept_pins, named_by_area}
+use Rattle.iofd_laws.proofs.Bools.{and_true, clash}
+use Rattle.iofd_laws.proofs.Found.{all_filter}
+use Rattle.iofd_laws.proofs.ListTests.{any-filter, false_else, filter_all}
+use Rattle.iofd_laws.proofs.PageTables.{hwpt-filter, hwpt_alike}
+use Rattle.iofd_laws.proofs.Runs.{tests_false}
+use Rattle.iofd_laws.proofs.Settled.{kept_memory, kept_pins, named_by_area}
 use Rattle.iommufd_core.proofs.Objects.{areas_at_rows, areas_of_held, kind_at, kind_of_rows, value_at}
 use Rattle.iommufd_core.proofs.ObjectsGone.{any_without, areas-removed, found_without, may_go, objects-removed}
 use Rattle.iommufd_core.specs.Held.{is_proper, areas_at, object_of, objects_in}

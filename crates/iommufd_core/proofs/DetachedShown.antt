@@ -17,10 +17,10 @@ use Rattle.iofd_words.specs.declared.reply.Reply.TheVariants as reply
 use Rattle.iofd_words.specs.declared.rows.Attachment.{Attachment}
 use Rattle.iofd_words.specs.declared.rows.Object.{Object}
 use Rattle.iofd_words.specs.declared.rows.ObjectKind.TheVariants as kind
-use Rattle.iofd_words.proofs.Found.{all_filter}
-use Rattle.iofd_words.proofs.Owed.{table_of}
-use Rattle.iofd_words.proofs.Paid.{paid_areas_of}
-use Rattle.iofd_words.proofs.Runs.{tests_false}
+use Rattle.iofd_laws.proofs.Found.{all_filter}
+use Rattle.iofd_laws.proofs.Owed.{table_of}
+use Rattle.iofd_laws.proofs.Paid.{paid_areas_of}
+use Rattle.iofd_laws.proofs.Runs.{tests_false}
 use Rattle.iommufd_core.specs.Held.{areas_at, is_proper, object_of, objects_in, space_of}
 use Rattle.iommufd_core.specs.PinLists.{is_idle, is_unpinned}
 use Rattle.iommufd_core.specs.Shows.{Shows}

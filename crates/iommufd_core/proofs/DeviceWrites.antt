@@ -3,7 +3,7 @@ use Rattle.std.proofs.Common.{◌≡◌, ℕ, zero, suc, ◌^◌, ◌<◌, Bool,
 use Rattle.std.specs.List.{find, list_all}
 use Rattle.std.proofs.lemmas.List.Folds.{list_all-append}
 use Rattle.std.proofs.lemmas.Bool.Decides.{nat_tests}
-use Rattle.iofd_words.proofs.Bools.{and_true, both_true}
+use Rattle.iofd_laws.proofs.Bools.{and_true, both_true}
 use Rattle.iofd_words.specs.Answers.{Answers, write_reply}
 use Rattle.iofd_words.specs.Areas.{area_at, areas_of}
 use Rattle.iofd_words.specs.Attachments.{attachment_of, ioas_of_attachment}

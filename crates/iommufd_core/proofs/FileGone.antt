@@ -8,7 +8,7 @@ use Rattle.iofd_words.specs.After.{settle, without_areas}
 use Rattle.iofd_words.specs.Areas.{areas_of, is_of}
 use Rattle.iofd_words.specs.Checks.{checks, refusal}
 use Rattle.iofd_words.specs.Files as files
-use Rattle.iofd_words.specs.Laws.{have_own_ids}
+use Rattle.iofd_laws.specs.Laws.{have_own_ids}
 use Rattle.iofd_words.specs.Objects.{has_hwpt, is_bound_as, is_bound_device, is_object, objects_of}
 use Rattle.iofd_words.specs.Pins.{pinned_pages, settled}
 use Rattle.iofd_words.specs.View.{view}
@@ -24,14 +24,14 @@ use Rattle.iofd_words.specs.declared.rows.Object.{Object}
 use Rattle.iofd_words.specs.declared.rows.ObjectKind.{ObjectKind}
 use Rattle.iofd_words.specs.declared.rows.ObjectKind.TheVariants as kind
 use Rattle.iofd_words.specs.declared.rows.Pin.{Pin}
-use Rattle.iofd_words.proofs.Bools.{and_true, both_true, clash, not_true}
-use Rattle.iofd_words.proofs.Each.{IsIn, in_filter, in_found, of_any}
-use Rattle.iofd_words.proofs.Found.{all_filter, find-filter}
-use Rattle.iofd_words.proofs.ListTests.{alike, any-filter, any_weaker, none_stronger}
-use Rattle.iofd_words.proofs.Named.{file_is}
-use Rattle.iofd_words.proofs.PageTables.{hwpt-filter}
-use Rattle.iofd_words.proofs.Runs.{tests_false}
-use Rattle.iofd_words.proofs.Settled.{kept_memory, kept_pins, named_by_area}
+use Rattle.iofd_laws.proofs.Bools.{and_true, both_true, clash, not_true}
+use Rattle.iofd_laws.proofs.Each.{IsIn, in_filter, in_found, of_any}
+use Rattle.iofd_laws.proofs.Found.{all_filter, find-filter}
+use Rattle.iofd_laws.proofs.ListTests.{alike, any-filter, any_weaker, none_stronger}
+use Rattle.iofd_laws.proofs.Named.{file_is}
+use Rattle.iofd_laws.proofs.PageTables.{hwpt-filter}
+use Rattle.iofd_laws.proofs.Runs.{tests_false}
+use Rattle.iofd_laws.proofs.Settled.{kept_memory, kept_pins, named_by_area}
 use Rattle.iommufd_core.proofs.ObjectsGone.{device_rows, some_in}
 use Rattle.iommufd_core.specs.Held.{is_proper, areas_at, areas_in, kind_in, object_of, objects_in, table_kind}
 use Rattle.iommufd_core.specs.Memory.{is_over, holds_memory, without_memory, without_pins}

@@ -6,8 +6,8 @@ use Rattle.std.proofs.lemmas.List.Folds.{list_any_more}
 use Rattle.frame_memory.specs.FreeMap.{IsLeast, has_frame}
 use Rattle.std.specs.Option.{option_map}
 use Rattle.std.proofs.lemmas.Bool.Decides.{nat_tests}
-use Rattle.iofd_words.proofs.Bools.{and_true}
-use Rattle.iofd_words.proofs.OwnIds.{any_found}
+use Rattle.iofd_laws.proofs.Bools.{and_true}
+use Rattle.iofd_laws.proofs.OwnIds.{any_found}
 use Rattle.iofd_words.specs.Frames.{is_free, is_reached, has_free}
 use Rattle.iofd_words.specs.Limits.{first_outside}
 use Rattle.iofd_words.specs.Settings.{Settings, is_between}

@@ -4,14 +4,14 @@ use Rattle.std.specs.List.{cons_option, filter_map, find, list_all, range_with_l
 use Rattle.std.proofs.lemmas.List.{append-nil}
 use Rattle.std.proofs.lemmas.List.Elements.{filter_map-append}
 use Rattle.std.proofs.lemmas.Bool.Decides.{nat_tests}
-use Rattle.iofd_words.proofs.Bools.{and_true}
-use Rattle.iofd_words.proofs.Settled.{mapped_pages, mapped_pages_stay, settled_more}
+use Rattle.iofd_laws.proofs.Bools.{and_true}
+use Rattle.iofd_laws.proofs.Settled.{mapped_pages, mapped_pages_stay, settled_more}
 use Rattle.iofd_words.specs.After.{mapped_area, memory_object}
 use Rattle.iofd_words.specs.Areas.{with_area}
 use Rattle.iofd_words.specs.Frames.{frame_at}
 use Rattle.iofd_words.specs.Objects.{has_hwpt}
 use Rattle.iofd_words.specs.Pages.{page_of}
-use Rattle.iofd_words.specs.Pinned.{ArePinned}
+use Rattle.iofd_laws.specs.Pinned.{ArePinned}
 use Rattle.iofd_words.specs.Pins.{pages_of, pin_now, pinned_pages, settled}
 use Rattle.iofd_words.specs.Span.{size_of}
 use Rattle.iofd_words.specs.World.{World}

@@ -4,9 +4,9 @@ use Rattle.std.proofs.lemmas.Bool.Decides.{nat_tests}
 use Rattle.area_map.specs.Areas as own
 use Rattle.area_map.specs.Insertion.{insert_refusal}
 use Rattle.std.specs.List.{list_any}
-use Rattle.iofd_words.proofs.Bools.{and_true, or_false}
-use Rattle.iofd_words.proofs.Named.{file_is, id_is}
-use Rattle.iofd_words.proofs.Runs.{tests_false}
+use Rattle.iofd_laws.proofs.Bools.{and_true, or_false}
+use Rattle.iofd_laws.proofs.Named.{file_is, id_is}
+use Rattle.iofd_laws.proofs.Runs.{tests_false}
 use Rattle.iofd_words.specs.Checks.{checks, refusal}
 use Rattle.iofd_words.specs.After.{changed, mapped_area, memory_object, settle}
 use Rattle.iofd_words.specs.Areas.{areas_meet, areas_of, has_no_room, is_of}

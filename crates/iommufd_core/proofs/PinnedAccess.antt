@@ -3,12 +3,12 @@ use Rattle.std.proofs.Common.{◌≡◌, ℕ, zero, suc, ◌+◌, ◌-◌, ◌*�
 use Rattle.std.proofs.Math.Nat.{div-lt_iff_lt-mul, div-add-mod}
 use Rattle.std.specs.List.{filter, find, list_all, list_any, range_with_len}
 use Rattle.std.proofs.lemmas.Bool.Decides.{nat_tests}
-use Rattle.iofd_words.proofs.Bools.{and_true, both_true}
-use Rattle.iofd_words.proofs.PageTables.{hwpt_alike}
-use Rattle.iofd_words.proofs.PageLists.{any-pinned, at_page, pins_page}
+use Rattle.iofd_laws.proofs.Bools.{and_true, both_true}
+use Rattle.iofd_laws.proofs.PageTables.{hwpt_alike}
+use Rattle.iofd_laws.proofs.PageLists.{any-pinned, at_page, pins_page}
 use Rattle.iofd_words.specs.Areas.{area_at, areas_of, is_of}
 use Rattle.iofd_words.specs.Attachments.{attachment_of, ioas_of, ioas_of_attachment}
-use Rattle.iofd_words.specs.Fits.{is_of_pages}
+use Rattle.iofd_laws.specs.Fits.{is_of_pages}
 use Rattle.iofd_words.specs.Objects.{has_hwpt, is_hwpt_over, is_object, kind_of}
 use Rattle.iofd_words.specs.Pages.{is_whole}
 use Rattle.iofd_words.specs.Pins.{is_page, pages_of, pinned_frame, pinned_pages}

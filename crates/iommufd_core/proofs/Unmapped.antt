@@ -8,16 +8,16 @@ use Rattle.area_map.specs.Areas.{AreKept, areas_outside, areas_within, bytes_of,
 use Rattle.std.proofs.lemmas.Bool.Decides.{nat_tests}
 use Rattle.std.proofs.lemmas.List.Sums.{sum_by-cons}
 use Rattle.area_map.proofs.Kept.{length-filter-le}
-use Rattle.iofd_words.proofs.Bools.{and_true}
-use Rattle.iofd_words.proofs.Found.{all_filter}
-use Rattle.iofd_words.proofs.Runs.{tests_false}
-use Rattle.iofd_words.proofs.Settled.{kept_memory, kept_pins, named_by_area}
+use Rattle.iofd_laws.proofs.Bools.{and_true}
+use Rattle.iofd_laws.proofs.Found.{all_filter}
+use Rattle.iofd_laws.proofs.Runs.{tests_false}
+use Rattle.iofd_laws.proofs.Settled.{kept_memory, kept_pins, named_by_area}
 use Rattle.iofd_words.specs.After.{settle, without_areas}
 use Rattle.iofd_words.specs.Areas.{areas_of, is_cut, is_of, is_touched, is_waiting, touched, touched_bytes, unmapped_span, with_leaving}
 use Rattle.iofd_words.specs.Attachments.{devices_of}
 use Rattle.iofd_words.specs.Bounds.{Bounds}
 use Rattle.iofd_words.specs.Checks.{checks, refusal}
-use Rattle.iofd_words.specs.Fits.{devices_rise, is_of_pages}
+use Rattle.iofd_laws.specs.Fits.{devices_rise, is_of_pages}
 use Rattle.iofd_words.specs.Pages.{is_above_sum, is_whole}
 use Rattle.iofd_words.specs.Span.{lies_in, size_of}
 use Rattle.iofd_words.specs.View.{view}

@@ -3,10 +3,10 @@ use Rattle.std.specs.Prelude.{◌≡◌, ℕ, true, Option, None}
 use Rattle.iofd_words.specs.After.{changed}
 use Rattle.iofd_words.specs.Answers.{Answers}
 use Rattle.iofd_words.specs.Checks.{refusal}
-use Rattle.iofd_words.specs.Debts.{DebtsAttached}
-use Rattle.iofd_words.specs.Fits.{RowsFit}
-use Rattle.iofd_words.specs.Laws.{have_own_ids}
-use Rattle.iofd_words.specs.Pinned.{ArePinned}
+use Rattle.iofd_laws.specs.Debts.{DebtsAttached}
+use Rattle.iofd_laws.specs.Fits.{RowsFit}
+use Rattle.iofd_laws.specs.Laws.{have_own_ids}
+use Rattle.iofd_laws.specs.Pinned.{ArePinned}
 use Rattle.iofd_words.specs.World.{World}
 use Rattle.iofd_words.specs.declared.event.Event.{Event}
 use Rattle.iofd_words.specs.declared.numbers.FrameNo.{FrameNo}

@@ -4,7 +4,7 @@ ghost use Rattle.std.specs.Prelude.{◌≡◌, ◌==◌, ◌≤◌, true, false,
 ghost use Rattle.std.specs.List.{list_all};
 ghost use Rattle.iofd_words.specs.Attachments.{devices_of, is_attached_to};
 ghost use Rattle.iofd_words.specs.Files as files;
-ghost use Rattle.iofd_words.specs.Fits.{devices_rise};
+ghost use Rattle.iofd_laws.specs.Fits.{devices_rise};
 ghost use Rattle.iommufd_core.specs.Held.{objects_in};
 ghost use Rattle.iommufd_core.specs.Mapping.{is_over};
 

@@ -27,8 +27,6 @@ mod pages;
 mod pins;
 mod spaces;
 mod state;
-#[cfg(test)]
-mod tests;
 mod unmap;
 mod user_map;
 

@@ -52,26 +52,38 @@ fn ids_belong_to_a_file(rt: HostRuntime) -> Result<(), Fail> {
 }
 
 #[test]
-fn values_and_users(rt: HostRuntime) -> Result<(), Fail> {
+fn a_value_is_changed_in_place(rt: HostRuntime) -> Result<(), Fail> {
     let mut table = ObjectTable::new(rt.alloc(), 1)?;
     let id = table.reserve(FIRST)?;
     assert_eq!(rt; table.insert_reserved(FIRST, Kind::Ioas, 10), id);
     *table.get_mut(FIRST, Kind::Ioas, id)? = 11;
     assert_eq!(rt; table.get(FIRST, Kind::Ioas, id), Ok(&11));
     assert_eq!(rt; table.get_mut(FIRST, Kind::Hwpt, id), refused(Cause::Id));
+    Ok(())
+}
+
+#[test]
+fn users_hold_an_object(rt: HostRuntime) -> Result<(), Fail> {
+    let mut table = ObjectTable::new(rt.alloc(), 1)?;
+    let id = table.reserve(FIRST)?;
+    assert_eq!(rt; table.insert_reserved(FIRST, Kind::Ioas, 10), id);
     assert_eq!(rt; table.users(FIRST, Kind::Ioas, id), Ok(0));
     table.add_user(FIRST, Kind::Ioas, id)?;
     assert_eq!(rt; table.users(FIRST, Kind::Ioas, id), Ok(1));
     assert_eq!(rt; table.destroy(FIRST, Kind::Ioas, id), refused(Cause::InUse));
-    assert_eq!(rt; table.destroy(FIRST, Kind::Hwpt, id), refused(Cause::Id));
     table.remove_user(FIRST, Kind::Ioas, id)?;
-    assert_eq!(rt; table.destroy(FIRST, Kind::Ioas, id), Ok(11));
+    assert_eq!(rt; table.destroy(FIRST, Kind::Ioas, id), Ok(10));
+    Ok(())
+}
+
+#[test]
+fn a_freed_id_comes_again(rt: HostRuntime) -> Result<(), Fail> {
+    let mut table = ObjectTable::new(rt.alloc(), 1)?;
+    let id = told(table.insert(FIRST, Kind::Ioas, 10))?;
+    assert_eq!(rt; table.destroy(FIRST, Kind::Hwpt, id), refused(Cause::Id));
+    assert_eq!(rt; table.destroy(FIRST, Kind::Ioas, id), Ok(10));
     assert_eq!(rt; table.destroy(FIRST, Kind::Ioas, id), refused(Cause::Id));
-    assert_eq!(rt;
-        told(table.insert(FIRST, Kind::Access, 12)),
-        Ok(id),
-        "a freed id comes again"
-    );
+    assert_eq!(rt; told(table.insert(FIRST, Kind::Access, 12)), Ok(id));
     Ok(())
 }
 

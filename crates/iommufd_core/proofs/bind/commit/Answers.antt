@@ -6,7 +6,7 @@ use Rattle.iofd_words.specs.View.{view}
 use Rattle.iofd_words.specs.declared.event.Event.TheVariants as event
 use Rattle.iofd_words.specs.declared.rows.Object.{Object}
 use Rattle.iofd_words.specs.declared.rows.ObjectKind.TheVariants as kind
-use Rattle.iofd_words.proofs.Runs.{tests_false}
+use Rattle.iofd_laws.proofs.Runs.{tests_false}
 use Rattle.iommufd_core.proofs.NeverRefused.{bind_taken}
 use Rattle.iommufd_core.proofs.ObjectsMoved.{fresh_id, shows_bound}
 use Rattle.iommufd_core.proofs.bind.commit.Goals as goal

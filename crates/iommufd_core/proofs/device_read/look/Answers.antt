@@ -1,5 +1,5 @@
 use Rattle.std.proofs.Common.{sym, ap, ◌∙◌}
-use Rattle.iofd_words.proofs.Runs.{tests_false}
+use Rattle.iofd_laws.proofs.Runs.{tests_false}
 use Rattle.iofd_words.specs.Look.{query_checks}
 use Rattle.iofd_words.specs.declared.query.Query.TheVariants.{DeviceRead}
 use Rattle.iommufd_core.specs.Choice.{last_of}

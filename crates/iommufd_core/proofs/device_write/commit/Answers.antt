@@ -1,6 +1,6 @@
 use Rattle.std.proofs.Common.{◌≡◌, ℕ, ◌+◌, ◌*◌, ◌%◌, ◌≤◌, false, length, ◌∙◌, ap, arith}
 use Rattle.std.proofs.lemmas.Bool.Decides.{nat_tests}
-use Rattle.iofd_words.proofs.Runs.{tests_false}
+use Rattle.iofd_laws.proofs.Runs.{tests_false}
 use Rattle.iofd_words.specs.After.{changed}
 use Rattle.iofd_words.specs.Checks.{checks, refusal}
 use Rattle.iofd_words.specs.Pages.{crosses}

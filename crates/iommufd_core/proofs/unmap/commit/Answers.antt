@@ -2,7 +2,7 @@ use Rattle.std.proofs.Common.{◌≡◌, ◌<◌, ℕ, true, false, length, arit
 use Rattle.std.proofs.lemmas.Result.{OkIff-at_ok}
 use Rattle.iofd_words.specs.After.{changed}
 use Rattle.iofd_words.specs.Answers.{Answers}
-use Rattle.iofd_words.proofs.Bools.{not_false}
+use Rattle.iofd_laws.proofs.Bools.{not_false}
 use Rattle.iommufd_core.proofs.Answering.{on_err_same}
 use Rattle.iommufd_core.proofs.NeverRefused.{never_strange}
 use Rattle.iommufd_core.proofs.Unmapped.{attached_is, bytes_fit, bytes_shown, converted, names_span, shows_pending, shows_removed, touched_within, waits_shown}

@@ -1,0 +1,102 @@
+-- Every event keeps each debtor attached to the address space of its area.
+use Rattle.std.proofs.Common.{◌≡◌, ℕ, Bool, true, false, not, Option, Some, None, refl, is_some}
+use Rattle.iofd_words.specs.After.{changed, map_changes, attach_changes, detach_changes, settle, without_areas, attached, detached, mapped_area}
+use Rattle.iofd_words.specs.Answers.{Answers, IsHwptOf}
+use Rattle.iofd_words.specs.Areas.{is_touched}
+use Rattle.iofd_words.specs.Attachments.{attachment_of}
+use Rattle.iofd_words.specs.Checks.{checks, refusal, is_used}
+use Rattle.iofd_laws.specs.Debts.{DebtsAttached}
+use Rattle.iofd_words.specs.Files.{user_of, device_of}
+use Rattle.iofd_laws.specs.Laws.{have_own_ids}
+use Rattle.iofd_words.specs.Objects.{binding_of, has_ioas, kind_of}
+use Rattle.iofd_words.specs.Settings.{DeviceSettings}
+use Rattle.iofd_words.specs.View.{view}
+use Rattle.iofd_words.specs.World.{World}
+use Rattle.iofd_words.specs.declared.event.Event.{Event}
+use Rattle.iofd_words.specs.declared.event.Event.TheVariants as event
+use Rattle.iofd_words.specs.declared.event.MapRequest.{MapRequest}
+use Rattle.iofd_words.specs.declared.numbers.DeviceNo.{DeviceNo}
+use Rattle.iofd_words.specs.declared.numbers.FileNo.{FileNo}
+use Rattle.iofd_words.specs.declared.numbers.ObjId.{ObjId}
+use Rattle.iofd_words.specs.declared.numbers.UserNo.{UserNo}
+use Rattle.iofd_words.specs.declared.reply.Reply.{Reply}
+use Rattle.iofd_words.specs.declared.reply.Reply.TheVariants as reply
+use Rattle.iofd_words.specs.declared.rows.Attachment.{Attachment}
+use Rattle.iofd_words.specs.declared.rows.Object.{Object}
+use Rattle.iofd_words.specs.declared.rows.ObjectKind.TheVariants as kind
+use Rattle.iofd_laws.proofs.AttachMoves.{owed_attached, owed_detached}
+use Rattle.iofd_laws.proofs.Moves.{owed_area, owed_fewer, owed_flush, owed_leaving, owed_object}
+use Rattle.iofd_laws.proofs.ObjectsGo.{owed_closed, owed_destroyed}
+use Rattle.iofd_laws.proofs.Owed.{EachOwed, debts_attached, each_owed, space_of}
+use Rattle.iofd_laws.proofs.OwnIds.{keeps_own_ids, unused}
+use Rattle.iofd_laws.proofs.Runs.{test_at, tests_false}
+
+-- what holds of every world of a run
+pub record IsSound (w : World) : Type 0 where
+  pub own_ids : have_own_ids w.objects ≡ true
+  pub debts : DebtsAttached w
+
+abbrev IsOwed : World → Type 0
+IsOwed w = EachOwed w.objects w.attachments w.areas
+
+-- ---- what the refusals rule out
+
+not_not : (b : Bool) → not b ≡ false → b ≡ true
+not_not true is = refl
+not_not false is = cc
+
+map_has_space : (w : World) (file : FileNo) (request : MapRequest) → refusal w (event.Map file request) ≡ None → has_ioas w.objects file request.ioas ≡ true
+unfolding refusal checks
+map_has_space w file request none = not_not _ (tests_false (checks (view w) (event.Map file request)) 6 none)
+
+destroy_unused : (w : World) (file : FileNo) (id : ObjId) → refusal w (event.Destroy file id) ≡ None → is_used (view w) file id (kind_of w.objects file id) ≡ false
+unfolding refusal checks
+destroy_unused w file id none = tests_false (checks (view w) (event.Destroy file id)) 2 none
+
+attach_free : (w : World) (device : DeviceNo) (pt_id : ObjId) (object : Object) → binding_of w.objects device ≡ Some object → refusal w (event.Attach device pt_id) ≡ None → is_some (attachment_of w.attachments device) ≡ false
+unfolding refusal checks
+attach_free w device pt_id object is none = let test = tests_false (checks (view w) (event.Attach device pt_id)) 0 none in rw (is, test_at) at test
+
+attach_has_space : (w : World) (device : DeviceNo) (pt_id : ObjId) (object : Object) → binding_of w.objects device ≡ Some object → refusal w (event.Attach device pt_id) ≡ None → has_ioas w.objects object.file pt_id ≡ true
+unfolding refusal checks
+attach_has_space w device pt_id object is none = let test = tests_false (checks (view w) (event.Attach device pt_id)) 1 none in not_not _ (rw (is, test_at) at test)
+
+-- ---- each event
+
+keeps_owed : (at : ℕ) (w : World) (e : Event) (answer : Reply) → refusal w e ≡ None → Answers w e answer → have_own_ids w.objects ≡ true → IsOwed w → IsOwed (changed at w e answer)
+unfolding changed settle without_areas attached detached Answers
+keeps_owed at w (event.IoasAlloc file) (reply.Id id) none answers own each =
+    owed_object w.objects w.attachments w.areas (record { file = file; id = id; kind = kind.Ioas }) (unused w.objects file id answers) (λ ioas is. cc) each
+keeps_owed at w (event.Map file request) (reply.Iova iova) none answers own each = mapped (user_of w.settings file)
+  where
+    mapped : (user : Option UserNo) → IsOwed (map_changes at w file request user)
+    mapped None = each
+    mapped (Some user) = owed_area w.objects w.attachments w.areas (mapped_area at file request) refl (space_of w.objects file request.ioas (map_has_space w file request none)) each
+keeps_owed at w (event.Unmap file request) (reply.Bytes count) none answers own each = owed_fewer w.objects w.attachments w.areas (λ area. not (is_touched file request area)) each
+keeps_owed at w (event.Unmap file request) (reply.Pending errno) none answers own each = owed_leaving w.objects w.attachments w.areas file request each
+keeps_owed at w (event.Destroy file id) reply.Done none answers own each = owed_destroyed w file id (destroy_unused w file id none) each
+keeps_owed at w (event.Close file) reply.Done none answers own each = owed_closed w.objects w.attachments w.areas file each
+keeps_owed at w (event.UserMap user va) (reply.Frame frame) none answers own each = each
+keeps_owed at w (event.Bind file device) (reply.Id id) none answers own each =
+    owed_object w.objects w.attachments w.areas (record { file = file; id = id; kind = kind.Device device }) (unused w.objects file id answers) (λ ioas is. cc) each
+keeps_owed at w (event.Attach device pt_id) (reply.Id id) none answers own each = bound (binding_of w.objects device) refl (device_of w.settings device) answers
+  where
+    bound : (object : Option Object) → binding_of w.objects device ≡ object → (settings : Option DeviceSettings) → IsHwptOf w pt_id id object settings → IsOwed (attach_changes w device pt_id id object settings)
+    bound None is settings never = absurd never
+    bound (Some object) is None never = absurd never
+    bound (Some object) is (Some settings) hwpt =
+        owed_attached w device object.file pt_id id settings.width own (attach_free w device pt_id object is none) (space_of w.objects object.file pt_id (attach_has_space w device pt_id object is none)) hwpt each
+keeps_owed at w (event.Detach device) reply.Done none answers own each = attached_or_not (attachment_of w.attachments device)
+  where
+    attached_or_not : (a : Option Attachment) → IsOwed (detach_changes w device a)
+    attached_or_not None = each
+    attached_or_not (Some a) = owed_detached w.objects w.attachments w.areas device a each
+keeps_owed at w (event.Flush device) reply.Done none answers own each = owed_flush w.objects w.attachments w.areas device each
+keeps_owed at w (event.DeviceWrite device iova bytes) (reply.Passed frame) none answers own each = each
+keeps_owed at w e answer none answers own each = each
+
+pub keeps_sound : (at : ℕ) (w : World) (e : Event) (answer : Reply) → refusal w e ≡ None → Answers w e answer → IsSound w → IsSound (changed at w e answer)
+keeps_sound at w e answer none answers sound = record {
+  own_ids = keeps_own_ids at w e answer none answers sound.own_ids;
+  debts = debts_attached (changed at w e answer) (keeps_owed at w e answer none answers sound.own_ids (each_owed w sound.debts));
+}

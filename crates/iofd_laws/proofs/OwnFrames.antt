@@ -1,0 +1,116 @@
+-- Each page in a user's memory has a frame of its own.
+use Rattle.std.proofs.Common.{◌≡◌, ℕ, zero, suc, ◌<◌, true, false, ◌||◌, not, eqb, Option, Some, None, List, [], ◌∷◌, ◌++◌, map, Contains, refl, sym, ◌∙◌, subst, arith, IsTrue}
+use Rattle.std.specs.List.{list_any}
+use Rattle.std.proofs.lemmas.Bool.Decides.{nat_tests}
+use Rattle.iofd_words.specs.After.{changed, map_changes, attach_changes, detach_changes, settle, without_areas, attached, detached}
+use Rattle.iofd_words.specs.Answers.{Answers, write_reply}
+use Rattle.iofd_words.specs.Attachments.{attachment_of}
+use Rattle.iofd_words.specs.Checks.{refusal}
+use Rattle.iofd_words.specs.Files.{user_of, device_of}
+use Rattle.iofd_words.specs.Frames.{is_free, is_reached}
+use Rattle.iofd_laws.specs.Laws.{have_own_frames, WasFree}
+use Rattle.iofd_words.specs.Objects.{binding_of}
+use Rattle.iofd_words.specs.Policy.{Outcome, Passes, Denied, outcomes}
+use Rattle.iofd_words.specs.Run.{IsAnswer, Lawful}
+use Rattle.iofd_words.specs.Settings.{DeviceSettings}
+use Rattle.iofd_words.specs.World.{World}
+use Rattle.iofd_words.specs.declared.event.Event.{Event}
+use Rattle.iofd_words.specs.declared.event.Event.TheVariants as event
+use Rattle.iofd_words.specs.declared.fault.AccessKind.TheVariants.{Write}
+use Rattle.iofd_words.specs.declared.numbers.DeviceNo.{DeviceNo}
+use Rattle.iofd_words.specs.declared.numbers.FrameNo.{FrameNo}
+use Rattle.iofd_words.specs.declared.numbers.UserNo.{UserNo}
+use Rattle.iofd_words.specs.declared.record.Record.{Record}
+use Rattle.iofd_words.specs.declared.refusal.Cause.{Cause}
+use Rattle.iofd_words.specs.declared.reply.Reply.{Reply}
+use Rattle.iofd_words.specs.declared.reply.Reply.TheVariants as reply
+use Rattle.iofd_words.specs.declared.rows.Attachment.{Attachment}
+use Rattle.iofd_words.specs.declared.rows.Object.{Object}
+use Rattle.iofd_words.specs.declared.rows.Pin.{Pin}
+use Rattle.iofd_words.specs.declared.rows.UserPage.{UserPage}
+use Rattle.iofd_laws.proofs.Bools.{or_false, and_true, both_false, both_true, not_true, not_false}
+
+-- ---- a free frame is reached by nobody
+
+free_parts : (pool : ℕ) (pages : List UserPage) (pins : List Pin) (frame : ℕ) → IsTrue (is_free pool pages pins frame) → (frame < pool) × (is_reached pages pins frame ≡ false)
+free_parts pool pages pins frame free = grind (arith, nat_tests)
+
+no_page : (pages : List UserPage) (pins : List Pin) (frame : ℕ) → is_reached pages pins frame ≡ false → list_any (λ (p : UserPage). eqb p.frame.0 frame) pages ≡ false
+no_page pages pins frame free = grind (arith, nat_tests)
+
+flipped : (m n : ℕ) → eqb m n ≡ false → eqb n m ≡ false
+flipped m n is = grind (arith, nat_tests)
+
+refused_frame : (cause : Cause) (frame : FrameNo) → reply.Refused (record { cause = cause }) ≡ reply.Frame frame → ⊥
+refused_frame cause frame is = cc
+
+-- ---- one more page
+
+any_more : (pages : List UserPage) (page : UserPage) (frame : ℕ) → list_any (λ (p : UserPage). eqb p.frame.0 frame) (pages ++ page ∷ []) ≡ (list_any (λ (p : UserPage). eqb p.frame.0 frame) pages || eqb page.frame.0 frame)
+any_more [] page frame = grind (arith, nat_tests)
+any_more (p ∷ pages) page frame = let rest = any_more pages page frame in grind (arith, nat_tests)
+
+own_frames_more : (pages : List UserPage) (page : UserPage) → list_any (λ (p : UserPage). eqb p.frame.0 page.frame.0) pages ≡ false → have_own_frames pages ≡ true → have_own_frames (pages ++ page ∷ []) ≡ true
+own_frames_more [] page free own = refl
+own_frames_more (p ∷ pages) page free own =
+    let frees = or_false (eqb p.frame.0 page.frame.0) (list_any (λ (q : UserPage). eqb q.frame.0 page.frame.0) pages) free in
+    let owns = and_true (not (list_any (λ (q : UserPage). eqb q.frame.0 p.frame.0) pages)) (have_own_frames pages) own in
+    let differ : eqb page.frame.0 p.frame.0 ≡ false = flipped p.frame.0 page.frame.0 frees.0 in
+    let more = any_more pages page p.frame.0 ∙ both_false _ _ (not_true _ owns.0) differ in
+    both_true _ _ (not_false _ more) (own_frames_more pages page frees.1 owns.1)
+
+-- ---- every event keeps them apart
+
+pub keeps_own_frames : (at : ℕ) (w : World) (e : Event) (answer : Reply) → refusal w e ≡ None → Answers w e answer → have_own_frames w.user_pages ≡ true → have_own_frames (changed at w e answer).user_pages ≡ true
+unfolding changed settle without_areas attached detached Answers
+keeps_own_frames at w (event.IoasAlloc file) (reply.Id id) none answers own = own
+keeps_own_frames at w (event.Map file request) (reply.Iova iova) none answers own = mapped (user_of w.settings file)
+  where
+    mapped : (user : Option UserNo) → have_own_frames (map_changes at w file request user).user_pages ≡ true
+    mapped None = own
+    mapped (Some user) = own
+keeps_own_frames at w (event.Unmap file request) (reply.Bytes count) none answers own = own
+keeps_own_frames at w (event.Unmap file request) (reply.Pending errno) none answers own = own
+keeps_own_frames at w (event.Destroy file id) reply.Done none answers own = own
+keeps_own_frames at w (event.Close file) reply.Done none answers own = own
+keeps_own_frames at w (event.UserMap user va) (reply.Frame frame) none answers own =
+    own_frames_more w.user_pages _ (no_page w.user_pages w.pins frame.0 (free_parts w.settings.pool w.user_pages w.pins frame.0 answers).1) own
+keeps_own_frames at w (event.Bind file device) (reply.Id id) none answers own = own
+keeps_own_frames at w (event.Attach device pt_id) (reply.Id id) none answers own = bound (binding_of w.objects device) (device_of w.settings device)
+  where
+    bound : (object : Option Object) (settings : Option DeviceSettings) → have_own_frames (attach_changes w device pt_id id object settings).user_pages ≡ true
+    bound None settings = own
+    bound (Some object) None = own
+    bound (Some object) (Some settings) = own
+keeps_own_frames at w (event.Detach device) reply.Done none answers own = attached_or_not (attachment_of w.attachments device)
+  where
+    attached_or_not : (a : Option Attachment) → have_own_frames (detach_changes w device a).user_pages ≡ true
+    attached_or_not None = own
+    attached_or_not (Some a) = own
+keeps_own_frames at w (event.Flush device) reply.Done none answers own = own
+keeps_own_frames at w (event.DeviceWrite device iova bytes) (reply.Passed frame) none answers own = own
+keeps_own_frames at w e answer none answers own = own
+
+-- ---- a frame that is given out was free
+
+-- a write is not answered with a frame that is given out
+never_written : (w : World) (device : DeviceNo) (address : ℕ) (os : List Outcome) (frame : FrameNo) → Contains (map (write_reply w device address) os) (reply.Frame frame) → ⊥
+never_written w device address [] frame (k, within, is) = absurd (omega (arith, within))
+never_written w device address (Passes f ∷ os) frame (zero, within, is) = cc
+never_written w device address (Denied reason ∷ os) frame (zero, within, is) = cc
+never_written w device address (o ∷ os) frame (suc k, within, is) = never_written w device address os frame (k, omega (arith, within), is)
+
+given_free : (w : World) (e : Event) (frame : FrameNo) → Answers w e (reply.Frame frame) → WasFree w frame
+unfolding Answers
+given_free w (event.UserMap user va) frame answers = free_parts w.settings.pool w.user_pages w.pins frame.0 answers
+given_free w (event.DeviceWrite device iova bytes) frame answers =
+    absurd (never_written w device iova.0 (outcomes w device iova.0 Write) frame answers)
+given_free w e frame answers = absurd answers
+
+pub lawful_frame : {A : Type 0} (w : World) (r : Record A) (frame : FrameNo) → Lawful w r → r.reply ≡ reply.Frame frame → WasFree w frame
+unfolding Lawful
+lawful_frame {A = A} w r frame lawful is = by_answer (refusal w r.event) lawful.0
+  where
+    by_answer : (o : Option Cause) → IsAnswer w r o → WasFree w frame
+    by_answer (Some cause) answer = let other = sym answer ∙ is in absurd (refused_frame cause frame other)
+    by_answer None answer = given_free w r.event frame (subst (Answers w r.event) is answer)

@@ -1,0 +1,11 @@
+use Rattle.std.proofs.Common.{◌≡◌, true, refl}
+use Rattle.iofd_laws.specs.Laws.{are_apart}
+use Rattle.iofd_words.specs.Run.{IsRun, world_of}
+use Rattle.iofd_words.specs.World.{opening}
+use Rattle.iofd_laws.proofs.AreasApart.{keeps_apart}
+use Rattle.iofd_laws.proofs.Runs.{run_keeps}
+use Rattle.iofd_laws.proofs.every_run.areas_never_overlap.Goals as goal
+
+pub returns : goal.returns
+unfolding IsRun world_of
+returns g c = λ settings records run. run_keeps (λ w. are_apart w.areas ≡ true) keeps_apart 0 (opening settings) records run refl

@@ -1,0 +1,11 @@
+use Rattle.std.proofs.Common.{◌≡◌, true, refl}
+use Rattle.iofd_laws.specs.Laws.{have_own_ids}
+use Rattle.iofd_words.specs.Run.{IsRun, world_of}
+use Rattle.iofd_words.specs.World.{opening}
+use Rattle.iofd_laws.proofs.OwnIds.{keeps_own_ids}
+use Rattle.iofd_laws.proofs.Runs.{run_keeps}
+use Rattle.iofd_laws.proofs.every_run.ids_are_unique.Goals as goal
+
+pub returns : goal.returns
+unfolding IsRun world_of
+returns g c = λ settings records run. run_keeps (λ w. have_own_ids w.objects ≡ true) keeps_own_ids 0 (opening settings) records run refl

@@ -1,0 +1,52 @@
+use Rattle.std.proofs.Common.{refl, arith}
+use Rattle.iofd_words.specs.After.{changed, settle, without_areas, attached, detached}
+use Rattle.iofd_words.specs.Answers.{Answers}
+use Rattle.iofd_words.specs.Checks.{checks, refusal}
+use Rattle.iofd_words.specs.Policy.{access_outcomes, outcomes}
+use Rattle.iofd_words.specs.Run.{IsRun, Lawful, after}
+use Rattle.iofd_laws.proofs.worked_script.owed_flush_leaves_both_answers.Goals as goal
+
+-- the frame is the first of the two answers, the denial the second
+pub returns-clause-passed : goal.returns-clause-passed
+unfolding IsRun Lawful after refusal checks Answers changed settle without_areas attached detached outcomes access_outcomes
+returns-clause-passed c = (
+  (refl, refl, refl),
+  (
+    (refl, refl, refl),
+    (
+      (refl, refl, refl),
+      (
+        (refl, refl, refl),
+        (
+          (refl, refl, refl),
+          (
+            (refl, refl, refl),
+            (((0, omega arith, refl), refl, refl), (((refl, refl), refl, refl), (((0, omega arith, refl), refl, refl), tt))),
+          ),
+        ),
+      ),
+    ),
+  ),
+)
+
+pub returns-clause-denied : goal.returns-clause-denied
+unfolding IsRun Lawful after refusal checks Answers changed settle without_areas attached detached outcomes access_outcomes
+returns-clause-denied c = (
+  (refl, refl, refl),
+  (
+    (refl, refl, refl),
+    (
+      (refl, refl, refl),
+      (
+        (refl, refl, refl),
+        (
+          (refl, refl, refl),
+          (
+            (refl, refl, refl),
+            (((0, omega arith, refl), refl, refl), (((refl, refl), refl, refl), (((1, omega arith, refl), refl, refl), tt))),
+          ),
+        ),
+      ),
+    ),
+  ),
+)

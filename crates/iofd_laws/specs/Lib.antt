@@ -1,0 +1,5 @@
+pub mod Debts
+pub mod FirstScript
+pub mod Fits
+pub mod Laws
+pub mod Pinned

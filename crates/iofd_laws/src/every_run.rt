@@ -1,0 +1,69 @@
+//! What is true of every run, each the contract of a function that does nothing.
+
+ghost use Rattle.std.specs.Prelude.{◌≡◌, List, ◌∷◌, ◌++◌, length, IsTrue};
+ghost use Rattle.iofd_laws.specs.Debts.{DebtsAttached};
+ghost use Rattle.iofd_laws.specs.Fits.{RowsFit};
+ghost use Rattle.iofd_laws.specs.Laws.{are_apart, have_own_frames, have_own_ids, IsOfAnother, WasFree, rows_of};
+ghost use Rattle.iofd_laws.specs.Pinned.{ArePinned};
+ghost use Rattle.iofd_words.specs.Run.{IsRun, after, world_of};
+ghost use Rattle.iofd_words.specs.Settings.{Settings};
+ghost use Rattle.iofd_words.specs.declared.numbers.FileNo.{FileNo};
+ghost use Rattle.iofd_words.specs.declared.numbers.FrameNo.{FrameNo};
+ghost use Rattle.iofd_words.specs.declared.record.Record.{Record};
+ghost use Rattle.iofd_words.specs.declared.reply.Reply.TheVariants as reply;
+
+use std::alloc::Allocator;
+
+/// In every run, two areas of one address space never overlap, leaving ones included.
+pub fn areas_never_overlap<A: Allocator>()
+    ensures { (settings : Settings) (records : List (Record A)) → IsRun settings records →
+        IsTrue (are_apart (world_of settings records).areas) }
+{}
+
+/// In every run, a frame is the page of at most one user page.
+pub fn user_pages_have_own_frames<A: Allocator>()
+    ensures { (settings : Settings) (records : List (Record A)) → IsRun settings records →
+        IsTrue (have_own_frames (world_of settings records).user_pages) }
+{}
+
+/// In every run, a frame that is given out is one of the pool that no user and no pin had.
+pub fn only_free_frames_are_given_out<A: Allocator>()
+    ensures { (settings : Settings) (before : List (Record A)) (r : Record A) (later : List (Record A)) (frame : FrameNo) →
+        IsRun settings (before ++ r ∷ later) → r.reply ≡ reply.Frame frame → WasFree (world_of settings before) frame }
+{}
+
+/// In every run, an id is that of at most one object of a file.
+pub fn ids_are_unique<A: Allocator>()
+    ensures { (settings : Settings) (records : List (Record A)) → IsRun settings records →
+        IsTrue (have_own_ids (world_of settings records).objects) }
+{}
+
+/// In every run, each page that is to be pinned has a pin, and no other page has one. Each area has a memory object of
+/// its own, which an earlier record made, and each memory object has an area.
+pub fn pins_are_those_of_pinned_pages<A: Allocator>()
+    ensures { (settings : Settings) (records : List (Record A)) → IsRun settings records →
+        ArePinned (length records) (world_of settings records) }
+{}
+
+/// In every run, each area is of whole pages and no longer than a user's memory, attachments rise by device, and
+/// users and pins have frames of the pool. Each object is of an open file, and each bound or attached device is one
+/// of the settings.
+pub fn rows_fit<A: Allocator>()
+    ensures { (settings : Settings) (records : List (Record A)) → IsRun settings records →
+        RowsFit (world_of settings records) }
+{}
+
+/// A record changes no object, area or attachment of a file that its event isn't of, and doesn't close it: not by a
+/// command of another file, nor by an event of a device that is bound to another file.
+pub fn files_are_apart<A: Allocator>()
+    ensures { (settings : Settings) (before : List (Record A)) (r : Record A) (other : FileNo) → IsRun settings before →
+        IsOfAnother (world_of settings before) r.event other →
+        rows_of other (after (length before) (world_of settings before) r) ≡ rows_of other (world_of settings before) }
+{}
+
+/// In every run, each device that owes an area a flush is attached to that area's address space; each device is
+/// attached at most once, and each attachment, page table and area names what its file has.
+pub fn debtors_are_attached<A: Allocator>()
+    ensures { (settings : Settings) (records : List (Record A)) → IsRun settings records →
+        DebtsAttached (world_of settings records) }
+{}

@@ -1,0 +1,16 @@
+//! Laws of the definitions in `iofd_words`: what is true of every run, whatever server makes it, and of a script that
+//! was worked by hand. Each is the contract of a function that does nothing; nothing here runs.
+#![tactic(auto)]
+
+mod every_run;
+mod worked_script;
+
+pub use every_run::{
+    areas_never_overlap, debtors_are_attached, files_are_apart, ids_are_unique,
+    only_free_frames_are_given_out, pins_are_those_of_pinned_pages, rows_fit,
+    user_pages_have_own_frames,
+};
+pub use worked_script::{
+    altered_scripts_are_no_runs, owed_flush_leaves_both_answers, worked_script_is_a_run,
+    worked_script_reads,
+};
