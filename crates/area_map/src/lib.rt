@@ -12,6 +12,3 @@ mod totals;
 
 pub use areas::Areas;
 pub use insert_error::InsertError;
-
-#[cfg(test)]
-mod tests;

@@ -12,6 +12,3 @@ pub use free_map::FreeMap;
 pub use map_error::MapError;
 pub use pool::Pool;
 pub use user_map::UserMap;
-
-#[cfg(test)]
-mod tests;

@@ -14,6 +14,3 @@ pub use command::{Command, DecodeError};
 pub use decoding::decode;
 pub use encoding::{encode, encode_reply, encode_reply_to};
 pub use laws::{round_trip, spellable_commands};
-
-#[cfg(test)]
-mod tests;

@@ -2,6 +2,7 @@
 
 ghost use Rattle.std.specs.Prelude.{◌≡◌, ◌<◌, IfOk, OnErr, None, length};
 ghost use Rattle.std.specs.List.{list_all};
+ghost use Rattle.iofd_words.specs.Limits.{first_outside};
 ghost use Rattle.iofd_words.specs.Settings.{is_between, is_device_in_limits, is_reserved_span};
 
 use crate::lists::SpanList;
@@ -124,7 +125,7 @@ impl<A: Allocator> Model for Config<A> {
 }
 
 impl<A: Allocator> Config<A> {
-    ghost use Rattle.iofd_words.specs.Limits.{opened, first_outside};
+    ghost use Rattle.iofd_words.specs.Limits.{opened};
 
     /// The configuration of a pool of so many frames, users with these limits of pinned pages (from
     /// user 1 on), files of these users (from file 1 on), these devices (from device 1 on) and so
@@ -138,28 +139,16 @@ impl<A: Allocator> Config<A> {
     ) -> Result<Config<A>, ConfigError>
         ensures { result ≡ opened (record { pool = pool; users = users.items; files = files.items; devices = devices.items; passes = passes }) }
     {
-        if pool == 0 || pool > 4096 {
-            return Err(ConfigError::Pool);
+        match first_outside(pool, &users, &files, &devices, passes) {
+            Some(error) => Err(error),
+            None => Ok(Config {
+                pool,
+                users,
+                files,
+                devices,
+                passes,
+            }),
         }
-        if users.is_empty() || users.len() > 255 {
-            return Err(ConfigError::Users);
-        }
-        if files.is_empty() || files.len() > 1024 || !are_known(&files, users.len()) {
-            return Err(ConfigError::Files);
-        }
-        if devices.len() > 256 || !are_in_limits(&devices) {
-            return Err(ConfigError::Devices);
-        }
-        if passes == 0 || passes > 1024 {
-            return Err(ConfigError::Passes);
-        }
-        Ok(Config {
-            pool,
-            users,
-            files,
-            devices,
-            passes,
-        })
     }
 
     /// The same configuration in new memory. It fails only where memory does.
@@ -210,6 +199,40 @@ impl<A: Allocator> Config<A> {
     {
         self.passes
     }
+}
+
+// The first field that is outside its limits.
+fn first_outside<A: Allocator>(
+    pool: u32,
+    users: &[u64],
+    files: &[UserNo],
+    devices: &[DeviceConfig<A>],
+    passes: u16,
+) -> Option<ConfigError>
+    ensures { result ≡ first_outside (record { pool = pool; users = users.now; files = files.now; devices = devices.now; passes = passes }) }
+{
+    if !is_between(1, 4096, pool as usize) {
+        return Some(ConfigError::Pool);
+    }
+    if !is_between(1, 255, users.len()) {
+        return Some(ConfigError::Users);
+    }
+    if !is_between(1, 1024, files.len()) || !are_known(files, users.len()) {
+        return Some(ConfigError::Files);
+    }
+    if devices.len() > 256 || !are_in_limits(devices) {
+        return Some(ConfigError::Devices);
+    }
+    if !is_between(1, 1024, usize::from(passes)) {
+        return Some(ConfigError::Passes);
+    }
+    None
+}
+
+fn is_between(least: usize, most: usize, number: usize) -> bool
+    ensures { result ≡ is_between least most number }
+{
+    least <= number && number <= most
 }
 
 // The same values in new memory.

@@ -16,8 +16,6 @@ mod refusal;
 mod reply;
 mod rows;
 mod span;
-#[cfg(test)]
-mod tests;
 mod width;
 
 pub use burst::Burst;

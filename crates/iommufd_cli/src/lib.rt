@@ -19,14 +19,3 @@ pub use replies::{
 };
 pub use run::session;
 pub use steps::answer_step;
-
-#[cfg(test)]
-mod command_line_tests;
-#[cfg(test)]
-mod fakes;
-#[cfg(test)]
-mod refusal_order_tests;
-#[cfg(test)]
-mod session_tests;
-#[cfg(test)]
-mod tests;

@@ -20,6 +20,3 @@ pub use line::{HeadLine, Line, Step};
 pub use opening::read_script;
 pub use parsing::parse_line;
 pub use script::{Steps, first_bad_line};
-
-#[cfg(test)]
-mod tests;

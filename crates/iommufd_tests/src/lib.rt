@@ -1,6 +1,16 @@
-//! Tests of the server by calls, as scripts can't make them: through public calls alone, since a crate with tests is proved
-//! once more for them, and the core's proof is the dearest.
+//! Tests of the server through public calls: the core's by events, and the sessions' by scripts. They stand here, since the gate
+//! proves a crate that has tests once more for them.
 #![tactic(auto)]
 
 #[cfg(test)]
-mod server;
+mod command_line;
+#[cfg(test)]
+mod events;
+#[cfg(test)]
+mod fakes;
+#[cfg(test)]
+mod lines;
+#[cfg(test)]
+mod refusal_order;
+#[cfg(test)]
+mod session;

@@ -16,6 +16,3 @@ pub use allowed::Allowed;
 pub use fitting::starts_rise;
 pub use range_set::RangeSet;
 pub use reserved::{Reserved, ReservedSpan};
-
-#[cfg(test)]
-mod tests;

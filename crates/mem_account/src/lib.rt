@@ -8,9 +8,6 @@ use iofd_words::{Cause, NoMemory, Refusal, UserNo};
 use std::alloc::{Allocator, Global};
 use std::marker::Model;
 
-#[cfg(test)]
-mod tests;
-
 /// What one user holds and may hold, in pages.
 #[derive(Clone, Copy, PartialEq, Eq, Debug)]
 pub struct Account {

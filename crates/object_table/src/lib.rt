@@ -12,8 +12,6 @@ mod insert;
 mod iter;
 mod kind;
 mod table;
-#[cfg(test)]
-mod tests;
 mod users;
 
 pub use error::{InsertError, ReserveError};

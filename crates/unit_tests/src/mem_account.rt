@@ -1,6 +1,7 @@
 //! Each call once, and a limit that is met exactly.
-use super::*;
+use iofd_words::{NoMemory, Refusal, UserNo};
 use linked_list_allocator::LocalHeap;
+use mem_account::Accounts;
 use std::test::Fail;
 
 #[test]

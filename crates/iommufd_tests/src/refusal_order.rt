@@ -1,8 +1,8 @@
 //! Each event's refusals come in their order: where two neighbours apply, the first is the answer.
 
-use super::session;
 use After::*;
 use Step::*;
+use iommufd_cli::session;
 use std::alloc::{AllocError, Global};
 use std::test::Fail;
 

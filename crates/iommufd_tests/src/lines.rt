@@ -1,10 +1,12 @@
 //! Worked lines of the session's format, each with the line feed that ends it.
 
-use super::*;
 use ioctl_codec::Command;
 use iofd_words::{
     AccessKind, Answer, Burst, Cause, Errno, Fault, FaultReason, FrameNo, Iova, MapFlags,
     MapRequest, ObjId, Refusal, Reply, SourceId, UnmapRequest,
+};
+use iommufd_cli::{
+    answer_line, bad_line, ioctl_line, memory_line, no_memory_line, refusal_line, reply_line,
 };
 use std::test::Fail;
 
@@ -95,42 +97,58 @@ fn steps(rt: HostRuntime) -> Result<(), Fail> {
     Ok(())
 }
 
-#[test]
-fn ioctls(rt: HostRuntime) -> Result<(), Fail> {
-    let refusal = Refusal {
-        cause: Cause::Overlap,
-    };
-    let commands = [
+// A command with its good reply, and the line for it.
+static GOOD: [(Command, Reply, &str); 4] = [
+    (
         Command::IoasAlloc,
+        Reply::Id(ObjId(1)),
+        "0 0c0000000000000001000000\n",
+    ),
+    (
         Command::Destroy(ObjId(1)),
+        Reply::Done,
+        "0 0800000001000000\n",
+    ),
+    (
         Command::IoasMap(MAP),
+        Reply::Iova(Iova(0x1000)),
+        "0 28000000070000000100000000000000000001000000000000100000000000000010000000000000\n",
+    ),
+    (
         Command::IoasUnmap(UNMAP),
-    ];
-    let good = [
-        (Reply::Id(ObjId(1)), "0 0c0000000000000001000000\n"),
-        (Reply::Done, "0 0800000001000000\n"),
-        (
-            Reply::Iova(Iova(0x1000)),
-            "0 28000000070000000100000000000000000001000000000000100000000000000010000000000000\n",
-        ),
-        (
-            Reply::Bytes(0x1000),
-            "0 1800000001000000ff4f0000000000000010000000000000\n",
-        ),
-    ];
-    for (command, (reply, text)) in commands.iter().zip(good) {
-        assert_eq!(rt; ioctl_line(command, &reply).as_slice(), text.as_bytes());
+        Reply::Bytes(0x1000),
+        "0 1800000001000000ff4f0000000000000010000000000000\n",
+    ),
+];
+
+// Replies that write nothing back, whatever the command.
+static BARE: [(Reply, &str); 3] = [
+    (Reply::Pending(Errno::EAGAIN), "11 Pending\n"),
+    (Reply::Pending(Errno::EDEADLOCK), "35 Pending\n"),
+    (
+        Reply::Refused(Refusal {
+            cause: Cause::Overlap,
+        }),
+        "17 Overlap\n",
+    ),
+];
+
+// Whether the command's line for the reply is this text.
+fn tells(command: &Command, reply: &Reply, text: &str) -> bool {
+    ioctl_line(command, reply).as_slice() == text.as_bytes()
+}
+
+// Whether each of the bare replies has its line.
+fn tells_bare(command: &Command) -> bool {
+    BARE.iter().all(|(reply, text)| tells(command, reply, text))
+}
+
+#[test]
+fn ioctls(rt: HostRuntime) {
+    for (command, reply, text) in &GOOD {
+        assert!(rt; tells(command, reply, text), "{text}");
+        assert!(rt; tells_bare(command), "{text}");
     }
-    for command in commands {
-        for (reply, text) in [
-            (Reply::Pending(Errno::EAGAIN), "11 Pending\n"),
-            (Reply::Pending(Errno::EDEADLOCK), "35 Pending\n"),
-            (Reply::Refused(refusal), "17 Overlap\n"),
-        ] {
-            assert_eq!(rt; ioctl_line(&command, &reply).as_slice(), text.as_bytes());
-        }
-    }
-    Ok(())
 }
 
 #[test]

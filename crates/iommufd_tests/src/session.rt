@@ -1,7 +1,7 @@
 //! Whole sessions, over readers and writers that fail at each of their calls.
 
 use crate::fakes::{Comment, Input, Output};
-use crate::{CliFault, session};
+use iommufd_cli::{CliFault, session};
 use std::alloc::Global;
 use std::io::ErrorKind;
 use std::test::Fail;

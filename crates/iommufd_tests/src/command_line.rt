@@ -1,7 +1,7 @@
 //! Command lines: what each chooses, and the text for the user.
 
-use crate::{Choice, choose, session};
 use clap::error::ErrorKind;
+use iommufd_cli::{Choice, choose, session};
 use std::alloc::Global;
 use std::test::Fail;
 
