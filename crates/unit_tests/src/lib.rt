@@ -1,20 +1,20 @@
-//! Tests of single crates, each in the module of its crate's name and through public calls alone. They stand here, since the gate
-//! proves a crate that has tests once more for them.
+//! Tests of single crates through public calls, a module for each: `words` is that of `iofd_words`, `areas` that of `area_map`, and
+//! so on. They stand here, since the gate proves a crate that has tests once more for them.
 #![tactic(auto)]
 
 #[cfg(test)]
-mod area_map;
+mod accounts;
 #[cfg(test)]
-mod frame_memory;
+mod areas;
 #[cfg(test)]
-mod ioctl_codec;
+mod codec;
 #[cfg(test)]
-mod iofd_words;
+mod frames;
 #[cfg(test)]
-mod iommufd_script;
+mod objects;
 #[cfg(test)]
-mod iova_ranges;
+mod ranges;
 #[cfg(test)]
-mod mem_account;
+mod script;
 #[cfg(test)]
-mod object_table;
+mod words;
