@@ -1,16 +1,11 @@
 //! Each call once, and what no clause says: that there is memory, and how long large maps take.
 
+use crate::spans::{TOP, are, span};
 use area_map::{Areas, InsertError};
 use iofd_words::{Area, Cause, DeviceNo, DeviceSet, FileNo, ObjId, Phase, Rights, Span};
 use linked_list_allocator::LocalHeap;
 use std::alloc::{AllocError, Global};
 use std::test::Fail;
-
-const TOP: u64 = 0xffff_ffff_ffff_ffff;
-
-fn span(first: u64, last: u64) -> Result<Span, Fail> {
-    Ok(Span::new(first, last).ok_or("a span that ends before it begins")?)
-}
 
 fn live(first: u64, last: u64, memory: u64) -> Result<Area, Fail> {
     Ok(Area {
@@ -109,16 +104,6 @@ fn have_memories(areas: &Areas, memories: &[u64]) -> bool {
         }
     }
     areas.len() == memories.len()
-}
-
-// Whether the spans have these first and last addresses.
-fn are(spans: &[Span], ends: &[(u64, u64)]) -> bool {
-    for (span, end) in spans.iter().zip(ends) {
-        if span.first() != end.0 || span.last() != end.1 {
-            return false;
-        }
-    }
-    spans.len() == ends.len()
 }
 
 #[test]

@@ -15,6 +15,10 @@ mod objects;
 #[cfg(test)]
 mod ranges;
 #[cfg(test)]
+mod ranges_memory;
+#[cfg(test)]
 mod script;
+#[cfg(test)]
+mod spans;
 #[cfg(test)]
 mod words;

@@ -1,4 +1,5 @@
 //! Each call once, with values that the standards and the table of refusals give.
+use crate::spans::span;
 use bitflags::Flags;
 use iofd_words::{
     AccessKind, Burst, Cause, Config, ConfigError, DeviceConfig, DeviceNo, DeviceSet, FaultReason,
@@ -8,10 +9,6 @@ use std::alloc::{AllocError, Global};
 use std::test::Fail;
 
 const PAGE: u64 = 0x1000;
-
-fn span(first: u64, last: u64) -> Result<Span, Fail> {
-    Ok(Span::new(first, last).ok_or("a span that ends before it begins")?)
-}
 
 // The first and the last number of a span of this length.
 fn ends(first: u64, length: u64) -> Option<(u64, u64)> {

@@ -1,0 +1,30 @@
+//! Spans by their first and last numbers.
+
+use iofd_words::Span;
+use std::alloc::Global;
+use std::test::Fail;
+
+pub(crate) const TOP: u64 = 0xffff_ffff_ffff_ffff;
+
+pub(crate) fn span(first: u64, last: u64) -> Result<Span, Fail> {
+    Ok(Span::new(first, last).ok_or("a span that ends before it begins")?)
+}
+
+// The spans from each first to its last number.
+pub(crate) fn spans(alloc: Global, ends: &[(u64, u64)]) -> Result<Vec<Span>, Fail> {
+    let mut spans = Vec::new(alloc);
+    for (first, last) in ends {
+        spans.push(span(*first, *last)?)?;
+    }
+    Ok(spans)
+}
+
+// Whether the spans have these first and last numbers.
+pub(crate) fn are(spans: &[Span], ends: &[(u64, u64)]) -> bool {
+    for (span, end) in spans.iter().zip(ends) {
+        if span.first() != end.0 || span.last() != end.1 {
+            return false;
+        }
+    }
+    spans.len() == ends.len()
+}
