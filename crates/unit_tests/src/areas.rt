@@ -1,256 +1,268 @@
-//! Each call once, and what no clause says: that there is memory, and how long large maps take.
+//! Calls one after the other with what each answers, and what no clause says: that there is memory, and how long large maps take.
 
 use crate::spans::{TOP, are, span};
 use area_map::{Areas, InsertError};
 use iofd_words::{Area, Cause, DeviceNo, DeviceSet, FileNo, ObjId, Phase, Rights, Span};
 use linked_list_allocator::LocalHeap;
-use std::alloc::{AllocError, Global};
+use std::alloc::{AllocError, Allocator, Global};
 use std::test::Fail;
 
-fn live(first: u64, last: u64, memory: u64) -> Result<Area, Fail> {
-    Ok(Area {
+/// A call on areas, for a span of addresses.
+#[derive(Clone, Copy)]
+enum Call {
+    /// Adds an area of the span, with this memory object.
+    Add(u64),
+    /// The memory object at the span's first address.
+    At,
+    /// The memory object of the area of just this span.
+    Exact,
+    /// Whether some area meets the span, whether the span cuts one, and whether it is covered.
+    Look,
+    /// The areas in the span leave, and owe a flush to these devices.
+    Leave(&'static [u16]),
+    /// A device pays, whatever the span.
+    Pay(u16),
+    Owes,
+    SetTries(u8),
+    MostTries,
+    /// How many areas lie in the span, and how many addresses they have.
+    Amount,
+    /// Takes away the areas in the span, and says whether these were their memory objects.
+    Take(&'static [u64]),
+    /// Whether these are all areas' memory objects, by rising start, whatever the span.
+    Have(&'static [u64]),
+}
+
+/// What a call answers.
+#[derive(Clone, Copy, PartialEq, Eq)]
+enum Answer {
+    Done,
+    Is(bool),
+    Gives(u64),
+    Nothing,
+    Refused(Cause),
+    Looks(bool, bool, bool),
+    Counts(usize, u128),
+    NoMemory,
+}
+
+const OVERLAP: Answer = Answer::Refused(Cause::Overlap);
+
+fn added<A: Allocator>(areas: &mut Areas<A>, span: Span, memory: u64) -> Answer {
+    let area = Area {
         file: FileNo(1),
         ioas: ObjId(1),
-        span: span(first, last)?,
+        span,
         memory,
         rights: Rights(3),
         phase: Phase::Live,
-    })
-}
-
-fn add(areas: &mut Areas, first: u64, last: u64, memory: u64) -> Result<(), Fail> {
-    Ok(areas.insert(live(first, last, memory)?)?)
-}
-
-// Two areas that touch, one behind a gap, and one that ends at the last address, added in no order.
-fn four_areas(alloc: Global) -> Result<Areas, Fail> {
-    let mut areas = Areas::new(alloc);
-    for (first, last, memory) in [
-        (0x2000, 0x2fff, 12),
-        (TOP - 0xfff, TOP, 14),
-        (0x1000, 0x1fff, 11),
-        (0x5000, 0x7fff, 13),
-    ] {
-        add(&mut areas, first, last, memory)?;
+    };
+    match areas.insert(area) {
+        Ok(()) => Answer::Done,
+        Err(InsertError::Refused(refusal)) => Answer::Refused(refusal.cause),
+        Err(InsertError::Memory(_)) => Answer::NoMemory,
     }
-    Ok(areas)
 }
 
-fn memory_of(area: Option<&Area>) -> Option<u64> {
+fn found(area: Option<&Area>) -> Answer {
     match area {
-        Some(area) => Some(area.memory),
-        None => None,
+        Some(area) => Answer::Gives(area.memory),
+        None => Answer::Nothing,
     }
 }
 
-// Why an area of this span isn't added; None where it is.
-fn refusal(areas: &mut Areas, first: u64, last: u64) -> Result<Option<Cause>, Fail> {
-    match areas.insert(live(first, last, 15)?) {
-        Ok(()) => Ok(None),
-        Err(InsertError::Refused(refusal)) => Ok(Some(refusal.cause)),
-        Err(InsertError::Memory(_)) => Err("no memory for one more area")?,
+// A span that isn't covered is refused for its span.
+fn looked(areas: &Areas, span: Span) -> Answer {
+    match areas.covered(span) {
+        Ok(()) => Answer::Looks(areas.meets(span), areas.cuts(span), true),
+        Err(refusal) if refusal.cause == Cause::Span => {
+            Answer::Looks(areas.meets(span), areas.cuts(span), false)
+        }
+        Err(refusal) => Answer::Refused(refusal.cause),
     }
 }
 
-#[test]
-fn a_new_map_is_empty(rt: HostRuntime) {
-    let areas: Areas = Areas::new(rt.alloc());
-    assert!(rt; areas.is_empty() && areas.len() == 0);
-}
-
-#[test]
-fn areas_are_found_by_address(rt: HostRuntime) -> Result<(), Fail> {
-    let areas = four_areas(rt.alloc())?;
-    assert!(rt; areas.len() == 4 && !areas.is_empty());
-    for (iova, memory) in [
-        (0xfff, None),
-        (0x1000, Some(11)),
-        (0x1fff, Some(11)),
-        (0x2000, Some(12)),
-        (0x2fff, Some(12)),
-        (0x3000, None),
-        (0x7fff, Some(13)),
-        (0x8000, None),
-        (TOP - 0x1000, None),
-        (TOP, Some(14)),
-    ] {
-        assert!(rt; memory_of(areas.at(iova)) == memory);
+fn left(areas: &mut Areas, span: Span, devices: &[u16]) -> Answer {
+    let mut owed = DeviceSet::new();
+    for device in devices {
+        if *device >= 1 && *device <= 256 {
+            owed.insert(DeviceNo(*device));
+        }
     }
-    Ok(())
+    areas.mark_leaving(span, &owed);
+    Answer::Done
 }
 
-fn memory_of_exact(areas: &Areas, first: u64, last: u64) -> Result<Option<u64>, Fail> {
-    Ok(memory_of(areas.exact(span(first, last)?)))
-}
-
-#[test]
-fn areas_are_found_by_their_span(rt: HostRuntime) -> Result<(), Fail> {
-    let areas = four_areas(rt.alloc())?;
-    for (first, last, memory) in [
-        (0x5000, 0x7fff, Some(13)),
-        (0x5000, 0x7ffe, None),
-        (0x1000, 0x2fff, None),
-    ] {
-        assert!(rt; memory_of_exact(&areas, first, last)? == memory);
+fn taken(areas: &mut Areas, alloc: Global, span: Span, memories: &[u64]) -> Answer {
+    match Vec::with_capacity(alloc, areas.count_within(span)) {
+        Ok(mut removed) => {
+            areas.remove_within(span, &mut removed);
+            Answer::Is(removed.as_slice() == memories)
+        }
+        Err(_) => Answer::NoMemory,
     }
-    Ok(())
 }
 
-// Whether the areas have these memory objects, in this order.
-fn have_memories(areas: &Areas, memories: &[u64]) -> bool {
+fn have(areas: &Areas, memories: &[u64]) -> bool {
     for (area, memory) in areas.iter().zip(memories) {
         if area.memory != *memory {
             return false;
         }
     }
-    areas.len() == memories.len()
+    areas.len() == memories.len() && areas.is_empty() == memories.is_empty()
 }
 
-#[test]
-fn areas_stand_by_rising_start(rt: HostRuntime) -> Result<(), Fail> {
-    let ends = [
-        (0x1000, 0x1fff),
-        (0x2000, 0x2fff),
-        (0x5000, 0x7fff),
-        (TOP - 0xfff, TOP),
-    ];
-    let areas = four_areas(rt.alloc())?;
-    let spans = areas.spans(rt.alloc())?;
-    assert!(rt; have_memories(&areas, &[11, 12, 13, 14]) && are(&spans, &ends));
-    Ok(())
-}
-
-// Whether the span is covered. Where it isn't, the cause is Span.
-fn is_covered(areas: &Areas, asked: Span) -> Result<bool, Fail> {
-    match areas.covered(asked) {
-        Ok(()) => Ok(true),
-        Err(refusal) if refusal.cause == Cause::Span => Ok(false),
-        Err(_) => Err("refused for another cause")?,
+fn asked(areas: &mut Areas, alloc: Global, span: Span, call: Call) -> Answer {
+    match call {
+        Call::Add(memory) => return added(areas, span, memory),
+        Call::At => return found(areas.at(span.first())),
+        Call::Exact => return found(areas.exact(span)),
+        Call::Look => return looked(areas, span),
+        Call::Leave(devices) => return left(areas, span, devices),
+        Call::Owes => return Answer::Is(areas.owes(span)),
+        Call::MostTries => return Answer::Gives(u64::from(areas.most_tries(span))),
+        Call::Amount => return Answer::Counts(areas.count_within(span), areas.bytes_within(span)),
+        Call::Take(memories) => return taken(areas, alloc, span, memories),
+        Call::Have(memories) => return Answer::Is(have(areas, memories)),
+        Call::Pay(device) => areas.pay(DeviceNo(device)),
+        Call::SetTries(tries) => areas.set_tries(span, tries),
     }
+    Answer::Done
 }
 
-// Whether some area meets the span, whether the span cuts one, and whether it is covered.
-fn look(areas: &Areas, first: u64, last: u64) -> Result<(bool, bool, bool), Fail> {
-    let asked = span(first, last)?;
-    let covered = is_covered(areas, asked)?;
-    Ok((areas.meets(asked), areas.cuts(asked), covered))
-}
+/// A call for the span from a first to a last address, and what it answers.
+type Row = (u64, u64, Call, Answer);
 
-#[test]
-fn spans_meet_cut_and_are_covered(rt: HostRuntime) -> Result<(), Fail> {
-    let areas = four_areas(rt.alloc())?;
-    for (first, last, wanted) in [
-        (0x0, 0xfff, (false, false, false)),
-        (0x0, 0x1000, (true, true, false)),
-        (0x1000, 0x2fff, (true, false, true)),
-        (0x1800, 0x27ff, (true, true, true)),
-        (0x1000, 0x3000, (true, false, false)),
-        (0x3000, 0x4fff, (false, false, false)),
-        (0x3000, 0x5000, (true, true, false)),
-        (0x5000, TOP, (true, false, false)),
-        (TOP, TOP, (true, true, true)),
-    ] {
-        assert!(rt; look(&areas, first, last)? == wanted);
+/// The first row that isn't answered so.
+fn first_wrong(areas: &mut Areas, alloc: Global, rows: &[Row]) -> Option<usize> {
+    for (place, (first, last, call, answer)) in rows.iter().enumerate() {
+        match Span::new(*first, *last) {
+            Some(span) if asked(areas, alloc, span, *call) == *answer => {}
+            _ => return Some(place),
+        }
     }
-    Ok(())
+    None
 }
 
+// Two areas that touch, one behind a gap, and one that ends at the last address, added in no order.
+const FOUR: &[Row] = &[
+    (0, TOP, Call::Have(&[]), Answer::Is(true)),
+    (0x2000, 0x2fff, Call::Add(12), Answer::Done),
+    (TOP - 0xfff, TOP, Call::Add(14), Answer::Done),
+    (0x1000, 0x1fff, Call::Add(11), Answer::Done),
+    (0x5000, 0x7fff, Call::Add(13), Answer::Done),
+    (0, TOP, Call::Have(&[11, 12, 13, 14]), Answer::Is(true)),
+];
+
+const BY_ADDRESS: &[Row] = &[
+    (0xfff, 0xfff, Call::At, Answer::Nothing),
+    (0x1000, 0x1000, Call::At, Answer::Gives(11)),
+    (0x1fff, 0x1fff, Call::At, Answer::Gives(11)),
+    (0x2000, 0x2000, Call::At, Answer::Gives(12)),
+    (0x2fff, 0x2fff, Call::At, Answer::Gives(12)),
+    (0x3000, 0x3000, Call::At, Answer::Nothing),
+    (0x7fff, 0x7fff, Call::At, Answer::Gives(13)),
+    (0x8000, 0x8000, Call::At, Answer::Nothing),
+    (TOP - 0x1000, TOP, Call::At, Answer::Nothing),
+    (TOP, TOP, Call::At, Answer::Gives(14)),
+];
+
+const BY_SPAN: &[Row] = &[
+    (0x5000, 0x7fff, Call::Exact, Answer::Gives(13)),
+    (0x5000, 0x7ffe, Call::Exact, Answer::Nothing),
+    (0x1000, 0x2fff, Call::Exact, Answer::Nothing),
+    (0x1000, 0x2fff, Call::Amount, Answer::Counts(2, 0x2000)),
+    (0, TOP, Call::Amount, Answer::Counts(4, 0x6000)),
+];
+
+const MET: &[Row] = &[
+    (0, 0xfff, Call::Look, Answer::Looks(false, false, false)),
+    (0, 0x1000, Call::Look, Answer::Looks(true, true, false)),
+    (0x1000, 0x2fff, Call::Look, Answer::Looks(true, false, true)),
+    (0x1800, 0x27ff, Call::Look, Answer::Looks(true, true, true)),
+    (
+        0x1000,
+        0x3000,
+        Call::Look,
+        Answer::Looks(true, false, false),
+    ),
+    (
+        0x3000,
+        0x4fff,
+        Call::Look,
+        Answer::Looks(false, false, false),
+    ),
+    (0x3000, 0x5000, Call::Look, Answer::Looks(true, true, false)),
+    (0x5000, TOP, Call::Look, Answer::Looks(true, false, false)),
+    (TOP, TOP, Call::Look, Answer::Looks(true, true, true)),
+];
+
+const REFUSED: &[Row] = &[
+    // an area that is leaving is in the way, too
+    (0x5000, 0x7fff, Call::Leave(&[]), Answer::Done),
+    (0, 0x1000, Call::Add(15), OVERLAP),
+    (0x2fff, 0x3fff, Call::Add(15), OVERLAP),
+    (0x6000, 0x6fff, Call::Add(15), OVERLAP),
+    (0, TOP, Call::Add(15), OVERLAP),
+    (0, TOP, Call::Have(&[11, 12, 13, 14]), Answer::Is(true)),
+    (0x3000, 0x4fff, Call::Add(15), Answer::Done),
+    (0x4fff, 0x4fff, Call::At, Answer::Gives(15)),
+];
+
+const OWED: &[Row] = &[
+    (0x1000, 0x2fff, Call::Leave(&[1, 256]), Answer::Done),
+    // a second leaving changes nothing
+    (0x1000, 0x2fff, Call::Leave(&[]), Answer::Done),
+    (0x5000, 0x7fff, Call::Owes, Answer::Is(false)),
+    (0, 0, Call::Pay(2), Answer::Done),
+    (0x1000, 0x2fff, Call::Owes, Answer::Is(true)),
+    (0, 0, Call::Pay(1), Answer::Done),
+    (0x1000, 0x2fff, Call::Owes, Answer::Is(true)),
+    (0, 0, Call::Pay(256), Answer::Done),
+    (0x1000, 0x2fff, Call::Owes, Answer::Is(false)),
+];
+
+const TRIED: &[Row] = &[
+    (0x1000, 0x2fff, Call::Leave(&[1]), Answer::Done),
+    (0x1000, 0x2fff, Call::MostTries, Answer::Gives(0)),
+    (0x2000, 0x7fff, Call::SetTries(7), Answer::Done),
+    (0x1000, 0x2fff, Call::MostTries, Answer::Gives(7)),
+    (0x1000, 0x1fff, Call::MostTries, Answer::Gives(0)),
+];
+
+const TAKEN: &[Row] = &[
+    (0x1000, 0x2fff, Call::Take(&[11, 12]), Answer::Is(true)),
+    (0, TOP, Call::Have(&[13, 14]), Answer::Is(true)),
+    (0x5000, 0x5000, Call::At, Answer::Gives(13)),
+];
+
+static TABLES: [(&str, &[Row]); 7] = [
+    ("areas are found by address", BY_ADDRESS),
+    ("areas are found by their span, and counted", BY_SPAN),
+    ("spans meet, cut and are covered", MET),
+    ("an area that meets another is refused", REFUSED),
+    ("leaving areas owe until all have paid", OWED),
+    ("leaving areas count their tries", TRIED),
+    ("areas are taken away", TAKEN),
+];
+
 #[test]
-fn an_area_that_meets_another_is_refused(rt: HostRuntime) -> Result<(), Fail> {
-    let high = span(0x5000, 0x7fff)?;
-    let mut areas = four_areas(rt.alloc())?;
-    areas.mark_leaving(high, &DeviceSet::new());
-    for (first, last, cause, count) in [
-        (0x0, 0x1000, Some(Cause::Overlap), 4),
-        (0x2fff, 0x3fff, Some(Cause::Overlap), 4),
-        (0x6000, 0x6fff, Some(Cause::Overlap), 4),
-        (0x0, TOP, Some(Cause::Overlap), 4),
-        (0x3000, 0x4fff, None, 5),
-    ] {
-        let answer = refusal(&mut areas, first, last)?;
-        assert!(rt; answer == cause && areas.len() == count);
+fn each_call_answers_as_its_row_says(rt: HostRuntime) {
+    for (what, rows) in &TABLES {
+        let mut areas = Areas::new(rt.alloc());
+        assert!(rt; first_wrong(&mut areas, rt.alloc(), FOUR).is_none());
+        assert_eq!(rt; first_wrong(&mut areas, rt.alloc(), *rows), None, "{what}");
     }
-    assert!(rt; memory_of(areas.at(0x4fff)) == Some(15));
-    Ok(())
-}
-
-// The two areas that touch are leaving, and owe a flush to the devices 1 and 256. A second leaving changes nothing.
-fn two_leaving(alloc: Global, low: Span) -> Result<Areas, Fail> {
-    let mut owed = DeviceSet::new();
-    owed.insert(DeviceNo(1));
-    owed.insert(DeviceNo(256));
-    let mut areas = four_areas(alloc)?;
-    areas.mark_leaving(low, &owed);
-    areas.mark_leaving(low, &DeviceSet::new());
-    Ok(areas)
-}
-
-#[test]
-fn leaving_areas_owe_until_all_have_paid(rt: HostRuntime) -> Result<(), Fail> {
-    let low = span(0x1000, 0x2fff)?;
-    let high = span(0x5000, 0x7fff)?;
-    let mut areas = two_leaving(rt.alloc(), low)?;
-    for (device, owes) in [
-        (DeviceNo(2), true),
-        (DeviceNo(1), true),
-        (DeviceNo(256), false),
-    ] {
-        areas.pay(device);
-        assert!(rt; areas.owes(low) == owes && !areas.owes(high));
-    }
-    Ok(())
-}
-
-#[test]
-fn leaving_areas_count_their_tries(rt: HostRuntime) -> Result<(), Fail> {
-    let low = span(0x1000, 0x2fff)?;
-    let first = span(0x1000, 0x1fff)?;
-    let behind = span(0x2000, 0x7fff)?;
-    let mut areas = two_leaving(rt.alloc(), low)?;
-    assert!(rt; areas.most_tries(low) == 0);
-    areas.set_tries(behind, 7);
-    assert!(rt; areas.most_tries(low) == 7 && areas.most_tries(first) == 0);
-    Ok(())
-}
-
-// How many areas lie in the span, and how many addresses they have.
-fn amount(areas: &Areas, first: u64, last: u64) -> Result<(usize, u128), Fail> {
-    let asked = span(first, last)?;
-    Ok((areas.count_within(asked), areas.bytes_within(asked)))
-}
-
-#[test]
-fn areas_within_a_span_are_counted(rt: HostRuntime) -> Result<(), Fail> {
-    let areas = four_areas(rt.alloc())?;
-    for (first, last, wanted) in [(0x1000, 0x2fff, (2, 0x2000)), (0, TOP, (4, 0x6000))] {
-        assert!(rt; amount(&areas, first, last)? == wanted);
-    }
-    Ok(())
-}
-
-// Takes away the areas in the span. Their memory objects.
-fn take(areas: &mut Areas, alloc: Global, asked: Span) -> Result<Vec<u64>, Fail> {
-    let mut removed = Vec::with_capacity(alloc, areas.count_within(asked))?;
-    areas.remove_within(asked, &mut removed);
-    Ok(removed)
-}
-
-#[test]
-fn areas_within_a_span_are_taken_away(rt: HostRuntime) -> Result<(), Fail> {
-    let low = span(0x1000, 0x2fff)?;
-    let mut areas = two_leaving(rt.alloc(), low)?;
-    let removed = take(&mut areas, rt.alloc(), low)?;
-    assert!(rt; removed.as_slice() == [11, 12].as_slice());
-    assert!(rt; have_memories(&areas, &[13, 14]));
-    assert!(rt; memory_of(areas.at(0x5000)) == Some(13));
-    Ok(())
 }
 
 // So many areas of a page, each with a free page behind it. They have the memory objects from 0 on.
 fn pages(alloc: Global, count: u16) -> Result<Areas, Fail> {
     let mut areas = Areas::new(alloc);
     for number in 0..u64::from(count) {
-        add(&mut areas, 0x2000 * number, 0x2000 * number + 0xfff, number)?;
+        let page = span(0x2000 * number, 0x2000 * number + 0xfff)?;
+        if added(&mut areas, page, number) != Answer::Done {
+            Err("a page that isn't added")?;
+        }
     }
     Ok(areas)
 }
@@ -259,99 +271,115 @@ fn pages(alloc: Global, count: u16) -> Result<Areas, Fail> {
 fn are_found(areas: &Areas, count: u16) -> bool {
     for number in 0..u64::from(count) {
         let last = 0x2000 * number + 0xfff;
-        if memory_of(areas.at(last)) != Some(number) || areas.at(last + 1).is_some() {
+        if found(areas.at(last)) != Answer::Gives(number) || areas.at(last + 1).is_some() {
             return false;
+        }
+    }
+    areas.len() == usize::from(count)
+}
+
+const FULL: &[Row] = &[
+    (0x1000, 0x1fff, Call::Add(1), Answer::Refused(Cause::Full)),
+    (0x1000, 0x2000, Call::Add(1), OVERLAP),
+];
+
+#[test]
+fn as_many_areas_as_may_be(rt: HostRuntime) -> Result<(), Fail> {
+    let mut areas = pages(rt.alloc(), 65_535)?;
+    assert!(rt; first_wrong(&mut areas, rt.alloc(), FULL).is_none());
+    assert!(rt; are_found(&areas, 65_535));
+    Ok(())
+}
+
+// Adds 4,000 pages from the last one down to 0x1000. Whether all came in.
+fn adds_falling(areas: &mut Areas) -> bool {
+    for number in 0..4_000u64 {
+        let first = 0x1000 * (4_000 - number);
+        match Span::new(first, first + 0xfff) {
+            Some(page) if added(areas, page, number) == Answer::Done => {}
+            _ => return false,
         }
     }
     true
 }
 
-#[test]
-fn as_many_areas_as_may_be(rt: HostRuntime) -> Result<(), Fail> {
-    let mut areas = pages(rt.alloc(), 65_535)?;
-    assert!(rt; are_found(&areas, 65_535));
-    for (first, last, cause) in [
-        (0x1000, 0x1fff, Cause::Full),
-        (0x1000, 0x2000, Cause::Overlap),
-    ] {
-        assert!(rt; refusal(&mut areas, first, last)? == Some(cause));
-    }
-    assert!(rt; areas.len() == Areas::<Global>::MAX);
-    Ok(())
-}
-
-// So many areas of a page, from 4,000 pages on downwards.
-fn falling_pages(alloc: Global) -> Result<Areas, Fail> {
-    let mut areas = Areas::new(alloc);
-    for number in 0..4_000u64 {
-        let first = 0x1000 * (4_000 - number);
-        add(&mut areas, first, first + 0xfff, number)?;
-    }
-    Ok(areas)
-}
+const FALLING: &[Row] = &[
+    (0x1000, 0x1000, Call::At, Answer::Gives(3_999)),
+    (0xfa_0000, 0xfa_0fff, Call::Exact, Answer::Gives(0)),
+    (
+        0x1000,
+        0xfa_0fff,
+        Call::Look,
+        Answer::Looks(true, false, true),
+    ),
+];
 
 #[test]
-fn areas_from_the_top_down(rt: HostRuntime) -> Result<(), Fail> {
-    let all = span(0x1000, 0x1000 * 4_001 - 1)?;
-    let areas = falling_pages(rt.alloc())?;
-    assert!(rt; memory_of(areas.at(0x1000)) == Some(3_999));
-    assert!(rt; memory_of(areas.at(0x1000 * 4_000)) == Some(0));
-    assert!(rt; areas.covered(all).is_ok());
-    Ok(())
+fn areas_from_the_top_down(rt: HostRuntime) {
+    let mut areas = Areas::new(rt.alloc());
+    assert!(rt; adds_falling(&mut areas));
+    assert!(rt; first_wrong(&mut areas, rt.alloc(), FALLING).is_none());
 }
 
 fn block(heap: &LocalHeap, size: usize) -> Result<Vec<u8, &LocalHeap>, AllocError> {
     Vec::with_capacity(heap, size)
 }
 
-// Adds the page of this number, each second one. Whether there was memory.
-fn add_page(areas: &mut Areas<&LocalHeap>, number: u16) -> Result<bool, Fail> {
-    let first = 0x2000 * u64::from(number);
-    let page = live(first, first + 0xfff, 1)?;
-    match areas.insert(page) {
-        Ok(()) => Ok(true),
-        Err(InsertError::Memory(_)) => Ok(false),
-        Err(InsertError::Refused(_)) => Err("a page that is refused")?,
+// Adds a page at the address.
+fn page_added(areas: &mut Areas<&LocalHeap>, first: u64) -> Answer {
+    match Span::of_length(first, 0x1000) {
+        Some(page) => added(areas, page, 1),
+        None => Answer::Nothing,
     }
 }
 
-// Adds pages while a block takes some of the heap, and says at which memory is refused.
-fn page_refused(areas: &mut Areas<&LocalHeap>, heap: &LocalHeap, size: usize) -> Result<u16, Fail> {
-    let _block = block(heap, size)?;
+// Adds every second page while a block takes some of the heap, and says at which memory is refused.
+fn page_refused(areas: &mut Areas<&LocalHeap>, heap: &LocalHeap, size: usize) -> Option<u16> {
+    let _block = block(heap, size).ok()?;
     for number in 0..1000u16 {
-        if !add_page(areas, number)? {
-            return Ok(number);
+        if page_added(areas, 0x2000 * u64::from(number)) == Answer::NoMemory {
+            return Some(number);
         }
     }
-    Err("no page was refused")?
+    None
 }
 
 // Whether the refused page changed nothing, and is added once there is memory.
-fn is_added_later(areas: &mut Areas<&LocalHeap>, number: u16) -> Result<bool, Fail> {
+fn is_added_later(areas: &mut Areas<&LocalHeap>, number: u16) -> bool {
     let first = 0x2000 * u64::from(number);
-    let unchanged = areas.len() == usize::from(number) && areas.at(first).is_none();
-    let added = areas.reserve().is_ok() && add_page(areas, number)?;
-    Ok(unchanged && added && areas.at(first + 0xfff).is_some())
+    areas.len() == usize::from(number)
+        && areas.at(first).is_none()
+        && areas.reserve().is_ok()
+        && page_added(areas, first) == Answer::Done
+        && areas.at(first + 0xfff).is_some()
+}
+
+// Whether memory is refused beside a block of this size, and then nothing has changed.
+fn keeps_its_areas(alloc: Global, size: usize) -> Result<bool, AllocError> {
+    let heap = LocalHeap::new(alloc, 1 << 13)?;
+    let mut areas: Areas<&LocalHeap> = Areas::new(&heap);
+    match page_refused(&mut areas, &heap, size) {
+        Some(number) => Ok(is_added_later(&mut areas, number)),
+        None => Ok(false),
+    }
 }
 
 // Beside these blocks the heap refuses the map its first, second, third and fourth growth.
 #[test]
 fn a_refused_growth_changes_nothing(rt: HostRuntime) -> Result<(), Fail> {
     for size in [8100, 7500, 6000, 4000] {
-        let heap = LocalHeap::new(rt.alloc(), 1 << 13)?;
-        let mut areas: Areas<&LocalHeap> = Areas::new(&heap);
-        let number = page_refused(&mut areas, &heap, size)?;
-        assert!(rt; is_added_later(&mut areas, number)?);
+        assert!(rt; keeps_its_areas(rt.alloc(), size)?);
     }
     Ok(())
 }
 
 #[test]
 fn a_list_of_spans_needs_memory(rt: HostRuntime) -> Result<(), Fail> {
-    let areas = four_areas(rt.alloc())?;
-    for (size, fits) in [(32, false), (1 << 10, true)] {
-        let heap = LocalHeap::new(rt.alloc(), size)?;
-        assert!(rt; areas.spans(&heap).is_ok() == fits);
-    }
+    let areas = pages(rt.alloc(), 3)?;
+    let ends = [(0, 0xfff), (0x2000, 0x2fff), (0x4000, 0x4fff)];
+    let spans = areas.spans(rt.alloc())?;
+    assert!(rt; are(&spans, &ends));
+    let heap = LocalHeap::new(rt.alloc(), 16)?;
+    assert!(rt; areas.spans(&heap).is_err());
     Ok(())
 }

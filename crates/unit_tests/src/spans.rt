@@ -11,12 +11,12 @@ pub(crate) fn span(first: u64, last: u64) -> Result<Span, Fail> {
 }
 
 // The spans from each first to its last number.
-pub(crate) fn spans(alloc: Global, ends: &[(u64, u64)]) -> Result<Vec<Span>, Fail> {
+pub(crate) fn spans(alloc: Global, ends: &[(u64, u64)]) -> Option<Vec<Span>> {
     let mut spans = Vec::new(alloc);
     for (first, last) in ends {
-        spans.push(span(*first, *last)?)?;
+        spans.push(Span::new(*first, *last)?).ok()?;
     }
-    Ok(spans)
+    Some(spans)
 }
 
 // Whether the spans have these first and last numbers.

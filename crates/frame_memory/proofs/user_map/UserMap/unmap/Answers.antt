@@ -9,3 +9,6 @@ pub returns-clause-pages : goal.returns-clause-pages
 returns-clause-pages g c =
     rw (← c.self.view_is)
     (filter_same _ (λ (row : UserPage). not (is_page c.args.user (page_of c.args.va) row)) _ (λ x b f k. search rules) _ _ c.retain.ensures.filtered)
+
+pub returns-clause-pool : goal.returns-clause-pool
+returns-clause-pool g c = search rules

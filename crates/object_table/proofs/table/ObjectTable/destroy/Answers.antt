@@ -1,4 +1,4 @@
-use Rattle.std.proofs.Common.{◌≡◌, arith, refl, sym, ap, ◌∙◌, Some}
+use Rattle.std.proofs.Common.{◌≡◌, arith, refl, sym, ap, ◌∙◌, Some, rules}
 use Rattle.std.specs.Option.{option_map}
 use Rattle.object_table.specs.Layout.{row_of}
 use Rattle.object_table.proofs.FileRows.{some_from_map}
@@ -71,3 +71,6 @@ returns-clause-next g c =
     let place = place_of_row files c.args.file c.args.id (rw found refl) in
     let before = IsInLimits-at files _ c.index_mut.result.now place.1 c.index_mut.ensures.value c.self.invariant in
     reserved_id-new files c.args.file _ c.index_mut.result.now place.0 place.1 c.index_mut.ensures.value c.take-value.new.self ∙ c.take-value.ensures.next before
+
+pub returns-clause-ok : goal.returns-clause-ok
+returns-clause-ok g c = search rules

@@ -1,0 +1,5 @@
+use Rattle.std.proofs.Common.{rules}
+use Rattle.iommufd_cli.proofs.replies.bad_line.Goals as goal
+
+pub returns : goal.returns
+returns c = search rules

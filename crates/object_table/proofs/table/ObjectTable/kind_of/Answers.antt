@@ -1,0 +1,5 @@
+use Rattle.std.proofs.Common.{rules}
+use Rattle.object_table.proofs.table.ObjectTable.kind_of.Goals as goal
+
+pub returns : goal.returns
+returns g c = search rules
