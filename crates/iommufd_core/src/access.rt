@@ -14,8 +14,8 @@ ghost use Rattle.iommufd_core.specs.Outcomes.{given_outcome, outcome_told, outco
 ghost use Rattle.iommufd_core.specs.Seen.{seen};
 
 use crate::held::Held;
-use crate::lookups;
 use crate::state::State;
+use crate::{devices, lookups};
 use iofd_words::{
     AccessKind, Area, Attachment, Config, DeviceNo, FaultReason, FileNo, FrameNo, ObjId,
     ObjectKind, Phase, Pin,
@@ -182,10 +182,7 @@ pub(crate) fn pinned_frame(pins: &[Pin], memory: u64, index: u64) -> Option<Fram
 fn is_beyond<A: Allocator>(config: &Config<A>, device: DeviceNo, address: u64) -> bool
     ensures { result ≡ option_map_or (λ d. nat_le (2 ^ bits_of d.width) address) (files.device_of config.now device) false }
 {
-    if device.0 == 0 {
-        return false;
-    }
-    match config.devices().get(device.0 as usize - 1) {
+    match devices::settings_of(config, device) {
         Some(settings) => address >= settings.width().end(),
         None => false,
     }

@@ -15,7 +15,7 @@ ghost use Rattle.iommufd_core.specs.Step.{LacksPlace, ShowsSame, Steps};
 
 use crate::held::Held;
 use crate::state::State;
-use crate::{attachments, lookups, pins};
+use crate::{attachments, devices, lookups, pins};
 use iofd_words::{
     Area, Attachment, Cause, Config, DeviceNo, FileNo, NoMemory, ObjId, Reply, Width,
 };
@@ -97,8 +97,7 @@ pub(crate) fn commit<A: Allocator>(
 fn width_of<A: Allocator>(config: &Config<A>, device: DeviceNo) -> Option<Width>
     ensures { result ≡ words.width_of config.now device }
 {
-    let place = usize::from(device.0).checked_sub(1)?;
-    Some(config.devices().get(place)?.width())
+    Some(devices::settings_of(config, device)?.width())
 }
 
 /// Whether the id is that of an address space of the file.

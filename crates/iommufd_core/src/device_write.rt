@@ -13,7 +13,7 @@ ghost use Rattle.iommufd_core.specs.Seen.{seen};
 ghost use Rattle.iommufd_core.specs.Step.{ChosenSteps};
 
 use crate::state::State;
-use crate::{access, bytes};
+use crate::{access, bytes, devices};
 use iofd_words::{
     AccessKind, Burst, Cause, Config, DeviceNo, Fault, FaultReason, FrameNo, Iova, Reply, SourceId,
 };
@@ -66,10 +66,7 @@ pub(crate) fn fault_of<A: Allocator>(
 fn source_of<A: Allocator>(config: &Config<A>, device: DeviceNo) -> SourceId
     ensures { result ≡ option_map_or (λ d. d.source) (files.device_of config.now device) (record { 0 = 0 }) }
 {
-    if device.0 == 0 {
-        return SourceId(0);
-    }
-    match config.devices().get(device.0 as usize - 1) {
+    match devices::settings_of(config, device) {
         Some(settings) => settings.source(),
         None => SourceId(0),
     }

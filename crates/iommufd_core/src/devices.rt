@@ -2,6 +2,7 @@
 
 ghost use Rattle.std.specs.Prelude.{◌≡◌, ◌==◌, ◌≤◌, true, false, IfSome, IfNone};
 ghost use Rattle.std.specs.List.{list_all};
+ghost use Rattle.std.specs.Option.{option_copied};
 ghost use Rattle.iofd_words.specs.Attachments.{devices_of, is_attached_to};
 ghost use Rattle.iofd_words.specs.Files as files;
 ghost use Rattle.iofd_laws.specs.Fits.{devices_rise};
@@ -10,9 +11,22 @@ ghost use Rattle.iommufd_core.specs.Mapping.{is_over};
 
 use crate::held::Held;
 use crate::lookups;
-use iofd_words::{Attachment, Config, DeviceNo, DeviceSet, FileNo, ObjId, ObjectKind};
+use iofd_words::{
+    Attachment, Config, DeviceConfig, DeviceNo, DeviceSet, FileNo, ObjId, ObjectKind,
+};
 use object_table::ObjectTable;
 use std::alloc::Allocator;
+
+/// The settings of the device; None where there is no such device.
+pub(crate) fn settings_of<A: Allocator>(
+    config: &Config<A>,
+    device: DeviceNo,
+) -> Option<&DeviceConfig<A>>
+    ensures { option_copied result ≡ files.device_of config.now device }
+{
+    let place = usize::from(device.0).checked_sub(1)?;
+    config.devices().get(place)
+}
 
 /// Whether there is such a device. Its number is 1 to 256 then.
 pub(crate) fn is_device<A: Allocator>(config: &Config<A>, device: DeviceNo) -> bool
@@ -22,7 +36,7 @@ pub(crate) fn is_device<A: Allocator>(config: &Config<A>, device: DeviceNo) -> b
 {
     // Called for its contract alone: a configuration is within its limits, one of which is 256 devices.
     config.pool();
-    device.0 >= 1 && usize::from(device.0) <= config.devices().len()
+    settings_of(config, device).is_some()
 }
 
 /// The devices that are attached to the file's address space of this id. None where some attachment is of a device that

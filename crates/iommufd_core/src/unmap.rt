@@ -1,7 +1,7 @@
 //! UNMAP: areas go, or are on their way out until devices have flushed.
 
-ghost use Rattle.std.specs.Prelude.{◌≡◌, ◌<◌, ℕ, false, not, filter, IfSome, IsSome, IfOk, OnErr};
-ghost use Rattle.iofd_words.specs.Areas.{is_everything, unmapped_span};
+ghost use Rattle.std.specs.Prelude.{◌≡◌, ◌<◌, ◌&&◌, ◌∷◌, [], ℕ, false, not, filter, IfSome, IsSome, IfOk, OnErr};
+ghost use Rattle.iofd_words.specs.Areas.{areas_meet, is_cut, is_everything, unmapped_span};
 ghost use Rattle.iofd_words.specs.Checks.{checks};
 ghost use Rattle.iofd_words.specs.FirstTrue.{first_true};
 ghost use Rattle.iofd_words.specs.Pages.{is_above_sum};
@@ -13,6 +13,7 @@ ghost use Rattle.iommufd_core.specs.Mapping.{is_among};
 use crate::map::is_above_sum;
 use crate::state::State;
 use crate::{area_changes, devices, lookups};
+use area_map::Areas;
 use iofd_words::{Cause, Errno, FileNo, MemoryObject, NoMemory, Pin, Reply, Span, UnmapRequest};
 use std::alloc::Allocator;
 
@@ -37,6 +38,20 @@ pub(crate) fn refusal<A: Allocator>(
     let Some(areas) = lookups::areas_of(&state.objects, file, request.ioas) else {
         return Some(Cause::Id);
     };
+    refusal_by_areas(request, span, areas)
+}
+
+/// Why the address space with these areas refuses it.
+fn refusal_by_areas<A: Allocator>(
+    request: UnmapRequest,
+    span: Span,
+    areas: &Areas<A>,
+) -> Option<Cause>
+    ensures { result ≡ first_true (
+        (Cause.Span, not (is_everything request) && not (areas_meet span areas.now.areas))
+        ∷ (Cause.Span, is_cut span areas.now.areas)
+        ∷ []) }
+{
     if !is_everything(request) && !areas.meets(span) {
         return Some(Cause::Span);
     }

@@ -31,32 +31,45 @@ fn config(alloc: Global) -> Result<Config, Fail> {
     Ok(Config::new(2, users, files, devices, 1)?)
 }
 
-fn refused(cause: Cause) -> Reply {
-    Reply::Refused(Refusal { cause })
+/// An event of the script, with what stands in all of them left out.
+#[derive(Clone, Copy)]
+enum Step {
+    Alloc(FileNo),
+    /// The user's page at this address is mapped.
+    Page(u64),
+    /// A MAP of the user's page at 0x10000 to this address.
+    Map(u64),
+    Bind,
+    Attach,
+    /// The device writes the last two bytes of the page at 0x1000.
+    Write,
+    /// An UNMAP of that page.
+    Unmap,
+    Flush,
+    Detach,
+    Destroy(FileNo, u32),
+    Close(FileNo),
 }
 
-fn map(iova: u64) -> Event {
-    Event::Map(
-        FIRST,
-        MapRequest {
-            flags: MapFlags(7),
-            ioas: ObjId(1),
-            user_va: 0x10000,
-            length: 0x1000,
-            iova: Iova(iova),
-        },
-    )
-}
+const REQUEST: MapRequest = MapRequest {
+    flags: MapFlags(7),
+    ioas: ObjId(1),
+    user_va: 0x10000,
+    length: 0x1000,
+    iova: Iova(0x1000),
+};
 
-fn unmap() -> Event {
-    Event::Unmap(
-        FIRST,
-        UnmapRequest {
-            ioas: ObjId(1),
-            iova: Iova(0x1000),
-            length: 0x1000,
-        },
-    )
+const UNMAP: UnmapRequest = UnmapRequest {
+    ioas: ObjId(1),
+    iova: Iova(0x1000),
+    length: 0x1000,
+};
+
+fn map(iova: u64) -> MapRequest {
+    MapRequest {
+        iova: Iova(iova),
+        ..REQUEST
+    }
 }
 
 fn write() -> Result<Event, Fail> {
@@ -64,46 +77,70 @@ fn write() -> Result<Event, Fail> {
     Ok(Event::DeviceWrite(DEVICE, Iova(0x1ffe), bytes))
 }
 
-/// The events of the worked script with their replies, and a few more.
-fn script(alloc: Global) -> Result<Vec<(Event, Reply)>, Fail> {
-    Ok(vec![in alloc;
-        (Event::IoasAlloc(FIRST), Reply::Id(ObjId(1))),
-        (Event::IoasAlloc(SECOND), Reply::Id(ObjId(1))),
-        (Event::UserMap(UserNo(1), 0x10000), Reply::Frame(FrameNo(0))),
-        (map(0x1000), Reply::Iova(Iova(0x1000))),
-        (map(0x1000), refused(Cause::Overlap)),
-        (Event::Bind(FIRST, DEVICE), Reply::Id(ObjId(2))),
-        (Event::Attach(DEVICE, ObjId(1)), Reply::Id(ObjId(3))),
-        (write()?, Reply::Passed(FrameNo(0))),
-        (Event::UserMap(UserNo(1), 0x11000), Reply::Frame(FrameNo(1))),
-        (Event::UserMap(UserNo(1), 0x12000), refused(Cause::Frames)),
-        (map(0x5000), Reply::Iova(Iova(0x5000))),
-        (unmap(), Reply::Pending(Errno::EAGAIN)),
-        (
-            write()?,
-            Reply::Fault(denied(1, AccessKind::Write, FaultReason::WriteDenied))
-        ),
-        (Event::Flush(DEVICE), Reply::Done),
-        (unmap(), Reply::Bytes(0x1000)),
-        (Event::Destroy(SECOND, ObjId(2)), refused(Cause::Id)),
-        (Event::Destroy(SECOND, ObjId(1)), Reply::Done),
-        (Event::Destroy(FIRST, ObjId(1)), refused(Cause::InUse)),
-        (Event::Detach(DEVICE), Reply::Done),
-        (Event::Destroy(FIRST, ObjId(1)), Reply::Done),
-        (Event::Close(FIRST), refused(Cause::InUse)),
-        (Event::Close(SECOND), Reply::Done),
-        (Event::IoasAlloc(SECOND), refused(Cause::Id)),
-    ]?)
+fn event(step: Step) -> Result<Event, Fail> {
+    Ok(match step {
+        Step::Alloc(file) => Event::IoasAlloc(file),
+        Step::Page(va) => Event::UserMap(UserNo(1), va),
+        Step::Map(iova) => Event::Map(FIRST, map(iova)),
+        Step::Bind => Event::Bind(FIRST, DEVICE),
+        Step::Attach => Event::Attach(DEVICE, ObjId(1)),
+        Step::Write => return write(),
+        Step::Unmap => Event::Unmap(FIRST, UNMAP),
+        Step::Flush => Event::Flush(DEVICE),
+        Step::Detach => Event::Detach(DEVICE),
+        Step::Destroy(file, id) => Event::Destroy(file, ObjId(id)),
+        Step::Close(file) => Event::Close(file),
+    })
 }
 
-fn denied(page: u64, kind: AccessKind, reason: FaultReason) -> Fault {
-    Fault {
-        source: SourceId(0x18),
-        page,
-        kind,
-        reason,
-    }
-}
+const UNKNOWN: Reply = Reply::Refused(Refusal { cause: Cause::Id });
+
+const IN_USE: Reply = Reply::Refused(Refusal {
+    cause: Cause::InUse,
+});
+
+const OVERLAP: Reply = Reply::Refused(Refusal {
+    cause: Cause::Overlap,
+});
+
+const NO_FRAME: Reply = Reply::Refused(Refusal {
+    cause: Cause::Frames,
+});
+
+/// A fault at the page 1.
+const DENIED: Fault = Fault {
+    source: SourceId(0x18),
+    page: 1,
+    kind: AccessKind::Write,
+    reason: FaultReason::WriteDenied,
+};
+
+/// The events of the worked script with their replies, and a few more.
+static SCRIPT: [(Step, Reply); 23] = [
+    (Step::Alloc(FIRST), Reply::Id(ObjId(1))),
+    (Step::Alloc(SECOND), Reply::Id(ObjId(1))),
+    (Step::Page(0x10000), Reply::Frame(FrameNo(0))),
+    (Step::Map(0x1000), Reply::Iova(Iova(0x1000))),
+    (Step::Map(0x1000), OVERLAP),
+    (Step::Bind, Reply::Id(ObjId(2))),
+    (Step::Attach, Reply::Id(ObjId(3))),
+    (Step::Write, Reply::Passed(FrameNo(0))),
+    (Step::Page(0x11000), Reply::Frame(FrameNo(1))),
+    (Step::Page(0x12000), NO_FRAME),
+    (Step::Map(0x5000), Reply::Iova(Iova(0x5000))),
+    (Step::Unmap, Reply::Pending(Errno::EAGAIN)),
+    (Step::Write, Reply::Fault(DENIED)),
+    (Step::Flush, Reply::Done),
+    (Step::Unmap, Reply::Bytes(0x1000)),
+    (Step::Destroy(SECOND, 2), UNKNOWN),
+    (Step::Destroy(SECOND, 1), Reply::Done),
+    (Step::Destroy(FIRST, 1), IN_USE),
+    (Step::Detach, Reply::Done),
+    (Step::Destroy(FIRST, 1), Reply::Done),
+    (Step::Close(FIRST), IN_USE),
+    (Step::Close(SECOND), Reply::Done),
+    (Step::Alloc(SECOND), UNKNOWN),
+];
 
 fn read(iova: u64, len: u8) -> Query {
     Query::DeviceRead {
@@ -117,67 +154,94 @@ fn apply<A: Allocator + Copy>(core: &mut Core<A>, event: Event) -> Result<Stamp,
     core.apply(PassNo(0), &Act { event, via: None })
 }
 
+/// Whether the event is answered so, under the next number, and one record more is told.
+fn answers(core: &mut Core, step: Step, reply: Reply) -> Result<bool, Fail> {
+    let event = event(step)?;
+    let count = core.records().len();
+    let stamp = apply(core, event)?;
+    Ok(
+        stamp.at == count as u64
+            && stamp.reply == reply
+            && core.records().len().checked_sub(1) == Some(count),
+    )
+}
+
 #[test]
 fn worked_script_has_its_replies(rt: HostRuntime) -> Result<(), Fail> {
-    let mut core = Core::new(rt.alloc(), &config(rt.alloc())?)?;
-    let script = script(rt.alloc())?;
-    for (i, (event, reply)) in script.iter().enumerate() {
-        let stamp = apply(&mut core, *event)?;
-        assert_eq!(rt; stamp.at, i as u64);
-        assert_eq!(rt; stamp.reply, *reply, "event {i}");
-        assert_eq!(rt; core.records().len() as u64, stamp.at.saturating_add(1));
+    let config = config(rt.alloc())?;
+    let mut core = Core::new(rt.alloc(), &config)?;
+    for (place, (step, reply)) in SCRIPT.iter().enumerate() {
+        assert!(rt; answers(&mut core, *step, *reply)?, "event {place}");
     }
     Ok(())
 }
 
 /// A core that the first steps of the script have gone through.
 fn core_after(alloc: Global, steps: usize) -> Result<Core, Fail> {
-    let mut core = Core::new(alloc, &config(alloc)?)?;
-    let script = script(alloc)?;
-    for (event, _) in script.iter().take(steps) {
-        apply(&mut core, *event)?;
+    let config = config(alloc)?;
+    let mut core = Core::new(alloc, &config)?;
+    for (step, _) in SCRIPT.iter().take(steps) {
+        apply(&mut core, event(*step)?)?;
     }
     Ok(core)
 }
 
-#[test]
-fn an_unbound_device_reads_nothing(rt: HostRuntime) -> Result<(), Fail> {
-    let core = core_after(rt.alloc(), 0)?;
-    let unbound = Answer::Refused(Refusal { cause: Cause::Id });
-    assert_eq!(rt; core.look(&read(0x1000, 1)), unbound);
-    Ok(())
+/// A fault of a read at the page above the width.
+const BEYOND: Fault = Fault {
+    source: SourceId(0x18),
+    page: 0x800_0000,
+    kind: AccessKind::Read,
+    reason: FaultReason::BeyondWidth,
+};
+
+const NO_CONTEXT: Fault = Fault {
+    reason: FaultReason::NoContext,
+    ..BEYOND
+};
+
+const UNMAPPED: Fault = Fault {
+    page: 2,
+    reason: FaultReason::ReadDenied,
+    ..BEYOND
+};
+
+const CROSSES: Reply = Reply::Refused(Refusal {
+    cause: Cause::Cross,
+});
+
+/// How many steps have gone before a read, its address and length, and its refusal or fault.
+static READS: [(usize, u64, u8, Reply); 5] = [
+    (0, 0x1000, 1, UNKNOWN),
+    // that there is no context comes before the width
+    (6, 0x80_0000_0000, 1, Reply::Fault(NO_CONTEXT)),
+    (8, 0x1fff, 2, CROSSES),
+    (8, 0x2000, 1, Reply::Fault(UNMAPPED)),
+    (8, 0x80_0000_0000, 1, Reply::Fault(BEYOND)),
+];
+
+/// Whether the read is answered by this refusal or fault.
+fn is_told(core: &Core, query: &Query, reply: Reply) -> bool {
+    match core.look(query) {
+        Answer::Refused(refusal) => reply == Reply::Refused(refusal),
+        Answer::Fault(fault) => reply == Reply::Fault(fault),
+        Answer::Read(_) => false,
+    }
 }
 
 #[test]
-fn no_context_comes_before_the_width(rt: HostRuntime) -> Result<(), Fail> {
-    let core = core_after(rt.alloc(), 6)?;
-    let no_context = denied(0x800_0000, AccessKind::Read, FaultReason::NoContext);
-    assert_eq!(rt;
-        core.look(&read(0x80_0000_0000, 1)),
-        Answer::Fault(no_context)
-    );
+fn reads_are_refused_or_denied(rt: HostRuntime) -> Result<(), Fail> {
+    for (steps, iova, len, reply) in &READS {
+        let core = core_after(rt.alloc(), *steps)?;
+        assert!(rt; is_told(&core, &read(*iova, *len), *reply), "{reply:?}");
+    }
     Ok(())
 }
 
 #[test]
 fn a_read_gives_what_was_written(rt: HostRuntime) -> Result<(), Fail> {
-    let core = core_after(rt.alloc(), 8)?;
     let written = Burst::new(&[0xbe, 0xef]).ok_or("two bytes")?;
-    assert_eq!(rt; core.look(&read(0x1ffe, 2)), Answer::Read(written));
-    Ok(())
-}
-
-#[test]
-fn reads_beyond_the_page_are_refused_or_denied(rt: HostRuntime) -> Result<(), Fail> {
     let core = core_after(rt.alloc(), 8)?;
-    let crossing = Answer::Refused(Refusal {
-        cause: Cause::Cross,
-    });
-    assert_eq!(rt; core.look(&read(0x1fff, 2)), crossing);
-    let unmapped = denied(2, AccessKind::Read, FaultReason::ReadDenied);
-    assert_eq!(rt; core.look(&read(0x2000, 1)), Answer::Fault(unmapped));
-    let beyond = denied(0x800_0000, AccessKind::Read, FaultReason::BeyondWidth);
-    assert_eq!(rt; core.look(&read(0x80_0000_0000, 1)), Answer::Fault(beyond));
+    assert!(rt; core.look(&read(0x1ffe, 2)) == Answer::Read(written));
     Ok(())
 }
 
@@ -217,14 +281,38 @@ fn fill(alloc: Global, heap: &LocalHeap) -> Result<Vec<Vec<u8, &LocalHeap>>, All
     Ok(blocks)
 }
 
+/// Whether no core opens in a full heap.
+fn is_refused(alloc: Global, heap: &LocalHeap, config: &Config) -> Result<bool, AllocError> {
+    let _blocks = fill(alloc, heap)?;
+    Ok(Core::new(heap, config).is_err())
+}
+
+/// What the event is answered with so much memory left in blocks of the least size; None where it wants for some.
+fn apply_with<'a>(
+    alloc: Global,
+    heap: &'a LocalHeap,
+    core: &mut Core<&'a LocalHeap>,
+    event: Event,
+    left: u64,
+) -> Result<Option<Reply>, AllocError> {
+    let mut blocks = fill(alloc, heap)?;
+    for _ in 0..left {
+        blocks.pop();
+    }
+    match apply(core, event) {
+        Ok(stamp) => Ok(Some(stamp.reply)),
+        Err(NoMemory) => Ok(None),
+    }
+}
+
 fn same(holds: bool) -> Result<(), Fail> {
     let wanted = if holds { Some(()) } else { None };
     Ok(wanted.ok_or("want of memory changed something")?)
 }
 
-/// The step with ever more memory left, until it is taken; how often it found none.
+/// The event with ever more memory left, until it is taken: its reply, and how often it found none, which changed nothing.
 fn apply_at_last<'a>(
-    rt: HostRuntime,
+    alloc: Global,
     heap: &'a LocalHeap,
     core: &mut Core<&'a LocalHeap>,
     event: Event,
@@ -232,14 +320,9 @@ fn apply_at_last<'a>(
     let before = core.records().len();
     let seen = core.look(&read(0x1ffe, 2));
     for left in 0..2048u64 {
-        let mut blocks = fill(rt.alloc(), heap)?;
-        for _ in 0..left {
-            blocks.pop();
-        }
-        let answer = apply(core, event);
-        drop(blocks);
-        if let Ok(stamp) = answer {
-            return Ok((stamp.reply, left));
+        let answer = apply_with(alloc, heap, core, event, left)?;
+        if let Some(reply) = answer {
+            return Ok((reply, left));
         }
         same(core.records().len() == before)?;
         same(core.look(&read(0x1ffe, 2)) == seen)?;
@@ -249,20 +332,15 @@ fn apply_at_last<'a>(
 
 #[test]
 fn a_refused_growth_changes_nothing(rt: HostRuntime) -> Result<(), Fail> {
-    let heap = LocalHeap::new(rt.alloc(), 24576)?;
-    let blocks = fill(rt.alloc(), &heap)?;
     let config = config(rt.alloc())?;
-    assert!(rt; Core::new(&heap, &config).is_err());
-    drop(blocks);
+    let heap = LocalHeap::new(rt.alloc(), 24576)?;
+    assert!(rt; is_refused(rt.alloc(), &heap, &config)?);
     let mut core = Core::new(&heap, &config)?;
-    let script = script(rt.alloc())?;
     let mut refused_steps = 0u32;
-    for (event, reply) in script.iter() {
-        let (answer, refusals) = apply_at_last(rt, &heap, &mut core, *event)?;
-        assert_eq!(rt; answer, *reply);
-        if refusals > 0 {
-            refused_steps = refused_steps.saturating_add(1);
-        }
+    for (step, reply) in &SCRIPT {
+        let (answer, refusals) = apply_at_last(rt.alloc(), &heap, &mut core, event(*step)?)?;
+        assert!(rt; answer == *reply);
+        refused_steps = refused_steps.saturating_add(u32::from(refusals > 0));
     }
     assert!(rt; refused_steps >= 8, "steps that grow: {refused_steps}");
     Ok(())

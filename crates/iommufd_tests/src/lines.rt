@@ -6,9 +6,8 @@ use iofd_words::{
     MapRequest, ObjId, Refusal, Reply, SourceId, UnmapRequest,
 };
 use iommufd_cli::{
-    answer_line, bad_line, ioctl_line, memory_line, no_memory_line, refusal_line, reply_line,
+    Line, answer_line, bad_line, ioctl_line, memory_line, no_memory_line, refusal_line, reply_line,
 };
-use std::test::Fail;
 
 const MAP: MapRequest = MapRequest {
     flags: MapFlags(7),
@@ -28,7 +27,7 @@ const ALL_BYTES: &str = "ok 000102030405060708090a0b0c0d0e0f10111213141516171819
 202122232425262728292a2b2c2d2e2f303132333435363738393a3b3c3d3e3f\n";
 
 // Each cause, and the line of its refusal.
-const REFUSALS: [(Cause, &str); 29] = [
+static REFUSALS: [(Cause, &str); 29] = [
     (Cause::Number, "25 Number\n"),
     (Cause::Short, "22 Short\n"),
     (Cause::Tail, "7 Tail\n"),
@@ -60,41 +59,79 @@ const REFUSALS: [(Cause, &str); 29] = [
     (Cause::Pending, "16 Pending\n"),
 ];
 
-fn denied(source: u16, page: u64, kind: AccessKind, reason: FaultReason) -> Fault {
-    Fault {
-        source: SourceId(source),
-        page,
-        kind,
-        reason,
-    }
+// A read that the device 0010 isn't attached for.
+const UNATTACHED: Fault = Fault {
+    source: SourceId(0x10),
+    page: 9,
+    kind: AccessKind::Read,
+    reason: FaultReason::NoContext,
+};
+
+// A read at 2^48.
+const BEYOND: Fault = Fault {
+    source: SourceId(0x0100),
+    page: 1 << 36,
+    kind: AccessKind::Read,
+    reason: FaultReason::BeyondWidth,
+};
+
+const DENIED_WRITE: Fault = Fault {
+    source: SourceId(0xbeef),
+    page: 0,
+    kind: AccessKind::Write,
+    reason: FaultReason::WriteDenied,
+};
+
+const DENIED_READ: Fault = Fault {
+    source: SourceId(0x18),
+    page: 2,
+    kind: AccessKind::Read,
+    reason: FaultReason::ReadDenied,
+};
+
+fn is(line: Line, text: &str) -> bool {
+    line.as_slice() == text.as_bytes()
 }
 
+// What a step that isn't an ioctl answers, and its line.
+static REPLIES: [(Reply, &str); 10] = [
+    (Reply::Done, "ok\n"),
+    (Reply::Id(ObjId(2)), "ok id 2\n"),
+    (Reply::Id(ObjId(0x7fff_ffff)), "ok id 2147483647\n"),
+    (Reply::Frame(FrameNo(0)), "ok frame 0\n"),
+    (Reply::Frame(FrameNo(120)), "ok frame 120\n"),
+    (Reply::Passed(FrameNo(3)), "ok\n"),
+    (Reply::Pending(Errno::EAGAIN), "11 Pending\n"),
+    (
+        Reply::Fault(BEYOND),
+        "fault 4 source 0100 page 1000000000 read\n",
+    ),
+    (
+        Reply::Fault(DENIED_WRITE),
+        "fault 5 source beef page 0 write\n",
+    ),
+    (Reply::Refused(Refusal { cause: Cause::Id }), "2 Id\n"),
+];
+
+static PAGES: [(u64, &str); 4] = [
+    (9, "fault 2 source 0010 page 9 read\n"),
+    (0x10, "fault 2 source 0010 page 10 read\n"),
+    (0xfee00, "fault 2 source 0010 page fee00 read\n"),
+    (u64::MAX, "fault 2 source 0010 page ffffffffffffffff read\n"),
+];
+
 #[test]
-fn steps(rt: HostRuntime) -> Result<(), Fail> {
-    let beyond = denied(0x0100, 1 << 36, AccessKind::Read, FaultReason::BeyondWidth);
-    let denied_write = denied(0xbeef, 0, AccessKind::Write, FaultReason::WriteDenied);
-    let refusal = Refusal { cause: Cause::Id };
-    for (reply, text) in [
-        (Reply::Done, "ok\n"),
-        (Reply::Id(ObjId(2)), "ok id 2\n"),
-        (Reply::Id(ObjId(0x7fff_ffff)), "ok id 2147483647\n"),
-        (Reply::Frame(FrameNo(0)), "ok frame 0\n"),
-        (Reply::Frame(FrameNo(120)), "ok frame 120\n"),
-        (Reply::Passed(FrameNo(3)), "ok\n"),
-        (Reply::Pending(Errno::EAGAIN), "11 Pending\n"),
-        (
-            Reply::Fault(beyond),
-            "fault 4 source 0100 page 1000000000 read\n",
-        ),
-        (
-            Reply::Fault(denied_write),
-            "fault 5 source beef page 0 write\n",
-        ),
-        (Reply::Refused(refusal), "2 Id\n"),
-    ] {
-        assert_eq!(rt; reply_line(&reply).as_slice(), text.as_bytes());
+fn steps(rt: HostRuntime) {
+    for (reply, text) in &REPLIES {
+        assert!(rt; is(reply_line(reply), text), "{text}");
     }
-    Ok(())
+    for (page, text) in &PAGES {
+        let fault = Fault {
+            page: *page,
+            ..UNATTACHED
+        };
+        assert!(rt; is(reply_line(&Reply::Fault(fault)), text), "{text}");
+    }
 }
 
 // A command with its good reply, and the line for it.
@@ -135,7 +172,7 @@ static BARE: [(Reply, &str); 3] = [
 
 // Whether the command's line for the reply is this text.
 fn tells(command: &Command, reply: &Reply, text: &str) -> bool {
-    ioctl_line(command, reply).as_slice() == text.as_bytes()
+    is(ioctl_line(command, reply), text)
 }
 
 // Whether each of the bare replies has its line.
@@ -152,70 +189,49 @@ fn ioctls(rt: HostRuntime) {
 }
 
 #[test]
-fn answers(rt: HostRuntime) -> Result<(), Fail> {
-    let fault = denied(0x18, 2, AccessKind::Read, FaultReason::ReadDenied);
-    let answer = Answer::Fault(fault);
-    let text = "fault 6 source 0018 page 2 read\n";
-    assert_eq!(rt; answer_line(&answer).as_slice(), text.as_bytes());
-    let refusal = Refusal {
+fn answers(rt: HostRuntime) {
+    let crossing = Refusal {
         cause: Cause::Cross,
     };
-    let answer = Answer::Refused(refusal);
-    assert_eq!(rt; answer_line(&answer).as_slice(), b"22 Cross\n".as_slice());
-    Ok(())
+    assert!(rt;
+        is(
+            answer_line(&Answer::Fault(DENIED_READ)),
+            "fault 6 source 0018 page 2 read\n"
+        )
+    );
+    assert!(rt; is(answer_line(&Answer::Refused(crossing)), "22 Cross\n"));
+}
+
+// Whether the line of a read that gives the bytes is this text.
+fn spells(bytes: &[u8], text: &str) -> bool {
+    match Burst::new(bytes) {
+        Some(burst) => is(answer_line(&Answer::Read(burst)), text),
+        None => false,
+    }
 }
 
 #[test]
-fn bytes_read(rt: HostRuntime) -> Result<(), Fail> {
+fn bytes_read(rt: HostRuntime) {
     let mut all = [0; 64];
     for (i, byte) in all.iter_mut().enumerate() {
         *byte = i as u8;
     }
-    let reads: [(&[u8], &str); 3] = [
-        (&[0xbe, 0xef], "ok beef\n"),
-        (&[0; 4], "ok 00000000\n"),
-        (&all, ALL_BYTES),
-    ];
-    for (bytes, text) in reads {
-        let answer = Answer::Read(Burst::new(bytes).expect(&rt, "1 to 64 bytes"));
-        assert_eq!(rt; answer_line(&answer).as_slice(), text.as_bytes());
-    }
-    Ok(())
+    assert!(rt; spells(&[0xbe, 0xef], "ok beef\n"));
+    assert!(rt; spells(&[0; 4], "ok 00000000\n"));
+    assert!(rt; spells(&all, ALL_BYTES));
 }
 
 #[test]
-fn refusals(rt: HostRuntime) -> Result<(), Fail> {
-    for (cause, text) in REFUSALS {
-        assert_eq!(rt; refusal_line(Refusal { cause }).as_slice(), text.as_bytes());
+fn refusals(rt: HostRuntime) {
+    for (cause, text) in &REFUSALS {
+        assert!(rt; is(refusal_line(Refusal { cause: *cause }), text), "{text}");
     }
-    Ok(())
 }
 
 #[test]
-fn pages(rt: HostRuntime) -> Result<(), Fail> {
-    for (page, text) in [
-        (9, "fault 2 source 0010 page 9 read\n"),
-        (0x10, "fault 2 source 0010 page 10 read\n"),
-        (0xfee00, "fault 2 source 0010 page fee00 read\n"),
-        (u64::MAX, "fault 2 source 0010 page ffffffffffffffff read\n"),
-    ] {
-        let fault = denied(0x10, page, AccessKind::Read, FaultReason::NoContext);
-        assert_eq!(rt;
-            reply_line(&Reply::Fault(fault)).as_slice(),
-            text.as_bytes()
-        );
-    }
-    Ok(())
-}
-
-#[test]
-fn whole_outputs(rt: HostRuntime) -> Result<(), Fail> {
-    assert_eq!(rt; memory_line().as_slice(), b"12 Memory\n".as_slice());
-    assert_eq!(rt; no_memory_line().as_slice(), b"no memory\n".as_slice());
-    assert_eq!(rt; bad_line(8).as_slice(), b"bad line 8\n".as_slice());
-    assert_eq!(rt;
-        bad_line(u64::MAX).as_slice(),
-        b"bad line 18446744073709551615\n".as_slice()
-    );
-    Ok(())
+fn whole_outputs(rt: HostRuntime) {
+    assert!(rt; is(memory_line(), "12 Memory\n"));
+    assert!(rt; is(no_memory_line(), "no memory\n"));
+    assert!(rt; is(bad_line(8), "bad line 8\n"));
+    assert!(rt; is(bad_line(u64::MAX), "bad line 18446744073709551615\n"));
 }

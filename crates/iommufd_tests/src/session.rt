@@ -36,7 +36,7 @@ detach 1
 ioctl 1 3b80 0800000001000000
 ";
 
-const LINES: [&str; 21] = [
+static LINES: [&str; 21] = [
     "0 0c0000000000000001000000\n",
     "0 0c0000000000000001000000\n",
     "ok frame 0\n",
@@ -69,86 +69,98 @@ fn first_lines(alloc: Global, count: usize) -> Result<Vec<u8>, Fail> {
     Ok(text)
 }
 
-#[test]
-fn worked_script(rt: HostRuntime) -> Result<(), Fail> {
-    let mut reader = SCRIPT.as_bytes();
-    let mut written = Vec::new(rt.alloc());
-    let status = session(rt.alloc(), &mut reader, &mut written)?;
-    assert_eq!(rt; status, 0);
-    assert_eq!(rt;
-        written.as_slice(),
-        first_lines(rt.alloc(), LINES.len())?.as_slice()
-    );
-    Ok(())
+// Whether the session of the script has this status, and has written this.
+fn writes(alloc: Global, script: &str, status: u8, text: &[u8]) -> Result<bool, Fail> {
+    let mut reader = script.as_bytes();
+    let mut written = Vec::new(alloc);
+    let given = session(alloc, &mut reader, &mut written)?;
+    Ok(given == status && written.as_slice() == text)
 }
 
 #[test]
-fn bad_scripts(rt: HostRuntime) -> Result<(), Fail> {
-    for (script, text) in [
-        ("", "bad line 1\n"),
-        ("pool 8\nuser 4\nfile 2\nbegin\n", "bad line 3\n"),
-        (
-            "pool 8\nuser 4\nfile 1\nbegin\nclose 1\nclose",
-            "bad line 6\n",
-        ),
-    ] {
-        let mut reader = script.as_bytes();
-        let mut written = Vec::new(rt.alloc());
-        assert_eq!(rt; session(rt.alloc(), &mut reader, &mut written)?, 1);
-        assert_eq!(rt; written.as_slice(), text.as_bytes());
+fn worked_script(rt: HostRuntime) -> Result<(), Fail> {
+    let all = first_lines(rt.alloc(), LINES.len())?;
+    assert!(rt; writes(rt.alloc(), SCRIPT, 0, &all)?);
+    Ok(())
+}
+
+// Scripts with their status and what is written. The last line may lack its line feed.
+static SHORT_SCRIPTS: [(&str, u8, &str); 4] = [
+    ("", 1, "bad line 1\n"),
+    ("pool 8\nuser 4\nfile 2\nbegin\n", 1, "bad line 3\n"),
+    (
+        "pool 8\nuser 4\nfile 1\nbegin\nclose 1\nclose",
+        1,
+        "bad line 6\n",
+    ),
+    ("pool 8\nuser 4\nfile 1\nbegin\nclose 1", 0, "ok\n"),
+];
+
+#[test]
+fn short_scripts(rt: HostRuntime) -> Result<(), Fail> {
+    for (script, status, text) in &SHORT_SCRIPTS {
+        assert!(rt;
+            writes(rt.alloc(), script, *status, text.as_bytes())?,
+            "{text}"
+        );
     }
     Ok(())
 }
 
-#[test]
-fn last_line_may_lack_its_line_feed(rt: HostRuntime) -> Result<(), Fail> {
-    let mut reader = "pool 8\nuser 4\nfile 1\nbegin\nclose 1".as_bytes();
-    let mut written = Vec::new(rt.alloc());
-    assert_eq!(rt; session(rt.alloc(), &mut reader, &mut written)?, 0);
-    assert_eq!(rt; written.as_slice(), b"ok\n".as_slice());
-    Ok(())
+// Whether a read that fails at this call ends the session, and nothing is written.
+fn ends_at_read(alloc: Global, bad: usize) -> bool {
+    let mut reader = Input::new(SCRIPT, 100, bad, ErrorKind::BrokenPipe);
+    let mut written = Vec::new(alloc);
+    let answer = session(alloc, &mut reader, &mut written);
+    matches!(answer, Err(CliFault::Read(_))) && written.is_empty()
+}
+
+// Whether a read that is interrupted at this call is tried again, and all is written.
+fn reads_again(alloc: Global, bad: usize, all: &[u8]) -> Result<bool, Fail> {
+    let mut reader = Input::new(SCRIPT, 100, bad, ErrorKind::Interrupted);
+    let mut written = Vec::new(alloc);
+    let status = session(alloc, &mut reader, &mut written)?;
+    Ok(status == 0 && written.as_slice() == all)
 }
 
 #[test]
 fn failed_reads(rt: HostRuntime) -> Result<(), Fail> {
     let all = first_lines(rt.alloc(), LINES.len())?;
-    let calls = SCRIPT.len() / 100 + 2;
-    for bad in 0..calls {
-        let mut reader = Input::new(SCRIPT, 100, bad, ErrorKind::BrokenPipe);
-        let mut written = Vec::new(rt.alloc());
-        let answer = session(rt.alloc(), &mut reader, &mut written);
-        assert!(rt; matches!(answer, Err(CliFault::Read(_))), "at call {bad}");
-        assert!(rt; written.is_empty(), "at call {bad}");
-        let mut reader = Input::new(SCRIPT, 100, bad, ErrorKind::Interrupted);
-        assert_eq!(rt;
-            session(rt.alloc(), &mut reader, &mut written)?,
-            0,
-            "at call {bad}"
-        );
-        assert_eq!(rt; written.as_slice(), all.as_slice(), "at call {bad}");
+    for bad in 0..SCRIPT.len() / 100 + 2 {
+        assert!(rt; ends_at_read(rt.alloc(), bad), "at call {bad}");
+        assert!(rt; reads_again(rt.alloc(), bad, &all)?, "at call {bad}");
     }
     Ok(())
+}
+
+// Whether a write that fails at this call, each of at most so many bytes, ends the session there, and this is written.
+fn ends_at_write(alloc: Global, most: usize, bad: usize, text: &[u8]) -> bool {
+    let mut reader = SCRIPT.as_bytes();
+    let mut writer = Output::new(alloc, most, bad, ErrorKind::BrokenPipe);
+    let answer = session(alloc, &mut reader, &mut writer);
+    matches!(answer, Err(CliFault::Output(_)))
+        && writer.taken.as_slice() == text
+        && writer.calls.checked_sub(1) == Some(bad)
+}
+
+// Whether all is written by writes of at most so many bytes, where the one of this call is interrupted.
+fn writes_again(alloc: Global, most: usize, bad: usize, all: &[u8]) -> Result<bool, Fail> {
+    let mut reader = SCRIPT.as_bytes();
+    let mut writer = Output::new(alloc, most, bad, ErrorKind::Interrupted);
+    let status = session(alloc, &mut reader, &mut writer)?;
+    Ok(status == 0 && writer.taken.as_slice() == all)
 }
 
 #[test]
 fn failed_writes(rt: HostRuntime) -> Result<(), Fail> {
     let all = first_lines(rt.alloc(), LINES.len())?;
     for bad in 0..LINES.len() {
-        let mut reader = SCRIPT.as_bytes();
-        let mut writer = Output::new(rt.alloc(), 192, bad, ErrorKind::BrokenPipe);
-        let answer = session(rt.alloc(), &mut reader, &mut writer);
-        assert!(rt; matches!(answer, Err(CliFault::Output(_))), "at line {bad}");
         let lines = first_lines(rt.alloc(), bad)?;
-        assert_eq!(rt; writer.taken.as_slice(), lines.as_slice(), "at line {bad}");
-        assert_eq!(rt; writer.calls, bad + 1);
-        let mut reader = SCRIPT.as_bytes();
-        let mut writer = Output::new(rt.alloc(), 192, bad, ErrorKind::Interrupted);
-        assert_eq!(rt;
-            session(rt.alloc(), &mut reader, &mut writer)?,
-            0,
+        assert!(rt;
+            ends_at_write(rt.alloc(), 192, bad, &lines),
             "at line {bad}"
         );
-        assert_eq!(rt; writer.taken.as_slice(), all.as_slice(), "at line {bad}");
+        assert!(rt; writes_again(rt.alloc(), 192, bad, &all)?, "at line {bad}");
     }
     Ok(())
 }
@@ -156,40 +168,31 @@ fn failed_writes(rt: HostRuntime) -> Result<(), Fail> {
 #[test]
 fn bytes_written_one_by_one(rt: HostRuntime) -> Result<(), Fail> {
     let all = first_lines(rt.alloc(), LINES.len())?;
-    for (bad, byte) in all.iter().enumerate() {
-        let mut reader = SCRIPT.as_bytes();
-        let mut writer = Output::new(rt.alloc(), 1, bad, ErrorKind::BrokenPipe);
-        let answer = session(rt.alloc(), &mut reader, &mut writer);
+    for bad in 0..all.len() {
         assert!(rt;
-            matches!(answer, Err(CliFault::Output(_))),
-            "at byte {bad}, {byte}"
-        );
-        assert_eq!(rt;
-            writer.taken.as_slice(),
-            &all[..bad],
-            "at byte {bad}, {byte}"
+            ends_at_write(rt.alloc(), 1, bad, &all[..bad]),
+            "at byte {bad}"
         );
     }
-    let mut reader = SCRIPT.as_bytes();
-    let mut writer = Output::new(rt.alloc(), 1, all.len(), ErrorKind::BrokenPipe);
-    assert_eq!(rt; session(rt.alloc(), &mut reader, &mut writer)?, 0);
-    assert_eq!(rt; writer.taken.as_slice(), all.as_slice());
+    assert!(rt; writes_again(rt.alloc(), 1, all.len(), &all)?);
     Ok(())
 }
 
-#[test]
-fn a_writer_that_takes_nothing(rt: HostRuntime) -> Result<(), Fail> {
-    for (script, calls) in [(SCRIPT, 1), ("pool 0\n", 1)] {
-        let mut reader = script.as_bytes();
-        let mut writer = Output::new(rt.alloc(), 0, 9, ErrorKind::Other);
-        let kind = match session(rt.alloc(), &mut reader, &mut writer) {
-            Err(CliFault::Output(error)) => Some(error.kind()),
-            _ => None,
-        };
-        assert!(rt; kind == Some(ErrorKind::WriteZero));
-        assert_eq!(rt; writer.calls, calls);
+// The kind of the error at a writer that takes no byte, and how often it was called.
+fn at_full_writer(alloc: Global, script: &str) -> (Option<ErrorKind>, usize) {
+    let mut reader = script.as_bytes();
+    let mut writer = Output::new(alloc, 0, 9, ErrorKind::Other);
+    match session(alloc, &mut reader, &mut writer) {
+        Err(CliFault::Output(error)) => (Some(error.kind()), writer.calls),
+        _ => (None, writer.calls),
     }
-    Ok(())
+}
+
+#[test]
+fn a_writer_that_takes_nothing(rt: HostRuntime) {
+    for script in [SCRIPT, "pool 0\n"] {
+        assert!(rt; at_full_writer(rt.alloc(), script) == (Some(ErrorKind::WriteZero), 1));
+    }
 }
 
 #[test]

@@ -1,6 +1,4 @@
-//! Worked bytes, given as hex text, and the refusal of each wrong size.
-
-ghost use Rattle.std.specs.Prelude.{◌<◌};
+//! Worked bytes, and the refusal of each wrong size.
 
 use ioctl_codec::{
     Command, DecodeError, decode, encode, encode_reply, encode_reply_to, round_trip,
@@ -45,140 +43,107 @@ const BUSY: Reply = Reply::Refused(Refusal {
     cause: Cause::InUse,
 });
 
-// Each structure's number and length, its canonical bytes and the command that they are.
-static CANONICAL: [(u32, u32, &str, Command); 4] = [
-    (0x3b80, 8, "0800000001000000", Command::Destroy(ObjId(1))),
-    (0x3b81, 12, "0c0000000000000000000000", Command::IoasAlloc),
+// Each structure's number, its canonical bytes and the command that they are.
+static CANONICAL: [(u32, &[u8], Command); 4] = [
+    (0x3b80, b"\x08\0\0\0\x01\0\0\0", Command::Destroy(ObjId(1))),
+    (0x3b81, b"\x0c\0\0\0\0\0\0\0\0\0\0\0", Command::IoasAlloc),
     (
         0x3b85,
-        40,
-        "28000000070000000100000000000000000001000000000000200000000000000010000000000000",
+        b"\x28\0\0\0\x07\0\0\0\x01\0\0\0\0\0\0\0\0\0\x01\0\0\0\0\0\0\x20\0\0\0\0\0\0\0\x10\0\0\0\0\0\0",
         Command::IoasMap(FIXED_MAP),
     ),
     (
         0x3b86,
-        24,
-        "18000000010000000000000000000000ffffffffffffffff",
+        b"\x18\0\0\0\x01\0\0\0\0\0\0\0\0\0\0\0\xff\xff\xff\xff\xff\xff\xff\xff",
         Command::IoasUnmap(UNMAP_ALL),
     ),
 ];
 
 // What is written back for a reply; nothing for one that isn't good.
-static REPLIES: [(Command, Reply, &str); 10] = [
-    (Command::Destroy(ObjId(1)), Reply::Done, "0800000001000000"),
+static REPLIES: [(Command, Reply, &[u8]); 10] = [
+    (
+        Command::Destroy(ObjId(1)),
+        Reply::Done,
+        b"\x08\0\0\0\x01\0\0\0",
+    ),
     (
         Command::IoasAlloc,
         Reply::Id(ObjId(1)),
-        "0c0000000000000001000000",
+        b"\x0c\0\0\0\0\0\0\0\x01\0\0\0",
     ),
     (
         Command::IoasMap(FIXED_MAP),
         Reply::Iova(Iova(0x1000)),
-        "28000000070000000100000000000000000001000000000000200000000000000010000000000000",
+        b"\x28\0\0\0\x07\0\0\0\x01\0\0\0\0\0\0\0\0\0\x01\0\0\0\0\0\0\x20\0\0\0\0\0\0\0\x10\0\0\0\0\0\0",
     ),
     (
         Command::IoasMap(NEAR_THE_END),
         Reply::Iova(Iova(0xffff_ffff_ffff_f000)),
-        "280000000700000001000000000000000000010000000000001000000000000000f0ffffffffffff",
+        b"\x28\0\0\0\x07\0\0\0\x01\0\0\0\0\0\0\0\0\0\x01\0\0\0\0\0\0\x10\0\0\0\0\0\0\0\xf0\xff\xff\xff\xff\xff\xff",
     ),
     (
         Command::IoasUnmap(UNMAP_ALL),
         Reply::Bytes(0x6000),
-        "180000000100000000000000000000000060000000000000",
+        b"\x18\0\0\0\x01\0\0\0\0\0\0\0\0\0\0\0\0\x60\0\0\0\0\0\0",
     ),
     (
         Command::IoasUnmap(ACROSS),
         Reply::Bytes(0x1000),
-        "1800000001000000ff4f0000000000000010000000000000",
+        b"\x18\0\0\0\x01\0\0\0\xff\x4f\0\0\0\0\0\0\0\x10\0\0\0\0\0\0",
     ),
-    (Command::Destroy(ObjId(1)), BUSY, ""),
-    (Command::IoasMap(FIXED_MAP), BUSY, ""),
+    (Command::Destroy(ObjId(1)), BUSY, b""),
+    (Command::IoasMap(FIXED_MAP), BUSY, b""),
     (
         Command::IoasUnmap(UNMAP_ALL),
         Reply::Pending(Errno::EAGAIN),
-        "",
+        b"",
     ),
-    (Command::IoasAlloc, Reply::Done, ""),
+    (Command::IoasAlloc, Reply::Done, b""),
 ];
 
-static REFUSED: [(u32, &str, Cause); 16] = [
-    (0x3b81, "10000000000000000000000001000000", Cause::Tail),
-    (0x3b81, "0800000000000000", Cause::Short),
-    (0x3b81, "0c000000", Cause::Short),
-    (0x3b81, "", Cause::Short),
-    (0x3b87, "0c0000000000000000000000", Cause::Number),
-    (0x3b87, "", Cause::Number),
-    (0x81, "0c0000000000000000000000", Cause::Number),
-    (0x3b80, "0110000001000000", Cause::Tail),
-    (0x3b80, "090000000100000001", Cause::Tail),
-    (0x3b80, "09000000010000000000", Cause::Array),
-    (0x3b81, "0c0000000100000000000000", Cause::Unsupported),
+static REFUSED: [(u32, &[u8], Cause); 16] = [
+    (0x3b81, b"\x10\0\0\0\0\0\0\0\0\0\0\0\x01\0\0\0", Cause::Tail),
+    (0x3b81, b"\x08\0\0\0\0\0\0\0", Cause::Short),
+    (0x3b81, b"\x0c\0\0\0", Cause::Short),
+    (0x3b81, b"", Cause::Short),
+    (0x3b87, b"\x0c\0\0\0\0\0\0\0\0\0\0\0", Cause::Number),
+    (0x3b87, b"", Cause::Number),
+    (0x81, b"\x0c\0\0\0\0\0\0\0\0\0\0\0", Cause::Number),
+    (0x3b80, b"\x01\x10\0\0\x01\0\0\0", Cause::Tail),
+    (0x3b80, b"\x09\0\0\0\x01\0\0\0\x01", Cause::Tail),
+    (0x3b80, b"\x09\0\0\0\x01\0\0\0\0\0", Cause::Array),
+    (0x3b81, b"\x0c\0\0\0\x01\0\0\0\0\0\0\0", Cause::Unsupported),
     // An unknown flag, a MAP that isn't fixed, a reserved field.
     (
         0x3b85,
-        "280000000f0000000100000000000000000001000000000000200000000000000010000000000000",
+        b"\x28\0\0\0\x0f\0\0\0\x01\0\0\0\0\0\0\0\0\0\x01\0\0\0\0\0\0\x20\0\0\0\0\0\0\0\x10\0\0\0\0\0\0",
         Cause::Unsupported,
     ),
     (
         0x3b85,
-        "28000000060000000100000000000000000001000000000000200000000000000010000000000000",
+        b"\x28\0\0\0\x06\0\0\0\x01\0\0\0\0\0\0\0\0\0\x01\0\0\0\0\0\0\x20\0\0\0\0\0\0\0\x10\0\0\0\0\0\0",
         Cause::Unsupported,
     ),
     (
         0x3b85,
-        "28000000070000000100000001000000000001000000000000200000000000000010000000000000",
+        b"\x28\0\0\0\x07\0\0\0\x01\0\0\0\x01\0\0\0\0\0\x01\0\0\0\0\0\0\x20\0\0\0\0\0\0\0\x10\0\0\0\0\0\0",
         Cause::Unsupported,
     ),
     // A tail is looked at before the flags, and the flags before what follows.
     (
         0x3b85,
-        "2900000006000000010000000000000000000100000000000020000000000000001000000000000001",
+        b"\x29\0\0\0\x06\0\0\0\x01\0\0\0\0\0\0\0\0\0\x01\0\0\0\0\0\0\x20\0\0\0\0\0\0\0\x10\0\0\0\0\0\0\x01",
         Cause::Tail,
     ),
     (
         0x3b85,
-        "2800000006000000010000000000000000000100000000000020000000000000001000000000000000",
+        b"\x28\0\0\0\x06\0\0\0\x01\0\0\0\0\0\0\0\0\0\x01\0\0\0\0\0\0\x20\0\0\0\0\0\0\0\x10\0\0\0\0\0\0\0",
         Cause::Unsupported,
     ),
 ];
 
-fn digit(character: u8) -> u8
-    ensures { result < 16 }
-{
-    match character {
-        b'0'..=b'9' => character - b'0',
-        b'a'..=b'f' => character - b'a' + 10,
-        _ => 0,
-    }
-}
-
-fn from_hex(alloc: Global, text: &str) -> Result<Vec<u8>, AllocError> {
-    let mut bytes = Vec::new(alloc);
-    for pair in text.as_bytes().chunks(2) {
-        if let [high, low] = pair {
-            bytes.push(digit(*high) * 16 + digit(*low))?;
-        }
-    }
-    Ok(bytes)
-}
-
-// Whether the text spells the bytes.
-fn spells(text: &str, bytes: &[u8]) -> bool {
-    text.len() / 2 == bytes.len()
-        && text.as_bytes().chunks(2).zip(bytes).all(|(
-            pair,
-            byte,
-        )| matches!(pair, [high, low] if digit(*high) * 16 + digit(*low) == *byte))
-}
-
 fn refused(cause: Cause) -> Result<Command, DecodeError> {
     Err(DecodeError::Refused(Refusal { cause }))
-}
-
-// What the bytes that the text spells are read as.
-fn decoded(alloc: Global, nr: u32, text: &str) -> Result<Result<Command, DecodeError>, AllocError> {
-    let bytes = from_hex(alloc, text)?;
-    Ok(decode(nr, &bytes))
 }
 
 // The same structure with this size, and zeros behind what was known of it.
@@ -191,79 +156,74 @@ fn grown(alloc: Global, bytes: &[u8], size: u32) -> Result<Vec<u8>, AllocError> 
     Ok(grown)
 }
 
-// What the structure is read as with this size.
-fn read_grown(
-    alloc: Global,
-    nr: u32,
-    bytes: &[u8],
-    size: u32,
-) -> Result<Result<Command, DecodeError>, AllocError> {
-    let grown = grown(alloc, bytes, size)?;
-    Ok(decode(nr, &grown))
-}
-
 #[test]
-fn canonical_bytes_are_read(rt: HostRuntime) -> Result<(), Fail> {
-    for (nr, length, text, command) in &CANONICAL {
-        assert!(rt; text.len() / 2 == *length as usize);
-        assert!(rt; decoded(rt.alloc(), *nr, text)? == Ok(*command), "{text}");
+fn canonical_bytes_are_read(rt: HostRuntime) {
+    for (nr, bytes, command) in &CANONICAL {
+        assert!(rt; decode(*nr, *bytes) == Ok(*command), "{nr:x}");
     }
     round_trip();
-    Ok(())
+}
+
+// Whether the command has this number and these canonical bytes.
+fn is_written(alloc: Global, command: &Command, nr: u32, bytes: &[u8]) -> Result<bool, NoMemory> {
+    if command.number() != nr || !command.is_spellable() {
+        return Ok(false);
+    }
+    Ok(encode(alloc, command)?.as_slice() == bytes)
 }
 
 #[test]
 fn canonical_bytes_are_written(rt: HostRuntime) -> Result<(), Fail> {
-    for (nr, _, text, command) in &CANONICAL {
-        assert!(rt; command.number() == *nr && command.is_spellable());
-        let bytes = encode(rt.alloc(), command)?;
-        assert!(rt; spells(text, &bytes), "{text}");
+    for (nr, bytes, command) in &CANONICAL {
+        assert!(rt; is_written(rt.alloc(), command, *nr, *bytes)?, "{nr:x}");
     }
     spellable_commands();
     Ok(())
 }
 
+// Whether this is written to the front of a buffer, and nothing behind it.
+fn puts(command: &Command, reply: &Reply, bytes: &[u8]) -> bool {
+    let mut buffer = [0xaa; 64];
+    let count = encode_reply_to(command, reply, &mut buffer);
+    &buffer[..count] == bytes && buffer[count..].iter().all(|byte| *byte == 0xaa)
+}
+
 #[test]
 fn replies_are_written_back(rt: HostRuntime) -> Result<(), Fail> {
-    for (command, reply, text) in &REPLIES {
-        let bytes = encode_reply(rt.alloc(), command, reply)?;
-        assert!(rt; spells(text, &bytes), "{text}");
+    for (place, (command, reply, bytes)) in REPLIES.iter().enumerate() {
+        let written = encode_reply(rt.alloc(), command, reply)?;
+        assert!(rt; written.as_slice() == *bytes, "row {place}");
+        assert!(rt; puts(command, reply, *bytes), "row {place}");
     }
     Ok(())
 }
 
-// Whether this is written to the front of a buffer, and nothing behind it.
-fn puts(command: &Command, reply: &Reply, text: &str) -> bool {
-    let mut buffer = [0xaa; 64];
-    let count = encode_reply_to(command, reply, &mut buffer);
-    spells(text, &buffer[..count]) && buffer[count..].iter().all(|byte| *byte == 0xaa)
-}
-
-#[test]
-fn replies_are_put_in_a_buffer(rt: HostRuntime) {
-    for (command, reply, text) in &REPLIES {
-        assert!(rt; puts(command, reply, text), "{text}");
+// Whether a structure of 16 bytes that are zero behind the size is read, and one of 12 is written back.
+fn writes_its_own_size(alloc: Global) -> Result<bool, NoMemory> {
+    match decode(0x3b81, &SIXTEEN) {
+        Ok(command) => {
+            let written = encode_reply(alloc, &command, &Reply::Id(ObjId(1)))?;
+            Ok(written.as_slice() == TWELVE.as_slice())
+        }
+        Err(_) => Ok(false),
     }
 }
+
+static SIXTEEN: [u8; 16] = [16, 0, 0, 0, 0, 0, 0, 0, 0, 0, 0, 0, 0, 0, 0, 0];
+
+static TWELVE: [u8; 12] = [12, 0, 0, 0, 0, 0, 0, 0, 1, 0, 0, 0];
 
 #[test]
 fn size_written_is_the_structures_own(rt: HostRuntime) -> Result<(), Fail> {
-    let read = decoded(rt.alloc(), 0x3b81, "10000000000000000000000000000000")?;
-    let command = read.ok().ok_or("the tail is zero")?;
-    let written = encode_reply(rt.alloc(), &command, &Reply::Id(ObjId(1)))?;
-    assert!(rt; spells("0c0000000000000001000000", &written));
+    assert!(rt; writes_its_own_size(rt.alloc())?);
     Ok(())
 }
 
 #[test]
-fn refusals(rt: HostRuntime) -> Result<(), Fail> {
-    for (nr, text, cause) in &REFUSED {
-        assert!(rt;
-            decoded(rt.alloc(), *nr, text)? == refused(*cause),
-            "{text}"
-        );
+fn refusals(rt: HostRuntime) {
+    for (place, (nr, bytes, cause)) in REFUSED.iter().enumerate() {
+        assert!(rt; decode(*nr, *bytes) == refused(*cause), "row {place}");
     }
-    Ok(())
 }
 
 // Whether each part of the bytes from the first on is too short.
@@ -277,31 +237,38 @@ fn are_short(nr: u32, bytes: &[u8]) -> bool {
 }
 
 #[test]
-fn less_than_a_structure_is_short(rt: HostRuntime) -> Result<(), Fail> {
-    for (nr, _, text, _) in &CANONICAL {
-        let bytes = from_hex(rt.alloc(), text)?;
-        assert!(rt; are_short(*nr, &bytes), "{text}");
+fn less_than_a_structure_is_short(rt: HostRuntime) {
+    for (nr, bytes, _) in &CANONICAL {
+        assert!(rt; are_short(*nr, *bytes), "{nr:x}");
     }
-    Ok(())
+}
+
+// Whether the bytes are read as this with the size.
+fn reads_grown(
+    alloc: Global,
+    nr: u32,
+    bytes: &[u8],
+    size: u32,
+    read: Result<Command, DecodeError>,
+) -> Result<bool, AllocError> {
+    let grown = grown(alloc, bytes, size)?;
+    Ok(decode(nr, &grown) == read)
 }
 
 // Whether the bytes with each larger size up to 4096 are this command.
 fn may_grow(alloc: Global, nr: u32, bytes: &[u8], command: Command) -> Result<bool, AllocError> {
     for size in bytes.len()..4096 {
-        if read_grown(alloc, nr, bytes, size as u32 + 1)? != Ok(command) {
+        if !reads_grown(alloc, nr, bytes, size as u32 + 1, Ok(command))? {
             return Ok(false);
         }
     }
-    Ok(true)
+    reads_grown(alloc, nr, bytes, 4097, refused(Cause::Tail))
 }
 
 #[test]
 fn sizes_up_to_4096_are_read(rt: HostRuntime) -> Result<(), Fail> {
-    for (nr, _, text, command) in &CANONICAL {
-        let bytes = from_hex(rt.alloc(), text)?;
-        assert!(rt; may_grow(rt.alloc(), *nr, &bytes, *command)?, "{text}");
-        let large = read_grown(rt.alloc(), *nr, &bytes, 4097)?;
-        assert!(rt; large == refused(Cause::Tail), "{text}");
+    for (nr, bytes, command) in &CANONICAL {
+        assert!(rt; may_grow(rt.alloc(), *nr, *bytes, *command)?, "{nr:x}");
     }
     Ok(())
 }
@@ -329,12 +296,12 @@ fn has_tail(alloc: Global, nr: u32, bytes: &[u8], size: u32) -> Result<bool, All
 
 #[test]
 fn each_byte_of_a_tail_is_zero(rt: HostRuntime) -> Result<(), Fail> {
-    for (nr, length, text, _) in &CANONICAL {
-        let bytes = from_hex(rt.alloc(), text)?;
+    for (nr, bytes, _) in &CANONICAL {
+        let length = bytes.len() as u32;
         for size in [length.wrapping_add(1), length.wrapping_add(8), 4095, 4096] {
             assert!(rt;
-                has_tail(rt.alloc(), *nr, &bytes, size)?,
-                "{text} of size {size}"
+                has_tail(rt.alloc(), *nr, *bytes, size)?,
+                "{nr:x} of size {size}"
             );
         }
     }
@@ -364,8 +331,8 @@ fn want_of_memory(rt: HostRuntime) -> Result<(), Fail> {
     // The smallest heap has one block, which is taken.
     let full = LocalHeap::new(rt.alloc(), 0)?;
     let _taken: Vec<u8, &LocalHeap> = Vec::with_capacity(&full, 1)?;
-    for (_, _, text, command) in &CANONICAL {
-        assert!(rt; takes_memory(&full, command), "{text}");
+    for (nr, _, command) in &CANONICAL {
+        assert!(rt; takes_memory(&full, command), "{nr:x}");
     }
     let reply = Reply::Id(ObjId(1));
     assert!(rt; encode_reply(&full, &Command::IoasAlloc, &reply).err() == Some(NoMemory));

@@ -6,6 +6,3 @@ use Rattle.iommufd_cli.proofs.run.run_text.Goals as goal
 pub returns-in-Ok-clause-begun : goal.returns-in-Ok-clause-begun
 returns-in-Ok-clause-begun g c =
     on_err_weaker c.run_script.result (λ h. (h.0, begins_text _ _ _ _ (search rules) h.1, h.2)) c.run_script.ensures.begun
-
-pub returns-in-Err-BadLine-clause-text : goal.returns-in-Err-BadLine-clause-text
-returns-in-Err-BadLine-clause-text g c = search rules

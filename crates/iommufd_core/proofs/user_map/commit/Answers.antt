@@ -1,17 +1,17 @@
-use Rattle.std.proofs.Common.{◌≡◌, ℕ, ◌<◌, ◌≤◌, ◌+◌, ◌*◌, ◌/◌, true, false, Some, None, [], ◌∷◌, ◌++◌, length, replicate, sym, ◌∙◌, ap, arith, not, is_some, rules}
+use Rattle.std.proofs.Common.{◌≡◌, ℕ, ◌<◌, ◌≤◌, ◌+◌, ◌*◌, ◌/◌, true, false, Some, None, [], ◌∷◌, ◌++◌, length, replicate, sym, ◌∙◌, ap, arith, not, is_some}
 use Rattle.std.proofs.lemmas.List.{get_or-replicate, length-replicate}
-use Rattle.std.specs.Option.{option_map}
 use Rattle.iofd_words.specs.After.{changed}
 use Rattle.iofd_words.specs.Answers.{Answers}
+use Rattle.iofd_laws.proofs.Runs.{tests_false}
 use Rattle.iofd_words.specs.Checks.{checks, refusal}
 use Rattle.iofd_words.specs.Frames.{has_free}
 use Rattle.iofd_words.specs.View.{view}
 use Rattle.iofd_words.specs.declared.event.Event.TheVariants as event
+use Rattle.std.specs.Option.{option_map}
 use Rattle.iofd_words.specs.declared.reply.Reply.TheVariants as reply
-use Rattle.iommufd_core.specs.Pages.{free_frame}
-use Rattle.iofd_laws.proofs.Runs.{tests_false}
 use Rattle.iommufd_core.proofs.BytesShown.{cleared, same_length}
 use Rattle.iommufd_core.proofs.FreeFrames.{chosen_is_free, has_free_frame, in_pool}
+use Rattle.iommufd_core.specs.Pages.{free_frame}
 use Rattle.iommufd_core.proofs.user_map.commit.Goals as goal
 
 never : true ≡ false → ⊥
@@ -56,6 +56,3 @@ returns-clause-ok g c = λ at via w tidy shows none may.
         bytes = rw c.clear.ensures (cleared w.settings.pool w.writes c.args.state.now.frames.items shows.frames shows.bytes frame.0 (replicate 4096 0) (length-replicate {A = ℕ} 4096 0) (λ i below. get_or-replicate 4096 i 0 0 below) within);
       },
     )
-
-pub returns-then-is_err-clause-memory : goal.returns-then-is_err-clause-memory
-returns-then-is_err-clause-memory g c = search rules
