@@ -4,11 +4,10 @@ use Rattle.std.specs.List.{filter, list_all, find, filter_map, list_any}
 use Rattle.std.proofs.lemmas.Bool.Decides.{nat_tests}
 use Rattle.iofd_words.specs.After.{changed, map_changes, attach_changes, detach_changes, settle, without_areas, attached, detached, mapped_area}
 use Rattle.iofd_words.specs.Answers.{Answers}
-use Rattle.iofd_words.specs.Areas.{with_area, is_of}
 use Rattle.iofd_words.specs.Attachments.{attachment_of, with_attachment}
 use Rattle.iofd_words.specs.Checks.{attach_checks, checks, refusal}
 use Rattle.iofd_words.specs.Files.{user_of, device_of}
-use Rattle.iofd_laws.specs.Fits.{RowsFit, devices_rise, is_of_pages}
+use Rattle.iofd_laws.specs.Fits.{RowsFit, begins_at_page, devices_rise, is_of_pages}
 use Rattle.iofd_words.specs.Frames.{frame_at, is_free}
 use Rattle.iofd_words.specs.Objects.{automatic_hwpt, binding_of}
 use Rattle.iofd_words.specs.Pages.{is_whole, is_above_user, page_of}
@@ -26,7 +25,6 @@ use Rattle.iofd_words.specs.declared.numbers.FrameNo.{FrameNo}
 use Rattle.iofd_words.specs.declared.numbers.UserNo.{UserNo}
 use Rattle.iofd_words.specs.declared.reply.Reply.{Reply}
 use Rattle.iofd_words.specs.declared.reply.Reply.TheVariants as reply
-use Rattle.iofd_words.specs.declared.rows.Area.{Area}
 use Rattle.iofd_words.specs.declared.rows.Attachment.{Attachment}
 use Rattle.iofd_words.specs.declared.rows.MemoryObject.{MemoryObject}
 use Rattle.iofd_words.specs.declared.rows.Object.{Object}
@@ -35,6 +33,7 @@ use Rattle.iofd_words.specs.declared.rows.Pin.{Pin}
 use Rattle.iofd_words.specs.declared.rows.UserPage.{UserPage}
 use Rattle.iofd_laws.proofs.Bools.{or_false, and_true, both_true}
 use Rattle.iofd_laws.proofs.Found.{all_filter, all_map, found_passes}
+use Rattle.iofd_laws.proofs.OwnMemory.{all-with_area}
 use Rattle.iofd_laws.proofs.Known.{alloc_open, attached_one, bind_device, bind_open, bound_known, is_known, known_closed, known_hwpt, known_one}
 use Rattle.iofd_laws.proofs.Runs.{tests_false}
 
@@ -44,16 +43,6 @@ from_size : (first length : ℕ) → eqb length 0 ≡ false → size_of (span_fr
 from_size first length some = let above : 0 < length = search (some, arith, nat_tests) in omega (arith, above)
 
 -- ---- one more area
-
-pages-with_area : (x : Area) (areas : List Area) → is_of_pages x ≡ true → list_all is_of_pages areas ≡ true → list_all is_of_pages (with_area x areas) ≡ true
-pages-with_area x [] here all = both_true _ _ here refl
-pages-with_area x (a ∷ areas) here all =
-    let parts = and_true (is_of_pages a) (list_all is_of_pages areas) all in
-    added (is_of x.file x.ioas a && ltb x.span.first a.span.first) parts.0 (pages-with_area x areas here parts.1)
-  where
-    added : (b : Bool) → is_of_pages a ≡ true → list_all is_of_pages (with_area x areas) ≡ true → list_all is_of_pages (cond b (x ∷ a ∷ areas) (a ∷ with_area x areas)) ≡ true
-    added true first rest = both_true _ _ here all
-    added false first rest = both_true _ _ first rest
 
 whole_length : (length va iova : Bool) → not (length && va && iova) ≡ false → length ≡ true
 whole_length true va iova is = refl
@@ -71,6 +60,18 @@ mapped_pages at w file request none =
     let length_whole = whole_length (is_whole request.length) (is_whole request.user_va) (is_whole request.iova.0) align.1 in
     let below : request.length ≤ 2 ^ 48 = short_length request.user_va request.length short in
     rw size (both_true _ _ length_whole (search (below, arith, nat_tests)))
+
+whole_start : (length va iova : Bool) → not (length && va && iova) ≡ false → iova ≡ true
+whole_start true true true is = refl
+whole_start true true false is = cc
+whole_start true false iova is = cc
+whole_start false va iova is = cc
+
+mapped_start : (at : ℕ) (w : World) (file : FileNo) (request : MapRequest) → refusal w (event.Map file request) ≡ None → begins_at_page (mapped_area at file request) ≡ true
+unfolding refusal checks
+mapped_start at w file request none =
+    let align = or_false (eqb request.length 0) (not (is_whole request.length && is_whole request.user_va && is_whole request.iova.0)) (tests_false (checks (view w) (event.Map file request)) 4 none) in
+    whole_start (is_whole request.length) (is_whole request.user_va) (is_whole request.iova.0) align.1
 
 -- ---- one more attachment
 
@@ -169,26 +170,27 @@ free_below pool pages pins frame free = (and_true (ltb frame pool) _ free).0
 
 pub keeps_fit : (at : ℕ) (w : World) (e : Event) (answer : Reply) → refusal w e ≡ None → Answers w e answer → RowsFit w → RowsFit (changed at w e answer)
 unfolding changed settle without_areas attached detached Answers
-keeps_fit at w (event.IoasAlloc file) (reply.Id id) none answers fits = record { pages = fits.pages; rise = fits.rise; user_frames = fits.user_frames; pin_frames = fits.pin_frames; known = known_one (is_known w.settings w.closed) (record { file = file; id = id; kind = kind.Ioas }) w.objects (both_true _ _ (alloc_open w file none) refl) fits.known; attached = fits.attached }
+keeps_fit at w (event.IoasAlloc file) (reply.Id id) none answers fits = record { pages = fits.pages; starts = fits.starts; rise = fits.rise; user_frames = fits.user_frames; pin_frames = fits.pin_frames; known = known_one (is_known w.settings w.closed) (record { file = file; id = id; kind = kind.Ioas }) w.objects (both_true _ _ (alloc_open w file none) refl) fits.known; attached = fits.attached }
 keeps_fit at w (event.Map file request) (reply.Iova iova) none answers fits = mapped (user_of w.settings file)
   where
     mapped : (user : Option UserNo) → RowsFit (map_changes at w file request user)
     mapped None = fits
-    mapped (Some user) = record { pages = pages-with_area (mapped_area at file request) w.areas (mapped_pages at w file request none) fits.pages; rise = fits.rise; user_frames = fits.user_frames; pin_frames = settled_below w.settings.pool _ w.user_pages fits.user_frames _ _ w.pins fits.pin_frames; known = fits.known; attached = fits.attached }
-keeps_fit at w (event.Unmap file request) (reply.Bytes count) none answers fits = record { pages = all_filter is_of_pages _ w.areas fits.pages; rise = fits.rise; user_frames = fits.user_frames; pin_frames = settled_below w.settings.pool _ w.user_pages fits.user_frames _ _ w.pins fits.pin_frames; known = fits.known; attached = fits.attached }
-keeps_fit at w (event.Unmap file request) (reply.Pending errno) none answers fits = record { pages = all_map is_of_pages is_of_pages _ w.areas (λ area is. is) fits.pages; rise = fits.rise; user_frames = fits.user_frames; pin_frames = fits.pin_frames; known = fits.known; attached = fits.attached }
-keeps_fit at w (event.Destroy file id) reply.Done none answers fits = record { pages = all_filter is_of_pages _ w.areas fits.pages; rise = fits.rise; user_frames = fits.user_frames; pin_frames = settled_below w.settings.pool _ w.user_pages fits.user_frames _ _ w.pins fits.pin_frames; known = all_filter (is_known w.settings w.closed) _ w.objects fits.known; attached = fits.attached }
-keeps_fit at w (event.Close file) reply.Done none answers fits = record { pages = all_filter is_of_pages _ w.areas fits.pages; rise = rise-filter _ w.attachments fits.rise; user_frames = fits.user_frames; pin_frames = settled_below w.settings.pool _ w.user_pages fits.user_frames _ _ w.pins fits.pin_frames; known = known_closed w.settings w.closed file w.objects fits.known; attached = all_filter _ _ w.attachments fits.attached }
+    mapped (Some user) = record { pages = all-with_area is_of_pages (mapped_area at file request) w.areas (mapped_pages at w file request none) fits.pages; starts = all-with_area begins_at_page (mapped_area at file request) w.areas (mapped_start at w file request none) fits.starts; rise = fits.rise; user_frames = fits.user_frames; pin_frames = settled_below w.settings.pool _ w.user_pages fits.user_frames _ _ w.pins fits.pin_frames; known = fits.known; attached = fits.attached }
+keeps_fit at w (event.Unmap file request) (reply.Bytes count) none answers fits = record { pages = all_filter is_of_pages _ w.areas fits.pages; starts = all_filter begins_at_page _ w.areas fits.starts; rise = fits.rise; user_frames = fits.user_frames; pin_frames = settled_below w.settings.pool _ w.user_pages fits.user_frames _ _ w.pins fits.pin_frames; known = fits.known; attached = fits.attached }
+keeps_fit at w (event.Unmap file request) (reply.Pending errno) none answers fits = record { pages = all_map is_of_pages is_of_pages _ w.areas (λ area is. is) fits.pages; starts = all_map begins_at_page begins_at_page _ w.areas (λ area is. is) fits.starts; rise = fits.rise; user_frames = fits.user_frames; pin_frames = fits.pin_frames; known = fits.known; attached = fits.attached }
+keeps_fit at w (event.Destroy file id) reply.Done none answers fits = record { pages = all_filter is_of_pages _ w.areas fits.pages; starts = all_filter begins_at_page _ w.areas fits.starts; rise = fits.rise; user_frames = fits.user_frames; pin_frames = settled_below w.settings.pool _ w.user_pages fits.user_frames _ _ w.pins fits.pin_frames; known = all_filter (is_known w.settings w.closed) _ w.objects fits.known; attached = fits.attached }
+keeps_fit at w (event.Close file) reply.Done none answers fits = record { pages = all_filter is_of_pages _ w.areas fits.pages; starts = all_filter begins_at_page _ w.areas fits.starts; rise = rise-filter _ w.attachments fits.rise; user_frames = fits.user_frames; pin_frames = settled_below w.settings.pool _ w.user_pages fits.user_frames _ _ w.pins fits.pin_frames; known = known_closed w.settings w.closed file w.objects fits.known; attached = all_filter _ _ w.attachments fits.attached }
 keeps_fit at w (event.UserMap user va) (reply.Frame frame) none answers fits =
     record {
       pages = fits.pages;
+      starts = fits.starts;
       rise = fits.rise;
       user_frames = all_both (λ (p : UserPage). ltb p.frame.0 w.settings.pool) w.user_pages _ fits.user_frames (both_true _ _ (free_below w.settings.pool w.user_pages w.pins frame.0 answers) refl);
       pin_frames = fits.pin_frames;
       known = fits.known;
       attached = fits.attached;
     }
-keeps_fit at w (event.Bind file device) (reply.Id id) none answers fits = record { pages = fits.pages; rise = fits.rise; user_frames = fits.user_frames; pin_frames = fits.pin_frames; known = known_one (is_known w.settings w.closed) (record { file = file; id = id; kind = kind.Device device }) w.objects (both_true _ _ (bind_open w file device none) (bind_device w file device none)) fits.known; attached = fits.attached }
+keeps_fit at w (event.Bind file device) (reply.Id id) none answers fits = record { pages = fits.pages; starts = fits.starts; rise = fits.rise; user_frames = fits.user_frames; pin_frames = fits.pin_frames; known = known_one (is_known w.settings w.closed) (record { file = file; id = id; kind = kind.Device device }) w.objects (both_true _ _ (bind_open w file device none) (bind_device w file device none)) fits.known; attached = fits.attached }
 keeps_fit at w (event.Attach device pt_id) (reply.Id id) none answers fits = bound (binding_of w.objects device) refl (device_of w.settings device)
   where
     bound : (object : Option Object) → binding_of w.objects device ≡ object → (settings : Option DeviceSettings) → RowsFit (attach_changes w device pt_id id object settings)
@@ -196,12 +198,12 @@ keeps_fit at w (event.Attach device pt_id) (reply.Id id) none answers fits = bou
     bound (Some object) is None = fits
     bound (Some object) is (Some settings) =
         let here = bound_known w.settings w.closed w.objects device object fits.known is in
-        record { pages = all_map is_of_pages is_of_pages _ w.areas (λ area is. is) fits.pages; rise = rise-with_attachment (record { device = device; file = object.file; hwpt = id }) w.attachments (attach_free w device object pt_id is none) fits.rise; user_frames = fits.user_frames; pin_frames = settled_below w.settings.pool _ w.user_pages fits.user_frames _ _ w.pins fits.pin_frames; known = known_hwpt w.settings w.closed object.file pt_id id settings.width (automatic_hwpt w.objects object.file pt_id settings.width) w.objects here.0 fits.known; attached = attached_one w.settings (record { device = device; file = object.file; hwpt = id }) w.attachments here.1 fits.attached }
+        record { pages = all_map is_of_pages is_of_pages _ w.areas (λ area is. is) fits.pages; starts = all_map begins_at_page begins_at_page _ w.areas (λ area is. is) fits.starts; rise = rise-with_attachment (record { device = device; file = object.file; hwpt = id }) w.attachments (attach_free w device object pt_id is none) fits.rise; user_frames = fits.user_frames; pin_frames = settled_below w.settings.pool _ w.user_pages fits.user_frames _ _ w.pins fits.pin_frames; known = known_hwpt w.settings w.closed object.file pt_id id settings.width (automatic_hwpt w.objects object.file pt_id settings.width) w.objects here.0 fits.known; attached = attached_one w.settings (record { device = device; file = object.file; hwpt = id }) w.attachments here.1 fits.attached }
 keeps_fit at w (event.Detach device) reply.Done none answers fits = attached_or_not (attachment_of w.attachments device)
   where
     attached_or_not : (a : Option Attachment) → RowsFit (detach_changes w device a)
     attached_or_not None = fits
-    attached_or_not (Some a) = record { pages = all_map is_of_pages is_of_pages _ w.areas (λ area is. is) fits.pages; rise = rise-filter _ w.attachments fits.rise; user_frames = fits.user_frames; pin_frames = settled_below w.settings.pool _ w.user_pages fits.user_frames _ _ w.pins fits.pin_frames; known = all_filter (is_known w.settings w.closed) _ w.objects fits.known; attached = all_filter _ _ w.attachments fits.attached }
-keeps_fit at w (event.Flush device) reply.Done none answers fits = record { pages = all_map is_of_pages is_of_pages _ w.areas (λ area is. is) fits.pages; rise = fits.rise; user_frames = fits.user_frames; pin_frames = fits.pin_frames; known = fits.known; attached = fits.attached }
-keeps_fit at w (event.DeviceWrite device iova bytes) (reply.Passed frame) none answers fits = record { pages = fits.pages; rise = fits.rise; user_frames = fits.user_frames; pin_frames = fits.pin_frames; known = fits.known; attached = fits.attached }
+    attached_or_not (Some a) = record { pages = all_map is_of_pages is_of_pages _ w.areas (λ area is. is) fits.pages; starts = all_map begins_at_page begins_at_page _ w.areas (λ area is. is) fits.starts; rise = rise-filter _ w.attachments fits.rise; user_frames = fits.user_frames; pin_frames = settled_below w.settings.pool _ w.user_pages fits.user_frames _ _ w.pins fits.pin_frames; known = all_filter (is_known w.settings w.closed) _ w.objects fits.known; attached = all_filter _ _ w.attachments fits.attached }
+keeps_fit at w (event.Flush device) reply.Done none answers fits = record { pages = all_map is_of_pages is_of_pages _ w.areas (λ area is. is) fits.pages; starts = all_map begins_at_page begins_at_page _ w.areas (λ area is. is) fits.starts; rise = fits.rise; user_frames = fits.user_frames; pin_frames = fits.pin_frames; known = fits.known; attached = fits.attached }
+keeps_fit at w (event.DeviceWrite device iova bytes) (reply.Passed frame) none answers fits = record { pages = fits.pages; starts = fits.starts; rise = fits.rise; user_frames = fits.user_frames; pin_frames = fits.pin_frames; known = fits.known; attached = fits.attached }
 keeps_fit at w e answer none answers fits = fits

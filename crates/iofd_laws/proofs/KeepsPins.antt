@@ -34,13 +34,14 @@ use Rattle.iofd_laws.proofs.AttachedPages.{attached_present, none_new}
 use Rattle.iofd_laws.proofs.Bools.{both_true}
 use Rattle.iofd_laws.proofs.Found.{all_filter, all_map, all_weaker}
 use Rattle.iofd_laws.proofs.MappedPages.{mapped_present}
+use Rattle.iofd_laws.proofs.OnePin.{pinned_differ, settled_once}
 use Rattle.iofd_laws.proofs.OwnMemory.{all-with_area, areas-filter, areas-map, areas-with_area, have_areas, own_memory-filter, own_memory-map, own_memory-with_area, pinned_pages-map}
 use Rattle.iofd_laws.proofs.PageTables.{hwpt-filter, pinned_alike, same_hwpt}
 use Rattle.iofd_laws.proofs.PinsFollow.{settled_only, settled_pinned}
 use Rattle.iofd_laws.proofs.Settled.{fewer_pages, mapped_pages, none_at, nothing_new}
 
 pub opening_pinned : (settings : Settings) → ArePinned 0 (opening settings)
-opening_pinned settings = record { own = refl; earlier = refl; made = refl; used = refl; pinned = refl; only = refl }
+opening_pinned settings = record { own = refl; earlier = refl; made = refl; used = refl; pinned = refl; only = refl; once = refl }
 
 later_than : (m at : ℕ) → ltb m at ≡ true → ltb m (at + 1) ≡ true
 later_than m at is = grind (arith, nat_tests)
@@ -53,6 +54,7 @@ later_pinned at w p = record {
   used = p.used;
   pinned = p.pinned;
   only = p.only;
+  once = p.once;
 }
 
 -- ---- where no pin comes or goes
@@ -61,7 +63,7 @@ later_pinned at w p = record {
 same_areas : (at : ℕ) (w : World) (user_pages : List UserPage) (writes : List FrameWrite) → ArePinned at w → ArePinned (at + 1) (record w { user_pages = user_pages; writes = writes })
 same_areas at w user_pages writes p =
     let q = later_pinned at w p in
-    record { own = q.own; earlier = q.earlier; made = q.made; used = q.used; pinned = q.pinned; only = q.only }
+    record { own = q.own; earlier = q.earlier; made = q.made; used = q.used; pinned = q.pinned; only = q.only; once = q.once }
 
 -- objects that are no page tables
 same_tables : (at : ℕ) (w : World) (left : List Object) → ((file : FileNo) (ioas : ObjId) → has_hwpt left file ioas ≡ has_hwpt w.objects file ioas) → ArePinned at w → ArePinned (at + 1) (record w { objects = left })
@@ -75,6 +77,7 @@ same_tables at w left same p =
       used = q.used;
       pinned = rw pages q.pinned;
       only = rw pages q.only;
+      once = q.once;
     }
 
 -- areas in other phases
@@ -89,6 +92,7 @@ other_phases at w phase p =
       used = areas-map phase w.areas w.memory q.used;
       pinned = rw pages q.pinned;
       only = rw pages q.only;
+      once = q.once;
     }
 
 -- ---- where pins follow
@@ -103,6 +107,7 @@ settle_pinned at w new p own earlier made used present = record {
   used = used;
   pinned = settled_pinned (pinned_pages w.objects w.areas) (pinned_pages new.objects new.areas) new.memory new.user_pages w.pins p.pinned present;
   only = settled_only (pinned_pages w.objects w.areas) (pinned_pages new.objects new.areas) new.memory new.user_pages w.pins;
+  once = settled_once (pinned_pages w.objects w.areas) (pinned_pages new.objects new.areas) new.memory new.user_pages w.pins p.once p.only (pinned_differ new.objects new.areas own) present;
 }
 
 mapped_pinned : (at : ℕ) (w : World) (file : FileNo) (request : MapRequest) (user : UserNo) → refusal w (event.Map file request) ≡ None → user_of w.settings file ≡ Some user → ArePinned at w → ArePinned (at + 1) (map_changes at w file request (Some user))

@@ -17,6 +17,7 @@ pub mod MappedPages
 pub mod Moves
 pub mod Named
 pub mod ObjectsGo
+pub mod OnePin
 pub mod Owed
 pub mod OwnFrames
 pub mod OwnIds

@@ -38,16 +38,16 @@ pub fn ids_are_unique<A: Allocator>()
         IsTrue (have_own_ids (world_of settings records).objects) }
 {}
 
-/// In every run, each page that is to be pinned has a pin, and no other page has one. Each area has a memory object of
+/// In every run, each page that is to be pinned has one pin, and no other page has any. Each area has a memory object of
 /// its own, which an earlier record made, and each memory object has an area.
 pub fn pins_are_those_of_pinned_pages<A: Allocator>()
     ensures { (settings : Settings) (records : List (Record A)) → IsRun settings records →
         ArePinned (length records) (world_of settings records) }
 {}
 
-/// In every run, each area is of whole pages and no longer than a user's memory, attachments rise by device, and
-/// users and pins have frames of the pool. Each object is of an open file, and each bound or attached device is one
-/// of the settings.
+/// In every run, each area begins at a page, is of whole pages and no longer than a user's memory, attachments rise by
+/// device, and users and pins have frames of the pool. Each object is of an open file, and each bound or attached device
+/// is one of the settings.
 pub fn rows_fit<A: Allocator>()
     ensures { (settings : Settings) (records : List (Record A)) → IsRun settings records →
         RowsFit (world_of settings records) }

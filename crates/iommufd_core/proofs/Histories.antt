@@ -33,6 +33,6 @@ module _ {A : Type 0} where
   unfolding IsRun world_of
   tidy_run settings records run =
       let sound = run_keeps IsSound keeps_sound 0 (opening settings) records run (record { own_ids = refl; debts = record { once = refl; debtors = refl; tables = refl; spaces = refl; areas = refl } }) in
-      let fit = run_keeps RowsFit keeps_fit 0 (opening settings) records run (record { pages = refl; rise = refl; user_frames = refl; pin_frames = refl; known = refl; attached = refl }) in
+      let fit = run_keeps RowsFit keeps_fit 0 (opening settings) records run (record { pages = refl; starts = refl; rise = refl; user_frames = refl; pin_frames = refl; known = refl; attached = refl }) in
       let pins = run_keeps_at ArePinned later_pinned keeps_pins 0 (length records) (opening settings) records (omega arith) run (opening_pinned settings) in
       record { pins = pins; debts = sound.debts; ids = sound.own_ids; fit = fit }
