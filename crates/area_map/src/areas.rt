@@ -36,9 +36,6 @@ impl<A: Allocator> Model for Areas<A> {
 }
 
 impl<A: Allocator> Areas<A> {
-    /// The most areas that an address space may have.
-    pub const MAX: usize = insertion::MOST_AREAS;
-
     /// No areas. It takes no memory.
     pub fn new(alloc: A) -> Areas<A>
         ensures { result.areas ≡ [] }

@@ -10,7 +10,7 @@ use iofd_words::{Area, Cause, NoMemory, Refusal};
 use std::alloc::Allocator;
 
 /// The most areas that an address space may have.
-pub const MOST_AREAS: usize = 65535;
+pub const MOST_AREAS: usize = 65_535;
 
 /// Adds an area, before the first that begins after it.
 pub fn insert<A: Allocator>(areas: &mut Vec<Area, A>, area: Area) -> Result<(), InsertError>

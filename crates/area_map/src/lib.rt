@@ -12,3 +12,4 @@ mod totals;
 
 pub use areas::Areas;
 pub use insert_error::InsertError;
+pub use insertion::MOST_AREAS;

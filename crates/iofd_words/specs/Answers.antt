@@ -34,7 +34,7 @@ IsHwptOf w ioas id (Some bound) (Some settings) = IsHwptFor w bound.file id (aut
 -- how the outcome of a write is told
 abbrev pub write_reply : World → DeviceNo → ℕ → Outcome → Reply
 write_reply w device address (Passes frame) = reply.Passed frame
-write_reply w device address (Denied reason) = reply.Fault (fault_of w device address Write reason)
+write_reply w device address (Denied reason) = reply.Fault (fault_of w.settings device address Write reason)
 
 unfoldable pub Answers : World → Event → Reply → Type 0
 Answers w (event.IoasAlloc file) (reply.Id id) = IsTrue (is_fresh w.objects file id)

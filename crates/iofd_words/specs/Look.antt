@@ -25,7 +25,7 @@ query_checks v (DeviceRead device iova len) =
 -- how the outcome of a read is told: the bytes of the frame where it passes
 abbrev pub read_answer : World → DeviceNo → ℕ → ℕ → Outcome → Answer
 read_answer w device address len (Passes frame) = answer.Read (bytes_at w.writes frame.0 (offset_of address) len)
-read_answer w device address len (Denied reason) = answer.Fault (fault_of w device address Read reason)
+read_answer w device address len (Denied reason) = answer.Fault (fault_of w.settings device address Read reason)
 
 -- the lawful answers to a question that nothing refuses
 abbrev pub lawful_answers : World → Query → List Answer

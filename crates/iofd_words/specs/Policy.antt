@@ -15,7 +15,7 @@ use Rattle.iofd_words.specs.Files.{device_of}
 use Rattle.iofd_words.specs.Pages.{page_of}
 use Rattle.iofd_words.specs.Pins.{ObjectPage, pinned_frame}
 use Rattle.iofd_words.specs.Rights.{has_right}
-use Rattle.iofd_words.specs.Settings.{DeviceSettings}
+use Rattle.iofd_words.specs.Settings.{DeviceSettings, Settings}
 use Rattle.iofd_words.specs.Width.{bits_of}
 use Rattle.iofd_words.specs.View.{View, view}
 use Rattle.iofd_words.specs.World.{World}
@@ -83,10 +83,10 @@ unfoldable pub outcomes : World → DeviceNo → ℕ → AccessKind → List Out
 outcomes w device address kind = access_outcomes (view w) device address kind
 
 -- how a denial is told: the device's source id, the address's page, the kind of access and the reason
-abbrev pub fault_of : World → DeviceNo → ℕ → AccessKind → FaultReason → Fault
-fault_of w device address kind reason =
+abbrev pub fault_of : Settings → DeviceNo → ℕ → AccessKind → FaultReason → Fault
+fault_of settings device address kind reason =
     record {
-      source = elim (device_of w.settings device) [ Some d ↦ d.source | None ↦ record { 0 = 0 } ];
+      source = elim (device_of settings device) [ Some d ↦ d.source | None ↦ record { 0 = 0 } ];
       page = page_of address;
       kind = kind;
       reason = reason;

@@ -1,10 +1,10 @@
 -- The room of one address space among those of all objects.
-use Rattle.std.proofs.Common.{◌≡◌, ℕ, Bool, true, false, cond, eqb, ◌&&◌, Option, Some, None, List, [], ◌∷◌, map, refl, sym, ◌∙◌, ap}
+use Rattle.std.proofs.Common.{◌≡◌, ℕ, Bool, true, false, cond, eqb, ◌&&◌, Option, Some, None, List, [], ◌∷◌, map, refl, ◌∙◌, ap}
 use Rattle.std.specs.List.{find}
 use Rattle.std.specs.Option.{option_map}
 use Rattle.iofd_words.specs.declared.numbers.FileNo.{FileNo}
 use Rattle.iofd_words.specs.declared.numbers.ObjId.{ObjId}
-use Rattle.iommufd_core.specs.Room.{SpaceRoom, areas_left, left_in, space_room}
+use Rattle.iommufd_core.specs.Room.{areas_left, left_in, space_room}
 use Rattle.iommufd_core.specs.Spaces.{IsOrderly}
 use Rattle.iommufd_core.specs.declared.held.Held.{Held}
 use Rattle.iommufd_core.proofs.AreasHeld.{own_is_first}

@@ -1,10 +1,10 @@
 -- When what is kept shows a world: each list of the world can be told from it.
-use Rattle.std.specs.Prelude.{◌≡◌, ◌<◌, ◌+◌, ◌*◌, ℕ, true, length, map, find, slice_index}
+use Rattle.std.specs.Prelude.{◌≡◌, ◌<◌, ◌+◌, ◌*◌, ℕ, true, length, map, slice_index}
 use Rattle.std.specs.List.{list_all}
 use Rattle.iofd_words.specs.Areas.{areas_of}
 use Rattle.iofd_words.specs.Files as file
 use Rattle.iofd_words.specs.Frames.{byte_at}
-use Rattle.iofd_words.specs.Objects.{binding_of, is_bound_as}
+use Rattle.iofd_words.specs.Objects.{binding_of}
 use Rattle.iofd_words.specs.World.{World}
 use Rattle.iofd_words.specs.declared.numbers.DeviceNo.{DeviceNo}
 use Rattle.iofd_words.specs.declared.numbers.FileNo.{FileNo}
@@ -20,7 +20,7 @@ pub record Shows {A : Type 0} (w : World) (s : State A) : Type 0 where
   -- each address space has its areas; no other object has any
   pub areas : (file : FileNo) (ioas : ObjId) → areas_of w.areas file ioas ≡ areas_at s.objects.rows file ioas
   pub files : (number : FileNo) → is_open s.objects number ≡ file.is_open w.settings w.closed number
-  pub bindings : (device : DeviceNo) → binding_of w.objects device ≡ find (λ object. is_bound_as device object.kind) s.bindings.items
+  pub bindings : (device : DeviceNo) → binding_of w.objects device ≡ binding_of s.bindings.items device
   pub attachments : w.attachments ≡ s.attachments.items
   pub memory : w.memory ≡ s.memory.items
   pub user_pages : w.user_pages ≡ s.user_pages.items

@@ -78,8 +78,7 @@ fn denied<A: Allocator>(
     iova: Iova,
     reason: FaultReason,
 ) -> Answer
-    ensures { (w : World) → w.settings ≡ state.now.config
-        → result ≡ answer.Fault (fault_of w device iova.0 AccessKind.Read reason) }
+    ensures { result ≡ answer.Fault (fault_of state.now.config device iova.0 AccessKind.Read reason) }
 {
     Answer::Fault(fault_of(&state.config, device, iova, AccessKind::Read, reason))
 }

@@ -7,7 +7,6 @@ ghost use Rattle.iofd_words.specs.Checks.{checks};
 ghost use Rattle.iofd_words.specs.FirstTrue.{first_true};
 ghost use Rattle.iofd_words.specs.Pages.{crosses};
 ghost use Rattle.iofd_words.specs.Policy as policy;
-ghost use Rattle.iofd_words.specs.World.{World};
 ghost use Rattle.iofd_words.specs.declared.event.Event.TheVariants as event;
 ghost use Rattle.iommufd_core.specs.Seen.{seen};
 ghost use Rattle.iommufd_core.specs.Step.{ChosenSteps};
@@ -53,7 +52,7 @@ pub(crate) fn fault_of<A: Allocator>(
     kind: AccessKind,
     reason: FaultReason,
 ) -> Fault
-    ensures { (w : World) → w.settings ≡ config.now → result ≡ policy.fault_of w device iova.0 kind reason }
+    ensures { result ≡ policy.fault_of config.now device iova.0 kind reason }
 {
     Fault {
         source: source_of(config, device),

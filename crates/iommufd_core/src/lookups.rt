@@ -135,8 +135,7 @@ impl<A: Allocator> State<A> {
 
     /// The object by which the device is bound.
     pub(crate) fn binding_of(&self, device: DeviceNo) -> Option<&Object>
-        ensures { option_copied result
-            ≡ find (λ object. objects.is_bound_as device object.kind) self.now.bindings.items }
+        ensures { option_copied result ≡ objects.binding_of self.now.bindings.items device }
     {
         self.bindings
             .iter()

@@ -15,14 +15,11 @@ ghost use Rattle.iommufd_core.specs.Held.{objects_in};
 
 use crate::state::State;
 use crate::{area_changes, lookups, map_pins};
-use area_map::Areas;
+use area_map::{Areas, MOST_AREAS};
 use iofd_words::{
     Area, Cause, FileNo, MapRequest, MemoryObject, NoMemory, Phase, Reply, Span, UserNo,
 };
 use std::alloc::Allocator;
-
-/// The most areas that an address space may have.
-const MOST_AREAS: usize = 65_535;
 
 /// The end of the users' addresses.
 const USER_END: u128 = 1 << 48;

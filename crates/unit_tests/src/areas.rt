@@ -1,5 +1,6 @@
 //! Calls one after the other with what each answers, and what no clause says: that there is memory, and how long large maps take.
 
+use crate::heaps::block;
 use crate::spans::{TOP, are, span};
 use area_map::{Areas, InsertError};
 use iofd_words::{Area, Cause, DeviceNo, DeviceSet, FileNo, ObjId, Phase, Rights, Span};
@@ -319,10 +320,6 @@ fn areas_from_the_top_down(rt: HostRuntime) {
     let mut areas = Areas::new(rt.alloc());
     assert!(rt; adds_falling(&mut areas));
     assert!(rt; first_wrong(&mut areas, rt.alloc(), FALLING).is_none());
-}
-
-fn block(heap: &LocalHeap, size: usize) -> Result<Vec<u8, &LocalHeap>, AllocError> {
-    Vec::with_capacity(heap, size)
 }
 
 // Adds a page at the address.

@@ -11,6 +11,8 @@ mod codec;
 #[cfg(test)]
 mod frames;
 #[cfg(test)]
+mod heaps;
+#[cfg(test)]
 mod objects;
 #[cfg(test)]
 mod ranges;

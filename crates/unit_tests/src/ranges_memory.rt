@@ -1,5 +1,6 @@
 //! Sets of ranges, and what is allowed or reserved, where memory is wanting.
 
+use crate::heaps::block;
 use crate::ranges::{pages, unreserved};
 use crate::spans::{TOP, are, span};
 use iofd_words::{DeviceNo, Span};
@@ -10,10 +11,6 @@ use std::test::Fail;
 
 // The sizes of a block beside which a heap of 1 KiB refuses a set of spans its first, second, third or fourth growth.
 const BLOCKS: [usize; 4] = [1008, 912, 800, 512];
-
-fn block(heap: &LocalHeap, size: usize) -> Result<Vec<u8, &LocalHeap>, AllocError> {
-    Vec::with_capacity(heap, size)
-}
 
 // Adds the pages until one is refused.
 fn add_all(set: &mut RangeSet<&LocalHeap>, pages: &[Span]) -> Option<Span> {

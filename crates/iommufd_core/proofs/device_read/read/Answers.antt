@@ -1,7 +1,7 @@
 use Rattle.std.proofs.Common.{◌≡◌, ℕ, ◌+◌, ◌*◌, ◌%◌, ◌<◌, ◌≤◌, false, Some, None, List, length, take, drop, sym, ◌∙◌, ap, arith}
 use Rattle.iofd_words.specs.Frames.{bytes_at}
 use Rattle.iofd_words.specs.Pages.{crosses}
-use Rattle.iofd_words.specs.Policy.{Passes, outcomes}
+use Rattle.iofd_words.specs.Policy.{Passes, fault_of, outcomes}
 use Rattle.iofd_words.specs.declared.fault.AccessKind.TheVariants.{Read}
 use Rattle.iofd_words.specs.declared.query.Answer.TheVariants as answer
 use Rattle.std.proofs.lemmas.Bool.Decides.{nat_tests}
@@ -54,5 +54,5 @@ pub returns-in-Err : goal.returns-in-Err
 returns-in-Err g c = λ at w tidy shows short.
     let told = c.in-Err.ensures ∙ ap (given_outcome None) (same_outcomes w c.args.state.now shows c.args.device c.args.iova.0 Read) in
     let chosen = chosen_read at w c.args.device c.args.iova c.args.len _ tidy told in
-    let fault = c.denied-in-Err.ensures w shows.settings in
+    let fault = c.denied-in-Err.ensures ∙ ap (λ settings. answer.Fault (fault_of settings c.args.device c.args.iova.0 Read c.in-Err.reason)) (sym shows.settings) in
     rw fault chosen.1

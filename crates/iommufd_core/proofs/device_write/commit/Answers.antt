@@ -1,10 +1,10 @@
-use Rattle.std.proofs.Common.{◌≡◌, ℕ, ◌+◌, ◌*◌, ◌%◌, ◌≤◌, false, length, ◌∙◌, ap, arith}
+use Rattle.std.proofs.Common.{◌≡◌, ℕ, ◌+◌, ◌*◌, ◌%◌, ◌≤◌, false, length, ◌∙◌, ap, sym, arith}
 use Rattle.std.proofs.lemmas.Bool.Decides.{nat_tests}
 use Rattle.iofd_laws.proofs.Runs.{tests_false}
 use Rattle.iofd_words.specs.After.{changed}
 use Rattle.iofd_words.specs.Checks.{checks, refusal}
 use Rattle.iofd_words.specs.Pages.{crosses}
-use Rattle.iofd_words.specs.Policy.{Passes, outcomes}
+use Rattle.iofd_words.specs.Policy.{Passes, fault_of, outcomes}
 use Rattle.iofd_words.specs.View.{view}
 use Rattle.iofd_words.specs.declared.event.Event.TheVariants as event
 use Rattle.iofd_words.specs.declared.fault.AccessKind.TheVariants.{Write}
@@ -56,5 +56,5 @@ returns-in-Err g c = λ at w tidy shows none may.
     let iova = c.args.iova in
     let told = c.in-Err.ensures ∙ ap (given_outcome c.args.via) (same_outcomes w c.args.state.now shows c.args.device iova.0 Write) in
     let answer = chosen_answer at w c.args.device iova c.args.bytes.now c.args.via _ tidy told may in
-    let fault = c.fault_of.ensures w shows.settings in
+    let fault = c.fault_of.ensures ∙ ap (λ settings. fault_of settings c.args.device iova.0 Write c.in-Err.reason) (sym shows.settings) in
     (rw fault answer.1, rw fault answer.2, shows)

@@ -1,4 +1,4 @@
-use Rattle.std.proofs.Common.{arith, ◌∙◌, sym}
+use Rattle.std.proofs.Common.{arith}
 use Rattle.iommufd_core.proofs.Pushed.{length_more, room_for_area}
 use Rattle.iommufd_core.proofs.pins.reserve_areas.Goals as goal
 
