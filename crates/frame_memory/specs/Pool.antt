@@ -1,6 +1,6 @@
 -- What is seen of a pool of frames, and what each call makes of it.
-use Rattle.std.specs.Prelude.{ℕ, ◌≢◌, ◌≤◌, ◌⊎◌, ◌+◌, ◌*◌, Bool, ◌==◌, ◌&&◌, nat_lt, Option, List, [], length, replicate, slice_index, slice_index_or, slice_range, slice_set}
-use Rattle.std.specs.List.{count_by, position, splice}
+use Rattle.std.specs.Prelude.{ℕ, ◌≢◌, ◌≤◌, ◌⊎◌, ◌+◌, ◌*◌, ◌^◌, Bool, ◌==◌, ◌&&◌, nat_lt, Option, List, [], length, replicate, slice_index, slice_index_or, slice_range, slice_set}
+use Rattle.std.specs.List.{count_by, list_all, position, splice}
 use Rattle.std.specs.Int.{w64, from_le_bytes, to_le_bytes}
 
 -- how many holds stand on each frame, and each frame's bytes
@@ -31,6 +31,10 @@ least_free holds = position (λ count. count == 0) holds
 -- how many frames are free
 abbrev pub free_count : List ℕ → ℕ
 free_count holds = count_by (λ count. count == 0) holds
+
+-- each frame may have so many holds more
+abbrev pub may_hold : List ℕ → ℕ → Bool
+may_hold holds count = list_all (λ held. nat_lt (held + count) (2 ^ 128)) holds
 
 -- so many holds stand on the frame
 abbrev pub with_holds : FramePool → ℕ → ℕ → FramePool

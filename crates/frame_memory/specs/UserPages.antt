@@ -1,5 +1,6 @@
 -- The pages of the users' memory, and what each call makes of them.
-use Rattle.std.specs.Prelude.{ℕ, Bool, ◌==◌, ◌&&◌, not, Option, is_some, is_none, List, [], ◌∷◌, ◌++◌, filter}
+use Rattle.std.specs.Prelude.{ℕ, Bool, ◌==◌, ◌&&◌, not, Option, is_some, is_none, List, [], ◌∷◌, ◌++◌, filter, length, nat_lt}
+use Rattle.std.specs.List.{list_all}
 use Rattle.iofd_words.specs.FirstTrue.{first_true}
 use Rattle.iofd_words.specs.Frames.{frame_at}
 use Rattle.iofd_words.specs.declared.numbers.FrameNo.{FrameNo}
@@ -17,6 +18,10 @@ pub record UserPages : Type 0 where
 -- the row is of this page of the user
 abbrev pub is_page : UserNo → ℕ → UserPage → Bool
 is_page user page row = row.user.0 == user.0 && row.page == page
+
+-- each page's frame is one of a pool with these holds
+abbrev pub are_within : List UserPage → List ℕ → Bool
+are_within pages holds = list_all (λ row. nat_lt row.frame.0 (length holds)) pages
 
 -- the pages and, after them, this one
 abbrev pub with_page : List UserPage → UserNo → ℕ → FrameNo → List UserPage

@@ -1,7 +1,7 @@
 //! The pool of frames.
 
 ghost use Rattle.std.specs.Prelude.{ℕ, ◌≡◌, ◌≢◌, ◌⊎◌, ◌<◌, ◌≤◌, ◌+◌, ◌-◌, ◌^◌, nat_lt, false, length, slice_index, replicate, is_some, IfOk, IfSome, IfNone, OnErr};
-ghost use Rattle.frame_memory.specs.Pool.{fresh, is_free, least_free, free_count, with_holds, given, bytes_at, written, word_at, with_word, zeros, AreApart};
+ghost use Rattle.frame_memory.specs.Pool.{fresh, is_free, least_free, free_count, may_hold, with_holds, given, bytes_at, written, word_at, with_word, zeros, AreApart};
 
 use crate::content::{overwrite, word_of, zero_bytes};
 use crate::free_map::FreeMap;
@@ -118,6 +118,13 @@ impl<A: Allocator> Pool<A> {
         Ok(FrameNo(frame))
     }
 
+    /// Whether so many holds more may be put on each frame.
+    pub fn may_hold(&self, count: u64) -> bool
+        ensures { result ≡ may_hold self.now.holds count }
+    {
+        self.frames.iter().all(|frame| can_hold(frame, count))
+    }
+
     /// Puts one more hold on the frame, be it free or not. Its bytes stay.
     pub fn hold(&mut self, frame: FrameNo)
         requires frame { frame.0 < length self.old.holds }
@@ -187,6 +194,13 @@ impl<A: Allocator> Pool<A> {
     {
         self.write(frame, 8 * index, &value.to_le_bytes());
     }
+}
+
+// Whether so many holds more may be put on the frame.
+fn can_hold(frame: &Frame, count: u64) -> bool
+    ensures { result ≡ nat_lt (frame.now.holds + count) (2 ^ 128) }
+{
+    frame.holds <= u128::MAX - u128::from(count)
 }
 
 // So many frames on which no hold stands, and that read zero.

@@ -4,7 +4,7 @@ ghost use Rattle.std.specs.Prelude.{◌≡◌, ◌<◌, ◌≤◌, ◌+◌, ◌-
 ghost use Rattle.iofd_words.specs.Frames.{frame_at};
 ghost use Rattle.iofd_words.specs.Pages.{page_of};
 ghost use Rattle.frame_memory.specs.Pool.{given, least_free, with_holds};
-ghost use Rattle.frame_memory.specs.UserPages.{with_page, without_page, map_refusal};
+ghost use Rattle.frame_memory.specs.UserPages.{are_within, with_page, without_page, map_refusal};
 
 use crate::map_error::MapError;
 use crate::pool::Pool;
@@ -47,6 +47,13 @@ impl<A: Allocator> UserMap<A> {
             .iter()
             .find(|row| row.user.0 == user.0 && row.page == page)
             .map(|row| row.frame)
+    }
+
+    /// Whether each page's frame is one of the pool's.
+    pub fn is_within<B: Allocator>(&self, pool: &Pool<B>) -> bool
+        ensures { result ≡ are_within self.now.pages pool.now.holds }
+    {
+        self.pages.iter().all(|row| pool.has(row.frame))
     }
 
     /// Gives the user the page that holds this user address, in bytes: the least free frame, with one hold, which

@@ -19,6 +19,10 @@ held_by accounts user = (account_of accounts user).held
 abbrev pub limit_of : List Account → ℕ → ℕ
 limit_of accounts user = (account_of accounts user).limit
 
+-- the user may hold so many more
+abbrev pub has_room : List Account → ℕ → ℕ → Bool
+has_room accounts user pages = nat_le (held_by accounts user + pages) (limit_of accounts user)
+
 -- the user holds so many
 abbrev pub with_held : List Account → ℕ → ℕ → List Account
 with_held accounts user held = slice_set accounts (user - 1) (record { limit = limit_of accounts user; held = held })

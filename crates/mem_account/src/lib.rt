@@ -2,7 +2,7 @@
 #![tactic(auto)]
 
 ghost use Rattle.std.specs.Prelude.{◌≡◌, ◌↔◌, ◌+◌, ◌<◌, ◌≤◌, length, map, IsErr, IfErr, IfOk, IsTrue, OnOk, OnErr};
-ghost use Rattle.mem_account.specs.Accounts.{charged, fresh, held_by, is_user, limit_of, refunded};
+ghost use Rattle.mem_account.specs.Accounts.{charged, fresh, has_room, held_by, is_user, limit_of, refunded};
 
 use iofd_words::{Cause, NoMemory, Refusal, UserNo};
 use std::alloc::{Allocator, Global};
@@ -59,6 +59,15 @@ impl<A: Allocator> Accounts<A> {
     {
         let account = &self.accounts[usize::from(user.0) - 1];
         account.held
+    }
+
+    /// Whether the user may hold so many pages more.
+    pub fn has_room(&self, user: UserNo, pages: u64) -> bool
+        requires { IsTrue (is_user self.now user.0) }
+        ensures { result ≡ has_room self.now user.0 pages }
+    {
+        let account = &self.accounts[usize::from(user.0) - 1];
+        pages <= account.limit - account.held
     }
 
     /// Charges the user with so many pages. It is refused by 7 (ENOMEM, cause Account) exactly where the

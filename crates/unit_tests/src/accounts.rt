@@ -9,6 +9,7 @@ use std::test::Fail;
 enum Call {
     Has(u16),
     Held(u16),
+    HasRoom(u16, u64),
     Charge(u16, u64),
     Refund(u16, u64),
 }
@@ -26,14 +27,17 @@ enum Answer {
 }
 
 /// Users 1 and 2 may hold 8 and 2 pages.
-static CALLS: [(Call, Answer); 15] = [
+static CALLS: [(Call, Answer); 18] = [
     (Call::Has(0), Answer::Is(false)),
     (Call::Has(1), Answer::Is(true)),
     (Call::Has(2), Answer::Is(true)),
     (Call::Has(3), Answer::Is(false)),
     (Call::Charge(2, 3), Answer::Refused(7)),
     (Call::Held(2), Answer::Pages(0)),
+    (Call::HasRoom(2, 2), Answer::Is(true)),
     (Call::Charge(2, 2), Answer::Done),
+    (Call::HasRoom(2, 0), Answer::Is(true)),
+    (Call::HasRoom(2, 1), Answer::Is(false)),
     (Call::Charge(2, 1), Answer::Refused(7)),
     (Call::Charge(1, 8), Answer::Done),
     (Call::Held(1), Answer::Pages(8)),
@@ -69,10 +73,18 @@ fn held(accounts: &Accounts, user: UserNo) -> Answer {
     Answer::Pages(accounts.held(user))
 }
 
+fn has_room(accounts: &Accounts, user: UserNo, pages: u64) -> Answer {
+    if !accounts.has(user) {
+        return Answer::Barred;
+    }
+    Answer::Is(accounts.has_room(user, pages))
+}
+
 fn asked(accounts: &mut Accounts, call: Call) -> Answer {
     match call {
         Call::Has(user) => Answer::Is(accounts.has(UserNo(user))),
         Call::Held(user) => held(accounts, UserNo(user)),
+        Call::HasRoom(user, pages) => has_room(accounts, UserNo(user), pages),
         Call::Charge(user, pages) => charged(accounts, UserNo(user), pages),
         Call::Refund(user, pages) => refunded(accounts, UserNo(user), pages),
     }

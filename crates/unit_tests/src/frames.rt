@@ -435,3 +435,16 @@ fn where_no_frame_is_free_no_memory_is_asked_for(rt: HostRuntime) -> Result<(), 
     );
     Ok(())
 }
+
+#[test]
+fn pages_lie_in_a_pool_that_has_their_frames(rt: HostRuntime) -> Result<(), Fail> {
+    let mut large = Pool::new(rt.alloc(), 2)?;
+    let small = Pool::new(rt.alloc(), 1)?;
+    let mut map = UserMap::new(rt.alloc());
+    mapped(&mut map, &mut large, 1, 0);
+    assert!(rt; map.is_within(&small));
+    mapped(&mut map, &mut large, 1, 0x1000);
+    assert!(rt; !map.is_within(&small) && map.is_within(&large));
+    assert!(rt; large.may_hold(u64::MAX));
+    Ok(())
+}

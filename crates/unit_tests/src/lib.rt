@@ -15,6 +15,8 @@ mod heaps;
 #[cfg(test)]
 mod objects;
 #[cfg(test)]
+mod pins;
+#[cfg(test)]
 mod ranges;
 #[cfg(test)]
 mod ranges_memory;

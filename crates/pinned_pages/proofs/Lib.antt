@@ -1,0 +1,3 @@
+pub mod FirstPin
+pub mod HoldsMove
+pub mod UsersPages

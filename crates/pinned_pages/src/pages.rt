@@ -1,0 +1,238 @@
+//! A memory object and its pins.
+
+ghost use Rattle.std.specs.Prelude.{◌≡◌, ◌≤◌, ◌<◌, ◌+◌, ◌*◌, ◌^◌, ◌&&◌, [], IsTrue, IfSome, IfNone, OnOk, OnErr, IsOkUnless, is_some, length, nat_lt, slice_get, true};
+ghost use Rattle.iofd_words.specs.Pages.{is_whole};
+ghost use Rattle.mem_account.specs.Accounts.{held_by, is_user};
+ghost use Rattle.frame_memory.specs.Pool.{may_hold};
+ghost use Rattle.frame_memory.specs.UserPages.{are_within};
+ghost use Rattle.pinned_pages.specs.Holds.{HasMoreHolds, are_held};
+ghost use Rattle.pinned_pages.specs.Pages.{are_present, charged_first, last_frames, missing, new_frames, pin_refusal, pinned, refunded_last, released, unpinned};
+
+use crate::frames;
+use crate::pin_error::PinError;
+use frame_memory::{Pool, UserMap};
+use iofd_words::{Cause, FrameNo, NoMemory, Refusal, UserNo};
+use mem_account::Accounts;
+use std::alloc::{Allocator, Global};
+use std::marker::Model;
+
+/// The pages that a MAP made ready for devices. They are pinned, all or none, once for each area over them that stands in an
+/// address space with a hardware page table. A contract sees whose pages they are, how many pins stand on them, their
+/// frames while some does, and for how many more frames there is memory.
+#[derive(Debug, Drop)]
+pub struct Pages<A: Allocator = Global> {
+    user: UserNo,
+    va: u64,
+    count: u64,
+    writable: bool,
+    table_pins: u64,
+    frames: Vec<FrameNo, A>,
+}
+
+impl<A: Allocator> Model for Pages<A> {
+    ghost use Rattle.std.specs.Prelude.{◌-◌, vec_len, vec_capacity};
+    ghost use Rattle.pinned_pages.specs.Kept.{AreKept};
+    ghost use Rattle.pinned_pages.specs.Pages.{MemoryPages};
+
+    ghost Value = { MemoryPages };
+
+    ghost view = { λ p. record {
+      pages = record { user = p.user; va = p.va; count = p.count; writable = p.writable; table_pins = p.table_pins; frames = p.frames.items };
+      room = vec_capacity p.frames - vec_len p.frames;
+    } };
+
+    ghost invariant = { λ p. AreKept (record { user = p.user; va = p.va; count = p.count; writable = p.writable; table_pins = p.table_pins; frames = p.frames.items }) };
+}
+
+impl<A: Allocator> Pages<A> {
+    /// So many pages of the user from this user address on, in bytes, none of them pinned. They may be written if
+    /// `writable`. It takes no memory.
+    pub fn new(alloc: A, user: UserNo, va: u64, count: u64, writable: bool) -> Pages<A>
+        requires start { is_whole va ≡ true }
+        requires end { va + count * 4096 ≤ 2 ^ 48 }
+        ensures pages { result.pages ≡ unpinned user va count writable }
+        ensures room { result.room ≡ 0 }
+    {
+        Pages {
+            user,
+            va,
+            count,
+            writable,
+            table_pins: 0,
+            frames: Vec::new(alloc),
+        }
+    }
+
+    /// Whose pages they are.
+    pub fn user(&self) -> UserNo
+        ensures { result ≡ self.now.pages.user }
+    {
+        self.user
+    }
+
+    /// The user address of the first page, in bytes.
+    pub fn va(&self) -> u64
+        ensures { result ≡ self.now.pages.va }
+    {
+        self.va
+    }
+
+    /// How many pages there are.
+    pub fn count(&self) -> u64
+        ensures { result ≡ self.now.pages.count }
+    {
+        self.count
+    }
+
+    /// Whether they may be written.
+    pub fn is_writable(&self) -> bool
+        ensures { result ≡ self.now.pages.writable }
+    {
+        self.writable
+    }
+
+    /// How many pins by page tables stand on the pages. They are pinned, all of them, where it isn't 0.
+    pub fn table_pins(&self) -> u64
+        ensures value { result ≡ self.now.pages.table_pins }
+        ensures pinned { 0 < result → length self.now.pages.frames ≡ self.now.pages.count }
+        ensures unpinned { result ≡ 0 → self.now.pages.frames ≡ [] }
+    {
+        self.table_pins
+    }
+
+    /// Whether each pinned page's frame is one of the pool's, with a hold for each time that it is pinned here.
+    pub fn are_held<B: Allocator>(&self, pool: &Pool<B>) -> bool
+        ensures { result ≡ are_held self.now.pages.frames pool.now.holds }
+    {
+        frames::are_held(&self.frames, pool)
+    }
+
+    /// The frame of page `index`, counted from 0, where it is pinned. It takes no memory.
+    pub fn frame(&self, index: u64) -> Option<FrameNo>
+        ensures frame { result ≡ slice_get self.now.pages.frames index }
+        ensures pinned { is_some result ≡ (nat_lt 0 self.now.pages.table_pins && nat_lt index self.now.pages.count) }
+    {
+        self.frames.get(index as usize).copied()
+    }
+
+    /// Whether each page is in its user's memory now. It takes no memory.
+    pub fn are_present<B: Allocator>(&self, users: &UserMap<B>) -> bool
+        ensures { result ≡ are_present self.now.pages users.now.pages }
+    {
+        frames::has_pages(users, self.user, self.va, self.count)
+    }
+
+    /// Takes memory for the frames of all pages, if they aren't pinned and there is no room. After an Ok the next
+    /// `pin_by_table` doesn't want for memory; an error changes nothing.
+    pub fn reserve(&mut self) -> Result<(), NoMemory>
+        ensures pages { self.new.pages ≡ self.old.pages }
+        ensures ok { OnOk result (missing self.old.pages ≤ self.new.room) }
+        ensures enough { missing self.old.pages ≤ self.old.room → self.new ≡ self.old }
+        ensures room { self.old.room ≤ self.new.room }
+        ensures full { OnErr result (self.old.room < missing self.old.pages) }
+        ensures unchanged { OnErr result (self.new ≡ self.old) }
+    {
+        let room = self.frames.capacity() - self.frames.len();
+        if self.table_pins == 0 && (room as u64) < self.count {
+            self.frames.reserve(self.count as usize)?;
+        }
+        Ok(())
+    }
+
+    /// Puts one more pin on the pages, for an area in an address space that has a page table. By the first each page is pinned at
+    /// the frame that it is in its user's memory now, which gets a hold, and the user is charged for all; by later ones nothing
+    /// else changes.
+    ///
+    /// The first is refused, in this order: Absent (8, EFAULT) where a page isn't in its user's memory; Account (7, ENOMEM)
+    /// where the user would hold more pages than the limit. An error leaves the pages, the pool and the accounts as they were;
+    /// want of memory comes only where there was no room for all frames.
+    ///
+    /// The first asks that the users' pages lie in the pool (`UserMap::is_within` tests it), and that each frame may have as many
+    /// holds more as there are pages (`Pool::may_hold`).
+    pub fn pin_by_table<B: Allocator, C: Allocator, D: Allocator>(
+        &mut self,
+        users: &UserMap<B>,
+        pool: &mut Pool<C>,
+        accounts: &mut Accounts<D>,
+    ) -> Result<(), PinError>
+        requires user { IsTrue (is_user accounts.old self.old.pages.user.0) }
+        requires pins { self.old.pages.table_pins + 1 < 2 ^ 64 }
+        requires within { self.old.pages.table_pins ≡ 0 → IsTrue (are_within users.now.pages pool.old.holds) }
+        requires holds { self.old.pages.table_pins ≡ 0 → IsTrue (may_hold pool.old.holds self.old.pages.count) }
+        ensures refused { IfSome (pin_refusal self.old.pages users.now.pages accounts.old)
+            (λ cause. result ≡ Err (PinError.Refused (record { cause = cause }))) }
+        ensures taken { IfNone (pin_refusal self.old.pages users.now.pages accounts.old)
+            (IsOkUnless result (PinError.Memory (record {}))) }
+        ensures memory { result ≡ Err (PinError.Memory (record {})) → self.old.room < missing self.old.pages }
+        ensures pages { OnOk result (self.new.pages ≡ pinned self.old.pages users.now.pages) }
+        ensures pool { OnOk result (HasMoreHolds pool.old pool.new (new_frames self.old.pages users.now.pages)) }
+        ensures room { self.old.room + length self.old.pages.frames ≤ self.new.room + length self.new.pages.frames }
+        ensures later { 0 < self.old.pages.table_pins → self.new.room ≡ self.old.room }
+        ensures accounts { OnOk result (accounts.new ≡ charged_first self.old.pages accounts.old) }
+        ensures err { OnErr result (self.new ≡ self.old) }
+        ensures pool_err { OnErr result (pool.new ≡ pool.old) }
+        ensures accounts_err { OnErr result (accounts.new ≡ accounts.old) }
+    {
+        if self.table_pins > 0 {
+            self.table_pins += 1;
+            return Ok(());
+        }
+        if !self.are_present(users) {
+            return Err(refused(Cause::Absent));
+        }
+        if !accounts.has_room(self.user, self.count) {
+            return Err(refused(Cause::Account));
+        }
+        if self.reserve().is_err() {
+            return Err(PinError::Memory(NoMemory));
+        }
+        match accounts.charge(self.user, self.count) {
+            Ok(()) => {
+                self.table_pins = 1;
+                frames::hold_all(
+                    &mut self.frames,
+                    users,
+                    pool,
+                    self.user,
+                    self.va,
+                    self.count,
+                );
+                Ok(())
+            }
+            Err(refusal) => Err(PinError::Refused(refusal)),
+        }
+    }
+
+    /// Takes one pin off the pages. With the last no page is pinned any more: a hold goes off each frame, and the user gets
+    /// all pages back; before it nothing else changes. Room for the frames stays. It takes no memory.
+    ///
+    /// The last asks that the user holds so many pages (`Accounts::held`), and that the frames have their holds (`are_held`).
+    pub fn unpin_by_table<B: Allocator, C: Allocator>(
+        &mut self,
+        pool: &mut Pool<B>,
+        accounts: &mut Accounts<C>,
+    )
+        requires some { 0 < self.old.pages.table_pins }
+        requires user { IsTrue (is_user accounts.old self.old.pages.user.0) }
+        requires held { self.old.pages.table_pins ≡ 1 → self.old.pages.count ≤ held_by accounts.old self.old.pages.user.0 }
+        requires holds { self.old.pages.table_pins ≡ 1 → IsTrue (are_held self.old.pages.frames pool.old.holds) }
+        ensures pages { self.new.pages ≡ released self.old.pages }
+        ensures pool { HasMoreHolds pool.new pool.old (last_frames self.old.pages) }
+        ensures accounts { accounts.new ≡ refunded_last self.old.pages accounts.old }
+        ensures room { self.old.room + length self.old.pages.frames ≡ self.new.room + length self.new.pages.frames }
+    {
+        self.table_pins -= 1;
+        if self.table_pins == 0 {
+            frames::release_all(&self.frames, pool);
+            accounts.refund(self.user, self.count);
+            self.frames.clear();
+        }
+    }
+}
+
+// The refusal for this cause.
+fn refused(cause: Cause) -> PinError
+    ensures { result ≡ PinError.Refused (record { cause = cause }) }
+{
+    PinError::Refused(Refusal { cause })
+}
