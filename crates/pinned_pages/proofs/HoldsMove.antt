@@ -1,5 +1,5 @@
 -- A pool's holds, one frame at a time.
-use Rattle.std.proofs.Common.{◌≡◌, ◌≢◌, ℕ, zero, suc, ◌+◌, ◌-◌, ◌^◌, ◌<◌, ◌≤◌, Bool, true, false, cond, ◌&&◌, eqb, ltb, leb, List, [], ◌∷◌, ◌++◌, length, get_or, take, refl, sym, ◌∙◌, ap, arith, ◌⊎◌, ⊎_elim}
+use Rattle.std.proofs.Common.{◌≡◌, ◌≢◌, ℕ, zero, suc, ◌+◌, ◌-◌, ◌^◌, ◌<◌, ◌≤◌, true, false, cond, ◌&&◌, eqb, ltb, leb, List, [], ◌∷◌, ◌++◌, length, get_or, take, refl, sym, ◌∙◌, ap, arith, ◌⊎◌, ⊎_elim}
 use Rattle.std.specs.List.{list_all}
 use Rattle.std.proofs.lemmas.Bool.{cases_eq}
 use Rattle.std.proofs.lemmas.Bool.Decides.{nat_tests}
@@ -7,6 +7,7 @@ use Rattle.std.proofs.lemmas.List.{get_or-set_same, get_or-set_other, get_or_pas
 use Rattle.std.proofs.lemmas.List.Sums.{count_by-le-length, sum_by-take-le, sum_by_push}
 use Rattle.iofd_words.specs.declared.numbers.FrameNo.{FrameNo}
 use Rattle.frame_memory.specs.Pool.{FramePool, may_hold, with_holds}
+use Rattle.pinned_pages.proofs.Bools.{and_true}
 use Rattle.pinned_pages.specs.Holds.{HasMoreHolds, are_held, times}
 
 -- one more frame
@@ -77,13 +78,9 @@ one_released now more frames f some less =
 pub room_left : (holds : List ℕ) (frame count : ℕ) → may_hold holds count ≡ true → count < 2 ^ 64 → get_or holds frame 0 + count < 2 ^ 128
 room_left [] frame count may small = omega (arith, small)
 room_left (h ∷ holds) frame count may small =
-    let parts = taken_apart (ltb (h + count) (2 ^ 128)) (may_hold holds count) may in
+    let parts = and_true (ltb (h + count) (2 ^ 128)) (may_hold holds count) may in
     by_place frame (below parts.0) (λ f. room_left holds f count parts.1 small)
   where
-    taken_apart : (p q : Bool) → (p && q) ≡ true → (p ≡ true) × (q ≡ true)
-    taken_apart true q is = (refl, is)
-    taken_apart false q is = cc
-
     below : ltb (h + count) (2 ^ 128) ≡ true → h + count < 2 ^ 128
     below is = search (is, arith, nat_tests)
 
@@ -102,20 +99,16 @@ next_held now more frames i f d within is less held =
     let before = less.holds f.0 in
     omega (arith, times_next, few, enough, before)
   where
-    taken_apart : (p q : Bool) → (p && q) ≡ true → (p ≡ true) × (q ≡ true)
-    taken_apart true q is = (refl, is)
-    taken_apart false q is = cc
-
     decided : (f : FrameNo) (all : List FrameNo) → (ltb f.0 (length more.holds) && leb (times f.0 all) (get_or more.holds f.0 0)) ≡ true → times f.0 all ≤ get_or more.holds f.0 0
-    decided f all is = let parts = taken_apart (ltb f.0 (length more.holds)) (leb (times f.0 all) (get_or more.holds f.0 0)) is in search (parts.1, arith, nat_tests)
+    decided f all is = let parts = and_true (ltb f.0 (length more.holds)) (leb (times f.0 all) (get_or more.holds f.0 0)) is in search (parts.1, arith, nat_tests)
 
     held_at : (all fs : List FrameNo) (k : ℕ) (f d : FrameNo) → k < length fs → f ≡ get_or fs k d → list_all (λ g. ltb g.0 (length more.holds) && leb (times g.0 all) (get_or more.holds g.0 0)) fs ≡ true → times f.0 all ≤ get_or more.holds f.0 0
     held_at all [] k f d below is held = absurd (omega (arith, below))
     held_at all (g ∷ fs) zero f d below is held =
-        let parts = taken_apart (ltb g.0 (length more.holds) && leb (times g.0 all) (get_or more.holds g.0 0)) (list_all (λ h. ltb h.0 (length more.holds) && leb (times h.0 all) (get_or more.holds h.0 0)) fs) held in
+        let parts = and_true (ltb g.0 (length more.holds) && leb (times g.0 all) (get_or more.holds g.0 0)) (list_all (λ h. ltb h.0 (length more.holds) && leb (times h.0 all) (get_or more.holds h.0 0)) fs) held in
         rw is (decided g all parts.0)
     held_at all (g ∷ fs) (suc k) f d below is held =
-        let parts = taken_apart (ltb g.0 (length more.holds) && leb (times g.0 all) (get_or more.holds g.0 0)) (list_all (λ h. ltb h.0 (length more.holds) && leb (times h.0 all) (get_or more.holds h.0 0)) fs) held in
+        let parts = and_true (ltb g.0 (length more.holds) && leb (times g.0 all) (get_or more.holds g.0 0)) (list_all (λ h. ltb h.0 (length more.holds) && leb (times h.0 all) (get_or more.holds h.0 0)) fs) held in
         held_at all fs k f d (omega (arith, below)) is parts.1
 
 pub released_more : (now more : FramePool) (frames : List FrameNo) (i : ℕ) (f d : FrameNo) → i < length frames → f ≡ get_or frames i d → HasMoreHolds now more (take i frames) → 0 < get_or now.holds f.0 0

@@ -1,3 +1,4 @@
+pub mod Bools
 pub mod FirstPin
 pub mod HoldsMove
 pub mod UsersPages

@@ -15,6 +15,7 @@ use Rattle.iofd_words.specs.declared.numbers.UserNo.{UserNo}
 use Rattle.iofd_words.specs.declared.rows.UserPage.{UserPage}
 use Rattle.frame_memory.specs.Pool.{FramePool, with_holds}
 use Rattle.frame_memory.specs.UserPages.{are_within}
+use Rattle.pinned_pages.proofs.Bools.{and_true}
 use Rattle.pinned_pages.specs.Holds.{HasMoreHolds}
 use Rattle.pinned_pages.specs.Pages.{frames_now}
 use Rattle.pinned_pages.proofs.HoldsMove.{one_held}
@@ -69,13 +70,9 @@ module _ (rows : List UserPage) (user : UserNo) (page index : ℕ) (old items : 
 pub within_pool : (holds : List ℕ) (rows : List UserPage) (user : UserNo) (page : ℕ) (frame : FrameNo) → are_within rows holds ≡ true → frame_at rows user page ≡ Some frame → frame.0 < length holds
 within_pool holds [] user page frame within is = cc
 within_pool holds (row ∷ rows) user page frame within is =
-    let parts = taken_apart (ltb row.frame.0 (length holds)) (are_within rows holds) within in
+    let parts = and_true (ltb row.frame.0 (length holds)) (are_within rows holds) within in
     by_test (eqb row.user.0 user.0 && eqb row.page page) is (below parts.0) (within_pool holds rows user page frame parts.1)
   where
-    taken_apart : (p q : Bool) → (p && q) ≡ true → (p ≡ true) × (q ≡ true)
-    taken_apart true q is = (refl, is)
-    taken_apart false q is = cc
-
     below : ltb row.frame.0 (length holds) ≡ true → row.frame.0 < length holds
     below is = search (is, arith, nat_tests)
 
