@@ -1,5 +1,5 @@
 -- Lists of areas: which areas a span names, and what a step makes of them.
-use Rattle.std.specs.Prelude.{ℕ, ◌+◌, ◌≤◌, ◌≡◌, Bool, true, false, ◌==◌, ◌&&◌, not, nat_lt, nat_le, Option, Some, None, List, [], ◌∷◌, length, map, filter, sum_by, fold, max, find, if◌then◌else◌}
+use Rattle.std.specs.Prelude.{ℕ, ◌+◌, ◌≤◌, ◌≡◌, Bool, true, false, ◌==◌, ◌&&◌, not, nat_lt, nat_le, Option, Some, None, List, [], ◌∷◌, length, filter, sum_by, fold, max, find, if◌then◌else◌}
 use Rattle.std.specs.List.{list_any}
 use Rattle.iofd_words.specs.Areas.{area_at, leaving, most_areas, paid}
 use Rattle.iofd_words.specs.Bounds.{Bounds}
@@ -76,10 +76,6 @@ areas_within span areas = filter (λ area. lies_in area.span span) areas
 -- the others
 abbrev pub areas_outside : Bounds → List Area → List Area
 areas_outside span areas = filter (λ area. not (lies_in area.span span)) areas
-
--- the numbers of their memory objects
-abbrev pub memories_of : List Area → List ℕ
-memories_of areas = map (λ area. area.memory) areas
 
 -- how many addresses they have together
 abbrev pub bytes_of : List Area → ℕ

@@ -1,9 +1,10 @@
 //! The map of areas.
 
-ghost use Rattle.std.specs.Prelude.{◌≡◌, ◌==◌, ◌↔◌, ◌+◌, ◌<◌, ◌≤◌, ◌++◌, [], length, map, is_ok, IsOk, IfOk, IfErr, IfSome, IfNone, OnOk, OnErr, IsOkUnless, vec_len, vec_capacity};
+ghost use Rattle.std.specs.Prelude.{◌≡◌, ◌==◌, ◌↔◌, ◌+◌, ◌<◌, ◌≤◌, [], length, map, is_ok, IsOk, IfOk, IfErr, IfSome, IfNone, OnOk, OnErr, IsOkUnless, vec_len, vec_capacity};
+ghost use Rattle.std.specs.List.{list_any};
 ghost use Rattle.std.specs.Option.{option_copied};
 ghost use Rattle.std.specs.Slice.Iter.{iter_rest};
-ghost use Rattle.area_map.specs.Areas.{AreKept, with_area, area_of, is_covered, IsCovered, HasGap, marked, without_debt, areas_owe, areas_within, areas_outside, memories_of, bytes_of, most_tries, tried};
+ghost use Rattle.area_map.specs.Areas.{AreKept, with_area, area_of, is_covered, IsCovered, HasGap, marked, without_debt, areas_owe, areas_within, areas_outside, bytes_of, most_tries, tried};
 ghost use Rattle.iofd_words.specs.Areas.{areas_meet, is_cut, area_at};
 ghost use Rattle.area_map.specs.Insertion.{insert_refusal};
 
@@ -210,15 +211,18 @@ impl<A: Allocator> Areas<A> {
         totals::bytes_of(lookups::within(&self.sorted, span))
     }
 
-    /// Takes away the areas that lie in the span, and appends the numbers of their memory objects, by
-    /// rising start, to `removed`, which has room for them. The other areas stay. It takes no memory.
-    pub fn remove_within<B: Allocator>(&mut self, span: Span, removed: &mut Vec<u64, B>)
-        requires { vec_len removed.old + length (areas_within span self.old.areas) ≤ vec_capacity removed.old }
+    /// Whether an area that lies in the span is over the memory object of this number. It takes no memory.
+    pub fn has_memory_within(&self, span: Span, memory: u64) -> bool
+        ensures { result ≡ list_any (λ area. area.memory == memory) (areas_within span self.now.areas) }
+    {
+        totals::have_memory(lookups::within(&self.sorted, span), memory)
+    }
+
+    /// Takes away the areas that lie in the span. The other areas stay. It takes no memory.
+    pub fn remove(&mut self, span: Span)
         ensures areas { self.new.areas ≡ areas_outside span self.old.areas }
-        ensures removed { removed.new.items ≡ removed.old.items ++ memories_of (areas_within span self.old.areas) }
-        ensures capacity { vec_capacity removed.new ≡ vec_capacity removed.old }
         ensures room { self.old.room ≤ self.new.room }
     {
-        removal::remove_within(&mut self.sorted, span, removed);
+        removal::remove(&mut self.sorted, span);
     }
 }

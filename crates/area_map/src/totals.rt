@@ -1,6 +1,6 @@
 //! What areas amount to.
 
-ghost use Rattle.std.specs.Prelude.{◌≡◌, ◌<◌, ◌≤◌, ◌^◌, IfOk, OnErr, length, map};
+ghost use Rattle.std.specs.Prelude.{◌≡◌, ◌==◌, ◌<◌, ◌≤◌, ◌^◌, IfOk, OnErr, length, map};
 ghost use Rattle.std.specs.List.{list_any};
 ghost use Rattle.iofd_words.specs.Span.{size_of};
 ghost use Rattle.area_map.specs.Areas.{bytes_of, is_owing, most_tries};
@@ -67,4 +67,11 @@ pub fn most_tries(areas: &[Area]) -> u8
         most = marking::tries_of(&area.phase).max(most);
     }
     most
+}
+
+/// Whether one of these areas is over the memory object of this number.
+pub fn have_memory(areas: &[Area], memory: u64) -> bool
+    ensures { result ≡ list_any (λ area. area.memory == memory) areas.now }
+{
+    areas.iter().any(|area| area.memory == memory)
 }

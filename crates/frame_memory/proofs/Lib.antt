@@ -1,4 +1,6 @@
 pub mod Holds
+pub mod Named
+pub mod Rising
 pub mod Seen
 pub mod Splice
 pub mod Words

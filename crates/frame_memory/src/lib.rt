@@ -7,6 +7,7 @@ mod free_map;
 mod map_error;
 mod pool;
 mod user_map;
+mod user_rows;
 
 pub use free_map::FreeMap;
 pub use map_error::MapError;

@@ -4,28 +4,31 @@ ghost use Rattle.std.specs.Prelude.{◌≡◌, ◌<◌, ◌≤◌, ◌+◌, ◌-
 ghost use Rattle.iofd_words.specs.Frames.{frame_at};
 ghost use Rattle.iofd_words.specs.Pages.{page_of};
 ghost use Rattle.frame_memory.specs.Pool.{given, least_free, with_holds};
-ghost use Rattle.frame_memory.specs.UserPages.{are_within, with_page, without_page, map_refusal};
+ghost use Rattle.frame_memory.specs.UserPages.{are_within, user_page, with_page, without_page, map_refusal, HasOneMore};
 
 use crate::map_error::MapError;
 use crate::pool::Pool;
+use crate::user_rows;
 use iofd_words::{Cause, FrameNo, NoMemory, PAGE_SIZE, Refusal, UserNo, UserPage};
 use std::alloc::{Allocator, Global};
 use std::marker::Model;
 
-/// Which page of which user's memory is which frame. A contract sees the pages, in the order in which they
-/// were given, and how many more there is room for.
+/// Which page of which user's memory is which frame. A contract sees the pages by rising user and page, and how many
+/// more there is room for. A page is found by binary search; one more or one less moves those that stand behind it.
 #[derive(Debug, Drop)]
 pub struct UserMap<A: Allocator = Global> {
     pages: Vec<UserPage, A>,
 }
 
 impl<A: Allocator> Model for UserMap<A> {
-    ghost use Rattle.std.specs.Prelude.{◌-◌, vec_len, vec_capacity};
-    ghost use Rattle.frame_memory.specs.UserPages.{UserPages};
+    ghost use Rattle.std.specs.Prelude.{◌-◌, IsTrue, vec_len, vec_capacity};
+    ghost use Rattle.frame_memory.specs.UserPages.{UserPages, are_rising};
 
     ghost Value = { UserPages };
 
     ghost view = { λ map. record { pages = map.pages.items; room = vec_capacity map.pages - vec_len map.pages } };
+
+    ghost invariant = { λ map. IsTrue (are_rising map.pages.items) };
 }
 
 impl<A: Allocator> UserMap<A> {
@@ -42,11 +45,10 @@ impl<A: Allocator> UserMap<A> {
     pub fn frame_at(&self, user: UserNo, va: u64) -> Option<FrameNo>
         ensures { result ≡ frame_at self.now.pages user (page_of va) }
     {
-        let page = va / PAGE_SIZE;
-        self.pages
-            .iter()
-            .find(|row| row.user.0 == user.0 && row.page == page)
-            .map(|row| row.frame)
+        match user_rows::row_at(&self.pages, user, va / PAGE_SIZE) {
+            Some(row) => Some(row.frame),
+            None => None,
+        }
     }
 
     /// Whether each page's frame is one of the pool's.
@@ -73,10 +75,14 @@ impl<A: Allocator> UserMap<A> {
         ensures taken { IfNone (map_refusal self.old.pages pool.old.holds user (page_of va))
             (IsOkUnless result (MapError.Memory (record {}))) }
         ensures memory { result ≡ Err (MapError.Memory (record {})) → self.old.room ≡ 0 }
+
         ensures least { IfOk result (λ frame. least_free pool.old.holds ≡ Some frame.0) }
         ensures pages { IfOk result (λ frame. self.new.pages ≡ with_page self.old.pages user (page_of va) frame) }
+        ensures more { IfOk result
+            (λ frame. HasOneMore self.old.pages self.new.pages (user_page user (page_of va) frame)) }
         ensures pool { IfOk result (λ frame. pool.new ≡ given pool.old frame.0) }
         ensures room { self.old.room ≤ self.new.room + 1 }
+
         ensures err { OnErr result (self.new ≡ self.old) }
         ensures pool_err { OnErr result (pool.new ≡ pool.old) }
     {
@@ -91,11 +97,7 @@ impl<A: Allocator> UserMap<A> {
         }
         match pool.take() {
             Ok(frame) => {
-                self.pages.push_reserved(UserPage {
-                    user,
-                    page: va / PAGE_SIZE,
-                    frame,
-                });
+                user_rows::add(&mut self.pages, user, va / PAGE_SIZE, frame);
                 Ok(frame)
             }
             Err(refusal) => Err(MapError::Refused(refusal)),
@@ -110,13 +112,19 @@ impl<A: Allocator> UserMap<A> {
         user: UserNo,
         va: u64,
     ) -> Result<(), Refusal>
-        requires { IfSome (frame_at self.old.pages user (page_of va)) (λ frame. 0 < slice_index pool.old.holds frame.0) }
-        ensures refused { IfNone (frame_at self.old.pages user (page_of va)) (result ≡ Err (record { cause = Cause.Absent })) }
+        requires { IfSome (frame_at self.old.pages user (page_of va))
+            (λ frame. 0 < slice_index pool.old.holds frame.0) }
+        ensures refused { IfNone (frame_at self.old.pages user (page_of va))
+            (result ≡ Err (record { cause = Cause.Absent })) }
         ensures taken { IfSome (frame_at self.old.pages user (page_of va)) (λ frame. result ≡ Ok (record {})) }
+
         ensures pages { OnOk result (self.new.pages ≡ without_page self.old.pages user (page_of va)) }
+        ensures less { IfSome (frame_at self.old.pages user (page_of va))
+            (λ frame. HasOneMore self.new.pages self.old.pages (user_page user (page_of va) frame)) }
         ensures pool { IfSome (frame_at self.old.pages user (page_of va))
             (λ frame. pool.new ≡ with_holds pool.old frame.0 (slice_index pool.old.holds frame.0 - 1)) }
         ensures room { self.old.room ≤ self.new.room }
+
         ensures err { OnErr result (self.new ≡ self.old) }
         ensures pool_err { OnErr result (pool.new ≡ pool.old) }
     {
@@ -125,9 +133,7 @@ impl<A: Allocator> UserMap<A> {
                 cause: Cause::Absent,
             });
         };
-        let page = va / PAGE_SIZE;
-        self.pages
-            .retain(|row| !(row.user.0 == user.0 && row.page == page));
+        user_rows::remove(&mut self.pages, user, va / PAGE_SIZE);
         pool.release(frame);
         Ok(())
     }

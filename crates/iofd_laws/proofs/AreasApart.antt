@@ -3,15 +3,15 @@ use Rattle.std.proofs.Common.{◌≡◌, ℕ, Bool, true, false, cond, ◌&&◌,
 use Rattle.std.specs.Prelude.{map}
 use Rattle.std.specs.List.{filter}
 use Rattle.std.proofs.lemmas.Bool.Decides.{nat_tests}
-use Rattle.iofd_words.specs.After.{changed, map_changes, attach_changes, detach_changes, settle, without_areas, attached, detached, mapped_area}
+use Rattle.iofd_words.specs.After.{changed, map_changes, attach_changes, target_changes, detach_changes, settle, without_areas, attached, detached, mapped_area}
 use Rattle.iofd_words.specs.Attachments.{attachment_of}
 use Rattle.iofd_words.specs.Files.{user_of, device_of}
-use Rattle.iofd_words.specs.Objects.{binding_of}
+use Rattle.iofd_words.specs.Objects.{binding_of, kind_of}
 use Rattle.iofd_words.specs.Settings.{DeviceSettings}
 use Rattle.iofd_words.specs.Answers.{Answers}
 use Rattle.iofd_words.specs.Areas.{areas_meet, areas_of, is_of, meets_area, with_area, with_phase}
 use Rattle.iofd_words.specs.Bounds.{Bounds}
-use Rattle.iofd_words.specs.Checks.{checks, refusal}
+use Rattle.iofd_words.specs.Checks.{refusal}
 use Rattle.iofd_laws.specs.Laws.{are_apart}
 use Rattle.iofd_words.specs.Span.{meets, span_from}
 use Rattle.iofd_words.specs.View.{view}
@@ -20,16 +20,19 @@ use Rattle.iofd_words.specs.declared.event.Event.{Event}
 use Rattle.iofd_words.specs.declared.event.Event.TheVariants as event
 use Rattle.iofd_words.specs.declared.event.MapRequest.{MapRequest}
 use Rattle.iofd_words.specs.declared.numbers.FileNo.{FileNo}
+use Rattle.iofd_words.specs.declared.numbers.Iova.{Iova}
 use Rattle.iofd_words.specs.declared.numbers.ObjId.{ObjId}
 use Rattle.iofd_words.specs.declared.numbers.UserNo.{UserNo}
 use Rattle.iofd_words.specs.declared.rows.Attachment.{Attachment}
 use Rattle.iofd_words.specs.declared.rows.Object.{Object}
+use Rattle.iofd_words.specs.declared.rows.ObjectKind.{ObjectKind}
+use Rattle.iofd_words.specs.declared.rows.ObjectKind.TheVariants as kind
 use Rattle.iofd_words.specs.declared.reply.Reply.{Reply}
 use Rattle.iofd_words.specs.declared.reply.Reply.TheVariants as reply
 use Rattle.iofd_words.specs.declared.rows.Area.{Area}
 use Rattle.iofd_words.specs.declared.rows.Phase.{Phase}
 use Rattle.iofd_laws.proofs.Bools.{or_false, and_true, both_false, not_true, swapped}
-use Rattle.iofd_laws.proofs.Runs.{tests_false}
+use Rattle.iofd_laws.proofs.NotRefused.{map_passed, passes}
 
 -- a and b are of one address space, and have an address in common
 abbrev clash : Area → Area → Bool
@@ -114,19 +117,17 @@ are_apart-map phase (a ∷ areas) = rw (meets_area-map phase areas a.file a.ioas
 -- ---- every event keeps them apart
 
 -- a MAP is refused where its span meets an area
-map_is_free : (w : World) (file : FileNo) (request : MapRequest) → refusal w (event.Map file request) ≡ None → meets_area w.areas file request.ioas (span_from request.iova.0 request.length) ≡ false
-unfolding refusal checks
-map_is_free w file request none =
-    tests_false (checks (view w) (event.Map file request)) 7 none
+map_is_free : (w : World) (file : FileNo) (request : MapRequest) (iova : Iova) → iova ≡ request.iova → refusal w (event.Map file request) ≡ None → meets_area w.areas file request.ioas (span_from iova.0 request.length) ≡ false
+map_is_free w file request iova is none = rw is (map_passed (view w) file request (passes w (event.Map file request) none)).apart
 
 pub keeps_apart : (at : ℕ) (w : World) (e : Event) (answer : Reply) → refusal w e ≡ None → Answers w e answer → are_apart w.areas ≡ true → are_apart (changed at w e answer).areas ≡ true
-unfolding changed settle without_areas attached detached
+unfolding changed settle without_areas attached detached Answers
 keeps_apart at w (event.IoasAlloc file) (reply.Id id) none answers apart = apart
 keeps_apart at w (event.Map file request) (reply.Iova iova) none answers apart = mapped (user_of w.settings file)
   where
-    mapped : (user : Option UserNo) → are_apart (map_changes at w file request user).areas ≡ true
+    mapped : (user : Option UserNo) → are_apart (map_changes at w file request iova user).areas ≡ true
     mapped None = apart
-    mapped (Some user) = are_apart-with_area (mapped_area at file request) w.areas (map_is_free w file request none) apart
+    mapped (Some user) = are_apart-with_area (mapped_area at file request iova) w.areas (map_is_free w file request iova answers none) apart
 keeps_apart at w (event.Unmap file request) (reply.Bytes count) none answers apart = are_apart-filter _ w.areas apart
 keeps_apart at w (event.Unmap file request) (reply.Pending errno) none answers apart = are_apart-map _ w.areas ∙ apart
 keeps_apart at w (event.Destroy file id) reply.Done none answers apart = are_apart-filter _ w.areas apart
@@ -138,7 +139,11 @@ keeps_apart at w (event.Attach device pt_id) (reply.Id id) none answers apart = 
     bound : (object : Option Object) (settings : Option DeviceSettings) → are_apart (attach_changes w device pt_id id object settings).areas ≡ true
     bound None settings = apart
     bound (Some object) None = apart
-    bound (Some object) (Some settings) = are_apart-map _ w.areas ∙ apart
+    bound (Some object) (Some settings) = by_kind (kind_of w.objects object.file pt_id)
+      where
+        by_kind : (k : Option ObjectKind) → are_apart (target_changes w device pt_id id object settings k).areas ≡ true
+        by_kind (Some kind.Ioas) = are_apart-map _ w.areas ∙ apart
+        by_kind k = apart
 keeps_apart at w (event.Detach device) reply.Done none answers apart = attached_or_not (attachment_of w.attachments device)
   where
     attached_or_not : (a : Option Attachment) → are_apart (detach_changes w device a).areas ≡ true

@@ -4,16 +4,17 @@ use Rattle.std.specs.Prelude.{is_none}
 use Rattle.std.specs.List.{filter, list_all, list_any}
 use Rattle.std.proofs.lemmas.Bool.{eqb-true, true≢false}
 use Rattle.std.proofs.lemmas.Bool.Decides.{nat_tests}
-use Rattle.iofd_words.specs.After.{changed, map_changes, attach_changes, detach_changes, settle, without_areas, attached, detached, goes_with, mapped_area, with_hwpt}
+use Rattle.iofd_words.specs.After.{changed, map_changes, attach_changes, target_changes, detach_changes, settle, without_areas, attached, detached, goes_with, mapped_area, with_hwpt}
 use Rattle.iofd_words.specs.Areas.{all_paid, owed_by, paid, is_touched, leaving, with_area, with_phase}
 use Rattle.iofd_words.specs.Attachments.{attachment_of, with_attachment, without_attachment, devices_of}
-use Rattle.iofd_words.specs.Checks.{checks, refusal}
+use Rattle.iofd_words.specs.Checks.{refusal}
 use Rattle.iofd_words.specs.DeviceSet.{without_device}
 use Rattle.iofd_words.specs.Files.{user_of, device_of}
 use Rattle.iofd_laws.specs.Laws.{FileRows, IsOfAnother, file_of_device, rows_of}
-use Rattle.iofd_words.specs.Objects.{automatic_hwpt, binding_of, comes_before, objects_of, with_object}
+use Rattle.iofd_words.specs.Objects.{automatic_hwpt, binding_of, comes_before, kind_of, objects_of, with_object}
 use Rattle.iofd_words.specs.Run.{after, after_answer}
 use Rattle.iofd_words.specs.Settings.{DeviceSettings}
+use Rattle.iofd_words.specs.Tables.{with_tables}
 use Rattle.iofd_words.specs.View.{view}
 use Rattle.iofd_words.specs.World.{World}
 use Rattle.iofd_words.specs.declared.event.Event.{Event}
@@ -29,6 +30,7 @@ use Rattle.iofd_words.specs.declared.reply.Reply.TheVariants as reply
 use Rattle.iofd_words.specs.declared.rows.Area.{Area}
 use Rattle.iofd_words.specs.declared.rows.Attachment.{Attachment}
 use Rattle.iofd_words.specs.declared.rows.Object.{Object}
+use Rattle.iofd_words.specs.declared.rows.ObjectKind.{ObjectKind}
 use Rattle.iofd_words.specs.declared.rows.ObjectKind.TheVariants as kind
 use Rattle.iofd_words.specs.declared.rows.Phase.{Phase}
 use Rattle.iofd_words.specs.declared.rows.Phase.TheVariants.{Live, Leaving}
@@ -36,7 +38,7 @@ use Rattle.iofd_words.specs.declared.width.Width.{Width}
 use Rattle.iofd_laws.proofs.Bools.{and_true, not_false}
 use Rattle.iofd_laws.proofs.Bound.{AreBound, is_bound_to, is_of_file}
 use Rattle.iofd_laws.proofs.Found.{found_passes}
-use Rattle.iofd_laws.proofs.Runs.{tests_false}
+use Rattle.iofd_laws.proofs.NotRefused.{detach_passed, flush_passed, passes}
 
 -- ---- filters
 
@@ -201,12 +203,10 @@ elsewhere : (w : World) (device : DeviceNo) (object : Object) (file : FileNo) �
 elsewhere w device object file another is = another object.file (ap (λ o. elim o [ Some bound ↦ Some bound.file | None ↦ None ]) is)
 
 flush_bound : (w : World) (device : DeviceNo) → refusal w (event.Flush device) ≡ None → is_none (binding_of w.objects device) ≡ false
-unfolding refusal checks
-flush_bound w device none = tests_false (checks (view w) (event.Flush device)) 0 none
+flush_bound w device none = flush_passed (view w) device (passes w (event.Flush device) none)
 
 detach_is_bound : (w : World) (device : DeviceNo) → refusal w (event.Detach device) ≡ None → is_none (binding_of w.objects device) ≡ false
-unfolding refusal checks
-detach_is_bound w device none = tests_false (checks (view w) (event.Detach device)) 0 none
+detach_is_bound w device none = (detach_passed (view w) device (passes w (event.Detach device) none)).bound
 
 pub keeps_others : (at : ℕ) (w : World) (e : Event) (answer : Reply) (file : FileNo) → AreBound w → refusal w e ≡ None → IsOfAnother w e file → rows_of file (changed at w e answer) ≡ rows_of file w
 unfolding changed settle without_areas attached detached
@@ -214,9 +214,9 @@ keeps_others at w (event.IoasAlloc f) (reply.Id id) file b none another =
     same_rows (objects-with_object _ w.objects file (other_file f file (another f refl))) refl refl refl
 keeps_others at w (event.Map f request) (reply.Iova iova) file b none another = mapped (user_of w.settings f)
   where
-    mapped : (user : Option UserNo) → rows_of file (map_changes at w f request user) ≡ rows_of file w
+    mapped : (user : Option UserNo) → rows_of file (map_changes at w f request iova user) ≡ rows_of file w
     mapped None = refl
-    mapped (Some user) = same_rows refl (areas-with_area (mapped_area at f request) w.areas file (other_file f file (another f refl))) refl refl
+    mapped (Some user) = same_rows refl (areas-with_area (mapped_area at f request iova) w.areas file (other_file f file (another f refl))) refl refl
 keeps_others at w (event.Unmap f request) (reply.Bytes count) file b none another =
     same_rows refl (filter_filter _ _ w.areas (λ a same. not_false _ (untouched f file a.file.0 _ _ (another f refl) same))) refl refl
 keeps_others at w (event.Unmap f request) (reply.Pending errno) file b none another =
@@ -240,13 +240,17 @@ keeps_others at w (event.Attach device pt_id) (reply.Id id) file b none another 
     bound : (o : Option Object) → binding_of w.objects device ≡ o → (settings : Option DeviceSettings) → rows_of file (attach_changes w device pt_id id o settings) ≡ rows_of file w
     bound None is settings = refl
     bound (Some object) is None = refl
-    bound (Some object) is (Some settings) =
-        let differ = elsewhere w device object file another is in
-        same_rows
-        (hwpt_same object.file pt_id id settings.width (automatic_hwpt w.objects object.file pt_id settings.width) w.objects file (other_file object.file file differ))
-        (areas_paid w device object file b is differ)
-        (attachments-with_attachment_other _ w.attachments file (other_file object.file file differ))
-        refl
+    bound (Some object) is (Some settings) = by_kind (kind_of w.objects object.file pt_id)
+      where
+        by_kind : (k : Option ObjectKind) → rows_of file (target_changes w device pt_id id object settings k) ≡ rows_of file w
+        by_kind (Some kind.Ioas) =
+            let differ = elsewhere w device object file another is in
+            same_rows
+            (hwpt_same object.file pt_id id settings.width (automatic_hwpt w.objects object.file pt_id settings.width) w.objects file (other_file object.file file differ))
+            (areas_paid w device object file b is differ)
+            (attachments-with_attachment_other _ w.attachments file (other_file object.file file differ))
+            refl
+        by_kind k = refl
 keeps_others at w (event.Detach device) reply.Done file b none another =
     let bound = is_bound w device (detach_is_bound w device none) in
     attached_or_not bound.0 bound.1 (attachment_of w.attachments device) refl
@@ -268,7 +272,7 @@ keeps_others at w (event.DeviceWrite device iova bytes) (reply.Passed frame) fil
 keeps_others at w e answer file b none another = refl
 
 pub after_keeps_others : {A : Type 0} (at : ℕ) (w : World) (r : Record A) (file : FileNo) → AreBound w → IsOfAnother w r.event file → rows_of file (after at w r) ≡ rows_of file w
-unfolding after
+unfolding after with_tables
 after_keeps_others at w r file b another = by_refusal (refusal w r.event) refl
   where
     by_refusal : (o : Option Cause) → refusal w r.event ≡ o → rows_of file (after_answer at w r o) ≡ rows_of file w

@@ -2,21 +2,23 @@
 use Rattle.std.proofs.Common.{◌≡◌, ℕ, Bool, true, false, ◌&&◌, not, eqb, Option, Some, None, List, [], refl, ap, ◌∙◌, is_some, arith}
 use Rattle.std.specs.List.{filter, list_all, list_any}
 use Rattle.std.proofs.lemmas.Bool.Decides.{nat_tests}
-use Rattle.iofd_words.specs.After.{changed, map_changes, attach_changes, detach_changes, settle, without_areas, attached, detached, goes_with, mapped_area, with_hwpt}
+use Rattle.iofd_words.specs.After.{changed, map_changes, attach_changes, target_changes, detach_changes, settle, without_areas, attached, detached, goes_with, mapped_area, with_hwpt}
 use Rattle.iofd_words.specs.Answers.{Answers}
 use Rattle.iofd_words.specs.Areas.{is_of, owed_by}
 use Rattle.iofd_words.specs.Attachments.{attachment_of, has_device_on, without_attachment}
-use Rattle.iofd_words.specs.Checks.{checks, refusal, is_device_object}
+use Rattle.iofd_words.specs.Checks.{refusal, is_device_object}
 use Rattle.iofd_words.specs.Files.{user_of, device_of}
 use Rattle.iofd_laws.specs.Laws.{have_own_ids}
 use Rattle.iofd_words.specs.Objects.{automatic_hwpt, binding_of, is_automatic, is_bound_as, is_bound_device, is_object, kind_of, objects_of}
 use Rattle.iofd_words.specs.Settings.{DeviceSettings}
+use Rattle.iofd_words.specs.Tables.{with_tables}
 use Rattle.iofd_words.specs.View.{view}
 use Rattle.iofd_words.specs.World.{World}
 use Rattle.iofd_words.specs.declared.event.Event.{Event}
 use Rattle.iofd_words.specs.declared.event.Event.TheVariants as event
 use Rattle.iofd_words.specs.declared.numbers.DeviceNo.{DeviceNo}
 use Rattle.iofd_words.specs.declared.numbers.FileNo.{FileNo}
+use Rattle.iofd_words.specs.declared.numbers.FrameNo.{FrameNo}
 use Rattle.iofd_words.specs.declared.numbers.ObjId.{ObjId}
 use Rattle.iofd_words.specs.declared.numbers.UserNo.{UserNo}
 use Rattle.iofd_words.specs.declared.reply.Reply.{Reply}
@@ -24,13 +26,14 @@ use Rattle.iofd_words.specs.declared.reply.Reply.TheVariants as reply
 use Rattle.iofd_words.specs.declared.rows.Area.{Area}
 use Rattle.iofd_words.specs.declared.rows.Attachment.{Attachment}
 use Rattle.iofd_words.specs.declared.rows.Object.{Object}
+use Rattle.iofd_words.specs.declared.rows.ObjectKind.{ObjectKind}
 use Rattle.iofd_words.specs.declared.rows.ObjectKind.TheVariants as kind
 use Rattle.iofd_words.specs.declared.width.Width.{Width}
 use Rattle.iofd_laws.proofs.Bound.{AreBound, StayBound, debts_bound, is_bound_to, is_of_file, attachments_stay, debts_stay, debts-with_area, attachments-with_attachment, leaving_bound, paid_bound, stays-with_object, stays-bind, stays-filter, no_device_either, file_without_devices, id_without_device}
 use Rattle.iofd_laws.proofs.Bools.{not_true}
 use Rattle.iofd_laws.proofs.Found.{all_filter, none_both}
 use Rattle.iofd_laws.proofs.OwnIds.{keeps_own_ids}
-use Rattle.iofd_laws.proofs.Runs.{tests_false}
+use Rattle.iofd_laws.proofs.NotRefused.{bind_passed, close_passed, destroy_passed, passes}
 
 -- what holds of every world of a run
 pub record IsTidy (w : World) : Type 0 where
@@ -93,16 +96,13 @@ detached_bound w device a b =
 -- ---- what the refusals rule out
 
 destroy_no_device : (w : World) (file : FileNo) (id : ObjId) → refusal w (event.Destroy file id) ≡ None → is_device_object (kind_of w.objects file id) ≡ false
-unfolding refusal checks
-destroy_no_device w file id none = tests_false (checks (view w) (event.Destroy file id)) 3 none
+destroy_no_device w file id none = (destroy_passed (view w) file id (passes w (event.Destroy file id) none)).no_device
 
 close_no_device : (w : World) (file : FileNo) → refusal w (event.Close file) ≡ None → list_any (λ (o : Object). is_bound_device o.kind) (objects_of w.objects file) ≡ false
-unfolding refusal checks
-close_no_device w file none = tests_false (checks (view w) (event.Close file)) 1 none
+close_no_device w file none = (close_passed (view w) file (passes w (event.Close file) none)).no_device
 
 bind_unbound : (w : World) (file : FileNo) (device : DeviceNo) → refusal w (event.Bind file device) ≡ None → is_some (binding_of w.objects device) ≡ false
-unfolding refusal checks
-bind_unbound w file device none = tests_false (checks (view w) (event.Bind file device)) 2 none
+bind_unbound w file device none = (bind_passed (view w) file device (passes w (event.Bind file device) none)).unbound
 
 -- ---- each event
 
@@ -112,9 +112,9 @@ keeps_bound at w (event.IoasAlloc file) (reply.Id id) none answers tidy =
     stay_bound w _ (stays-with_object (record { file = file; id = id; kind = kind.Ioas }) w.objects (λ device. refl)) tidy.bound
 keeps_bound at w (event.Map file request) (reply.Iova iova) none answers tidy = mapped (user_of w.settings file)
   where
-    mapped : (user : Option UserNo) → AreBound (map_changes at w file request user)
+    mapped : (user : Option UserNo) → AreBound (map_changes at w file request iova user)
     mapped None = tidy.bound
-    mapped (Some user) = record { attachments = tidy.bound.attachments; debts = debts-with_area w.objects (mapped_area at file request) w.areas refl tidy.bound.debts }
+    mapped (Some user) = record { attachments = tidy.bound.attachments; debts = debts-with_area w.objects (mapped_area at file request iova) w.areas refl tidy.bound.debts }
 keeps_bound at w (event.Unmap file request) (reply.Bytes count) none answers tidy =
     record { attachments = tidy.bound.attachments; debts = all_filter _ _ w.areas tidy.bound.debts }
 keeps_bound at w (event.Unmap file request) (reply.Pending errno) none answers tidy =
@@ -135,7 +135,11 @@ keeps_bound at w (event.Attach device pt_id) (reply.Id id) none answers tidy = b
     bound : (object : Option Object) → binding_of w.objects device ≡ object → (settings : Option DeviceSettings) → AreBound (attach_changes w device pt_id id object settings)
     bound None is settings = tidy.bound
     bound (Some object) is None = tidy.bound
-    bound (Some object) is (Some settings) = attached_bound w device pt_id id object settings is tidy.bound
+    bound (Some object) is (Some settings) = by_kind (kind_of w.objects object.file pt_id)
+      where
+        by_kind : (k : Option ObjectKind) → AreBound (target_changes w device pt_id id object settings k)
+        by_kind (Some kind.Ioas) = attached_bound w device pt_id id object settings is tidy.bound
+        by_kind k = tidy.bound
 keeps_bound at w (event.Detach device) reply.Done none answers tidy = attached_or_not (attachment_of w.attachments device)
   where
     attached_or_not : (a : Option Attachment) → AreBound (detach_changes w device a)
@@ -147,3 +151,8 @@ keeps_bound at w e answer none answers tidy = tidy.bound
 
 pub keeps_tidy : (at : ℕ) (w : World) (e : Event) (answer : Reply) → refusal w e ≡ None → Answers w e answer → IsTidy w → IsTidy (changed at w e answer)
 keeps_tidy at w e answer none answers tidy = record { own_ids = keeps_own_ids at w e answer none answers tidy.own_ids; bound = keeps_bound at w e answer none answers tidy }
+
+-- the frames of tables are no part of it
+pub tabled_tidy : (w : World) (taken given : List FrameNo) → IsTidy w → IsTidy (with_tables taken given w)
+unfolding with_tables
+tabled_tidy w taken given tidy = record { own_ids = tidy.own_ids; bound = record { attachments = tidy.bound.attachments; debts = tidy.bound.debts } }

@@ -2,18 +2,19 @@
 use Rattle.std.proofs.Common.{◌≡◌, ℕ, ◌+◌, ◌<◌, ◌≤◌, ◌^◌, Bool, true, false, cond, ◌&&◌, not, eqb, ltb, is_some, Option, Some, None, List, [], ◌∷◌, refl, arith, ◌++◌, IsTrue}
 use Rattle.std.specs.List.{filter, list_all, find, filter_map, list_any}
 use Rattle.std.proofs.lemmas.Bool.Decides.{nat_tests}
-use Rattle.iofd_words.specs.After.{changed, map_changes, attach_changes, detach_changes, settle, without_areas, attached, detached, mapped_area}
+use Rattle.iofd_words.specs.After.{changed, map_changes, attach_changes, target_changes, detach_changes, settle, without_areas, attached, detached, mapped_area}
 use Rattle.iofd_words.specs.Answers.{Answers}
 use Rattle.iofd_words.specs.Attachments.{attachment_of, with_attachment}
-use Rattle.iofd_words.specs.Checks.{attach_checks, checks, refusal}
+use Rattle.iofd_words.specs.Checks.{refusal}
 use Rattle.iofd_words.specs.Files.{user_of, device_of}
 use Rattle.iofd_laws.specs.Fits.{RowsFit, begins_at_page, devices_rise, is_of_pages}
 use Rattle.iofd_words.specs.Frames.{frame_at, is_free}
-use Rattle.iofd_words.specs.Objects.{automatic_hwpt, binding_of}
+use Rattle.iofd_words.specs.Objects.{automatic_hwpt, binding_of, kind_of}
 use Rattle.iofd_words.specs.Pages.{is_whole, is_above_user, page_of}
 use Rattle.iofd_words.specs.Pins.{ObjectPage, frame_now, is_page, pin_now, settled}
 use Rattle.iofd_words.specs.Settings.{DeviceSettings}
 use Rattle.iofd_words.specs.Span.{size_of, span_from}
+use Rattle.iofd_words.specs.Tables.{with_tables}
 use Rattle.iofd_words.specs.View.{view}
 use Rattle.iofd_words.specs.World.{World}
 use Rattle.iofd_words.specs.declared.event.Event.{Event}
@@ -22,20 +23,24 @@ use Rattle.iofd_words.specs.declared.event.MapRequest.{MapRequest}
 use Rattle.iofd_words.specs.declared.numbers.DeviceNo.{DeviceNo}
 use Rattle.iofd_words.specs.declared.numbers.FileNo.{FileNo}
 use Rattle.iofd_words.specs.declared.numbers.FrameNo.{FrameNo}
+use Rattle.iofd_words.specs.declared.numbers.Iova.{Iova}
+use Rattle.iofd_words.specs.declared.numbers.ObjId.{ObjId}
 use Rattle.iofd_words.specs.declared.numbers.UserNo.{UserNo}
 use Rattle.iofd_words.specs.declared.reply.Reply.{Reply}
 use Rattle.iofd_words.specs.declared.reply.Reply.TheVariants as reply
 use Rattle.iofd_words.specs.declared.rows.Attachment.{Attachment}
 use Rattle.iofd_words.specs.declared.rows.MemoryObject.{MemoryObject}
 use Rattle.iofd_words.specs.declared.rows.Object.{Object}
+use Rattle.iofd_words.specs.declared.rows.ObjectKind.{ObjectKind}
 use Rattle.iofd_words.specs.declared.rows.ObjectKind.TheVariants as kind
 use Rattle.iofd_words.specs.declared.rows.Pin.{Pin}
+use Rattle.iofd_words.specs.declared.rows.TableFrame.{TableFrame}
 use Rattle.iofd_words.specs.declared.rows.UserPage.{UserPage}
-use Rattle.iofd_laws.proofs.Bools.{or_false, and_true, both_true}
+use Rattle.iofd_laws.proofs.Bools.{and_true, both_true}
 use Rattle.iofd_laws.proofs.Found.{all_filter, all_map, found_passes}
 use Rattle.iofd_laws.proofs.OwnMemory.{all-with_area}
 use Rattle.iofd_laws.proofs.Known.{alloc_open, attached_one, bind_device, bind_open, bound_known, is_known, known_closed, known_hwpt, known_one}
-use Rattle.iofd_laws.proofs.Runs.{tests_false}
+use Rattle.iofd_laws.proofs.NotRefused.{attach_passed, map_passed, passes}
 
 -- ---- a span of a length has that many numbers
 
@@ -51,14 +56,12 @@ whole_length false va iova is = cc
 short_length : (va length : ℕ) → is_above_user va length ≡ false → length ≤ 2 ^ 48
 short_length va length is = search (is, arith, nat_tests)
 
-mapped_pages : (at : ℕ) (w : World) (file : FileNo) (request : MapRequest) → refusal w (event.Map file request) ≡ None → is_of_pages (mapped_area at file request) ≡ true
-unfolding refusal checks
-mapped_pages at w file request none =
-    let align = or_false (eqb request.length 0) (not (is_whole request.length && is_whole request.user_va && is_whole request.iova.0)) (tests_false (checks (view w) (event.Map file request)) 4 none) in
-    let short : is_above_user request.user_va request.length ≡ false = tests_false (checks (view w) (event.Map file request)) 5 none in
-    let size = from_size request.iova.0 request.length align.0 in
-    let length_whole = whole_length (is_whole request.length) (is_whole request.user_va) (is_whole request.iova.0) align.1 in
-    let below : request.length ≤ 2 ^ 48 = short_length request.user_va request.length short in
+mapped_pages : (at : ℕ) (w : World) (file : FileNo) (request : MapRequest) (iova : Iova) → refusal w (event.Map file request) ≡ None → is_of_pages (mapped_area at file request iova) ≡ true
+mapped_pages at w file request iova none =
+    let passed = map_passed (view w) file request (passes w (event.Map file request) none) in
+    let size = from_size iova.0 request.length passed.some in
+    let length_whole = whole_length (is_whole request.length) (is_whole request.user_va) (is_whole request.iova.0) passed.whole in
+    let below : request.length ≤ 2 ^ 48 = short_length request.user_va request.length passed.in_user in
     rw size (both_true _ _ length_whole (search (below, arith, nat_tests)))
 
 whole_start : (length va iova : Bool) → not (length && va && iova) ≡ false → iova ≡ true
@@ -67,11 +70,9 @@ whole_start true true false is = cc
 whole_start true false iova is = cc
 whole_start false va iova is = cc
 
-mapped_start : (at : ℕ) (w : World) (file : FileNo) (request : MapRequest) → refusal w (event.Map file request) ≡ None → begins_at_page (mapped_area at file request) ≡ true
-unfolding refusal checks
-mapped_start at w file request none =
-    let align = or_false (eqb request.length 0) (not (is_whole request.length && is_whole request.user_va && is_whole request.iova.0)) (tests_false (checks (view w) (event.Map file request)) 4 none) in
-    whole_start (is_whole request.length) (is_whole request.user_va) (is_whole request.iova.0) align.1
+mapped_start : (at : ℕ) (w : World) (file : FileNo) (request : MapRequest) (iova : Iova) → iova ≡ request.iova → refusal w (event.Map file request) ≡ None → begins_at_page (mapped_area at file request iova) ≡ true
+mapped_start at w file request iova is none =
+    rw is (whole_start (is_whole request.length) (is_whole request.user_va) (is_whole request.iova.0) (map_passed (view w) file request (passes w (event.Map file request) none)).whole)
 
 -- ---- one more attachment
 
@@ -116,9 +117,8 @@ rise-filter p (a ∷ attachments) rise =
     kept true first rest = both_true _ _ first rest
     kept false first rest = rest
 
-attach_free : (w : World) (device : DeviceNo) (object : Object) (ioas : _) → binding_of w.objects device ≡ Some object → refusal w (event.Attach device ioas) ≡ None → is_some (attachment_of w.attachments device) ≡ false
-unfolding refusal checks
-attach_free w device object ioas is none = tests_false (attach_checks (view w) device ioas object.file) 0 (rw (is, checks) at none)
+attach_free : (w : World) (device : DeviceNo) (object : Object) (ioas : ObjId) → binding_of w.objects device ≡ Some object → refusal w (event.Attach device ioas) ≡ None → is_some (attachment_of w.attachments device) ≡ false
+attach_free w device object ioas is none = (attach_passed (view w) device ioas object is (passes w (event.Attach device ioas) none)).unattached
 
 -- ---- frames of the pool
 
@@ -163,8 +163,8 @@ module _ (pool : ℕ) (memory : List MemoryObject) (pages : List UserPage) (all 
   settled_below before after pins below =
       all_both (λ (pin : Pin). ltb pin.frame.0 pool) _ _ (all_filter (λ (pin : Pin). ltb pin.frame.0 pool) _ pins below) (new_below (filter (λ page. not (list_any (is_page page) before)) after))
 
-free_below : (pool : ℕ) (pages : List UserPage) (pins : List Pin) (frame : ℕ) → IsTrue (is_free pool pages pins frame) → ltb frame pool ≡ true
-free_below pool pages pins frame free = (and_true (ltb frame pool) _ free).0
+free_below : (pool : ℕ) (pages : List UserPage) (pins : List Pin) (tables : List TableFrame) (frame : ℕ) → IsTrue (is_free pool pages pins tables frame) → ltb frame pool ≡ true
+free_below pool pages pins tables frame free = (and_true (ltb frame pool) _ free).0
 
 -- ---- each event
 
@@ -173,9 +173,9 @@ unfolding changed settle without_areas attached detached Answers
 keeps_fit at w (event.IoasAlloc file) (reply.Id id) none answers fits = record { pages = fits.pages; starts = fits.starts; rise = fits.rise; user_frames = fits.user_frames; pin_frames = fits.pin_frames; known = known_one (is_known w.settings w.closed) (record { file = file; id = id; kind = kind.Ioas }) w.objects (both_true _ _ (alloc_open w file none) refl) fits.known; attached = fits.attached }
 keeps_fit at w (event.Map file request) (reply.Iova iova) none answers fits = mapped (user_of w.settings file)
   where
-    mapped : (user : Option UserNo) → RowsFit (map_changes at w file request user)
+    mapped : (user : Option UserNo) → RowsFit (map_changes at w file request iova user)
     mapped None = fits
-    mapped (Some user) = record { pages = all-with_area is_of_pages (mapped_area at file request) w.areas (mapped_pages at w file request none) fits.pages; starts = all-with_area begins_at_page (mapped_area at file request) w.areas (mapped_start at w file request none) fits.starts; rise = fits.rise; user_frames = fits.user_frames; pin_frames = settled_below w.settings.pool _ w.user_pages fits.user_frames _ _ w.pins fits.pin_frames; known = fits.known; attached = fits.attached }
+    mapped (Some user) = record { pages = all-with_area is_of_pages (mapped_area at file request iova) w.areas (mapped_pages at w file request iova none) fits.pages; starts = all-with_area begins_at_page (mapped_area at file request iova) w.areas (mapped_start at w file request iova answers none) fits.starts; rise = fits.rise; user_frames = fits.user_frames; pin_frames = settled_below w.settings.pool _ w.user_pages fits.user_frames _ _ w.pins fits.pin_frames; known = fits.known; attached = fits.attached }
 keeps_fit at w (event.Unmap file request) (reply.Bytes count) none answers fits = record { pages = all_filter is_of_pages _ w.areas fits.pages; starts = all_filter begins_at_page _ w.areas fits.starts; rise = fits.rise; user_frames = fits.user_frames; pin_frames = settled_below w.settings.pool _ w.user_pages fits.user_frames _ _ w.pins fits.pin_frames; known = fits.known; attached = fits.attached }
 keeps_fit at w (event.Unmap file request) (reply.Pending errno) none answers fits = record { pages = all_map is_of_pages is_of_pages _ w.areas (λ area is. is) fits.pages; starts = all_map begins_at_page begins_at_page _ w.areas (λ area is. is) fits.starts; rise = fits.rise; user_frames = fits.user_frames; pin_frames = fits.pin_frames; known = fits.known; attached = fits.attached }
 keeps_fit at w (event.Destroy file id) reply.Done none answers fits = record { pages = all_filter is_of_pages _ w.areas fits.pages; starts = all_filter begins_at_page _ w.areas fits.starts; rise = fits.rise; user_frames = fits.user_frames; pin_frames = settled_below w.settings.pool _ w.user_pages fits.user_frames _ _ w.pins fits.pin_frames; known = all_filter (is_known w.settings w.closed) _ w.objects fits.known; attached = fits.attached }
@@ -185,7 +185,7 @@ keeps_fit at w (event.UserMap user va) (reply.Frame frame) none answers fits =
       pages = fits.pages;
       starts = fits.starts;
       rise = fits.rise;
-      user_frames = all_both (λ (p : UserPage). ltb p.frame.0 w.settings.pool) w.user_pages _ fits.user_frames (both_true _ _ (free_below w.settings.pool w.user_pages w.pins frame.0 answers) refl);
+      user_frames = all_both (λ (p : UserPage). ltb p.frame.0 w.settings.pool) w.user_pages _ fits.user_frames (both_true _ _ (free_below w.settings.pool w.user_pages w.pins w.table_frames frame.0 answers) refl);
       pin_frames = fits.pin_frames;
       known = fits.known;
       attached = fits.attached;
@@ -196,9 +196,13 @@ keeps_fit at w (event.Attach device pt_id) (reply.Id id) none answers fits = bou
     bound : (object : Option Object) → binding_of w.objects device ≡ object → (settings : Option DeviceSettings) → RowsFit (attach_changes w device pt_id id object settings)
     bound None is settings = fits
     bound (Some object) is None = fits
-    bound (Some object) is (Some settings) =
-        let here = bound_known w.settings w.closed w.objects device object fits.known is in
-        record { pages = all_map is_of_pages is_of_pages _ w.areas (λ area is. is) fits.pages; starts = all_map begins_at_page begins_at_page _ w.areas (λ area is. is) fits.starts; rise = rise-with_attachment (record { device = device; file = object.file; hwpt = id }) w.attachments (attach_free w device object pt_id is none) fits.rise; user_frames = fits.user_frames; pin_frames = settled_below w.settings.pool _ w.user_pages fits.user_frames _ _ w.pins fits.pin_frames; known = known_hwpt w.settings w.closed object.file pt_id id settings.width (automatic_hwpt w.objects object.file pt_id settings.width) w.objects here.0 fits.known; attached = attached_one w.settings (record { device = device; file = object.file; hwpt = id }) w.attachments here.1 fits.attached }
+    bound (Some object) is (Some settings) = by_kind (kind_of w.objects object.file pt_id)
+      where
+        by_kind : (k : Option ObjectKind) → RowsFit (target_changes w device pt_id id object settings k)
+        by_kind (Some kind.Ioas) =
+            let here = bound_known w.settings w.closed w.objects device object fits.known is in
+            record { pages = all_map is_of_pages is_of_pages _ w.areas (λ area is. is) fits.pages; starts = all_map begins_at_page begins_at_page _ w.areas (λ area is. is) fits.starts; rise = rise-with_attachment (record { device = device; file = object.file; hwpt = id }) w.attachments (attach_free w device object pt_id is none) fits.rise; user_frames = fits.user_frames; pin_frames = settled_below w.settings.pool _ w.user_pages fits.user_frames _ _ w.pins fits.pin_frames; known = known_hwpt w.settings w.closed object.file pt_id id settings.width (automatic_hwpt w.objects object.file pt_id settings.width) w.objects here.0 fits.known; attached = attached_one w.settings (record { device = device; file = object.file; hwpt = id }) w.attachments here.1 fits.attached }
+        by_kind k = fits
 keeps_fit at w (event.Detach device) reply.Done none answers fits = attached_or_not (attachment_of w.attachments device)
   where
     attached_or_not : (a : Option Attachment) → RowsFit (detach_changes w device a)
@@ -207,3 +211,8 @@ keeps_fit at w (event.Detach device) reply.Done none answers fits = attached_or_
 keeps_fit at w (event.Flush device) reply.Done none answers fits = record { pages = all_map is_of_pages is_of_pages _ w.areas (λ area is. is) fits.pages; starts = all_map begins_at_page begins_at_page _ w.areas (λ area is. is) fits.starts; rise = fits.rise; user_frames = fits.user_frames; pin_frames = fits.pin_frames; known = fits.known; attached = fits.attached }
 keeps_fit at w (event.DeviceWrite device iova bytes) (reply.Passed frame) none answers fits = record { pages = fits.pages; starts = fits.starts; rise = fits.rise; user_frames = fits.user_frames; pin_frames = fits.pin_frames; known = fits.known; attached = fits.attached }
 keeps_fit at w e answer none answers fits = fits
+
+-- the frames of tables are no part of it
+pub tabled_fit : (w : World) (taken given : List FrameNo) → RowsFit w → RowsFit (with_tables taken given w)
+unfolding with_tables
+tabled_fit w taken given fits = record { pages = fits.pages; starts = fits.starts; rise = fits.rise; user_frames = fits.user_frames; pin_frames = fits.pin_frames; known = fits.known; attached = fits.attached }

@@ -5,7 +5,7 @@ use Rattle.std.proofs.lemmas.Bool.{eqb-true}
 use Rattle.std.proofs.lemmas.Bool.Decides.{nat_tests}
 use Rattle.iofd_words.specs.After.{with_hwpt}
 use Rattle.iofd_words.specs.Attachments.{with_attachment}
-use Rattle.iofd_words.specs.Checks.{checks, refusal}
+use Rattle.iofd_words.specs.Checks.{refusal}
 use Rattle.iofd_words.specs.Files.{is_device, is_open, numbered, user_of}
 use Rattle.iofd_laws.specs.Fits.{is_known_device}
 use Rattle.iofd_words.specs.Objects.{binding_of, is_bound_as, with_object}
@@ -23,7 +23,7 @@ use Rattle.iofd_words.specs.declared.rows.ObjectKind.TheVariants as kind
 use Rattle.iofd_words.specs.declared.width.Width.{Width}
 use Rattle.iofd_laws.proofs.Bools.{and_true, both_false, both_true, not_false, not_true}
 use Rattle.iofd_laws.proofs.Each.{in_filter, in_found, in_with_attachment, in_with_object, of_all, of_each, IsIn}
-use Rattle.iofd_laws.proofs.Runs.{tests_false}
+use Rattle.iofd_laws.proofs.NotRefused.{alloc_passed, bind_passed, passes}
 
 -- the object is of an open file, and a bound device is one of the settings
 abbrev pub is_known : Settings → List FileNo → Object → Bool
@@ -103,18 +103,11 @@ bound_known settings closed objects device object all is =
 
 -- ---- what the refusals rule out
 
-opened : (p : Bool) → not p ≡ false → p ≡ true
-opened true is = refl
-opened false is = cc
-
 pub alloc_open : (w : World) (file : FileNo) → refusal w (event.IoasAlloc file) ≡ None → is_open w.settings w.closed file ≡ true
-unfolding refusal checks
-alloc_open w file none = opened _ (tests_false (checks (view w) (event.IoasAlloc file)) 0 none)
+alloc_open w file none = (alloc_passed (view w) file (passes w (event.IoasAlloc file) none)).opened
 
 pub bind_open : (w : World) (file : FileNo) (device : DeviceNo) → refusal w (event.Bind file device) ≡ None → is_open w.settings w.closed file ≡ true
-unfolding refusal checks
-bind_open w file device none = opened _ (tests_false (checks (view w) (event.Bind file device)) 0 none)
+bind_open w file device none = (bind_passed (view w) file device (passes w (event.Bind file device) none)).opened
 
 pub bind_device : (w : World) (file : FileNo) (device : DeviceNo) → refusal w (event.Bind file device) ≡ None → is_device w.settings device ≡ true
-unfolding refusal checks
-bind_device w file device none = opened _ (tests_false (checks (view w) (event.Bind file device)) 1 none)
+bind_device w file device none = (bind_passed (view w) file device (passes w (event.Bind file device) none)).known

@@ -54,6 +54,17 @@ any_apart p q r (x ∷ xs) both any none =
     by_test true passes here other later = or_left (r x) (list_any r xs) (both x passes other)
     by_test false fails here other later = or_right (r x) (list_any r xs) (later here)
 
+-- of rows of which each has h
+pub any_of_all : {X : Type 0} (h p q : X → Bool) (xs : List X) → ((x : X) → h x ≡ true → p x ≡ true → q x ≡ true) → list_all h xs ≡ true → list_any p xs ≡ true → list_any q xs ≡ true
+any_of_all h p q [] weaker all any = any
+any_of_all h p q (x ∷ xs) weaker all any =
+    let parts = and_true (h x) (list_all h xs) all in
+    by_test (p x) refl any parts.0 (any_of_all h p q xs weaker parts.1)
+  where
+    by_test : (b : Bool) → p x ≡ b → (b || list_any p xs) ≡ true → h x ≡ true → (list_any p xs ≡ true → list_any q xs ≡ true) → (q x || list_any q xs) ≡ true
+    by_test true passes here has later = or_left (q x) (list_any q xs) (weaker x has passes)
+    by_test false fails here has later = or_right (q x) (list_any q xs) (later here)
+
 -- of the rows that a filter keeps
 pub any-filter : {X : Type 0} (p q : X → Bool) (xs : List X) → list_any p (filter q xs) ≡ list_any (λ x. q x && p x) xs
 any-filter p q [] = refl

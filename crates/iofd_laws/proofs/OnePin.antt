@@ -1,26 +1,22 @@
--- No page has two pins, and none is to be pinned for two areas.
-use Rattle.std.proofs.Common.{◌≡◌, ℕ, zero, suc, ◌+◌, ◌≤◌, Bool, true, false, cond, ◌&&◌, ◌||◌, not, eqb, Option, Some, None, is_some, List, [], ◌∷◌, ◌++◌, map, refl, ap, sym, ◌∙◌, arith}
+-- No page has two pins.
+use Rattle.std.proofs.Common.{◌≡◌, ℕ, zero, suc, ◌+◌, ◌≤◌, Bool, true, false, cond, ◌&&◌, ◌||◌, not, eqb, Option, Some, None, is_some, List, [], ◌∷◌, ◌++◌, map, refl, ap, ◌∙◌, arith}
 use Rattle.std.specs.List.{filter, filter_map, list_all, list_any, range_with_len}
 use Rattle.std.proofs.lemmas.Bool.Decides.{nat_tests}
-use Rattle.std.proofs.lemmas.Bool.{eqb-true}
 use Rattle.std.proofs.lemmas.List.Folds.{list_any-append}
-use Rattle.iofd_words.specs.Objects.{has_hwpt}
-use Rattle.iofd_words.specs.Pins.{ObjectPage, is_page, page_of_pin, pages_of, pin_now, frame_now, pinned_pages, are_present, settled}
+use Rattle.iofd_words.specs.Pins.{ObjectPage, is_page, page_of_pin, pin_now, frame_now, are_present, settled}
 use Rattle.iofd_words.specs.declared.numbers.FrameNo.{FrameNo}
-use Rattle.iofd_words.specs.declared.rows.Area.{Area}
 use Rattle.iofd_words.specs.declared.rows.MemoryObject.{MemoryObject}
-use Rattle.iofd_words.specs.declared.rows.Object.{Object}
 use Rattle.iofd_words.specs.declared.rows.Pin.{Pin}
 use Rattle.iofd_words.specs.declared.rows.UserPage.{UserPage}
-use Rattle.iofd_laws.specs.Pinned.{differ, have_own_memory}
+use Rattle.iofd_laws.specs.Pinned.{differ}
 use Rattle.iofd_laws.proofs.Bools.{and_true, both_false, both_true, clash, not_false, not_true, or_false}
-use Rattle.iofd_laws.proofs.ListTests.{false_else, none_stronger, or_right}
-use Rattle.iofd_laws.proofs.PageLists.{any-if, any-pinned, kept_page, memory_of_page, memory_of_pinned, page_itself, pins_page, same_page}
+use Rattle.iofd_laws.proofs.ListTests.{false_else, or_right}
+use Rattle.iofd_laws.proofs.PageLists.{kept_page, page_itself, same_page}
 
 -- ---- pages that differ
 
 -- two lists of such pages, of which no page is in both
-differ-append : (xs ys : List ObjectPage) → differ xs ≡ true → differ ys ≡ true → ((page : ObjectPage) → list_any (is_page page) xs ≡ true → list_any (is_page page) ys ≡ false) → differ (xs ++ ys) ≡ true
+pub differ-append : (xs ys : List ObjectPage) → differ xs ≡ true → differ ys ≡ true → ((page : ObjectPage) → list_any (is_page page) xs ≡ true → list_any (is_page page) ys ≡ false) → differ (xs ++ ys) ≡ true
 differ-append [] ys first second apart = second
 differ-append (x ∷ xs) ys first second apart =
     let parts = and_true (not (list_any (is_page x) xs)) (differ xs) first in
@@ -28,7 +24,7 @@ differ-append (x ∷ xs) ys first second apart =
     let none = list_any-append (is_page x) xs ys ∙ both_false _ _ (not_true _ parts.0) (apart x here) in
     both_true _ _ (not_false _ none) (differ-append xs ys parts.1 second (λ page within. apart page (or_right (is_page page x) (list_any (is_page page) xs) within)))
 
-differ-filter : (q : ObjectPage → Bool) (pages : List ObjectPage) → differ pages ≡ true → differ (filter q pages) ≡ true
+pub differ-filter : (q : ObjectPage → Bool) (pages : List ObjectPage) → differ pages ≡ true → differ (filter q pages) ≡ true
 differ-filter q [] is = refl
 differ-filter q (page ∷ pages) is =
     let parts = and_true (not (list_any (is_page page) pages)) (differ pages) is in
@@ -39,7 +35,7 @@ differ-filter q (page ∷ pages) is =
     kept true none rest = both_true _ _ (not_false _ none) rest
     kept false none rest = rest
 
--- ---- the pages that are to be pinned
+-- ---- the pages of one memory object
 
 -- no index comes again above it
 none_above : (memory low index count : ℕ) → low + 1 ≤ index → list_any (is_page (record { memory = memory; index = low })) (map (λ i. record { memory = memory; index = i }) (range_with_len index count)) ≡ false
@@ -53,28 +49,13 @@ none_above memory low index (suc count) above =
     never true = refl
     never false = refl
 
-pages_differ : (memory first count : ℕ) → differ (map (λ i. record { memory = memory; index = i }) (range_with_len first count)) ≡ true
+pub pages_differ : (memory first count : ℕ) → differ (map (λ i. record { memory = memory; index = i }) (range_with_len first count)) ≡ true
 pages_differ memory first zero = refl
 pages_differ memory first (suc count) = both_true _ _ (not_false _ (none_above memory first (first + 1) count (omega arith))) (pages_differ memory (first + 1) count)
 
--- no page is to be pinned for two areas
-pub pinned_differ : (objects : List Object) (areas : List Area) → have_own_memory areas ≡ true → differ (pinned_pages objects areas) ≡ true
-pinned_differ objects [] own = refl
-pinned_differ objects (area ∷ areas) own =
-    let owns = and_true (not (list_any (λ (a : Area). eqb a.memory area.memory) areas)) (have_own_memory areas) own in
-    differ-append (cond (has_hwpt objects area.file area.ioas) (pages_of area) []) (pinned_pages objects areas) (by_table (has_hwpt objects area.file area.ioas)) (pinned_differ objects areas owns.1)
-    (λ page within. any-pinned objects areas page ∙ none_stronger (pins_page objects page) (λ (a : Area). eqb a.memory page.memory) areas (λ a pins. memory_of_pinned objects a page pins) (others page (memory_of_page area page (and_true _ _ (sym (any-if page (pages_of area) (has_hwpt objects area.file area.ioas)) ∙ within)).1) (not_true _ owns.0)))
-  where
-    by_table : (b : Bool) → differ (cond b (pages_of area) []) ≡ true
-    by_table true = pages_differ area.memory 0 _
-    by_table false = refl
-
-    others : (page : ObjectPage) → eqb area.memory page.memory ≡ true → list_any (λ (a : Area). eqb a.memory area.memory) areas ≡ false → list_any (λ (a : Area). eqb a.memory page.memory) areas ≡ false
-    others page is none = let same : area.memory ≡ page.memory = eqb-true area.memory page.memory is in rw (← same) none
-
 -- ---- pins
 
-kept_pins_differ : (q : Pin → Bool) (pins : List Pin) → differ (map page_of_pin pins) ≡ true → differ (map page_of_pin (filter q pins)) ≡ true
+pub kept_pins_differ : (q : Pin → Bool) (pins : List Pin) → differ (map page_of_pin pins) ≡ true → differ (map page_of_pin (filter q pins)) ≡ true
 kept_pins_differ q [] is = refl
 kept_pins_differ q (pin ∷ pins) is =
     let parts = and_true (not (list_any (is_page (page_of_pin pin)) (map page_of_pin pins))) (differ (map page_of_pin pins)) is in
@@ -94,10 +75,10 @@ kept_pins_differ q (pin ∷ pins) is =
     kept false first rest = rest
 
 -- the pages of new pins, in order, where each page is in its user's memory
-new_pins : (memory : List MemoryObject) (user_pages : List UserPage) (pages : List ObjectPage) → are_present memory user_pages pages ≡ true → map page_of_pin (filter_map (pin_now memory user_pages) pages) ≡ pages
+new_pins : (memory : List MemoryObject) (user_pages : List UserPage) (pages : List ObjectPage) → are_present (frame_now memory user_pages) pages ≡ true → map page_of_pin (filter_map (pin_now memory user_pages) pages) ≡ pages
 new_pins memory user_pages [] present = refl
 new_pins memory user_pages (page ∷ pages) present =
-    let parts = and_true (is_some (frame_now memory user_pages page)) (are_present memory user_pages pages) present in
+    let parts = and_true (is_some (frame_now memory user_pages page)) (are_present (frame_now memory user_pages) pages) present in
     by_frame (frame_now memory user_pages page) refl parts.0 (new_pins memory user_pages pages parts.1)
   where
     by_frame : (o : Option FrameNo) → frame_now memory user_pages page ≡ o → is_some o ≡ true → map page_of_pin (filter_map (pin_now memory user_pages) pages) ≡ pages → map page_of_pin (filter_map (pin_now memory user_pages) (page ∷ pages)) ≡ page ∷ pages
@@ -133,7 +114,7 @@ pub settled_once : (before after : List ObjectPage) (memory : List MemoryObject)
     → differ (map page_of_pin pins) ≡ true
     → list_all (λ pin. list_any (is_page (page_of_pin pin)) before) pins ≡ true
     → differ after ≡ true
-    → are_present memory user_pages (filter (λ page. not (list_any (is_page page) before)) after) ≡ true
+    → are_present (frame_now memory user_pages) (filter (λ page. not (list_any (is_page page) before)) after) ≡ true
     → differ (map page_of_pin (settled before after memory user_pages pins)) ≡ true
 settled_once before after memory user_pages pins once only after_differ present =
     let stay = λ (pin : Pin). list_any (is_page (page_of_pin pin)) after in

@@ -2,14 +2,14 @@
 use Rattle.std.proofs.Common.{◌≡◌, ℕ, zero, suc, ◌<◌, true, false, ◌||◌, not, eqb, Option, Some, None, List, [], ◌∷◌, ◌++◌, map, Contains, refl, sym, ◌∙◌, subst, arith, IsTrue}
 use Rattle.std.specs.List.{list_any}
 use Rattle.std.proofs.lemmas.Bool.Decides.{nat_tests}
-use Rattle.iofd_words.specs.After.{changed, map_changes, attach_changes, detach_changes, settle, without_areas, attached, detached}
+use Rattle.iofd_words.specs.After.{changed, map_changes, attach_changes, target_changes, detach_changes, settle, without_areas, attached, detached}
 use Rattle.iofd_words.specs.Answers.{Answers, write_reply}
 use Rattle.iofd_words.specs.Attachments.{attachment_of}
 use Rattle.iofd_words.specs.Checks.{refusal}
 use Rattle.iofd_words.specs.Files.{user_of, device_of}
 use Rattle.iofd_words.specs.Frames.{is_free, is_reached}
 use Rattle.iofd_laws.specs.Laws.{have_own_frames, WasFree}
-use Rattle.iofd_words.specs.Objects.{binding_of}
+use Rattle.iofd_words.specs.Objects.{binding_of, kind_of}
 use Rattle.iofd_words.specs.Policy.{Outcome, Passes, Denied, outcomes}
 use Rattle.iofd_words.specs.Run.{IsAnswer, Lawful}
 use Rattle.iofd_words.specs.Settings.{DeviceSettings}
@@ -26,17 +26,20 @@ use Rattle.iofd_words.specs.declared.reply.Reply.{Reply}
 use Rattle.iofd_words.specs.declared.reply.Reply.TheVariants as reply
 use Rattle.iofd_words.specs.declared.rows.Attachment.{Attachment}
 use Rattle.iofd_words.specs.declared.rows.Object.{Object}
+use Rattle.iofd_words.specs.declared.rows.ObjectKind.{ObjectKind}
+use Rattle.iofd_words.specs.declared.rows.ObjectKind.TheVariants as kind
 use Rattle.iofd_words.specs.declared.rows.Pin.{Pin}
+use Rattle.iofd_words.specs.declared.rows.TableFrame.{TableFrame}
 use Rattle.iofd_words.specs.declared.rows.UserPage.{UserPage}
 use Rattle.iofd_laws.proofs.Bools.{or_false, and_true, both_false, both_true, not_true, not_false}
 
 -- ---- a free frame is reached by nobody
 
-free_parts : (pool : ℕ) (pages : List UserPage) (pins : List Pin) (frame : ℕ) → IsTrue (is_free pool pages pins frame) → (frame < pool) × (is_reached pages pins frame ≡ false)
-free_parts pool pages pins frame free = grind (arith, nat_tests)
+free_parts : (pool : ℕ) (pages : List UserPage) (pins : List Pin) (tables : List TableFrame) (frame : ℕ) → IsTrue (is_free pool pages pins tables frame) → (frame < pool) × (is_reached pages pins tables frame ≡ false)
+free_parts pool pages pins tables frame free = grind (arith, nat_tests)
 
-no_page : (pages : List UserPage) (pins : List Pin) (frame : ℕ) → is_reached pages pins frame ≡ false → list_any (λ (p : UserPage). eqb p.frame.0 frame) pages ≡ false
-no_page pages pins frame free = grind (arith, nat_tests)
+no_page : (pages : List UserPage) (pins : List Pin) (tables : List TableFrame) (frame : ℕ) → is_reached pages pins tables frame ≡ false → list_any (λ (p : UserPage). eqb p.frame.0 frame) pages ≡ false
+no_page pages pins tables frame free = grind (arith, nat_tests)
 
 flipped : (m n : ℕ) → eqb m n ≡ false → eqb n m ≡ false
 flipped m n is = grind (arith, nat_tests)
@@ -66,7 +69,7 @@ unfolding changed settle without_areas attached detached Answers
 keeps_own_frames at w (event.IoasAlloc file) (reply.Id id) none answers own = own
 keeps_own_frames at w (event.Map file request) (reply.Iova iova) none answers own = mapped (user_of w.settings file)
   where
-    mapped : (user : Option UserNo) → have_own_frames (map_changes at w file request user).user_pages ≡ true
+    mapped : (user : Option UserNo) → have_own_frames (map_changes at w file request iova user).user_pages ≡ true
     mapped None = own
     mapped (Some user) = own
 keeps_own_frames at w (event.Unmap file request) (reply.Bytes count) none answers own = own
@@ -74,14 +77,18 @@ keeps_own_frames at w (event.Unmap file request) (reply.Pending errno) none answ
 keeps_own_frames at w (event.Destroy file id) reply.Done none answers own = own
 keeps_own_frames at w (event.Close file) reply.Done none answers own = own
 keeps_own_frames at w (event.UserMap user va) (reply.Frame frame) none answers own =
-    own_frames_more w.user_pages _ (no_page w.user_pages w.pins frame.0 (free_parts w.settings.pool w.user_pages w.pins frame.0 answers).1) own
+    own_frames_more w.user_pages _ (no_page w.user_pages w.pins w.table_frames frame.0 (free_parts w.settings.pool w.user_pages w.pins w.table_frames frame.0 answers).1) own
 keeps_own_frames at w (event.Bind file device) (reply.Id id) none answers own = own
 keeps_own_frames at w (event.Attach device pt_id) (reply.Id id) none answers own = bound (binding_of w.objects device) (device_of w.settings device)
   where
     bound : (object : Option Object) (settings : Option DeviceSettings) → have_own_frames (attach_changes w device pt_id id object settings).user_pages ≡ true
     bound None settings = own
     bound (Some object) None = own
-    bound (Some object) (Some settings) = own
+    bound (Some object) (Some settings) = by_kind (kind_of w.objects object.file pt_id)
+      where
+        by_kind : (k : Option ObjectKind) → have_own_frames (target_changes w device pt_id id object settings k).user_pages ≡ true
+        by_kind (Some kind.Ioas) = own
+        by_kind k = own
 keeps_own_frames at w (event.Detach device) reply.Done none answers own = attached_or_not (attachment_of w.attachments device)
   where
     attached_or_not : (a : Option Attachment) → have_own_frames (detach_changes w device a).user_pages ≡ true
@@ -102,7 +109,7 @@ never_written w device address (o ∷ os) frame (suc k, within, is) = never_writ
 
 given_free : (w : World) (e : Event) (frame : FrameNo) → Answers w e (reply.Frame frame) → WasFree w frame
 unfolding Answers
-given_free w (event.UserMap user va) frame answers = free_parts w.settings.pool w.user_pages w.pins frame.0 answers
+given_free w (event.UserMap user va) frame answers = free_parts w.settings.pool w.user_pages w.pins w.table_frames frame.0 answers
 given_free w (event.DeviceWrite device iova bytes) frame answers =
     absurd (never_written w device iova.0 (outcomes w device iova.0 Write) frame answers)
 given_free w e frame answers = absurd answers

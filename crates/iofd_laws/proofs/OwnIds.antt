@@ -2,8 +2,8 @@
 use Rattle.std.proofs.Common.{◌≡◌, ℕ, Bool, true, false, cond, ◌||◌, not, Option, Some, None, List, [], ◌∷◌, refl, sym, ◌∙◌, arith, is_some}
 use Rattle.std.specs.List.{filter, find, list_any}
 use Rattle.std.proofs.lemmas.Bool.Decides.{nat_tests}
-use Rattle.iofd_words.specs.After.{changed, map_changes, attach_changes, detach_changes, settle, without_areas, attached, detached, with_hwpt}
-use Rattle.iofd_words.specs.Answers.{Answers, IsHwptFor, IsHwptOf}
+use Rattle.iofd_words.specs.After.{changed, map_changes, attach_changes, target_changes, detach_changes, settle, without_areas, attached, detached, with_hwpt}
+use Rattle.iofd_words.specs.Answers.{Answers, IsHwptFor, IsHwptOf, IsTarget}
 use Rattle.iofd_words.specs.Attachments.{attachment_of}
 use Rattle.iofd_words.specs.Checks.{refusal}
 use Rattle.iofd_words.specs.Files.{user_of, device_of}
@@ -104,7 +104,7 @@ keeps_own_ids at w (event.IoasAlloc file) (reply.Id id) none answers own =
     own_ids-with_object (record { file = file; id = id; kind = kind.Ioas }) w.objects (unused w.objects file id answers) own
 keeps_own_ids at w (event.Map file request) (reply.Iova iova) none answers own = mapped (user_of w.settings file)
   where
-    mapped : (user : Option UserNo) → have_own_ids (map_changes at w file request user).objects ≡ true
+    mapped : (user : Option UserNo) → have_own_ids (map_changes at w file request iova user).objects ≡ true
     mapped None = own
     mapped (Some user) = own
 keeps_own_ids at w (event.Unmap file request) (reply.Bytes count) none answers own = own
@@ -119,8 +119,11 @@ keeps_own_ids at w (event.Attach device pt_id) (reply.Id id) none answers own = 
     bound : (object : Option Object) (settings : Option DeviceSettings) → IsHwptOf w pt_id id object settings → have_own_ids (attach_changes w device pt_id id object settings).objects ≡ true
     bound None settings never = absurd never
     bound (Some object) None never = absurd never
-    bound (Some object) (Some settings) hwpt =
-        own_ids-with_hwpt w object.file pt_id id settings.width (automatic_hwpt w.objects object.file pt_id settings.width) hwpt own
+    bound (Some object) (Some settings) hwpt = by_kind (kind_of w.objects object.file pt_id) hwpt
+      where
+        by_kind : (k : Option ObjectKind) → IsTarget w object.file pt_id id settings.width k → have_own_ids (target_changes w device pt_id id object settings k).objects ≡ true
+        by_kind (Some kind.Ioas) made = own_ids-with_hwpt w object.file pt_id id settings.width (automatic_hwpt w.objects object.file pt_id settings.width) made own
+        by_kind k never = own
 keeps_own_ids at w (event.Detach device) reply.Done none answers own = attached_or_not (attachment_of w.attachments device)
   where
     attached_or_not : (a : Option Attachment) → have_own_ids (detach_changes w device a).objects ≡ true

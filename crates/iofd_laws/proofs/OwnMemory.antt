@@ -1,11 +1,10 @@
--- Each area has a memory object of its own, and each memory object has an area.
+-- Each memory object has an area; and as long as no area is a copy, each area has a memory object of its own.
 use Rattle.std.proofs.Common.{◌≡◌, ℕ, Bool, true, false, cond, ◌&&◌, ◌||◌, not, eqb, ltb, List, [], ◌∷◌, ◌++◌, map, refl, ap, ◌∙◌, arith}
 use Rattle.std.specs.List.{filter, list_all, list_any}
 use Rattle.std.proofs.lemmas.Bool.Decides.{nat_tests}
 use Rattle.std.proofs.lemmas.List.Folds.{list_all-append}
 use Rattle.iofd_words.specs.Areas.{is_of, with_area, with_phase}
 use Rattle.iofd_laws.specs.Pinned.{have_own_memory}
-use Rattle.iofd_words.specs.Pins.{pinned_pages}
 use Rattle.iofd_words.specs.declared.rows.Area.{Area}
 use Rattle.iofd_words.specs.declared.rows.MemoryObject.{MemoryObject}
 use Rattle.iofd_words.specs.declared.rows.Object.{Object}
@@ -13,7 +12,7 @@ use Rattle.iofd_words.specs.declared.rows.Phase.{Phase}
 use Rattle.iofd_laws.proofs.Bools.{and_true, both_true, both_false, not_true}
 use Rattle.iofd_laws.proofs.Found.{all_weaker}
 use Rattle.iofd_laws.proofs.ListTests.{all_pass, any-filter, any_weaker, none_stronger, or_left, or_right}
-use Rattle.iofd_laws.proofs.PageLists.{any-with_area}
+use Rattle.iofd_laws.proofs.PageLists.{any-with_area, pages_by_area}
 
 -- some area has this memory object
 abbrev pub has_area : List Area → ℕ → Bool
@@ -88,6 +87,6 @@ pub areas-map : (phase : Area → Phase) (areas : List Area) (memory : List Memo
 areas-map phase areas memory used =
     all_weaker (λ (m : MemoryObject). has_area areas m.number) (λ (m : MemoryObject). has_area (map (λ (a : Area). with_phase (phase a) a) areas) m.number) memory (λ m has. has_area-map phase areas m.number ∙ has) used
 
-pub pinned_pages-map : (objects : List Object) (phase : Area → Phase) (areas : List Area) → pinned_pages objects (map (λ (a : Area). with_phase (phase a) a) areas) ≡ pinned_pages objects areas
-pinned_pages-map objects phase [] = refl
-pinned_pages-map objects phase (a ∷ areas) = rw (pinned_pages-map objects phase areas) refl
+pub pages_by_area-map : (objects : List Object) (phase : Area → Phase) (areas : List Area) → pages_by_area objects (map (λ (a : Area). with_phase (phase a) a) areas) ≡ pages_by_area objects areas
+pages_by_area-map objects phase [] = refl
+pages_by_area-map objects phase (a ∷ areas) = rw (pages_by_area-map objects phase areas) refl

@@ -3,14 +3,14 @@ use Rattle.std.proofs.Common.{◌≡◌, Bool, true, false, cond, ◌&&◌, ◌|
 use Rattle.std.specs.List.{filter, list_all, list_any}
 use Rattle.std.proofs.lemmas.Bool.{eqb-true}
 use Rattle.iofd_words.specs.Objects.{comes_before, has_hwpt, is_hwpt_over, with_object}
-use Rattle.iofd_words.specs.Pins.{is_page, pages_of, pinned_pages}
+use Rattle.iofd_words.specs.Pins.{is_page, area_pages}
 use Rattle.iofd_words.specs.declared.numbers.FileNo.{FileNo}
 use Rattle.iofd_words.specs.declared.numbers.ObjId.{ObjId}
 use Rattle.iofd_words.specs.declared.rows.Area.{Area}
 use Rattle.iofd_words.specs.declared.rows.Object.{Object}
 use Rattle.iofd_laws.proofs.Bools.{and_true, both_true, swapped}
 use Rattle.iofd_laws.proofs.ListTests.{any-filter, any_weaker}
-use Rattle.iofd_laws.proofs.PageLists.{all_pages, any-pinned, pins_page}
+use Rattle.iofd_laws.proofs.PageLists.{all_pages, any-pinned, pins_page, pages_by_area}
 
 any-with_object : (p : Object → Bool) (x : Object) (objects : List Object) → list_any p (with_object x objects) ≡ (p x || list_any p objects)
 any-with_object p x [] = refl
@@ -48,12 +48,12 @@ hwpt_alike objects file own ioas over file_is ioas_is =
     ap (λ f. has_hwpt objects f over) same_file ∙ ap (has_hwpt objects file) same_space
 
 -- the same page tables pin the same pages
-pub pinned_alike : (objects left : List Object) (areas : List Area) → ((file : FileNo) (ioas : ObjId) → has_hwpt left file ioas ≡ has_hwpt objects file ioas) → pinned_pages left areas ≡ pinned_pages objects areas
+pub pinned_alike : (objects left : List Object) (areas : List Area) → ((file : FileNo) (ioas : ObjId) → has_hwpt left file ioas ≡ has_hwpt objects file ioas) → pages_by_area left areas ≡ pages_by_area objects areas
 pinned_alike objects left [] same = refl
 pinned_alike objects left (a ∷ areas) same = rw (same a.file a.ioas, pinned_alike objects left areas same) refl
 
 -- fewer page tables pin fewer pages
-pub pinned_within : (objects left : List Object) (areas : List Area) → ((file : FileNo) (ioas : ObjId) → has_hwpt left file ioas ≡ true → has_hwpt objects file ioas ≡ true) → list_all (λ page. list_any (is_page page) (pinned_pages objects areas)) (pinned_pages left areas) ≡ true
+pub pinned_within : (objects left : List Object) (areas : List Area) → ((file : FileNo) (ioas : ObjId) → has_hwpt left file ioas ≡ true → has_hwpt objects file ioas ≡ true) → list_all (λ page. list_any (is_page page) (pages_by_area objects areas)) (pages_by_area left areas) ≡ true
 pinned_within objects left areas fewer =
-    all_pages (λ page. list_any (is_page page) (pinned_pages objects areas)) (pinned_pages left areas)
-    (λ page within. any-pinned objects areas page ∙ any_weaker (pins_page left page) (pins_page objects page) areas (λ a pins. let parts = and_true (has_hwpt left a.file a.ioas) (list_any (is_page page) (pages_of a)) pins in both_true _ _ (fewer a.file a.ioas parts.0) parts.1) (sym (any-pinned left areas page) ∙ within))
+    all_pages (λ page. list_any (is_page page) (pages_by_area objects areas)) (pages_by_area left areas)
+    (λ page within. any-pinned objects areas page ∙ any_weaker (pins_page left page) (pins_page objects page) areas (λ a pins. let parts = and_true (has_hwpt left a.file a.ioas) (list_any (is_page page) (area_pages a)) pins in both_true _ _ (fewer a.file a.ioas parts.0) parts.1) (sym (any-pinned left areas page) ∙ within))

@@ -10,7 +10,7 @@ use Rattle.std.proofs.lemmas.List.Folds.{list_all-append, list_any_at}
 use Rattle.iofd_words.specs.Areas.{is_of, with_area}
 use Rattle.iofd_words.specs.Objects.{has_hwpt}
 use Rattle.iofd_laws.specs.Pinned.{have_own_memory}
-use Rattle.iofd_words.specs.Pins.{ObjectPage, is_page, page_of_pin, pages_of, pin_now, pinned_pages, settled}
+use Rattle.iofd_words.specs.Pins.{ObjectPage, is_page, page_of_pin, area_pages, pin_now, settled}
 use Rattle.iofd_words.specs.declared.numbers.FileNo.{FileNo}
 use Rattle.iofd_words.specs.declared.numbers.ObjId.{ObjId}
 use Rattle.iofd_words.specs.declared.rows.Area.{Area}
@@ -21,7 +21,7 @@ use Rattle.iofd_words.specs.declared.rows.UserPage.{UserPage}
 use Rattle.iofd_laws.proofs.Bools.{and_true, both_true, clash, not_true, not_false, or_none}
 use Rattle.iofd_laws.proofs.Found.{all_weaker}
 use Rattle.iofd_laws.proofs.ListTests.{any-filter, any_weaker, contains_first, contains_later, false_else, filter_alike_on, filter_all, filter_nothing, none_stronger, or_right}
-use Rattle.iofd_laws.proofs.PageLists.{all_pages, any-if, any-with_area, any-pinned, at_page, memory_of_page, memory_of_pinned, pins_page}
+use Rattle.iofd_laws.proofs.PageLists.{all_pages, any-if, any-with_area, any-pinned, at_page, memory_of_page, memory_of_pinned, pins_page, pages_by_area}
 
 -- ---- the same pages, fewer, or more
 
@@ -66,20 +66,20 @@ settled_more before after new memory user_pages pins stay only is =
 
 -- the pages that an area pins
 abbrev pages_if_pinned : List Object → Area → List ObjectPage
-pages_if_pinned objects area = cond (has_hwpt objects area.file area.ioas) (pages_of area) []
+pages_if_pinned objects area = cond (has_hwpt objects area.file area.ioas) (area_pages area) []
 
 -- what passes a test is the added area's, where no other page passes
-only_new : (q : ObjectPage → Bool) (objects : List Object) (x : Area) (areas : List Area) → list_all (λ page. not (q page)) (pinned_pages objects areas) ≡ true → filter q (pinned_pages objects (with_area x areas)) ≡ filter q (pages_if_pinned objects x)
+only_new : (q : ObjectPage → Bool) (objects : List Object) (x : Area) (areas : List Area) → list_all (λ page. not (q page)) (pages_by_area objects areas) ≡ true → filter q (pages_by_area objects (with_area x areas)) ≡ filter q (pages_if_pinned objects x)
 only_new q objects x [] old = ap (filter q) (append-nil (pages_if_pinned objects x))
 only_new q objects x (a ∷ areas) old =
-    let olds = and_true (list_all (λ page. not (q page)) (pages_if_pinned objects a)) (list_all (λ page. not (q page)) (pinned_pages objects areas)) (sym (list_all-append (λ page. not (q page)) (pages_if_pinned objects a) (pinned_pages objects areas)) ∙ old) in
-    by_order (is_of x.file x.ioas a && ltb x.span.first a.span.first) (filter_nothing q (pages_if_pinned objects a) olds.0) (filter_nothing q (pinned_pages objects (a ∷ areas)) old) (only_new q objects x areas olds.1)
+    let olds = and_true (list_all (λ page. not (q page)) (pages_if_pinned objects a)) (list_all (λ page. not (q page)) (pages_by_area objects areas)) (sym (list_all-append (λ page. not (q page)) (pages_if_pinned objects a) (pages_by_area objects areas)) ∙ old) in
+    by_order (is_of x.file x.ioas a && ltb x.span.first a.span.first) (filter_nothing q (pages_if_pinned objects a) olds.0) (filter_nothing q (pages_by_area objects (a ∷ areas)) old) (only_new q objects x areas olds.1)
   where
-    by_order : (b : Bool) → filter q (pages_if_pinned objects a) ≡ [] → filter q (pinned_pages objects (a ∷ areas)) ≡ [] → filter q (pinned_pages objects (with_area x areas)) ≡ filter q (pages_if_pinned objects x) → filter q (pinned_pages objects (cond b (x ∷ a ∷ areas) (a ∷ with_area x areas))) ≡ filter q (pages_if_pinned objects x)
+    by_order : (b : Bool) → filter q (pages_if_pinned objects a) ≡ [] → filter q (pages_by_area objects (a ∷ areas)) ≡ [] → filter q (pages_by_area objects (with_area x areas)) ≡ filter q (pages_if_pinned objects x) → filter q (pages_by_area objects (cond b (x ∷ a ∷ areas) (a ∷ with_area x areas))) ≡ filter q (pages_if_pinned objects x)
     by_order true here all later =
-        filter-append q (pages_if_pinned objects x) (pinned_pages objects (a ∷ areas)) ∙ rw all (append-nil (filter q (pages_if_pinned objects x)))
+        filter-append q (pages_if_pinned objects x) (pages_by_area objects (a ∷ areas)) ∙ rw all (append-nil (filter q (pages_if_pinned objects x)))
     by_order false here all later =
-        filter-append q (pages_if_pinned objects a) (pinned_pages objects (with_area x areas)) ∙ rw (here, later) refl
+        filter-append q (pages_if_pinned objects a) (pages_by_area objects (with_area x areas)) ∙ rw (here, later) refl
 
 -- no area's memory object has the number that comes next
 pub none_at : (at n : ℕ) (areas : List Area) → list_all (λ (a : Area). ltb a.memory at) areas ≡ true → n ≡ at → list_any (λ (a : Area). eqb a.memory n) areas ≡ false
@@ -90,7 +90,7 @@ none_at at n (a ∷ areas) earlier is =
     grind (arith, nat_tests)
 
 -- none of its pages was to be pinned
-fresh_page : (at : ℕ) (objects : List Object) (areas : List Area) (page : ObjectPage) → list_all (λ (a : Area). ltb a.memory at) areas ≡ true → page.memory ≡ at → list_any (is_page page) (pinned_pages objects areas) ≡ false
+fresh_page : (at : ℕ) (objects : List Object) (areas : List Area) (page : ObjectPage) → list_all (λ (a : Area). ltb a.memory at) areas ≡ true → page.memory ≡ at → list_any (is_page page) (pages_by_area objects areas) ≡ false
 fresh_page at objects areas page earlier is =
     any-pinned objects areas page
     ∙ none_stronger (pins_page objects page) (λ (a : Area). eqb a.memory page.memory) areas (λ a pins. memory_of_pinned objects a page pins) (none_at at page.memory areas earlier is)
@@ -99,22 +99,22 @@ fresh_page at objects areas page earlier is =
 pub mapped_pages : (at : ℕ) (objects : List Object) (area : Area) (areas : List Area)
     → list_all (λ a. ltb a.memory at) areas ≡ true
     → area.memory ≡ at
-    → filter (λ page. not (list_any (is_page page) (pinned_pages objects areas))) (pinned_pages objects (with_area area areas)) ≡ (if has_hwpt objects area.file area.ioas then pages_of area else [])
+    → filter (λ page. not (list_any (is_page page) (pages_by_area objects areas))) (pages_by_area objects (with_area area areas)) ≡ (if has_hwpt objects area.file area.ioas then area_pages area else [])
 mapped_pages at objects area areas earlier is =
-    only_new (λ page. not (list_any (is_page page) (pinned_pages objects areas))) objects area areas
-    (all_pages (λ page. not (not (list_any (is_page page) (pinned_pages objects areas)))) (pinned_pages objects areas) (λ page within. rw within refl))
-    ∙ filter_all (λ page. not (list_any (is_page page) (pinned_pages objects areas))) (pages_if_pinned objects area)
-    (all_pages (λ page. not (list_any (is_page page) (pinned_pages objects areas))) (pages_if_pinned objects area)
+    only_new (λ page. not (list_any (is_page page) (pages_by_area objects areas))) objects area areas
+    (all_pages (λ page. not (not (list_any (is_page page) (pages_by_area objects areas)))) (pages_by_area objects areas) (λ page within. rw within refl))
+    ∙ filter_all (λ page. not (list_any (is_page page) (pages_by_area objects areas))) (pages_if_pinned objects area)
+    (all_pages (λ page. not (list_any (is_page page) (pages_by_area objects areas))) (pages_if_pinned objects area)
     (λ page within. not_false _ (fresh_page at objects areas page earlier (sym (eqb-true area.memory page.memory (memory_if_pinned page within)) ∙ is))))
   where
     memory_if_pinned : (page : ObjectPage) → list_any (is_page page) (pages_if_pinned objects area) ≡ true → eqb area.memory page.memory ≡ true
-    memory_if_pinned page within = memory_of_pinned objects area page (sym (any-if page (pages_of area) (has_hwpt objects area.file area.ioas)) ∙ within)
+    memory_if_pinned page within = memory_of_pinned objects area page (sym (any-if page (area_pages area) (has_hwpt objects area.file area.ioas)) ∙ within)
 
 -- and all others stay
 pub mapped_pages_stay : (objects : List Object) (area : Area) (areas : List Area)
-    → list_all (λ page. list_any (is_page page) (pinned_pages objects (with_area area areas))) (pinned_pages objects areas) ≡ true
+    → list_all (λ page. list_any (is_page page) (pages_by_area objects (with_area area areas))) (pages_by_area objects areas) ≡ true
 mapped_pages_stay objects area areas =
-    all_pages (λ page. list_any (is_page page) (pinned_pages objects (with_area area areas))) (pinned_pages objects areas)
+    all_pages (λ page. list_any (is_page page) (pages_by_area objects (with_area area areas))) (pages_by_area objects areas)
     (λ page within. any-pinned objects (with_area area areas) page ∙ any-with_area (pins_page objects page) area areas ∙ or_right (pins_page objects page area) (list_any (pins_page objects page) areas) (sym (any-pinned objects areas page) ∙ within))
 
 -- ---- areas and page tables go
@@ -141,28 +141,28 @@ one_area t s n g (x ∷ areas) own t_at s_at keeps any =
 -- no page comes where no area and no page table does
 pub fewer_pages : (goes : Area → Bool) (objects left : List Object) (areas : List Area)
     → ((file : FileNo) (ioas : ObjId) → has_hwpt left file ioas ≡ true → has_hwpt objects file ioas ≡ true)
-    → list_all (λ page. list_any (is_page page) (pinned_pages objects areas)) (pinned_pages left (filter (λ area. not (goes area)) areas)) ≡ true
+    → list_all (λ page. list_any (is_page page) (pages_by_area objects areas)) (pages_by_area left (filter (λ area. not (goes area)) areas)) ≡ true
 fewer_pages goes objects left areas fewer =
-    all_pages (λ page. list_any (is_page page) (pinned_pages objects areas)) (pinned_pages left (filter (λ (a : Area). not (goes a)) areas))
+    all_pages (λ page. list_any (is_page page) (pages_by_area objects areas)) (pages_by_area left (filter (λ (a : Area). not (goes a)) areas))
     (λ page within.
     let some = sym (any-filter (pins_page left page) (λ (a : Area). not (goes a)) areas) ∙ sym (any-pinned left (filter (λ (a : Area). not (goes a)) areas) page) ∙ within in
     any-pinned objects areas page ∙ any_weaker (λ (a : Area). not (goes a) && pins_page left page a) (pins_page objects page) areas (λ a is. pinned_before page a (and_true (not (goes a)) (pins_page left page a) is).1) some)
   where
     pinned_before : (page : ObjectPage) (a : Area) → pins_page left page a ≡ true → pins_page objects page a ≡ true
     pinned_before page a pins =
-        let parts = and_true (has_hwpt left a.file a.ioas) (list_any (is_page page) (pages_of a)) pins in
+        let parts = and_true (has_hwpt left a.file a.ioas) (list_any (is_page page) (area_pages a)) pins in
         both_true _ _ (fewer a.file a.ioas parts.0) parts.1
 
 -- an UNMAP, a DESTROY, a close and a DETACH: the pins of the memory objects that `gone` names go, and no others
 pub kept_pins : (goes : Area → Bool) (gone : ℕ → Bool) (objects left : List Object) (areas : List Area) (memory : List MemoryObject) (user_pages : List UserPage) (pins : List Pin)
     → have_own_memory areas ≡ true
-    → list_all (λ pin. list_any (is_page (page_of_pin pin)) (pinned_pages objects areas)) pins ≡ true
+    → list_all (λ pin. list_any (is_page (page_of_pin pin)) (pages_by_area objects areas)) pins ≡ true
     → ((file : FileNo) (ioas : ObjId) → has_hwpt left file ioas ≡ true → has_hwpt objects file ioas ≡ true)
     → ((area : Area) → Contains areas area → has_hwpt objects area.file area.ioas ≡ true → gone area.memory ≡ not (not (goes area) && has_hwpt left area.file area.ioas))
-    → settled (pinned_pages objects areas) (pinned_pages left (filter (λ area. not (goes area)) areas)) memory user_pages pins ≡ filter (λ pin. not (gone pin.memory)) pins
+    → settled (pages_by_area objects areas) (pages_by_area left (filter (λ area. not (goes area)) areas)) memory user_pages pins ≡ filter (λ pin. not (gone pin.memory)) pins
 kept_pins goes gone objects left areas memory user_pages pins own only fewer names =
-    settled_fewer (pinned_pages objects areas) (pinned_pages left (filter (λ (a : Area). not (goes a)) areas)) memory user_pages pins (fewer_pages goes objects left areas fewer)
-    ∙ filter_alike_on (λ (pin : Pin). list_any (is_page (page_of_pin pin)) (pinned_pages objects areas)) (λ (pin : Pin). list_any (is_page (page_of_pin pin)) (pinned_pages left (filter (λ (a : Area). not (goes a)) areas))) (λ (pin : Pin). not (gone pin.memory)) pins only (λ pin within. stays (page_of_pin pin) within)
+    settled_fewer (pages_by_area objects areas) (pages_by_area left (filter (λ (a : Area). not (goes a)) areas)) memory user_pages pins (fewer_pages goes objects left areas fewer)
+    ∙ filter_alike_on (λ (pin : Pin). list_any (is_page (page_of_pin pin)) (pages_by_area objects areas)) (λ (pin : Pin). list_any (is_page (page_of_pin pin)) (pages_by_area left (filter (λ (a : Area). not (goes a)) areas))) (λ (pin : Pin). not (gone pin.memory)) pins only (λ pin within. stays (page_of_pin pin) within)
   where
     still : (out table covers names : Bool) → covers ≡ true → names ≡ not (not out && table) → (not out && (table && covers)) ≡ not names
     still true table covers names is said = rw said refl
@@ -171,12 +171,12 @@ kept_pins goes gone objects left areas memory user_pages pins own only fewer nam
 
     of_area : (page : ObjectPage) (a : Area) → Contains areas a → pins_page objects page a ≡ true → (not (goes a) && pins_page left page a) ≡ not (gone page.memory)
     of_area page a among pins =
-        let parts = and_true (has_hwpt objects a.file a.ioas) (list_any (is_page page) (pages_of a)) pins in
+        let parts = and_true (has_hwpt objects a.file a.ioas) (list_any (is_page page) (area_pages a)) pins in
         let same : a.memory ≡ page.memory = eqb-true a.memory page.memory (memory_of_page a page parts.1) in
         let is : gone page.memory ≡ not (not (goes a) && has_hwpt left a.file a.ioas) = ap gone (sym same) ∙ names a among parts.0 in
-        still (goes a) (has_hwpt left a.file a.ioas) (list_any (is_page page) (pages_of a)) (gone page.memory) parts.1 is
+        still (goes a) (has_hwpt left a.file a.ioas) (list_any (is_page page) (area_pages a)) (gone page.memory) parts.1 is
 
-    stays : (page : ObjectPage) → list_any (is_page page) (pinned_pages objects areas) ≡ true → list_any (is_page page) (pinned_pages left (filter (λ (a : Area). not (goes a)) areas)) ≡ not (gone page.memory)
+    stays : (page : ObjectPage) → list_any (is_page page) (pages_by_area objects areas) ≡ true → list_any (is_page page) (pages_by_area left (filter (λ (a : Area). not (goes a)) areas)) ≡ not (gone page.memory)
     stays page within =
         any-pinned left (filter (λ (a : Area). not (goes a)) areas) page
         ∙ any-filter (pins_page left page) (λ (a : Area). not (goes a)) areas
@@ -185,12 +185,12 @@ kept_pins goes gone objects left areas memory user_pages pins own only fewer nam
 -- where all areas stay, as at a DETACH
 pub kept_pins_of_all : (gone : ℕ → Bool) (objects left : List Object) (areas : List Area) (memory : List MemoryObject) (user_pages : List UserPage) (pins : List Pin)
     → have_own_memory areas ≡ true
-    → list_all (λ pin. list_any (is_page (page_of_pin pin)) (pinned_pages objects areas)) pins ≡ true
+    → list_all (λ pin. list_any (is_page (page_of_pin pin)) (pages_by_area objects areas)) pins ≡ true
     → ((file : FileNo) (ioas : ObjId) → has_hwpt left file ioas ≡ true → has_hwpt objects file ioas ≡ true)
     → ((area : Area) → Contains areas area → has_hwpt objects area.file area.ioas ≡ true → gone area.memory ≡ not (has_hwpt left area.file area.ioas))
-    → settled (pinned_pages objects areas) (pinned_pages left areas) memory user_pages pins ≡ filter (λ pin. not (gone pin.memory)) pins
+    → settled (pages_by_area objects areas) (pages_by_area left areas) memory user_pages pins ≡ filter (λ pin. not (gone pin.memory)) pins
 kept_pins_of_all gone objects left areas memory user_pages pins own only fewer names =
-    subst (λ (stay : List Area). settled (pinned_pages objects areas) (pinned_pages left stay) memory user_pages pins ≡ filter (λ pin. not (gone pin.memory)) pins) (filter_all (λ (a : Area). true) areas (each areas))
+    subst (λ (stay : List Area). settled (pages_by_area objects areas) (pages_by_area left stay) memory user_pages pins ≡ filter (λ pin. not (gone pin.memory)) pins) (filter_all (λ (a : Area). true) areas (each areas))
     (kept_pins (λ a. false) gone objects left areas memory user_pages pins own only fewer names)
   where
     each : (rows : List Area) → list_all (λ (a : Area). true) rows ≡ true

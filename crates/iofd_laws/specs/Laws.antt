@@ -29,9 +29,9 @@ abbrev pub have_own_frames : List UserPage → Bool
 have_own_frames [] = true
 have_own_frames (page ∷ pages) = not (list_any (λ p. p.frame.0 == page.frame.0) pages) && have_own_frames pages
 
--- a frame that a record gives out was a frame of the pool that no user and no pin had
+-- a frame that a record gives out was a frame of the pool that no user, no pin and no page table had
 abbrev pub WasFree : World → FrameNo → Type 0
-WasFree w frame = (frame.0 < w.settings.pool) × (is_reached w.user_pages w.pins frame.0 ≡ false)
+WasFree w frame = (frame.0 < w.settings.pool) × (is_reached w.user_pages w.pins w.table_frames frame.0 ≡ false)
 
 -- ---- files
 

@@ -1,11 +1,23 @@
--- Every page that is to be pinned has one pin, and no other page has any.
-use Rattle.std.specs.Prelude.{◌≡◌, ℕ, Bool, true, ◌==◌, ◌&&◌, not, nat_lt, is_some, List, [], ◌∷◌, map}
+-- Every page that is to be pinned has one pin, and no other page has any; each area has a memory object of its size.
+use Rattle.std.specs.Prelude.{◌≡◌, ℕ, ◌*◌, Bool, true, ◌==◌, ◌&&◌, not, nat_lt, Option, Some, None, is_some, List, [], ◌∷◌, map}
 use Rattle.std.specs.List.{list_any, list_all}
-use Rattle.iofd_words.specs.Pins.{ObjectPage, is_page, page_of_pin, pinned_pages, pinned_frame}
+use Rattle.iofd_words.specs.Pins.{ObjectPage, frame_now, is_page, page_of_pin, pinned_pages, pinned_frame}
+use Rattle.iofd_words.specs.Span.{size_of}
 use Rattle.iofd_words.specs.World.{World}
+use Rattle.iofd_words.specs.declared.numbers.FrameNo.{FrameNo}
 use Rattle.iofd_words.specs.declared.rows.Area.{Area}
+use Rattle.iofd_words.specs.declared.rows.MemoryObject.{MemoryObject}
 
--- no area's memory object is that of a later area too
+-- no memory object's number is that of a later one too
+abbrev pub have_own_numbers : List MemoryObject → Bool
+have_own_numbers [] = true
+have_own_numbers (m ∷ memory) = not (list_any (λ other. other.number == m.number) memory) && have_own_numbers memory
+
+-- the area's memory object is there, and has the area's size
+abbrev pub has_object : List MemoryObject → Area → Bool
+has_object memory area = list_any (λ m. m.number == area.memory && m.count * 4096 == size_of area.span) memory
+
+-- no area's memory object is that of a later area too: so it is as long as no area is a copy of another
 abbrev pub have_own_memory : List Area → Bool
 have_own_memory [] = true
 have_own_memory (area ∷ areas) = not (list_any (λ a. a.memory == area.memory) areas) && have_own_memory areas
@@ -17,13 +29,25 @@ differ (page ∷ pages) = not (list_any (is_page page) pages) && differ pages
 
 -- what holds of the world before the record at this position
 pub record ArePinned (at : ℕ) (w : World) : Type 0 where
-  -- each area has a memory object of its own, which an earlier record made
-  pub own : have_own_memory w.areas ≡ true
-  pub earlier : list_all (λ area. nat_lt area.memory at) w.areas ≡ true
+  -- no two memory objects have one number, and earlier records made them
+  pub numbers : have_own_numbers w.memory ≡ true
   pub made : list_all (λ m. nat_lt m.number at) w.memory ≡ true
-  -- each memory object has an area
+  -- each area has a memory object of its size, and each memory object an area
+  pub sizes : list_all (has_object w.memory) w.areas ≡ true
   pub used : list_all (λ m. list_any (λ area. area.memory == m.number) w.areas) w.memory ≡ true
   -- each page that is to be pinned has one pin, and no other has any
-  pub pinned : list_all (λ page. is_some (pinned_frame w.pins page)) (pinned_pages w.objects w.areas) ≡ true
-  pub only : list_all (λ pin. list_any (is_page (page_of_pin pin)) (pinned_pages w.objects w.areas)) w.pins ≡ true
+  pub pinned : list_all (λ page. is_some (pinned_frame w.pins page)) (pinned_pages w.objects w.areas w.memory w.access_pins) ≡ true
+  pub only : list_all (λ pin. list_any (is_page (page_of_pin pin)) (pinned_pages w.objects w.areas w.memory w.access_pins)) w.pins ≡ true
   pub once : differ (map page_of_pin w.pins) ≡ true
+
+-- what a step may make of a page's pin: one that stays keeps its frame, and one that comes has the frame that is the page's
+-- in its user's memory then
+abbrev pub PinMoves : Option FrameNo → Option FrameNo → Option FrameNo → Type 0
+PinMoves (Some old) (Some new) now = new ≡ old
+PinMoves None (Some new) now = now ≡ Some new
+PinMoves old None now = Unit {0}
+
+-- from one world to the next
+abbrev pub pin_moves : ObjectPage → World → World → Type 0
+pin_moves page old new =
+    PinMoves (pinned_frame old.pins page) (pinned_frame new.pins page) (frame_now new.memory new.user_pages page)

@@ -1,15 +1,23 @@
 //! What is true of every run, each the contract of a function that does nothing.
 
-ghost use Rattle.std.specs.Prelude.{◌≡◌, List, ◌∷◌, ◌++◌, length, IsTrue};
+ghost use Rattle.std.specs.Prelude.{◌≡◌, ◌≢◌, ℕ, None, List, [], ◌∷◌, ◌++◌, length, IsTrue};
 ghost use Rattle.iofd_laws.specs.Debts.{DebtsAttached};
 ghost use Rattle.iofd_laws.specs.Fits.{RowsFit};
 ghost use Rattle.iofd_laws.specs.Laws.{are_apart, have_own_frames, have_own_ids, IsOfAnother, WasFree, rows_of};
-ghost use Rattle.iofd_laws.specs.Pinned.{ArePinned};
+ghost use Rattle.iofd_laws.specs.Pinned.{ArePinned, pin_moves};
+ghost use Rattle.iofd_words.specs.Answers.{Answers};
+ghost use Rattle.iofd_words.specs.Checks.{refusal};
+ghost use Rattle.iofd_words.specs.Pins.{ObjectPage};
+ghost use Rattle.iofd_words.specs.Policy.{outcomes};
 ghost use Rattle.iofd_words.specs.Run.{IsRun, after, world_of};
 ghost use Rattle.iofd_words.specs.Settings.{Settings};
+ghost use Rattle.iofd_words.specs.declared.event.Event.{Event};
+ghost use Rattle.iofd_words.specs.declared.fault.AccessKind.{AccessKind};
+ghost use Rattle.iofd_words.specs.declared.numbers.DeviceNo.{DeviceNo};
 ghost use Rattle.iofd_words.specs.declared.numbers.FileNo.{FileNo};
 ghost use Rattle.iofd_words.specs.declared.numbers.FrameNo.{FrameNo};
 ghost use Rattle.iofd_words.specs.declared.record.Record.{Record};
+ghost use Rattle.iofd_words.specs.declared.reply.Reply.{Reply};
 ghost use Rattle.iofd_words.specs.declared.reply.Reply.TheVariants as reply;
 
 use std::alloc::Allocator;
@@ -38,11 +46,30 @@ pub fn ids_are_unique<A: Allocator>()
         IsTrue (have_own_ids (world_of settings records).objects) }
 {}
 
-/// In every run, each page that is to be pinned has one pin, and no other page has any. Each area has a memory object of
-/// its own, which an earlier record made, and each memory object has an area.
+/// In every run, each page that is to be pinned has one pin, and no other page has any. No two memory objects have one
+/// number, each area has a memory object of its size, and each memory object has an area.
 pub fn pins_are_those_of_pinned_pages<A: Allocator>()
     ensures { (settings : Settings) (records : List (Record A)) → IsRun settings records →
         ArePinned (length records) (world_of settings records) }
+{}
+
+/// A record changes the frame of no page that stays pinned, whatever its user does. A page that becomes pinned has the
+/// frame that is the page's in its user's memory then.
+pub fn pins_keep_their_frames<A: Allocator>()
+    ensures { (settings : Settings) (before : List (Record A)) (r : Record A) (page : ObjectPage) → IsRun settings before →
+        pin_moves page (world_of settings before) (after (length before) (world_of settings before) r) }
+{}
+
+/// In every run, something may come of each access of a device: it passes, or there is a reason for which it is denied.
+pub fn every_access_has_an_answer<A: Allocator>()
+    ensures { (settings : Settings) (records : List (Record A)) (device : DeviceNo) (address : ℕ) (right : AccessKind) →
+        IsRun settings records → outcomes (world_of settings records) device address right ≢ [] }
+{}
+
+/// In every run, an event that nothing refuses has a lawful answer.
+pub fn every_event_has_an_answer<A: Allocator>()
+    ensures { (settings : Settings) (records : List (Record A)) (event : Event) → IsRun settings records →
+        refusal (world_of settings records) event ≡ None → (answer : Reply) × Answers (world_of settings records) event answer }
 {}
 
 /// In every run, each area begins at a page, is of whole pages and no longer than a user's memory, attachments rise by

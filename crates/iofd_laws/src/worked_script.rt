@@ -2,7 +2,7 @@
 
 ghost use Rattle.std.specs.Prelude.{◌≡◌, ◌∷◌, [], ◌++◌};
 ghost use Rattle.iofd_laws.specs.FirstScript as script;
-ghost use Rattle.iofd_words.specs.Run.{IsRun, after, world_of};
+ghost use Rattle.iofd_words.specs.Run.{IsRun};
 ghost use Rattle.iofd_words.specs.Look.{answers_to};
 ghost use Rattle.iofd_words.specs.declared.fault.FaultReason.TheVariants.{ReadDenied, WriteDenied};
 
@@ -19,12 +19,12 @@ pub fn owed_flush_leaves_both_answers()
 
 /// What the device is answered in that script, by the worlds that its records leave.
 pub fn worked_script_reads()
-    ensures bytes { answers_to (world_of script.settings script.beginning) (script.read 0x1ffe 2) ≡ script.bytes_read ∷ [] }
-    ensures crossing { answers_to (world_of script.settings script.beginning) (script.read 0x1fff 2) ≡ script.refused_read ∷ [] }
-    ensures beyond { answers_to (world_of script.settings script.beginning) (script.read 0x80_0000_0000 1) ≡ script.beyond_width ∷ [] }
+    ensures bytes { answers_to script.settings script.beginning (script.read 0x1ffe 2) ≡ script.bytes_read ∷ [] }
+    ensures crossing { answers_to script.settings script.beginning (script.read 0x1fff 2) ≡ script.refused_read ∷ [] }
+    ensures beyond { answers_to script.settings script.beginning (script.read 0x80_0000_0000 1) ≡ script.beyond_width ∷ [] }
     // no attachment comes before the width
-    ensures unattached { answers_to (world_of script.settings script.bound) (script.read 0x80_0000_0000 1) ≡ script.no_context ∷ [] }
-    ensures elsewhere { answers_to (world_of script.settings script.beginning) (script.read 0x2000 1) ≡ script.denied 2 ∷ [] }
+    ensures unattached { answers_to script.settings script.bound (script.read 0x80_0000_0000 1) ≡ script.no_context ∷ [] }
+    ensures elsewhere { answers_to script.settings script.beginning (script.read 0x2000 1) ≡ script.denied 2 ∷ [] }
 {}
 
 /// Records that differ from those of the script in one place are no run.

@@ -5,7 +5,7 @@ use Rattle.iofd_words.specs.Areas.{is_of, is_touched, with_area, with_leaving, a
 use Rattle.iofd_words.specs.Attachments.{attachment_of, has_device_on, devices_of, with_attachment, without_attachment}
 use Rattle.iofd_words.specs.Files.{user_of, device_of}
 use Rattle.iofd_words.specs.Frames.{without_frame}
-use Rattle.iofd_words.specs.Objects.{automatic_hwpt, binding_of, is_automatic, is_object, with_object, without_object}
+use Rattle.iofd_words.specs.Objects.{automatic_hwpt, binding_of, is_automatic, is_object, kind_of, with_object, without_object}
 use Rattle.iofd_words.specs.Pages.{page_of, offset_of}
 use Rattle.iofd_words.specs.Pins.{pinned_pages, settled}
 use Rattle.iofd_words.specs.Rights.{is_writeable, rights_of}
@@ -15,8 +15,10 @@ use Rattle.iofd_words.specs.World.{World}
 use Rattle.iofd_words.specs.declared.event.Event.{Event}
 use Rattle.iofd_words.specs.declared.event.Event.TheVariants as event
 use Rattle.iofd_words.specs.declared.event.MapRequest.{MapRequest}
+use Rattle.iofd_words.specs.declared.event.UnmapRequest.{UnmapRequest}
 use Rattle.iofd_words.specs.declared.numbers.DeviceNo.{DeviceNo}
 use Rattle.iofd_words.specs.declared.numbers.FileNo.{FileNo}
+use Rattle.iofd_words.specs.declared.numbers.Iova.{Iova}
 use Rattle.iofd_words.specs.declared.numbers.ObjId.{ObjId}
 use Rattle.iofd_words.specs.declared.numbers.UserNo.{UserNo}
 use Rattle.iofd_words.specs.declared.reply.Reply.{Reply}
@@ -25,6 +27,7 @@ use Rattle.iofd_words.specs.declared.rows.Area.{Area}
 use Rattle.iofd_words.specs.declared.rows.Attachment.{Attachment}
 use Rattle.iofd_words.specs.declared.rows.MemoryObject.{MemoryObject}
 use Rattle.iofd_words.specs.declared.rows.Object.{Object}
+use Rattle.iofd_words.specs.declared.rows.ObjectKind.{ObjectKind}
 use Rattle.iofd_words.specs.declared.rows.ObjectKind.TheVariants as kind
 use Rattle.iofd_words.specs.declared.rows.Phase.TheVariants.{Live}
 use Rattle.iofd_words.specs.declared.width.Width.{Width}
@@ -34,7 +37,15 @@ use Rattle.iofd_words.specs.declared.width.Width.{Width}
 -- the new world with its pins: a page that stays pinned keeps its pin, a newly pinned one takes the frame that its user has there now
 unfoldable pub settle : World → World → World
 settle old new =
-    record new { pins = settled (pinned_pages old.objects old.areas) (pinned_pages new.objects new.areas) new.memory new.user_pages old.pins }
+    record new {
+      pins =
+          settled
+          (pinned_pages old.objects old.areas old.memory old.access_pins)
+          (pinned_pages new.objects new.areas new.memory new.access_pins)
+          new.memory
+          new.user_pages
+          old.pins;
+    }
 
 -- ---- areas come and go
 
@@ -43,12 +54,13 @@ abbrev pub memory_object : ℕ → UserNo → MapRequest → MemoryObject
 memory_object at user request =
     record { number = at; user = user; va = request.user_va; count = request.length / 4096; writable = is_writeable request.flags }
 
-abbrev pub mapped_area : ℕ → FileNo → MapRequest → Area
-mapped_area at file request =
+-- the area lies at the address that was answered
+abbrev pub mapped_area : ℕ → FileNo → MapRequest → Iova → Area
+mapped_area at file request iova =
     record {
       file = file;
       ioas = request.ioas;
-      span = span_from request.iova.0 request.length;
+      span = span_from iova.0 request.length;
       memory = at;
       rights = rights_of request.flags;
       phase = Live;
@@ -63,12 +75,12 @@ without_areas goes w =
     }
 
 -- a MAP of a file's user; each file has one
-abbrev pub map_changes : ℕ → World → FileNo → MapRequest → Option UserNo → World
-map_changes at w file request None = w
-map_changes at w file request (Some user) =
+abbrev pub map_changes : ℕ → World → FileNo → MapRequest → Iova → Option UserNo → World
+map_changes at w file request iova None = w
+map_changes at w file request iova (Some user) =
     settle w (record w {
       memory = w.memory ++ memory_object at user request ∷ [];
-      areas = with_area (mapped_area at file request) w.areas;
+      areas = with_area (mapped_area at file request iova) w.areas;
     })
 
 -- ---- devices come and go
@@ -100,47 +112,101 @@ detached w device a =
       areas = all_paid device w.areas;
     }
 
+-- a device is attached to what its file has under the id: an address space
+abbrev pub target_changes : World → DeviceNo → ObjId → ObjId → Object → DeviceSettings → Option ObjectKind → World
+target_changes w device pt_id id bound settings (Some kind.Ioas) = settle w (attached w device pt_id id bound settings)
+target_changes w device pt_id id bound settings (Some (kind.Hwpt ioas width automatic)) = w
+target_changes w device pt_id id bound settings (Some (kind.Device other)) = w
+target_changes w device pt_id id bound settings None = w
+
 -- a device that is bound, and so is one of the settings, is attached; one that is attached is detached
 abbrev pub attach_changes : World → DeviceNo → ObjId → ObjId → Option Object → Option DeviceSettings → World
-attach_changes w device ioas id None settings = w
-attach_changes w device ioas id (Some bound) None = w
-attach_changes w device ioas id (Some bound) (Some settings) = settle w (attached w device ioas id bound settings)
+attach_changes w device pt_id id None settings = w
+attach_changes w device pt_id id (Some bound) None = w
+attach_changes w device pt_id id (Some bound) (Some settings) =
+    target_changes w device pt_id id bound settings (kind_of w.objects bound.file pt_id)
 
 abbrev pub detach_changes : World → DeviceNo → Option Attachment → World
 detach_changes w device None = w
 detach_changes w device (Some a) = settle w (detached w device a)
 
--- ---- the world after each event, at the record's position
+-- ---- the world after each event, by the kind of its answer; each other kind is no answer of the event, and leaves the world
 
-unfoldable pub changed : ℕ → World → Event → Reply → World
-changed at w (event.IoasAlloc file) (reply.Id id) =
-    record w { objects = with_object (record { file = file; id = id; kind = kind.Ioas }) w.objects }
-changed at w (event.Map file request) (reply.Iova iova) =
-    map_changes at w file request (user_of w.settings file)
-changed at w (event.Unmap file request) (reply.Bytes count) = settle w (without_areas (is_touched file request) w)
-changed at w (event.Unmap file request) (reply.Pending errno) =
+abbrev pub allocated : World → FileNo → Reply → World
+allocated w file (reply.Id id) = record w { objects = with_object (record { file = file; id = id; kind = kind.Ioas }) w.objects }
+allocated w file answer = w
+
+abbrev pub mapped : ℕ → World → FileNo → MapRequest → Reply → World
+mapped at w file request (reply.Iova iova) = map_changes at w file request iova (user_of w.settings file)
+mapped at w file request answer = w
+
+abbrev pub unmapped : World → FileNo → UnmapRequest → Reply → World
+unmapped w file request (reply.Bytes count) = settle w (without_areas (is_touched file request) w)
+unmapped w file request (reply.Pending errno) =
     record w { areas = with_leaving w.areas (devices_of w.objects w.attachments file request.ioas) file request }
-changed at w (event.Destroy file id) reply.Done =
-    settle w (record (without_areas (is_of file id) w) { objects = without_object file id w.objects })
-changed at w (event.Close file) reply.Done =
+unmapped w file request answer = w
+
+abbrev pub destroyed : World → FileNo → ObjId → Reply → World
+destroyed w file id reply.Done =
+    settle w (record (without_areas (is_of file id) w) {
+      objects = without_object file id w.objects;
+      allowed = filter (λ ranges. not (ranges.file.0 == file.0 && ranges.ioas.0 == id.0)) w.allowed;
+    })
+destroyed w file id answer = w
+
+abbrev pub file_closed : World → FileNo → Reply → World
+file_closed w file reply.Done =
     settle w (record (without_areas (λ area. area.file.0 == file.0) w) {
       objects = filter (λ object. not (object.file.0 == file.0)) w.objects;
       attachments = filter (λ a. not (a.file.0 == file.0)) w.attachments;
+      allowed = filter (λ ranges. not (ranges.file.0 == file.0)) w.allowed;
       closed = w.closed ++ file ∷ [];
     })
-changed at w (event.UserMap user va) (reply.Frame frame) =
+file_closed w file answer = w
+
+-- the user's new page reads zero: what was written into its frame before is gone
+abbrev pub user_mapped : World → UserNo → ℕ → Reply → World
+user_mapped w user va (reply.Frame frame) =
     record w {
       user_pages = w.user_pages ++ record { user = user; page = page_of va; frame = frame } ∷ [];
       writes = without_frame frame.0 w.writes;
     }
-changed at w (event.Bind file device) (reply.Id id) =
+user_mapped w user va answer = w
+
+abbrev pub device_bound : World → FileNo → DeviceNo → Reply → World
+device_bound w file device (reply.Id id) =
     record w { objects = with_object (record { file = file; id = id; kind = kind.Device device }) w.objects }
-changed at w (event.Attach device pt_id) (reply.Id id) =
+device_bound w file device answer = w
+
+abbrev pub device_attached : World → DeviceNo → ObjId → Reply → World
+device_attached w device pt_id (reply.Id id) =
     attach_changes w device pt_id id (binding_of w.objects device) (device_of w.settings device)
-changed at w (event.Detach device) reply.Done =
-    detach_changes w device (attachment_of w.attachments device)
-changed at w (event.Flush device) reply.Done = record w { areas = all_paid device w.areas }
-changed at w (event.DeviceWrite device iova bytes) (reply.Passed frame) =
+device_attached w device pt_id answer = w
+
+abbrev pub device_detached : World → DeviceNo → Reply → World
+device_detached w device reply.Done = detach_changes w device (attachment_of w.attachments device)
+device_detached w device answer = w
+
+abbrev pub device_flushed : World → DeviceNo → Reply → World
+device_flushed w device reply.Done = record w { areas = all_paid device w.areas }
+device_flushed w device answer = w
+
+-- a write that was denied leaves the world as it was
+abbrev pub device_written : World → Iova → List ℕ → Reply → World
+device_written w iova bytes (reply.Passed frame) =
     record w { writes = record { frame = frame.0; offset = offset_of iova.0; bytes = bytes } ∷ w.writes }
--- a write that was denied leaves the world as it was; no other pair is an answer
-changed at w event answer = w
+device_written w iova bytes answer = w
+
+-- the world after an event, at the record's position
+unfoldable pub changed : ℕ → World → Event → Reply → World
+changed at w (event.IoasAlloc file) answer = allocated w file answer
+changed at w (event.Map file request) answer = mapped at w file request answer
+changed at w (event.Unmap file request) answer = unmapped w file request answer
+changed at w (event.Destroy file id) answer = destroyed w file id answer
+changed at w (event.Close file) answer = file_closed w file answer
+changed at w (event.UserMap user va) answer = user_mapped w user va answer
+changed at w (event.Bind file device) answer = device_bound w file device answer
+changed at w (event.Attach device pt_id) answer = device_attached w device pt_id answer
+changed at w (event.Detach device) answer = device_detached w device answer
+changed at w (event.Flush device) answer = device_flushed w device answer
+changed at w (event.DeviceWrite device iova bytes) answer = device_written w iova bytes answer

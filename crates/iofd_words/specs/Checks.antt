@@ -6,10 +6,9 @@ use Rattle.iofd_words.specs.Areas.{areas_meet, has_no_room, is_cut, is_everythin
 use Rattle.iofd_words.specs.Attachments.{attachment_of, has_device_on}
 use Rattle.iofd_words.specs.Files.{is_user, is_device, user_of, device_of}
 use Rattle.iofd_words.specs.FirstTrue.{first_true}
-use Rattle.iofd_words.specs.Frames.{frame_at, has_free}
 use Rattle.iofd_words.specs.Objects.{kind_of, has_ioas, has_hwpt, automatic_hwpt, is_full, objects_of, is_bound_device}
 use Rattle.iofd_words.specs.Pages.{is_whole, page_of, is_above_sum, is_above_user, crosses}
-use Rattle.iofd_words.specs.Pins.{pages_of, are_present}
+use Rattle.iofd_words.specs.Pins.{area_pages}
 use Rattle.iofd_words.specs.Rights.{is_fixed, is_readable, is_writeable}
 use Rattle.iofd_words.specs.Settings.{DeviceSettings}
 use Rattle.iofd_words.specs.Span.{span_from}
@@ -20,30 +19,32 @@ use Rattle.iofd_words.specs.declared.event.Event.TheVariants as event
 use Rattle.iofd_words.specs.declared.event.MapRequest.{MapRequest}
 use Rattle.iofd_words.specs.declared.numbers.DeviceNo.{DeviceNo}
 use Rattle.iofd_words.specs.declared.numbers.FileNo.{FileNo}
+use Rattle.iofd_words.specs.declared.numbers.FrameNo.{FrameNo}
+use Rattle.iofd_words.specs.declared.numbers.Iova.{Iova}
 use Rattle.iofd_words.specs.declared.numbers.ObjId.{ObjId}
 use Rattle.iofd_words.specs.declared.numbers.UserNo.{UserNo}
 use Rattle.iofd_words.specs.declared.refusal.Cause.{Cause}
 use Rattle.iofd_words.specs.declared.refusal.Cause.TheVariants as cause
 use Rattle.iofd_words.specs.declared.rows.ObjectKind.{ObjectKind}
 use Rattle.iofd_words.specs.declared.rows.ObjectKind.TheVariants as kind
-use Rattle.iofd_words.specs.declared.rows.UserPage.{UserPage}
 
 -- ---- parts of the tests
 
--- the pages from this one on, so many of them, are in the user's memory
-abbrev pub has_pages : List UserPage → UserNo → ℕ → ℕ → Bool
-has_pages user_pages user page count = list_all (λ i. is_some (frame_at user_pages user (page + i))) (range_with_len 0 count)
+-- the pages from this one on, so many of them, are in the user's memory, by a look-up of the frames of its pages
+abbrev pub has_pages : (UserNo → ℕ → Option FrameNo) → UserNo → ℕ → ℕ → Bool
+has_pages frame_at user page count = list_all (λ i. is_some (frame_at user (page + i))) (range_with_len 0 count)
 
 -- a MAP into an address space with a page table pins its pages, and needs them
 abbrev pub lacks_mapped_page : View → FileNo → MapRequest → Bool
 lacks_mapped_page v file request =
     has_hwpt v.objects file request.ioas
-    && elim (user_of v.settings file) [ Some user ↦ not (has_pages v.user_pages user (page_of request.user_va) (request.length / 4096)) | None ↦ true ]
+    && elim (user_of v.settings file) [ Some user ↦ not (has_pages v.frame_at user (page_of request.user_va) (request.length / 4096)) | None ↦ true ]
 
--- the first page table of an address space pins the pages of all its areas, and needs them
+-- the first page table of an address space pins the pages of all its areas, and needs those that aren't pinned yet
 abbrev pub lacks_attached_page : View → FileNo → ObjId → Bool
 lacks_attached_page v file ioas =
-    not (has_hwpt v.objects file ioas) && not (are_present v.memory v.user_pages (flat_map pages_of (v.areas_of file ioas)))
+    not (has_hwpt v.objects file ioas)
+    && list_any (λ page. is_none (v.pinned_frame page) && is_none (v.frame_now page)) (flat_map area_pages (v.areas_of file ioas))
 
 -- others stand on the object: page tables on an address space, devices on a page table
 abbrev pub is_used : View → FileNo → ObjId → Option ObjectKind → Bool
@@ -63,14 +64,29 @@ lacks_room_for_hwpt v file ioas (Some device) = is_none (automatic_hwpt v.object
 
 -- ---- the refusals
 
+-- those of a device's access to so many bytes, for reads and writes alike
+abbrev pub access_checks : View → DeviceNo → Iova → ℕ → List (Cause × Bool)
+access_checks v device iova len =
+    (cause.Id, is_none (v.binding_of device))
+    ∷ (cause.Cross, crosses iova.0 len)
+    ∷ []
+
+-- those of Attach, of a device that isn't attached, by what its file has under the id: an address space. No page table may be
+-- named yet.
+abbrev pub target_checks : View → DeviceNo → ObjId → FileNo → Option ObjectKind → List (Cause × Bool)
+target_checks v device pt_id file (Some kind.Ioas) =
+    (cause.Full, lacks_room_for_hwpt v file pt_id (device_of v.settings device))
+    ∷ (cause.Absent, lacks_attached_page v file pt_id)
+    ∷ []
+target_checks v device pt_id file (Some (kind.Hwpt ioas width automatic)) = (cause.Id, true) ∷ []
+target_checks v device pt_id file (Some (kind.Device bound)) = (cause.Id, true) ∷ []
+target_checks v device pt_id file None = (cause.Id, true) ∷ []
+
 -- those of Attach, of a device that is bound to the file
 abbrev pub attach_checks : View → DeviceNo → ObjId → FileNo → List (Cause × Bool)
 attach_checks v device pt_id file =
     (cause.Bound, is_some (attachment_of v.attachments device))
-    ∷ (cause.Id, not (has_ioas v.objects file pt_id))
-    ∷ (cause.Full, lacks_room_for_hwpt v file pt_id (device_of v.settings device))
-    ∷ (cause.Absent, lacks_attached_page v file pt_id)
-    ∷ []
+    ∷ target_checks v device pt_id file (kind_of v.objects file pt_id)
 
 unfoldable pub checks : View → Event → List (Cause × Bool)
 checks v (event.IoasAlloc file) =
@@ -111,8 +127,8 @@ checks v (event.Close file) =
 checks v (event.UserMap user va) =
     (cause.Id, not (is_user v.settings user))
     ∷ (cause.Align, not (is_whole va) || nat_le (2 ^ 48) va)
-    ∷ (cause.Overlap, is_some (frame_at v.user_pages user (page_of va)))
-    ∷ (cause.Frames, not (has_free v.settings.pool v.user_pages v.pins))
+    ∷ (cause.Overlap, is_some (v.frame_at user (page_of va)))
+    ∷ (cause.Frames, v.free_count == 0)
     ∷ []
 checks v (event.Bind file device) =
     (cause.Id, not (v.is_open file))
@@ -129,10 +145,7 @@ checks v (event.Detach device) =
 checks v (event.Flush device) =
     (cause.Id, is_none (v.binding_of device))
     ∷ []
-checks v (event.DeviceWrite device iova bytes) =
-    (cause.Id, is_none (v.binding_of device))
-    ∷ (cause.Cross, crosses iova.0 (length bytes))
-    ∷ []
+checks v (event.DeviceWrite device iova bytes) = access_checks v device iova (length bytes)
 
 -- the cause for which an event is refused, if any
 unfoldable pub refusal : World → Event → Option Cause

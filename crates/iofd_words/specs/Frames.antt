@@ -1,26 +1,29 @@
 -- Who reaches a frame, and what its bytes are.
 use Rattle.std.specs.Prelude.{ℕ, ◌+◌, ◌-◌, Bool, ◌==◌, ◌&&◌, ◌||◌, not, nat_le, nat_lt, Option, Some, None, List, [], ◌∷◌, length, map, filter, find, slice_index, if◌then◌else◌}
-use Rattle.std.specs.List.{list_any, range_with_len}
+use Rattle.std.specs.List.{count_by, list_any, range_with_len}
 use Rattle.iofd_words.specs.declared.numbers.FrameNo.{FrameNo}
 use Rattle.iofd_words.specs.declared.numbers.UserNo.{UserNo}
 use Rattle.iofd_words.specs.declared.rows.UserPage.{UserPage}
 use Rattle.iofd_words.specs.declared.rows.Pin.{Pin}
+use Rattle.iofd_words.specs.declared.rows.TableFrame.{TableFrame}
 
 -- the frame of a page in a user's memory
 abbrev pub frame_at : List UserPage → UserNo → ℕ → Option FrameNo
 frame_at pages user page =
     elim (find (λ p. p.user.0 == user.0 && p.page == page) pages) [ Some p ↦ Some p.frame | None ↦ None ]
 
--- a user's memory or a pin names the frame
-abbrev pub is_reached : List UserPage → List Pin → ℕ → Bool
-is_reached pages pins frame = list_any (λ p. p.frame.0 == frame) pages || list_any (λ pin. pin.frame.0 == frame) pins
+-- a user's memory, a pin or a page table names the frame
+abbrev pub is_reached : List UserPage → List Pin → List TableFrame → ℕ → Bool
+is_reached pages pins tables frame =
+    list_any (λ p. p.frame.0 == frame) pages || list_any (λ pin. pin.frame.0 == frame) pins || list_any (λ table. table.frame.0 == frame) tables
 
 -- a frame of the pool that nobody reaches
-abbrev pub is_free : ℕ → List UserPage → List Pin → ℕ → Bool
-is_free pool pages pins frame = nat_lt frame pool && not (is_reached pages pins frame)
+abbrev pub is_free : ℕ → List UserPage → List Pin → List TableFrame → ℕ → Bool
+is_free pool pages pins tables frame = nat_lt frame pool && not (is_reached pages pins tables frame)
 
-abbrev pub has_free : ℕ → List UserPage → List Pin → Bool
-has_free pool pages pins = list_any (is_free pool pages pins) (range_with_len 0 pool)
+-- how many those are
+abbrev pub free_count : ℕ → List UserPage → List Pin → List TableFrame → ℕ
+free_count pool pages pins tables = count_by (is_free pool pages pins tables) (range_with_len 0 pool)
 
 -- bytes that were written into a frame, from an offset on
 pub record FrameWrite : Type 0 where

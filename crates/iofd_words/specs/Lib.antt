@@ -21,6 +21,7 @@ pub mod Rights
 pub mod Run
 pub mod Settings
 pub mod Span
+pub mod Tables
 pub mod View
 pub mod Width
 pub mod World

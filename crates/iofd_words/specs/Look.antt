@@ -1,9 +1,12 @@
 -- The answers to questions, which change nothing.
-use Rattle.std.specs.Prelude.{ℕ, Bool, Some, None, is_none, List, [], ◌∷◌, map}
+use Rattle.std.specs.Prelude.{ℕ, Bool, Some, None, List, [], ◌∷◌, map}
+use Rattle.iofd_words.specs.Checks.{access_checks}
 use Rattle.iofd_words.specs.FirstTrue.{first_true}
 use Rattle.iofd_words.specs.Frames.{bytes_at}
-use Rattle.iofd_words.specs.Pages.{offset_of, crosses}
+use Rattle.iofd_words.specs.Pages.{offset_of}
 use Rattle.iofd_words.specs.Policy.{Outcome, Passes, Denied, outcomes, fault_of}
+use Rattle.iofd_words.specs.Run.{world_of}
+use Rattle.iofd_words.specs.Settings.{Settings}
 use Rattle.iofd_words.specs.View.{View, view}
 use Rattle.iofd_words.specs.World.{World}
 use Rattle.iofd_words.specs.declared.fault.AccessKind.TheVariants.{Read}
@@ -12,26 +15,30 @@ use Rattle.iofd_words.specs.declared.query.Answer.{Answer}
 use Rattle.iofd_words.specs.declared.query.Answer.TheVariants as answer
 use Rattle.iofd_words.specs.declared.query.Query.{Query}
 use Rattle.iofd_words.specs.declared.query.Query.TheVariants.{DeviceRead}
+use Rattle.iofd_words.specs.declared.record.Record.{Record}
 use Rattle.iofd_words.specs.declared.refusal.Cause.{Cause}
-use Rattle.iofd_words.specs.declared.refusal.Cause.TheVariants as cause
 
 -- the refusals of a question, in their order
 abbrev pub query_checks : View → Query → List (Cause × Bool)
-query_checks v (DeviceRead device iova len) =
-    (cause.Id, is_none (v.binding_of device))
-    ∷ (cause.Cross, crosses iova.0 len)
-    ∷ []
+query_checks v (DeviceRead device iova len) = access_checks v device iova len
 
 -- how the outcome of a read is told: the bytes of the frame where it passes
 abbrev pub read_answer : World → DeviceNo → ℕ → ℕ → Outcome → Answer
 read_answer w device address len (Passes frame) = answer.Read (bytes_at w.writes frame.0 (offset_of address) len)
 read_answer w device address len (Denied reason) = answer.Fault (fault_of w.settings device address Read reason)
 
--- the lawful answers to a question that nothing refuses
-abbrev pub lawful_answers : World → Query → List Answer
-lawful_answers w (DeviceRead device iova len) = map (read_answer w device iova.0 len) (outcomes w device iova.0 Read)
+-- the lawful answers to a question that nothing refuses, by the world and the records that led to it
+abbrev pub lawful_answers : {A : Type 0} → World → List (Record A) → Query → List Answer
+lawful_answers w records (DeviceRead device iova len) = map (read_answer w device iova.0 len) (outcomes w device iova.0 Read)
 
--- all lawful answers
-unfoldable pub answers_to : World → Query → List Answer
-answers_to w query =
-    elim (first_true (query_checks (view w) query)) [ Some cause ↦ answer.Refused (record { cause = cause }) ∷ [] | None ↦ lawful_answers w query ]
+-- all lawful answers, in this world and after these records
+unfoldable pub answers_in : {A : Type 0} → World → List (Record A) → Query → List Answer
+answers_in w records query =
+    elim (first_true (query_checks (view w) query)) [
+      | Some cause ↦ answer.Refused (record { cause = cause }) ∷ []
+      | None ↦ lawful_answers w records query
+    ]
+
+-- all lawful answers after a run
+abbrev pub answers_to : {A : Type 0} → Settings → List (Record A) → Query → List Answer
+answers_to settings records query = answers_in (world_of settings records) records query

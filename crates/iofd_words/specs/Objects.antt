@@ -38,6 +38,12 @@ is_automatic kind.Ioas = false
 is_automatic (kind.Hwpt ioas width automatic) = automatic
 is_automatic (kind.Device device) = false
 
+-- an access object that is attached to the address space: no object is one yet
+abbrev pub is_access_of : ObjId → ObjectKind → Bool
+is_access_of ioas kind.Ioas = false
+is_access_of ioas (kind.Hwpt over width automatic) = false
+is_access_of ioas (kind.Device device) = false
+
 abbrev pub is_bound_device : ObjectKind → Bool
 is_bound_device kind.Ioas = false
 is_bound_device (kind.Hwpt ioas width automatic) = false

@@ -1,17 +1,22 @@
--- Pinned pages: those of areas in an address space that has a hardware page table. A page keeps the frame
--- that it had when it was pinned, whatever its user does, for as long as it stays pinned.
-use Rattle.std.specs.Prelude.{ℕ, ◌+◌, ◌/◌, Bool, ◌==◌, ◌&&◌, not, Option, Some, None, is_some, List, [], ◌++◌, map, filter, find, if◌then◌else◌}
+-- Pinned pages: those of memory objects that an area in an address space with a hardware page table translates, or that an access
+-- object has pinned (iommufd.rst, "User Objects", on struct iopt_pages). A page keeps the frame that it had when it was pinned,
+-- whatever its user does, for as long as it stays pinned.
+use Rattle.std.specs.Prelude.{ℕ, ◌+◌, ◌*◌, ◌/◌, Bool, false, ◌==◌, ◌&&◌, ◌||◌, not, Option, Some, None, is_some, List, ◌++◌, map, filter, find}
 use Rattle.std.specs.List.{list_any, list_all, flat_map, filter_map, range_with_len}
+use Rattle.iofd_words.specs.Bounds.{Bounds}
 use Rattle.iofd_words.specs.Pages.{page_of}
-use Rattle.iofd_words.specs.Span.{size_of}
-use Rattle.iofd_words.specs.Objects.{has_hwpt}
+use Rattle.iofd_words.specs.Span.{lies_in, size_of, span_from}
+use Rattle.iofd_words.specs.Objects.{has_hwpt, is_access_of, kind_of}
 use Rattle.iofd_words.specs.Frames.{frame_at}
 use Rattle.iofd_words.specs.declared.numbers.FrameNo.{FrameNo}
+use Rattle.iofd_words.specs.declared.rows.AccessPin.{AccessPin}
 use Rattle.iofd_words.specs.declared.rows.Area.{Area}
 use Rattle.iofd_words.specs.declared.rows.MemoryObject.{MemoryObject}
 use Rattle.iofd_words.specs.declared.rows.Object.{Object}
 use Rattle.iofd_words.specs.declared.rows.Pin.{Pin}
 use Rattle.iofd_words.specs.declared.rows.UserPage.{UserPage}
+
+-- ---- pages of memory objects
 
 -- a page of a memory object: the object's number, and which page, from 0
 pub record ObjectPage : Type 0 where
@@ -24,13 +29,48 @@ is_page a b = a.memory == b.memory && a.index == b.index
 abbrev pub page_of_pin : Pin → ObjectPage
 page_of_pin pin = record { memory = pin.memory; index = pin.index }
 
--- the pages that an area covers: all of its memory object
-abbrev pub pages_of : Area → List ObjectPage
-pages_of area = map (λ i. record { memory = area.memory; index = i }) (range_with_len 0 (size_of area.span / 4096))
+-- the first pages of the memory object of this number, so many
+abbrev pub pages_from : ℕ → ℕ → List ObjectPage
+pages_from number count = map (λ i. record { memory = number; index = i }) (range_with_len 0 count)
 
--- the pages that are to be pinned
-abbrev pub pinned_pages : List Object → List Area → List ObjectPage
-pinned_pages objects areas = flat_map (λ area. if has_hwpt objects area.file area.ioas then pages_of area else []) areas
+abbrev pub pages_of : MemoryObject → List ObjectPage
+pages_of m = pages_from m.number m.count
+
+-- the pages that an area covers: all of its memory object
+abbrev pub area_pages : Area → List ObjectPage
+area_pages area = pages_from area.memory (size_of area.span / 4096)
+
+-- where a page of the area lies
+abbrev pub span_of_page : Area → ℕ → Bounds
+span_of_page area index = span_from (area.span.first + 4096 * index) 4096
+
+-- ---- which are to be pinned
+
+-- some area over the memory object of this number stands in an address space that has a hardware page table
+abbrev pub is_translated : List Object → List Area → ℕ → Bool
+is_translated objects areas number = list_any (λ area. area.memory == number && has_hwpt objects area.file area.ioas) areas
+
+-- the access pin covers this page of the area: its access object is one of the area's address space, and the page lies in its span
+abbrev pub covers_page : List Object → ℕ → AccessPin → Area → Bool
+covers_page objects index pin area =
+    area.file.0 == pin.file.0
+    && elim (kind_of objects pin.file pin.access) [ Some kind ↦ is_access_of area.ioas kind | None ↦ false ]
+    && lies_in (span_of_page area index) pin.span
+
+-- some access pin covers the page, in some area over its memory object
+abbrev pub is_accessed : List Object → List Area → List AccessPin → ObjectPage → Bool
+is_accessed objects areas access_pins page =
+    list_any (λ pin. list_any (λ area. area.memory == page.memory && covers_page objects page.index pin area) areas) access_pins
+
+-- the page of a memory object is to be pinned
+abbrev pub is_pinned : List Object → List Area → List AccessPin → ObjectPage → Bool
+is_pinned objects areas access_pins page = is_translated objects areas page.memory || is_accessed objects areas access_pins page
+
+-- the pages that are to be pinned, each once
+abbrev pub pinned_pages : List Object → List Area → List MemoryObject → List AccessPin → List ObjectPage
+pinned_pages objects areas memory access_pins = filter (is_pinned objects areas access_pins) (flat_map pages_of memory)
+
+-- ---- at which frame
 
 -- the frame that is the page's in its user's memory now
 abbrev pub frame_now : List MemoryObject → List UserPage → ObjectPage → Option FrameNo
@@ -41,9 +81,9 @@ abbrev pub pin_now : List MemoryObject → List UserPage → ObjectPage → Opti
 pin_now memory user_pages page =
     elim (frame_now memory user_pages page) [ Some frame ↦ Some (record { memory = page.memory; index = page.index; frame = frame }) | None ↦ None ]
 
--- each of these pages is in its user's memory
-abbrev pub are_present : List MemoryObject → List UserPage → List ObjectPage → Bool
-are_present memory user_pages pages = list_all (λ page. is_some (frame_now memory user_pages page)) pages
+-- each of these pages is in its user's memory, by a look-up of the frames that pages have there now
+abbrev pub are_present : (ObjectPage → Option FrameNo) → List ObjectPage → Bool
+are_present now pages = list_all (λ page. is_some (now page)) pages
 
 -- the pins of pages that are pinned still, and then those of pages that weren't pinned before
 abbrev pub settled : List ObjectPage → List ObjectPage → List MemoryObject → List UserPage → List Pin → List Pin

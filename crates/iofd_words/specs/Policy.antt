@@ -13,7 +13,7 @@ use Rattle.iofd_words.specs.DeviceSet.{has_device}
 use Rattle.iofd_words.specs.Fault.{denied_by}
 use Rattle.iofd_words.specs.Files.{device_of}
 use Rattle.iofd_words.specs.Pages.{page_of}
-use Rattle.iofd_words.specs.Pins.{ObjectPage, pinned_frame}
+use Rattle.iofd_words.specs.Pins.{ObjectPage}
 use Rattle.iofd_words.specs.Rights.{has_right}
 use Rattle.iofd_words.specs.Settings.{DeviceSettings, Settings}
 use Rattle.iofd_words.specs.Width.{bits_of}
@@ -29,7 +29,6 @@ use Rattle.iofd_words.specs.declared.rows.Area.{Area}
 use Rattle.iofd_words.specs.declared.rows.Attachment.{Attachment}
 use Rattle.iofd_words.specs.declared.rows.Phase.{Phase}
 use Rattle.iofd_words.specs.declared.rows.Phase.TheVariants.{Live, Leaving}
-use Rattle.iofd_words.specs.declared.rows.Pin.{Pin}
 
 -- it passes at a frame, or is denied for a reason
 pub data Outcome : Type 0 where
@@ -40,9 +39,10 @@ pub data Outcome : Type 0 where
 abbrev pub page_in : Area → ℕ → ObjectPage
 page_in area address = record { memory = area.memory; index = (address - area.span.first) / 4096 }
 
--- passing at the frame of the page's pin
-abbrev pub passing : List Pin → Area → ℕ → List Outcome
-passing pins area address = elim (pinned_frame pins (page_in area address)) [ Some frame ↦ Passes frame ∷ [] | None ↦ [] ]
+-- passing at the frame of the page's pin, which each page of an area has that an attached device may reach
+abbrev pub passing : Option FrameNo → List Outcome
+passing (Some frame) = Passes frame ∷ []
+passing None = []
 
 -- a live area lets it pass; a leaving one may, as long as the device owes a flush, or may deny it
 abbrev pub by_phase : DeviceNo → Phase → List Outcome → List Outcome → List Outcome
@@ -50,18 +50,18 @@ by_phase device Live pass deny = pass
 by_phase device (Leaving owed tries) pass deny = if has_device owed device.0 then pass ++ deny else deny
 
 -- what may come of it at the area that holds the address
-abbrev pub at_area : List Pin → DeviceNo → ℕ → AccessKind → Option Area → List Outcome
-at_area pins device address kind None = Denied (denied_by kind) ∷ []
-at_area pins device address kind (Some area) =
+abbrev pub at_area : (ObjectPage → Option FrameNo) → DeviceNo → ℕ → AccessKind → Option Area → List Outcome
+at_area pinned_frame device address kind None = Denied (denied_by kind) ∷ []
+at_area pinned_frame device address kind (Some area) =
     if has_right area.rights kind
-    then by_phase device area.phase (passing pins area address) (Denied (denied_by kind) ∷ [])
+    then by_phase device area.phase (passing (pinned_frame (page_in area address))) (Denied (denied_by kind) ∷ [])
     else Denied (denied_by kind) ∷ []
 
 -- where the device is attached
 abbrev pub translated : View → DeviceNo → ℕ → AccessKind → Attachment → List Outcome
 translated v device address kind a =
     elim (ioas_of_attachment v.objects a) [
-      | Some ioas ↦ at_area v.pins device address kind (area_at address (v.areas_of a.file ioas))
+      | Some ioas ↦ at_area v.pinned_frame device address kind (area_at address (v.areas_of a.file ioas))
       | None ↦ Denied (denied_by kind) ∷ []
     ]
 

@@ -4,6 +4,7 @@ use Rattle.iofd_words.specs.After.{changed}
 use Rattle.iofd_words.specs.Answers.{Answers}
 use Rattle.iofd_words.specs.Checks.{refusal}
 use Rattle.iofd_words.specs.Settings.{Settings}
+use Rattle.iofd_words.specs.Tables.{MovesTables, with_tables}
 use Rattle.iofd_words.specs.World.{World, opening}
 use Rattle.iofd_words.specs.declared.record.Record.{Record}
 use Rattle.iofd_words.specs.declared.refusal.Cause.{Cause}
@@ -14,14 +15,14 @@ abbrev pub IsAnswer : {A : Type 0} → World → Record A → Option Cause → T
 IsAnswer w r (Some cause) = r.reply ≡ reply.Refused (record { cause = cause })
 IsAnswer w r None = Answers w r.event r.reply
 
--- the record is one that may be made in this world. No frame of the pool holds a table yet.
+-- the record is one that may be made in this world
 unfoldable pub Lawful : {A : Type 0} → World → Record A → Type 0
-Lawful w r = IsAnswer w r (refusal w r.event) × (r.taken ≡ []) × (r.given ≡ [])
+Lawful w r = IsAnswer w r (refusal w r.event) × MovesTables w r.taken r.given
 
 -- a refused event leaves the world as it was
 abbrev pub after_answer : {A : Type 0} → ℕ → World → Record A → Option Cause → World
 after_answer at w r (Some cause) = w
-after_answer at w r None = changed at w r.event r.reply
+after_answer at w r None = with_tables r.taken r.given (changed at w r.event r.reply)
 
 -- the world after the record at this position
 unfoldable pub after : {A : Type 0} → ℕ → World → Record A → World

@@ -1,19 +1,22 @@
--- What the refusals and the policy read of a world. A server that keeps a world in lists of its own shows the same view.
-use Rattle.std.specs.Prelude.{Bool, Option, List}
+-- What the refusals and the policy ask of a world. A server that keeps a world in a way of its own gives the same answers. What has
+-- no order in the subject (pins, users' pages, frames) is looked up, and never compared as a list.
+use Rattle.std.specs.Prelude.{ℕ, Bool, Option, List}
 use Rattle.iofd_words.specs.Areas as area
 use Rattle.iofd_words.specs.Files as file
+use Rattle.iofd_words.specs.Frames as frame
 use Rattle.iofd_words.specs.Objects as object
+use Rattle.iofd_words.specs.Pins as pin
+use Rattle.iofd_words.specs.Pins.{ObjectPage}
 use Rattle.iofd_words.specs.Settings.{Settings}
 use Rattle.iofd_words.specs.World.{World}
 use Rattle.iofd_words.specs.declared.numbers.DeviceNo.{DeviceNo}
 use Rattle.iofd_words.specs.declared.numbers.FileNo.{FileNo}
+use Rattle.iofd_words.specs.declared.numbers.FrameNo.{FrameNo}
 use Rattle.iofd_words.specs.declared.numbers.ObjId.{ObjId}
+use Rattle.iofd_words.specs.declared.numbers.UserNo.{UserNo}
 use Rattle.iofd_words.specs.declared.rows.Area.{Area}
 use Rattle.iofd_words.specs.declared.rows.Attachment.{Attachment}
-use Rattle.iofd_words.specs.declared.rows.MemoryObject.{MemoryObject}
 use Rattle.iofd_words.specs.declared.rows.Object.{Object}
-use Rattle.iofd_words.specs.declared.rows.Pin.{Pin}
-use Rattle.iofd_words.specs.declared.rows.UserPage.{UserPage}
 
 pub record View : Type 0 where
   pub settings : Settings
@@ -25,9 +28,14 @@ pub record View : Type 0 where
   pub attachments : List Attachment
   -- the areas of an address space
   pub areas_of : FileNo → ObjId → List Area
-  pub memory : List MemoryObject
-  pub user_pages : List UserPage
-  pub pins : List Pin
+  -- the frame of a page in a user's memory
+  pub frame_at : UserNo → ℕ → Option FrameNo
+  -- the frame that a page of a memory object has in its user's memory now
+  pub frame_now : ObjectPage → Option FrameNo
+  -- the frame at which a page of a memory object is pinned
+  pub pinned_frame : ObjectPage → Option FrameNo
+  -- how many frames nobody reaches
+  pub free_count : ℕ
 
 -- what they read of this world
 abbrev pub view : World → View
@@ -39,7 +47,8 @@ view w =
       binding_of = object.binding_of w.objects;
       attachments = w.attachments;
       areas_of = area.areas_of w.areas;
-      memory = w.memory;
-      user_pages = w.user_pages;
-      pins = w.pins;
+      frame_at = frame.frame_at w.user_pages;
+      frame_now = pin.frame_now w.memory w.user_pages;
+      pinned_frame = pin.pinned_frame w.pins;
+      free_count = frame.free_count w.settings.pool w.user_pages w.pins w.table_frames;
     }

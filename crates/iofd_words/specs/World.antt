@@ -1,14 +1,24 @@
 -- The world: lists of rows, as the events have left them.
 use Rattle.std.specs.Prelude.{List, []}
+use Rattle.iofd_words.specs.Bounds.{Bounds}
 use Rattle.iofd_words.specs.Frames.{FrameWrite}
 use Rattle.iofd_words.specs.Settings.{Settings}
 use Rattle.iofd_words.specs.declared.numbers.FileNo.{FileNo}
+use Rattle.iofd_words.specs.declared.numbers.ObjId.{ObjId}
+use Rattle.iofd_words.specs.declared.rows.AccessPin.{AccessPin}
 use Rattle.iofd_words.specs.declared.rows.Area.{Area}
 use Rattle.iofd_words.specs.declared.rows.Attachment.{Attachment}
 use Rattle.iofd_words.specs.declared.rows.MemoryObject.{MemoryObject}
 use Rattle.iofd_words.specs.declared.rows.Object.{Object}
 use Rattle.iofd_words.specs.declared.rows.Pin.{Pin}
+use Rattle.iofd_words.specs.declared.rows.TableFrame.{TableFrame}
 use Rattle.iofd_words.specs.declared.rows.UserPage.{UserPage}
+
+-- the ranges that are allowed to addresses which the server chooses in an address space
+pub record AllowedRanges : Type 0 where
+  pub file : FileNo
+  pub ioas : ObjId
+  pub spans : List Bounds
 
 pub record World : Type 0 where
   -- what it was opened with
@@ -21,16 +31,35 @@ pub record World : Type 0 where
   pub memory : List MemoryObject
   -- those of an address space by rising start
   pub areas : List Area
+  -- of the address spaces that allow only some addresses
+  pub allowed : List AllowedRanges
   -- the pages of the users' memory
   pub user_pages : List UserPage
   -- a row for each pinned page
   pub pins : List Pin
   -- by rising device
   pub attachments : List Attachment
+  -- the pages that access objects have pinned
+  pub access_pins : List AccessPin
+  -- the frames that hold the tables of page tables
+  pub table_frames : List TableFrame
   -- what was written into frames, newest first
   pub writes : List FrameWrite
 
 -- all frames are free, all files open and empty
 abbrev pub opening : Settings → World
 opening settings =
-    record { settings = settings; closed = []; objects = []; memory = []; areas = []; user_pages = []; pins = []; attachments = []; writes = [] }
+    record {
+      settings = settings;
+      closed = [];
+      objects = [];
+      memory = [];
+      areas = [];
+      allowed = [];
+      user_pages = [];
+      pins = [];
+      attachments = [];
+      access_pins = [];
+      table_frames = [];
+      writes = [];
+    }

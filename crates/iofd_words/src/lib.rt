@@ -30,6 +30,8 @@ pub use query::{Answer, Query};
 pub use record::Record;
 pub use refusal::{Cause, Errno, NoMemory, Refusal};
 pub use reply::Reply;
-pub use rows::{Area, Attachment, MemoryObject, Object, ObjectKind, Phase, Pin, UserPage};
+pub use rows::{
+    AccessPin, Area, Attachment, MemoryObject, Object, ObjectKind, Phase, Pin, TableFrame, UserPage,
+};
 pub use span::Span;
 pub use width::Width;

@@ -2,7 +2,7 @@
 
 use crate::device_set::DeviceSet;
 use crate::flags::Rights;
-use crate::numbers::{DeviceNo, FileNo, FrameNo, ObjId, UserNo};
+use crate::numbers::{DeviceNo, FileNo, FrameNo, Iova, ObjId, UserNo};
 use crate::span::Span;
 use crate::width::Width;
 
@@ -78,6 +78,29 @@ pub struct Pin {
     pub memory: u64,
     /// Which of its pages, from 0.
     pub index: u64,
+    pub frame: FrameNo,
+}
+
+/// Whole pages of an address space that an access object has pinned, for writes too where `write` is true. Equal ones may
+/// stand side by side.
+#[derive(Clone, Copy, PartialEq, Eq, Debug)]
+pub struct AccessPin {
+    pub file: FileNo,
+    /// The access object.
+    pub access: ObjId,
+    pub span: Span,
+    pub write: bool,
+}
+
+/// A frame of the pool that holds a table of a hardware page table.
+#[derive(Clone, Copy, PartialEq, Eq, Debug)]
+pub struct TableFrame {
+    pub file: FileNo,
+    pub hwpt: ObjId,
+    /// 1 where its entries name pages, and one more a level up to the root.
+    pub level: u8,
+    /// The first address that goes through it.
+    pub first: Iova,
     pub frame: FrameNo,
 }
 

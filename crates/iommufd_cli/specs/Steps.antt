@@ -15,8 +15,8 @@ use Rattle.ioctl_codec.specs.Spelling.{Spells}
 use Rattle.ioctl_codec.specs.declared.command.Command.{Command}
 use Rattle.ioctl_codec.specs.declared.command.Command.TheVariants as command
 use Rattle.iommufd_cli.specs.Replies.{answer_text, ioctl_text, line, memory_text, refusal_text, reply_text}
-use Rattle.iommufd_core.specs.Choice.{IsChosen, last_of}
-use Rattle.iommufd_core.specs.History.{with_record, world}
+use Rattle.iommufd_core.specs.Choice.{IsChosen, IsLooked}
+use Rattle.iommufd_core.specs.History.{HasOneMore, world}
 use Rattle.iommufd_core.specs.Server.{MayWant, Server}
 use Rattle.iommufd_script.specs.declared.line.Step.{Step}
 use Rattle.iommufd_script.specs.declared.line.Step.TheVariants as step
@@ -31,7 +31,7 @@ event_of file (command.IoasUnmap request) = event.Unmap file request
 module _ {A : Type 0} where
   -- the event is recorded with this reply, which is the one that is chosen, as caller 0's
   pub record IsRecorded (s : Server A) (e : Event) (reply : Reply) (after : Server A) : Type 0 where
-    pub record_is : after.history ≡ with_record (record { 0 = 0 }) e reply s.history
+    pub record_is : HasOneMore (record { 0 = 0 }) e reply s.history after.history
     pub run : IsRun after.history.settings after.history.records
     pub chosen : refusal (world s.history) e ≡ None → IsChosen (world s.history) e None reply
 
@@ -77,5 +77,5 @@ module _ {A : Type 0} where
   IsAnswered s (step.Detach device) text after = IsApplied s (event.Detach device) reply_text text after
   IsAnswered s (step.Flush device) text after = IsApplied s (event.Flush device) reply_text text after
   IsAnswered s (step.DeviceRead device iova len) text after =
-      (after ≡ s) × (answer : Answer) × (last_of (answers_to (world s.history) (query.DeviceRead device iova len)) ≡ Some answer) × (text ≡ line (answer_text answer))
+      (after ≡ s) × (answer : Answer) × IsLooked (answers_to s.history.settings s.history.records (query.DeviceRead device iova len)) answer × (text ≡ line (answer_text answer))
   IsAnswered s (step.DeviceWrite device iova bytes) text after = IsApplied s (event.DeviceWrite device iova bytes) reply_text text after

@@ -1,10 +1,13 @@
 -- The record of an event that is refused, and of one that is carried out.
-use Rattle.std.proofs.Common.{◌≡◌, ℕ, Some, None, Result, Ok, Err, refl, sym, subst}
+use Rattle.std.proofs.Common.{◌≡◌, ℕ, Some, None, Result, Ok, Err, refl, sym, subst, []}
+use Rattle.iommufd_core.specs.declared.state.State.{State}
+use Rattle.iommufd_core.specs.Shows.{Shows}
 use Rattle.std.specs.Result.{IfOk, OnErr}
 use Rattle.iofd_words.specs.After.{changed}
 use Rattle.iofd_words.specs.Answers.{Answers}
 use Rattle.iofd_words.specs.Checks.{refusal}
 use Rattle.iofd_words.specs.Run.{IsAnswer, Lawful, after, after_answer}
+use Rattle.iofd_words.specs.Tables.{with_tables}
 use Rattle.iofd_words.specs.World.{World}
 use Rattle.iofd_words.specs.declared.event.Event.{Event}
 use Rattle.iofd_words.specs.declared.numbers.PassNo.{PassNo}
@@ -16,7 +19,7 @@ use Rattle.iommufd_core.specs.History.{recorded}
 module _ (A : Type 0) (at : ℕ) (w : World) (pass : PassNo) (e : Event) where
   pub refused_lawful : (cause : Cause) → refusal w e ≡ Some cause → Lawful w (recorded {A = A} pass e (reply.Refused (record { cause = cause })))
   unfolding Lawful
-  refused_lawful cause is = (subst (IsAnswer w (recorded {A = A} pass e (reply.Refused (record { cause = cause })))) (sym is) refl, refl, refl)
+  refused_lawful cause is = (subst (IsAnswer w (recorded {A = A} pass e (reply.Refused (record { cause = cause })))) (sym is) refl, (refl, refl))
 
   pub refused_after : (cause : Cause) (answer : Reply) → refusal w e ≡ Some cause → after at w (recorded {A = A} pass e answer) ≡ w
   unfolding after
@@ -24,9 +27,9 @@ module _ (A : Type 0) (at : ℕ) (w : World) (pass : PassNo) (e : Event) where
 
   pub answered_lawful : (answer : Reply) → refusal w e ≡ None → Answers w e answer → Lawful w (recorded {A = A} pass e answer)
   unfolding Lawful
-  answered_lawful answer is answers = (subst (IsAnswer w (recorded {A = A} pass e answer)) (sym is) answers, refl, refl)
+  answered_lawful answer is answers = (subst (IsAnswer w (recorded {A = A} pass e answer)) (sym is) answers, (refl, refl))
 
-  pub answered_after : (answer : Reply) → refusal w e ≡ None → after at w (recorded {A = A} pass e answer) ≡ changed at w e answer
+  pub answered_after : (answer : Reply) → refusal w e ≡ None → after at w (recorded {A = A} pass e answer) ≡ with_tables [] [] (changed at w e answer)
   unfolding after
   answered_after answer is = rw (is, after_answer) refl
 
@@ -43,3 +46,14 @@ on_err (Err e) P Q weaker known = weaker known
 pub on_err_same : {X E : Type 0} (r : Result X E) (P : Type 0) → P → OnErr r P
 on_err_same (Ok x) P known = tt
 on_err_same (Err e) P known = known
+
+-- no table is moved: what is shown is shown
+pub tabled_shown : {A : Type 0} (w : World) (s : State A) → Shows w s → Shows (with_tables [] [] w) s
+unfolding with_tables
+tabled_shown w s shows = record {
+  settings = shows.settings;
+  objects = shows.objects;
+  devices = shows.devices;
+  memory = shows.memory;
+  frames = record { size = shows.frames.size; written = shows.frames.written; no_tables = rw shows.frames.no_tables refl };
+}

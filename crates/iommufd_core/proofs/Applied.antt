@@ -3,14 +3,15 @@ use Rattle.std.proofs.Common.{◌≡◌, ℕ, suc, Bool, true, false, ◌||◌, 
 use Rattle.std.specs.List.{list_any}
 use Rattle.std.proofs.lemmas.Bool.Decides.{nat_tests}
 use Rattle.iofd_laws.proofs.Bools.{and_true}
-use Rattle.iofd_words.specs.After.{changed, map_changes, attach_changes, detach_changes, settle, without_areas, attached, detached}
+use Rattle.iofd_words.specs.After.{changed, map_changes, attach_changes, target_changes, detach_changes, settle, without_areas, attached, detached}
 use Rattle.iofd_words.specs.Attachments.{attachment_of}
 use Rattle.iofd_words.specs.Checks.{refusal}
 use Rattle.iofd_words.specs.Files.{user_of, device_of}
-use Rattle.iofd_words.specs.Objects.{binding_of}
+use Rattle.iofd_words.specs.Objects.{binding_of, kind_of}
 use Rattle.iofd_words.specs.Policy.{Outcome, Passes, Denied, outcomes}
 use Rattle.iofd_words.specs.Run.{Lawful, after, after_answer, world_of}
 use Rattle.iofd_words.specs.Settings.{DeviceSettings}
+use Rattle.iofd_words.specs.Tables.{with_tables}
 use Rattle.iofd_words.specs.World.{World}
 use Rattle.iofd_words.specs.declared.event.Event.{Event}
 use Rattle.iofd_words.specs.declared.event.Event.TheVariants as event
@@ -24,6 +25,8 @@ use Rattle.iofd_words.specs.declared.reply.Reply.{Reply}
 use Rattle.iofd_words.specs.declared.reply.Reply.TheVariants as reply
 use Rattle.iofd_words.specs.declared.rows.Attachment.{Attachment}
 use Rattle.iofd_words.specs.declared.rows.Object.{Object}
+use Rattle.iofd_words.specs.declared.rows.ObjectKind.{ObjectKind}
+use Rattle.iofd_words.specs.declared.rows.ObjectKind.TheVariants as kind
 use Rattle.iommufd_core.proofs.Histories.{run_more, tidy_run, world_more}
 use Rattle.iommufd_core.specs.Choice.{IsChosen, MayUse}
 use Rattle.iommufd_core.specs.History.{History, is_pass_at, may_apply, recorded, world}
@@ -39,7 +42,7 @@ unfolding changed settle without_areas attached detached
 changed_settings at w (event.IoasAlloc file) (reply.Id id) = refl
 changed_settings at w (event.Map file request) (reply.Iova iova) = mapped (user_of w.settings file)
   where
-    mapped : (user : Option UserNo) → (map_changes at w file request user).settings ≡ w.settings
+    mapped : (user : Option UserNo) → (map_changes at w file request iova user).settings ≡ w.settings
     mapped None = refl
     mapped (Some user) = refl
 changed_settings at w (event.Unmap file request) (reply.Bytes count) = refl
@@ -53,7 +56,11 @@ changed_settings at w (event.Attach device pt_id) (reply.Id id) = bound (binding
     bound : (object : Option Object) (settings : Option DeviceSettings) → (attach_changes w device pt_id id object settings).settings ≡ w.settings
     bound None settings = refl
     bound (Some object) None = refl
-    bound (Some object) (Some settings) = refl
+    bound (Some object) (Some settings) = by_kind (kind_of w.objects object.file pt_id)
+      where
+        by_kind : (k : Option ObjectKind) → (target_changes w device pt_id id object settings k).settings ≡ w.settings
+        by_kind (Some kind.Ioas) = refl
+        by_kind k = refl
 changed_settings at w (event.Detach device) reply.Done = attached_or_not (attachment_of w.attachments device)
   where
     attached_or_not : (a : Option Attachment) → (detach_changes w device a).settings ≡ w.settings
@@ -64,7 +71,7 @@ changed_settings at w (event.DeviceWrite device iova bytes) (reply.Passed frame)
 changed_settings at w e answer = refl
 
 after_settings : {A : Type 0} (at : ℕ) (w : World) (r : Record A) → (after at w r).settings ≡ w.settings
-unfolding after
+unfolding after with_tables
 after_settings at w r = by_cause (refusal w r.event)
   where
     by_cause : (o : Option Cause) → (after_answer at w r o).settings ≡ w.settings

@@ -1,5 +1,7 @@
 -- An attachment that comes: what its page table pins.
 use Rattle.std.proofs.Common.{◌≡◌, ℕ, Bool, true, false, cond, ◌&&◌, ◌||◌, not, eqb, Option, Some, None, List, [], ◌∷◌, ◌++◌, refl, sym, ◌∙◌, ap, arith, inl, inr}
+use Rattle.iofd_laws.proofs.NotRefused.{attach_passed, passes}
+use Rattle.iofd_words.specs.declared.rows.Pin.{Pin}
 use Rattle.std.specs.Prelude.{is_some}
 use Rattle.std.specs.List.{filter, filter_map, flat_map, list_all, list_any}
 use Rattle.std.proofs.lemmas.Bool.Decides.{nat_tests}
@@ -7,11 +9,10 @@ use Rattle.std.proofs.lemmas.List.{append-nil}
 use Rattle.std.proofs.lemmas.List.Elements.{filter-append}
 use Rattle.iofd_words.specs.Areas.{all_paid, areas_of, is_of}
 use Rattle.iofd_words.specs.Attachments.{attachment_of}
-use Rattle.iofd_words.specs.Checks.{attach_checks, checks, refusal}
-use Rattle.iofd_words.specs.FirstTrue.{first_true}
+use Rattle.iofd_words.specs.Checks.{checks, refusal}
 use Rattle.iofd_words.specs.Objects.{binding_of, has_hwpt, with_object}
-use Rattle.iofd_laws.specs.Pinned.{ArePinned, have_own_memory}
-use Rattle.iofd_words.specs.Pins.{ObjectPage, is_page, pages_of, pin_now, pinned_pages, settled}
+use Rattle.iofd_laws.specs.Pinned.{have_own_memory}
+use Rattle.iofd_words.specs.Pins.{ObjectPage, is_page, area_pages, pin_now, settled, page_of_pin}
 use Rattle.iofd_words.specs.View.{view}
 use Rattle.iofd_words.specs.World.{World}
 use Rattle.iofd_words.specs.declared.event.Event.TheVariants as event
@@ -27,9 +28,8 @@ use Rattle.iofd_laws.proofs.Bools.{and_true, both_true, clash}
 use Rattle.iofd_laws.proofs.Each.{IsIn, of_any}
 use Rattle.iofd_laws.proofs.ListTests.{false_else, filter_all, filter_nothing, or_right}
 use Rattle.iofd_laws.proofs.Named.{file_is, id_is}
-use Rattle.iofd_laws.proofs.PageLists.{all_pages, any-pinned, memory_of_page, pins_page}
+use Rattle.iofd_laws.proofs.PageLists.{all_pages, any-pinned, memory_of_page, pins_page, pages_by_area}
 use Rattle.iofd_laws.proofs.PageTables.{hwpt-with_object, hwpt_alike, pinned_alike, pinned_within}
-use Rattle.iofd_laws.proofs.Runs.{tests_false}
 use Rattle.iofd_laws.proofs.Settled.{settled_more, settled_same}
 use Rattle.iommufd_core.specs.PinLists.{newly_pinned}
 use Rattle.iommufd_core.proofs.Detached.{one_memory, pinned_paid, some_row}
@@ -46,10 +46,7 @@ never_unbound w device pt_id none is = let refused = rw (is, checks) at none in 
 
 -- one that is attached
 pub was_unattached : (w : World) (device : DeviceNo) (pt_id : ObjId) (bound : Object) → refusal w (event.Attach device pt_id) ≡ None → binding_of w.objects device ≡ Some bound → attachment_of w.attachments device ≡ None
-unfolding refusal checks
-was_unattached w device pt_id bound none is =
-    let named : first_true (attach_checks (view w) device pt_id bound.file) ≡ None = rw (is, checks) at none in
-    absent (attachment_of w.attachments device) (tests_false (attach_checks (view w) device pt_id bound.file) 0 named)
+was_unattached w device pt_id bound none is = absent (attachment_of w.attachments device) (attach_passed (view w) device pt_id bound is (passes w (event.Attach device pt_id) none)).unattached
   where
     absent : (o : Option Attachment) → is_some o ≡ false → o ≡ None
     absent None is = refl
@@ -65,7 +62,7 @@ module _ (objects : List Object) (areas : List Area) (file : FileNo) (ioas id : 
   left = with_object (hwpt_object file ioas id width) objects
 
   abbrev before : List ObjectPage
-  before = pinned_pages objects areas
+  before = pages_by_area objects areas
 
   abbrev is_new : ObjectPage → Bool
   is_new page = not (list_any (is_page page) before)
@@ -96,12 +93,12 @@ module _ (objects : List Object) (areas : List Area) (file : FileNo) (ioas id : 
 
   module _ (own : have_own_memory areas ≡ true) (none : has_hwpt objects file ioas ≡ false) where
     -- no page of the address space was pinned
-    fresh_page : (a : Area) (page : ObjectPage) → IsIn areas a → is_of file ioas a ≡ true → list_any (is_page page) (pages_of a) ≡ true → list_any (is_page page) before ≡ false
+    fresh_page : (a : Area) (page : ObjectPage) → IsIn areas a → is_of file ioas a ≡ true → list_any (is_page page) (area_pages a) ≡ true → list_any (is_page page) before ≡ false
     fresh_page a page within is covers =
         any-pinned objects areas page
         ∙ false_else (list_any (pins_page objects page) areas) (λ some.
         let (b, among, pins) = some_row (pins_page objects page) areas some in
-        let parts = and_true (has_hwpt objects b.file b.ioas) (list_any (is_page page) (pages_of b)) pins in
+        let parts = and_true (has_hwpt objects b.file b.ioas) (list_any (is_page page) (area_pages b)) pins in
         let same : b ≡ a = one_memory areas b a own among within (joined b.memory a.memory page.memory (memory_of_page b page parts.1) (memory_of_page a page covers)) in
         let names = and_true (eqb a.file.0 file.0) (eqb a.ioas.0 ioas.0) is in
         let has : has_hwpt objects a.file a.ioas ≡ true = ap (λ (x : Area). has_hwpt objects x.file x.ioas) (sym same) ∙ parts.0 in
@@ -112,49 +109,49 @@ module _ (objects : List Object) (areas : List Area) (file : FileNo) (ioas id : 
         joined m n o first second = grind (arith, nat_tests)
 
     -- each page of another address space's page table was
-    old_page : (a : Area) (page : ObjectPage) → IsIn areas a → has_hwpt objects a.file a.ioas ≡ true → list_any (is_page page) (pages_of a) ≡ true → list_any (is_page page) before ≡ true
+    old_page : (a : Area) (page : ObjectPage) → IsIn areas a → has_hwpt objects a.file a.ioas ≡ true → list_any (is_page page) (area_pages a) ≡ true → list_any (is_page page) before ≡ true
     old_page a page within has covers = any-pinned objects areas page ∙ of_any (pins_page objects page) areas a within (both_true _ _ has covers)
 
-    new_pages : (rows : List Area) → ((a : Area) → IsIn rows a → IsIn areas a) → filter (λ page. not (list_any (is_page page) before)) (pinned_pages left rows) ≡ flat_map pages_of (areas_of rows file ioas)
+    new_pages : (rows : List Area) → ((a : Area) → IsIn rows a → IsIn areas a) → filter (λ page. not (list_any (is_page page) before)) (pages_by_area left rows) ≡ flat_map area_pages (areas_of rows file ioas)
     new_pages [] within = refl
     new_pages (a ∷ rows) within =
-        filter-append (λ page. not (list_any (is_page page) before)) (cond (has_hwpt left a.file a.ioas) (pages_of a) []) (pinned_pages left rows)
+        filter-append (λ page. not (list_any (is_page page) before)) (cond (has_hwpt left a.file a.ioas) (area_pages a) []) (pages_by_area left rows)
         ∙ by_space (is_of file ioas a) refl (within a (inl refl)) (new_pages rows (λ x later. within x (inr later)))
       where
-        of_tables : (b : Bool) → has_hwpt objects a.file a.ioas ≡ b → IsIn areas a → filter is_new (cond b (pages_of a) []) ≡ []
-        of_tables true has among = filter_nothing is_new (pages_of a) (all_pages (λ page. not (is_new page)) (pages_of a) (λ page covers. ap (λ b. not (not b)) (old_page a page among has covers)))
+        of_tables : (b : Bool) → has_hwpt objects a.file a.ioas ≡ b → IsIn areas a → filter is_new (cond b (area_pages a) []) ≡ []
+        of_tables true has among = filter_nothing is_new (area_pages a) (all_pages (λ page. not (is_new page)) (area_pages a) (λ page covers. ap (λ b. not (not b)) (old_page a page among has covers)))
         of_tables false has among = refl
 
-        by_space : (b : Bool) → is_of file ioas a ≡ b → IsIn areas a → filter is_new (pinned_pages left rows) ≡ flat_map pages_of (areas_of rows file ioas)
-            → filter is_new (cond (has_hwpt left a.file a.ioas) (pages_of a) []) ++ filter is_new (pinned_pages left rows) ≡ flat_map pages_of (cond b (a ∷ areas_of rows file ioas) (areas_of rows file ioas))
+        by_space : (b : Bool) → is_of file ioas a ≡ b → IsIn areas a → filter is_new (pages_by_area left rows) ≡ flat_map area_pages (areas_of rows file ioas)
+            → filter is_new (cond (has_hwpt left a.file a.ioas) (area_pages a) []) ++ filter is_new (pages_by_area left rows) ≡ flat_map area_pages (cond b (a ∷ areas_of rows file ioas) (areas_of rows file ioas))
         by_space true is among rest =
-            let new : filter is_new (pages_of a) ≡ pages_of a = filter_all is_new (pages_of a) (all_pages is_new (pages_of a) (λ page covers. ap not (fresh_page a page among is covers))) in
+            let new : filter is_new (area_pages a) ≡ area_pages a = filter_all is_new (area_pages a) (all_pages is_new (area_pages a) (λ page covers. ap not (fresh_page a page among is covers))) in
             rw (table_made a is, new, rest) refl
         by_space false is among rest =
-            let old : filter is_new (cond (has_hwpt left a.file a.ioas) (pages_of a) []) ≡ [] = ap (λ b. filter is_new (cond b (pages_of a) [])) (table_elsewhere a is) ∙ of_tables (has_hwpt objects a.file a.ioas) refl among in
+            let old : filter is_new (cond (has_hwpt left a.file a.ioas) (area_pages a) []) ≡ [] = ap (λ b. filter is_new (cond b (area_pages a) [])) (table_elsewhere a is) ∙ of_tables (has_hwpt objects a.file a.ioas) refl among in
             rw (old, rest) refl
 
 -- ---- all pins
 
-pub pins_grown : (at : ℕ) (w : World) (device : DeviceNo) (file : FileNo) (ioas id : ObjId) (width : Width) → ArePinned at w
-    → settled (pinned_pages w.objects w.areas) (pinned_pages (with_object (hwpt_object file ioas id width) w.objects) (all_paid device w.areas)) w.memory w.user_pages w.pins
-    ≡ w.pins ++ filter_map (pin_now w.memory w.user_pages) (newly_pinned w.objects file ioas (areas_of w.areas file ioas))
-pins_grown at w device file ioas id width pinned =
-    ap (λ pages. settled (pinned_pages w.objects w.areas) pages w.memory w.user_pages w.pins) (pinned_paid grown device w.areas)
+pub pins_grown : (w : World) (device : DeviceNo) (file : FileNo) (ioas id : ObjId) (width : Width) (kept : List Pin) → have_own_memory w.areas ≡ true → list_all (λ (pin : Pin). list_any (is_page (page_of_pin pin)) (pages_by_area w.objects w.areas)) kept ≡ true
+    → settled (pages_by_area w.objects w.areas) (pages_by_area (with_object (hwpt_object file ioas id width) w.objects) (all_paid device w.areas)) w.memory w.user_pages kept
+    ≡ kept ++ filter_map (pin_now w.memory w.user_pages) (newly_pinned w.objects file ioas (areas_of w.areas file ioas))
+pins_grown w device file ioas id width kept own only =
+    ap (λ pages. settled (pages_by_area w.objects w.areas) pages w.memory w.user_pages kept) (pinned_paid grown device w.areas)
     ∙ by_table (has_hwpt w.objects file ioas) refl
   where
     grown : List Object
     grown = with_object (hwpt_object file ioas id width) w.objects
 
-    by_table : (b : Bool) → has_hwpt w.objects file ioas ≡ b → settled (pinned_pages w.objects w.areas) (pinned_pages grown w.areas) w.memory w.user_pages w.pins ≡ w.pins ++ filter_map (pin_now w.memory w.user_pages) (cond b [] (flat_map pages_of (areas_of w.areas file ioas)))
+    by_table : (b : Bool) → has_hwpt w.objects file ioas ≡ b → settled (pages_by_area w.objects w.areas) (pages_by_area grown w.areas) w.memory w.user_pages kept ≡ kept ++ filter_map (pin_now w.memory w.user_pages) (cond b [] (flat_map area_pages (areas_of w.areas file ioas)))
     by_table true had =
-        ap (λ pages. settled (pinned_pages w.objects w.areas) pages w.memory w.user_pages w.pins) (pinned_alike w.objects grown w.areas (same_tables w.objects w.areas file ioas id width had))
-        ∙ settled_same (pinned_pages w.objects w.areas) (pinned_pages w.objects w.areas) w.memory w.user_pages w.pins each each pinned.only
-        ∙ sym (append-nil w.pins)
+        ap (λ pages. settled (pages_by_area w.objects w.areas) pages w.memory w.user_pages kept) (pinned_alike w.objects grown w.areas (same_tables w.objects w.areas file ioas id width had))
+        ∙ settled_same (pages_by_area w.objects w.areas) (pages_by_area w.objects w.areas) w.memory w.user_pages kept each each only
+        ∙ sym (append-nil kept)
       where
-        each : list_all (λ page. list_any (is_page page) (pinned_pages w.objects w.areas)) (pinned_pages w.objects w.areas) ≡ true
-        each = all_pages (λ page. list_any (is_page page) (pinned_pages w.objects w.areas)) (pinned_pages w.objects w.areas) (λ page within. within)
+        each : list_all (λ page. list_any (is_page page) (pages_by_area w.objects w.areas)) (pages_by_area w.objects w.areas) ≡ true
+        each = all_pages (λ page. list_any (is_page page) (pages_by_area w.objects w.areas)) (pages_by_area w.objects w.areas) (λ page within. within)
     by_table false none =
-        settled_more (pinned_pages w.objects w.areas) (pinned_pages grown w.areas) (flat_map pages_of (areas_of w.areas file ioas)) w.memory w.user_pages w.pins
-        (pinned_within grown w.objects w.areas (table_stays w.objects w.areas file ioas id width)) pinned.only
-        (new_pages w.objects w.areas file ioas id width pinned.own none w.areas (λ a within. within))
+        settled_more (pages_by_area w.objects w.areas) (pages_by_area grown w.areas) (flat_map area_pages (areas_of w.areas file ioas)) w.memory w.user_pages kept
+        (pinned_within grown w.objects w.areas (table_stays w.objects w.areas file ioas id width)) only
+        (new_pages w.objects w.areas file ioas id width own none w.areas (λ a within. within))

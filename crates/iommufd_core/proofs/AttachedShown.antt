@@ -1,11 +1,15 @@
 -- What is kept after an attachment came shows the world after it.
-use Rattle.std.proofs.Common.{◌≡◌, ◌<◌, ◌^◌, ℕ, true, not, Option, Some, None, List, ◌++◌, map, refl, sym, ◌∙◌, ap, subst, arith}
+use Rattle.std.proofs.Common.{◌≡◌, ◌<◌, ◌^◌, ℕ, true, not, Option, Some, None, List, ◌++◌, map, refl, sym, ◌∙◌, ap, subst, arith, ◌+◌}
+use Rattle.iofd_words.specs.View.{view}
+use Rattle.iommufd_core.proofs.PinsKept.{only_kept, pins_follow}
+use Rattle.iofd_laws.proofs.NotRefused.{attach_passed, passes}
+use Rattle.iofd_laws.proofs.KeepsOwnMemory.{OwnPins, keeps_own_pins}
 use Rattle.std.specs.Prelude.{is_some}
 use Rattle.std.specs.List.{filter_map, find, list_all}
 use Rattle.std.specs.Option.{option_map}
 use Rattle.std.proofs.lemmas.Bool.Decides.{nat_tests}
-use Rattle.iofd_words.specs.After.{attach_changes, attached, changed, settle, with_hwpt}
-use Rattle.iofd_words.specs.Answers.{Answers, IsHwptFor, IsHwptOf}
+use Rattle.iofd_words.specs.After.{attach_changes, attached, changed, settle, with_hwpt, target_changes}
+use Rattle.iofd_words.specs.Answers.{Answers, IsHwptFor, IsHwptOf, IsTarget}
 use Rattle.iofd_words.specs.Areas.{all_paid, areas_of}
 use Rattle.iofd_words.specs.Attachments.{with_attachment}
 use Rattle.iofd_words.specs.Checks.{refusal}
@@ -22,6 +26,7 @@ use Rattle.iofd_words.specs.declared.reply.Reply.TheVariants as reply
 use Rattle.iofd_words.specs.declared.rows.Area.{Area}
 use Rattle.iofd_words.specs.declared.rows.Object.{Object}
 use Rattle.iofd_words.specs.declared.rows.ObjectKind.{ObjectKind}
+use Rattle.iofd_words.specs.declared.rows.ObjectKind.TheVariants as kind
 use Rattle.iofd_words.specs.declared.width.Width.{Width}
 use Rattle.iofd_laws.proofs.Bools.{both_true}
 use Rattle.iofd_laws.proofs.Found.{find-with_object}
@@ -49,7 +54,13 @@ grown w device file ioas id width o =
       objects = with_hwpt file ioas id width o w.objects;
       attachments = with_attachment (record { device = device; file = file; hwpt = id }) w.attachments;
       areas = all_paid device w.areas;
-      pins = settled (pinned_pages w.objects w.areas) (pinned_pages (with_hwpt file ioas id width o w.objects) (all_paid device w.areas)) w.memory w.user_pages w.pins;
+      pins =
+          settled
+          (pinned_pages w.objects w.areas w.memory w.access_pins)
+          (pinned_pages (with_hwpt file ioas id width o w.objects) (all_paid device w.areas) w.memory w.access_pins)
+          w.memory
+          w.user_pages
+          w.pins;
     }
 
 width_found : (o : Option DeviceSettings) (width : Width) → elim o [ Some d ↦ Some d.width | None ↦ None ] ≡ Some width → (d : DeviceSettings) × (o ≡ Some d) × (d.width ≡ width)
@@ -64,26 +75,49 @@ none_found : (o : Option Object) → option_map (λ (object : Object). object.id
 none_found None is = refl
 none_found (Some object) is = cc
 
+-- the world after it, by what the id names
+module _ (at : ℕ) (w : World) (device : DeviceNo) (pt_id id : ObjId) (bound : Object) (width : Width) (o : Option Object) (tidy : IsTidy at w) (none : refusal w (event.Attach device pt_id) ≡ None)
+    (binding : binding_of w.objects device ≡ Some bound) (wide : width_of w.settings device ≡ Some width) (automatic : automatic_hwpt w.objects bound.file pt_id width ≡ o) (fits : IsHwptFor w bound.file id o) where
+  abbrev Both : World → Type 0
+  Both v = Answers w (event.Attach device pt_id) (reply.Id id) × (changed at w (event.Attach device pt_id) (reply.Id id) ≡ v)
+
+  abbrev Both_at : Option Object → Option DeviceSettings → Option ObjectKind → Type 0
+  Both_at (Some b) (Some d) k = IsTarget w b.file pt_id id d.width k × (target_changes w device pt_id id b d k ≡ grown w device bound.file pt_id id width o)
+  Both_at b d k = ⊥
+
+  abbrev Both_of : Option Object → Option DeviceSettings → Type 0
+  Both_of b d = IsHwptOf w pt_id id b d × (attach_changes w device pt_id id b d ≡ grown w device bound.file pt_id id width o)
+
+  is_grown : Both (grown w device bound.file pt_id id width o)
+  unfolding changed Answers attached settle
+  is_grown =
+      let (d, found, same) = width_found (device_of w.settings device) width wide in
+      let space = (attach_passed (view w) device pt_id bound binding (passes w (event.Attach device pt_id) none)).space in
+      let here : Both_at (Some bound) (Some d) (Some kind.Ioas) = (
+        subst (IsHwptFor w bound.file id) (sym (of_width d same)) fits,
+        ap (λ (h : Option Object). grown w device bound.file pt_id id d.width h) (of_width d same) ∙ ap (λ (v : Width). grown w device bound.file pt_id id v o) same,
+      ) in
+      let of_kind : Both_at (Some bound) (Some d) (kind_of w.objects bound.file pt_id) = subst (Both_at (Some bound) (Some d)) (sym space) here in
+      let of_device : Both_of (Some bound) (device_of w.settings device) = subst (Both_of (Some bound)) (sym found) of_kind in
+      let R = λ (b : Option Object). Both_of b (device_of w.settings device) in
+      let result : R (binding_of w.objects device) = subst R (sym binding) of_device in
+      result
+    where
+      of_width : (d : DeviceSettings) → d.width ≡ width → automatic_hwpt w.objects bound.file pt_id d.width ≡ o
+      of_width d same = ap (automatic_hwpt w.objects bound.file pt_id) same ∙ automatic
+
 module _ {A : Type 0} where
-  joined : (at : ℕ) (w : World) (s : State A) (device : DeviceNo) (pt_id id : ObjId) (bound : Object) (width : Width) (o : Option Object)
+  joined : (at : ℕ) (w : World) (s : State A) (device : DeviceNo) (pt_id id : ObjId) (bound : Object) (width : Width) (o : Option Object) → IsTidy at w → refusal w (event.Attach device pt_id) ≡ None
       → binding_of w.objects device ≡ Some bound
       → width_of w.settings device ≡ Some width
       → automatic_hwpt w.objects bound.file pt_id width ≡ o
       → IsHwptFor w bound.file id o
-      → Shows (grown w device bound.file pt_id id width o) s
+      → (OwnPins (at + 1) (grown w device bound.file pt_id id width o) → Shows (grown w device bound.file pt_id id width o) s)
       → Answers w (event.Attach device pt_id) (reply.Id id) × Shows (changed at w (event.Attach device pt_id) (reply.Id id)) s
-  unfolding changed Answers attached settle
-  joined at w s device pt_id id bound width o binding wide automatic fits shown =
-      let (d, found, same) = width_found (device_of w.settings device) width wide in
-      let fits_here : IsHwptFor w bound.file id (automatic_hwpt w.objects bound.file pt_id width) = subst (IsHwptFor w bound.file id) (sym automatic) fits in
-      let shown_here : Shows (grown w device bound.file pt_id id width (automatic_hwpt w.objects bound.file pt_id width)) s = subst (λ (o : Option Object). Shows (grown w device bound.file pt_id id width o) s) (sym automatic) shown in
-      let P = λ (v : Width). IsHwptFor w bound.file id (automatic_hwpt w.objects bound.file pt_id v) × Shows (grown w device bound.file pt_id id v (automatic_hwpt w.objects bound.file pt_id v)) s in
-      let both : P d.width = subst P (sym same) (fits_here, shown_here) in
-      let Q = λ (o : Option DeviceSettings). IsHwptOf w pt_id id (Some bound) o × Shows (attach_changes w device pt_id id (Some bound) o) s in
-      let of_device : Q (device_of w.settings device) = subst Q (sym found) both in
-      let R = λ (o : Option Object). IsHwptOf w pt_id id o (device_of w.settings device) × Shows (attach_changes w device pt_id id o (device_of w.settings device)) s in
-      let result : R (binding_of w.objects device) = subst R (sym binding) of_device in
-      result
+  joined at w s device pt_id id bound width o tidy none binding wide automatic fits shown =
+      let (answers, is) = is_grown at w device pt_id id bound width o tidy none binding wide automatic fits in
+      let next = keeps_own_pins at w (event.Attach device pt_id) (reply.Id id) none answers (record { pins = tidy.pins; own = tidy.own }) in
+      (answers, subst (λ v. Shows v s) (sym is) (shown (subst (OwnPins (at + 1)) is next)))
 
   -- ---- by a page table that is there
 
@@ -94,23 +128,30 @@ module _ {A : Type 0} where
       → new.attachments.items ≡ with_attachment (record { device = device; file = bound.file; hwpt = id }) s.attachments.items
       → Answers w (event.Attach device pt_id) (reply.Id id) × Shows (changed at w (event.Attach device pt_id) (reply.Id id)) (record s { attachments = new.attachments })
   shows_joined at w s new device pt_id id bound width tidy shows none binding wide automatic added =
-      let binding_w : binding_of w.objects device ≡ Some bound = shows.bindings device ∙ binding in
+      let binding_w : binding_of w.objects device ≡ Some bound = shows.devices.bindings device ∙ binding in
       let (object, found, named) = id_found (automatic_hwpt (objects_in s.objects) bound.file pt_id width) id automatic in
-      let found_w : automatic_hwpt w.objects bound.file pt_id width ≡ Some object = ap (λ (objects : List Object). automatic_hwpt objects bound.file pt_id width) shows.objects ∙ found in
+      let found_w : automatic_hwpt w.objects bound.file pt_id width ≡ Some object = ap (λ (objects : List Object). automatic_hwpt objects bound.file pt_id width) shows.objects.rows ∙ found in
       let paid : all_paid device w.areas ≡ w.areas = pays_none w device tidy.debts (was_unattached w device pt_id bound none binding_w) in
-      joined at w (record s { attachments = new.attachments }) device pt_id id bound width (Some object) binding_w (ap (λ settings. width_of settings device) shows.settings ∙ wide) found_w (sym named) (record {
+      joined at w (record s { attachments = new.attachments }) device pt_id id bound width (Some object) tidy none binding_w (ap (λ settings. width_of settings device) shows.settings ∙ wide) found_w (sym named) (λ next. record {
         settings = shows.settings;
-        objects = shows.objects;
-        proper = shows.proper;
-        areas = λ f i. ap (λ (areas : List Area). areas_of areas f i) paid ∙ shows.areas f i;
-        files = shows.files;
-        bindings = shows.bindings;
-        attachments = ap (with_attachment (record { device = device; file = bound.file; hwpt = id })) shows.attachments ∙ sym added;
-        memory = shows.memory;
-        user_pages = shows.user_pages;
-        pins = all_pinned at w device tidy.pins ∙ shows.pins;
+        objects = record {
+          rows = shows.objects.rows;
+          proper = shows.objects.proper;
+          spaces = λ f i. ap (λ (areas : List Area). areas_of areas f i) paid ∙ shows.objects.spaces f i;
+          files = shows.objects.files;
+        };
+        devices = record {
+          bindings = shows.devices.bindings;
+          attached = ap (with_attachment (record { device = device; file = bound.file; hwpt = id })) shows.devices.attached ∙ sym added;
+        };
+        memory = record {
+          objects = shows.memory.objects;
+          pages = shows.memory.pages;
+          pinned =
+              pins_follow at w s.pins.items tidy.pins shows.memory.pinned (at + 1) (grown w device bound.file pt_id id width (Some object)) next refl s.pins.items
+              (sym (all_pinned w device s.pins.items (only_kept at w s.pins.items tidy.pins shows.memory.pinned)));
+        };
         frames = shows.frames;
-        bytes = shows.bytes;
       })
 
   -- ---- by a new page table
@@ -118,7 +159,7 @@ module _ {A : Type 0} where
   fresh_id : (w : World) (s : State A) (file : FileNo) (id : ObjId) → Shows w s → 0 < id.0 → id.0 < 2 ^ 31 → row_at s.objects file id ≡ None → is_fresh w.objects file id ≡ true
   fresh_id w s file id shows above below free =
       let none : kind_of w.objects file id ≡ None =
-      ap (λ (objects : List Object). kind_of objects file id) shows.objects ∙ kind_of_rows s.objects.rows file id
+      ap (λ (objects : List Object). kind_of objects file id) shows.objects.rows ∙ kind_of_rows s.objects.rows file id
       ∙ ap (λ (o : Option (Row (Held A))). kind_at (option_map (λ (row : Row (Held A)). row.value) o)) free in
       both_true _ _ (between id.0 above below) (ap (λ (o : Option ObjectKind). not (is_some o)) none)
     where
@@ -139,33 +180,40 @@ module _ {A : Type 0} where
       → new.attachments.items ≡ with_attachment (record { device = device; file = bound.file; hwpt = id }) s.attachments.items
       → Answers w (event.Attach device pt_id) (reply.Id id) × Shows (changed at w (event.Attach device pt_id) (reply.Id id)) (record s { objects = new.objects; attachments = new.attachments; pins = new.pins })
   shows_grown at w s new device pt_id id bound width table tidy shows none binding wide automatic same_rows same_files free above below rows files pins added =
-      let binding_w : binding_of w.objects device ≡ Some bound = shows.bindings device ∙ binding in
-      let absent : automatic_hwpt w.objects bound.file pt_id width ≡ None = ap (λ (objects : List Object). automatic_hwpt objects bound.file pt_id width) shows.objects ∙ none_found (automatic_hwpt (objects_in s.objects) bound.file pt_id width) automatic in
+      let binding_w : binding_of w.objects device ≡ Some bound = shows.devices.bindings device ∙ binding in
+      let absent : automatic_hwpt w.objects bound.file pt_id width ≡ None = ap (λ (objects : List Object). automatic_hwpt objects bound.file pt_id width) shows.objects.rows ∙ none_found (automatic_hwpt (objects_in s.objects) bound.file pt_id width) automatic in
       let paid : all_paid device w.areas ≡ w.areas = pays_none w device tidy.debts (was_unattached w device pt_id bound none binding_w) in
       let free_s : row_at s.objects bound.file id ≡ None = ap (λ (rows : List (Row (Held A))). find (is_at bound.file id) rows) (sym same_rows) ∙ free in
       let rows_s : new.objects.rows ≡ inserted (new_row bound.file pt_id id width) s.objects.rows = rows ∙ ap (inserted (new_row bound.file pt_id id width)) same_rows in
       let files_s : new.objects.files ≡ s.objects.files = files ∙ same_files in
       let newly : newly_pinned (objects_in table) bound.file pt_id (areas_at table.rows bound.file pt_id) ≡ newly_pinned w.objects bound.file pt_id (areas_of w.areas bound.file pt_id) =
       ap (λ (rows : List (Row (Held A))). newly_pinned (map object_of rows) bound.file pt_id (areas_at rows bound.file pt_id)) same_rows
-      ∙ ap (λ (objects : List Object). newly_pinned objects bound.file pt_id (areas_at s.objects.rows bound.file pt_id)) (sym shows.objects)
-      ∙ ap (newly_pinned w.objects bound.file pt_id) (sym (shows.areas bound.file pt_id)) in
-      let pins_w : new.pins.items ≡ w.pins ++ filter_map (pin_now w.memory w.user_pages) (newly_pinned w.objects bound.file pt_id (areas_of w.areas bound.file pt_id)) =
-      rw (shows.pins, shows.memory, shows.user_pages, ← newly) pins in
-      joined at w (record s { objects = new.objects; attachments = new.attachments; pins = new.pins }) device pt_id id bound width None binding_w (ap (λ settings. width_of settings device) shows.settings ∙ wide) absent (fresh_id w s bound.file id shows above below free_s) (record {
+      ∙ ap (λ (objects : List Object). newly_pinned objects bound.file pt_id (areas_at s.objects.rows bound.file pt_id)) (sym shows.objects.rows)
+      ∙ ap (newly_pinned w.objects bound.file pt_id) (sym (shows.objects.spaces bound.file pt_id)) in
+      let pins_w : new.pins.items ≡ s.pins.items ++ filter_map (pin_now w.memory w.user_pages) (newly_pinned w.objects bound.file pt_id (areas_of w.areas bound.file pt_id)) =
+      rw (shows.memory.objects, shows.memory.pages, ← newly) pins in
+      joined at w (record s { objects = new.objects; attachments = new.attachments; pins = new.pins }) device pt_id id bound width None tidy none binding_w (ap (λ settings. width_of settings device) shows.settings ∙ wide) absent (fresh_id w s bound.file id shows above below free_s) (λ next. record {
         settings = shows.settings;
-        objects = ap (with_object (hwpt_object bound.file pt_id id width)) shows.objects ∙ sym (objects-inserted (new_row bound.file pt_id id width) s.objects.rows) ∙ ap (map object_of) (sym rows_s);
-        proper = ap (list_all is_proper) rows_s ∙ proper-inserted (new_row bound.file pt_id id width) s.objects.rows refl shows.proper;
-        areas = λ f i. ap (λ (areas : List Area). areas_of areas f i) paid ∙ shows.areas f i ∙ sym (areas-inserted (new_row bound.file pt_id id width) s.objects.rows f i refl free_s) ∙ ap (λ rows. areas_at rows f i) (sym rows_s);
-        files = λ number. rw files_s (shows.files number);
-        bindings = λ d. find-with_object (λ (object : Object). is_bound_as d object.kind) (hwpt_object bound.file pt_id id width) w.objects refl ∙ shows.bindings d;
-        attachments = ap (with_attachment (record { device = device; file = bound.file; hwpt = id })) shows.attachments ∙ sym added;
-        memory = shows.memory;
-        user_pages = shows.user_pages;
-        pins = pins_grown at w device bound.file pt_id id width tidy.pins ∙ sym pins_w;
+        objects = record {
+          rows = ap (with_object (hwpt_object bound.file pt_id id width)) shows.objects.rows ∙ sym (objects-inserted (new_row bound.file pt_id id width) s.objects.rows) ∙ ap (map object_of) (sym rows_s);
+          proper = ap (list_all is_proper) rows_s ∙ proper-inserted (new_row bound.file pt_id id width) s.objects.rows refl shows.objects.proper;
+          spaces = λ f i. ap (λ (areas : List Area). areas_of areas f i) paid ∙ shows.objects.spaces f i ∙ sym (areas-inserted (new_row bound.file pt_id id width) s.objects.rows f i refl free_s) ∙ ap (λ rows. areas_at rows f i) (sym rows_s);
+          files = λ number. rw files_s (shows.objects.files number);
+        };
+        devices = record {
+          bindings = λ d. find-with_object (λ (object : Object). is_bound_as d object.kind) (hwpt_object bound.file pt_id id width) w.objects refl ∙ shows.devices.bindings d;
+          attached = ap (with_attachment (record { device = device; file = bound.file; hwpt = id })) shows.devices.attached ∙ sym added;
+        };
+        memory = record {
+          objects = shows.memory.objects;
+          pages = shows.memory.pages;
+          pinned =
+              pins_follow at w s.pins.items tidy.pins shows.memory.pinned (at + 1) (grown w device bound.file pt_id id width None) next refl new.pins.items
+              (pins_w ∙ sym (pins_grown w device bound.file pt_id id width s.pins.items tidy.own (only_kept at w s.pins.items tidy.pins shows.memory.pinned)));
+        };
         frames = shows.frames;
-        bytes = shows.bytes;
       })
 
   -- a device that isn't bound was refused
   pub never_loose : {X : Type 0} (w : World) (s : State A) (device : DeviceNo) (pt_id : ObjId) → Shows w s → refusal w (event.Attach device pt_id) ≡ None → find (λ object. is_bound_as device object.kind) s.bindings.items ≡ None → X
-  never_loose w s device pt_id shows none is = never_unbound w device pt_id none (shows.bindings device ∙ is)
+  never_loose w s device pt_id shows none is = never_unbound w device pt_id none (shows.devices.bindings device ∙ is)

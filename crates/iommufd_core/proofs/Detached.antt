@@ -1,5 +1,6 @@
 -- An attachment that ends: its page table may go with it, and the pins of its address space with the page table.
 use Rattle.std.proofs.Common.{◌≡◌, ℕ, Bool, true, false, ◌&&◌, ◌||◌, not, eqb, Option, Some, None, List, [], ◌∷◌, Contains, refl, sym, ◌∙◌, ap, arith, inl, inr, ◌⊎◌, zero, suc}
+use Rattle.iofd_words.specs.declared.rows.Pin.{Pin}
 use Rattle.std.specs.List.{filter, list_all, list_any}
 use Rattle.std.proofs.lemmas.Bool.Decides.{nat_tests}
 use Rattle.iofd_words.specs.After.{goes_with}
@@ -7,8 +8,8 @@ use Rattle.iofd_words.specs.Areas.{all_paid, areas_of, is_of}
 use Rattle.iofd_words.specs.Attachments.{has_device_on, ioas_of, ioas_of_attachment}
 use Rattle.iofd_laws.specs.Laws.{have_own_ids}
 use Rattle.iofd_words.specs.Objects.{binding_of, has_hwpt, is_automatic, is_bound_as, is_hwpt_over, is_object, kind_of, without_object}
-use Rattle.iofd_laws.specs.Pinned.{ArePinned, have_own_memory}
-use Rattle.iofd_words.specs.Pins.{ObjectPage, is_page, pinned_pages, settled}
+use Rattle.iofd_laws.specs.Pinned.{have_own_memory}
+use Rattle.iofd_words.specs.Pins.{ObjectPage, is_page, settled, page_of_pin}
 use Rattle.iofd_words.specs.World.{World}
 use Rattle.iofd_words.specs.declared.numbers.DeviceNo.{DeviceNo}
 use Rattle.iofd_words.specs.declared.numbers.FileNo.{FileNo}
@@ -23,7 +24,7 @@ use Rattle.iofd_laws.proofs.Each.{IsIn, of_any}
 use Rattle.iofd_laws.proofs.Found.{find-filter, none_both}
 use Rattle.iofd_laws.proofs.ListTests.{any-filter, false_else}
 use Rattle.iofd_laws.proofs.Named.{file_is, id_is, kind_only}
-use Rattle.iofd_laws.proofs.PageLists.{all_pages}
+use Rattle.iofd_laws.proofs.PageLists.{all_pages, pages_by_area}
 use Rattle.iofd_laws.proofs.PageTables.{hwpt-filter}
 use Rattle.iofd_laws.proofs.Settled.{kept_pins, settled_same}
 use Rattle.iommufd_core.specs.PinLists.{is_idle, is_unpinned}
@@ -99,7 +100,7 @@ bindings_stay objects others a device =
 
 -- ---- paid areas
 
-pub pinned_paid : (objects : List Object) (device : DeviceNo) (areas : List Area) → pinned_pages objects (all_paid device areas) ≡ pinned_pages objects areas
+pub pinned_paid : (objects : List Object) (device : DeviceNo) (areas : List Area) → pages_by_area objects (all_paid device areas) ≡ pages_by_area objects areas
 pinned_paid objects device [] = refl
 pinned_paid objects device (area ∷ areas) = rw (pinned_paid objects device areas) refl
 
@@ -159,12 +160,12 @@ other_stays w others a ioas over file own attached other has =
         contrary o f g m n first second third fails = grind (arith, nat_tests)
 
 -- the pins that stay are those of all other areas
-pub unpinned : (at : ℕ) (w : World) (others : List Attachment) (a : Attachment) (ioas : ObjId) (device : DeviceNo) → ArePinned at w → have_own_ids w.objects ≡ true → ioas_of_attachment w.objects a ≡ Some ioas
-    → settled (pinned_pages w.objects w.areas) (pinned_pages (left_of others a w.objects) (all_paid device w.areas)) w.memory w.user_pages w.pins
-    ≡ filter (λ pin. not (is_unpinned (left_of others a w.objects) a.file ioas (all_paid device (areas_of w.areas a.file ioas)) pin)) w.pins
-unpinned at w others a ioas device pinned own attached =
-    ap (λ pages. settled (pinned_pages w.objects w.areas) pages w.memory w.user_pages w.pins) (pinned_paid left device w.areas ∙ ap (pinned_pages left) (sym (filter_true w.areas)))
-    ∙ kept_pins (λ (area : Area). false) gone w.objects left w.areas w.memory w.user_pages w.pins pinned.own pinned.only (hwpt-filter (λ object. not (goes_with others a object)) w.objects) names
+pub unpinned : (w : World) (others : List Attachment) (a : Attachment) (ioas : ObjId) (device : DeviceNo) (kept : List Pin) → have_own_memory w.areas ≡ true → list_all (λ (pin : Pin). list_any (is_page (page_of_pin pin)) (pages_by_area w.objects w.areas)) kept ≡ true → have_own_ids w.objects ≡ true → ioas_of_attachment w.objects a ≡ Some ioas
+    → settled (pages_by_area w.objects w.areas) (pages_by_area (left_of others a w.objects) (all_paid device w.areas)) w.memory w.user_pages kept
+    ≡ filter (λ pin. not (is_unpinned (left_of others a w.objects) a.file ioas (all_paid device (areas_of w.areas a.file ioas)) pin)) kept
+unpinned w others a ioas device kept memory_own only own attached =
+    ap (λ pages. settled (pages_by_area w.objects w.areas) pages w.memory w.user_pages kept) (pinned_paid left device w.areas ∙ ap (pages_by_area left) (sym (filter_true w.areas)))
+    ∙ kept_pins (λ (area : Area). false) gone w.objects left w.areas w.memory w.user_pages kept memory_own only (hwpt-filter (λ object. not (goes_with others a object)) w.objects) names
   where
     left : List Object
     left = left_of others a w.objects
@@ -200,7 +201,7 @@ unpinned at w others a ioas device pinned own attached =
         let none : in_space area.memory ≡ false = false_else (in_space area.memory) (λ some.
         let (x, among, both) = some_row (λ (x : Area). is_of a.file ioas x && eqb x.memory area.memory) w.areas some in
         let parts = and_true (is_of a.file ioas x) (eqb x.memory area.memory) both in
-        let same = one_memory w.areas x area pinned.own among within parts.1 in
+        let same = one_memory w.areas x area memory_own among within parts.1 in
         clash (is_of a.file ioas area) is (ap (is_of a.file ioas) (sym same) ∙ parts.0)) in
         let has = other_stays w others a ioas area.ioas area.file own attached (turned area.file.0 a.file.0 area.ioas.0 ioas.0 is) had in
         ap (λ b. not (has_hwpt left a.file ioas) && b) (in_space_is area.memory ∙ none)
@@ -214,13 +215,13 @@ unpinned at w others a ioas device pinned own attached =
     names area among had = by_space area (is_of a.file ioas area) refl (in_contained w.areas area among) had
 
 -- no pin goes where the objects stay
-pub all_pinned : (at : ℕ) (w : World) (device : DeviceNo) → ArePinned at w → settled (pinned_pages w.objects w.areas) (pinned_pages w.objects (all_paid device w.areas)) w.memory w.user_pages w.pins ≡ w.pins
-all_pinned at w device pinned =
-    ap (λ pages. settled (pinned_pages w.objects w.areas) pages w.memory w.user_pages w.pins) (pinned_paid w.objects device w.areas)
-    ∙ settled_same pages pages w.memory w.user_pages w.pins same same pinned.only
+pub all_pinned : (w : World) (device : DeviceNo) (kept : List Pin) → list_all (λ (pin : Pin). list_any (is_page (page_of_pin pin)) (pages_by_area w.objects w.areas)) kept ≡ true → settled (pages_by_area w.objects w.areas) (pages_by_area w.objects (all_paid device w.areas)) w.memory w.user_pages kept ≡ kept
+all_pinned w device kept only =
+    ap (λ pages. settled (pages_by_area w.objects w.areas) pages w.memory w.user_pages kept) (pinned_paid w.objects device w.areas)
+    ∙ settled_same pages pages w.memory w.user_pages kept same same only
   where
     pages : List ObjectPage
-    pages = pinned_pages w.objects w.areas
+    pages = pages_by_area w.objects w.areas
 
     same : list_all (λ page. list_any (is_page page) pages) pages ≡ true
     same = all_pages (λ page. list_any (is_page page) pages) pages (λ page within. within)

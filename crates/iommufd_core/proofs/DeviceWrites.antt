@@ -1,5 +1,7 @@
 -- What a device's write is answered, and what it leaves.
-use Rattle.std.proofs.Common.{◌≡◌, ℕ, zero, suc, ◌^◌, ◌<◌, Bool, true, false, cond, ltb, leb, Option, Some, None, List, [], ◌∷◌, ◌++◌, map, Contains, refl, sym, ◌∙◌, ap, subst, arith}
+use Rattle.std.proofs.Common.{◌≡◌, ℕ, zero, suc, ◌^◌, ◌<◌, Bool, true, false, cond, ltb, leb, Option, Some, None, List, [], ◌∷◌, ◌++◌, map, Contains, refl, sym, ◌∙◌, ap, subst, arith, is_some}
+use Rattle.iommufd_core.proofs.FreeFrames.{found_passes}
+use Rattle.std.specs.Option.{option_map}
 use Rattle.std.specs.List.{find, list_all}
 use Rattle.std.proofs.lemmas.List.Folds.{list_all-append}
 use Rattle.std.proofs.lemmas.Bool.Decides.{nat_tests}
@@ -20,7 +22,7 @@ use Rattle.iofd_words.specs.World.{World}
 use Rattle.iofd_words.specs.declared.event.Event.TheVariants as event
 use Rattle.iofd_words.specs.declared.fault.AccessKind.{AccessKind}
 use Rattle.iofd_words.specs.declared.fault.AccessKind.TheVariants.{Write}
-use Rattle.iofd_words.specs.declared.fault.FaultReason.TheVariants.{BeyondWidth}
+use Rattle.iofd_words.specs.declared.fault.FaultReason.TheVariants.{BeyondWidth, WriteDenied}
 use Rattle.iofd_words.specs.declared.numbers.DeviceNo.{DeviceNo}
 use Rattle.iofd_words.specs.declared.numbers.FrameNo.{FrameNo}
 use Rattle.iofd_words.specs.declared.numbers.Iova.{Iova}
@@ -30,24 +32,60 @@ use Rattle.iofd_words.specs.declared.rows.Attachment.{Attachment}
 use Rattle.iofd_words.specs.declared.rows.Phase.{Phase}
 use Rattle.iofd_words.specs.declared.rows.Phase.TheVariants.{Live, Leaving}
 use Rattle.iofd_words.specs.declared.rows.Pin.{Pin}
-use Rattle.iommufd_core.proofs.PinnedAccess.{some_outcome, found_holds}
-use Rattle.iommufd_core.specs.Choice.{IsChosen, MayUse, last_of}
+use Rattle.iofd_laws.proofs.PinnedAccess.{some_outcome}
+use Rattle.iofd_laws.proofs.Found.{found_passes as found_holds}
+use Rattle.iommufd_core.specs.Choice.{IsChosen, MayUse, is_denial, without_cache, first_of}
 use Rattle.iommufd_core.specs.Outcomes.{given_outcome}
 use Rattle.iommufd_core.specs.Step.{IsTidy}
 
--- ---- the last of a list
+-- ---- what is given without a cached frame
 
-pub last_map : {X Y : Type 0} (f : X → Y) (xs : List X) (x : X) → last_of xs ≡ Some x → last_of (map f xs) ≡ Some (f x)
-last_map f [] x is = cc
-last_map f (y ∷ []) x is = let same : y ≡ x = cc in ap (λ z. Some (f z)) same
-last_map f (y ∷ z ∷ xs) x is = last_map f (z ∷ xs) x is
+found_contained : {X : Type 0} (p : X → Bool) (xs : List X) (x : X) → find p xs ≡ Some x → Contains xs x
+found_contained p [] x found = cc
+found_contained p (y ∷ xs) x found = by_test (p y) found (λ later. found_contained p xs x later)
+  where
+    by_test : (b : Bool) → cond b (Some y) (find p xs) ≡ Some x → (find p xs ≡ Some x → Contains xs x) → Contains (y ∷ xs) x
+    by_test true found later = let same : y ≡ x = cc in (0, omega arith, same)
+    by_test false found later = let rest = later found in (suc rest.0, omega (arith, rest.1), rest.2)
 
-pub last_contained : {X : Type 0} (xs : List X) (x : X) → last_of xs ≡ Some x → Contains xs x
-last_contained [] x is = cc
-last_contained (y ∷ []) x is = let same : y ≡ x = cc in (0, omega arith, same)
-last_contained (y ∷ z ∷ xs) x is = let rest = last_contained (z ∷ xs) x is in (suc rest.0, omega (arith, rest.1), rest.2)
+-- the denial among those that may come of it, or else the first
+pub record IsGiven (os : List Outcome) (o : Outcome) : Type 0 where
+  pub uncached : without_cache os ≡ Some o
+  pub lawful : Contains os o
+  pub denial : is_some (find is_denial os) ≡ true → is_denial o ≡ true
 
-contained_map : {X Y : Type 0} (f : X → Y) (xs : List X) (x : X) → Contains xs x → Contains (map f xs) (f x)
+pub given_is : (os : List Outcome) (o : Outcome) → (os ≡ [] → ⊥) → o ≡ given_outcome None os → IsGiven os o
+given_is os o some is = by_denial (find is_denial os) refl
+  where
+    told : (x : Option Outcome) → without_cache os ≡ x → o ≡ elim x [ Some outcome ↦ outcome | None ↦ Denied WriteDenied ]
+    told x uncached = is ∙ ap (λ (y : Option Outcome). elim y as (λ _. Outcome) [ Some outcome ↦ outcome | None ↦ Denied WriteDenied ]) uncached
+
+    by_first : (xs : List Outcome) → os ≡ xs → find is_denial os ≡ None → IsGiven os o
+    by_first [] same none = absurd (some same)
+    by_first (x ∷ xs) same none =
+        let uncached : without_cache os ≡ Some x = ap (λ (found : Option Outcome). elim found as (λ _. Option Outcome) [ Some denial ↦ Some denial | None ↦ first_of os ]) none ∙ ap first_of same in
+        let here : o ≡ x = told (Some x) uncached in
+        record {
+          uncached = uncached ∙ ap Some (sym here);
+          lawful = subst (λ l. Contains l o) (sym same) (0, omega arith, sym here);
+          denial = λ has. absurd (never (ap (λ (y : Option Outcome). is_some y) (sym none) ∙ has));
+        }
+      where
+        never : false ≡ true → ⊥
+        never is = cc
+
+    by_denial : (x : Option Outcome) → find is_denial os ≡ x → IsGiven os o
+    by_denial None none = by_first os refl none
+    by_denial (Some d) found =
+        let uncached : without_cache os ≡ Some d = ap (λ (first : Option Outcome). elim first as (λ _. Option Outcome) [ Some denial ↦ Some denial | None ↦ first_of os ]) found in
+        let here : o ≡ d = told (Some d) uncached in
+        record {
+          uncached = uncached ∙ ap Some (sym here);
+          lawful = rw here (found_contained is_denial os d found);
+          denial = λ has. rw here (found_passes is_denial os d found);
+        }
+
+pub contained_map : {X Y : Type 0} (f : X → Y) (xs : List X) (x : X) → Contains xs x → Contains (map f xs) (f x)
 contained_map f [] x has = absurd (omega (arith, has.1))
 contained_map f (y ∷ xs) x (zero, below, same) = (0, omega arith, ap f same)
 contained_map f (y ∷ xs) x (suc k, below, same) = let rest = contained_map f xs x (k, omega (arith, below), same) in (suc rest.0, omega (arith, rest.1), rest.2)
@@ -57,20 +95,14 @@ holds_of_contained p [] x all has = absurd (omega (arith, has.1))
 holds_of_contained p (y ∷ xs) x all (zero, below, same) = let parts = and_true (p y) (list_all p xs) all in subst (λ z. p z ≡ true) same parts.0
 holds_of_contained p (y ∷ xs) x all (suc k, below, same) = let parts = and_true (p y) (list_all p xs) all in holds_of_contained p xs x parts.1 (k, omega (arith, below), same)
 
-pub given_last : (os : List Outcome) (o : Outcome) → (os ≡ [] → ⊥) → o ≡ given_outcome None os → last_of os ≡ Some o
-given_last [] o some is = absurd (some refl)
-given_last (x ∷ []) o some is = ap Some (sym is)
-given_last (x ∷ y ∷ os) o some is = given_last (y ∷ os) o (λ none. cc) is
-
 -- ---- the answer
 
 pub chosen_answer : (at : ℕ) (w : World) (device : DeviceNo) (iova : Iova) (bytes : List ℕ) (via : Option FrameNo) (o : Outcome) → IsTidy at w → o ≡ given_outcome via (outcomes w device iova.0 Write) → MayUse w (event.DeviceWrite device iova bytes) via
     → Contains (outcomes w device iova.0 Write) o × Answers w (event.DeviceWrite device iova bytes) (write_reply w device iova.0 o) × IsChosen w (event.DeviceWrite device iova bytes) via (write_reply w device iova.0 o)
 unfolding Answers
 chosen_answer at w device iova bytes None o tidy is may =
-    let last = given_last (outcomes w device iova.0 Write) o (some_outcome at w device iova.0 Write tidy) is in
-    let has = last_contained (outcomes w device iova.0 Write) o last in
-    (has, contained_map (write_reply w device iova.0) (outcomes w device iova.0 Write) o has, last_map (write_reply w device iova.0) (outcomes w device iova.0 Write) o last)
+    let given = given_is (outcomes w device iova.0 Write) o (some_outcome at w device iova.0 Write tidy.pins tidy.fit) is in
+    (given.lawful, contained_map (write_reply w device iova.0) (outcomes w device iova.0 Write) o given.lawful, ap (option_map (write_reply w device iova.0)) given.uncached)
 chosen_answer at w device iova bytes (Some frame) o tidy is may =
     let has = subst (Contains (outcomes w device iova.0 Write)) (sym is) may in
     (has, contained_map (write_reply w device iova.0) (outcomes w device iova.0 Write) o has, ap (write_reply w device iova.0) is)
@@ -93,12 +125,12 @@ module _ (w : World) (pin_frames : list_all (λ (pin : Pin). ltb pin.frame.0 w.s
       by_found (Some pin) found =
           let same : Some pin.frame ≡ Some frame = rw (found, pinned_frame) at pinned in
           let is : pin.frame ≡ frame = cc in
-          rw (← is) (found_holds (λ (p : Pin). ltb p.frame.0 w.settings.pool) (λ (p : Pin). is_page (page_of_pin p) page) w.pins pin pin_frames found)
+          rw (← is) (found_holds (λ (p : Pin). ltb p.frame.0 w.settings.pool) (λ (p : Pin). is_page (page_of_pin p) page) w.pins pin pin_frames found).0
 
-  passing_in_pool : (area : Area) (address : ℕ) → list_all (is_in_pool w.settings.pool) (passing w.pins area address) ≡ true
+  passing_in_pool : (area : Area) (address : ℕ) → list_all (is_in_pool w.settings.pool) (passing (pinned_frame w.pins (page_in area address))) ≡ true
   passing_in_pool area address = by_frame (pinned_frame w.pins (page_in area address)) refl
     where
-      by_frame : (o : Option FrameNo) → pinned_frame w.pins (page_in area address) ≡ o → list_all (is_in_pool w.settings.pool) (passing w.pins area address) ≡ true
+      by_frame : (o : Option FrameNo) → pinned_frame w.pins (page_in area address) ≡ o → list_all (is_in_pool w.settings.pool) (passing (pinned_frame w.pins (page_in area address))) ≡ true
       by_frame None pinned = rw (pinned, passing) refl
       by_frame (Some frame) pinned = rw (pinned, passing) (both_true _ _ (pinned_in_pool (page_in area address) frame pinned) refl)
 
@@ -110,12 +142,12 @@ module _ (w : World) (pin_frames : list_all (λ (pin : Pin). ltb pin.frame.0 w.s
       by_test true = list_all-append (is_in_pool w.settings.pool) pass (Denied reason ∷ []) ∙ both_true _ _ all refl
       by_test false = refl
 
-  area_in_pool : (device : DeviceNo) (address : ℕ) (kind : AccessKind) (o : Option Area) → list_all (is_in_pool w.settings.pool) (at_area w.pins device address kind o) ≡ true
+  area_in_pool : (device : DeviceNo) (address : ℕ) (kind : AccessKind) (o : Option Area) → list_all (is_in_pool w.settings.pool) (at_area (pinned_frame w.pins) device address kind o) ≡ true
   area_in_pool device address kind None = refl
   area_in_pool device address kind (Some area) = by_right (has_right area.rights kind)
     where
-      by_right : (b : Bool) → list_all (is_in_pool w.settings.pool) (cond b (by_phase device area.phase (passing w.pins area address) (Denied (denied_by kind) ∷ [])) (Denied (denied_by kind) ∷ [])) ≡ true
-      by_right true = phase_in_pool device area.phase (passing w.pins area address) (denied_by kind) (passing_in_pool area address)
+      by_right : (b : Bool) → list_all (is_in_pool w.settings.pool) (cond b (by_phase device area.phase (passing (pinned_frame w.pins (page_in area address))) (Denied (denied_by kind) ∷ [])) (Denied (denied_by kind) ∷ [])) ≡ true
+      by_right true = phase_in_pool device area.phase (passing (pinned_frame w.pins (page_in area address))) (denied_by kind) (passing_in_pool area address)
       by_right false = refl
 
   translated_in_pool : (device : DeviceNo) (address : ℕ) (kind : AccessKind) (a : Attachment) → list_all (is_in_pool w.settings.pool) (translated (view w) device address kind a) ≡ true

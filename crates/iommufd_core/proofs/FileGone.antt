@@ -1,19 +1,25 @@
 -- A file that was closed: all its objects, areas and attachments are gone.
-use Rattle.std.proofs.Common.{◌≡◌, ◌≢◌, ℕ, zero, suc, ◌-◌, ◌<◌, Vec, Bool, true, false, cond, ◌&&◌, ◌||◌, not, eqb, ltb, is_some, Option, Some, None, List, [], ◌∷◌, ◌++◌, Contains, map, get_or, set, refl, sym, ◌∙◌, ap, arith, ◌⊎◌, inl, inr, get_or-set_other}
+use Rattle.std.proofs.Common.{◌≡◌, ◌≢◌, ℕ, zero, suc, ◌-◌, ◌<◌, Vec, Bool, true, false, cond, ◌&&◌, ◌||◌, not, eqb, ltb, is_some, Option, Some, None, List, [], ◌∷◌, ◌++◌, Contains, map, get_or, set, refl, sym, ◌∙◌, ap, arith, ◌⊎◌, inl, inr, get_or-set_other, ◌+◌}
+use Rattle.iommufd_core.proofs.PinsKept.{only_kept, pins_follow}
+use Rattle.iofd_laws.proofs.NotRefused.{close_passed, passes}
+use Rattle.iofd_laws.proofs.KeepsOwnMemory.{keeps_own_pins}
+use Rattle.iofd_words.specs.Answers.{Answers}
+use Rattle.iofd_laws.proofs.PageLists.{pages_by_area}
 use Rattle.std.specs.List.{find, filter, list_all, list_any}
 use Rattle.std.proofs.lemmas.Bool.{eqb-true}
 use Rattle.std.proofs.lemmas.Bool.Decides.{nat_tests}
 use Rattle.std.proofs.lemmas.List.Folds.{list_any-append}
-use Rattle.iofd_words.specs.After.{settle, without_areas}
+use Rattle.iofd_words.specs.After.{settle, without_areas, changed}
 use Rattle.iofd_words.specs.Areas.{areas_of, is_of}
-use Rattle.iofd_words.specs.Checks.{checks, refusal}
+use Rattle.iofd_words.specs.Checks.{refusal}
 use Rattle.iofd_words.specs.Files as files
 use Rattle.iofd_laws.specs.Laws.{have_own_ids}
 use Rattle.iofd_words.specs.Objects.{has_hwpt, is_bound_as, is_bound_device, is_object, objects_of}
-use Rattle.iofd_words.specs.Pins.{pinned_pages, settled}
+use Rattle.iofd_words.specs.Pins.{settled}
 use Rattle.iofd_words.specs.View.{view}
 use Rattle.iofd_words.specs.World.{World}
 use Rattle.iofd_words.specs.declared.event.Event.TheVariants as event
+use Rattle.iofd_words.specs.declared.reply.Reply.TheVariants as reply
 use Rattle.iofd_words.specs.declared.numbers.DeviceNo.{DeviceNo}
 use Rattle.iofd_words.specs.declared.numbers.FileNo.{FileNo}
 use Rattle.iofd_words.specs.declared.numbers.ObjId.{ObjId}
@@ -30,7 +36,6 @@ use Rattle.iofd_laws.proofs.Found.{all_filter, find-filter}
 use Rattle.iofd_laws.proofs.ListTests.{alike, any-filter, any_weaker, none_stronger}
 use Rattle.iofd_laws.proofs.Named.{file_is}
 use Rattle.iofd_laws.proofs.PageTables.{hwpt-filter}
-use Rattle.iofd_laws.proofs.Runs.{tests_false}
 use Rattle.iofd_laws.proofs.Settled.{kept_memory, kept_pins, named_by_area}
 use Rattle.iommufd_core.proofs.ObjectsGone.{device_rows, some_in}
 use Rattle.iommufd_core.specs.Held.{is_proper, areas_at, areas_in, kind_in, object_of, objects_in, table_kind}
@@ -216,20 +221,14 @@ module _ {A : Type 0} where
 
   module _ (at : ℕ) (w : World) (s : State A) (file : FileNo) (tidy : IsTidy at w) (shows : Shows w s) (none : refusal w (event.Close file) ≡ None) where
     no_device : list_any (λ (object : Object). is_bound_device object.kind) (objects_of w.objects file) ≡ false
-    unfolding refusal checks
-    no_device = tests_false (checks (view w) (event.Close file)) 1 none
+    no_device = (close_passed (view w) file (passes w (event.Close file) none)).no_device
 
     opened : is_open s.objects file ≡ true
-    unfolding refusal checks
-    opened = shows.files file ∙ not_false_true _ (tests_false (checks (view w) (event.Close file)) 0 none)
-      where
-        not_false_true : (b : Bool) → not b ≡ false → b ≡ true
-        not_false_true true is = refl
-        not_false_true false is = cc
+    opened = shows.objects.files file ∙ (close_passed (view w) file (passes w (event.Close file) none)).opened
 
     may_close : close_refusal s.objects file ≡ None
     may_close =
-        let no = held_open s.objects.rows file shows.proper ∙ sym (device_rows s.objects.rows file) ∙ ap (λ (l : List Object). list_any (λ object. is_bound_device object.kind) (objects_of l file)) (sym shows.objects) ∙ no_device in
+        let no = held_open s.objects.rows file shows.objects.proper ∙ sym (device_rows s.objects.rows file) ∙ ap (λ (l : List Object). list_any (λ object. is_bound_device object.kind) (objects_of l file)) (sym shows.objects.rows) ∙ no_device in
         rw (opened, no) refl
 
     -- the same files are open, but for this one
@@ -237,7 +236,7 @@ module _ {A : Type 0} where
     files_left number =
         let above : 0 < file.0 = positive file.0 (and_true (ltb 0 file.0) _ opened).0 in
         open_after s.objects.files file.0 number.0 above
-        ∙ ap (λ b. b && not (eqb file.0 number.0)) (shows.files number)
+        ∙ ap (λ b. b && not (eqb file.0 number.0)) (shows.objects.files number)
         ∙ both_closed (is_some (files.user_of w.settings number)) (list_any (λ f. eqb f.0 number.0) w.closed) (eqb file.0 number.0)
         ∙ ap (λ b. is_some (files.user_of w.settings number) && not b) (sym (list_any-append (λ (f : FileNo). eqb f.0 number.0) w.closed (file ∷ [])))
       where
@@ -263,15 +262,15 @@ module _ {A : Type 0} where
 
     held_names : (area : Area) → Contains w.areas area → holds_memory (rows_of s.objects file) area.memory ≡ eqb area.file.0 file.0
     held_names area within =
-        held_by_file w.areas s.objects.rows file area.memory (ap have_own_ids (sym shows.objects) ∙ tidy.ids) shows.areas
-        ∙ named_by_area (λ (a : Area). eqb a.file.0 file.0) w.areas area tidy.pins.own within
+        held_by_file w.areas s.objects.rows file area.memory (ap have_own_ids (sym shows.objects.rows) ∙ tidy.ids) shows.objects.spaces
+        ∙ named_by_area (λ (a : Area). eqb a.file.0 file.0) w.areas area tidy.own within
 
     memory_left : filter (λ (m : MemoryObject). list_any (λ (area : Area). eqb area.memory m.number && not (eqb area.file.0 file.0)) w.areas) w.memory ≡ without_memory (holds_memory (rows_of s.objects file)) w.memory
-    memory_left = kept_memory (λ (a : Area). eqb a.file.0 file.0) (holds_memory (rows_of s.objects file)) w.areas w.memory tidy.pins.own tidy.pins.used held_names
+    memory_left = kept_memory (λ (a : Area). eqb a.file.0 file.0) (holds_memory (rows_of s.objects file)) w.areas w.memory tidy.own tidy.pins.used held_names
 
-    pins_left : (memory : List MemoryObject) → settled (pinned_pages w.objects w.areas) (pinned_pages (filter (λ (o : Object). not (eqb o.file.0 file.0)) w.objects) (filter (λ (area : Area). not (eqb area.file.0 file.0)) w.areas)) memory w.user_pages w.pins ≡ without_pins (holds_memory (rows_of s.objects file)) w.pins
+    pins_left : (memory : List MemoryObject) → settled (pages_by_area w.objects w.areas) (pages_by_area (filter (λ (o : Object). not (eqb o.file.0 file.0)) w.objects) (filter (λ (area : Area). not (eqb area.file.0 file.0)) w.areas)) memory w.user_pages s.pins.items ≡ without_pins (holds_memory (rows_of s.objects file)) s.pins.items
     pins_left memory =
-        kept_pins (λ (a : Area). eqb a.file.0 file.0) (holds_memory (rows_of s.objects file)) w.objects (filter (λ (o : Object). not (eqb o.file.0 file.0)) w.objects) w.areas memory w.user_pages w.pins tidy.pins.own tidy.pins.only
+        kept_pins (λ (a : Area). eqb a.file.0 file.0) (holds_memory (rows_of s.objects file)) w.objects (filter (λ (o : Object). not (eqb o.file.0 file.0)) w.objects) w.areas memory w.user_pages s.pins.items tidy.own (only_kept at w s.pins.items tidy.pins shows.memory.pinned)
         (λ f i has. hwpt-filter (λ (o : Object). not (eqb o.file.0 file.0)) w.objects f i has)
         (λ area within has. held_names area within ∙ names area has (eqb area.file.0 file.0) refl)
       where
@@ -283,27 +282,27 @@ module _ {A : Type 0} where
         → attachments.items ≡ filter (λ (a : Attachment). not (eqb a.file.0 file.0)) s.attachments.items
         → memory.items ≡ without_memory (holds_memory (rows_of s.objects file)) s.memory.items
         → pins.items ≡ without_pins (holds_memory (rows_of s.objects file)) s.pins.items
-        → Shows
-        (settle w (record (without_areas (λ area. eqb area.file.0 file.0) w) {
-          objects = filter (λ (o : Object). not (eqb o.file.0 file.0)) w.objects;
-          attachments = filter (λ (a : Attachment). not (eqb a.file.0 file.0)) w.attachments;
-          closed = w.closed ++ file ∷ [];
-        }))
-        (record s { objects = table; attachments = attachments; memory = memory; pins = pins })
-    unfolding settle without_areas
+        → Shows (changed at w (event.Close file) reply.Done) (record s { objects = table; attachments = attachments; memory = memory; pins = pins })
+    unfolding changed settle without_areas Answers
     shows_closed table attachments memory pins closes detached dropped unpinned =
         let is = closes may_close in
+        let next = keeps_own_pins at w (event.Close file) reply.Done none tt (record { pins = tidy.pins; own = tidy.own }) in
         record {
           settings = shows.settings;
-          objects = ap (filter (λ (o : Object). not (eqb o.file.0 file.0))) shows.objects ∙ sym (objects-closed s.objects.rows file) ∙ ap objects_in (sym is);
-          proper = rw is (all_filter is_proper (λ row. not (is_of_file file row)) s.objects.rows shows.proper);
-          areas = λ f i. areas-closed w.areas s.objects.rows file shows.areas f i ∙ ap (λ (t : Table (Held A)). areas_at t.rows f i) (sym is);
-          files = λ number. ap (λ (t : Table (Held A)). is_open t number) is ∙ files_left number;
-          bindings = λ device. bound_left device ∙ shows.bindings device;
-          attachments = ap (filter (λ (a : Attachment). not (eqb a.file.0 file.0))) shows.attachments ∙ sym detached;
-          memory = memory_left ∙ ap (without_memory (holds_memory (rows_of s.objects file))) shows.memory ∙ sym dropped;
-          user_pages = shows.user_pages;
-          pins = pins_left _ ∙ ap (without_pins (holds_memory (rows_of s.objects file))) shows.pins ∙ sym unpinned;
+          objects = record {
+            rows = ap (filter (λ (o : Object). not (eqb o.file.0 file.0))) shows.objects.rows ∙ sym (objects-closed s.objects.rows file) ∙ ap objects_in (sym is);
+            proper = rw is (all_filter is_proper (λ row. not (is_of_file file row)) s.objects.rows shows.objects.proper);
+            spaces = λ f i. areas-closed w.areas s.objects.rows file shows.objects.spaces f i ∙ ap (λ (t : Table (Held A)). areas_at t.rows f i) (sym is);
+            files = λ number. ap (λ (t : Table (Held A)). is_open t number) is ∙ files_left number;
+          };
+          devices = record {
+            bindings = λ device. bound_left device ∙ shows.devices.bindings device;
+            attached = ap (filter (λ (a : Attachment). not (eqb a.file.0 file.0))) shows.devices.attached ∙ sym detached;
+          };
+          memory = record {
+            objects = memory_left ∙ ap (without_memory (holds_memory (rows_of s.objects file))) shows.memory.objects ∙ sym dropped;
+            pages = shows.memory.pages;
+            pinned = pins_follow at w s.pins.items tidy.pins shows.memory.pinned (at + 1) (changed at w (event.Close file) reply.Done) next refl pins.items (unpinned ∙ sym (pins_left _));
+          };
           frames = shows.frames;
-          bytes = shows.bytes;
         }

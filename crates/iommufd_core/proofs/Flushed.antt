@@ -62,7 +62,7 @@ module _ {A : Type 0} where
   -- ---- what is kept
 
   pub orderly : (at : ℕ) (w : World) (s : State A) → IsTidy at w → Shows w s → IsOrderly s.objects
-  orderly at w s tidy shows = record { proper = shows.proper; ids = rw shows.objects at tidy.ids }
+  orderly at w s tidy shows = record { proper = shows.objects.proper; ids = rw shows.objects.rows at tidy.ids }
 
   -- the areas of the device's address space are paid: so are all areas
   pub areas_paid : (w : World) (s : State A) (device : DeviceNo) (file : FileNo) (ioas : ObjId) (table : Table (Held A)) → DebtsAttached w → Shows w s
@@ -70,7 +70,7 @@ module _ {A : Type 0} where
       → HasAreas file ioas (all_paid device (areas_at s.objects.rows file ioas)) s.objects table
       → (f : FileNo) (i : ObjId) → areas_of (all_paid device w.areas) f i ≡ areas_at table.rows f i
   areas_paid w s device file ioas table debts shows space has f i =
-      let space_of_w : space_of w.objects (attachment_of w.attachments device) ≡ Some (file, ioas) = rw (shows.objects, shows.attachments) space in
+      let space_of_w : space_of w.objects (attachment_of w.attachments device) ≡ Some (file, ioas) = rw (shows.objects.rows, shows.devices.attached) space in
       let to = attached_to w.objects (attachment_of w.attachments device) file ioas space_of_w in
       by_test (is_space file ioas f i) refl to
     where
@@ -79,10 +79,10 @@ module _ {A : Type 0} where
           let parts = and_true (eqb f.0 file.0) (eqb i.0 ioas.0) is in
           let of_file = file_is f file parts.0 in
           let of_id = id_is i ioas parts.1 in
-          rw (of_file, of_id) (paid_areas_of device w.areas file ioas ∙ ap (all_paid device) (shows.areas file ioas) ∙ sym has.here)
+          rw (of_file, of_id) (paid_areas_of device w.areas file ioas ∙ ap (all_paid device) (shows.objects.spaces file ioas) ∙ sym has.here)
       by_test false is to =
           pays_own w device to.a ioas debts to.found to.over f i (λ same other. differ (eqb f.0 file.0) (eqb i.0 ioas.0) is (eqb_is f.0 file.0 (same ∙ ap (λ (n : FileNo). n.0) to.of_file)) (eqb_is i.0 ioas.0 other))
-          ∙ shows.areas f i ∙ sym (has.others f i is)
+          ∙ shows.objects.spaces f i ∙ sym (has.others f i is)
         where
           eqb_is : (a b : ℕ) → a ≡ b → eqb a b ≡ true
           eqb_is a b is = grind (arith, nat_tests)
@@ -99,22 +99,20 @@ module _ {A : Type 0} where
       let has = paid (orderly at w s tidy shows) in
       record {
         settings = shows.settings;
-        objects = shows.objects ∙ sym has.objects;
-        proper = has.proper;
-        areas = areas_paid w s device file ioas table tidy.debts shows space has;
-        files = λ number. rw has.files (shows.files number);
-        bindings = shows.bindings;
-        attachments = shows.attachments;
+        objects = record {
+          rows = shows.objects.rows ∙ sym has.objects;
+          proper = has.proper;
+          spaces = areas_paid w s device file ioas table tidy.debts shows space has;
+          files = λ number. rw has.files (shows.objects.files number);
+        };
+        devices = shows.devices;
         memory = shows.memory;
-        user_pages = shows.user_pages;
-        pins = shows.pins;
         frames = shows.frames;
-        bytes = shows.bytes;
       }
 
   -- a device that isn't attached owes nothing
   pub shows_unattached : (at : ℕ) (w : World) (s : State A) (device : DeviceNo) → IsTidy at w → Shows w s → space_of (objects_in s.objects) (attachment_of s.attachments.items device) ≡ None → Shows (record w { areas = all_paid device w.areas }) s
   shows_unattached at w s device tidy shows none =
-      let alone : space_of w.objects (attachment_of w.attachments device) ≡ None = rw (shows.objects, shows.attachments) none in
+      let alone : space_of w.objects (attachment_of w.attachments device) ≡ None = rw (shows.objects.rows, shows.devices.attached) none in
       let same = pays_none w device tidy.debts (unattached w device tidy.debts alone) in
       rw same shows

@@ -1,18 +1,19 @@
 -- The frame that a user's new page gets.
 use Rattle.std.proofs.Common.{◌≡◌, ◌≤◌, ◌<◌, ℕ, zero, suc, ◌+◌, Bool, true, false, ◌&&◌, ◌||◌, cond, not, eqb, ltb, Option, Some, None, is_some, List, [], ◌∷◌, refl, sym, ◌∙◌, ap, subst, arith, length, take, take_all, get_or}
-use Rattle.std.specs.List.{find, list_any, range_with_len}
+use Rattle.std.proofs.lemmas.List.Sums.{sum_by-cons}
+use Rattle.std.specs.List.{count_by, find, list_any, range_with_len}
 use Rattle.std.proofs.lemmas.Bool.{eqb-true}
 use Rattle.std.proofs.lemmas.List.Folds.{list_any_more}
 use Rattle.frame_memory.specs.FreeMap.{IsLeast, has_frame}
 use Rattle.std.specs.Option.{option_map}
 use Rattle.std.proofs.lemmas.Bool.Decides.{nat_tests}
 use Rattle.iofd_laws.proofs.Bools.{and_true}
-use Rattle.iofd_laws.proofs.OwnIds.{any_found}
-use Rattle.iofd_words.specs.Frames.{is_free, is_reached, has_free}
+use Rattle.iofd_words.specs.Frames.{free_count, is_free, is_reached}
 use Rattle.iofd_words.specs.Limits.{first_outside}
 use Rattle.iofd_words.specs.Settings.{Settings, is_between}
 use Rattle.iofd_words.specs.declared.numbers.FrameNo.{FrameNo}
 use Rattle.iofd_words.specs.declared.rows.Pin.{Pin}
+use Rattle.iofd_words.specs.declared.rows.TableFrame.{TableFrame}
 use Rattle.iofd_words.specs.declared.rows.UserPage.{UserPage}
 use Rattle.iommufd_core.specs.Pages.{free_frame}
 
@@ -60,32 +61,49 @@ module _ {X : Type 0} (number : X → ℕ) (f : ℕ) where
 
 -- ---- the frame that is found
 
+no_table : (below pages pins : Bool) → (below && not pages) && not pins ≡ below && not (pages || pins || false)
+no_table true true pins = refl
+no_table true false true = refl
+no_table true false false = refl
+no_table false pages pins = refl
+
 module _ (pool : ℕ) (pages : List UserPage) (pins : List Pin) where
-  -- what is left of the frames below the pool's end, without those of pages and of pins, is what is free
+  -- what is left of the frames below the pool's end, without those of pages and of pins, is what is free where no frame holds a table
   pub left_free : (all some free : List ℕ) → ((f : ℕ) → has_frame all f ≡ ltb f pool)
       → ((f : ℕ) → has_frame some f ≡ has_frame all f && not (list_any (λ (p : UserPage). eqb p.frame.0 f) pages))
       → ((f : ℕ) → has_frame free f ≡ has_frame some f && not (list_any (λ (pin : Pin). eqb pin.frame.0 f) pins))
-      → (f : ℕ) → has_frame free f ≡ is_free pool pages pins f
+      → (f : ℕ) → has_frame free f ≡ is_free pool pages pins [] f
   left_free all some free below without_pages without_pins f =
       without_pins f ∙ ap (λ b. b && not (list_any (λ (pin : Pin). eqb pin.frame.0 f) pins)) (without_pages f ∙ ap (λ b. b && not (list_any (λ (p : UserPage). eqb p.frame.0 f) pages)) (below f))
-      ∙ both_left (ltb f pool) (list_any (λ (p : UserPage). eqb p.frame.0 f) pages) (list_any (λ (pin : Pin). eqb pin.frame.0 f) pins)
+      ∙ no_table (ltb f pool) (list_any (λ (p : UserPage). eqb p.frame.0 f) pages) (list_any (λ (pin : Pin). eqb pin.frame.0 f) pins)
 
-  pub first_free : (free : List ℕ) (frame : ℕ) → ((f : ℕ) → has_frame free f ≡ is_free pool pages pins f) → IsLeast free frame → find (is_free pool pages pins) (range_with_len 0 pool) ≡ Some frame
+  pub first_free : (free : List ℕ) (frame : ℕ) → ((f : ℕ) → has_frame free f ≡ is_free pool pages pins [] f) → IsLeast free frame → find (is_free pool pages pins []) (range_with_len 0 pool) ≡ Some frame
   first_free free frame is least =
-      let passes : is_free pool pages pins frame ≡ true = sym (is frame) ∙ least.there in
-      let within = and_true (ltb frame pool) (not (is_reached pages pins frame)) passes in
-      found_first (is_free pool pages pins) 0 pool frame (omega arith) (search (within.0, arith, nat_tests)) passes (λ n below. sym (is n) ∙ least.below n below)
+      let passes : is_free pool pages pins [] frame ≡ true = sym (is frame) ∙ least.there in
+      let within = and_true (ltb frame pool) (not (is_reached pages pins [] frame)) passes in
+      found_first (is_free pool pages pins []) 0 pool frame (omega arith) (search (within.0, arith, nat_tests)) passes (λ n below. sym (is n) ∙ least.below n below)
 
-  pub none_free : (free : List ℕ) → ((f : ℕ) → has_frame free f ≡ is_free pool pages pins f) → ((f : ℕ) → has_frame free f ≡ false) → find (is_free pool pages pins) (range_with_len 0 pool) ≡ None
-  none_free free is none = none_found (is_free pool pages pins) 0 pool (λ f. sym (is f) ∙ none f)
+  pub none_free : (free : List ℕ) → ((f : ℕ) → has_frame free f ≡ is_free pool pages pins [] f) → ((f : ℕ) → has_frame free f ≡ false) → find (is_free pool pages pins []) (range_with_len 0 pool) ≡ None
+  none_free free is none = none_found (is_free pool pages pins []) 0 pool (λ f. sym (is f) ∙ none f)
 
-  some_number : (o : Option ℕ) → is_some {T = FrameNo} (elim o [ Some frame ↦ Some (record { 0 = frame }) | None ↦ None ]) ≡ is_some o
-  some_number None = refl
-  some_number (Some frame) = refl
+some_number : (o : Option ℕ) → is_some {T = FrameNo} (elim o [ Some frame ↦ Some (record { 0 = frame }) | None ↦ None ]) ≡ is_some o
+some_number None = refl
+some_number (Some frame) = refl
 
-  -- one is found where there is one
-  pub has_free_frame : has_free pool pages pins ≡ is_some (free_frame pool pages pins)
-  has_free_frame = any_found (is_free pool pages pins) (range_with_len 0 pool) ∙ sym (some_number (find (is_free pool pages pins) (range_with_len 0 pool)))
+-- one is found where there is one
+count_found : {X : Type 0} (p : X → Bool) (xs : List X) → eqb (count_by p xs) 0 ≡ not (is_some (find p xs))
+count_found p [] = refl
+count_found p (x ∷ xs) = ap (λ n. eqb n 0) (sum_by-cons (λ y. cond (p y) 1 0) x xs) ∙ by_test (p x) (count_found p xs)
+  where
+    by_test : (b : Bool) → eqb (count_by p xs) 0 ≡ not (is_some (find p xs)) → eqb (cond b 1 0 + count_by p xs) 0 ≡ not (is_some (cond b (Some x) (find p xs)))
+    by_test true rest = positive (count_by p xs)
+      where
+        positive : (n : ℕ) → eqb (1 + n) 0 ≡ false
+        positive n = grind (arith, nat_tests)
+    by_test false rest = let same : 0 + count_by p xs ≡ count_by p xs = omega arith in ap (λ n. eqb n 0) same ∙ rest
+
+pub has_free_frame : (pool : ℕ) (pages : List UserPage) (pins : List Pin) (tables : List TableFrame) → eqb (free_count pool pages pins tables) 0 ≡ not (is_some (free_frame pool pages pins tables))
+has_free_frame pool pages pins tables = count_found (is_free pool pages pins tables) (range_with_len 0 pool) ∙ ap not (sym (some_number (find (is_free pool pages pins tables) (range_with_len 0 pool))))
 
 -- nothing changes
 pub same_option : {X : Type 0} (o : Option X) → option_map (λ (x : X). x) o ≡ o
@@ -105,23 +123,23 @@ abbrev number_of : Option ℕ → Option FrameNo
 number_of None = None
 number_of (Some frame) = Some (record { 0 = frame })
 
-free_number : (pool : ℕ) (pages : List UserPage) (pins : List Pin) → free_frame pool pages pins ≡ number_of (find (is_free pool pages pins) (range_with_len 0 pool))
-free_number pool pages pins = by_found (find (is_free pool pages pins) (range_with_len 0 pool))
+free_number : (pool : ℕ) (pages : List UserPage) (pins : List Pin) (tables : List TableFrame) → free_frame pool pages pins tables ≡ number_of (find (is_free pool pages pins tables) (range_with_len 0 pool))
+free_number pool pages pins tables = by_found (find (is_free pool pages pins tables) (range_with_len 0 pool))
   where
     by_found : (o : Option ℕ) → elim o [ Some frame ↦ Some (record { 0 = frame }) | None ↦ None ] ≡ number_of o
     by_found None = refl
     by_found (Some frame) = refl
 
 -- the frame that is chosen is free
-pub chosen_is_free : (pool : ℕ) (pages : List UserPage) (pins : List Pin) (frame : FrameNo) → free_frame pool pages pins ≡ Some frame → is_free pool pages pins frame.0 ≡ true
-chosen_is_free pool pages pins frame chosen = by_found (find (is_free pool pages pins) (range_with_len 0 pool)) refl (sym (free_number pool pages pins) ∙ chosen)
+pub chosen_is_free : (pool : ℕ) (pages : List UserPage) (pins : List Pin) (tables : List TableFrame) (frame : FrameNo) → free_frame pool pages pins tables ≡ Some frame → is_free pool pages pins tables frame.0 ≡ true
+chosen_is_free pool pages pins tables frame chosen = by_found (find (is_free pool pages pins tables) (range_with_len 0 pool)) refl (sym (free_number pool pages pins tables) ∙ chosen)
   where
-    by_found : (o : Option ℕ) → find (is_free pool pages pins) (range_with_len 0 pool) ≡ o → number_of o ≡ Some frame → is_free pool pages pins frame.0 ≡ true
+    by_found : (o : Option ℕ) → find (is_free pool pages pins tables) (range_with_len 0 pool) ≡ o → number_of o ≡ Some frame → is_free pool pages pins tables frame.0 ≡ true
     by_found None is chosen = cc
-    by_found (Some f) is chosen = let same : f ≡ frame.0 = cc in subst (λ z. is_free pool pages pins z ≡ true) same (found_passes (is_free pool pages pins) (range_with_len 0 pool) f is)
+    by_found (Some f) is chosen = let same : f ≡ frame.0 = cc in subst (λ z. is_free pool pages pins tables z ≡ true) same (found_passes (is_free pool pages pins tables) (range_with_len 0 pool) f is)
 
-pub in_pool : (pool : ℕ) (pages : List UserPage) (pins : List Pin) (frame : ℕ) → is_free pool pages pins frame ≡ true → frame < pool
-in_pool pool pages pins frame free = let below = and_true (ltb frame pool) (not (is_reached pages pins frame)) free in search (below.0, arith, nat_tests)
+pub in_pool : (pool : ℕ) (pages : List UserPage) (pins : List Pin) (tables : List TableFrame) (frame : ℕ) → is_free pool pages pins tables frame ≡ true → frame < pool
+in_pool pool pages pins tables frame free = let below = and_true (ltb frame pool) (not (is_reached pages pins tables frame)) free in search (below.0, arith, nat_tests)
 
 -- the pool of a configuration within its limits
 pub small_pool : (s : Settings) → first_outside s ≡ None → s.pool ≤ 4096

@@ -1,11 +1,11 @@
 -- What one more record makes of a run.
 use Rattle.std.proofs.Common.{◌≡◌, ℕ, suc, ◌+◌, List, [], ◌∷◌, ◌++◌, length, refl, arith}
-use Rattle.iofd_laws.proofs.KeepsDebts.{IsSound, keeps_sound}
-use Rattle.iofd_laws.proofs.KeepsFits.{keeps_fit}
-use Rattle.iofd_laws.proofs.KeepsPins.{opening_pinned, later_pinned, keeps_pins}
+use Rattle.iofd_laws.proofs.KeepsDebts.{IsSound, keeps_sound, tabled_sound}
+use Rattle.iofd_laws.proofs.KeepsFits.{keeps_fit, tabled_fit}
+use Rattle.iofd_laws.proofs.KeepsOwnMemory.{OwnPins, keeps_own_pins, later_own, tabled_own}
+use Rattle.iofd_laws.proofs.KeepsPins.{opening_pinned}
 use Rattle.iofd_laws.proofs.Runs.{run_keeps, run_keeps_at}
 use Rattle.iofd_laws.specs.Fits.{RowsFit}
-use Rattle.iofd_laws.specs.Pinned.{ArePinned}
 use Rattle.iofd_words.specs.Run.{IsRun, IsRunFrom, Lawful, after, world_from, world_of}
 use Rattle.iofd_words.specs.Settings.{Settings}
 use Rattle.iofd_words.specs.World.{World, opening}
@@ -32,7 +32,7 @@ module _ {A : Type 0} where
   pub tidy_run : (settings : Settings) (records : List (Record A)) → IsRun settings records → IsTidy (length records) (world_of settings records)
   unfolding IsRun world_of
   tidy_run settings records run =
-      let sound = run_keeps IsSound keeps_sound 0 (opening settings) records run (record { own_ids = refl; debts = record { once = refl; debtors = refl; tables = refl; spaces = refl; areas = refl } }) in
-      let fit = run_keeps RowsFit keeps_fit 0 (opening settings) records run (record { pages = refl; starts = refl; rise = refl; user_frames = refl; pin_frames = refl; known = refl; attached = refl }) in
-      let pins = run_keeps_at ArePinned later_pinned keeps_pins 0 (length records) (opening settings) records (omega arith) run (opening_pinned settings) in
-      record { pins = pins; debts = sound.debts; ids = sound.own_ids; fit = fit }
+      let sound = run_keeps IsSound tabled_sound keeps_sound 0 (opening settings) records run (record { own_ids = refl; debts = record { once = refl; debtors = refl; tables = refl; spaces = refl; areas = refl } }) in
+      let fit = run_keeps RowsFit tabled_fit keeps_fit 0 (opening settings) records run (record { pages = refl; starts = refl; rise = refl; user_frames = refl; pin_frames = refl; known = refl; attached = refl }) in
+      let pins = run_keeps_at OwnPins tabled_own later_own keeps_own_pins 0 (length records) (opening settings) records (omega arith) run (record { pins = opening_pinned settings; own = refl }) in
+      record { pins = pins.pins; own = pins.own; debts = sound.debts; ids = sound.own_ids; fit = fit }

@@ -24,11 +24,10 @@ pub mod Objects
 pub mod ObjectsGone
 pub mod ObjectsMoved
 pub mod Opened
-pub mod PinnedAccess
+pub mod PinsKept
 pub mod Placed
 pub mod Present
 pub mod Pushed
-pub mod RoomFound
 pub mod TableRows
 pub mod Touched
 pub mod Unmapped

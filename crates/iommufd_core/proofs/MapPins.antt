@@ -1,18 +1,19 @@
 -- The pages that a MAP pins, each at the frame that is the user's page now.
-use Rattle.std.proofs.Common.{◌≡◌, ℕ, zero, suc, ◌+◌, ◌/◌, ◌<◌, Bool, true, false, cond, eqb, ltb, Option, Some, None, List, [], ◌∷◌, ◌++◌, map, refl, sym, ap, ◌∙◌, arith, append_assoc}
-use Rattle.std.specs.List.{cons_option, filter_map, find, list_all, range_with_len}
+use Rattle.std.proofs.Common.{◌≡◌, ℕ, zero, suc, ◌+◌, ◌/◌, ◌<◌, Bool, true, false, cond, eqb, ltb, Option, Some, None, List, [], ◌∷◌, ◌++◌, map, refl, sym, ap, ◌∙◌, arith, append_assoc, ◌*◌, ◌&&◌, ◌||◌}
+use Rattle.iofd_laws.proofs.PageLists.{pages_by_area}
+use Rattle.std.specs.List.{cons_option, filter_map, find, list_all, range_with_len, list_any}
 use Rattle.std.proofs.lemmas.List.{append-nil}
 use Rattle.std.proofs.lemmas.List.Elements.{filter_map-append}
 use Rattle.std.proofs.lemmas.Bool.Decides.{nat_tests}
-use Rattle.iofd_laws.proofs.Bools.{and_true}
+use Rattle.iofd_laws.proofs.Bools.{and_true, both_true}
 use Rattle.iofd_laws.proofs.Settled.{mapped_pages, mapped_pages_stay, settled_more}
 use Rattle.iofd_words.specs.After.{mapped_area, memory_object}
 use Rattle.iofd_words.specs.Areas.{with_area}
 use Rattle.iofd_words.specs.Frames.{frame_at}
 use Rattle.iofd_words.specs.Objects.{has_hwpt}
 use Rattle.iofd_words.specs.Pages.{page_of}
-use Rattle.iofd_laws.specs.Pinned.{ArePinned}
-use Rattle.iofd_words.specs.Pins.{pages_of, pin_now, pinned_pages, settled}
+use Rattle.iofd_laws.specs.Pinned.{ArePinned, has_object}
+use Rattle.iofd_words.specs.Pins.{pin_now, settled, area_pages, is_page, page_of_pin}
 use Rattle.iofd_words.specs.Span.{size_of}
 use Rattle.iofd_words.specs.World.{World}
 use Rattle.iofd_words.specs.declared.event.MapRequest.{MapRequest}
@@ -81,10 +82,10 @@ pins_of_pages memory pages m (i ∷ indexes) found =
     ap (λ (o : Option Pin). cons_option o (filter_map (pin_now memory pages) (map (λ i. record { memory = m.number; index = i }) indexes))) (pin_of_page memory pages m i found)
     ∙ ap (cons_option (pin_at pages m i)) (pins_of_pages memory pages m indexes found)
 
--- the pins after a MAP
+-- the pins after a MAP, by area
 module _ (at : ℕ) (w : World) (user : UserNo) (file : FileNo) (request : MapRequest) (pinned : ArePinned at w) (some : 0 < request.length) where
   abbrev area : Area
-  area = mapped_area at file request
+  area = mapped_area at file request request.iova
 
   abbrev memory : List MemoryObject
   memory = w.memory ++ memory_object at user request ∷ []
@@ -92,13 +93,31 @@ module _ (at : ℕ) (w : World) (user : UserNo) (file : FileNo) (request : MapRe
   size : size_of area.span ≡ request.length
   size = omega (arith, some)
 
-  pins_if : (b : Bool) → filter_map (pin_now memory w.user_pages) (cond b (pages_of area) []) ≡ first_pins w.user_pages (memory_object at user request) (cond b (request.length / 4096) 0)
+  pins_if : (b : Bool) → filter_map (pin_now memory w.user_pages) (cond b (area_pages area) []) ≡ first_pins w.user_pages (memory_object at user request) (cond b (request.length / 4096) 0)
   pins_if true = rw size (pins_of_pages memory w.user_pages (memory_object at user request) (range_with_len 0 (request.length / 4096)) (found_last at w.memory (memory_object at user request) pinned.made refl))
   pins_if false = refl
 
-  pub mapped_pins : settled (pinned_pages w.objects w.areas) (pinned_pages w.objects (with_area area w.areas)) memory w.user_pages w.pins
-      ≡ w.pins ++ first_pins w.user_pages (memory_object at user request) (cond (has_hwpt w.objects file request.ioas) (request.length / 4096) 0)
-  mapped_pins =
-      settled_more (pinned_pages w.objects w.areas) (pinned_pages w.objects (with_area area w.areas)) (cond (has_hwpt w.objects file request.ioas) (pages_of area) []) memory w.user_pages w.pins
-      (mapped_pages_stay w.objects area w.areas) pinned.only (mapped_pages at w.objects area w.areas pinned.earlier refl)
-      ∙ ap (λ (pins : List Pin). w.pins ++ pins) (pins_if (has_hwpt w.objects file request.ioas))
+  pub mapped_pins : (kept : List Pin) → list_all (λ (pin : Pin). list_any (is_page (page_of_pin pin)) (pages_by_area w.objects w.areas)) kept ≡ true
+      → settled (pages_by_area w.objects w.areas) (pages_by_area w.objects (with_area area w.areas)) memory w.user_pages kept
+      ≡ kept ++ first_pins w.user_pages (memory_object at user request) (cond (has_hwpt w.objects file request.ioas) (request.length / 4096) 0)
+  mapped_pins kept only =
+      settled_more (pages_by_area w.objects w.areas) (pages_by_area w.objects (with_area area w.areas)) (cond (has_hwpt w.objects file request.ioas) (area_pages area) []) memory w.user_pages kept
+      (mapped_pages_stay w.objects area w.areas) only (mapped_pages at w.objects area w.areas (earlier w.areas w.memory pinned.made pinned.sizes) refl)
+      ∙ ap (λ (pins : List Pin). kept ++ pins) (pins_if (has_hwpt w.objects file request.ioas))
+    where
+      -- areas are over earlier memory objects
+      earlier : (areas : List Area) (rows : List MemoryObject) → list_all (λ (m : MemoryObject). ltb m.number at) rows ≡ true → list_all (has_object rows) areas ≡ true → list_all (λ (a : Area). ltb a.memory at) areas ≡ true
+      earlier [] rows made sizes = refl
+      earlier (a ∷ areas) rows made sizes =
+          let parts = and_true (has_object rows a) (list_all (has_object rows) areas) sizes in
+          both_true _ _ (of_object rows made parts.0) (earlier areas rows made parts.1)
+        where
+          of_object : (ms : List MemoryObject) → list_all (λ (m : MemoryObject). ltb m.number at) ms ≡ true → has_object ms a ≡ true → ltb a.memory at ≡ true
+          of_object [] made has = cc
+          of_object (m ∷ ms) made has =
+              let firsts = and_true (ltb m.number at) (list_all (λ (m : MemoryObject). ltb m.number at) ms) made in
+              by_test (eqb m.number a.memory && eqb (m.count * 4096) (size_of a.span)) refl has firsts.0 (of_object ms firsts.1)
+            where
+              by_test : (b : Bool) → (eqb m.number a.memory && eqb (m.count * 4096) (size_of a.span)) ≡ b → (b || has_object ms a) ≡ true → ltb m.number at ≡ true → (has_object ms a ≡ true → ltb a.memory at ≡ true) → ltb a.memory at ≡ true
+              by_test true is here first later = let named = (and_true (eqb m.number a.memory) (eqb (m.count * 4096) (size_of a.span)) is).0 in grind (arith, nat_tests)
+              by_test false is here first later = later here

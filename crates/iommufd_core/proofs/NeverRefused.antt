@@ -2,7 +2,7 @@
 use Rattle.std.proofs.Common.{◌≡◌, ℕ, true, false, leb, is_some, Option, Some, None, List, length, refl, sym, ◌∙◌, ap}
 use Rattle.std.specs.List.{filter, find, list_all}
 use Rattle.std.specs.Option.{option_map}
-use Rattle.iofd_words.specs.Checks.{attach_checks, checks, lacks_room_for_hwpt, refusal}
+use Rattle.iofd_words.specs.Checks.{lacks_room_for_hwpt, refusal}
 use Rattle.iofd_words.specs.Files as files
 use Rattle.iofd_words.specs.Files.{device_of, is_device}
 use Rattle.iofd_words.specs.Objects.{automatic_hwpt, binding_of, is_bound_as, is_full}
@@ -18,7 +18,7 @@ use Rattle.iofd_words.specs.declared.rows.Attachment.{Attachment}
 use Rattle.iofd_words.specs.declared.rows.Object.{Object}
 use Rattle.iofd_words.specs.declared.width.Width.{Width}
 use Rattle.iofd_laws.proofs.Known.{alloc_open, bind_open, bound_known}
-use Rattle.iofd_laws.proofs.Runs.{tests_false}
+use Rattle.iofd_laws.proofs.NotRefused.{alloc_passed, attach_passed, bind_passed, passes}
 use Rattle.iommufd_core.specs.Held.{objects_in}
 use Rattle.iommufd_core.specs.PinLists.{width_of}
 use Rattle.iommufd_core.specs.Shows.{Shows}
@@ -32,9 +32,8 @@ use Rattle.object_table.specs.declared.error.ReserveError.TheVariants.{Refused}
 -- no page table of the device's width is there, so there is room for one
 room_for_hwpt : (w : World) (device : DeviceNo) (pt_id : ObjId) (bound : Object) (width : Width) → binding_of w.objects device ≡ Some bound → width_of w.settings device ≡ Some width → automatic_hwpt w.objects bound.file pt_id width ≡ None
     → refusal w (event.Attach device pt_id) ≡ None → is_full w.objects bound.file ≡ false
-unfolding refusal checks
 room_for_hwpt w device pt_id bound width binding wide automatic none =
-    by_device (device_of w.settings device) wide (tests_false (attach_checks (view w) device pt_id bound.file) 2 (rw (binding, checks) at none))
+    by_device (device_of w.settings device) wide (attach_passed (view w) device pt_id bound binding (passes w (event.Attach device pt_id) none)).roomy
   where
     by_device : (o : Option DeviceSettings) → elim o as (λ _. Option Width) [ Some d ↦ Some d.width | None ↦ None ] ≡ Some width → lacks_room_for_hwpt (view w) bound.file pt_id o ≡ false → is_full w.objects bound.file ≡ false
     by_device None wide room = cc
@@ -44,20 +43,18 @@ module _ {A : Type 0} where
   -- an open file that isn't full takes one more object
   takes_object : (w : World) (s : State A) (file : FileNo) (error : ReserveError) (r : Refusal) → Shows w s → files.is_open w.settings w.closed file ≡ true → is_full w.objects file ≡ false → error ≡ Refused r → IsWhy (insert_refusal s.objects file) error → ⊥
   takes_object w s file error r shows still roomy refused why =
-      let open_s : is_open s.objects file ≡ true = shows.files file ∙ still in
+      let open_s : is_open s.objects file ≡ true = shows.objects.files file ∙ still in
       let roomy_s : leb 65535 (length (filter (is_of_file file) s.objects.rows)) ≡ false =
-      sym (is_full_rows s.objects.rows file) ∙ ap (λ (objects : List Object). is_full objects file) (sym shows.objects) ∙ roomy in
+      sym (is_full_rows s.objects.rows file) ∙ ap (λ (objects : List Object). is_full objects file) (sym shows.objects.rows) ∙ roomy in
       let none : insert_refusal s.objects file ≡ None = rw (open_s, roomy_s) refl in
       let some : insert_refusal s.objects file ≡ Some r.cause = rw refused at why in
       cc
 
   pub alloc_taken : (w : World) (s : State A) (file : FileNo) (error : ReserveError) (r : Refusal) → Shows w s → refusal w (event.IoasAlloc file) ≡ None → error ≡ Refused r → IsWhy (insert_refusal s.objects file) error → ⊥
-  unfolding refusal checks
-  alloc_taken w s file error r shows none = takes_object w s file error r shows (alloc_open w file none) (tests_false (checks (view w) (event.IoasAlloc file)) 1 none)
+  alloc_taken w s file error r shows none = takes_object w s file error r shows (alloc_open w file none) (alloc_passed (view w) file (passes w (event.IoasAlloc file) none)).roomy
 
   pub bind_taken : (w : World) (s : State A) (file : FileNo) (device : DeviceNo) (error : ReserveError) (r : Refusal) → Shows w s → refusal w (event.Bind file device) ≡ None → error ≡ Refused r → IsWhy (insert_refusal s.objects file) error → ⊥
-  unfolding refusal checks
-  bind_taken w s file device error r shows none = takes_object w s file error r shows (bind_open w file device none) (tests_false (checks (view w) (event.Bind file device)) 3 none)
+  bind_taken w s file device error r shows none = takes_object w s file error r shows (bind_open w file device none) (bind_passed (view w) file device (passes w (event.Bind file device) none)).roomy
 
   -- ---- of an attachment
 
@@ -65,9 +62,9 @@ module _ {A : Type 0} where
       → find (λ object. is_bound_as device object.kind) s.bindings.items ≡ Some bound → width_of s.config device ≡ Some width → option_map (λ (object : Object). object.id) (automatic_hwpt (objects_in s.objects) bound.file pt_id width) ≡ None
       → error ≡ Refused r → IsWhy (insert_refusal s.objects bound.file) error → ⊥
   hwpt_taken at w s device pt_id bound width error r tidy shows none binding wide automatic =
-      let binding_w : binding_of w.objects device ≡ Some bound = shows.bindings device ∙ binding in
+      let binding_w : binding_of w.objects device ≡ Some bound = shows.devices.bindings device ∙ binding in
       let wide_w : width_of w.settings device ≡ Some width = ap (λ settings. width_of settings device) shows.settings ∙ wide in
-      let automatic_w : automatic_hwpt w.objects bound.file pt_id width ≡ None = ap (λ (objects : List Object). automatic_hwpt objects bound.file pt_id width) shows.objects ∙ no_id (automatic_hwpt (objects_in s.objects) bound.file pt_id width) automatic in
+      let automatic_w : automatic_hwpt w.objects bound.file pt_id width ≡ None = ap (λ (objects : List Object). automatic_hwpt objects bound.file pt_id width) shows.objects.rows ∙ no_id (automatic_hwpt (objects_in s.objects) bound.file pt_id width) automatic in
       takes_object w s bound.file error r shows (bound_known w.settings w.closed w.objects device bound tidy.fit.known binding_w).0 (room_for_hwpt w device pt_id bound width binding_w wide_w automatic_w none)
     where
       no_id : (o : Option Object) → option_map (λ (object : Object). object.id) o ≡ None → o ≡ None
@@ -77,7 +74,7 @@ module _ {A : Type 0} where
   -- a bound device has a width
   pub never_unset : (at : ℕ) (w : World) (s : State A) (device : DeviceNo) (bound : Object) → IsTidy at w → Shows w s → find (λ object. is_bound_as device object.kind) s.bindings.items ≡ Some bound → width_of s.config device ≡ None → ⊥
   never_unset at w s device bound tidy shows binding unset =
-      let binding_w : binding_of w.objects device ≡ Some bound = shows.bindings device ∙ binding in
+      let binding_w : binding_of w.objects device ≡ Some bound = shows.devices.bindings device ∙ binding in
       let unset_w : width_of w.settings device ≡ None = ap (λ settings. width_of settings device) shows.settings ∙ unset in
       by_device (device_of w.settings device) unset_w (bound_known w.settings w.closed w.objects device bound tidy.fit.known binding_w).1
     where
@@ -88,5 +85,5 @@ module _ {A : Type 0} where
   -- each attached device is one of the configuration
   pub never_strange : (at : ℕ) (w : World) (s : State A) (attachments : List Attachment) → IsTidy at w → Shows w s → attachments ≡ s.attachments.items → list_all (λ (a : Attachment). is_device s.config a.device) attachments ≡ false → ⊥
   never_strange at w s attachments tidy shows is strange =
-      let all : list_all (λ (a : Attachment). is_device s.config a.device) attachments ≡ true = rw (is, ← shows.attachments, ← shows.settings) tidy.fit.attached in
+      let all : list_all (λ (a : Attachment). is_device s.config a.device) attachments ≡ true = rw (is, ← shows.devices.attached, ← shows.settings) tidy.fit.attached in
       cc

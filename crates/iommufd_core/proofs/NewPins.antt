@@ -1,9 +1,9 @@
 -- What another page table over an address space pins.
-use Rattle.std.proofs.Common.{◌≡◌, Bool, true, false, cond, ◌&&◌, not, List, [], refl}
-use Rattle.std.specs.List.{flat_map}
+use Rattle.std.proofs.Common.{◌≡◌, Bool, true, false, cond, ◌&&◌, not, List, [], refl, is_none}
+use Rattle.std.specs.List.{flat_map, list_any}
 use Rattle.iofd_words.specs.Checks.{lacks_attached_page}
 use Rattle.iofd_words.specs.Objects.{has_hwpt, has_ioas}
-use Rattle.iofd_words.specs.Pins.{ObjectPage, are_present, pages_of}
+use Rattle.iofd_words.specs.Pins.{ObjectPage, area_pages}
 use Rattle.iofd_words.specs.View.{View}
 use Rattle.iofd_words.specs.declared.numbers.FileNo.{FileNo}
 use Rattle.iofd_words.specs.declared.numbers.ObjId.{ObjId}
@@ -22,13 +22,13 @@ module _ {A : Type 0} where
       by_table true = refl
       by_table false = refl
 
--- another page table lacks a page where one that it would pin isn't there
+-- another page table lacks a page where one that it would pin anew isn't there
 pub lacks_newly : (v : View) (file : FileNo) (ioas : ObjId)
-    → not (are_present v.memory v.user_pages (newly_pinned v.objects file ioas (v.areas_of file ioas)))
+    → list_any (λ page. is_none (v.pinned_frame page) && is_none (v.frame_now page)) (newly_pinned v.objects file ioas (v.areas_of file ioas))
     ≡ lacks_attached_page v file ioas
 lacks_newly v file ioas = by_table (has_hwpt v.objects file ioas)
   where
-    by_table : (b : Bool) → not (are_present v.memory v.user_pages (cond b [] (flat_map pages_of (v.areas_of file ioas))))
-        ≡ (not b && not (are_present v.memory v.user_pages (flat_map pages_of (v.areas_of file ioas))))
+    by_table : (b : Bool) → list_any (λ page. is_none (v.pinned_frame page) && is_none (v.frame_now page)) (cond b [] (flat_map area_pages (v.areas_of file ioas)))
+        ≡ (not b && list_any (λ page. is_none (v.pinned_frame page) && is_none (v.frame_now page)) (flat_map area_pages (v.areas_of file ioas)))
     by_table true = refl
     by_table false = refl

@@ -65,17 +65,15 @@ module _ {A : Type 0} where
   shows_inserted w s row table bindings shows proper none unused rows files bound =
       record {
         settings = shows.settings;
-        objects = ap (with_object (object_of row)) shows.objects ∙ sym (objects-inserted row s.objects.rows) ∙ ap (map object_of) (sym rows);
-        proper = rw rows (proper-inserted row s.objects.rows proper shows.proper);
-        areas = λ file id. shows.areas file id ∙ sym (areas-inserted row s.objects.rows file id none unused) ∙ ap (λ l. areas_at l file id) (sym rows);
-        files = λ number. rw files (shows.files number);
-        bindings = bound;
-        attachments = shows.attachments;
+        objects = record {
+          rows = ap (with_object (object_of row)) shows.objects.rows ∙ sym (objects-inserted row s.objects.rows) ∙ ap (map object_of) (sym rows);
+          proper = rw rows (proper-inserted row s.objects.rows proper shows.objects.proper);
+          spaces = λ file id. shows.objects.spaces file id ∙ sym (areas-inserted row s.objects.rows file id none unused) ∙ ap (λ l. areas_at l file id) (sym rows);
+          files = λ number. rw files (shows.objects.files number);
+        };
+        devices = record { bindings = bound; attached = shows.devices.attached };
         memory = shows.memory;
-        user_pages = shows.user_pages;
-        pins = shows.pins;
         frames = shows.frames;
-        bytes = shows.bytes;
       }
 
   -- by which a device is bound that wasn't
@@ -85,7 +83,7 @@ module _ {A : Type 0} where
       → Shows (record w { objects = with_object (record { file = file; id = id; kind = kind.Device device }) w.objects }) (record s { objects = table; bindings = bindings })
   shows_bound w s file id device table bindings shows free unused rows files last =
       shows_inserted w s (record { file = file; id = id; kind = tablekind.Device; users = 0; value = held.Device device }) table bindings shows refl refl unused rows files
-      (λ d. bound_last w.objects s.bindings.items file id device shows.bindings free d ∙ ap (find (λ (object : Object). is_bound_as d object.kind)) (sym last))
+      (λ d. bound_last w.objects s.bindings.items file id device shows.devices.bindings free d ∙ ap (find (λ (object : Object). is_bound_as d object.kind)) (sym last))
 
   no_kind : (o : Option (Row (Held A))) → o ≡ None → is_some (kind_at (option_map (λ (row : Row (Held A)). row.value) o)) ≡ false
   no_kind None is = refl

@@ -1,51 +1,54 @@
 -- Which pages are in their users' memory, and how many objects a file has.
-use Rattle.std.proofs.Common.{◌≡◌, ℕ, zero, suc, ◌+◌, ◌<◌, ◌≤◌, Bool, true, false, cond, ◌&&◌, leb, List, [], ◌∷◌, map, length, refl, sym, ◌∙◌, ap, arith, ⊎_elim, ◌≢◌}
-use Rattle.std.specs.Prelude.{is_some}
-use Rattle.std.specs.List.{filter, flat_map, list_all, range_with_len}
+use Rattle.std.proofs.Common.{◌≡◌, ℕ, zero, suc, ◌+◌, ◌<◌, ◌≤◌, Bool, true, false, cond, leb, List, [], ◌∷◌, map, length, refl, sym, ◌∙◌, ap, arith, ⊎_elim, ◌≢◌, ◌||◌}
+use Rattle.iofd_words.specs.declared.rows.Pin.{Pin}
+use Rattle.iommufd_core.specs.PinLists.{is_lacking}
+use Rattle.std.specs.List.{filter, flat_map, range_with_len, list_any}
 use Rattle.std.proofs.lemmas.Bool.{cases_eq}
-use Rattle.std.proofs.lemmas.List.Folds.{list_all-append}
+use Rattle.std.proofs.lemmas.List.Folds.{list_any-append}
 use Rattle.iofd_words.specs.Objects.{is_full, objects_of}
-use Rattle.iofd_words.specs.Pins.{ObjectPage, are_present, frame_now, pages_of}
+use Rattle.iofd_words.specs.Pins.{ObjectPage, area_pages}
 use Rattle.iofd_words.specs.declared.numbers.FileNo.{FileNo}
 use Rattle.iofd_words.specs.declared.rows.Area.{Area}
 use Rattle.iofd_words.specs.declared.rows.MemoryObject.{MemoryObject}
 use Rattle.iofd_words.specs.declared.rows.UserPage.{UserPage}
 use Rattle.iommufd_core.specs.Held.{object_of, objects_in}
-use Rattle.iommufd_core.specs.PinLists.{pages_from}
+use Rattle.iofd_words.specs.Pins.{pages_from}
 use Rattle.iommufd_core.specs.declared.held.Held.{Held}
 use Rattle.iommufd_core.proofs.Pushed.{pages_more}
 use Rattle.object_table.specs.Table.{Row, Table, is_of_file, rows_of}
 
 -- ---- the pages of a memory object
 
-pub present_more : (memory : List MemoryObject) (user_pages : List UserPage) (number n : ℕ) → are_present memory user_pages (pages_from number n) ≡ true → is_some (frame_now memory user_pages (record { memory = number; index = n })) ≡ true → are_present memory user_pages (pages_from number (n + 1)) ≡ true
-present_more memory user_pages number n before here =
-    ap (are_present memory user_pages) (pages_more number n)
-    ∙ list_all-append (λ page. is_some (frame_now memory user_pages page)) (pages_from number n) (record { memory = number; index = n } ∷ [])
+-- none of the first pages passes, and one more doesn't
+pub none_more : (p : ObjectPage → Bool) (number n : ℕ) → list_any p (pages_from number n) ≡ false → p (record { memory = number; index = n }) ≡ false → list_any p (pages_from number (n + 1)) ≡ false
+none_more p number n before here =
+    ap (list_any p) (pages_more number n)
+    ∙ list_any-append p (pages_from number n) (record { memory = number; index = n } ∷ [])
     ∙ rw (before, here) refl
 
-absent : (p : ObjectPage → Bool) (number from n i : ℕ) → from ≤ i → i < from + n → p (record { memory = number; index = i }) ≡ false → list_all p (map (λ i. record { memory = number; index = i }) (range_with_len from n)) ≡ false
-absent p number from zero i low high none = absurd (omega arith)
-absent p number from (suc n) i low high none =
+passing : (p : ObjectPage → Bool) (number from n i : ℕ) → from ≤ i → i < from + n → p (record { memory = number; index = i }) ≡ true → list_any p (map (λ i. record { memory = number; index = i }) (range_with_len from n)) ≡ true
+passing p number from zero i low high some = absurd (omega arith)
+passing p number from (suc n) i low high some =
     ⊎_elim
-    (λ (same : i ≡ from). let here : p (record { memory = number; index = from }) ≡ false = rw same at none in rw here refl)
-    (λ (differ : i ≢ from). let rest = absent p number (from + 1) n i (omega arith) (omega arith) none in by_first (p (record { memory = number; index = from })) rest)
+    (λ (same : i ≡ from). let here : p (record { memory = number; index = from }) ≡ true = rw same at some in rw here refl)
+    (λ (differ : i ≢ from). let rest = passing p number (from + 1) n i (omega arith) (omega arith) some in by_first (p (record { memory = number; index = from })) rest)
     (cases_eq i from)
   where
-    by_first : (b : Bool) → list_all p (map (λ i. record { memory = number; index = i }) (range_with_len (from + 1) n)) ≡ false → (b && list_all p (map (λ i. record { memory = number; index = i }) (range_with_len (from + 1) n))) ≡ false
-    by_first true rest = rest
-    by_first false rest = refl
+    by_first : (b : Bool) → list_any p (map (λ i. record { memory = number; index = i }) (range_with_len (from + 1) n)) ≡ true → (b || list_any p (map (λ i. record { memory = number; index = i }) (range_with_len (from + 1) n))) ≡ true
+    by_first true rest = refl
+    by_first false rest = rest
 
-pub absent_page : (memory : List MemoryObject) (user_pages : List UserPage) (number n i : ℕ) → i < n → is_some (frame_now memory user_pages (record { memory = number; index = i })) ≡ false → are_present memory user_pages (pages_from number n) ≡ false
-absent_page memory user_pages number n i within none = absent (λ page. is_some (frame_now memory user_pages page)) number 0 n i (omega arith) (omega arith) none
+-- one of the first pages passes
+pub some_page : (p : ObjectPage → Bool) (number n i : ℕ) → i < n → p (record { memory = number; index = i }) ≡ true → list_any p (pages_from number n) ≡ true
+some_page p number n i within some = passing p number 0 n i (omega arith) (omega arith) some
 
 -- ---- the pages of areas
 
-pub present_areas : (memory : List MemoryObject) (user_pages : List UserPage) (areas : List Area) → list_all (λ (area : Area). are_present memory user_pages (pages_of area)) areas ≡ are_present memory user_pages (flat_map pages_of areas)
-present_areas memory user_pages [] = refl
-present_areas memory user_pages (area ∷ areas) =
-    ap (λ b. are_present memory user_pages (pages_of area) && b) (present_areas memory user_pages areas)
-    ∙ sym (list_all-append (λ page. is_some (frame_now memory user_pages page)) (pages_of area) (flat_map pages_of areas))
+pub lacking_areas : (pins : List Pin) (memory : List MemoryObject) (user_pages : List UserPage) (areas : List Area) → list_any (λ (area : Area). list_any (is_lacking pins memory user_pages) (area_pages area)) areas ≡ list_any (is_lacking pins memory user_pages) (flat_map area_pages areas)
+lacking_areas pins memory user_pages [] = refl
+lacking_areas pins memory user_pages (area ∷ areas) =
+    ap (λ b. list_any (is_lacking pins memory user_pages) (area_pages area) || b) (lacking_areas pins memory user_pages areas)
+    ∙ sym (list_any-append (is_lacking pins memory user_pages) (area_pages area) (flat_map area_pages areas))
 
 -- ---- the objects of a file
 

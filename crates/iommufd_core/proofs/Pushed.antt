@@ -7,11 +7,11 @@ use Rattle.std.proofs.lemmas.List.{append-nil, map-append}
 use Rattle.std.proofs.lemmas.List.Elements.{filter_map-append}
 use Rattle.std.proofs.lemmas.List.Folds.{length-flat_map-take}
 use Rattle.std.proofs.lemmas.List.FromFn.{length-map-range_with_len}
-use Rattle.iofd_words.specs.Pins.{ObjectPage, pages_of}
+use Rattle.iofd_words.specs.Pins.{ObjectPage, area_pages}
 use Rattle.iofd_words.specs.Span.{size_of}
 use Rattle.iofd_words.specs.declared.rows.Area.{Area}
 use Rattle.iofd_words.specs.declared.rows.Pin.{Pin}
-use Rattle.iommufd_core.specs.PinLists.{pages_from}
+use Rattle.iofd_words.specs.Pins.{pages_from}
 
 -- ---- the pages of a memory object
 
@@ -46,30 +46,30 @@ skipped h pins old number n before is =
 
 -- ---- the pages of areas
 
-pub area_more : (areas : List Area) (i : ℕ) (area : Area) → i < length areas → area ≡ get_or areas i area → flat_map pages_of (take (i + 1) areas) ≡ flat_map pages_of (take i areas) ++ pages_of area
+pub area_more : (areas : List Area) (i : ℕ) (area : Area) → i < length areas → area ≡ get_or areas i area → flat_map area_pages (take (i + 1) areas) ≡ flat_map area_pages (take i areas) ++ area_pages area
 area_more areas i area within is =
     let next : i + 1 ≡ suc i = omega arith in
-    ap (λ n. flat_map pages_of (take n areas)) next
-    ∙ ap (flat_map pages_of) (take-suc areas i area within)
-    ∙ flat_map-append pages_of (take i areas) (get_or areas i area ∷ [])
-    ∙ ap (λ (a : Area). flat_map pages_of (take i areas) ++ flat_map pages_of (a ∷ [])) (sym is)
-    ∙ ap (λ pages. flat_map pages_of (take i areas) ++ pages) (append-nil (pages_of area))
+    ap (λ n. flat_map area_pages (take n areas)) next
+    ∙ ap (flat_map area_pages) (take-suc areas i area within)
+    ∙ flat_map-append area_pages (take i areas) (get_or areas i area ∷ [])
+    ∙ ap (λ (a : Area). flat_map area_pages (take i areas) ++ flat_map area_pages (a ∷ [])) (sym is)
+    ∙ ap (λ pages. flat_map area_pages (take i areas) ++ pages) (append-nil (area_pages area))
 
-pub count_of_area : (area : Area) → length (pages_of area) ≡ size_of area.span / 4096
+pub count_of_area : (area : Area) → length (area_pages area) ≡ size_of area.span / 4096
 count_of_area area = length-map-range_with_len (λ i. record { memory = area.memory; index = i }) 0 (size_of area.span / 4096)
 
-pub length_more : (areas : List Area) (i : ℕ) (area : Area) → i < length areas → area ≡ get_or areas i area → length (flat_map pages_of (take (i + 1) areas)) ≡ length (flat_map pages_of (take i areas)) + size_of area.span / 4096
+pub length_more : (areas : List Area) (i : ℕ) (area : Area) → i < length areas → area ≡ get_or areas i area → length (flat_map area_pages (take (i + 1) areas)) ≡ length (flat_map area_pages (take i areas)) + size_of area.span / 4096
 length_more areas i area within is =
-    ap length (area_more areas i area within is) ∙ length-append (flat_map pages_of (take i areas)) (pages_of area) ∙ ap (λ n. length (flat_map pages_of (take i areas)) + n) (count_of_area area)
+    ap length (area_more areas i area within is) ∙ length-append (flat_map area_pages (take i areas)) (area_pages area) ∙ ap (λ n. length (flat_map area_pages (take i areas)) + n) (count_of_area area)
 
-pub room_for_area : (areas : List Area) (i : ℕ) (area : Area) → i < length areas → area ≡ get_or areas i area → length (flat_map pages_of (take i areas)) + size_of area.span / 4096 ≤ length (flat_map pages_of areas)
+pub room_for_area : (areas : List Area) (i : ℕ) (area : Area) → i < length areas → area ≡ get_or areas i area → length (flat_map area_pages (take i areas)) + size_of area.span / 4096 ≤ length (flat_map area_pages areas)
 room_for_area areas i area within is =
-    let room = length-flat_map-take pages_of areas i area within in
-    let here : length (pages_of (get_or areas i area)) ≡ size_of area.span / 4096 = ap (λ (a : Area). length (pages_of a)) (sym is) ∙ count_of_area area in
+    let room = length-flat_map-take area_pages areas i area within in
+    let here : length (area_pages (get_or areas i area)) ≡ size_of area.span / 4096 = ap (λ (a : Area). length (area_pages a)) (sym is) ∙ count_of_area area in
     omega (arith, room, here)
 
-pub areas_pushed : (h : ObjectPage → Option Pin) (pins old new : List Pin) (areas : List Area) (i : ℕ) (area : Area) → i < length areas → area ≡ get_or areas i area → old ≡ pins ++ filter_map h (flat_map pages_of (take i areas)) → new ≡ old ++ filter_map h (pages_of area) → new ≡ pins ++ filter_map h (flat_map pages_of (take (i + 1) areas))
+pub areas_pushed : (h : ObjectPage → Option Pin) (pins old new : List Pin) (areas : List Area) (i : ℕ) (area : Area) → i < length areas → area ≡ get_or areas i area → old ≡ pins ++ filter_map h (flat_map area_pages (take i areas)) → new ≡ old ++ filter_map h (area_pages area) → new ≡ pins ++ filter_map h (flat_map area_pages (take (i + 1) areas))
 areas_pushed h pins old new areas i area within is before after =
-    after ∙ ap (λ xs. xs ++ filter_map h (pages_of area)) before
-    ∙ append_assoc pins (filter_map h (flat_map pages_of (take i areas))) (filter_map h (pages_of area))
-    ∙ ap (λ xs. pins ++ xs) (sym (filter_map-append h (flat_map pages_of (take i areas)) (pages_of area)) ∙ ap (filter_map h) (sym (area_more areas i area within is)))
+    after ∙ ap (λ xs. xs ++ filter_map h (area_pages area)) before
+    ∙ append_assoc pins (filter_map h (flat_map area_pages (take i areas))) (filter_map h (area_pages area))
+    ∙ ap (λ xs. pins ++ xs) (sym (filter_map-append h (flat_map area_pages (take i areas)) (area_pages area)) ∙ ap (filter_map h) (sym (area_more areas i area within is)))

@@ -1,8 +1,8 @@
 -- The areas that an UNMAP touches, among all areas and among those of its address space.
-use Rattle.std.proofs.Common.{◌≡◌, ℕ, ◌+◌, ◌≤◌, Bool, true, false, cond, ◌&&◌, ◌||◌, not, eqb, List, [], ◌∷◌, map, refl, ap, arith}
-use Rattle.std.specs.List.{filter, list_any}
+use Rattle.std.proofs.Common.{◌≡◌, ℕ, ◌+◌, ◌≤◌, Bool, true, false, cond, ◌&&◌, not, List, [], ◌∷◌, map, refl, ap, arith}
+use Rattle.std.specs.List.{filter}
 use Rattle.std.proofs.lemmas.Bool.Decides.{nat_tests}
-use Rattle.area_map.specs.Areas.{AreApartFrom, areas_outside, areas_within, marked, memories_of}
+use Rattle.area_map.specs.Areas.{AreApartFrom, areas_outside, areas_within, marked}
 use Rattle.iofd_laws.proofs.Bools.{or_false}
 use Rattle.iofd_words.specs.Areas.{areas_of, is_cut, is_of, is_touched, is_waiting, leaving, touched, unmapped_span, with_leaving, with_phase}
 use Rattle.iofd_words.specs.Bounds.{Bounds}
@@ -12,7 +12,7 @@ use Rattle.iofd_words.specs.declared.numbers.FileNo.{FileNo}
 use Rattle.iofd_words.specs.declared.numbers.ObjId.{ObjId}
 use Rattle.iofd_words.specs.declared.rows.Area.{Area}
 use Rattle.iommufd_core.specs.Spaces.{is_space}
-use Rattle.iommufd_core.specs.Mapping.{is_among, some_waits}
+use Rattle.iommufd_core.specs.Mapping.{some_waits}
 
 -- ---- where no area is cut
 
@@ -103,15 +103,5 @@ module _ (file : FileNo) (request : UnmapRequest) where
     where
       by_test : (b : Bool) → touched areas file request ≡ filter (λ (a : Area). meets a.span (unmapped_span request)) (areas_of areas file request.ioas)
           → cond (b && meets a.span (unmapped_span request)) (a ∷ touched areas file request) (touched areas file request) ≡ filter (λ (a : Area). meets a.span (unmapped_span request)) (cond b (a ∷ areas_of areas file request.ioas) (areas_of areas file request.ioas))
-      by_test true rest = rw rest refl
-      by_test false rest = rest
-
-  -- the numbers of the memory objects that they name
-  pub among_touched : (areas : List Area) (n : ℕ) → is_among (memories_of (touched areas file request)) n ≡ list_any (λ (a : Area). is_touched file request a && eqb a.memory n) areas
-  among_touched [] n = refl
-  among_touched (a ∷ areas) n = by_test (is_touched file request a) (among_touched areas n)
-    where
-      by_test : (b : Bool) → is_among (memories_of (touched areas file request)) n ≡ list_any (λ (a : Area). is_touched file request a && eqb a.memory n) areas
-          → is_among (memories_of (cond b (a ∷ touched areas file request) (touched areas file request))) n ≡ ((b && eqb a.memory n) || list_any (λ (a : Area). is_touched file request a && eqb a.memory n) areas)
       by_test true rest = rw rest refl
       by_test false rest = rest

@@ -1,22 +1,26 @@
 -- The world after an UNMAP is shown.
 use Rattle.std.proofs.Common.{◌≡◌, ℕ, ◌+◌, ◌*◌, ◌<◌, ◌≤◌, leb, Bool, true, false, ◌&&◌, not, eqb, Option, Some, None, is_some, Vec, List, [], ◌∷◌, length, map, Contains, refl, sym, ◌∙◌, ap, arith}
+use Rattle.iommufd_core.proofs.PinsKept.{only_kept, pins_follow}
+use Rattle.iofd_laws.proofs.KeepsOwnMemory.{OwnPins}
+use Rattle.iofd_laws.proofs.ListTests.{any-filter}
+use Rattle.iommufd_core.specs.Memory.{is_over, without_memory, without_pins}
 use Rattle.std.specs.List.{filter, list_all}
 use Rattle.std.specs.Option.{option_map}
 use Rattle.std.specs.Prelude.{Result, Ok, Err}
 use Rattle.std.specs.Result.{OkIff}
-use Rattle.area_map.specs.Areas.{AreKept, areas_outside, areas_within, bytes_of, marked, memories_of}
+use Rattle.area_map.specs.Areas.{AreKept, areas_outside, areas_within, bytes_of, marked}
 use Rattle.std.proofs.lemmas.Bool.Decides.{nat_tests}
 use Rattle.std.proofs.lemmas.List.Sums.{sum_by-cons}
 use Rattle.area_map.proofs.Kept.{length-filter-le}
 use Rattle.iofd_laws.proofs.Bools.{and_true}
 use Rattle.iofd_laws.proofs.Found.{all_filter}
-use Rattle.iofd_laws.proofs.Runs.{tests_false}
+use Rattle.iofd_laws.proofs.NotRefused.{passes, unmap_passed}
 use Rattle.iofd_laws.proofs.Settled.{kept_memory, kept_pins, named_by_area}
 use Rattle.iofd_words.specs.After.{settle, without_areas}
 use Rattle.iofd_words.specs.Areas.{areas_of, is_cut, is_of, is_touched, is_waiting, touched, touched_bytes, unmapped_span, with_leaving}
 use Rattle.iofd_words.specs.Attachments.{devices_of}
 use Rattle.iofd_words.specs.Bounds.{Bounds}
-use Rattle.iofd_words.specs.Checks.{checks, refusal}
+use Rattle.iofd_words.specs.Checks.{refusal}
 use Rattle.iofd_laws.specs.Fits.{devices_rise, is_of_pages}
 use Rattle.iofd_words.specs.Pages.{is_above_sum, is_whole}
 use Rattle.iofd_words.specs.Span.{lies_in, size_of}
@@ -34,12 +38,12 @@ use Rattle.iofd_words.specs.declared.rows.Pin.{Pin}
 use Rattle.iommufd_core.proofs.AreasHeld.{areas_absent, areas_found}
 use Rattle.iommufd_core.proofs.Flushed.{orderly}
 use Rattle.iommufd_core.proofs.Mapped.{areas_become}
-use Rattle.iommufd_core.proofs.Touched.{AreAlike, alike, among_touched, leaving_other, leaving_own, left_other, left_own, met_marked, met_within, touched_own, unmet_outside, waits_filtered}
+use Rattle.iommufd_core.proofs.Touched.{AreAlike, alike, leaving_other, leaving_own, left_other, left_own, met_marked, met_within, touched_own, unmet_outside, waits_filtered}
 use Rattle.iommufd_core.specs.Held.{areas_at, areas_in, objects_in}
 use Rattle.iommufd_core.specs.Shows.{Shows}
 use Rattle.iommufd_core.specs.Spaces.{HasAreas, IsOrderly}
 use Rattle.iommufd_core.specs.Step.{IsTidy}
-use Rattle.iommufd_core.specs.Mapping.{is_among, own_areas, some_waits}
+use Rattle.iommufd_core.specs.Mapping.{own_areas, some_waits}
 use Rattle.iommufd_core.specs.declared.held.Held.{Held}
 use Rattle.iommufd_core.specs.declared.state.State.{State}
 use Rattle.object_table.specs.Table as table
@@ -57,19 +61,19 @@ module _ {A : Type 0} where
 
   module _ (at : ℕ) (w : World) (s : State A) (file : FileNo) (request : UnmapRequest) (tidy : IsTidy at w) (shows : Shows w s) where
     pub own_shown : own_areas s.objects file request.ioas ≡ areas_of w.areas file request.ioas
-    own_shown = own_at s.objects file request.ioas (orderly at w s tidy shows) ∙ sym (shows.areas file request.ioas)
+    own_shown = own_at s.objects file request.ioas (orderly at w s tidy shows) ∙ sym (shows.objects.spaces file request.ioas)
 
     -- the devices attached to it
     attached_shown : devices_of (objects_in s.objects) s.attachments.items file request.ioas ≡ devices_of w.objects w.attachments file request.ioas
     attached_shown =
-        ap (λ (objects : List Object). devices_of objects s.attachments.items file request.ioas) (sym shows.objects)
-        ∙ ap (λ (attachments : List Attachment). devices_of w.objects attachments file request.ioas) (sym shows.attachments)
+        ap (λ (objects : List Object). devices_of objects s.attachments.items file request.ioas) (sym shows.objects.rows)
+        ∙ ap (λ (attachments : List Attachment). devices_of w.objects attachments file request.ioas) (sym shows.devices.attached)
 
     pub attached_is : (attached : List ℕ) (attachments : List Attachment) → attachments ≡ s.attachments.items
         → (devices_rise attachments ≡ true → attached ≡ devices_of (objects_in s.objects) attachments file request.ioas)
         → attached ≡ devices_of w.objects w.attachments file request.ioas
     attached_is attached attachments is gathered =
-        let rise : devices_rise attachments ≡ true = rw (is, ← shows.attachments) tidy.fit.rise in
+        let rise : devices_rise attachments ≡ true = rw (is, ← shows.devices.attached) tidy.fit.rise in
         gathered rise
         ∙ ap (λ (rows : List Attachment). devices_of (objects_in s.objects) rows file request.ioas) is
         ∙ attached_shown
@@ -83,8 +87,7 @@ module _ {A : Type 0} where
     module _ (none : refusal w (event.Unmap file request) ≡ None) (kept : AreKept (own_areas s.objects file request.ioas)) where
       -- no area is cut
       uncut : is_cut (unmapped_span request) (areas_of w.areas file request.ioas) ≡ false
-      unfolding refusal checks
-      uncut = tests_false (checks (view w) (event.Unmap file request)) 5 none
+      uncut = (unmap_passed (view w) file request (passes w (event.Unmap file request) none)).uncut
 
       are : AreAlike (unmapped_span request) (areas_of w.areas file request.ioas)
       are = let here : AreKept (areas_of w.areas file request.ioas) = rw own_shown at kept in alike (unmapped_span request) 0 (areas_of w.areas file request.ioas) here.apart uncut
@@ -98,20 +101,18 @@ module _ {A : Type 0} where
           let has : HasAreas file request.ioas (map (marked (unmapped_span request) (devices_of w.objects w.attachments file request.ioas)) (areas_at s.objects.rows file request.ioas)) s.objects t = rw (is_span, is_attached) at (marks (orderly at w s tidy shows)) in
           record {
             settings = shows.settings;
-            objects = shows.objects ∙ sym has.objects;
-            proper = has.proper;
-            areas =
-                areas_become (with_leaving w.areas devices file request) w s file request.ioas (map (marked (unmapped_span request) devices) (areas_at s.objects.rows file request.ioas)) t shows has
-                (leaving_own file request devices w.areas ∙ met_marked (unmapped_span request) devices (areas_of w.areas file request.ioas) are ∙ ap (map (marked (unmapped_span request) devices)) (shows.areas file request.ioas))
-                (leaving_other file request devices w.areas);
-            files = λ number. rw has.files (shows.files number);
-            bindings = shows.bindings;
-            attachments = shows.attachments;
+            objects = record {
+              rows = shows.objects.rows ∙ sym has.objects;
+              proper = has.proper;
+              spaces =
+                  areas_become (with_leaving w.areas devices file request) w s file request.ioas (map (marked (unmapped_span request) devices) (areas_at s.objects.rows file request.ioas)) t shows has
+                  (leaving_own file request devices w.areas ∙ met_marked (unmapped_span request) devices (areas_of w.areas file request.ioas) are ∙ ap (map (marked (unmapped_span request) devices)) (shows.objects.spaces file request.ioas))
+                  (leaving_other file request devices w.areas);
+              files = λ number. rw has.files (shows.objects.files number);
+            };
+            devices = shows.devices;
             memory = shows.memory;
-            user_pages = shows.user_pages;
-            pins = shows.pins;
             frames = shows.frames;
-            bytes = shows.bytes;
           }
 
       -- the touched areas are those of the address space that lie in the span
@@ -122,44 +123,46 @@ module _ {A : Type 0} where
       bytes_shown span is_span = ap bytes_of (touched_within span is_span)
 
       -- their memory objects are named
-      named : (span : Bounds) → span ≡ unmapped_span request → (area : Area) → Contains w.areas area → is_among (memories_of (areas_within span (own_areas s.objects file request.ioas))) area.memory ≡ is_touched file request area
+      named : (span : Bounds) → span ≡ unmapped_span request → (area : Area) → Contains w.areas area → is_over (areas_within span (own_areas s.objects file request.ioas)) area.memory ≡ is_touched file request area
       named span is_span area among =
-          ap (λ (areas : List Area). is_among (memories_of areas) area.memory) (sym (touched_within span is_span))
-          ∙ among_touched file request w.areas area.memory
-          ∙ named_by_area (is_touched file request) w.areas area tidy.pins.own among
+          ap (λ (areas : List Area). is_over areas area.memory) (sym (touched_within span is_span))
+          ∙ any-filter (λ (a : Area). eqb a.memory area.memory) (is_touched file request) w.areas
+          ∙ named_by_area (is_touched file request) w.areas area tidy.own among
 
       -- the touched areas go
-      pub shows_removed : (span : Bounds) (numbers : List ℕ) (t : Table (Held A)) (memory : Vec MemoryObject A) (pins : Vec Pin A) → span ≡ unmapped_span request
-          → numbers ≡ memories_of (areas_within span (own_areas s.objects file request.ioas))
+      pub shows_removed : (span : Bounds) (t : Table (Held A)) (memory : Vec MemoryObject A) (pins : Vec Pin A) → span ≡ unmapped_span request
+          → OwnPins (at + 1) (settle w (without_areas (is_touched file request) w))
           → (IsOrderly s.objects → HasAreas file request.ioas (areas_outside span (areas_at s.objects.rows file request.ioas)) s.objects t)
-          → memory.items ≡ filter (λ (m : MemoryObject). not (is_among numbers m.number)) s.memory.items
-          → pins.items ≡ filter (λ (pin : Pin). not (is_among numbers pin.memory)) s.pins.items
+          → memory.items ≡ without_memory (is_over (areas_within span (own_areas s.objects file request.ioas))) s.memory.items
+          → pins.items ≡ without_pins (is_over (areas_within span (own_areas s.objects file request.ioas))) s.pins.items
           → Shows (settle w (without_areas (is_touched file request) w)) (record s { objects = t; memory = memory; pins = pins })
       unfolding settle without_areas
-      shows_removed span numbers t memory pins is_span is_numbers removes dropped unpinned =
+      shows_removed span t memory pins is_span next removes dropped unpinned =
           let has : HasAreas file request.ioas (areas_outside (unmapped_span request) (areas_at s.objects.rows file request.ioas)) s.objects t = rw is_span at (removes (orderly at w s tidy shows)) in
-          let names : (area : Area) → Contains w.areas area → is_among numbers area.memory ≡ is_touched file request area = λ area among. rw is_numbers (named span is_span area among) in
           record {
             settings = shows.settings;
-            objects = shows.objects ∙ sym has.objects;
-            proper = has.proper;
-            areas =
-                areas_become (filter (λ (a : Area). not (is_touched file request a)) w.areas) w s file request.ioas (areas_outside (unmapped_span request) (areas_at s.objects.rows file request.ioas)) t shows has
-                (left_own file request w.areas ∙ unmet_outside (unmapped_span request) (areas_of w.areas file request.ioas) are ∙ ap (areas_outside (unmapped_span request)) (shows.areas file request.ioas))
-                (left_other file request w.areas);
-            files = λ number. rw has.files (shows.files number);
-            bindings = shows.bindings;
-            attachments = shows.attachments;
-            memory =
-                kept_memory (is_touched file request) (is_among numbers) w.areas w.memory tidy.pins.own tidy.pins.used names
-                ∙ ap (filter (λ (m : MemoryObject). not (is_among numbers m.number))) shows.memory ∙ sym dropped;
-            user_pages = shows.user_pages;
-            pins =
-                kept_pins (is_touched file request) (is_among numbers) w.objects w.objects w.areas _ w.user_pages w.pins tidy.pins.own tidy.pins.only (λ f i table. table)
-                (λ area among table. names area among ∙ (let kept : (b c : Bool) → c ≡ true → b ≡ not (not b && c) = twice in kept _ _ table))
-                ∙ ap (filter (λ (pin : Pin). not (is_among numbers pin.memory))) shows.pins ∙ sym unpinned;
+            objects = record {
+              rows = shows.objects.rows ∙ sym has.objects;
+              proper = has.proper;
+              spaces =
+                  areas_become (filter (λ (a : Area). not (is_touched file request a)) w.areas) w s file request.ioas (areas_outside (unmapped_span request) (areas_at s.objects.rows file request.ioas)) t shows has
+                  (left_own file request w.areas ∙ unmet_outside (unmapped_span request) (areas_of w.areas file request.ioas) are ∙ ap (areas_outside (unmapped_span request)) (shows.objects.spaces file request.ioas))
+                  (left_other file request w.areas);
+              files = λ number. rw has.files (shows.objects.files number);
+            };
+            devices = shows.devices;
+            memory = record {
+              objects =
+                  kept_memory (is_touched file request) (is_over (areas_within span (own_areas s.objects file request.ioas))) w.areas w.memory tidy.own tidy.pins.used (named span is_span)
+                  ∙ ap (without_memory (is_over (areas_within span (own_areas s.objects file request.ioas)))) shows.memory.objects ∙ sym dropped;
+              pages = shows.memory.pages;
+              pinned =
+                  pins_follow at w s.pins.items tidy.pins shows.memory.pinned (at + 1) (settle w (without_areas (is_touched file request) w)) next refl pins.items
+                  (unpinned
+                  ∙ sym (kept_pins (is_touched file request) (is_over (areas_within span (own_areas s.objects file request.ioas))) w.objects w.objects w.areas _ w.user_pages s.pins.items tidy.own (only_kept at w s.pins.items tidy.pins shows.memory.pinned) (λ f i table. table)
+                  (λ area among table. named span is_span area among ∙ (let kept : (b c : Bool) → c ≡ true → b ≡ not (not b && c) = twice in kept _ _ table))));
+            };
             frames = shows.frames;
-            bytes = shows.bytes;
           }
         where
           twice : (b c : Bool) → c ≡ true → b ≡ not (not b && c)
@@ -201,10 +204,10 @@ converted (Err e) v is fits never = is fits
 -- it names a span
 pub names_span : {X : Type 0} (w : World) (file : FileNo) (request : UnmapRequest) (o : Option X) → refusal w (event.Unmap file request) ≡ None → o ≡ None
     → (0 < request.length → is_above_sum request.iova.0 request.length ≡ false → is_some o ≡ true) → ⊥
-unfolding refusal checks
 names_span w file request o none lacks some =
-    let sum : is_above_sum request.iova.0 request.length ≡ false = tests_false (checks (view w) (event.Unmap file request)) 1 none in
-    let length : eqb request.length 0 ≡ false = tests_false (checks (view w) (event.Unmap file request)) 2 none in
+    let passed = unmap_passed (view w) file request (passes w (event.Unmap file request) none) in
+    let sum : is_above_sum request.iova.0 request.length ≡ false = passed.sum in
+    let length : eqb request.length 0 ≡ false = passed.some in
     let positive : 0 < request.length = grind (arith, nat_tests) in
     let told = some positive sum in
     cc

@@ -1,22 +1,42 @@
 -- Which of the lawful answers is given: where a flush is owed the fault, and to a user's new page the least free frame.
-use Rattle.std.specs.Prelude.{◌≡◌, Option, Some, None, List, [], ◌∷◌, map, Contains}
-use Rattle.iofd_words.specs.Policy.{Passes, outcomes}
+use Rattle.std.specs.Prelude.{◌≡◌, Bool, true, false, Option, Some, None, List, [], ◌∷◌, find, Contains}
+use Rattle.std.specs.List.{list_any}
+use Rattle.std.specs.Option.{option_map}
+use Rattle.iofd_words.specs.Answers.{write_reply}
+use Rattle.iofd_words.specs.Policy.{Outcome, Passes, Denied, outcomes}
 use Rattle.iofd_words.specs.World.{World}
 use Rattle.iofd_words.specs.declared.event.Event.{Event}
 use Rattle.iofd_words.specs.declared.event.Event.TheVariants as event
 use Rattle.iofd_words.specs.declared.fault.AccessKind.TheVariants.{Write}
 use Rattle.iofd_words.specs.declared.numbers.FrameNo.{FrameNo}
+use Rattle.iofd_words.specs.declared.query.Answer.{Answer}
+use Rattle.iofd_words.specs.declared.query.Answer.TheVariants as answer
 use Rattle.iofd_words.specs.declared.reply.Reply.{Reply}
-use Rattle.iofd_words.specs.Answers.{write_reply}
 use Rattle.iofd_words.specs.declared.reply.Reply.TheVariants as reply
 use Rattle.iommufd_core.specs.Pages.{free_frame}
-use Rattle.std.specs.Option.{option_map}
 
--- the last of them: a pass stands before a fault
-abbrev pub last_of : {X : Type 0} → List X → Option X
-last_of [] = None
-last_of (x ∷ []) = Some x
-last_of (x ∷ y ∷ ys) = last_of (y ∷ ys)
+-- of what may come of an access, what comes of it without a cached frame: the denial where one is lawful, else the pass
+abbrev pub is_denial : Outcome → Bool
+is_denial (Passes frame) = false
+is_denial (Denied reason) = true
+
+abbrev pub first_of : {X : Type 0} → List X → Option X
+first_of [] = None
+first_of (x ∷ xs) = Some x
+
+abbrev pub without_cache : List Outcome → Option Outcome
+without_cache outcomes = elim (find is_denial outcomes) [ Some denial ↦ Some denial | None ↦ first_of outcomes ]
+
+-- the same of the answers to a question
+abbrev pub is_fault : Answer → Bool
+is_fault (answer.Read bytes) = false
+is_fault (answer.Fault fault) = true
+is_fault (answer.Refused refusal) = false
+
+-- the answer that is given to a question: one of the lawful ones, the fault where it is among them
+pub record IsLooked (lawful : List Answer) (given : Answer) : Type 0 where
+  pub is_lawful : Contains lawful given
+  pub is_fault_else : list_any is_fault lawful ≡ true → is_fault given ≡ true
 
 -- the cached frame is one at which the policy lets the write pass now; only a device's write may have one
 abbrev pub MayUse : World → Event → Option FrameNo → Type 0
@@ -24,10 +44,23 @@ MayUse w e None = Unit {0}
 MayUse w (event.DeviceWrite device iova bytes) (Some frame) = Contains (outcomes w device iova.0 Write) (Passes frame)
 MayUse w e (Some frame) = ⊥
 
--- what a device's write is answered: it passes at the cached frame, if there is one; else the last of the lawful answers.
--- A user's new page gets the least frame that nobody reaches.
+-- what a device's write is answered: it passes at the cached frame, if there is one
+abbrev pub WriteChosen : Option Outcome → Option FrameNo → (Outcome → Reply) → Reply → Type 0
+WriteChosen uncached None told answer = option_map told uncached ≡ Some answer
+WriteChosen uncached (Some frame) told answer = answer ≡ told (Passes frame)
+
+-- a user's new page gets the least frame that nobody reaches; which id an object gets is the server's
 abbrev pub IsChosen : World → Event → Option FrameNo → Reply → Type 0
-IsChosen w (event.DeviceWrite device iova bytes) None answer = last_of (map (write_reply w device iova.0) (outcomes w device iova.0 Write)) ≡ Some answer
-IsChosen w (event.DeviceWrite device iova bytes) (Some frame) answer = answer ≡ write_reply w device iova.0 (Passes frame)
-IsChosen w (event.UserMap user va) via answer = option_map reply.Frame (free_frame w.settings.pool w.user_pages w.pins) ≡ Some answer
-IsChosen w e via answer = Unit {0}
+IsChosen w (event.IoasAlloc file) via answer = Unit {0}
+IsChosen w (event.Map file request) via answer = Unit {0}
+IsChosen w (event.Unmap file request) via answer = Unit {0}
+IsChosen w (event.Destroy file id) via answer = Unit {0}
+IsChosen w (event.Close file) via answer = Unit {0}
+IsChosen w (event.UserMap user va) via answer =
+    option_map reply.Frame (free_frame w.settings.pool w.user_pages w.pins w.table_frames) ≡ Some answer
+IsChosen w (event.Bind file device) via answer = Unit {0}
+IsChosen w (event.Attach device pt_id) via answer = Unit {0}
+IsChosen w (event.Detach device) via answer = Unit {0}
+IsChosen w (event.Flush device) via answer = Unit {0}
+IsChosen w (event.DeviceWrite device iova bytes) via answer =
+    WriteChosen (without_cache (outcomes w device iova.0 Write)) via (write_reply w device iova.0) answer

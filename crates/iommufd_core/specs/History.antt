@@ -1,5 +1,5 @@
 -- What a core is seen as: what it was opened with, and its records.
-use Rattle.std.specs.Prelude.{ℕ, Bool, true, false, ◌&&◌, ◌==◌, Option, Some, None, is_none, List, [], ◌∷◌, ◌++◌, length}
+use Rattle.std.specs.Prelude.{◌≡◌, ℕ, Bool, true, false, ◌&&◌, ◌==◌, Option, Some, None, is_none, List, [], ◌∷◌, ◌++◌, length}
 use Rattle.std.specs.List.{list_any}
 use Rattle.iofd_words.specs.FirstTrue.{first_true}
 use Rattle.iofd_words.specs.Look.{query_checks}
@@ -38,13 +38,17 @@ module _ {A : Type 0} where
   abbrev pub world : History A → World
   world h = world_of h.settings h.records
 
-  -- the record of this caller, with this event and reply, and no table frames
+  -- one more record, of this caller and event and with this reply; which table frames it took and gave back is as its steps allow
+  pub record HasOneMore (caller : PassNo) (e : Event) (answer : Reply) (old new : History A) : Type 0 where
+    pub made : Record A
+    pub records : new ≡ record old { records = old.records ++ made ∷ [] }
+    pub pass : made.pass ≡ caller
+    pub event : made.event ≡ e
+    pub reply : made.reply ≡ answer
+
+  -- a record that took and gave back no table frames
   abbrev pub recorded : PassNo → Event → Reply → Record A
   recorded pass event reply = record { pass = pass; event = event; reply = reply; taken = []; given = [] }
-
-  -- one more record
-  abbrev pub with_record : PassNo → Event → Reply → History A → History A
-  with_record pass event reply h = record h { records = h.records ++ recorded pass event reply ∷ [] }
 
   -- an act may be applied: it has no cached frame, or is a device's write that may pass at that frame
   abbrev pub may_apply : History A → Event → Option FrameNo → Bool

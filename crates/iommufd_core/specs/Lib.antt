@@ -8,7 +8,6 @@ pub mod Memory
 pub mod Outcomes
 pub mod Pages
 pub mod PinLists
-pub mod Room
 pub mod Seen
 pub mod Server
 pub mod Shows

@@ -44,7 +44,3 @@ own_areas table file ioas = elim (own table file Ioas ioas) [ Some row ↦ areas
 -- some area that meets the span waits for a device, where those attached are given
 abbrev pub some_waits : Bounds → List ℕ → List Area → Bool
 some_waits span attached areas = list_any (λ area. meets area.span span && not (length (owed_by attached area.phase) == 0)) areas
-
--- the number is one of these
-abbrev pub is_among : List ℕ → ℕ → Bool
-is_among numbers number = list_any (λ n. n == number) numbers

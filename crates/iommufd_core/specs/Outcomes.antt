@@ -4,6 +4,7 @@ use Rattle.iofd_words.specs.Policy.{Outcome, Passes, Denied}
 use Rattle.iofd_words.specs.declared.fault.FaultReason.TheVariants.{WriteDenied}
 use Rattle.iofd_words.specs.declared.fault.FaultReason.{FaultReason}
 use Rattle.iofd_words.specs.declared.numbers.FrameNo.{FrameNo}
+use Rattle.iommufd_core.specs.Choice.{without_cache}
 use Rattle.iommufd_core.specs.declared.access.Access.{Access}
 use Rattle.iommufd_core.specs.declared.access.Access.TheVariants as access
 
@@ -23,13 +24,11 @@ abbrev pub passes_at : Option FrameNo → List Outcome
 passes_at None = []
 passes_at (Some frame) = Passes frame ∷ []
 
--- the outcome that is given: a pass at the cached frame, if there is one; else the last that may be, or where
--- none may be (which no run leads to) a denial
+-- the outcome that is given: a pass at the cached frame, if there is one; else what comes of it without a cached frame, or where
+-- nothing may come of it (which no run leads to) a denial
 abbrev pub given_outcome : Option FrameNo → List Outcome → Outcome
 given_outcome (Some frame) outcomes = Passes frame
-given_outcome None [] = Denied WriteDenied
-given_outcome None (x ∷ []) = x
-given_outcome None (x ∷ y ∷ ys) = given_outcome None (y ∷ ys)
+given_outcome None outcomes = elim (without_cache outcomes) [ Some outcome ↦ outcome | None ↦ Denied WriteDenied ]
 
 abbrev pub outcome_told : Result FrameNo FaultReason → Outcome
 outcome_told (Ok frame) = Passes frame

@@ -1,5 +1,8 @@
 -- What is kept, as the view that the refusals and the policy read. It is that of the world that is shown.
+use Rattle.std.specs.Prelude.{[]}
+use Rattle.iofd_words.specs.Frames as frame
 use Rattle.iofd_words.specs.Objects as object
+use Rattle.iofd_words.specs.Pins as pin
 use Rattle.iofd_words.specs.View.{View}
 use Rattle.iommufd_core.specs.Held.{areas_at, objects_in}
 use Rattle.iommufd_core.specs.declared.state.State.{State}
@@ -14,7 +17,8 @@ seen s =
       binding_of = object.binding_of s.bindings.items;
       attachments = s.attachments.items;
       areas_of = areas_at s.objects.rows;
-      memory = s.memory.items;
-      user_pages = s.user_pages.items;
-      pins = s.pins.items;
+      frame_at = frame.frame_at s.user_pages.items;
+      frame_now = pin.frame_now s.memory.items s.user_pages.items;
+      pinned_frame = pin.pinned_frame s.pins.items;
+      free_count = frame.free_count s.config.pool s.user_pages.items s.pins.items [];
     }

@@ -1,16 +1,30 @@
 -- What a core is seen as.
-use Rattle.std.specs.Prelude.{◌≡◌, ◌⊎◌, None}
+use Rattle.std.specs.Prelude.{◌≡◌, ◌⊎◌, ℕ, Bool, true, false, None, IsTrue}
 use Rattle.iofd_words.specs.Checks.{refusal}
 use Rattle.iofd_words.specs.declared.event.Event.{Event}
+use Rattle.iofd_words.specs.declared.event.Event.TheVariants as event
 use Rattle.iommufd_core.specs.History.{History, world}
-use Rattle.iommufd_core.specs.Room.{Lacks, Room}
 
--- its history, and the places that its lists have left
+-- its history, and for how many more records there is memory
 pub record Server (A : Type 0) : Type 0 where
   pub history : History A
-  pub room : Room
+  pub room : ℕ
+
+-- the kinds of event that may take memory beside their record's: those by which something comes
+abbrev pub takes_memory : Event → Bool
+takes_memory (event.IoasAlloc file) = true
+takes_memory (event.Map file request) = true
+takes_memory (event.Unmap file request) = false
+takes_memory (event.Destroy file id) = false
+takes_memory (event.Close file) = false
+takes_memory (event.UserMap user va) = true
+takes_memory (event.Bind file device) = true
+takes_memory (event.Attach device pt_id) = true
+takes_memory (event.Detach device) = false
+takes_memory (event.Flush device) = false
+takes_memory (event.DeviceWrite device iova bytes) = false
 
 -- the only time at which memory may be wanting: there is no place for the record, or nothing refuses the event and it
--- needs a place that isn't there
+-- is of a kind that may take memory
 abbrev pub MayWant : {A : Type 0} → Server A → Event → Type 0
-MayWant s e = (s.room.records ≡ 0) ⊎ ((refusal (world s.history) e ≡ None) × Lacks s.room (world s.history) e)
+MayWant s e = (s.room ≡ 0) ⊎ ((refusal (world s.history) e ≡ None) × IsTrue (takes_memory e))

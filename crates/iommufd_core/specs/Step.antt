@@ -6,7 +6,7 @@ use Rattle.iofd_words.specs.Checks.{refusal}
 use Rattle.iofd_laws.specs.Debts.{DebtsAttached}
 use Rattle.iofd_laws.specs.Fits.{RowsFit}
 use Rattle.iofd_laws.specs.Laws.{have_own_ids}
-use Rattle.iofd_laws.specs.Pinned.{ArePinned}
+use Rattle.iofd_laws.specs.Pinned.{ArePinned, have_own_memory}
 use Rattle.iofd_words.specs.World.{World}
 use Rattle.iofd_words.specs.declared.event.Event.{Event}
 use Rattle.iofd_words.specs.declared.numbers.FrameNo.{FrameNo}
@@ -15,13 +15,14 @@ use Rattle.iofd_words.specs.Run.{Lawful, after}
 use Rattle.iofd_words.specs.declared.numbers.PassNo.{PassNo}
 use Rattle.iommufd_core.specs.Choice.{IsChosen, MayUse}
 use Rattle.iommufd_core.specs.History.{recorded}
-use Rattle.iommufd_core.specs.Room.{Lacks, room_of}
 use Rattle.iommufd_core.specs.Shows.{Shows}
 use Rattle.iommufd_core.specs.declared.state.State.{State}
 
 -- the world of a run: what laws say of it, at the position of the next record
 pub record IsTidy (at : ℕ) (w : World) : Type 0 where
   pub pins : ArePinned at w
+  -- no area is a copy yet
+  pub own : have_own_memory w.areas ≡ true
   pub debts : DebtsAttached w
   pub ids : have_own_ids w.objects ≡ true
   pub fit : RowsFit w
@@ -53,11 +54,3 @@ module _ {A : Type 0} where
       (pass : PassNo) (w : World) → IsTidy at w → Shows w old → (refusal w event ≡ None → MayUse w event via)
       → Lawful w (recorded {A = A} pass event reply) × (refusal w event ≡ None → IsChosen w event via reply)
       × Shows (after at w (recorded {A = A} pass event reply)) new
-
-  -- where nothing refuses the event, it needs a place that isn't there
-  abbrev pub LacksPlace : ℕ → Event → State A → Type 0
-  LacksPlace at event s = (records : ℕ) (w : World) → IsTidy at w → Shows w s → refusal w event ≡ None → Lacks (room_of s records) w event
-
-  -- nothing refuses the event, and it needs a place that isn't there
-  abbrev pub MayWant : ℕ → Event → State A → Type 0
-  MayWant at event s = (records : ℕ) (w : World) → IsTidy at w → Shows w s → (refusal w event ≡ None) × Lacks (room_of s records) w event

@@ -4,7 +4,10 @@ ghost use Rattle.std.specs.Prelude.{◌≡◌, ◌-◌, ◌/◌, ◌^◌, ◌∷
 ghost use Rattle.std.specs.List.{list_any};
 ghost use Rattle.std.specs.Option.{option_copied, option_map_or};
 ghost use Rattle.iofd_words.specs.Areas.{area_at};
+ghost use Rattle.iofd_words.specs.Checks.{access_checks};
 ghost use Rattle.iofd_words.specs.Files as files;
+ghost use Rattle.iofd_words.specs.FirstTrue.{first_true};
+ghost use Rattle.iofd_words.specs.Pages.{crosses};
 ghost use Rattle.iofd_words.specs.Pins as pinned;
 ghost use Rattle.iofd_words.specs.Policy as policy;
 ghost use Rattle.iofd_words.specs.Width.{bits_of};
@@ -17,8 +20,8 @@ use crate::held::Held;
 use crate::state::State;
 use crate::{devices, lookups};
 use iofd_words::{
-    AccessKind, Area, Attachment, Config, DeviceNo, FaultReason, FileNo, FrameNo, ObjId,
-    ObjectKind, Phase, Pin,
+    AccessKind, Area, Attachment, Cause, Config, DeviceNo, FaultReason, FileNo, FrameNo, Iova,
+    ObjId, ObjectKind, Phase, Pin,
 };
 use object_table::ObjectTable;
 use std::alloc::Allocator;
@@ -32,6 +35,31 @@ enum Access {
     Denied(FaultReason),
     /// The device still owes a flush: the access may pass and may be denied.
     Either(FrameNo, FaultReason),
+}
+
+/// Why the device's access to so many bytes is refused, a read or a write.
+pub(crate) fn refusal<A: Allocator>(
+    state: &State<A>,
+    device: DeviceNo,
+    iova: Iova,
+    len: usize,
+) -> Option<Cause>
+    ensures { result ≡ first_true (access_checks (seen state.now) device iova len) }
+{
+    if state.binding_of(device).is_none() {
+        return Some(Cause::Id);
+    }
+    if crosses(iova, len) {
+        return Some(Cause::Cross);
+    }
+    None
+}
+
+/// Whether so many bytes are none or more than 64, or leave the page.
+fn crosses(iova: Iova, len: usize) -> bool
+    ensures { result ≡ crosses iova.0 len }
+{
+    len == 0 || len > 64 || iova.0 % 4096 + len as u64 > 4096
 }
 
 /// What may come of the device's access to this address. None where the area has no pin for the page, which
@@ -139,7 +167,7 @@ fn at_area(
     kind: AccessKind,
     area: &Area,
 ) -> Option<Access>
-    ensures { outcomes_of result ≡ policy.at_area pins.now device address kind (Some area.now) }
+    ensures { outcomes_of result ≡ policy.at_area (pinned.pinned_frame pins.now) device address kind (Some area.now) }
 {
     if !area.rights.allow(kind) {
         return Some(Access::Denied(kind.denied()));

@@ -1,11 +1,11 @@
 //! The core: a state, and the records of all steps that led to it.
 
-ghost use Rattle.std.specs.Prelude.{◌≡◌, ◌+◌, [], IfOk, IsTrue, Some, OnErr, length, None};
+ghost use Rattle.std.specs.Prelude.{◌≡◌, [], IfOk, IsTrue, OnErr, length, None};
 ghost use Rattle.iofd_words.specs.Checks as checks;
 ghost use Rattle.iofd_words.specs.Look.{answers_to};
 ghost use Rattle.iofd_words.specs.Run.{IsRun};
-ghost use Rattle.iommufd_core.specs.Choice.{IsChosen, last_of};
-ghost use Rattle.iommufd_core.specs.History.{may_apply, passes_in, with_record, world};
+ghost use Rattle.iommufd_core.specs.Choice.{IsChosen, IsLooked};
+ghost use Rattle.iommufd_core.specs.History.{HasOneMore, may_apply, passes_in, world};
 ghost use Rattle.iommufd_core.specs.Server.{MayWant};
 
 use crate::state::State;
@@ -24,8 +24,8 @@ pub struct Stamp {
     pub reply: Reply,
 }
 
-/// The server of one thread: what it was opened with, and its history. A contract sees both, and the places that are
-/// left in its lists; the world is what the records have left.
+/// The server of one thread: what it was opened with, and its history. A contract sees both, and for how many more
+/// records there is memory; the world is what the records have left.
 #[derive(Drop)]
 pub struct Core<A: Allocator = Global> {
     state: State<A>,
@@ -35,14 +35,13 @@ pub struct Core<A: Allocator = Global> {
 impl<A: Allocator> Model for Core<A> {
     ghost use Rattle.std.specs.Prelude.{◌-◌, vec_len, vec_capacity};
     ghost use Rattle.iommufd_core.specs.Kept.{IsKept};
-    ghost use Rattle.iommufd_core.specs.Room.{room_of};
     ghost use Rattle.iommufd_core.specs.Server.{Server};
 
     ghost Value = { Server A };
 
     ghost view = { λ c. record {
       history = record { settings = c.state.config; records = c.records.items };
-      room = room_of c.state (vec_capacity c.records - vec_len c.records);
+      room = vec_capacity c.records - vec_len c.records;
     } };
 
     ghost invariant = { λ c. IsKept c.state c.records.items };
@@ -67,14 +66,14 @@ impl<A: Allocator + Copy> Core<A> {
     /// NoMemory comes only where a growth was really refused, and leaves everything as it was.
     pub fn apply(&mut self, pass: PassNo, act: &Act) -> Result<Stamp, NoMemory>
         requires { IsTrue (may_apply self.old.history act.now.event act.now.via) }
-        ensures record { IfOk result (λ stamp. self.new.history
-            ≡ with_record pass act.now.event stamp.reply self.old.history) }
+        ensures record { IfOk result (λ stamp. HasOneMore pass act.now.event stamp.reply self.old.history self.new.history) }
         ensures at { IfOk result (λ stamp. stamp.at ≡ length self.old.history.records) }
         ensures run { IsRun self.new.history.settings self.new.history.records }
         ensures chosen { IfOk result (λ stamp.
             checks.refusal (world self.old.history) act.now.event ≡ None → IsChosen (world self.old.history) act.now.event act.now.via stamp.reply) }
 
-        // Want of memory comes only where a place is lacking that the event or its record needs, and changes nothing.
+        // Want of memory comes only where the record has no place, or to an event that nothing refuses and by which
+        // something comes. It changes nothing.
         ensures memory { OnErr result (MayWant self.old act.now.event) }
         ensures unchanged { OnErr result (self.new.history ≡ self.old.history) }
     {
@@ -101,7 +100,7 @@ impl<A: Allocator> Core<A> {
     /// Answers a question about the world. It takes no memory and changes nothing. A device that owes the area
     /// a flush is denied.
     pub fn look(&self, query: &Query) -> Answer
-        ensures { last_of (answers_to (world self.now.history) query.now) ≡ Some result }
+        ensures { IsLooked (answers_to self.now.history.settings self.now.history.records query.now) result }
     {
         let (device, iova, len) = device_read::parts_of(query);
         device_read::look(&self.state, device, iova, len)

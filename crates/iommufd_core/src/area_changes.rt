@@ -1,14 +1,14 @@
 //! Changes of one address space's areas: one comes, or some go.
 
-ghost use Rattle.std.specs.Prelude.{◌≡◌, ◌==◌, ◌+◌, ◌≤◌, ◌++◌, not, true, None, [], length, map, OnOk, OnErr, MatchOption, vec_len, vec_capacity};
-ghost use Rattle.area_map.specs.Areas.{AreKept, areas_outside, areas_within, bytes_of, marked, memories_of, with_area};
+ghost use Rattle.std.specs.Prelude.{◌≡◌, ◌==◌, not, true, None, [], length, map, OnOk, OnErr, MatchOption};
+ghost use Rattle.area_map.specs.Areas.{AreKept, areas_outside, areas_within, bytes_of, marked, with_area};
 ghost use Rattle.area_map.specs.Insertion.{insert_refusal};
 ghost use Rattle.iofd_words.specs.Areas.{owed_by};
 ghost use Rattle.iofd_words.specs.Objects.{has_ioas, is_ioas};
 ghost use Rattle.iommufd_core.specs.Held.{areas_at, areas_in, kind_in, objects_in};
 ghost use Rattle.iommufd_core.specs.Spaces.{IsOrderly, IsWith, HasAreas};
 ghost use Rattle.iommufd_core.specs.Mapping.{own_areas, some_waits};
-ghost use Rattle.iommufd_core.specs.Room.{areas_left, left_in, space_room};
+ghost use Rattle.iommufd_core.specs.Memory.{is_over};
 
 use crate::held::Held;
 use area_map::{Areas, InsertError};
@@ -30,7 +30,6 @@ pub(crate) fn insert<A: Allocator>(
         → HasAreas file ioas (with_area area (areas_at table.old.rows file ioas)) table.old table.new) }
     ensures err { OnErr result (IsOrderly table.old
         → HasAreas file ioas (areas_at table.old.rows file ioas) table.old table.new) }
-    ensures memory { OnErr result (IsOrderly table.old → areas_left (map space_room table.old.rows) file ioas ≡ 0) }
 {
     match table.get_mut(file, Kind::Ioas, ioas) {
         Ok(held) => insert_held(held, area),
@@ -42,7 +41,6 @@ fn insert_held<A: Allocator>(held: &mut Held<A>, area: Area) -> Result<(), NoMem
     ensures ok { OnOk result (is_ioas (kind_in held.old) ≡ true → insert_refusal area.span (areas_in held.old) ≡ None
         → IsWith (with_area area (areas_in held.old)) held.old held.new) }
     ensures err { OnErr result (IsWith (areas_in held.old) held.old held.new) }
-    ensures memory { OnErr result (left_in held.old ≡ 0) }
 {
     match held {
         Held::Ioas(areas) => match areas.insert(area) {
@@ -97,22 +95,23 @@ fn waits(phase: &Phase, attached: &DeviceSet) -> bool
     }
 }
 
-/// How many areas of the address space lie in the span.
-pub(crate) fn count_within<A: Allocator>(
+/// Whether an area of the address space that lies in the span is over the memory object of this number.
+pub(crate) fn has_memory_within<A: Allocator>(
     table: &ObjectTable<Held<A>, A>,
     file: FileNo,
     ioas: ObjId,
     span: Span,
-) -> usize
-    ensures { result ≡ length (areas_within span (own_areas table.now file ioas)) }
+    memory: u64,
+) -> bool
+    ensures { result ≡ is_over (areas_within span (own_areas table.now file ioas)) memory }
 {
     match own_areas(table, file, ioas) {
-        Some(areas) => areas.count_within(span),
-        None => 0,
+        Some(areas) => areas.has_memory_within(span, memory),
+        None => false,
     }
 }
 
-/// How many addresses those areas have together.
+/// How many addresses the areas of the address space that lie in the span have together.
 pub(crate) fn bytes_within<A: Allocator>(
     table: &ObjectTable<Held<A>, A>,
     file: FileNo,
@@ -153,34 +152,27 @@ fn mark_held<A: Allocator>(held: &mut Held<A>, span: Span, owed: &DeviceSet)
     }
 }
 
-/// Takes away the areas of the address space that lie in the span, and appends the numbers of their memory objects to
-/// `removed`, which has room for them.
+/// Takes away the areas of the address space that lie in the span.
 #[tactic(auto, using(crate::proofs::AreasHeld::areas_absent, crate::proofs::AreasHeld::unwritten))]
-pub(crate) fn remove_within<A: Allocator>(
+pub(crate) fn remove<A: Allocator>(
     table: &mut ObjectTable<Held<A>, A>,
     file: FileNo,
     ioas: ObjId,
     span: Span,
-    removed: &mut Vec<u64, A>,
 )
-    requires { vec_len removed.old + length (areas_within span (own_areas table.old file ioas)) ≤ vec_capacity removed.old }
-    ensures areas { IsOrderly table.old
+    ensures { IsOrderly table.old
         → HasAreas file ioas (areas_outside span (areas_at table.old.rows file ioas)) table.old table.new }
-    ensures removed { removed.new.items
-        ≡ removed.old.items ++ memories_of (areas_within span (own_areas table.old file ioas)) }
 {
     match table.get_mut(file, Kind::Ioas, ioas) {
-        Ok(held) => remove_held(held, span, removed),
+        Ok(held) => remove_held(held, span),
         Err(_) => (),
     }
 }
 
-fn remove_held<A: Allocator>(held: &mut Held<A>, span: Span, removed: &mut Vec<u64, A>)
-    requires { vec_len removed.old + length (areas_within span (areas_in held.old)) ≤ vec_capacity removed.old }
-    ensures areas { IsWith (areas_outside span (areas_in held.old)) held.old held.new }
-    ensures removed { removed.new.items ≡ removed.old.items ++ memories_of (areas_within span (areas_in held.old)) }
+fn remove_held<A: Allocator>(held: &mut Held<A>, span: Span)
+    ensures { IsWith (areas_outside span (areas_in held.old)) held.old held.new }
 {
     if let Held::Ioas(areas) = held {
-        areas.remove_within(span, removed);
+        areas.remove(span);
     }
 }

@@ -1,8 +1,8 @@
 //! Attach: a device translates by an address space.
 
-ghost use Rattle.std.specs.Prelude.{◌≡◌, ℕ, IfOk, OnErr};
+ghost use Rattle.std.specs.Prelude.{◌≡◌, ℕ, Some, IfOk, OnErr};
 ghost use Rattle.std.specs.List.{flat_map};
-ghost use Rattle.iofd_words.specs.Checks.{checks, lacks_attached_page, lacks_room_for_hwpt};
+ghost use Rattle.iofd_words.specs.Checks.{checks, lacks_attached_page, lacks_room_for_hwpt, target_checks};
 ghost use Rattle.iofd_words.specs.FirstTrue.{first_true};
 ghost use Rattle.iofd_words.specs.Files.{device_of};
 ghost use Rattle.iofd_words.specs.Objects as objects;
@@ -11,13 +11,13 @@ ghost use Rattle.iofd_words.specs.declared.event.Event.TheVariants as event;
 ghost use Rattle.iommufd_core.specs.Held.{areas_at, objects_in};
 ghost use Rattle.iommufd_core.specs.PinLists as words;
 ghost use Rattle.iommufd_core.specs.Seen.{seen};
-ghost use Rattle.iommufd_core.specs.Step.{LacksPlace, ShowsSame, Steps};
+ghost use Rattle.iommufd_core.specs.Step.{ShowsSame, Steps};
 
 use crate::held::Held;
 use crate::state::State;
 use crate::{attachments, devices, lookups, pins};
 use iofd_words::{
-    Area, Attachment, Cause, Config, DeviceNo, FileNo, NoMemory, ObjId, Reply, Width,
+    Area, Attachment, Cause, Config, DeviceNo, FileNo, NoMemory, ObjId, ObjectKind, Reply, Width,
 };
 use object_table::{Kind, ObjectTable, ReserveError};
 use std::alloc::Allocator;
@@ -37,13 +37,38 @@ pub(crate) fn refusal<A: Allocator>(
     if state.attachment_of(device).is_some() {
         return Some(Cause::Bound);
     }
-    if !has_ioas(&state.objects, bound.file, pt_id) {
-        return Some(Cause::Id);
+    refusal_by_target(state, device, bound.file, pt_id)
+}
+
+/// Why it is refused by what the file has under the id. Only an address space may be named yet.
+fn refusal_by_target<A: Allocator>(
+    state: &State<A>,
+    device: DeviceNo,
+    file: FileNo,
+    pt_id: ObjId,
+) -> Option<Cause>
+    ensures { result ≡ first_true (target_checks (seen state.now) device pt_id file
+        (objects.kind_of (objects_in state.now.objects) file pt_id)) }
+{
+    match lookups::kind_of(&state.objects, file, pt_id) {
+        Some(ObjectKind::Ioas) => refusal_by_space(state, device, file, pt_id),
+        Some(ObjectKind::Hwpt { .. }) | Some(ObjectKind::Device(_)) | None => Some(Cause::Id),
     }
-    if lacks_room(state, device, bound.file, pt_id) {
+}
+
+/// Why an attachment to the address space is refused.
+fn refusal_by_space<A: Allocator>(
+    state: &State<A>,
+    device: DeviceNo,
+    file: FileNo,
+    ioas: ObjId,
+) -> Option<Cause>
+    ensures { result ≡ first_true (target_checks (seen state.now) device ioas file (Some ObjectKind.Ioas)) }
+{
+    if lacks_room(state, device, file, ioas) {
         return Some(Cause::Full);
     }
-    if lacks_page(state, bound.file, pt_id) {
+    if lacks_page(state, file, ioas) {
         return Some(Cause::Absent);
     }
     None
@@ -59,7 +84,6 @@ pub(crate) fn commit<A: Allocator>(
 ) -> Result<Reply, NoMemory>
     ensures ok { IfOk result (λ reply. (at : ℕ) → Steps at (event.Attach device pt_id) state.old reply state.new) }
     ensures err { OnErr result (ShowsSame state.old state.new) }
-    ensures memory { OnErr result ((at : ℕ) → LacksPlace at (event.Attach device pt_id) state.old) }
 {
     let Some(bound) = state.binding_of(device) else {
         return Ok(Reply::Done);
@@ -100,13 +124,6 @@ fn width_of<A: Allocator>(config: &Config<A>, device: DeviceNo) -> Option<Width>
     Some(devices::settings_of(config, device)?.width())
 }
 
-/// Whether the id is that of an address space of the file.
-fn has_ioas<A: Allocator>(table: &ObjectTable<Held<A>, A>, file: FileNo, id: ObjId) -> bool
-    ensures { result ≡ objects.has_ioas (objects_in table.now) file id }
-{
-    lookups::areas_of(table, file, id).is_some()
-}
-
 /// Whether the file has as many objects as it may have.
 fn is_full<A: Allocator>(table: &ObjectTable<Held<A>, A>, file: FileNo) -> bool
     ensures { result ≡ objects.is_full (objects_in table.now) file }
@@ -125,18 +142,18 @@ fn lacks_room<A: Allocator>(state: &State<A>, device: DeviceNo, file: FileNo, io
     }
 }
 
-/// Whether another page table would have to pin a page that isn't in its user's memory.
+/// Whether another page table would have to pin a page anew that isn't in its user's memory.
 fn lacks_page<A: Allocator>(state: &State<A>, file: FileNo, ioas: ObjId) -> bool
     ensures { result ≡ lacks_attached_page (seen state.now) file ioas }
 {
     let areas = areas_to_pin(&state.objects, file, ioas);
-    !pins::are_present(&state.memory, &state.user_pages, areas)
+    pins::lack_page(&state.pins, &state.memory, &state.user_pages, areas)
 }
 
 /// The areas whose pages another page table over the address space would pin: where it would be the first,
 /// all of them, else none.
 fn areas_to_pin<A: Allocator>(table: &ObjectTable<Held<A>, A>, file: FileNo, ioas: ObjId) -> &[Area]
-    ensures { flat_map spec.pages_of result.now
+    ensures { flat_map spec.area_pages result.now
         ≡ words.newly_pinned (objects_in table.now) file ioas (areas_at table.now.rows file ioas) }
 {
     if lookups::has_hwpt(table, file, ioas) {

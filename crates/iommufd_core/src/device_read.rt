@@ -1,19 +1,20 @@
 //! A device reads memory.
 
-ghost use Rattle.std.specs.Prelude.{◌≡◌, ◌+◌, ◌<◌, ◌≤◌, ◌*◌, ◌%◌, ℕ, Some, false, length, take, drop};
+ghost use Rattle.std.specs.Prelude.{◌≡◌, ◌+◌, ◌<◌, ◌≤◌, ◌*◌, ◌%◌, ℕ, List, Some, false, length, take, drop};
 ghost use Rattle.iofd_words.specs.FirstTrue.{first_true};
-ghost use Rattle.iofd_words.specs.Look.{answers_to, lawful_answers, query_checks};
+ghost use Rattle.iofd_words.specs.Look.{answers_in, lawful_answers, query_checks};
 ghost use Rattle.iofd_words.specs.Pages.{crosses};
 ghost use Rattle.iofd_words.specs.Policy.{fault_of};
 ghost use Rattle.iofd_words.specs.World.{World};
 ghost use Rattle.iofd_words.specs.declared.query.Answer.TheVariants as answer;
 ghost use Rattle.iofd_words.specs.declared.query.Query.TheVariants as queries;
-ghost use Rattle.iommufd_core.specs.Choice.{last_of};
+ghost use Rattle.iofd_words.specs.declared.record.Record.{Record};
+ghost use Rattle.iommufd_core.specs.Choice.{IsLooked};
 ghost use Rattle.iommufd_core.specs.Seen.{seen};
 ghost use Rattle.iommufd_core.specs.Shows.{Shows};
 ghost use Rattle.iommufd_core.specs.Step.{IsTidy};
 
-use crate::device_write::{crosses, fault_of};
+use crate::device_write::fault_of;
 use crate::state::State;
 use crate::{access, bytes};
 use iofd_words::{
@@ -31,8 +32,8 @@ pub(crate) fn parts_of(query: &Query) -> (DeviceNo, Iova, u8)
 
 /// What the device is answered. Where it owes the area a flush, its access is denied.
 pub(crate) fn look<A: Allocator>(state: &State<A>, device: DeviceNo, iova: Iova, len: u8) -> Answer
-    ensures { (at : ℕ) (w : World) → IsTidy at w → Shows w state.now
-        → last_of (answers_to w (queries.DeviceRead device iova len)) ≡ Some result }
+    ensures { (at : ℕ) (w : World) (records : List (Record A)) → IsTidy at w → Shows w state.now
+        → IsLooked (answers_in w records (queries.DeviceRead device iova len)) result }
 {
     match refusal(state, device, iova, len) {
         Some(cause) => Answer::Refused(Refusal { cause }),
@@ -49,19 +50,13 @@ pub(crate) fn refusal<A: Allocator>(
 ) -> Option<Cause>
     ensures { result ≡ first_true (query_checks (seen state.now) (queries.DeviceRead device iova len)) }
 {
-    if state.binding_of(device).is_none() {
-        return Some(Cause::Id);
-    }
-    if crosses(iova, usize::from(len)) {
-        return Some(Cause::Cross);
-    }
-    None
+    access::refusal(state, device, iova, usize::from(len))
 }
 
 /// What comes of it where nothing refuses it.
 fn read<A: Allocator>(state: &State<A>, device: DeviceNo, iova: Iova, len: u8) -> Answer
-    ensures { (at : ℕ) (w : World) → IsTidy at w → Shows w state.now → crosses iova.0 len ≡ false →
-        last_of (lawful_answers w (queries.DeviceRead device iova len)) ≡ Some result }
+    ensures { (at : ℕ) (w : World) (records : List (Record A)) → IsTidy at w → Shows w state.now → crosses iova.0 len ≡ false →
+        IsLooked (lawful_answers w records (queries.DeviceRead device iova len)) result }
 {
     match access::given(state, device, iova.0, AccessKind::Read, None) {
         Ok(frame) => match burst_of(state, frame, iova, len) {

@@ -5,7 +5,6 @@ ghost use Rattle.std.specs.Option.{option_map_or};
 ghost use Rattle.iofd_words.specs.Files as files;
 ghost use Rattle.iofd_words.specs.Checks.{checks};
 ghost use Rattle.iofd_words.specs.FirstTrue.{first_true};
-ghost use Rattle.iofd_words.specs.Pages.{crosses};
 ghost use Rattle.iofd_words.specs.Policy as policy;
 ghost use Rattle.iofd_words.specs.declared.event.Event.TheVariants as event;
 ghost use Rattle.iommufd_core.specs.Seen.{seen};
@@ -28,20 +27,7 @@ pub(crate) fn refusal<A: Allocator>(
 ) -> Option<Cause>
     ensures { result ≡ first_true (checks (seen state.now) (event.DeviceWrite device iova bytes.now)) }
 {
-    if state.binding_of(device).is_none() {
-        return Some(Cause::Id);
-    }
-    if crosses(iova, bytes.as_slice().len()) {
-        return Some(Cause::Cross);
-    }
-    None
-}
-
-/// Whether so many bytes are none or more than 64, or leave the page.
-pub(crate) fn crosses(iova: Iova, len: usize) -> bool
-    ensures { result ≡ crosses iova.0 len }
-{
-    len == 0 || len > 64 || iova.0 % 4096 + len as u64 > 4096
+    access::refusal(state, device, iova, bytes.as_slice().len())
 }
 
 /// How a denial is told.

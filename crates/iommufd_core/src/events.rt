@@ -1,10 +1,11 @@
 //! Each event, refused or carried out.
 
-ghost use Rattle.std.specs.Prelude.{◌≡◌, IfOk, OnErr};
+ghost use Rattle.std.specs.Prelude.{◌≡◌, None, IfOk, IsTrue, OnErr};
 ghost use Rattle.iofd_words.specs.Checks.{checks};
 ghost use Rattle.iofd_words.specs.FirstTrue.{first_true};
 ghost use Rattle.iommufd_core.specs.Seen.{seen};
-ghost use Rattle.iommufd_core.specs.Step.{Answered, ChosenSteps, LacksPlace, MayWant, TidyShowsSame};
+ghost use Rattle.iommufd_core.specs.Server.{takes_memory};
+ghost use Rattle.iommufd_core.specs.Step.{Answered, ChosenSteps, TidyShowsSame};
 
 use crate::state::State;
 use crate::{
@@ -22,7 +23,7 @@ pub(crate) fn answer<A: Allocator + Copy>(
 ) -> Result<Reply, NoMemory>
     ensures ok { IfOk result (λ reply. Answered at act.now.event act.now.via state.old reply state.new) }
     ensures err { OnErr result (TidyShowsSame at state.old state.new) }
-    ensures memory { OnErr result (MayWant at act.now.event state.old) }
+    ensures memory { OnErr result ((first_true (checks (seen state.old) act.now.event) ≡ None) × IsTrue (takes_memory act.now.event)) }
 {
     match refusal(state, &act.event) {
         Some(cause) => Ok(Reply::Refused(Refusal { cause })),
@@ -55,12 +56,12 @@ fn refusal<A: Allocator>(state: &State<A>, event: &Event) -> Option<Cause>
 fn commit<A: Allocator + Copy>(state: &mut State<A>, at: u64, act: &Act) -> Result<Reply, NoMemory>
     ensures ok { IfOk result (λ reply. ChosenSteps at act.now.event act.now.via state.old reply state.new) }
     ensures err { OnErr result (TidyShowsSame at state.old state.new) }
-    ensures memory { OnErr result (LacksPlace at act.now.event state.old) }
+    ensures memory { OnErr result (IsTrue (takes_memory act.now.event)) }
 {
     match &act.event {
         Event::IoasAlloc(file) => ioas_alloc::commit(state, *file),
         Event::Map(file, request) => map::commit(state, at, *file, *request),
-        Event::Unmap(file, request) => unmap::commit(state, *file, *request),
+        Event::Unmap(file, request) => Ok(unmap::commit(state, *file, *request)),
         Event::Destroy(file, id) => Ok(destroy::commit(state, *file, *id)),
         Event::Close(file) => Ok(close::commit(state, *file)),
         Event::UserMap(user, va) => user_map::commit(state, *user, *va),

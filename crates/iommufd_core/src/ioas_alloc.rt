@@ -5,7 +5,7 @@ ghost use Rattle.iofd_words.specs.Checks.{checks};
 ghost use Rattle.iofd_words.specs.FirstTrue.{first_true};
 ghost use Rattle.iofd_words.specs.declared.event.Event.TheVariants as event;
 ghost use Rattle.iommufd_core.specs.Seen.{seen};
-ghost use Rattle.iommufd_core.specs.Step.{LacksPlace, ShowsSame, Steps};
+ghost use Rattle.iommufd_core.specs.Step.{ShowsSame, Steps};
 
 use crate::held::Held;
 use crate::state::State;
@@ -35,7 +35,6 @@ pub(crate) fn commit<A: Allocator + Copy>(
 ) -> Result<Reply, NoMemory>
     ensures ok { IfOk result (λ reply. (at : ℕ) → Steps at (event.IoasAlloc file) state.old reply state.new) }
     ensures err { OnErr result (ShowsSame state.old state.new) }
-    ensures memory { OnErr result ((at : ℕ) → LacksPlace at (event.IoasAlloc file) state.old) }
 {
     match state.objects.reserve(file) {
         Ok(_) => (),

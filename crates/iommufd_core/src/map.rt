@@ -10,7 +10,7 @@ ghost use Rattle.iofd_words.specs.Objects.{has_hwpt};
 ghost use Rattle.iofd_words.specs.Pages.{is_above_sum, is_above_user, is_whole};
 ghost use Rattle.iofd_words.specs.declared.event.Event.TheVariants as event;
 ghost use Rattle.iommufd_core.specs.Seen.{seen};
-ghost use Rattle.iommufd_core.specs.Step.{LacksPlace, Steps, TidyShowsSame};
+ghost use Rattle.iommufd_core.specs.Step.{Steps, TidyShowsSame};
 ghost use Rattle.iommufd_core.specs.Held.{objects_in};
 
 use crate::state::State;
@@ -71,7 +71,6 @@ pub(crate) fn commit<A: Allocator>(
 ) -> Result<Reply, NoMemory>
     ensures ok { IfOk result (λ reply. Steps at (event.Map file request) state.old reply state.new) }
     ensures err { OnErr result (TidyShowsSame at state.old state.new) }
-    ensures memory { OnErr result (LacksPlace at (event.Map file request) state.old) }
 {
     // Nothing refuses it: so the file has a user, and the span is one of whole pages.
     let Some(user) = map_pins::user_of(&state.config, file) else {
@@ -106,7 +105,7 @@ fn pinned_count<A: Allocator>(state: &State<A>, file: FileNo, request: MapReques
 
 fn mapped_area(at: u64, file: FileNo, request: MapRequest, span: Span) -> Area
     requires { span ≡ span_from request.iova.0 request.length }
-    ensures { result ≡ mapped_area at file request }
+    ensures { result ≡ mapped_area at file request request.iova }
 {
     Area {
         file,

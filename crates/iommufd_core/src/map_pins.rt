@@ -3,6 +3,7 @@
 ghost use Rattle.std.specs.Prelude.{◌≡◌, ◌/◌, ◌+◌, ◌≤◌, ◌^◌, ◌++◌, vec_len, vec_capacity};
 ghost use Rattle.iofd_words.specs.Checks.{has_pages};
 ghost use Rattle.iofd_words.specs.Files as files;
+ghost use Rattle.iofd_words.specs.Frames.{frame_at};
 ghost use Rattle.iofd_words.specs.Pages.{page_of};
 ghost use Rattle.iommufd_core.specs.Mapping.{first_pins, pin_at};
 
@@ -20,7 +21,7 @@ pub(crate) fn user_of<A: Allocator>(config: &Config<A>, file: FileNo) -> Option<
 
 /// Whether the pages of this many bytes from the address on are in the user's memory.
 pub(crate) fn has_pages(pages: &[UserPage], user: UserNo, va: u64, length: u64) -> bool
-    ensures { result ≡ has_pages pages.now user (page_of va) (length / 4096) }
+    ensures { result ≡ has_pages (frame_at pages.now) user (page_of va) (length / 4096) }
 {
     let first = va / 4096;
     (first..first + length / 4096).all(|page| pages::frame_at(pages, user, page).is_some())

@@ -1,6 +1,6 @@
 //! Pages of users' memory, and the frame that a new one gets.
 
-ghost use Rattle.std.specs.Prelude.{◌≡◌, ◌≤◌, ◌==◌, ◌&&◌, ℕ, not};
+ghost use Rattle.std.specs.Prelude.{◌≡◌, ◌≤◌, ◌==◌, ◌&&◌, ℕ, not, []};
 ghost use Rattle.std.specs.List.{list_any};
 ghost use Rattle.frame_memory.specs.FreeMap.{has_frame};
 ghost use Rattle.iofd_words.specs.Files as files;
@@ -30,7 +30,7 @@ pub(crate) fn frame_at(pages: &[UserPage], user: UserNo, page: u64) -> Option<Fr
 #[tactic(auto, using(crate::proofs::FreeFrames::first_free, crate::proofs::FreeFrames::none_free))]
 pub(crate) fn free_frame(pool: u32, pages: &[UserPage], pins: &[Pin]) -> Option<FrameNo>
     requires { pool ≤ 4096 }
-    ensures { result ≡ free_frame pool pages.now pins.now }
+    ensures { result ≡ free_frame pool pages.now pins.now [] }
 {
     let mut free = FreeMap::below(pool);
     drop_user_pages(&mut free, pages);

@@ -5,9 +5,10 @@ ghost use Rattle.std.specs.List.{flat_map, filter_map, list_any};
 ghost use Rattle.std.specs.Option.{option_copied};
 ghost use Rattle.iofd_words.specs.Pins as spec;
 ghost use Rattle.iofd_words.specs.Span.{size_of};
-ghost use Rattle.iommufd_core.specs.PinLists.{pages_from};
+ghost use Rattle.iofd_words.specs.Pins.{pages_from};
+ghost use Rattle.iommufd_core.specs.PinLists.{is_lacking};
 
-use crate::pages;
+use crate::{access, pages};
 use iofd_words::{Area, FrameNo, MemoryObject, NoMemory, PAGE_SIZE, Pin, UserPage};
 use std::alloc::Allocator;
 
@@ -53,38 +54,65 @@ fn frame_now(
     pages::frame_at(user_pages, object.user, page_at(object, index))
 }
 
-/// Whether all pages of these areas are in their users' memory.
-pub(crate) fn are_present(memory: &[MemoryObject], user_pages: &[UserPage], areas: &[Area]) -> bool
-    ensures { result ≡ spec.are_present memory.now user_pages.now (flat_map spec.pages_of areas.now) }
+/// Whether some page of these areas isn't pinned, and isn't in its user's memory.
+pub(crate) fn lack_page(
+    pins: &[Pin],
+    memory: &[MemoryObject],
+    user_pages: &[UserPage],
+    areas: &[Area],
+) -> bool
+    ensures { result
+        ≡ list_any (is_lacking pins.now memory.now user_pages.now) (flat_map spec.area_pages areas.now) }
 {
     areas
         .iter()
-        .all(|area| is_area_present(memory, user_pages, area))
+        .any(|area| lacks_page_of(pins, memory, user_pages, area))
 }
 
-/// Whether all pages of the area are in its user's memory.
-fn is_area_present(memory: &[MemoryObject], user_pages: &[UserPage], area: &Area) -> bool
-    ensures { result ≡ spec.are_present memory.now user_pages.now (spec.pages_of area.now) }
+/// Whether some page of the area isn't pinned, and isn't in its user's memory.
+fn lacks_page_of(
+    pins: &[Pin],
+    memory: &[MemoryObject],
+    user_pages: &[UserPage],
+    area: &Area,
+) -> bool
+    ensures { result ≡ list_any (is_lacking pins.now memory.now user_pages.now) (spec.area_pages area.now) }
 {
-    are_pages_present(memory, user_pages, area.memory, count_of(area))
+    lacks_page_from(pins, memory, user_pages, area.memory, count_of(area))
 }
 
-/// Whether the first pages of a memory object, so many, are in its user's memory.
-pub(crate) fn are_pages_present(
+/// Whether some of the first pages of a memory object, so many, isn't pinned and isn't in its user's memory.
+fn lacks_page_from(
+    pins: &[Pin],
     memory: &[MemoryObject],
     user_pages: &[UserPage],
     number: u64,
     count: u64,
 ) -> bool
     requires { count ≤ 2 ^ 52 }
-    ensures { result ≡ spec.are_present memory.now user_pages.now (pages_from number count) }
+    ensures { result ≡ list_any (is_lacking pins.now memory.now user_pages.now) (pages_from number count) }
 {
     for index in 0..count {
-        if frame_now(memory, user_pages, number, index).is_none() {
-            return false;
+        if is_lacking(pins, memory, user_pages, number, index) {
+            return true;
         }
     }
-    true
+    false
+}
+
+/// Whether the page of a memory object isn't pinned, and isn't in its user's memory.
+fn is_lacking(
+    pins: &[Pin],
+    memory: &[MemoryObject],
+    user_pages: &[UserPage],
+    number: u64,
+    index: u64,
+) -> bool
+    requires { index < 2 ^ 63 }
+    ensures { result ≡ is_lacking pins.now memory.now user_pages.now (record { memory = number; index = index }) }
+{
+    frame_now(memory, user_pages, number, index).is_none()
+        && access::pinned_frame(pins, number, index).is_none()
 }
 
 /// The memory object of this number.
@@ -133,9 +161,9 @@ pub(crate) fn push_areas<A: Allocator>(
     user_pages: &[UserPage],
     areas: &[Area],
 )
-    requires { vec_len pins.old + length (flat_map spec.pages_of areas.now) ≤ vec_capacity pins.old }
+    requires { vec_len pins.old + length (flat_map spec.area_pages areas.now) ≤ vec_capacity pins.old }
     ensures { pins.new.items
-        ≡ pins.old.items ++ filter_map (spec.pin_now memory.now user_pages.now) (flat_map spec.pages_of areas.now) }
+        ≡ pins.old.items ++ filter_map (spec.pin_now memory.now user_pages.now) (flat_map spec.area_pages areas.now) }
 {
     for area in areas {
         push_pages(pins, memory, user_pages, area.memory, count_of(area));
@@ -148,8 +176,8 @@ pub(crate) fn reserve_areas<A: Allocator>(
     areas: &[Area],
 ) -> Result<(), NoMemory>
     ensures items { pins.new.items ≡ pins.old.items }
-    ensures ok { OnOk result (vec_len pins.new + length (flat_map spec.pages_of areas.now) ≤ vec_capacity pins.new) }
-    ensures memory { OnErr result (vec_capacity pins.old < vec_len pins.old + length (flat_map spec.pages_of areas.now)) }
+    ensures ok { OnOk result (vec_len pins.new + length (flat_map spec.area_pages areas.now) ≤ vec_capacity pins.new) }
+    ensures memory { OnErr result (vec_capacity pins.old < vec_len pins.old + length (flat_map spec.area_pages areas.now)) }
 {
     let mut count = 0_usize;
     for area in areas {

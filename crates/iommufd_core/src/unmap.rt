@@ -1,20 +1,24 @@
 //! UNMAP: areas go, or are on their way out until devices have flushed.
 
-ghost use Rattle.std.specs.Prelude.{◌≡◌, ◌<◌, ◌&&◌, ◌∷◌, [], ℕ, false, not, filter, IfSome, IsSome, IfOk, OnErr};
+ghost use Rattle.std.specs.Prelude.{◌≡◌, ◌<◌, ◌&&◌, ◌∷◌, [], ℕ, false, not, IfSome, IsSome};
+ghost use Rattle.area_map.specs.Areas.{areas_within};
 ghost use Rattle.iofd_words.specs.Areas.{areas_meet, is_cut, is_everything, unmapped_span};
 ghost use Rattle.iofd_words.specs.Checks.{checks};
 ghost use Rattle.iofd_words.specs.FirstTrue.{first_true};
 ghost use Rattle.iofd_words.specs.Pages.{is_above_sum};
 ghost use Rattle.iofd_words.specs.declared.event.Event.TheVariants as event;
 ghost use Rattle.iommufd_core.specs.Seen.{seen};
-ghost use Rattle.iommufd_core.specs.Step.{LacksPlace, ShowsSame, Steps};
-ghost use Rattle.iommufd_core.specs.Mapping.{is_among};
+ghost use Rattle.iommufd_core.specs.Step.{Steps};
+ghost use Rattle.iommufd_core.specs.Mapping.{own_areas};
+ghost use Rattle.iommufd_core.specs.Memory.{is_over, without_memory, without_pins};
 
+use crate::held::Held;
 use crate::map::is_above_sum;
 use crate::state::State;
 use crate::{area_changes, devices, lookups};
 use area_map::Areas;
-use iofd_words::{Cause, Errno, FileNo, MemoryObject, NoMemory, Pin, Reply, Span, UnmapRequest};
+use iofd_words::{Cause, Errno, FileNo, MemoryObject, ObjId, Pin, Reply, Span, UnmapRequest};
+use object_table::ObjectTable;
 use std::alloc::Allocator;
 
 /// Why it is refused.
@@ -62,22 +66,18 @@ fn refusal_by_areas<A: Allocator>(
 }
 
 /// What it does where nothing refuses it. Where a device still has to flush before all areas that it names may go,
-/// they are on their way out, the reply is EAGAIN, and no memory is taken. Else they go, with their memory objects and
-/// pins, and the reply is how many bytes they had.
-///
-/// The only error is want of memory. It changes nothing.
-pub(crate) fn commit<A: Allocator + Copy>(
+/// they are on their way out, and the reply is EAGAIN. Else they go, with their memory objects and pins, and the reply is
+/// how many bytes they had. It takes no memory.
+pub(crate) fn commit<A: Allocator>(
     state: &mut State<A>,
     file: FileNo,
     request: UnmapRequest,
-) -> Result<Reply, NoMemory>
-    ensures ok { IfOk result (λ reply. (at : ℕ) → Steps at (event.Unmap file request) state.old reply state.new) }
-    ensures err { OnErr result (ShowsSame state.old state.new) }
-    ensures memory { OnErr result ((at : ℕ) → LacksPlace at (event.Unmap file request) state.old) }
+) -> Reply
+    ensures { (at : ℕ) → Steps at (event.Unmap file request) state.old result state.new }
 {
     // Nothing refuses it: so it names a span.
     let Some(span) = unmapped_span(request) else {
-        return Ok(Reply::Done);
+        return Reply::Done;
     };
     let ioas = request.ioas;
     let Some(attached) = devices::attached_to(
@@ -88,43 +88,51 @@ pub(crate) fn commit<A: Allocator + Copy>(
         ioas,
     ) else {
         // Never: each attached device is one of the configuration.
-        return Ok(Reply::Done);
+        return Reply::Done;
     };
     if area_changes::some_waits(&state.objects, file, ioas, span, &attached) {
         area_changes::mark_leaving(&mut state.objects, file, ioas, span, &attached);
-        return Ok(Reply::Pending(Errno::EAGAIN));
+        return Reply::Pending(Errno::EAGAIN);
     }
     let Ok(bytes) = u64::try_from(area_changes::bytes_within(&state.objects, file, ioas, span))
     else {
         // Never: 65,535 areas of at most 2^48 bytes have fewer than 2^64.
-        return Ok(Reply::Done);
+        return Reply::Done;
     };
-    let count = area_changes::count_within(&state.objects, file, ioas, span);
-    let mut removed = Vec::with_capacity(state.alloc, count)?;
-    area_changes::remove_within(&mut state.objects, file, ioas, span, &mut removed);
-    drop_memory(&mut state.memory, &removed);
-    drop_pins(&mut state.pins, &removed);
-    Ok(Reply::Bytes(bytes))
+    drop_memory(&mut state.memory, &state.objects, file, ioas, span);
+    drop_pins(&mut state.pins, &state.objects, file, ioas, span);
+    area_changes::remove(&mut state.objects, file, ioas, span);
+    Reply::Bytes(bytes)
 }
 
-/// Takes away the memory objects of these numbers.
-fn drop_memory<A: Allocator>(memory: &mut Vec<MemoryObject, A>, numbers: &[u64])
-    ensures { memory.new.items ≡ filter (λ m. not (is_among numbers.now m.number)) memory.old.items }
+/// Takes away the memory objects of the areas of the address space that lie in the span.
+fn drop_memory<A: Allocator>(
+    memory: &mut Vec<MemoryObject, A>,
+    table: &ObjectTable<Held<A>, A>,
+    file: FileNo,
+    ioas: ObjId,
+    span: Span,
+)
+    ensures { memory.new.items
+        ≡ without_memory (is_over (areas_within span (own_areas table.now file ioas))) memory.old.items }
 {
-    memory.retain(|object| !is_among(numbers, object.number));
+    memory.retain(|object| {
+        !area_changes::has_memory_within(table, file, ioas, span, object.number)
+    });
 }
 
-/// Takes away the pins of the memory objects of these numbers.
-fn drop_pins<A: Allocator>(pins: &mut Vec<Pin, A>, numbers: &[u64])
-    ensures { pins.new.items ≡ filter (λ pin. not (is_among numbers.now pin.memory)) pins.old.items }
+/// Takes away the pins of those memory objects.
+fn drop_pins<A: Allocator>(
+    pins: &mut Vec<Pin, A>,
+    table: &ObjectTable<Held<A>, A>,
+    file: FileNo,
+    ioas: ObjId,
+    span: Span,
+)
+    ensures { pins.new.items
+        ≡ without_pins (is_over (areas_within span (own_areas table.now file ioas))) pins.old.items }
 {
-    pins.retain(|pin| !is_among(numbers, pin.memory));
-}
-
-fn is_among(numbers: &[u64], number: u64) -> bool
-    ensures { result ≡ is_among numbers.now number }
-{
-    numbers.iter().any(|n| *n == number)
+    pins.retain(|pin| !area_changes::has_memory_within(table, file, ioas, span, pin.memory));
 }
 
 /// Whether it names every address, the last one too.

@@ -6,7 +6,7 @@ ghost use Rattle.iofd_words.specs.FirstTrue.{first_true};
 ghost use Rattle.iofd_words.specs.declared.event.Event.TheVariants as event;
 ghost use Rattle.iofd_words.specs.declared.numbers.FrameNo.{FrameNo};
 ghost use Rattle.iommufd_core.specs.Seen.{seen};
-ghost use Rattle.iommufd_core.specs.Step.{ChosenSteps, LacksPlace, ShowsSame};
+ghost use Rattle.iommufd_core.specs.Step.{ChosenSteps, ShowsSame};
 
 use crate::state::State;
 use crate::{bytes, pages};
@@ -45,7 +45,6 @@ pub(crate) fn commit<A: Allocator>(
     ensures ok { IfOk result (λ reply. (at : ℕ) (via : Option FrameNo)
         → ChosenSteps at (event.UserMap user va) via state.old reply state.new) }
     ensures err { OnErr result (ShowsSame state.old state.new) }
-    ensures memory { OnErr result ((at : ℕ) → LacksPlace at (event.UserMap user va) state.old) }
 {
     let Some(frame) = pages::free_frame(state.config.pool(), &state.user_pages, &state.pins) else {
         return Ok(Reply::Done);

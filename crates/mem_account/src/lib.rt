@@ -70,6 +70,15 @@ impl<A: Allocator> Accounts<A> {
         pages <= account.limit - account.held
     }
 
+    /// How many pages more the user may hold.
+    pub fn room(&self, user: UserNo) -> u64
+        requires { IsTrue (is_user self.now user.0) }
+        ensures { held_by self.now user.0 + result ≡ limit_of self.now user.0 }
+    {
+        let account = &self.accounts[usize::from(user.0) - 1];
+        account.limit - account.held
+    }
+
     /// Charges the user with so many pages. It is refused by 7 (ENOMEM, cause Account) exactly where the
     /// user would hold more than the limit, and then nothing changes.
     pub fn charge(&mut self, user: UserNo, pages: u64) -> Result<(), Refusal>

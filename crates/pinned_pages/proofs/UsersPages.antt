@@ -30,7 +30,7 @@ range_more from (suc count) =
 -- ---- whether they are there
 
 module _ (rows : List UserPage) (user : UserNo) (page : ℕ) where
-  pub present_more : (count : ℕ) → has_pages rows user page count ≡ true → is_some (frame_at rows user (page + count)) ≡ true → has_pages rows user page (count + 1) ≡ true
+  pub present_more : (count : ℕ) → has_pages (frame_at rows) user page count ≡ true → is_some (frame_at rows user (page + count)) ≡ true → has_pages (frame_at rows) user page (count + 1) ≡ true
   present_more count before here =
       ap (list_all (λ i. is_some (frame_at rows user (page + i)))) (range_more 0 count)
       ∙ list_all-append (λ i. is_some (frame_at rows user (page + i))) (range_with_len 0 count) ((0 + count) ∷ [])
@@ -48,7 +48,7 @@ absent p from (suc n) i low high none =
     by_first true rest = rest
     by_first false rest = refl
 
-pub absent_page : (rows : List UserPage) (user : UserNo) (page count i : ℕ) → i < count → is_some (frame_at rows user (page + i)) ≡ false → has_pages rows user page count ≡ false
+pub absent_page : (rows : List UserPage) (user : UserNo) (page count i : ℕ) → i < count → is_some (frame_at rows user (page + i)) ≡ false → has_pages (frame_at rows) user page count ≡ false
 absent_page rows user page count i within none = absent (λ i. is_some (frame_at rows user (page + i))) 0 count i (omega arith) (omega arith) none
 
 -- ---- their frames
@@ -115,5 +115,5 @@ pub few_frames : (rows : List UserPage) (user : UserNo) (page count : ℕ) → l
 few_frames rows user page count = rw (length-range_with_len 0 count) at (few (λ i. frame_at rows user (page + i)) (range_with_len 0 count))
 
 -- where all are there, each has its frame
-pub all_framed : (rows : List UserPage) (user : UserNo) (page count : ℕ) → has_pages rows user page count ≡ true → length (frames_now rows user page count) ≡ count
+pub all_framed : (rows : List UserPage) (user : UserNo) (page count : ℕ) → has_pages (frame_at rows) user page count ≡ true → length (frames_now rows user page count) ≡ count
 all_framed rows user page count all = made (λ i. frame_at rows user (page + i)) (range_with_len 0 count) all ∙ length-range_with_len 0 count

@@ -1,5 +1,5 @@
 -- What is seen of a memory object, and what each call makes of it.
-use Rattle.std.specs.Prelude.{ℕ, ◌+◌, ◌-◌, Bool, ◌==◌, ◌&&◌, not, Option, List, [], ◌∷◌, if◌then◌else◌}
+use Rattle.std.specs.Prelude.{ℕ, ◌+◌, ◌-◌, Bool, ◌==◌, ◌&&◌, not, Option, List, [], ◌∷◌, length, slice_get, if◌then◌else◌}
 use Rattle.std.specs.List.{filter_map, range_with_len}
 use Rattle.iofd_words.specs.Checks.{has_pages}
 use Rattle.iofd_words.specs.FirstTrue.{first_true}
@@ -13,8 +13,8 @@ use Rattle.iofd_words.specs.declared.rows.UserPage.{UserPage}
 use Rattle.mem_account.specs.Accounts.{charged, has_room, refunded}
 use Rattle.mem_account.specs.declared.Account.{Account}
 
--- so many pages of a user from a user address on; how many pins by page tables stand on them, one for each area over them in an
--- address space that has a page table; and while they are pinned each page's frame, in order
+-- so many pages of a user from a user address on; how many pins by page tables stand on them, one for each area over
+-- them in an address space that has a page table; and while they are pinned each page's frame, in order
 pub record ObjectPages : Type 0 where
   pub user : UserNo
   pub va : ℕ
@@ -23,18 +23,29 @@ pub record ObjectPages : Type 0 where
   pub table_pins : ℕ
   pub frames : List FrameNo
 
--- what is seen: the pages, and for how many more frames there is memory
+-- what is seen: the pages, and for how many frames there is memory
 pub record MemoryPages : Type 0 where
   pub pages : ObjectPages
-  pub room : ℕ
+  pub capacity : ℕ
 
 -- a memory object, of which no page is pinned
 abbrev pub unpinned : UserNo → ℕ → ℕ → Bool → ObjectPages
 unpinned user va count writable = record { user = user; va = va; count = count; writable = writable; table_pins = 0; frames = [] }
 
+-- the frame at which a page is pinned, and the frames of all that are
+abbrev pub frame_of : ObjectPages → ℕ → Option FrameNo
+frame_of pages index = slice_get pages.frames index
+
+abbrev pub held_frames : ObjectPages → List FrameNo
+held_frames pages = pages.frames
+
+-- how many pages are pinned
+abbrev pub pinned_count : ObjectPages → ℕ
+pinned_count pages = length (held_frames pages)
+
 -- each page is in its user's memory
 abbrev pub are_present : ObjectPages → List UserPage → Bool
-are_present pages rows = has_pages rows pages.user (page_of pages.va) pages.count
+are_present pages rows = has_pages (frame_at rows) pages.user (page_of pages.va) pages.count
 
 -- the frames that the user's pages from this one on are now, so many of them
 abbrev pub frames_now : List UserPage → UserNo → ℕ → ℕ → List FrameNo
@@ -48,9 +59,13 @@ own_frames_now pages rows = frames_now rows pages.user (page_of pages.va) pages.
 abbrev pub new_frames : ObjectPages → List UserPage → List FrameNo
 new_frames pages rows = if pages.table_pins == 0 then own_frames_now pages rows else []
 
--- for how many frames memory is wanted when they are pinned: for all where none is pinned yet
-abbrev pub missing : ObjectPages → ℕ
-missing pages = if pages.table_pins == 0 then pages.count else 0
+-- how many pages are pinned from now on, and for how many frames there has to be memory then: all where none is
+-- pinned yet
+abbrev pub new_count : ObjectPages → ℕ
+new_count pages = if pages.table_pins == 0 then pages.count else 0
+
+abbrev pub needed : ObjectPages → ℕ
+needed pages = if pages.table_pins == 0 then pages.count else 0
 
 -- why they aren't pinned: the first cause that applies
 abbrev pub pin_refusal : ObjectPages → List UserPage → List Account → Option Cause
@@ -85,3 +100,7 @@ refunded_last pages accounts = if pages.table_pins == 1 then refunded accounts p
 -- the frames of pages that are pinned no longer
 abbrev pub last_frames : ObjectPages → List FrameNo
 last_frames pages = if pages.table_pins == 1 then pages.frames else []
+
+-- how many pages those are
+abbrev pub last_count : ObjectPages → ℕ
+last_count pages = if pages.table_pins == 1 then pages.count else 0

@@ -24,7 +24,7 @@ fn frame_now<A: Allocator>(users: &UserMap<A>, user: UserNo, va: u64, index: u64
 /// Whether so many pages, from the one that holds this user address on, are in the user's memory.
 pub(crate) fn has_pages<A: Allocator>(users: &UserMap<A>, user: UserNo, va: u64, count: u64) -> bool
     requires { va + count * 4096 < 2 ^ 64 }
-    ensures { result ≡ has_pages users.now.pages user (page_of va) count }
+    ensures { result ≡ has_pages (frame_at users.now.pages) user (page_of va) count }
 {
     for index in 0..count {
         if frame_now(users, user, va, index).is_none() {
@@ -74,8 +74,8 @@ fn is_held<A: Allocator>(frames: &[FrameNo], frame: FrameNo, pool: &Pool<A>) -> 
     pool.has(frame) && count_of(frames, frame) as u128 <= pool.holds(frame)
 }
 
-// How many times the frame is in the list.
-fn count_of(frames: &[FrameNo], frame: FrameNo) -> usize
+/// How many times the frame is in the list.
+pub(crate) fn count_of(frames: &[FrameNo], frame: FrameNo) -> usize
     ensures { result ≡ times frame.0 frames.now }
 {
     frames.iter().filter(|f| f.0 == frame.0).count()

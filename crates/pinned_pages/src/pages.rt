@@ -1,12 +1,12 @@
 //! A memory object and its pins.
 
-ghost use Rattle.std.specs.Prelude.{◌≡◌, ◌≤◌, ◌<◌, ◌+◌, ◌*◌, ◌^◌, ◌&&◌, [], IsTrue, IfSome, IfNone, OnOk, OnErr, IsOkUnless, is_some, length, nat_lt, slice_get, true};
+ghost use Rattle.std.specs.Prelude.{ℕ, ◌≡◌, ◌≤◌, ◌<◌, ◌+◌, ◌*◌, ◌^◌, ◌&&◌, [], IsTrue, IfSome, IfNone, OnOk, OnErr, IsOkUnless, is_some, length, nat_lt, None, true};
 ghost use Rattle.iofd_words.specs.Pages.{is_whole};
 ghost use Rattle.mem_account.specs.Accounts.{held_by, is_user};
 ghost use Rattle.frame_memory.specs.Pool.{may_hold};
 ghost use Rattle.frame_memory.specs.UserPages.{are_within};
-ghost use Rattle.pinned_pages.specs.Holds.{HasMoreHolds, are_held};
-ghost use Rattle.pinned_pages.specs.Pages.{are_present, charged_first, last_frames, missing, new_frames, pin_refusal, pinned, refunded_last, released, unpinned};
+ghost use Rattle.pinned_pages.specs.Holds.{HasMoreHolds, are_held, times};
+ghost use Rattle.pinned_pages.specs.Pages.{are_present, charged_first, frame_of, held_frames, last_count, last_frames, needed, new_count, new_frames, pin_refusal, pinned, pinned_count, refunded_last, released, unpinned};
 
 use crate::frames;
 use crate::pin_error::PinError;
@@ -16,9 +16,9 @@ use mem_account::Accounts;
 use std::alloc::{Allocator, Global};
 use std::marker::Model;
 
-/// The pages that a MAP made ready for devices. They are pinned, all or none, once for each area over them that stands in an
-/// address space with a hardware page table. A contract sees whose pages they are, how many pins stand on them, their
-/// frames while some does, and for how many more frames there is memory.
+/// The pages that a MAP made ready for devices. They are pinned, all or none, once for each area over them that
+/// stands in an address space with a hardware page table. A contract sees whose pages they are, how many pins stand
+/// on them, their frames while some does, and for how many frames there is memory.
 #[derive(Debug, Drop)]
 pub struct Pages<A: Allocator = Global> {
     user: UserNo,
@@ -30,7 +30,7 @@ pub struct Pages<A: Allocator = Global> {
 }
 
 impl<A: Allocator> Model for Pages<A> {
-    ghost use Rattle.std.specs.Prelude.{◌-◌, vec_len, vec_capacity};
+    ghost use Rattle.std.specs.Prelude.{vec_capacity};
     ghost use Rattle.pinned_pages.specs.Kept.{AreKept};
     ghost use Rattle.pinned_pages.specs.Pages.{MemoryPages};
 
@@ -38,7 +38,7 @@ impl<A: Allocator> Model for Pages<A> {
 
     ghost view = { λ p. record {
       pages = record { user = p.user; va = p.va; count = p.count; writable = p.writable; table_pins = p.table_pins; frames = p.frames.items };
-      room = vec_capacity p.frames - vec_len p.frames;
+      capacity = vec_capacity p.frames;
     } };
 
     ghost invariant = { λ p. AreKept (record { user = p.user; va = p.va; count = p.count; writable = p.writable; table_pins = p.table_pins; frames = p.frames.items }) };
@@ -51,7 +51,6 @@ impl<A: Allocator> Pages<A> {
         requires start { is_whole va ≡ true }
         requires end { va + count * 4096 ≤ 2 ^ 48 }
         ensures pages { result.pages ≡ unpinned user va count writable }
-        ensures room { result.room ≡ 0 }
     {
         Pages {
             user,
@@ -107,9 +106,23 @@ impl<A: Allocator> Pages<A> {
         frames::are_held(&self.frames, pool)
     }
 
+    /// The frames of the pages that are pinned.
+    pub(crate) fn frames(&self) -> &[FrameNo]
+        ensures { result.now ≡ held_frames self.now.pages }
+    {
+        &self.frames
+    }
+
+    /// How many of the pinned pages have this frame.
+    pub(crate) fn times(&self, frame: FrameNo) -> usize
+        ensures { result ≡ times frame.0 (held_frames self.now.pages) }
+    {
+        frames::count_of(&self.frames, frame)
+    }
+
     /// The frame of page `index`, counted from 0, where it is pinned. It takes no memory.
     pub fn frame(&self, index: u64) -> Option<FrameNo>
-        ensures frame { result ≡ slice_get self.now.pages.frames index }
+        ensures frame { result ≡ frame_of self.now.pages index }
         ensures pinned { is_some result ≡ (nat_lt 0 self.now.pages.table_pins && nat_lt index self.now.pages.count) }
     {
         self.frames.get(index as usize).copied()
@@ -122,33 +135,40 @@ impl<A: Allocator> Pages<A> {
         frames::has_pages(users, self.user, self.va, self.count)
     }
 
-    /// Takes memory for the frames of all pages, if they aren't pinned and there is no room. After an Ok the next
-    /// `pin_by_table` doesn't want for memory; an error changes nothing.
+    /// How many pages `pin_by_table` would pin that aren't pinned yet.
+    pub fn new_count(&self) -> u64
+        ensures value { result ≡ new_count self.now.pages }
+        ensures few { result ≤ 2 ^ 36 }
+    {
+        if self.table_pins == 0 { self.count } else { 0 }
+    }
+
+    /// Takes memory for the frames of all pages, if they aren't pinned and there is none. After an Ok the next pin
+    /// doesn't want for memory; an error changes nothing.
     pub fn reserve(&mut self) -> Result<(), NoMemory>
         ensures pages { self.new.pages ≡ self.old.pages }
-        ensures ok { OnOk result (missing self.old.pages ≤ self.new.room) }
-        ensures enough { missing self.old.pages ≤ self.old.room → self.new ≡ self.old }
-        ensures room { self.old.room ≤ self.new.room }
-        ensures full { OnErr result (self.old.room < missing self.old.pages) }
+        ensures ok { OnOk result (needed self.old.pages ≤ self.new.capacity) }
+        ensures enough { needed self.old.pages ≤ self.old.capacity → self.new ≡ self.old }
+        ensures capacity { self.old.capacity ≤ self.new.capacity }
+        ensures full { OnErr result (self.old.capacity < needed self.old.pages) }
         ensures unchanged { OnErr result (self.new ≡ self.old) }
     {
-        let room = self.frames.capacity() - self.frames.len();
-        if self.table_pins == 0 && (room as u64) < self.count {
+        if self.table_pins == 0 && (self.frames.capacity() as u64) < self.count {
             self.frames.reserve(self.count as usize)?;
         }
         Ok(())
     }
 
-    /// Puts one more pin on the pages, for an area in an address space that has a page table. By the first each page is pinned at
-    /// the frame that it is in its user's memory now, which gets a hold, and the user is charged for all; by later ones nothing
-    /// else changes.
+    /// Puts one more pin on the pages, for an area in an address space that has a page table. By the first each page
+    /// is pinned at the frame that it is in its user's memory now, which gets a hold, and the user is charged for
+    /// all; by later ones nothing else changes.
     ///
-    /// The first is refused, in this order: Absent (8, EFAULT) where a page isn't in its user's memory; Account (7, ENOMEM)
-    /// where the user would hold more pages than the limit. An error leaves the pages, the pool and the accounts as they were;
-    /// want of memory comes only where there was no room for all frames.
+    /// The first is refused, in this order: Absent (8, EFAULT) where a page isn't in its user's memory; Account (7,
+    /// ENOMEM) where the user would hold more pages than the limit. An error leaves the pages, the pool and the
+    /// accounts as they were; want of memory comes only where there was none for all frames.
     ///
-    /// The first asks that the users' pages lie in the pool (`UserMap::is_within` tests it), and that each frame may have as many
-    /// holds more as there are pages (`Pool::may_hold`).
+    /// The first asks that the users' pages lie in the pool (`UserMap::is_within` tests it), and that each frame may
+    /// have as many holds more as there are pages (`Pool::may_hold`).
     pub fn pin_by_table<B: Allocator, C: Allocator, D: Allocator>(
         &mut self,
         users: &UserMap<B>,
@@ -159,54 +179,83 @@ impl<A: Allocator> Pages<A> {
         requires pins { self.old.pages.table_pins + 1 < 2 ^ 64 }
         requires within { self.old.pages.table_pins ≡ 0 → IsTrue (are_within users.now.pages pool.old.holds) }
         requires holds { self.old.pages.table_pins ≡ 0 → IsTrue (may_hold pool.old.holds self.old.pages.count) }
+
         ensures refused { IfSome (pin_refusal self.old.pages users.now.pages accounts.old)
             (λ cause. result ≡ Err (PinError.Refused (record { cause = cause }))) }
         ensures taken { IfNone (pin_refusal self.old.pages users.now.pages accounts.old)
             (IsOkUnless result (PinError.Memory (record {}))) }
-        ensures memory { result ≡ Err (PinError.Memory (record {})) → self.old.room < missing self.old.pages }
+        ensures memory { result ≡ Err (PinError.Memory (record {})) → self.old.capacity < needed self.old.pages }
+
         ensures pages { OnOk result (self.new.pages ≡ pinned self.old.pages users.now.pages) }
         ensures pool { OnOk result (HasMoreHolds pool.old pool.new (new_frames self.old.pages users.now.pages)) }
-        ensures room { self.old.room + length self.old.pages.frames ≤ self.new.room + length self.new.pages.frames }
-        ensures later { 0 < self.old.pages.table_pins → self.new.room ≡ self.old.room }
         ensures accounts { OnOk result (accounts.new ≡ charged_first self.old.pages accounts.old) }
+        ensures capacity { self.old.capacity ≤ self.new.capacity }
+        ensures enough { needed self.old.pages ≤ self.old.capacity → self.new.capacity ≡ self.old.capacity }
+
         ensures err { OnErr result (self.new ≡ self.old) }
         ensures pool_err { OnErr result (pool.new ≡ pool.old) }
         ensures accounts_err { OnErr result (accounts.new ≡ accounts.old) }
     {
-        if self.table_pins > 0 {
-            self.table_pins += 1;
-            return Ok(());
-        }
-        if !self.are_present(users) {
-            return Err(refused(Cause::Absent));
-        }
-        if !accounts.has_room(self.user, self.count) {
-            return Err(refused(Cause::Account));
-        }
-        if self.reserve().is_err() {
-            return Err(PinError::Memory(NoMemory));
-        }
-        match accounts.charge(self.user, self.count) {
-            Ok(()) => {
-                self.table_pins = 1;
-                frames::hold_all(
-                    &mut self.frames,
-                    users,
-                    pool,
-                    self.user,
-                    self.va,
-                    self.count,
-                );
-                Ok(())
+        if self.table_pins == 0 {
+            if !self.are_present(users) {
+                return Err(refused(Cause::Absent));
             }
-            Err(refusal) => Err(PinError::Refused(refusal)),
+            if !accounts.has_room(self.user, self.count) {
+                return Err(refused(Cause::Account));
+            }
+            if self.reserve().is_err() {
+                return Err(PinError::Memory(NoMemory));
+            }
         }
+        self.pin_reserved(users, pool, accounts);
+        Ok(())
     }
 
-    /// Takes one pin off the pages. With the last no page is pinned any more: a hold goes off each frame, and the user gets
-    /// all pages back; before it nothing else changes. Room for the frames stays. It takes no memory.
+    /// As `pin_by_table`, where nothing refuses it (`are_present`, `Accounts::has_room`) and there is memory
+    /// (`reserve`). It takes no memory.
+    pub fn pin_reserved<B: Allocator, C: Allocator, D: Allocator>(
+        &mut self,
+        users: &UserMap<B>,
+        pool: &mut Pool<C>,
+        accounts: &mut Accounts<D>,
+    )
+        requires user { IsTrue (is_user accounts.old self.old.pages.user.0) }
+        requires pins { self.old.pages.table_pins + 1 < 2 ^ 64 }
+        requires within { self.old.pages.table_pins ≡ 0 → IsTrue (are_within users.now.pages pool.old.holds) }
+        requires holds { self.old.pages.table_pins ≡ 0 → IsTrue (may_hold pool.old.holds self.old.pages.count) }
+        requires granted { pin_refusal self.old.pages users.now.pages accounts.old ≡ None }
+        requires memory { needed self.old.pages ≤ self.old.capacity }
+        ensures pages { self.new.pages ≡ pinned self.old.pages users.now.pages }
+        ensures capacity { self.new.capacity ≡ self.old.capacity }
+        ensures pool { HasMoreHolds pool.old pool.new (new_frames self.old.pages users.now.pages) }
+        ensures accounts { accounts.new ≡ charged_first self.old.pages accounts.old }
+
+        // Each pinned page has one frame, before and after.
+        ensures held { (frame : ℕ) → times frame (held_frames self.new.pages)
+            ≡ times frame (held_frames self.old.pages) + times frame (new_frames self.old.pages users.now.pages) }
+        ensures count { pinned_count self.new.pages ≡ pinned_count self.old.pages + new_count self.old.pages }
+    {
+        if self.table_pins > 0 {
+            self.table_pins += 1;
+            return;
+        }
+        let _ = accounts.charge(self.user, self.count);
+        frames::hold_all(
+            &mut self.frames,
+            users,
+            pool,
+            self.user,
+            self.va,
+            self.count,
+        );
+        self.table_pins = 1;
+    }
+
+    /// Takes one pin off the pages. With the last no page is pinned any more: a hold goes off each frame, and the
+    /// user gets all pages back; before it nothing else changes. The memory for the frames stays. It takes no memory.
     ///
-    /// The last asks that the user holds so many pages (`Accounts::held`), and that the frames have their holds (`are_held`).
+    /// The last asks that the user holds so many pages (`Accounts::held`), and that the frames have their holds
+    /// (`are_held`).
     pub fn unpin_by_table<B: Allocator, C: Allocator>(
         &mut self,
         pool: &mut Pool<B>,
@@ -214,12 +263,18 @@ impl<A: Allocator> Pages<A> {
     )
         requires some { 0 < self.old.pages.table_pins }
         requires user { IsTrue (is_user accounts.old self.old.pages.user.0) }
-        requires held { self.old.pages.table_pins ≡ 1 → self.old.pages.count ≤ held_by accounts.old self.old.pages.user.0 }
+        requires held { self.old.pages.table_pins ≡ 1
+            → pinned_count self.old.pages ≤ held_by accounts.old self.old.pages.user.0 }
         requires holds { self.old.pages.table_pins ≡ 1 → IsTrue (are_held self.old.pages.frames pool.old.holds) }
         ensures pages { self.new.pages ≡ released self.old.pages }
         ensures pool { HasMoreHolds pool.new pool.old (last_frames self.old.pages) }
         ensures accounts { accounts.new ≡ refunded_last self.old.pages accounts.old }
-        ensures room { self.old.room + length self.old.pages.frames ≡ self.new.room + length self.new.pages.frames }
+        ensures capacity { self.new.capacity ≡ self.old.capacity }
+
+        // Each pinned page has one frame, before and after.
+        ensures held { (frame : ℕ) → times frame (held_frames self.old.pages)
+            ≡ times frame (held_frames self.new.pages) + times frame (last_frames self.old.pages) }
+        ensures count { pinned_count self.old.pages ≡ pinned_count self.new.pages + last_count self.old.pages }
     {
         self.table_pins -= 1;
         if self.table_pins == 0 {

@@ -1,3 +1,4 @@
+use Rattle.iofd_words.specs.Tables.{with_tables}
 use Rattle.std.proofs.Common.{◌≡◌, true, refl}
 use Rattle.iofd_laws.specs.Laws.{are_apart}
 use Rattle.iofd_words.specs.Run.{IsRun, world_of}
@@ -7,5 +8,5 @@ use Rattle.iofd_laws.proofs.Runs.{run_keeps}
 use Rattle.iofd_laws.proofs.every_run.areas_never_overlap.Goals as goal
 
 pub returns : goal.returns
-unfolding IsRun world_of
-returns g c = λ settings records run. run_keeps (λ w. are_apart w.areas ≡ true) keeps_apart 0 (opening settings) records run refl
+unfolding IsRun world_of with_tables
+returns g c = λ settings records run. run_keeps (λ w. are_apart w.areas ≡ true) (λ w taken given p. p) keeps_apart 0 (opening settings) records run refl

@@ -1,3 +1,4 @@
+use Rattle.iofd_words.specs.Tables.{with_tables}
 use Rattle.std.proofs.Common.{refl, arith}
 use Rattle.iofd_words.specs.After.{changed, settle, without_areas, attached, detached}
 use Rattle.iofd_words.specs.Answers.{Answers}
@@ -8,20 +9,20 @@ use Rattle.iofd_laws.proofs.worked_script.owed_flush_leaves_both_answers.Goals a
 
 -- the frame is the first of the two answers, the denial the second
 pub returns-clause-passed : goal.returns-clause-passed
-unfolding IsRun Lawful after refusal checks Answers changed settle without_areas attached detached outcomes access_outcomes
+unfolding IsRun Lawful after with_tables refusal checks Answers changed settle without_areas attached detached outcomes access_outcomes
 returns-clause-passed c = (
-  (refl, refl, refl),
+  (refl, (refl, refl)),
   (
-    (refl, refl, refl),
+    (refl, (refl, refl)),
     (
-      (refl, refl, refl),
+      (refl, (refl, refl)),
       (
-        (refl, refl, refl),
+        (refl, (refl, refl)),
         (
-          (refl, refl, refl),
+          (refl, (refl, refl)),
           (
-            (refl, refl, refl),
-            (((0, omega arith, refl), refl, refl), (((refl, refl), refl, refl), (((0, omega arith, refl), refl, refl), tt))),
+            (refl, (refl, refl)),
+            (((0, omega arith, refl), (refl, refl)), (((refl, refl), (refl, refl)), (((0, omega arith, refl), (refl, refl)), tt))),
           ),
         ),
       ),
@@ -30,20 +31,20 @@ returns-clause-passed c = (
 )
 
 pub returns-clause-denied : goal.returns-clause-denied
-unfolding IsRun Lawful after refusal checks Answers changed settle without_areas attached detached outcomes access_outcomes
+unfolding IsRun Lawful after with_tables refusal checks Answers changed settle without_areas attached detached outcomes access_outcomes
 returns-clause-denied c = (
-  (refl, refl, refl),
+  (refl, (refl, refl)),
   (
-    (refl, refl, refl),
+    (refl, (refl, refl)),
     (
-      (refl, refl, refl),
+      (refl, (refl, refl)),
       (
-        (refl, refl, refl),
+        (refl, (refl, refl)),
         (
-          (refl, refl, refl),
+          (refl, (refl, refl)),
           (
-            (refl, refl, refl),
-            (((0, omega arith, refl), refl, refl), (((refl, refl), refl, refl), (((1, omega arith, refl), refl, refl), tt))),
+            (refl, (refl, refl)),
+            (((0, omega arith, refl), (refl, refl)), (((refl, refl), (refl, refl)), (((1, omega arith, refl), (refl, refl)), tt))),
           ),
         ),
       ),

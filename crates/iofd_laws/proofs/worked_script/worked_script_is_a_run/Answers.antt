@@ -1,3 +1,4 @@
+use Rattle.iofd_words.specs.Tables.{with_tables}
 use Rattle.std.proofs.Common.{refl, arith}
 use Rattle.iofd_words.specs.After.{changed, settle, without_areas, attached, detached}
 use Rattle.iofd_words.specs.Answers.{Answers}
@@ -8,28 +9,28 @@ use Rattle.iofd_laws.proofs.worked_script.worked_script_is_a_run.Goals as goal
 
 -- each record's answer computes to be the lawful one
 pub returns : goal.returns
-unfolding IsRun Lawful after refusal checks Answers changed settle without_areas attached detached outcomes access_outcomes
+unfolding IsRun Lawful after with_tables refusal checks Answers changed settle without_areas attached detached outcomes access_outcomes
 returns c = (
-  (refl, refl, refl),
+  (refl, (refl, refl)),
   (
-    (refl, refl, refl),
+    (refl, (refl, refl)),
     (
-      (refl, refl, refl),
+      (refl, (refl, refl)),
       (
-        (refl, refl, refl),
+        (refl, (refl, refl)),
         (
-          (refl, refl, refl),
+          (refl, (refl, refl)),
           (
-            (refl, refl, refl),
+            (refl, (refl, refl)),
             (
-              ((0, omega arith, refl), refl, refl),
+              ((0, omega arith, refl), (refl, refl)),
               (
-                ((refl, refl), refl, refl),
+                ((refl, refl), (refl, refl)),
                 (
-                  (tt, refl, refl),
+                  (tt, (refl, refl)),
                   (
-                    ((refl, refl), refl, refl),
-                    ((refl, refl, refl), ((tt, refl, refl), ((refl, refl, refl), ((refl, refl, refl), ((tt, refl, refl), ((tt, refl, refl), tt)))))),
+                    ((refl, refl), (refl, refl)),
+                    ((refl, (refl, refl)), ((tt, (refl, refl)), ((refl, (refl, refl)), ((refl, (refl, refl)), ((tt, (refl, refl)), ((tt, (refl, refl)), tt)))))),
                   ),
                 ),
               ),

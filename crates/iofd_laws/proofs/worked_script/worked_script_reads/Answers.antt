@@ -1,27 +1,28 @@
+use Rattle.iofd_words.specs.Tables.{with_tables}
 use Rattle.std.proofs.Common.{refl}
 use Rattle.iofd_words.specs.After.{changed, settle, without_areas, attached, detached}
 use Rattle.iofd_words.specs.Checks.{checks, refusal}
-use Rattle.iofd_words.specs.Look.{answers_to}
+use Rattle.iofd_words.specs.Look.{answers_in}
 use Rattle.iofd_words.specs.Policy.{access_outcomes, outcomes}
 use Rattle.iofd_words.specs.Run.{world_of, after}
 use Rattle.iofd_laws.proofs.worked_script.worked_script_reads.Goals as goal
 
 pub returns-clause-bytes : goal.returns-clause-bytes
-unfolding answers_to world_of after refusal checks changed settle without_areas attached detached outcomes access_outcomes
+unfolding answers_in world_of after with_tables refusal checks changed settle without_areas attached detached outcomes access_outcomes
 returns-clause-bytes c = refl
 
 pub returns-clause-crossing : goal.returns-clause-crossing
-unfolding answers_to world_of after refusal checks changed settle without_areas attached detached outcomes access_outcomes
+unfolding answers_in world_of after with_tables refusal checks changed settle without_areas attached detached outcomes access_outcomes
 returns-clause-crossing c = refl
 
 pub returns-clause-elsewhere : goal.returns-clause-elsewhere
-unfolding answers_to world_of after refusal checks changed settle without_areas attached detached outcomes access_outcomes
+unfolding answers_in world_of after with_tables refusal checks changed settle without_areas attached detached outcomes access_outcomes
 returns-clause-elsewhere c = refl
 
 pub returns-clause-beyond : goal.returns-clause-beyond
-unfolding answers_to world_of after refusal checks changed settle without_areas attached detached outcomes access_outcomes
+unfolding answers_in world_of after with_tables refusal checks changed settle without_areas attached detached outcomes access_outcomes
 returns-clause-beyond c = refl
 
 pub returns-clause-unattached : goal.returns-clause-unattached
-unfolding answers_to world_of after refusal checks changed settle without_areas attached detached outcomes access_outcomes
+unfolding answers_in world_of after with_tables refusal checks changed settle without_areas attached detached outcomes access_outcomes
 returns-clause-unattached c = refl

@@ -1,8 +1,7 @@
 use Rattle.area_map.specs.Areas.{with_area}
 use Rattle.iofd_words.specs.declared.rows.Area.{Area}
-use Rattle.std.proofs.Common.{List, ◌∙◌}
+use Rattle.std.proofs.Common.{List}
 use Rattle.iommufd_core.proofs.AreasHeld.{areas_found, rewritten, space_absent, space_found}
-use Rattle.iommufd_core.proofs.RoomFound.{room_found}
 use Rattle.std.proofs.lemmas.Result.{on_ok_weaker, on_err_weaker}
 use Rattle.iommufd_core.proofs.area_changes.insert.Goals as goal
 
@@ -21,7 +20,3 @@ returns-in-Err-clause-ok g c = λ orderly has free. absurd (space_absent c.args.
 pub returns-in-Ok-clause-err : goal.returns-in-Ok-clause-err
 returns-in-Ok-clause-err g c =
     on_err_weaker c.insert_held.result (λ with. rewritten (λ (areas : List Area). areas) c.args.table.now c.args.file _ c.args.ioas c.in-Ok.held.now c.insert_held.new.held c.in-Ok.ensures.ok with) c.insert_held.ensures.err
-
-pub returns-in-Ok-clause-memory : goal.returns-in-Ok-clause-memory
-returns-in-Ok-clause-memory g c =
-    on_err_weaker c.insert_held.result (λ full orderly. room_found c.args.table.now c.args.file _ c.args.ioas c.in-Ok.held.now orderly c.in-Ok.ensures.ok ∙ full) c.insert_held.ensures.memory

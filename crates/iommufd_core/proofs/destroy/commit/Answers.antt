@@ -13,7 +13,7 @@ pub returns-then-not-has_hwpt : goal.returns-then-not-has_hwpt
 unfolding changed Answers
 returns-then-not-has_hwpt g c = λ at w tidy shows none. (
   tt,
-  last_destroyed at w c.args.state.now c.args.file c.args.id c.in-Some-Hwpt.ioas c.in-Some-Hwpt.field-0-1 c.in-Some-Hwpt.field-0-2 c.remove-in-Some-Hwpt.new.table tidy shows (sym c.in-Some-Hwpt.ensures ∙ ap Some c.in-Some-Hwpt.field-0-is) c.remove-in-Some-Hwpt.ensures.rows c.remove-in-Some-Hwpt.ensures.files c.unpin_space.new.pins
+  last_destroyed at w c.args.state.now c.args.file c.args.id c.in-Some-Hwpt.ioas c.in-Some-Hwpt.field-0-1 c.in-Some-Hwpt.field-0-2 c.remove-in-Some-Hwpt.new.table tidy shows none (sym c.in-Some-Hwpt.ensures ∙ ap Some c.in-Some-Hwpt.field-0-is) c.remove-in-Some-Hwpt.ensures.rows c.remove-in-Some-Hwpt.ensures.files c.unpin_space.new.pins
       (sym c.has_hwpt.ensures ∙ c.if-not-has_hwpt.true) c.unpin_space.ensures,
 )
 
@@ -21,7 +21,7 @@ pub returns-else-not-has_hwpt : goal.returns-else-not-has_hwpt
 unfolding changed Answers
 returns-else-not-has_hwpt g c = λ at w tidy shows none. (
   tt,
-  other_destroyed at w c.args.state.now c.args.file c.args.id c.in-Some-Hwpt.ioas c.in-Some-Hwpt.field-0-1 c.in-Some-Hwpt.field-0-2 c.remove-in-Some-Hwpt.new.table tidy shows (sym c.in-Some-Hwpt.ensures ∙ ap Some c.in-Some-Hwpt.field-0-is) c.remove-in-Some-Hwpt.ensures.rows c.remove-in-Some-Hwpt.ensures.files
+  other_destroyed at w c.args.state.now c.args.file c.args.id c.in-Some-Hwpt.ioas c.in-Some-Hwpt.field-0-1 c.in-Some-Hwpt.field-0-2 c.remove-in-Some-Hwpt.new.table tidy shows none (sym c.in-Some-Hwpt.ensures ∙ ap Some c.in-Some-Hwpt.field-0-is) c.remove-in-Some-Hwpt.ensures.rows c.remove-in-Some-Hwpt.ensures.files
       (sym c.has_hwpt.ensures ∙ c.if-not-has_hwpt.false),
 )
 

@@ -14,7 +14,7 @@ unfolding Answers
 returns-else-is_idle g c =
     λ at w tidy shows none. (
       tt,
-      shows_detached at w c.args.state.now (record c.args.state.now { objects = c.pay.new.table; attachments = c.remove.new.list }) c.args.device c.in-Some.attachment.now c.in-Some-space_of.field-0-0 c.in-Some-space_of.ioas tidy shows
+      shows_detached at w c.args.state.now (record c.args.state.now { objects = c.pay.new.table; attachments = c.remove.new.list }) c.args.device c.in-Some.attachment.now c.in-Some-space_of.field-0-0 c.in-Some-space_of.ioas tidy shows none
           (sym c.in-Some.ensures) (sym c.in-Some-space_of.ensures) c.pay.ensures c.remove.ensures (rw c.deref.ensures.value at (sym c.if-is_idle.ensures)),
     )
 
@@ -23,6 +23,6 @@ unfolding Answers
 returns-then-is_idle g c =
     λ at w tidy shows none. (
       tt,
-      shows_dropped at w c.args.state.now (record c.args.state.now { objects = c.drop_table.new.table; attachments = c.remove.new.list; pins = c.drop_table.new.pins }) c.args.device c.in-Some.attachment.now c.in-Some-space_of.field-0-0 c.in-Some-space_of.ioas c.pay.new.table tidy shows
+      shows_dropped at w c.args.state.now (record c.args.state.now { objects = c.drop_table.new.table; attachments = c.remove.new.list; pins = c.drop_table.new.pins }) c.args.device c.in-Some.attachment.now c.in-Some-space_of.field-0-0 c.in-Some-space_of.ioas c.pay.new.table tidy shows none
           (sym c.in-Some.ensures) (sym c.in-Some-space_of.ensures) c.pay.ensures c.remove.ensures (rw c.deref.ensures.value at (sym c.if-is_idle.ensures)) c.drop_table.ensures.rows c.drop_table.ensures.files c.drop_table.ensures.pins,
     )

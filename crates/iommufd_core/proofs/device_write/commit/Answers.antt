@@ -1,8 +1,7 @@
 use Rattle.std.proofs.Common.{◌≡◌, ℕ, ◌+◌, ◌*◌, ◌%◌, ◌≤◌, false, length, ◌∙◌, ap, sym, arith}
 use Rattle.std.proofs.lemmas.Bool.Decides.{nat_tests}
-use Rattle.iofd_laws.proofs.Runs.{tests_false}
+use Rattle.iofd_laws.proofs.NotRefused.{passes, write_passed}
 use Rattle.iofd_words.specs.After.{changed}
-use Rattle.iofd_words.specs.Checks.{checks, refusal}
 use Rattle.iofd_words.specs.Pages.{crosses}
 use Rattle.iofd_words.specs.Policy.{Passes, fault_of, outcomes}
 use Rattle.iofd_words.specs.View.{view}
@@ -20,7 +19,7 @@ ends_in_page : (address len : ℕ) → crosses address len ≡ false → address
 ends_in_page address len is = search (is, arith, nat_tests)
 
 pub returns-in-Ok : goal.returns-in-Ok
-unfolding changed refusal checks
+unfolding changed
 returns-in-Ok g c = λ at w tidy shows none may.
     let frame = c.in-Ok.frame in
     let iova = c.args.iova in
@@ -28,25 +27,22 @@ returns-in-Ok g c = λ at w tidy shows none may.
     let told : Passes frame ≡ given_outcome c.args.via (outcomes w c.args.device iova.0 Write) = c.in-Ok.ensures ∙ ap (given_outcome c.args.via) (same_outcomes w c.args.state.now shows c.args.device iova.0 Write) in
     let answer = chosen_answer at w c.args.device iova bytes c.args.via (Passes frame) tidy told may in
     let within = pass_in_pool w tidy.fit.pin_frames c.args.device iova.0 Write frame answer.0 in
-    let short = ends_in_page iova.0 (length bytes) (tests_false (checks (view w) (event.DeviceWrite c.args.device iova bytes)) 1 none) in
+    let short = ends_in_page iova.0 (length bytes) (write_passed (view w) c.args.device iova bytes (passes w (event.DeviceWrite c.args.device iova bytes) none)).short in
     let old = c.args.state.now.frames.items in
     let put : c.put.new.frames.items ≡ overwritten (frame.0 * 4096 + iova.0 % 4096) bytes old = rw (c.start_of.ensures.value, c.as_slice.ensures.value) at c.put.ensures in
-    let fits : frame.0 * 4096 + iova.0 % 4096 + length bytes ≤ length old = rw shows.frames (omega (arith, within, short)) in (
+    let fits : frame.0 * 4096 + iova.0 % 4096 + length bytes ≤ length old = rw shows.frames.size (omega (arith, within, short)) in (
       answer.1,
       answer.2,
       record {
         settings = shows.settings;
         objects = shows.objects;
-        proper = shows.proper;
-        areas = shows.areas;
-        files = shows.files;
-        bindings = shows.bindings;
-        attachments = shows.attachments;
+        devices = shows.devices;
         memory = shows.memory;
-        user_pages = shows.user_pages;
-        pins = shows.pins;
-        frames = rw put (same_length (frame.0 * 4096 + iova.0 % 4096) bytes old fits ∙ shows.frames);
-        bytes = rw put (written w.settings.pool w.writes old shows.frames shows.bytes frame.0 (iova.0 % 4096) bytes within short);
+        frames = record {
+          size = rw put (same_length (frame.0 * 4096 + iova.0 % 4096) bytes old fits ∙ shows.frames.size);
+          written = rw put (written w.settings.pool w.writes old shows.frames.size shows.frames.written frame.0 (iova.0 % 4096) bytes within short);
+          no_tables = shows.frames.no_tables;
+        };
       },
     )
 

@@ -1,6 +1,6 @@
 use Rattle.std.proofs.Common.{◌≡◌, Some, None, sym, ◌∙◌, subst}
 use Rattle.iommufd_core.proofs.ViewShown.{same_refusal}
-use Rattle.iommufd_core.proofs.Answering.{refused_lawful, refused_after, answered_lawful, answered_after, if_ok, on_err}
+use Rattle.iommufd_core.proofs.Answering.{refused_lawful, refused_after, answered_lawful, answered_after, tabled_shown, if_ok, on_err}
 use Rattle.iofd_words.specs.declared.refusal.Cause.{Cause}
 use Rattle.iommufd_core.specs.Shows.{Shows}
 use Rattle.iommufd_core.proofs.events.answer.Goals as goal
@@ -17,9 +17,7 @@ pub returns-in-None-clause-ok : goal.returns-in-None-clause-ok
 returns-in-None-clause-ok g c = if_ok c.commit.result _ _ (λ reply steps pass w tidy shows may.
     let is = sym (c.refusal.ensures ∙ same_refusal w c.args.state.now shows c.args.act.now.event) ∙ c.in-None.is in
     let told = steps w tidy shows is (may is) in
-    (answered_lawful _ c.args.at w pass c.args.act.now.event reply is told.0, λ none. told.1, subst (λ after. Shows after c.commit.new.state) (sym (answered_after _ c.args.at w pass c.args.act.now.event reply is)) told.2)) c.commit.ensures.ok
+    (answered_lawful _ c.args.at w pass c.args.act.now.event reply is told.0, λ none. told.1, subst (λ after. Shows after c.commit.new.state) (sym (answered_after _ c.args.at w pass c.args.act.now.event reply is)) (tabled_shown _ _ told.2))) c.commit.ensures.ok
 
 pub returns-in-None-clause-memory : goal.returns-in-None-clause-memory
-returns-in-None-clause-memory g c = on_err c.commit.result _ _ (λ lacks records w tidy shows.
-    let is = sym (c.refusal.ensures ∙ same_refusal w c.args.state.now shows c.args.act.now.event) ∙ c.in-None.is in
-    (is, lacks records w tidy shows is)) c.commit.ensures.memory
+returns-in-None-clause-memory g c = on_err c.commit.result _ _ (λ takes. (sym c.refusal.ensures ∙ c.in-None.is, takes)) c.commit.ensures.memory

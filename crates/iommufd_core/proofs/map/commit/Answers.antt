@@ -1,8 +1,7 @@
-use Rattle.std.proofs.Common.{◌≡◌, inr, None, refl, sym, ◌∙◌}
+use Rattle.std.proofs.Common.{◌≡◌, None, refl, sym, ◌∙◌}
 use Rattle.iofd_words.specs.Answers.{Answers}
 use Rattle.iofd_words.specs.Files.{user_of}
 use Rattle.iommufd_core.proofs.Mapped.{area_taken, has_user, is_span, shows_mapped, shows_unmapped, some_length}
-use Rattle.iommufd_core.proofs.Flushed.{orderly}
 use Rattle.iommufd_core.proofs.Answering.{on_err_same}
 use Rattle.iommufd_core.proofs.map.commit.Goals as goal
 
@@ -18,7 +17,7 @@ pub returns-clause-ok : goal.returns-clause-ok
 unfolding Answers
 returns-clause-ok g c = λ w tidy shows none. (
   refl,
-  shows_mapped c.args.at w c.args.state.now c.args.file c.args.request c.in-Some.user _ _ _ tidy shows
+  shows_mapped c.args.at w c.args.state.now c.args.file c.args.request c.in-Some.user _ _ _ tidy shows none
       (some_length w c.args.file c.args.request none)
       (sym c.user_of.ensures ∙ c.in-Some.is)
       (λ orderly. area_taken w c.args.state.now c.args.file c.args.request shows none c.args.at ((rw c.mapped_area-area.ensures at c.in_ok-insert.ensures.ok) orderly))
@@ -29,7 +28,3 @@ returns-clause-ok g c = λ w tidy shows none. (
 pub returns-in_err-insert-clause-err : goal.returns-in_err-insert-clause-err
 returns-in_err-insert-clause-err g c =
     on_err_same c.from_residual-in_err-insert.result _ (shows_unmapped c.args.at c.args.state.now c.args.file c.args.request.ioas _ _ _ c.in_err-insert.ensures.err c.reserve.ensures.items c.reserve-2.ensures.items)
-
-pub returns-in_err-insert-clause-memory : goal.returns-in_err-insert-clause-memory
-returns-in_err-insert-clause-memory g c =
-    on_err_same c.from_residual-in_err-insert.result _ (λ records w tidy shows none. inr (inr (c.in_err-insert.ensures.memory (orderly c.args.at w c.args.state.now tidy shows))))

@@ -1,7 +1,7 @@
 use Rattle.std.proofs.Common.{◌∙◌, ◌++◌, ap, arith}
 use Rattle.std.specs.List.{filter_map}
 use Rattle.iofd_words.specs.Pins as spec
-use Rattle.iommufd_core.specs.PinLists.{pages_from}
+use Rattle.iofd_words.specs.Pins.{pages_from}
 use Rattle.iommufd_core.proofs.Pushed.{areas_pushed, length_more, room_for_area}
 use Rattle.iommufd_core.proofs.pins.push_areas.Goals as goal
 

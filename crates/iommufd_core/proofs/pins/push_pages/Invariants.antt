@@ -2,7 +2,7 @@ use Rattle.std.proofs.Common.{◌≡◌, ◌≤◌, ◌+◌, ◌++◌, vec_len}
 use Rattle.std.specs.List.{filter_map}
 use Rattle.std.specs.Vec.{vec_capacity}
 use Rattle.iofd_words.specs.Pins as spec
-use Rattle.iommufd_core.specs.PinLists.{pages_from}
+use Rattle.iofd_words.specs.Pins.{pages_from}
 use Rattle.iommufd_core.proofs.pins.push_pages.Given as goal
 
 abbrev pub invariant-loop-index : goal.invariant-loop-index

@@ -1,10 +1,10 @@
-use Rattle.std.proofs.Common.{◌≡◌, length, inr, refl, ◌∙◌, ap, subst}
+use Rattle.std.proofs.Common.{◌≡◌, length, inr, refl, ◌∙◌, ap, subst, sym}
 use Rattle.iofd_words.specs.Run.{world_of}
 use Rattle.iommufd_core.proofs.Applied.{may_use, unchanged_config, unchanged_kept, applied_config, applied_kept, applied_chosen}
 use Rattle.iommufd_core.specs.Choice.{MayUse}
-use Rattle.iommufd_core.proofs.Histories.{tidy_run}
+use Rattle.iommufd_core.specs.History.{HasOneMore, recorded}
 use Rattle.iommufd_core.specs.Server.{Server}
-use Rattle.iommufd_core.specs.Step as step
+use Rattle.iommufd_core.proofs.ViewShown.{same_refusal}
 use Rattle.iommufd_core.specs.Step.{Answered, TidyShowsSame}
 use Rattle.iommufd_core.proofs.apply.Core.apply.Goals as goal
 
@@ -46,7 +46,14 @@ returns-clause-record g c =
     let answered = subst (λ n. Answered n act.event act.via old c.in-Ok.reply new) at c.in-Ok.ensures.ok in
     let may : MayUse (world_of old.config records) act.event act.via = may_use (record { settings = old.config; records = records }) act.event act.via (rw (← c.self.view_is) at c.requires) in
     let config = applied_config old new records c.self.invariant c.args.pass act.event act.via c.in-Ok.reply may answered in
-    rw (← c.self.view_is, config, c.push_reserved.ensures.items, c.reserve.ensures.items, c.new-2.ensures, c.new.ensures.items, c.new-4.ensures, c.new-3.ensures.items) refl
+    let is : HasOneMore c.args.pass act.event c.in-Ok.reply (record { settings = old.config; records = records }) (record { settings = new.config; records = c.push_reserved.new.self.items }) = record {
+      made = recorded c.args.pass act.event c.in-Ok.reply;
+      records = rw (config, c.push_reserved.ensures.items, c.reserve.ensures.items, c.new-2.ensures, c.new.ensures.items, c.new-4.ensures, c.new-3.ensures.items) refl;
+      pass = refl;
+      event = refl;
+      reply = refl;
+    } in
+    rw (← c.self.view_is) is
 
 pub returns-clause-run : goal.returns-clause-run
 returns-clause-run g c = (invariant_of-self-2 g c).run
@@ -65,6 +72,5 @@ pub returns-in_default-clause-memory : goal.returns-in_default-clause-memory
 returns-in_default-clause-memory g c =
     let old = c.self.inside.state in
     let records = c.self.inside.records.items in
-    let at : c.len-at.result ≡ length records = c.len-at.ensures ∙ c.self.inside.records.ok.0 in
-    let wants = subst (λ n. step.MayWant n c.args.act.now.event old) at c.in_default.ensures.memory in
-    rw (← c.self.view_is) (inr (wants _ (world_of old.config records) (tidy_run old.config records c.self.invariant.run) c.self.invariant.shows))
+    let wants = c.in_default.ensures.memory in
+    rw (← c.self.view_is) (inr (sym (same_refusal (world_of old.config records) old c.self.invariant.shows c.args.act.now.event) ∙ wants.0, wants.1))

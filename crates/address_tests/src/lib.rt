@@ -1,0 +1,13 @@
+//! Tests of `area_map` (`areas`) and `iova_ranges` (`ranges`, `ranges_memory`) through public calls.
+#![tactic(auto)]
+
+#[cfg(test)]
+mod areas;
+#[cfg(test)]
+mod heaps;
+#[cfg(test)]
+mod ranges;
+#[cfg(test)]
+mod ranges_memory;
+#[cfg(test)]
+mod spans;

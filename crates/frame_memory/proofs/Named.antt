@@ -1,0 +1,62 @@
+-- The frames that users' pages name, told by how many pages name each.
+use Rattle.std.proofs.Common.{◌≡◌, ℕ, ◌+◌, ◌<◌, ◌≤◌, Bool, true, false, cond, eqb, ltb, Some, List, [], ◌∷◌, length, get_or, refl, sym, ◌∙◌, subst, arith, ⊎_elim}
+use Rattle.std.specs.List.{count_by, find}
+use Rattle.std.proofs.lemmas.Bool.{cases_Bool, cases_lt}
+use Rattle.std.proofs.lemmas.Bool.Decides.{nat_tests}
+use Rattle.std.proofs.lemmas.List.{get_or_past}
+use Rattle.std.proofs.lemmas.List.Sums.{sum_by-cons}
+use Rattle.iofd_words.specs.Frames.{frame_at}
+use Rattle.iofd_words.specs.declared.numbers.FrameNo.{FrameNo}
+use Rattle.iofd_words.specs.declared.numbers.UserNo.{UserNo}
+use Rattle.iofd_words.specs.declared.rows.UserPage.{UserPage}
+use Rattle.frame_memory.specs.UserPages.{are_within, is_page}
+use Rattle.frame_memory.proofs.Rising.{frame_at-find, frame_found}
+
+-- how many pages name the frame
+abbrev pub pages_on : List UserPage → ℕ → ℕ
+pages_on rows frame = count_by (λ (row : UserPage). eqb row.frame.0 frame) rows
+
+pages_first : (row : UserPage) (rows : List UserPage) → (pages_on (row ∷ rows) row.frame.0 ≡ 1 + pages_on rows row.frame.0) × ((frame : ℕ) → pages_on rows frame ≤ pages_on (row ∷ rows) frame)
+pages_first row rows =
+    let same : eqb row.frame.0 row.frame.0 ≡ true = grind (arith, nat_tests) in (
+      sum_by-cons (λ (r : UserPage). cond (eqb r.frame.0 row.frame.0) 1 0) row rows ∙ one (eqb row.frame.0 row.frame.0) (pages_on rows row.frame.0) same,
+      λ frame. let sum = sum_by-cons (λ (r : UserPage). cond (eqb r.frame.0 frame) 1 0) row rows in omega (arith, sum),
+    )
+  where
+    one : (b : Bool) (k : ℕ) → b ≡ true → cond b 1 0 + k ≡ 1 + k
+    one true k is = refl
+    one false k is = cc
+
+-- where each frame has a hold for each page that names it, the pages lie in the pool
+pub within_from_counts : (rows : List UserPage) (holds : List ℕ) → ((frame : ℕ) → pages_on rows frame ≤ get_or holds frame 0) → are_within rows holds ≡ true
+within_from_counts [] holds enough = refl
+within_from_counts (row ∷ rows) holds enough =
+    let first = pages_first row rows in
+    let held = enough row.frame.0 in
+    let here : ltb row.frame.0 (length holds) ≡ true =
+    ⊎_elim
+    (λ (inside : row.frame.0 < length holds). grind (arith, nat_tests))
+    (λ (past : length holds ≤ row.frame.0). let none = get_or_past holds row.frame.0 0 past in absurd (omega (arith, none, held, first.0)))
+    (cases_lt row.frame.0 (length holds)) in
+    rw here (within_from_counts rows holds (λ frame. let le = first.1 frame in let all = enough frame in omega (arith, le, all)))
+
+-- the frame of a page that is there is named at least once
+pub named_once : (rows : List UserPage) (user : UserNo) (page : ℕ) (frame : FrameNo) → frame_at rows user page ≡ Some frame → 1 ≤ pages_on rows frame.0
+named_once rows user page frame is = found_once rows (sym (frame_at-find rows user page) ∙ is)
+  where
+    found_once : (xs : List UserPage) → frame_found (find (is_page user page) xs) ≡ Some frame → 1 ≤ pages_on xs frame.0
+    found_once [] none = cc
+    found_once (row ∷ xs) found =
+        let first = pages_first row xs in
+        ⊎_elim
+        (λ (here : is_page user page row ≡ true).
+        let some : frame_found (Some row) ≡ Some frame = rw here at found in
+        let same : row.frame ≡ frame = cc in
+        let P : FrameNo → Type 0 = λ f. 1 ≤ pages_on (row ∷ xs) f.0 in
+        subst P same (omega (arith, first.0)))
+        (λ (other : is_page user page row ≡ false).
+        let later : frame_found (find (is_page user page) xs) ≡ Some frame = rw other at found in
+        let rest = found_once xs later in
+        let le = first.1 frame.0 in
+        omega (arith, rest, le))
+        (cases_Bool (is_page user page row))

@@ -1,0 +1,115 @@
+-- Every event that nothing refuses has a lawful answer.
+use Rattle.std.proofs.Common.{◌≡◌, ℕ, ◌+◌, Bool, true, false, cond, ◌&&◌, eqb, is_some, is_none, Option, Some, None, List, [], ◌∷◌, map, Contains, refl, sym, ◌∙◌, ap, arith}
+use Rattle.std.specs.List.{count_by, range_with_len}
+use Rattle.std.proofs.lemmas.List.Sums.{sum_by-cons}
+use Rattle.iofd_laws.specs.Fits.{RowsFit}
+use Rattle.iofd_laws.specs.Pinned.{ArePinned}
+use Rattle.iofd_laws.proofs.Bools.{not_false}
+use Rattle.iofd_laws.proofs.FreshIds.{fresh_id}
+use Rattle.iofd_laws.proofs.Known.{bound_known}
+use Rattle.iofd_laws.proofs.NotRefused.{alloc_passed, attach_passed, bind_passed, passes, user_map_passed}
+use Rattle.iofd_laws.proofs.PinnedAccess.{some_outcome}
+use Rattle.iofd_words.specs.Answers.{Answers, IsHwptFor, IsHwptOf, IsTarget, UnmapAnswers, write_reply}
+use Rattle.iofd_words.specs.Areas.{is_waiting, touched_bytes}
+use Rattle.iofd_words.specs.Attachments.{devices_of}
+use Rattle.iofd_words.specs.Checks.{checks, lacks_room_for_hwpt, refusal}
+use Rattle.iofd_words.specs.Files.{device_of}
+use Rattle.iofd_words.specs.Frames.{is_free}
+use Rattle.iofd_words.specs.Objects.{automatic_hwpt, binding_of, is_full, kind_of}
+use Rattle.iofd_words.specs.Policy.{outcomes}
+use Rattle.iofd_words.specs.Settings.{DeviceSettings}
+use Rattle.iofd_words.specs.View.{view}
+use Rattle.iofd_words.specs.World.{World}
+use Rattle.iofd_words.specs.declared.event.Event.{Event}
+use Rattle.iofd_words.specs.declared.event.Event.TheVariants as event
+use Rattle.iofd_words.specs.declared.event.UnmapRequest.{UnmapRequest}
+use Rattle.iofd_words.specs.declared.fault.AccessKind.TheVariants.{Write}
+use Rattle.iofd_words.specs.declared.numbers.DeviceNo.{DeviceNo}
+use Rattle.iofd_words.specs.declared.numbers.FileNo.{FileNo}
+use Rattle.iofd_words.specs.declared.numbers.ObjId.{ObjId}
+use Rattle.iofd_words.specs.declared.refusal.Errno.TheVariants.{EAGAIN}
+use Rattle.iofd_words.specs.declared.reply.Reply.{Reply}
+use Rattle.iofd_words.specs.declared.reply.Reply.TheVariants as reply
+use Rattle.iofd_words.specs.declared.rows.Object.{Object}
+use Rattle.iofd_words.specs.declared.rows.ObjectKind.{ObjectKind}
+use Rattle.iofd_words.specs.declared.rows.ObjectKind.TheVariants as kind
+
+-- something that passes is there, where so many pass
+counted : {X : Type 0} (p : X → Bool) (xs : List X) → eqb (count_by p xs) 0 ≡ false → (x : X) × (p x ≡ true)
+counted p [] some = cc
+counted {X = X} p (x ∷ xs) some = by_test (p x) refl (ap (λ n. eqb n 0) (sym (sum_by-cons (λ y. cond (p y) 1 0) x xs)) ∙ some) (λ later. counted p xs later)
+  where
+    by_test : (b : Bool) → p x ≡ b → eqb (cond b 1 0 + count_by p xs) 0 ≡ false → (eqb (count_by p xs) 0 ≡ false → (x : X) × (p x ≡ true)) → (x : X) × (p x ≡ true)
+    by_test true is some later = (x, is)
+    by_test false is some later = let same : 0 + count_by p xs ≡ count_by p xs = omega arith in later (ap (λ n. eqb n 0) (sym same) ∙ some)
+
+first_of_map : {X Y : Type 0} (f : X → Y) (xs : List X) → (xs ≡ [] → ⊥) → (y : Y) × Contains (map f xs) y
+first_of_map f [] some = absurd (some refl)
+first_of_map f (x ∷ xs) some = (f x, (0, omega arith, refl))
+
+-- a device that isn't bound is refused
+unbound : (w : World) (device : DeviceNo) (pt_id : ObjId) → refusal w (event.Attach device pt_id) ≡ None → binding_of w.objects device ≡ None → ⊥
+unfolding refusal checks
+unbound w device pt_id none is = let refused = rw (is, checks) at none in cc
+
+module _ (at : ℕ) (w : World) (pins : ArePinned at w) (fits : RowsFit w) where
+  -- an UNMAP waits, or it answers how many bytes go
+  unmap_answer : (file : FileNo) (request : UnmapRequest) → (answer : Reply) × UnmapAnswers w file request answer
+  unmap_answer file request = by_test (is_waiting w.areas (devices_of w.objects w.attachments file request.ioas) file request) refl
+    where
+      by_test : (b : Bool) → is_waiting w.areas (devices_of w.objects w.attachments file request.ioas) file request ≡ b → (answer : Reply) × UnmapAnswers w file request answer
+      by_test true waits = (reply.Pending EAGAIN, (waits, refl))
+      by_test false waits = (reply.Bytes (touched_bytes w.areas file request), (not_false _ waits, refl))
+
+  -- a page table over the address space: the automatic one that is there, or a new one
+  table_id : (file : FileNo) (o : Option Object) → (is_none o ≡ true → is_full w.objects file ≡ false) → (id : ObjId) × IsHwptFor w file id o
+  table_id file (Some automatic) roomy = (automatic.id, refl)
+  table_id file None roomy = fresh_id w.objects file (roomy refl)
+
+  attach_answer : (device : DeviceNo) (pt_id : ObjId) → refusal w (event.Attach device pt_id) ≡ None → (id : ObjId) × IsHwptOf w pt_id id (binding_of w.objects device) (device_of w.settings device)
+  attach_answer device pt_id none = by_binding (binding_of w.objects device) refl
+    where
+      other : (a b : Bool) → a ≡ true → (a && b) ≡ false → b ≡ false
+      other true b is none = none
+      other false b is none = cc
+
+      roomy : (bound : Object) (d : DeviceSettings) → lacks_room_for_hwpt (view w) bound.file pt_id (Some d) ≡ false → is_none (automatic_hwpt w.objects bound.file pt_id d.width) ≡ true → is_full w.objects bound.file ≡ false
+      roomy bound d lacks new = other (is_none (automatic_hwpt w.objects bound.file pt_id d.width)) (is_full w.objects bound.file) new lacks
+
+      of_kind : (bound : Object) (d : DeviceSettings) (k : Option ObjectKind) → k ≡ Some kind.Ioas → lacks_room_for_hwpt (view w) bound.file pt_id (Some d) ≡ false → (id : ObjId) × IsTarget w bound.file pt_id id d.width k
+      of_kind bound d (Some kind.Ioas) is lacks = table_id bound.file (automatic_hwpt w.objects bound.file pt_id d.width) (roomy bound d lacks)
+      of_kind bound d (Some (kind.Hwpt ioas width automatic)) is lacks = cc
+      of_kind bound d (Some (kind.Device other)) is lacks = cc
+      of_kind bound d None is lacks = cc
+
+      by_device : (bound : Object) (o : Option DeviceSettings) → is_some o ≡ true → kind_of w.objects bound.file pt_id ≡ Some kind.Ioas → lacks_room_for_hwpt (view w) bound.file pt_id o ≡ false → (id : ObjId) × IsHwptOf w pt_id id (Some bound) o
+      by_device bound None known space lacks = cc
+      by_device bound (Some d) known space lacks = of_kind bound d (kind_of w.objects bound.file pt_id) space lacks
+
+      by_binding : (o : Option Object) → binding_of w.objects device ≡ o → (id : ObjId) × IsHwptOf w pt_id id o (device_of w.settings device)
+      by_binding None is = absurd (unbound w device pt_id none is)
+      by_binding (Some bound) is =
+          let passed = attach_passed (view w) device pt_id bound is (passes w (event.Attach device pt_id) none) in
+          by_device bound (device_of w.settings device) (bound_known w.settings w.closed w.objects device bound fits.known is).1 passed.space passed.roomy
+
+  pub some_answer : (e : Event) → refusal w e ≡ None → (answer : Reply) × Answers w e answer
+  unfolding Answers
+  some_answer (event.IoasAlloc file) none =
+      let (id, fresh) = fresh_id w.objects file (alloc_passed (view w) file (passes w (event.IoasAlloc file) none)).roomy in
+      (reply.Id id, fresh)
+  some_answer (event.Map file request) none = (reply.Iova request.iova, refl)
+  some_answer (event.Unmap file request) none = unmap_answer file request
+  some_answer (event.Destroy file id) none = (reply.Done, tt)
+  some_answer (event.Close file) none = (reply.Done, tt)
+  some_answer (event.UserMap user va) none =
+      let (frame, free) = counted (is_free w.settings.pool w.user_pages w.pins w.table_frames) (range_with_len 0 w.settings.pool) (user_map_passed (view w) user va (passes w (event.UserMap user va) none)).roomy in
+      (reply.Frame (record { 0 = frame }), free)
+  some_answer (event.Bind file device) none =
+      let (id, fresh) = fresh_id w.objects file (bind_passed (view w) file device (passes w (event.Bind file device) none)).roomy in
+      (reply.Id id, fresh)
+  some_answer (event.Attach device pt_id) none =
+      let (id, target) = attach_answer device pt_id none in
+      (reply.Id id, target)
+  some_answer (event.Detach device) none = (reply.Done, tt)
+  some_answer (event.Flush device) none = (reply.Done, tt)
+  some_answer (event.DeviceWrite device iova bytes) none = first_of_map (write_reply w device iova.0) (outcomes w device iova.0 Write) (some_outcome at w device iova.0 Write pins fits)

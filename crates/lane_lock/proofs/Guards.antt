@@ -1,0 +1,17 @@
+-- What a take tells of the pass, and of the share.
+use Rattle.std.proofs.Common.{◌≡◌, ◌≢◌, ℕ, Bool, true, false, List, [], ◌∷◌, sym, refl, ap, ◌∙◌, Option}
+use Rattle.std.specs.declared.sync.Arc.{Arc}
+
+-- a pass whose lane is free is under no guard
+pub idle_if_free : (b : Bool) (n : ℕ) → (b ≡ true → n ≢ 0) → n ≡ 0 → b ≡ false
+idle_if_free true n guarded free = absurd (guarded refl free)
+idle_if_free false n guarded free = refl
+
+module _ {K Z : Type 0} where
+  abbrev top_or : Option (Arc K Z) → List (ℕ × Option (Arc K Z)) → Option (Arc K Z)
+  top_or d [] = d
+  top_or d (x ∷ xs) = x.1
+
+  -- what the slot in front has, told twice
+  pub top_is : (lane : ℕ) (x y : Option (Arc K Z)) (c cs ds : List (ℕ × Option (Arc K Z))) → c ≡ (lane, x) ∷ cs → c ≡ (lane, y) ∷ ds → x ≡ y
+  top_is lane x y c cs ds p q = ap (top_or x) (sym p ∙ q)

@@ -1,0 +1,12 @@
+pub mod Climbs
+pub mod Drops
+pub mod Ends
+pub mod Gathered
+pub mod Grows
+pub mod Guards
+pub mod Keeps
+pub mod Moves
+pub mod NewPasses
+pub mod PassLists
+pub mod Starts
+pub mod Writes

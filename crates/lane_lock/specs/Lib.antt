@@ -1,0 +1,13 @@
+pub mod Closing
+pub mod Ending
+pub mod Guards
+pub mod Hands
+pub mod History
+pub mod Opening
+pub mod Outcomes
+pub mod Passes
+pub mod ReadGuards
+pub mod Rule
+pub mod Steps
+pub mod Views
+pub mod WriteGuards

@@ -1,0 +1,72 @@
+-- What a call makes of what its pass knows: the view before, and the view after.
+use Rattle.std.specs.Prelude.{◌≡◌, ◌≢◌, ℕ, ◌+◌, ◌-◌, ◌<◌, List, [], ◌∷◌, ◌++◌, slice_index}
+use Rattle.lane_lock.specs.declared.table.View.{View}
+use Rattle.lane_lock.specs.declared.refusal.Busy.{Busy}
+use Rattle.lane_lock.specs.declared.refusal.NotNow.{NotNow}
+use Rattle.lane_lock.specs.declared.refusal.NotNow.TheVariants.{Shared}
+use Rattle.lane_lock.specs.declared.refusal.NotNow.TheVariants as refusal
+use Rattle.lane_lock.specs.History.{StartsWith}
+use Rattle.lane_lock.specs.Rule.{Names}
+use Rattle.lane_lock.specs.Hands.{Climbed}
+use Rattle.lane_lock.specs.Steps.{Mine}
+use Rattle.lane_lock.specs.Views.{noted}
+
+module _ {E : Type 0} where
+  -- the pass made no record, and has seen no less
+  pub record OnlySees (v w : View E) : Type 0 where
+    pub number : w.number ≡ v.number
+    pub base : w.base ≡ v.base
+    pub made : w.made ≡ v.made
+    pub later : StartsWith w.seen v.seen
+
+  -- the pass made no record, and has seen what it had seen
+  pub record KeepsHistory (v w : View E) : Type 0 where
+    pub number : w.number ≡ v.number
+    pub base : w.base ≡ v.base
+    pub made : w.made ≡ v.made
+    pub seen : w.seen ≡ v.seen
+
+  -- the pass holds the lanes that it held
+  abbrev pub KeepsLanes : View E → View E → Type 0
+  KeepsLanes v w = (k : ℕ) → slice_index w.held k ≡ slice_index v.held k
+
+  -- One more take met a lane that was held: this lane, by this holder. The holder is another pass unless this one held the lane before.
+  pub record MetHeld (v w : View E) (lane holder : ℕ) : Type 0 where
+    pub counted : w.busy ≡ v.busy + 1
+    pub noted : w.lane ≡ lane
+    pub by_holder : Names holder w.word
+    pub own : holder ≡ v.number → slice_index v.held lane ≢ 0
+
+  -- a read was refused: its lane was held, or empty
+  abbrev pub RefusesRead : View E → View E → ℕ → NotNow → Type 0
+  RefusesRead v w lane (refusal.Busy b) = KeepsHistory v w × KeepsLanes v w × (b.lane ≡ lane) × MetHeld v w lane b.holder.0
+  RefusesRead v w lane Shared = KeepsHistory v w × KeepsLanes v w × (w.busy ≡ v.busy)
+
+  -- a write was refused: a lane was held, and all lanes that were taken are home again
+  abbrev pub RefusesWrite : View E → View E → ℕ → Busy → Type 0
+  RefusesWrite v w lanes b = OnlySees v w × KeepsLanes v w × (b.lane < lanes) × MetHeld v w b.lane b.holder.0
+
+  -- the pass has seen these records, and nothing else has changed
+  pub record Learns (v : View E) (seen : List E) (w : View E) : Type 0 where
+    pub number : w.number ≡ v.number
+    pub base : w.base ≡ v.base
+    pub made : w.made ≡ v.made
+    pub seen_is : w.seen ≡ seen
+    pub held : w.held ≡ v.held
+
+  -- the pass made this record, which ends all that it has seen
+  pub record Appends (by : E → ℕ) (v w : View E) (x : E) : Type 0 where
+    pub number : w.number ≡ v.number
+    pub base : w.base ≡ v.base
+    pub seen : w.seen ≡ v.seen ++ x ∷ []
+    pub made : w.made ≡ v.made ++ x ∷ []
+    pub maker : by x ≡ v.number
+
+-- a writer that took the lanes below b's by the word w met this lane held
+pub record Stops {K E Z : Type 0} (hist : K → List E) (m : Mine K E Z) (w : ℕ) (b : Busy) (m' : Mine K E Z) : Type 0 where
+  pub above : 0 < b.lane
+  pub before : Mine K E Z
+  pub climbed : Climbed hist m w (b.lane - 1) before
+  pub found : ℕ
+  pub noting : m' ≡ (noted before.0 b.lane found, before.1)
+  pub met : MetHeld m.0 m'.0 b.lane b.holder.0

@@ -1,0 +1,118 @@
+//! The steps on the table, each by a pass's own seat. There are no others.
+
+ghost use Rattle.std.specs.Prelude.{◌≡◌, ◌≢◌, ℕ, ◌+◌, ◌-◌, ◌*◌, ◌<◌, ◌⊎◌, true, [], ◌∷◌, length, slice_index};
+ghost use mathlib.Core.Option.{none};
+ghost use Rattle.atomic_table.specs.Table.{step, rest};
+ghost use Rattle.lane_lock.specs.Steps.{SameSeat, took, Offers, IsShare, committed, Writes};
+ghost use Rattle.lane_lock.specs.Views.{freed, HasApart, IsBlank, without_one, first_alone, note, learned, gathered};
+
+use crate::kept::Kept;
+use crate::plays::{Commit, Deal, End, Gather, Learn, Return, Take, Tell};
+use crate::table::{PassSeat, Share, SharedLanes};
+
+// Takes a lane for the pass, by its word, to read or to write. The answer is 0 where it was at home, and else the
+// word found.
+pub(crate) fn take_lane<K: Kept>(
+    lanes: &SharedLanes<K>,
+    seat: &mut PassSeat<K>,
+    lane: usize,
+    word: u64,
+) -> u64
+    requires table { (seat.old.table_id ≡ lanes.now.table_id) × (lane < lanes.now.table_id.words)
+        × (lanes.now.key.lanes ≡ lanes.now.table_id.words) }
+    requires pass { (seat.old.me.0.stands ≡ true)
+        × ((word ≡ 2 * seat.old.me.0.number + 1) ⊎ (word ≡ 2 * seat.old.me.0.number + 2)) }
+    ensures same_seat { SameSeat seat.old seat.new }
+    ensures told { took K.history K.maker
+        (step lanes.now.table_id.slots lane 0 word none) seat.old.me result seat.new.me }
+{
+    lanes.compare_exchange::<Take<K>>(seat, lane, 0, word)
+}
+
+// Puts the last lane back, with a share of what the pass has seen or with none.
+pub(crate) fn put_back_last<K: Kept>(lanes: &SharedLanes<K>, seat: &mut PassSeat<K>, lane: usize)
+    requires table { (seat.old.table_id ≡ lanes.now.table_id) × (lane < lanes.now.table_id.words) }
+    requires pass { (seat.old.me.0.stands ≡ true) × (slice_index seat.old.me.0.held lane ≢ 0) }
+    requires share { Offers K.history seat.old.me.0 lane seat.old.me.1 }
+    ensures same_seat { SameSeat seat.old seat.new }
+    ensures told { seat.new.me ≡ (freed seat.old.me.0 lane 0, rest seat.old.me.1) }
+{
+    lanes.store::<End<K>>(seat, lane, 0)
+}
+
+// Puts lane 0 back with one more record, while the pass holds every lane: the one step by which the history grows.
+pub(crate) fn put_back_with_record<K: Kept>(lanes: &SharedLanes<K>, seat: &mut PassSeat<K>)
+    requires table { (seat.old.table_id ≡ lanes.now.table_id) × (0 < lanes.now.table_id.words)
+        × (lanes.now.key.lanes ≡ lanes.now.table_id.slots) }
+    requires pass { (seat.old.me.0.stands ≡ true) × (seat.old.me.0.others ≡ [])
+        × (length seat.old.me.0.held ≡ lanes.now.table_id.slots)
+        × ((k : ℕ) → k < lanes.now.table_id.slots → slice_index seat.old.me.0.held k ≢ 0)
+        × (seat.old.me.0.pin ≢ 0) }
+    requires share { Writes K.history K.maker seat.old.me }
+    ensures same_seat { SameSeat seat.old seat.new }
+    ensures told { committed K.history (step lanes.now.table_id.slots 0 0 0 none) seat.old.me 0 seat.new.me }
+{
+    lanes.store::<Commit<K>>(seat, 0, 0)
+}
+
+// Cuts the first further pass off the view, into a seat of its own.
+pub(crate) fn split_off_pass<K: Kept>(lanes: &SharedLanes<K>, seat: &mut PassSeat<K>) -> PassSeat<K>
+    requires table { (seat.old.table_id ≡ lanes.now.table_id) × (0 < lanes.now.table_id.words) }
+    requires pass { (seat.old.me.0.stands ≡ true) × HasApart seat.old.me.0 }
+    ensures kept { SameSeat seat.old seat.new × (seat.new.me ≡ (without_one seat.old.me.0, seat.old.me.1)) }
+    ensures dealt { (result.table_id ≡ seat.old.table_id) × (result.me ≡ (first_alone seat.old.me.0, [])) }
+{
+    lanes.split_seat::<Deal>(seat)
+}
+
+// Tells one pass what another has seen.
+pub(crate) fn tell<K: Kept>(lanes: &SharedLanes<K>, from: &mut PassSeat<K>, to: &mut PassSeat<K>)
+    requires table { (from.old.table_id ≡ lanes.now.table_id) × (to.old.table_id ≡ lanes.now.table_id)
+        × (0 < lanes.now.table_id.words) }
+    requires pass { to.old.me.0.stands ≡ true }
+    ensures from { SameSeat from.old from.new × (from.new.me ≡ from.old.me) }
+    ensures to { SameSeat to.old to.new × (to.new.me ≡ (learned to.old.me.0 (note from.old.me.0), to.old.me.1)) }
+{
+    let said = lanes.split_seat::<Tell>(from);
+    lanes.join_seat::<Learn>(to, said);
+}
+
+// Takes another pass into the view.
+pub(crate) fn gather<K: Kept>(lanes: &SharedLanes<K>, seat: &mut PassSeat<K>, other: PassSeat<K>)
+    requires table { (seat.old.table_id ≡ lanes.now.table_id) × (other.table_id ≡ lanes.now.table_id)
+        × (0 < lanes.now.table_id.words) × (other.me.1 ≡ []) }
+    requires pass { (other.me.0.stands ≡ true) × (other.me.0.others ≡ []) × IsBlank other.me.0 }
+    ensures { SameSeat seat.old seat.new × (seat.new.me ≡ (gathered seat.old.me.0 other.me.0, seat.old.me.1)) }
+{
+    lanes.join_seat::<Gather>(seat, other);
+}
+
+// Puts a lane back, while another still pins what the pass has seen: with a share of that, or with none.
+pub(crate) fn put_back_pinned<K: Kept>(lanes: &SharedLanes<K>, seat: &mut PassSeat<K>, lane: usize)
+    requires table { (seat.old.table_id ≡ lanes.now.table_id) × (lane < lanes.now.table_id.words) }
+    requires pass { (seat.old.me.0.stands ≡ true) × (slice_index seat.old.me.0.held lane ≢ 0)
+        × (seat.old.me.0.pin ≢ 0 → seat.old.me.0.pin - 1 ≢ lane) }
+    requires share { Offers K.history seat.old.me.0 lane seat.old.me.1 }
+    ensures same_seat { SameSeat seat.old seat.new }
+    ensures told { seat.new.me ≡ (freed seat.old.me.0 lane seat.old.me.0.pin, rest seat.old.me.1) }
+{
+    lanes.store::<Return<K>>(seat, lane, 0)
+}
+
+// Puts the last lane back with this in its slot.
+pub(crate) fn put_back_with<K: Kept>(
+    lanes: &SharedLanes<K>,
+    seat: &mut PassSeat<K>,
+    lane: usize,
+    share: Option<Share<K>>,
+)
+    requires table { (seat.old.table_id ≡ lanes.now.table_id) × (lane < lanes.now.table_id.words) }
+    requires pass { (seat.old.me.0.stands ≡ true) × (slice_index seat.old.me.0.held lane ≢ 0) }
+    requires hand { (old : _) × (seat.old.me.1 ≡ (lane, old) ∷ rest seat.old.me.1) }
+    requires share { IsShare K.history seat.old.me.0 lane share }
+    ensures same_seat { SameSeat seat.old seat.new }
+    ensures told { seat.new.me ≡ (freed seat.old.me.0 lane 0, rest seat.old.me.1) }
+{
+    drop(lanes.exchange(seat, lane, share));
+    put_back_last(lanes, seat, lane);
+}

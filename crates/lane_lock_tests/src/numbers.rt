@@ -1,0 +1,93 @@
+//! The value that the tests keep under a lock: numbers, each with the pass that added it, as many as there is room
+//! for.
+
+use iofd_words::{NoMemory, PassNo};
+use lane_lock::Kept;
+use std::alloc::{AllocError, Global};
+
+#[derive(Clone, Copy, Debug, PartialEq, Eq)]
+pub struct Entry {
+    pub pass: PassNo,
+    pub number: u64,
+}
+
+#[derive(Drop)]
+pub struct Numbers {
+    pub entries: Vec<Entry>,
+    room: usize,
+}
+
+impl Numbers {
+    // No numbers, and room for so many.
+    pub fn new(alloc: Global, room: usize) -> Result<Numbers, AllocError> {
+        Ok(Numbers {
+            entries: Vec::with_capacity(alloc, room)?,
+            room,
+        })
+    }
+
+    // Whether these are the numbers of the pass, in their order.
+    pub fn has_of(&self, pass: PassNo, wanted: &[u64]) -> bool {
+        let mut next = 0;
+        for entry in &self.entries {
+            if entry.pass == pass {
+                if next >= wanted.len() || wanted[next] != entry.number {
+                    return false;
+                }
+                next += 1;
+            }
+        }
+        next == wanted.len()
+    }
+
+    // Whether the numbers of the pass are 0, 1, 2 and so on, `count` of them.
+    pub fn counts_up(&self, pass: PassNo, count: u64) -> bool {
+        let mut next = 0;
+        for entry in &self.entries {
+            if entry.pass == pass {
+                if entry.number != next || next >= count {
+                    return false;
+                }
+                next += 1;
+            }
+        }
+        next == count
+    }
+}
+
+impl Kept for Numbers {
+    type Act = u64;
+
+    type Stamp = u64;
+
+    type Record = Entry;
+
+    ghost use Rattle.std.specs.Prelude.{◌≡◌, ◌++◌, ◌∷◌, [], length};
+
+    ghost history = { λ it. it.entries.items };
+
+    ghost maker = { λ entry. entry.pass.0 };
+
+    ghost may = { λ _ _. Unit {0} };
+
+    ghost gives = { λ before pass number stamp after. (stamp ≡ length before.entries.items)
+        × (after.entries.items ≡ before.entries.items ++ record { pass = record { 0 = pass }; number = number } ∷ []) };
+
+    fn apply(&mut self, pass: PassNo, number: &u64) -> Result<u64, NoMemory> {
+        let at = self.entries.len() as u64;
+        if self.entries.len() >= self.room {
+            return Err(NoMemory);
+        }
+        match self.entries.push(Entry {
+            pass,
+            number: *number,
+        }) {
+            Ok(()) => Ok(at),
+            Err(_) => Err(NoMemory),
+        }
+    }
+
+    fn len(&self) -> u64 {
+        self.entries.len() as u64
+    }
+}

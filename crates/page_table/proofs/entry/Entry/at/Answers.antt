@@ -1,0 +1,6 @@
+use Rattle.page_table.specs.Entries.{entry_at}
+use Rattle.page_table.proofs.entry.Entry.at.Goals as goal
+
+pub returns : goal.returns
+unfolding entry_at
+returns g c = c.word.ensures

@@ -1,0 +1,7 @@
+use Rattle.std.proofs.Common.{rules}
+use Rattle.page_table.specs.Levels.{number_at}
+use Rattle.page_table.proofs.levels.number.Goals as goal
+
+pub returns : goal.returns
+unfolding number_at
+returns c = search rules

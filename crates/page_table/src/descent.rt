@@ -1,0 +1,49 @@
+//! The way of a page from a table down.
+
+ghost use Rattle.std.specs.Prelude.{ℕ, ◌≡◌, ◌≤◌, ◌<◌, List};
+ghost use Rattle.iofd_words.specs.declared.numbers.FrameNo.{FrameNo};
+ghost use Rattle.page_table.specs.Reached.{GoesThrough, IsLowest};
+ghost use Rattle.page_table.specs.Rows.{MappedPage, TableRow, table_at};
+ghost use Rattle.page_table.specs.Stands.{Stands};
+
+use crate::entry::Entry;
+use frame_memory::Pool;
+use iofd_words::{FrameNo, Rights};
+use std::alloc::Allocator;
+
+/// A table that was reached from the root: its level, its frame, and the rights that all entries on the way gave.
+#[derive(Clone, Copy, PartialEq, Eq, Debug)]
+pub(crate) struct Reached {
+    pub(crate) level: u8,
+    pub(crate) frame: FrameNo,
+    pub(crate) rights: Rights,
+}
+
+/// The lowest table through which the page goes, from this one of its tables down. The rights are those of this one and
+/// of all entries below. It costs the levels.
+pub(crate) fn descend<A: Allocator>(pool: &Pool<A>, from: Reached, page: u64) -> Reached
+    requires some { 0 < from.level }
+    requires few { from.level ≤ 5 }
+    requires rights { from.rights.0 ≡ 3 }
+    requires table { GoesThrough pool.now from.level page from.frame }
+    ensures some { 0 < result.level }
+    ensures down { result.level ≤ from.level }
+    ensures rights { result.rights.0 ≡ 3 }
+    ensures lowest { (levels : ℕ) (root : FrameNo) (rows : List TableRow) (pages : List MappedPage) →
+        Stands pool.now levels root rows pages → table_at rows from.level page ≡ Some from.frame →
+        IsLowest rows result.level page result.frame }
+{
+    if from.level == 1 {
+        return from;
+    }
+    let entry = Entry::read(pool, from.frame, from.level, page);
+    if !entry.is_present() {
+        return from;
+    }
+    let next = Reached {
+        level: from.level - 1,
+        frame: entry.frame(),
+        rights: Rights(from.rights.0 & entry.rights().0),
+    };
+    descend(pool, next, page)
+}
