@@ -292,6 +292,7 @@ fn as_many_areas_as_may_be(rt: HostRuntime) -> Result<(), Fail> {
     let mut areas = pages(rt.alloc(), 65_535)?;
     assert!(rt; first_wrong(&mut areas, FULL).is_none());
     assert!(rt; are_found(&areas, 65_535));
+    assert!(rt; areas.is_full());
     Ok(())
 }
 

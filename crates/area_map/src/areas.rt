@@ -5,10 +5,11 @@ ghost use Rattle.std.specs.List.{list_any};
 ghost use Rattle.std.specs.Option.{option_copied};
 ghost use Rattle.std.specs.Slice.Iter.{iter_rest};
 ghost use Rattle.area_map.specs.Areas.{AreKept, with_area, area_of, is_covered, IsCovered, HasGap, marked, without_debt, areas_owe, areas_within, areas_outside, bytes_of, most_tries, tried};
-ghost use Rattle.iofd_words.specs.Areas.{areas_meet, is_cut, area_at};
+ghost use Rattle.iofd_words.specs.Areas.{areas_meet, has_no_room, is_cut, area_at};
 ghost use Rattle.area_map.specs.Insertion.{insert_refusal};
 
 use crate::insert_error::InsertError;
+use crate::insertion::MOST_AREAS;
 use crate::{insertion, lookups, marking, removal, totals};
 use iofd_words::{Area, Cause, DeviceNo, DeviceSet, NoMemory, Refusal, Span};
 use std::alloc::{Allocator, Global};
@@ -59,6 +60,13 @@ impl<A: Allocator> Areas<A> {
         ensures { result ≡ (length self.now.areas == 0) }
     {
         self.sorted.is_empty()
+    }
+
+    /// Whether there are as many areas as may be.
+    pub fn is_full(&self) -> bool
+        ensures { result ≡ has_no_room self.now.areas }
+    {
+        self.sorted.len() >= MOST_AREAS
     }
 
     /// The area that holds the address, of any phase. It takes no memory.

@@ -58,12 +58,16 @@ enum Said<'a> {
     Ioctl(u16, u32, &'a [u8]),
     Close(u16),
     UserMap(u16, u64),
+    UserUnmap(u16, u64),
+    UserRead(u16, u64, u8),
+    UserWrite(u16, u64, &'a [u8]),
     Bind(u16, u16),
     Attach(u16, u32),
     Detach(u16),
     Flush(u16),
     Read(u16, u64, u8),
     Write(u16, u64, &'a [u8]),
+    FreeFrames,
 }
 
 static WORKED_STEPS: [Said<'static>; 21] = [
@@ -106,6 +110,13 @@ fn says(alloc: Global, step: &Step, said: Said) -> bool {
         }
         (Step::Close(file), Said::Close(of)) => file.0 == of,
         (Step::UserMap(user, at), Said::UserMap(of, va)) => user.0 == of && *at == va,
+        (Step::UserUnmap(user, at), Said::UserUnmap(of, va)) => user.0 == of && *at == va,
+        (Step::UserRead(user, at, count), Said::UserRead(of, va, bytes)) => {
+            user.0 == of && *at == va && *count == bytes
+        }
+        (Step::UserWrite(user, at, burst), Said::UserWrite(of, va, bytes)) => {
+            user.0 == of && *at == va && burst.as_slice() == bytes
+        }
         (Step::Bind(file, device), Said::Bind(to, of)) => file.0 == to && device.0 == of,
         (Step::Attach(device, space), Said::Attach(of, to)) => device.0 == of && space.0 == to,
         (Step::Detach(device), Said::Detach(of)) => device.0 == of,
@@ -116,6 +127,7 @@ fn says(alloc: Global, step: &Step, said: Said) -> bool {
         (Step::DeviceWrite(device, iova, burst), Said::Write(of, at, bytes)) => {
             device.0 == of && iova.0 == at && burst.as_slice() == bytes
         }
+        (Step::FreeFrames, Said::FreeFrames) => true,
         _ => false,
     }
 }
@@ -216,9 +228,8 @@ fn error<A: Allocator + Copy>(alloc: A, script: &str) -> Option<ScriptError> {
 }
 
 // A script that is good but for one of these is bad at it.
-static BAD_STEPS: [&str; 34] = [
+static BAD_STEPS: [&str; 48] = [
     "held 1",
-    "free",
     "access 1",
     "aattach 1 1 1",
     "adetach 1 1",
@@ -228,9 +239,6 @@ static BAD_STEPS: [&str; 34] = [
     "awrite 1 1 1000 00",
     "notices 1 1",
     "unbind 1 1",
-    "uread 1 1000 1",
-    "uunmap 1 1000",
-    "uwrite 1 1000 00",
     "pool 8",
     "close",
     "close 1 ",
@@ -251,6 +259,25 @@ static BAD_STEPS: [&str; 34] = [
     "dread 1 1000 65",
     "dwrite 1 1000 -",
     "dwrite 1 1000 g0",
+    "uunmap 1",
+    "uunmap 1 1000 1",
+    "uunmap 65536 1000",
+    "uread 1 1000",
+    "uread 1 1000 1 1",
+    "uread 65536 1000 1",
+    "uread 1 1000 0",
+    "uread 1 1000 65",
+    "uwrite 1 1000",
+    "uwrite 1 1000 00 00",
+    "uwrite 65536 1000 00",
+    "uwrite 1 1000 -",
+    "uwrite 1 1000 0A",
+    "uwrite 1 1000 000",
+    "uwrite 1 1000 0000000000000000000000000000000000000000000000000000000000000000\
+000000000000000000000000000000000000000000000000000000000000000000",
+    "free ",
+    "free 1",
+    "Free",
 ];
 
 #[test]
@@ -281,6 +308,27 @@ static NUMBERS: [(&str, Said<'static>); 5] = [
     ("ioctl 1 0000000000003B81 -", Said::Ioctl(1, 0x3b81, &[])),
 ];
 
+// At the ends of what a user, an address and the bytes may be.
+static MEMORY_STEPS: [(&str, Said<'static>); 7] = [
+    ("uunmap 1 1000", Said::UserUnmap(1, 0x1000)),
+    (
+        "uunmap 65535 ffffffffffffffff",
+        Said::UserUnmap(65535, u64::MAX),
+    ),
+    ("uread 1 1000 1", Said::UserRead(1, 0x1000, 1)),
+    (
+        "uread 65535 ffffffffffffffff 64",
+        Said::UserRead(65535, u64::MAX, 64),
+    ),
+    ("uwrite 1 1000 00", Said::UserWrite(1, 0x1000, &[0])),
+    (
+        "uwrite 65535 ffffffffffffffff 0000000000000000000000000000000000000000000000000000000000000000\
+0000000000000000000000000000000000000000000000000000000000000000",
+        Said::UserWrite(65535, u64::MAX, &[0; 64]),
+    ),
+    ("free", Said::FreeFrames),
+];
+
 // Whether the line is a step that says this.
 fn line_says(alloc: Global, line: &str, said: Said) -> bool {
     match parse_line(line.as_bytes()) {
@@ -292,6 +340,13 @@ fn line_says(alloc: Global, line: &str, said: Said) -> bool {
 #[test]
 fn numbers_have_zeros_before_them_and_either_case(rt: HostRuntime) {
     for (line, said) in &NUMBERS {
+        assert!(rt; line_says(rt.alloc(), line, *said), "{line}");
+    }
+}
+
+#[test]
+fn users_read_and_write_and_give_up_pages(rt: HostRuntime) {
+    for (line, said) in &MEMORY_STEPS {
         assert!(rt; line_says(rt.alloc(), line, *said), "{line}");
     }
 }

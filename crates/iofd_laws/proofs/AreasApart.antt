@@ -31,8 +31,8 @@ use Rattle.iofd_words.specs.declared.reply.Reply.{Reply}
 use Rattle.iofd_words.specs.declared.reply.Reply.TheVariants as reply
 use Rattle.iofd_words.specs.declared.rows.Area.{Area}
 use Rattle.iofd_words.specs.declared.rows.Phase.{Phase}
-use Rattle.iofd_laws.proofs.Bools.{or_false, and_true, both_false, not_true, swapped}
-use Rattle.iofd_laws.proofs.NotRefused.{map_passed, passes}
+use Rattle.iofd_rows.proofs.Bools.{or_false, and_true, both_false, not_true, swapped}
+use Rattle.iofd_runs.proofs.NotRefused.{map_passed, passes}
 
 -- a and b are of one address space, and have an address in common
 abbrev clash : Area → Area → Bool
@@ -133,6 +133,8 @@ keeps_apart at w (event.Unmap file request) (reply.Pending errno) none answers a
 keeps_apart at w (event.Destroy file id) reply.Done none answers apart = are_apart-filter _ w.areas apart
 keeps_apart at w (event.Close file) reply.Done none answers apart = are_apart-filter _ w.areas apart
 keeps_apart at w (event.UserMap user va) (reply.Frame frame) none answers apart = apart
+keeps_apart at w (event.UserUnmap user va) reply.Done none answers apart = apart
+keeps_apart at w (event.UserWrite user va bytes) reply.Done none answers apart = apart
 keeps_apart at w (event.Bind file device) (reply.Id id) none answers apart = apart
 keeps_apart at w (event.Attach device pt_id) (reply.Id id) none answers apart = bound (binding_of w.objects device) (device_of w.settings device)
   where

@@ -6,7 +6,7 @@ use Rattle.std.proofs.lemmas.Bool.Decides.{nat_tests}
 use Rattle.iofd_words.specs.Areas.{all_paid, is_of, is_touched, leaving, owed_by, paid, with_area, with_leaving}
 use Rattle.iofd_words.specs.Attachments.{devices_of, is_attached_to, with_attachment}
 use Rattle.iofd_words.specs.Checks.{is_device_object}
-use Rattle.iofd_laws.specs.Laws.{have_own_ids}
+use Rattle.iofd_rows.specs.Ids.{have_own_ids}
 use Rattle.iofd_words.specs.Objects.{binding_of, is_automatic, is_bound_as, is_bound_device, is_object, kind_of, objects_of, with_object}
 use Rattle.iofd_words.specs.World.{World}
 use Rattle.iofd_words.specs.declared.numbers.DeviceNo.{DeviceNo}
@@ -20,8 +20,8 @@ use Rattle.iofd_words.specs.declared.rows.ObjectKind.{ObjectKind}
 use Rattle.iofd_words.specs.declared.rows.ObjectKind.TheVariants as kind
 use Rattle.iofd_words.specs.declared.rows.Phase.{Phase}
 use Rattle.iofd_words.specs.declared.rows.Phase.TheVariants.{Live, Leaving}
-use Rattle.iofd_laws.proofs.Bools.{or_false, and_true, both_true, not_true}
-use Rattle.iofd_laws.proofs.Found.{all_weaker, all_filter, all_map, all_filter_both, find-with_object, find-filter}
+use Rattle.iofd_rows.proofs.Bools.{or_false, and_true, both_true, not_true}
+use Rattle.iofd_rows.proofs.Found.{all_weaker, all_filter, all_map, all_filter_both, find-with_object, find-filter}
 
 -- an object, if there is one, is of the file
 abbrev pub is_of_file : FileNo → Option Object → Bool

@@ -35,10 +35,10 @@ use Rattle.iofd_words.specs.declared.rows.ObjectKind.TheVariants as kind
 use Rattle.iofd_words.specs.declared.rows.Phase.{Phase}
 use Rattle.iofd_words.specs.declared.rows.Phase.TheVariants.{Live, Leaving}
 use Rattle.iofd_words.specs.declared.width.Width.{Width}
-use Rattle.iofd_laws.proofs.Bools.{and_true, not_false}
+use Rattle.iofd_rows.proofs.Bools.{and_true, not_false}
 use Rattle.iofd_laws.proofs.Bound.{AreBound, is_bound_to, is_of_file}
-use Rattle.iofd_laws.proofs.Found.{found_passes}
-use Rattle.iofd_laws.proofs.NotRefused.{detach_passed, flush_passed, passes}
+use Rattle.iofd_rows.proofs.Found.{found_passes}
+use Rattle.iofd_runs.proofs.NotRefused.{detach_passed, flush_passed, passes}
 
 -- ---- filters
 
@@ -233,6 +233,8 @@ keeps_others at w (event.Close f) reply.Done file b none another =
     (filter_filter _ _ w.attachments (λ a same. stays_too f file a.file.0 (another f refl) same))
     (closed_more w.closed f file (other_file f file (another f refl)))
 keeps_others at w (event.UserMap user va) (reply.Frame frame) file b none another = refl
+keeps_others at w (event.UserUnmap user va) reply.Done file b none another = refl
+keeps_others at w (event.UserWrite user va bytes) reply.Done file b none another = refl
 keeps_others at w (event.Bind f device) (reply.Id id) file b none another =
     same_rows (objects-with_object _ w.objects file (other_file f file (another f refl))) refl refl refl
 keeps_others at w (event.Attach device pt_id) (reply.Id id) file b none another = bound (binding_of w.objects device) refl (device_of w.settings device)

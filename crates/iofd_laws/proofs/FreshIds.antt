@@ -2,7 +2,7 @@
 use Rattle.std.proofs.Common.{◌≡◌, ℕ, zero, suc, ◌+◌, ◌<◌, ◌≤◌, Bool, true, false, cond, ◌||◌, ◌&&◌, not, eqb, Option, Some, None, List, [], ◌∷◌, map, length, is_some, refl, ap, arith}
 use Rattle.std.specs.List.{filter, find, list_any}
 use Rattle.std.proofs.lemmas.Bool.Decides.{nat_tests}
-use Rattle.iofd_laws.proofs.Bools.{both_true, not_false, or_false}
+use Rattle.iofd_rows.proofs.Bools.{both_true, not_false, or_false}
 use Rattle.iofd_words.specs.Objects.{is_fresh, is_full, is_object, kind_of, objects_of}
 use Rattle.iofd_words.specs.Settings.{is_between}
 use Rattle.iofd_words.specs.declared.numbers.FileNo.{FileNo}

@@ -8,7 +8,7 @@ use Rattle.iofd_words.specs.Areas.{is_of, owed_by}
 use Rattle.iofd_words.specs.Attachments.{attachment_of, has_device_on, without_attachment}
 use Rattle.iofd_words.specs.Checks.{refusal, is_device_object}
 use Rattle.iofd_words.specs.Files.{user_of, device_of}
-use Rattle.iofd_laws.specs.Laws.{have_own_ids}
+use Rattle.iofd_rows.specs.Ids.{have_own_ids}
 use Rattle.iofd_words.specs.Objects.{automatic_hwpt, binding_of, is_automatic, is_bound_as, is_bound_device, is_object, kind_of, objects_of}
 use Rattle.iofd_words.specs.Settings.{DeviceSettings}
 use Rattle.iofd_words.specs.Tables.{with_tables}
@@ -30,10 +30,10 @@ use Rattle.iofd_words.specs.declared.rows.ObjectKind.{ObjectKind}
 use Rattle.iofd_words.specs.declared.rows.ObjectKind.TheVariants as kind
 use Rattle.iofd_words.specs.declared.width.Width.{Width}
 use Rattle.iofd_laws.proofs.Bound.{AreBound, StayBound, debts_bound, is_bound_to, is_of_file, attachments_stay, debts_stay, debts-with_area, attachments-with_attachment, leaving_bound, paid_bound, stays-with_object, stays-bind, stays-filter, no_device_either, file_without_devices, id_without_device}
-use Rattle.iofd_laws.proofs.Bools.{not_true}
-use Rattle.iofd_laws.proofs.Found.{all_filter, none_both}
-use Rattle.iofd_laws.proofs.OwnIds.{keeps_own_ids}
-use Rattle.iofd_laws.proofs.NotRefused.{bind_passed, close_passed, destroy_passed, passes}
+use Rattle.iofd_rows.proofs.Bools.{not_true}
+use Rattle.iofd_rows.proofs.Found.{all_filter, none_both}
+use Rattle.iofd_runs.proofs.OwnIds.{keeps_own_ids}
+use Rattle.iofd_runs.proofs.NotRefused.{bind_passed, close_passed, destroy_passed, passes}
 
 -- what holds of every world of a run
 pub record IsTidy (w : World) : Type 0 where
@@ -128,6 +128,10 @@ keeps_bound at w (event.Close file) reply.Done none answers tidy =
     let left = filter (λ (o : Object). not (eqb o.file.0 file.0)) w.objects in
     record { attachments = attachments_stay w.objects left _ stay (all_filter _ _ w.attachments tidy.bound.attachments); debts = fewer_debts w left (λ a. eqb a.file.0 file.0) stay tidy.bound }
 keeps_bound at w (event.UserMap user va) (reply.Frame frame) none answers tidy = record { attachments = tidy.bound.attachments; debts = tidy.bound.debts }
+keeps_bound at w (event.UserUnmap user va) reply.Done none answers tidy =
+    record { attachments = tidy.bound.attachments; debts = tidy.bound.debts }
+keeps_bound at w (event.UserWrite user va bytes) reply.Done none answers tidy =
+    record { attachments = tidy.bound.attachments; debts = tidy.bound.debts }
 keeps_bound at w (event.Bind file device) (reply.Id id) none answers tidy =
     stay_bound w _ (stays-bind file id device w.objects (bind_unbound w file device none)) tidy.bound
 keeps_bound at w (event.Attach device pt_id) (reply.Id id) none answers tidy = bound (binding_of w.objects device) refl (device_of w.settings device)

@@ -23,8 +23,8 @@ use Rattle.iofd_words.specs.declared.rows.Attachment.{Attachment}
 use Rattle.iofd_words.specs.declared.rows.Object.{Object}
 use Rattle.iofd_words.specs.declared.rows.ObjectKind.{ObjectKind}
 use Rattle.iofd_words.specs.declared.rows.ObjectKind.TheVariants as kind
-use Rattle.iofd_laws.specs.Pinned.{PinMoves, pin_moves}
-use Rattle.iofd_laws.proofs.PinsFollow.{settled_at, settled_frame}
+use Rattle.iofd_laws.specs.Laws.{PinMoves, pin_moves}
+use Rattle.iofd_rows.proofs.PinsFollow.{settled_at, settled_frame}
 
 same : (old now : Option FrameNo) → PinMoves old old now
 same None now = tt
@@ -66,6 +66,8 @@ module _ (w : World) (page : ObjectPage) where
   changed_moves at (event.Destroy file id) reply.Done = settle_moves _
   changed_moves at (event.Close file) reply.Done = settle_moves _
   changed_moves at (event.UserMap user va) (reply.Frame frame) = same (pinned_frame w.pins page) _
+  changed_moves at (event.UserUnmap user va) reply.Done = same (pinned_frame w.pins page) _
+  changed_moves at (event.UserWrite user va bytes) reply.Done = same (pinned_frame w.pins page) _
   changed_moves at (event.Bind file device) (reply.Id id) = same (pinned_frame w.pins page) _
   changed_moves at (event.Attach device pt_id) (reply.Id id) = bound (binding_of w.objects device) (device_of w.settings device)
     where

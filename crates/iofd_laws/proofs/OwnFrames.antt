@@ -1,6 +1,6 @@
 -- Each page in a user's memory has a frame of its own.
-use Rattle.std.proofs.Common.{◌≡◌, ℕ, zero, suc, ◌<◌, true, false, ◌||◌, not, eqb, Option, Some, None, List, [], ◌∷◌, ◌++◌, map, Contains, refl, sym, ◌∙◌, subst, arith, IsTrue}
-use Rattle.std.specs.List.{list_any}
+use Rattle.std.proofs.Common.{◌≡◌, ℕ, zero, suc, ◌<◌, Bool, true, false, cond, ◌||◌, not, eqb, Option, Some, None, List, [], ◌∷◌, ◌++◌, map, Contains, refl, sym, ◌∙◌, subst, arith, IsTrue}
+use Rattle.std.specs.List.{filter, list_any}
 use Rattle.std.proofs.lemmas.Bool.Decides.{nat_tests}
 use Rattle.iofd_words.specs.After.{changed, map_changes, attach_changes, target_changes, detach_changes, settle, without_areas, attached, detached}
 use Rattle.iofd_words.specs.Answers.{Answers, write_reply}
@@ -31,7 +31,7 @@ use Rattle.iofd_words.specs.declared.rows.ObjectKind.TheVariants as kind
 use Rattle.iofd_words.specs.declared.rows.Pin.{Pin}
 use Rattle.iofd_words.specs.declared.rows.TableFrame.{TableFrame}
 use Rattle.iofd_words.specs.declared.rows.UserPage.{UserPage}
-use Rattle.iofd_laws.proofs.Bools.{or_false, and_true, both_false, both_true, not_true, not_false}
+use Rattle.iofd_rows.proofs.Bools.{or_false, and_true, both_false, both_true, not_true, not_false}
 
 -- ---- a free frame is reached by nobody
 
@@ -62,6 +62,28 @@ own_frames_more (p ∷ pages) page free own =
     let more = any_more pages page p.frame.0 ∙ both_false _ _ (not_true _ owns.0) differ in
     both_true _ _ (not_false _ more) (own_frames_more pages page frees.1 owns.1)
 
+-- ---- some pages go
+
+none_left : (stays : UserPage → Bool) (pages : List UserPage) (frame : ℕ) → list_any (λ (p : UserPage). eqb p.frame.0 frame) pages ≡ false → list_any (λ (p : UserPage). eqb p.frame.0 frame) (filter stays pages) ≡ false
+none_left stays [] frame none = refl
+none_left stays (p ∷ pages) frame none =
+    let parts = or_false (eqb p.frame.0 frame) (list_any (λ (q : UserPage). eqb q.frame.0 frame) pages) none in
+    by_test (stays p) parts.0 (none_left stays pages frame parts.1)
+  where
+    by_test : (b : Bool) → eqb p.frame.0 frame ≡ false → list_any (λ (q : UserPage). eqb q.frame.0 frame) (filter stays pages) ≡ false → list_any (λ (q : UserPage). eqb q.frame.0 frame) (cond b (p ∷ filter stays pages) (filter stays pages)) ≡ false
+    by_test true here rest = both_false _ _ here rest
+    by_test false here rest = rest
+
+own_frames-filter : (stays : UserPage → Bool) (pages : List UserPage) → have_own_frames pages ≡ true → have_own_frames (filter stays pages) ≡ true
+own_frames-filter stays [] own = refl
+own_frames-filter stays (p ∷ pages) own =
+    let owns = and_true (not (list_any (λ (q : UserPage). eqb q.frame.0 p.frame.0) pages)) (have_own_frames pages) own in
+    by_test (stays p) (none_left stays pages p.frame.0 (not_true _ owns.0)) (own_frames-filter stays pages owns.1)
+  where
+    by_test : (b : Bool) → list_any (λ (q : UserPage). eqb q.frame.0 p.frame.0) (filter stays pages) ≡ false → have_own_frames (filter stays pages) ≡ true → have_own_frames (cond b (p ∷ filter stays pages) (filter stays pages)) ≡ true
+    by_test true none rest = both_true _ _ (not_false _ none) rest
+    by_test false none rest = rest
+
 -- ---- every event keeps them apart
 
 pub keeps_own_frames : (at : ℕ) (w : World) (e : Event) (answer : Reply) → refusal w e ≡ None → Answers w e answer → have_own_frames w.user_pages ≡ true → have_own_frames (changed at w e answer).user_pages ≡ true
@@ -78,6 +100,8 @@ keeps_own_frames at w (event.Destroy file id) reply.Done none answers own = own
 keeps_own_frames at w (event.Close file) reply.Done none answers own = own
 keeps_own_frames at w (event.UserMap user va) (reply.Frame frame) none answers own =
     own_frames_more w.user_pages _ (no_page w.user_pages w.pins w.table_frames frame.0 (free_parts w.settings.pool w.user_pages w.pins w.table_frames frame.0 answers).1) own
+keeps_own_frames at w (event.UserUnmap user va) reply.Done none answers own = own_frames-filter _ w.user_pages own
+keeps_own_frames at w (event.UserWrite user va bytes) reply.Done none answers own = own
 keeps_own_frames at w (event.Bind file device) (reply.Id id) none answers own = own
 keeps_own_frames at w (event.Attach device pt_id) (reply.Id id) none answers own = bound (binding_of w.objects device) (device_of w.settings device)
   where

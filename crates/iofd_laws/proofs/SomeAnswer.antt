@@ -2,13 +2,13 @@
 use Rattle.std.proofs.Common.{◌≡◌, ℕ, ◌+◌, Bool, true, false, cond, ◌&&◌, eqb, is_some, is_none, Option, Some, None, List, [], ◌∷◌, map, Contains, refl, sym, ◌∙◌, ap, arith}
 use Rattle.std.specs.List.{count_by, range_with_len}
 use Rattle.std.proofs.lemmas.List.Sums.{sum_by-cons}
-use Rattle.iofd_laws.specs.Fits.{RowsFit}
-use Rattle.iofd_laws.specs.Pinned.{ArePinned}
-use Rattle.iofd_laws.proofs.Bools.{not_false}
+use Rattle.iofd_runs.specs.Fits.{RowsFit}
+use Rattle.iofd_rows.specs.Pinned.{ArePinned}
+use Rattle.iofd_rows.proofs.Bools.{not_false}
 use Rattle.iofd_laws.proofs.FreshIds.{fresh_id}
-use Rattle.iofd_laws.proofs.Known.{bound_known}
-use Rattle.iofd_laws.proofs.NotRefused.{alloc_passed, attach_passed, bind_passed, passes, user_map_passed}
-use Rattle.iofd_laws.proofs.PinnedAccess.{some_outcome}
+use Rattle.iofd_runs.proofs.Known.{bound_known}
+use Rattle.iofd_runs.proofs.NotRefused.{alloc_passed, attach_passed, bind_passed, passes, user_map_passed}
+use Rattle.iofd_runs.proofs.PinnedAccess.{some_outcome}
 use Rattle.iofd_words.specs.Answers.{Answers, IsHwptFor, IsHwptOf, IsTarget, UnmapAnswers, write_reply}
 use Rattle.iofd_words.specs.Areas.{is_waiting, touched_bytes}
 use Rattle.iofd_words.specs.Attachments.{devices_of}
@@ -104,6 +104,8 @@ module _ (at : ℕ) (w : World) (pins : ArePinned at w) (fits : RowsFit w) where
   some_answer (event.UserMap user va) none =
       let (frame, free) = counted (is_free w.settings.pool w.user_pages w.pins w.table_frames) (range_with_len 0 w.settings.pool) (user_map_passed (view w) user va (passes w (event.UserMap user va) none)).roomy in
       (reply.Frame (record { 0 = frame }), free)
+  some_answer (event.UserUnmap user va) none = (reply.Done, tt)
+  some_answer (event.UserWrite user va bytes) none = (reply.Done, tt)
   some_answer (event.Bind file device) none =
       let (id, fresh) = fresh_id w.objects file (bind_passed (view w) file device (passes w (event.Bind file device) none)).roomy in
       (reply.Id id, fresh)

@@ -1,9 +1,10 @@
 -- What is true of every run, in the subject's words.
-use Rattle.std.specs.Prelude.{◌≡◌, ◌≢◌, ◌<◌, Bool, true, false, ◌==◌, ◌&&◌, not, Option, Some, None, List, [], ◌∷◌, filter}
+use Rattle.std.specs.Prelude.{◌≡◌, ◌≢◌, ◌<◌, ℕ, Bool, true, false, ◌==◌, ◌&&◌, not, Option, Some, None, List, [], ◌∷◌, filter, find}
 use Rattle.std.specs.List.{list_any}
 use Rattle.iofd_words.specs.Areas.{meets_area}
 use Rattle.iofd_words.specs.Frames.{is_reached}
-use Rattle.iofd_words.specs.Objects.{binding_of, is_object, objects_of}
+use Rattle.iofd_words.specs.Objects.{binding_of, objects_of}
+use Rattle.iofd_words.specs.Pins.{ObjectPage, frame_now, pinned_frame}
 use Rattle.iofd_words.specs.World.{World}
 use Rattle.iofd_words.specs.declared.event.Event.{Event}
 use Rattle.iofd_words.specs.declared.event.Event.TheVariants as event
@@ -12,6 +13,7 @@ use Rattle.iofd_words.specs.declared.numbers.FileNo.{FileNo}
 use Rattle.iofd_words.specs.declared.numbers.FrameNo.{FrameNo}
 use Rattle.iofd_words.specs.declared.rows.Area.{Area}
 use Rattle.iofd_words.specs.declared.rows.Attachment.{Attachment}
+use Rattle.iofd_words.specs.declared.rows.MemoryObject.{MemoryObject}
 use Rattle.iofd_words.specs.declared.rows.Object.{Object}
 use Rattle.iofd_words.specs.declared.rows.UserPage.{UserPage}
 
@@ -35,11 +37,6 @@ WasFree w frame = (frame.0 < w.settings.pool) × (is_reached w.user_pages w.pins
 
 -- ---- files
 
--- no id is that of a later object of the same file too
-abbrev pub have_own_ids : List Object → Bool
-have_own_ids [] = true
-have_own_ids (object ∷ objects) = not (list_any (is_object object.file object.id) objects) && have_own_ids objects
-
 -- the file that a device is bound to
 abbrev pub file_of_device : World → DeviceNo → Option FileNo
 file_of_device w device = elim (binding_of w.objects device) [ Some bound ↦ Some bound.file | None ↦ None ]
@@ -52,6 +49,8 @@ file_of w (event.Unmap file request) = Some file
 file_of w (event.Destroy file id) = Some file
 file_of w (event.Close file) = Some file
 file_of w (event.UserMap user va) = None
+file_of w (event.UserUnmap user va) = None
+file_of w (event.UserWrite user va bytes) = None
 file_of w (event.Bind file device) = Some file
 file_of w (event.Attach device pt_id) = file_of_device w device
 file_of w (event.Detach device) = file_of_device w device
@@ -77,3 +76,32 @@ rows_of file w =
       attachments = filter (λ a. a.file.0 == file.0) w.attachments;
       closed = list_any (λ f. f.0 == file.0) w.closed;
     }
+
+-- ---- the memory of files
+
+-- an area of the file lies over the memory object of this number
+abbrev pub has_memory : FileNo → World → ℕ → Bool
+has_memory file w number = list_any (λ area. area.file.0 == file.0 && area.memory == number) w.areas
+
+abbrev pub object_numbered : List MemoryObject → ℕ → Option MemoryObject
+object_numbered memory number = find (λ m. m.number == number) memory
+
+-- the memory object of this number is the same in both worlds, and each of its pages is pinned at the same frame or in neither
+pub record SameMemory (number : ℕ) (old new : World) : Type 0 where
+  pub object : object_numbered new.memory number ≡ object_numbered old.memory number
+  pub pins : (index : ℕ) → pinned_frame new.pins (record { memory = number; index = index })
+      ≡ pinned_frame old.pins (record { memory = number; index = index })
+
+-- ---- pins
+
+-- what a step may make of a page's pin: one that stays keeps its frame, and one that comes has the frame that is the page's
+-- in its user's memory then
+abbrev pub PinMoves : Option FrameNo → Option FrameNo → Option FrameNo → Type 0
+PinMoves (Some old) (Some new) now = new ≡ old
+PinMoves None (Some new) now = now ≡ Some new
+PinMoves old None now = Unit {0}
+
+-- from one world to the next
+abbrev pub pin_moves : ObjectPage → World → World → Type 0
+pin_moves page old new =
+    PinMoves (pinned_frame old.pins page) (pinned_frame new.pins page) (frame_now new.memory new.user_pages page)

@@ -1,10 +1,12 @@
 //! What is true of every run, each the contract of a function that does nothing.
 
 ghost use Rattle.std.specs.Prelude.{◌≡◌, ◌≢◌, ℕ, None, List, [], ◌∷◌, ◌++◌, length, IsTrue};
-ghost use Rattle.iofd_laws.specs.Debts.{DebtsAttached};
-ghost use Rattle.iofd_laws.specs.Fits.{RowsFit};
-ghost use Rattle.iofd_laws.specs.Laws.{are_apart, have_own_frames, have_own_ids, IsOfAnother, WasFree, rows_of};
-ghost use Rattle.iofd_laws.specs.Pinned.{ArePinned, pin_moves};
+ghost use Rattle.iofd_rows.specs.Debts.{DebtsAttached};
+ghost use Rattle.iofd_runs.specs.Fits.{RowsFit};
+ghost use Rattle.iofd_laws.specs.Laws.{are_apart, have_own_frames, has_memory, IsOfAnother, SameMemory, WasFree, rows_of};
+ghost use Rattle.iofd_rows.specs.Ids.{have_own_ids};
+ghost use Rattle.iofd_laws.specs.Laws.{pin_moves};
+ghost use Rattle.iofd_rows.specs.Pinned.{ArePinned};
 ghost use Rattle.iofd_words.specs.Answers.{Answers};
 ghost use Rattle.iofd_words.specs.Checks.{refusal};
 ghost use Rattle.iofd_words.specs.Pins.{ObjectPage};
@@ -86,6 +88,15 @@ pub fn files_are_apart<A: Allocator>()
     ensures { (settings : Settings) (before : List (Record A)) (r : Record A) (other : FileNo) → IsRun settings before →
         IsOfAnother (world_of settings before) r.event other →
         rows_of other (after (length before) (world_of settings before) r) ≡ rows_of other (world_of settings before) }
+{}
+
+/// In every run, a record changes no memory object under an area of a file that its event isn't of, and no pin of its
+/// pages.
+pub fn memory_of_files_is_apart<A: Allocator>()
+    ensures { (settings : Settings) (before : List (Record A)) (r : Record A) (other : FileNo) (number : ℕ) →
+        IsRun settings (before ++ r ∷ []) → IsOfAnother (world_of settings before) r.event other →
+        IsTrue (has_memory other (world_of settings before) number) →
+        SameMemory number (world_of settings before) (after (length before) (world_of settings before) r) }
 {}
 
 /// In every run, each device that owes an area a flush is attached to that area's address space; each device is

@@ -4,7 +4,7 @@ use Rattle.std.specs.List.{list_any}
 use Rattle.iofd_words.specs.Areas.{is_of, is_touched, with_area, with_leaving, all_paid}
 use Rattle.iofd_words.specs.Attachments.{attachment_of, has_device_on, devices_of, with_attachment, without_attachment}
 use Rattle.iofd_words.specs.Files.{user_of, device_of}
-use Rattle.iofd_words.specs.Frames.{without_frame}
+use Rattle.iofd_words.specs.Frames.{frame_at, with_write, without_frame, without_page}
 use Rattle.iofd_words.specs.Objects.{automatic_hwpt, binding_of, is_automatic, is_object, kind_of, with_object, without_object}
 use Rattle.iofd_words.specs.Pages.{page_of, offset_of}
 use Rattle.iofd_words.specs.Pins.{pinned_pages, settled}
@@ -173,6 +173,16 @@ user_mapped w user va (reply.Frame frame) =
     }
 user_mapped w user va answer = w
 
+-- what devices reach of the page they reach still: a pin outlives it
+abbrev pub user_unmapped : World → UserNo → ℕ → Reply → World
+user_unmapped w user va reply.Done = record w { user_pages = without_page w.user_pages user (page_of va) }
+user_unmapped w user va answer = w
+
+abbrev pub user_written : World → UserNo → ℕ → List ℕ → Reply → World
+user_written w user va bytes reply.Done =
+    record w { writes = with_write (frame_at w.user_pages user (page_of va)) (offset_of va) bytes w.writes }
+user_written w user va bytes answer = w
+
 abbrev pub device_bound : World → FileNo → DeviceNo → Reply → World
 device_bound w file device (reply.Id id) =
     record w { objects = with_object (record { file = file; id = id; kind = kind.Device device }) w.objects }
@@ -205,6 +215,8 @@ changed at w (event.Unmap file request) answer = unmapped w file request answer
 changed at w (event.Destroy file id) answer = destroyed w file id answer
 changed at w (event.Close file) answer = file_closed w file answer
 changed at w (event.UserMap user va) answer = user_mapped w user va answer
+changed at w (event.UserUnmap user va) answer = user_unmapped w user va answer
+changed at w (event.UserWrite user va bytes) answer = user_written w user va bytes answer
 changed at w (event.Bind file device) answer = device_bound w file device answer
 changed at w (event.Attach device pt_id) answer = device_attached w device pt_id answer
 changed at w (event.Detach device) answer = device_detached w device answer

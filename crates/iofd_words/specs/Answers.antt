@@ -88,6 +88,8 @@ Answers w (event.Destroy file id) answer = AnswersDone answer
 Answers w (event.Close file) answer = AnswersDone answer
 Answers w (event.UserMap user va) answer =
     AnswersFrame (λ frame. IsTrue (is_free w.settings.pool w.user_pages w.pins w.table_frames frame.0)) answer
+Answers w (event.UserUnmap user va) answer = AnswersDone answer
+Answers w (event.UserWrite user va bytes) answer = AnswersDone answer
 Answers w (event.Bind file device) answer = AnswersId (λ id. IsTrue (is_fresh w.objects file id)) answer
 Answers w (event.Attach device pt_id) answer =
     AnswersId (λ id. IsHwptOf w pt_id id (binding_of w.objects device) (device_of w.settings device)) answer

@@ -71,6 +71,14 @@ access_checks v device iova len =
     ∷ (cause.Cross, crosses iova.0 len)
     ∷ []
 
+-- those of a user's access to so many bytes of its own memory, for reads and writes alike
+abbrev pub user_access_checks : View → UserNo → ℕ → ℕ → List (Cause × Bool)
+user_access_checks v user va len =
+    (cause.Id, not (is_user v.settings user))
+    ∷ (cause.Cross, crosses va len)
+    ∷ (cause.Absent, is_none (v.frame_at user (page_of va)))
+    ∷ []
+
 -- those of Attach, of a device that isn't attached, by what its file has under the id: an address space. No page table may be
 -- named yet.
 abbrev pub target_checks : View → DeviceNo → ObjId → FileNo → Option ObjectKind → List (Cause × Bool)
@@ -130,6 +138,12 @@ checks v (event.UserMap user va) =
     ∷ (cause.Overlap, is_some (v.frame_at user (page_of va)))
     ∷ (cause.Frames, v.free_count == 0)
     ∷ []
+checks v (event.UserUnmap user va) =
+    (cause.Id, not (is_user v.settings user))
+    ∷ (cause.Align, not (is_whole va) || nat_le (2 ^ 48) va)
+    ∷ (cause.Absent, is_none (v.frame_at user (page_of va)))
+    ∷ []
+checks v (event.UserWrite user va bytes) = user_access_checks v user va (length bytes)
 checks v (event.Bind file device) =
     (cause.Id, not (v.is_open file))
     ∷ (cause.Id, not (is_device v.settings device))

@@ -12,6 +12,10 @@ abbrev pub frame_at : List UserPage → UserNo → ℕ → Option FrameNo
 frame_at pages user page =
     elim (find (λ p. p.user.0 == user.0 && p.page == page) pages) [ Some p ↦ Some p.frame | None ↦ None ]
 
+-- the users' memory without this page
+abbrev pub without_page : List UserPage → UserNo → ℕ → List UserPage
+without_page pages user page = filter (λ p. not (p.user.0 == user.0 && p.page == page)) pages
+
 -- a user's memory, a pin or a page table names the frame
 abbrev pub is_reached : List UserPage → List Pin → List TableFrame → ℕ → Bool
 is_reached pages pins tables frame =
@@ -44,6 +48,11 @@ byte_at (write ∷ writes) frame offset =
 
 abbrev pub bytes_at : List FrameWrite → ℕ → ℕ → ℕ → List ℕ
 bytes_at writes frame offset len = map (byte_at writes frame) (range_with_len offset len)
+
+-- the writes and this one into the frame, if there is one, from the offset on
+abbrev pub with_write : Option FrameNo → ℕ → List ℕ → List FrameWrite → List FrameWrite
+with_write None offset bytes writes = writes
+with_write (Some frame) offset bytes writes = record { frame = frame.0; offset = offset; bytes = bytes } ∷ writes
 
 -- what is left of the writes when a frame is given out: its old bytes are gone
 abbrev pub without_frame : ℕ → List FrameWrite → List FrameWrite

@@ -1,9 +1,9 @@
 -- The answers to questions, which change nothing.
-use Rattle.std.specs.Prelude.{ℕ, Bool, Some, None, List, [], ◌∷◌, map}
-use Rattle.iofd_words.specs.Checks.{access_checks}
+use Rattle.std.specs.Prelude.{ℕ, Bool, Option, Some, None, List, [], ◌∷◌, map}
+use Rattle.iofd_words.specs.Checks.{access_checks, user_access_checks}
 use Rattle.iofd_words.specs.FirstTrue.{first_true}
-use Rattle.iofd_words.specs.Frames.{bytes_at}
-use Rattle.iofd_words.specs.Pages.{offset_of}
+use Rattle.iofd_words.specs.Frames.{bytes_at, frame_at, free_count}
+use Rattle.iofd_words.specs.Pages.{offset_of, page_of}
 use Rattle.iofd_words.specs.Policy.{Outcome, Passes, Denied, outcomes, fault_of}
 use Rattle.iofd_words.specs.Run.{world_of}
 use Rattle.iofd_words.specs.Settings.{Settings}
@@ -11,25 +11,35 @@ use Rattle.iofd_words.specs.View.{View, view}
 use Rattle.iofd_words.specs.World.{World}
 use Rattle.iofd_words.specs.declared.fault.AccessKind.TheVariants.{Read}
 use Rattle.iofd_words.specs.declared.numbers.DeviceNo.{DeviceNo}
+use Rattle.iofd_words.specs.declared.numbers.FrameNo.{FrameNo}
 use Rattle.iofd_words.specs.declared.query.Answer.{Answer}
 use Rattle.iofd_words.specs.declared.query.Answer.TheVariants as answer
 use Rattle.iofd_words.specs.declared.query.Query.{Query}
-use Rattle.iofd_words.specs.declared.query.Query.TheVariants.{DeviceRead}
+use Rattle.iofd_words.specs.declared.query.Query.TheVariants.{DeviceRead, FreeFrames, UserRead}
 use Rattle.iofd_words.specs.declared.record.Record.{Record}
 use Rattle.iofd_words.specs.declared.refusal.Cause.{Cause}
 
 -- the refusals of a question, in their order
 abbrev pub query_checks : View → Query → List (Cause × Bool)
 query_checks v (DeviceRead device iova len) = access_checks v device iova len
+query_checks v (UserRead user va len) = user_access_checks v user va len
+query_checks v FreeFrames = []
 
 -- how the outcome of a read is told: the bytes of the frame where it passes
 abbrev pub read_answer : World → DeviceNo → ℕ → ℕ → Outcome → Answer
 read_answer w device address len (Passes frame) = answer.Read (bytes_at w.writes frame.0 (offset_of address) len)
 read_answer w device address len (Denied reason) = answer.Fault (fault_of w.settings device address Read reason)
 
+-- the bytes that a user's page has in its frame, from the address on
+abbrev pub user_bytes : World → ℕ → ℕ → Option FrameNo → List Answer
+user_bytes w address len None = []
+user_bytes w address len (Some frame) = answer.Read (bytes_at w.writes frame.0 (offset_of address) len) ∷ []
+
 -- the lawful answers to a question that nothing refuses, by the world and the records that led to it
 abbrev pub lawful_answers : {A : Type 0} → World → List (Record A) → Query → List Answer
 lawful_answers w records (DeviceRead device iova len) = map (read_answer w device iova.0 len) (outcomes w device iova.0 Read)
+lawful_answers w records (UserRead user va len) = user_bytes w va len (frame_at w.user_pages user (page_of va))
+lawful_answers w records FreeFrames = answer.Count (free_count w.settings.pool w.user_pages w.pins w.table_frames) ∷ []
 
 -- all lawful answers, in this world and after these records
 unfoldable pub answers_in : {A : Type 0} → World → List (Record A) → Query → List Answer

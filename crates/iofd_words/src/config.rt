@@ -1,12 +1,14 @@
 //! What a server is opened with, and its limits.
 
-ghost use Rattle.std.specs.Prelude.{◌≡◌, ◌<◌, IfOk, OnErr, None, length};
+ghost use Rattle.std.specs.Prelude.{◌≡◌, ◌<◌, ◌≤◌, true, IfOk, OnErr, None, length};
 ghost use Rattle.std.specs.List.{list_all};
+ghost use Rattle.std.specs.Option.{option_copied};
+ghost use Rattle.iofd_words.specs.Files as of_number;
 ghost use Rattle.iofd_words.specs.Limits.{first_outside};
 ghost use Rattle.iofd_words.specs.Settings.{is_between, is_device_in_limits, is_reserved_span};
 
 use crate::lists::SpanList;
-use crate::numbers::{SourceId, UserNo};
+use crate::numbers::{DeviceNo, FileNo, SourceId, UserNo};
 use crate::refusal::NoMemory;
 use crate::span::Span;
 use crate::width::Width;
@@ -86,7 +88,7 @@ impl<A: Allocator> DeviceConfig<A> {
     }
 }
 
-/// Which part of a configuration is outside its limits.
+/// Which part of a configuration is outside its limits, or that memory was wanting.
 #[derive(Clone, Copy, PartialEq, Eq, Debug)]
 pub enum ConfigError {
     /// The pool has 1 to 4096 frames.
@@ -99,6 +101,8 @@ pub enum ConfigError {
     Devices,
     /// There are 1 to 1024 passes.
     Passes,
+    /// There was no memory for what is opened with it.
+    Memory,
 }
 
 /// What a server is opened with. Its values are within the limits.
@@ -191,6 +195,38 @@ impl<A: Allocator> Config<A> {
         ensures { result.now ≡ self.now.devices }
     {
         self.devices.as_slice()
+    }
+
+    /// Whether there is such a user.
+    pub fn has_user(&self, user: UserNo) -> bool
+        ensures { result ≡ of_number.is_user self.now user }
+    {
+        user.0 >= 1 && usize::from(user.0) <= self.users.len()
+    }
+
+    /// The user of the file; None where there is no such file.
+    pub fn user_of(&self, file: FileNo) -> Option<UserNo>
+        ensures { result ≡ of_number.user_of self.now file }
+    {
+        let place = usize::from(file.0).checked_sub(1)?;
+        self.files.get(place).copied()
+    }
+
+    /// The settings of the device; None where there is no such device.
+    pub fn device(&self, device: DeviceNo) -> Option<&DeviceConfig<A>>
+        ensures { option_copied result ≡ of_number.device_of self.now device }
+    {
+        let place = usize::from(device.0).checked_sub(1)?;
+        self.devices.get(place)
+    }
+
+    /// Whether there is such a device. Its number is 1 to 256 then.
+    pub fn has_device(&self, device: DeviceNo) -> bool
+        ensures value { result ≡ of_number.is_device self.now device }
+        ensures from { result ≡ true → 1 ≤ device.0 }
+        ensures to { result ≡ true → device.0 ≤ 256 }
+    {
+        device.0 >= 1 && usize::from(device.0) <= self.devices.len()
     }
 
     /// How many callers there may be.

@@ -38,6 +38,10 @@ pub enum Event {
     Close(FileNo),
     /// Gives a user a page at this user address.
     UserMap(UserNo, u64),
+    /// Takes the page at this user address out of a user's memory.
+    UserUnmap(UserNo, u64),
+    /// A user writes its own memory.
+    UserWrite(UserNo, u64, Burst),
     /// Binds a device to a file.
     Bind(FileNo, DeviceNo),
     /// Attaches a device to the address space of this id.

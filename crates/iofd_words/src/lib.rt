@@ -25,7 +25,9 @@ pub use event::{Act, Event, MapRequest, UnmapRequest};
 pub use fault::{AccessKind, Fault, FaultReason};
 pub use flags::{MapFlags, Rights};
 pub use lists::{FrameList, SpanList};
-pub use numbers::{DeviceNo, FileNo, FrameNo, Iova, ObjId, PAGE_SIZE, PassNo, SourceId, UserNo};
+pub use numbers::{
+    DeviceNo, FileNo, FrameNo, Iova, ObjId, PAGE_SIZE, PassNo, SourceId, USER_END, UserNo,
+};
 pub use query::{Answer, Query};
 pub use record::Record;
 pub use refusal::{Cause, Errno, NoMemory, Refusal};

@@ -3,6 +3,9 @@
 /// The bytes of a page, and of a frame (VT-d, "Second-Stage Translation": 4-KByte pages).
 pub const PAGE_SIZE: u64 = 4096;
 
+/// The end of the users' addresses, in bytes: they are below 2^48.
+pub const USER_END: u64 = 1 << 48;
+
 /// An address in a device's I/O address space, in bytes.
 #[derive(Clone, Copy, PartialEq, Eq, Debug)]
 pub struct Iova(pub u64);

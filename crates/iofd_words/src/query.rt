@@ -2,7 +2,7 @@
 
 use crate::burst::Burst;
 use crate::fault::Fault;
-use crate::numbers::{DeviceNo, Iova};
+use crate::numbers::{DeviceNo, Iova, UserNo};
 use crate::refusal::Refusal;
 
 /// A question about the world. It changes nothing and isn't recorded.
@@ -14,6 +14,14 @@ pub enum Query {
         iova: Iova,
         len: u8,
     },
+    /// A user reads `len` bytes of its own memory.
+    UserRead {
+        user: UserNo,
+        va: u64,
+        len: u8,
+    },
+    /// How many frames of the pool are free.
+    FreeFrames,
 }
 
 /// The answer to a question.
@@ -21,6 +29,8 @@ pub enum Query {
 pub enum Answer {
     /// The bytes that were read.
     Read(Burst),
+    /// How many there are.
+    Count(u64),
     /// The access was denied.
     Fault(Fault),
     /// The question was refused.

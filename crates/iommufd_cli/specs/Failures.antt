@@ -9,6 +9,7 @@ use Rattle.iommufd_cli.specs.Replies.{bad_line_text, line, no_memory_text}
 use Rattle.iommufd_cli.specs.Session.{IsWithoutMemory, StepsText}
 use Rattle.iommufd_cli.specs.declared.fault.CliFault.{CliFault}
 use Rattle.iommufd_cli.specs.declared.fault.CliFault.TheVariants as fault
+use Rattle.iommufd_cli.specs.declared.fault.InputFault.TheVariants as input
 use Rattle.iommufd_core.specs.Server.{Server}
 use Rattle.iommufd_script.specs.Opening.{script_of}
 use Rattle.iommufd_script.specs.declared.line.Step.{Step}
@@ -54,13 +55,12 @@ IsWithin input out status = (length input ≤ 2 ^ 24) ⊎ IsWithoutMemory out st
 
 -- a fault of a reader that had these bytes, where they are known; want of memory is none
 abbrev pub IsReadFault : CliFault → Option (List ℕ) → Type 0
-IsReadFault fault.Input known = IfSome known (λ input. 2 ^ 24 < length input)
-IsReadFault (fault.Read error) known = IsFinal error × (error_kind error ≢ OutOfMemory)
+IsReadFault (fault.Input input.TooLong) known = IfSome known (λ bytes. 2 ^ 24 < length bytes)
+IsReadFault (fault.Input (input.Read error)) known = IsFinal error × (error_kind error ≢ OutOfMemory)
 IsReadFault (fault.Output error) known = ⊥
 
 -- what a fault leaves: of a reader's nothing was written, and of a writer's a beginning of a text
 abbrev pub Leaves : Type 0 → CliFault → Option (List ℕ) → Option (List ℕ) → Option (List ℕ) → Type 0
-Leaves A fault.Input known old new = IsReadFault fault.Input known × Keeps old new
-Leaves A (fault.Read error) known old new = IsReadFault (fault.Read error) known × Keeps old new
+Leaves A (fault.Input reason) known old new = IsReadFault (fault.Input reason) known × Keeps old new
 Leaves A (fault.Output error) known old new =
     IsFinal error × IfSome known (λ input. Writes (BeginsText A input) old new)

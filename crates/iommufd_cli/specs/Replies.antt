@@ -75,6 +75,7 @@ ioctl_text command (reply.Fault fault) = written_text command (reply.Fault fault
 -- a look
 abbrev pub answer_text : Answer → List ℕ
 answer_text (answer.Read bytes) = codes "ok " ++ encode_lower bytes
+answer_text (answer.Count count) = codes "ok " ++ decimal count
 answer_text (answer.Fault fault) = fault_text fault
 answer_text (answer.Refused refusal) = refusal_text refusal.cause
 

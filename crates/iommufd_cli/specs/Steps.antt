@@ -7,6 +7,7 @@ use Rattle.iofd_words.specs.declared.event.Event.{Event}
 use Rattle.iofd_words.specs.declared.event.Event.TheVariants as event
 use Rattle.iofd_words.specs.declared.numbers.FileNo.{FileNo}
 use Rattle.iofd_words.specs.declared.query.Answer.{Answer}
+use Rattle.iofd_words.specs.declared.query.Query.{Query}
 use Rattle.iofd_words.specs.declared.query.Query.TheVariants as query
 use Rattle.iofd_words.specs.declared.refusal.Cause.{Cause}
 use Rattle.iofd_words.specs.declared.reply.Reply.{Reply}
@@ -67,15 +68,25 @@ module _ {A : Type 0} where
   abbrev pub IsIoctl : Server A → FileNo → ℕ → List ℕ → List ℕ → Server A → Type 0
   IsIoctl s file number bytes text after = IsDecoded s file number bytes text after ⊎ IsUnread s bytes text after
 
+  -- a question: nothing changes, and the line tells the answer, which is the one that is chosen
+  abbrev pub IsAsked : Server A → Query → List ℕ → Server A → Type 0
+  IsAsked s q text after =
+      (after ≡ s) × (answer : Answer)
+      × IsLooked (answers_to s.history.settings s.history.records q) answer × (text ≡ line (answer_text answer))
+
   -- a step of the script
   abbrev pub IsAnswered : Server A → Step → List ℕ → Server A → Type 0
   IsAnswered s (step.Ioctl file number bytes) text after = IsIoctl s file number bytes text after
   IsAnswered s (step.Close file) text after = IsApplied s (event.Close file) reply_text text after
   IsAnswered s (step.UserMap user va) text after = IsApplied s (event.UserMap user va) reply_text text after
+  IsAnswered s (step.UserUnmap user va) text after = IsApplied s (event.UserUnmap user va) reply_text text after
+  IsAnswered s (step.UserRead user va len) text after = IsAsked s (query.UserRead user va len) text after
+  IsAnswered s (step.UserWrite user va bytes) text after =
+      IsApplied s (event.UserWrite user va bytes) reply_text text after
   IsAnswered s (step.Bind file device) text after = IsApplied s (event.Bind file device) reply_text text after
   IsAnswered s (step.Attach device pt_id) text after = IsApplied s (event.Attach device pt_id) reply_text text after
   IsAnswered s (step.Detach device) text after = IsApplied s (event.Detach device) reply_text text after
   IsAnswered s (step.Flush device) text after = IsApplied s (event.Flush device) reply_text text after
-  IsAnswered s (step.DeviceRead device iova len) text after =
-      (after ≡ s) × (answer : Answer) × IsLooked (answers_to s.history.settings s.history.records (query.DeviceRead device iova len)) answer × (text ≡ line (answer_text answer))
+  IsAnswered s (step.DeviceRead device iova len) text after = IsAsked s (query.DeviceRead device iova len) text after
   IsAnswered s (step.DeviceWrite device iova bytes) text after = IsApplied s (event.DeviceWrite device iova bytes) reply_text text after
+  IsAnswered s step.FreeFrames text after = IsAsked s query.FreeFrames text after

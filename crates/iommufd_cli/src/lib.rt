@@ -12,7 +12,7 @@ mod run;
 mod steps;
 
 pub use command_line::{Choice, choose};
-pub use fault::CliFault;
+pub use fault::{CliFault, InputFault};
 pub use line::Line;
 pub use replies::{
     answer_line, bad_line, ioctl_line, memory_line, no_memory_line, refusal_line, reply_line,

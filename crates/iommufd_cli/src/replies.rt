@@ -37,13 +37,14 @@ pub fn ioctl_line(command: &Command, reply: &Reply) -> Line
     }
 }
 
-/// The line for an answer to a look: the bytes in hex, the fault, or the errno and the cause of a
-/// refusal. A line feed ends it.
+/// The line for an answer to a look: the bytes in hex, the count in decimal, the fault, or the errno and
+/// the cause of a refusal. A line feed ends it.
 pub fn answer_line(answer: &Answer) -> Line
     ensures { result ≡ line (answer_text answer.now) }
 {
     match *answer {
         Answer::Read(bytes) => hex_line(b"ok ", bytes.as_slice()),
+        Answer::Count(count) => numbered_line(b"ok ", count),
         Answer::Fault(fault) => fault_line(fault),
         Answer::Refused(refusal) => refusal_line(refusal),
     }

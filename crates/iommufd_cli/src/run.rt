@@ -6,7 +6,7 @@ ghost use Rattle.iommufd_cli.specs.Failures.{BeginsLines, BeginsRunText, BeginsT
 ghost use Rattle.iommufd_cli.specs.Output.{IsFinal, IsFront, Writes};
 ghost use Rattle.iommufd_cli.specs.Session.{IsReadText, IsRunText, IsText, StepsText};
 
-use crate::fault::CliFault;
+use crate::fault::{CliFault, InputFault};
 use crate::line::Line;
 use crate::output::put;
 use crate::replies::{bad_line, no_memory_line};
@@ -86,9 +86,9 @@ fn read_all<R: Read, A: Allocator>(alloc: A, reader: &mut R) -> Result<Option<Ve
     let mut bytes = Vec::new(alloc);
     match reader.take(MOST_BYTES + 1).read_to_end(&mut bytes) {
         Ok(_) if bytes.len() as u64 <= MOST_BYTES => Ok(Some(bytes)),
-        Ok(_) => Err(CliFault::Input),
+        Ok(_) => Err(CliFault::Input(InputFault::TooLong)),
         Err(error) if error.kind() == ErrorKind::OutOfMemory => Ok(None),
-        Err(error) => Err(CliFault::Read(error)),
+        Err(error) => Err(CliFault::Input(InputFault::Read(error))),
     }
 }
 

@@ -2,13 +2,12 @@
 
 ghost use Rattle.std.specs.Prelude.{◌≡◌, ℕ, List};
 ghost use Rattle.iommufd_cli.specs.Replies.{ioctl_text, reply_text};
-ghost use Rattle.iommufd_script.specs.declared.line.Step.TheVariants as step;
-ghost use Rattle.iommufd_cli.specs.Steps.{IsAnswered, IsApplied, IsDecoded, IsIoctl, event_of};
+ghost use Rattle.iommufd_cli.specs.Steps.{IsAnswered, IsApplied, IsAsked, IsDecoded, IsIoctl, event_of};
 
 use crate::line::Line;
 use crate::replies::{answer_line, ioctl_line, memory_line, refusal_line, reply_line};
 use ioctl_codec::{Command, DecodeError, decode};
-use iofd_words::{Act, DeviceNo, Event, FileNo, Iova, PassNo, Query};
+use iofd_words::{Act, Event, FileNo, PassNo, Query};
 use iommufd_core::Core;
 use iommufd_script::{HexBytes, Step};
 use std::alloc::Allocator;
@@ -25,14 +24,26 @@ pub fn answer_step<A: Allocator + Copy>(alloc: A, core: &mut Core<A>, step: &Ste
         Step::Ioctl(file, number, bytes) => answer_ioctl(alloc, core, *file, *number, bytes),
         Step::Close(file) => answer_event(core, Event::Close(*file)),
         Step::UserMap(user, va) => answer_event(core, Event::UserMap(*user, *va)),
+        Step::UserUnmap(user, va) => answer_event(core, Event::UserUnmap(*user, *va)),
+        Step::UserRead(user, va, len) => {
+            let (user, va, len) = (*user, *va, *len);
+            answer_query(core, &Query::UserRead { user, va, len })
+        }
+        Step::UserWrite(user, va, bytes) => {
+            answer_event(core, Event::UserWrite(*user, *va, *bytes))
+        }
         Step::Bind(file, device) => answer_event(core, Event::Bind(*file, *device)),
         Step::Attach(device, pt_id) => answer_event(core, Event::Attach(*device, *pt_id)),
         Step::Detach(device) => answer_event(core, Event::Detach(*device)),
         Step::Flush(device) => answer_event(core, Event::Flush(*device)),
-        Step::DeviceRead(device, iova, len) => answer_read(core, *device, *iova, *len),
+        Step::DeviceRead(device, iova, len) => {
+            let (device, iova, len) = (*device, *iova, *len);
+            answer_query(core, &Query::DeviceRead { device, iova, len })
+        }
         Step::DeviceWrite(device, iova, bytes) => {
             answer_event(core, Event::DeviceWrite(*device, *iova, *bytes))
         }
+        Step::FreeFrames => answer_query(core, &Query::FreeFrames),
     }
 }
 
@@ -46,11 +57,11 @@ fn answer_event<A: Allocator + Copy>(core: &mut Core<A>, event: Event) -> Line
     }
 }
 
-// The line for a device's read.
-fn answer_read<A: Allocator>(core: &Core<A>, device: DeviceNo, iova: Iova, len: u8) -> Line
-    ensures { IsAnswered core.now (step.DeviceRead device iova len) result core.now }
+// The line for a question.
+fn answer_query<A: Allocator>(core: &Core<A>, query: &Query) -> Line
+    ensures { IsAsked core.now query.now result core.now }
 {
-    answer_line(&core.look(&Query::DeviceRead { device, iova, len }))
+    answer_line(&core.look(query))
 }
 
 // The line for an ioctl.

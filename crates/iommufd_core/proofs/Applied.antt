@@ -2,7 +2,7 @@
 use Rattle.std.proofs.Common.{◌≡◌, ℕ, suc, Bool, true, false, ◌||◌, eqb, is_none, Option, Some, None, List, [], ◌∷◌, ◌++◌, length, Contains, refl, sym, ◌∙◌, ap, subst, arith}
 use Rattle.std.specs.List.{list_any}
 use Rattle.std.proofs.lemmas.Bool.Decides.{nat_tests}
-use Rattle.iofd_laws.proofs.Bools.{and_true}
+use Rattle.iofd_rows.proofs.Bools.{and_true}
 use Rattle.iofd_words.specs.After.{changed, map_changes, attach_changes, target_changes, detach_changes, settle, without_areas, attached, detached}
 use Rattle.iofd_words.specs.Attachments.{attachment_of}
 use Rattle.iofd_words.specs.Checks.{refusal}
@@ -50,6 +50,8 @@ changed_settings at w (event.Unmap file request) (reply.Pending errno) = refl
 changed_settings at w (event.Destroy file id) reply.Done = refl
 changed_settings at w (event.Close file) reply.Done = refl
 changed_settings at w (event.UserMap user va) (reply.Frame frame) = refl
+changed_settings at w (event.UserUnmap user va) reply.Done = refl
+changed_settings at w (event.UserWrite user va bytes) reply.Done = refl
 changed_settings at w (event.Bind file device) (reply.Id id) = refl
 changed_settings at w (event.Attach device pt_id) (reply.Id id) = bound (binding_of w.objects device) (device_of w.settings device)
   where

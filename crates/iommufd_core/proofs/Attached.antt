@@ -1,6 +1,6 @@
 -- An attachment that comes: what its page table pins.
 use Rattle.std.proofs.Common.{◌≡◌, ℕ, Bool, true, false, cond, ◌&&◌, ◌||◌, not, eqb, Option, Some, None, List, [], ◌∷◌, ◌++◌, refl, sym, ◌∙◌, ap, arith, inl, inr}
-use Rattle.iofd_laws.proofs.NotRefused.{attach_passed, passes}
+use Rattle.iofd_runs.proofs.NotRefused.{attach_passed, passes}
 use Rattle.iofd_words.specs.declared.rows.Pin.{Pin}
 use Rattle.std.specs.Prelude.{is_some}
 use Rattle.std.specs.List.{filter, filter_map, flat_map, list_all, list_any}
@@ -11,7 +11,7 @@ use Rattle.iofd_words.specs.Areas.{all_paid, areas_of, is_of}
 use Rattle.iofd_words.specs.Attachments.{attachment_of}
 use Rattle.iofd_words.specs.Checks.{checks, refusal}
 use Rattle.iofd_words.specs.Objects.{binding_of, has_hwpt, with_object}
-use Rattle.iofd_laws.specs.Pinned.{have_own_memory}
+use Rattle.iofd_rows.specs.Pinned.{have_own_memory}
 use Rattle.iofd_words.specs.Pins.{ObjectPage, is_page, area_pages, pin_now, settled, page_of_pin}
 use Rattle.iofd_words.specs.View.{view}
 use Rattle.iofd_words.specs.World.{World}
@@ -24,13 +24,13 @@ use Rattle.iofd_words.specs.declared.rows.Attachment.{Attachment}
 use Rattle.iofd_words.specs.declared.rows.Object.{Object}
 use Rattle.iofd_words.specs.declared.rows.ObjectKind.TheVariants as kind
 use Rattle.iofd_words.specs.declared.width.Width.{Width}
-use Rattle.iofd_laws.proofs.Bools.{and_true, both_true, clash}
-use Rattle.iofd_laws.proofs.Each.{IsIn, of_any}
-use Rattle.iofd_laws.proofs.ListTests.{false_else, filter_all, filter_nothing, or_right}
-use Rattle.iofd_laws.proofs.Named.{file_is, id_is}
-use Rattle.iofd_laws.proofs.PageLists.{all_pages, any-pinned, memory_of_page, pins_page, pages_by_area}
-use Rattle.iofd_laws.proofs.PageTables.{hwpt-with_object, hwpt_alike, pinned_alike, pinned_within}
-use Rattle.iofd_laws.proofs.Settled.{settled_more, settled_same}
+use Rattle.iofd_rows.proofs.Bools.{and_true, both_true, clash}
+use Rattle.iofd_rows.proofs.Each.{IsIn, of_any}
+use Rattle.iofd_rows.proofs.ListTests.{false_else, filter_all, filter_nothing, or_right}
+use Rattle.iofd_rows.proofs.Named.{file_is, id_is}
+use Rattle.iofd_rows.proofs.PageLists.{all_pages, any-pinned, memory_of_page, pins_page, pages_by_area}
+use Rattle.iofd_rows.proofs.PageTables.{hwpt-with_object, hwpt_alike, pinned_alike, pinned_within}
+use Rattle.iofd_rows.proofs.Settled.{settled_more, settled_same}
 use Rattle.iommufd_core.specs.PinLists.{newly_pinned}
 use Rattle.iommufd_core.proofs.Detached.{one_memory, pinned_paid, some_row}
 

@@ -4,9 +4,9 @@ use Rattle.std.specs.List.{filter, list_all}
 use Rattle.std.proofs.lemmas.Bool.Decides.{nat_tests}
 use Rattle.std.proofs.lemmas.List.{append-nil, map-append, take_more}
 use Rattle.std.proofs.lemmas.List.Elements.{filter-append}
-use Rattle.iofd_laws.proofs.Bools.{and_true, both_true}
+use Rattle.iofd_rows.proofs.Bools.{and_true, both_true}
 use Rattle.iofd_words.specs.DeviceSet.{with_device}
-use Rattle.iofd_laws.specs.Fits.{devices_rise}
+use Rattle.iofd_runs.specs.Fits.{devices_rise}
 use Rattle.iofd_words.specs.declared.rows.Attachment.{Attachment}
 
 -- a device above all others comes last

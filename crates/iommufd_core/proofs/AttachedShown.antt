@@ -2,8 +2,8 @@
 use Rattle.std.proofs.Common.{◌≡◌, ◌<◌, ◌^◌, ℕ, true, not, Option, Some, None, List, ◌++◌, map, refl, sym, ◌∙◌, ap, subst, arith, ◌+◌}
 use Rattle.iofd_words.specs.View.{view}
 use Rattle.iommufd_core.proofs.PinsKept.{only_kept, pins_follow}
-use Rattle.iofd_laws.proofs.NotRefused.{attach_passed, passes}
-use Rattle.iofd_laws.proofs.KeepsOwnMemory.{OwnPins, keeps_own_pins}
+use Rattle.iofd_runs.proofs.NotRefused.{attach_passed, passes}
+use Rattle.iofd_runs.proofs.KeepsOwnMemory.{OwnPins, keeps_own_pins}
 use Rattle.std.specs.Prelude.{is_some}
 use Rattle.std.specs.List.{filter_map, find, list_all}
 use Rattle.std.specs.Option.{option_map}
@@ -28,9 +28,9 @@ use Rattle.iofd_words.specs.declared.rows.Object.{Object}
 use Rattle.iofd_words.specs.declared.rows.ObjectKind.{ObjectKind}
 use Rattle.iofd_words.specs.declared.rows.ObjectKind.TheVariants as kind
 use Rattle.iofd_words.specs.declared.width.Width.{Width}
-use Rattle.iofd_laws.proofs.Bools.{both_true}
-use Rattle.iofd_laws.proofs.Found.{find-with_object}
-use Rattle.iofd_laws.proofs.Paid.{pays_none}
+use Rattle.iofd_rows.proofs.Bools.{both_true}
+use Rattle.iofd_rows.proofs.Found.{find-with_object}
+use Rattle.iofd_rows.proofs.Paid.{pays_none}
 use Rattle.iommufd_core.specs.Held.{areas_at, is_proper, object_of, objects_in}
 use Rattle.iommufd_core.specs.PinLists.{newly_pinned, width_of}
 use Rattle.iommufd_core.specs.Shows.{Shows}

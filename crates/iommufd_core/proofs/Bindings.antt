@@ -8,9 +8,9 @@ use Rattle.iofd_words.specs.declared.numbers.FileNo.{FileNo}
 use Rattle.iofd_words.specs.declared.numbers.ObjId.{ObjId}
 use Rattle.iofd_words.specs.declared.rows.Object.{Object}
 use Rattle.iofd_words.specs.declared.rows.ObjectKind.TheVariants as kind
-use Rattle.iofd_laws.proofs.Each.{found_new}
-use Rattle.iofd_laws.proofs.Found.{find-with_object}
-use Rattle.iofd_laws.proofs.OwnIds.{any_found}
+use Rattle.iofd_rows.proofs.Each.{found_new}
+use Rattle.iofd_rows.proofs.Found.{find-with_object}
+use Rattle.iofd_runs.proofs.OwnIds.{any_found}
 
 same_device : (a b : DeviceNo) → eqb a.0 b.0 ≡ true → a ≡ b
 same_device a b same = let numbers = eqb-true a.0 b.0 same in ap (λ n. let d : DeviceNo = record { 0 = n } in d) numbers

@@ -2,19 +2,19 @@
 use Rattle.std.proofs.Common.{◌≡◌, ℕ, Vec, Bool, true, false, cond, ◌&&◌, ◌||◌, not, eqb, is_none, Option, Some, None, List, [], ◌∷◌, Contains, map, refl, sym, ◌∙◌, ap, arith, ◌+◌}
 use Rattle.iofd_words.specs.Answers.{Answers}
 use Rattle.iommufd_core.proofs.PinsKept.{only_kept, pins_follow}
-use Rattle.iofd_laws.proofs.NotRefused.{destroy_passed, passes}
-use Rattle.iofd_laws.proofs.KeepsOwnMemory.{OwnPins, keeps_own_pins}
-use Rattle.iofd_laws.proofs.OwnMemory.{have_areas}
-use Rattle.iofd_laws.proofs.PageLists.{pages_by_area}
+use Rattle.iofd_runs.proofs.NotRefused.{destroy_passed, passes}
+use Rattle.iofd_runs.proofs.KeepsOwnMemory.{OwnPins, keeps_own_pins}
+use Rattle.iofd_rows.proofs.OwnMemory.{have_areas}
+use Rattle.iofd_rows.proofs.PageLists.{pages_by_area}
 use Rattle.std.specs.List.{filter, list_all, list_any}
 use Rattle.std.proofs.lemmas.Bool.Decides.{nat_tests}
 use Rattle.std.proofs.lemmas.List.Folds.{list_any_at}
 use Rattle.iofd_words.specs.After.{settle, without_areas, changed}
 use Rattle.iofd_words.specs.Areas.{areas_of, is_of}
 use Rattle.iofd_words.specs.Checks.{is_device_object, is_used, refusal}
-use Rattle.iofd_laws.specs.Laws.{have_own_ids}
+use Rattle.iofd_rows.specs.Ids.{have_own_ids}
 use Rattle.iofd_words.specs.Objects.{has_hwpt, is_bound_as, is_bound_device, is_hwpt_over, is_object, kind_of, without_object}
-use Rattle.iofd_laws.specs.Pinned.{have_own_memory}
+use Rattle.iofd_rows.specs.Pinned.{have_own_memory}
 use Rattle.iofd_words.specs.Pins.{settled, is_page, page_of_pin}
 use Rattle.iofd_words.specs.View.{view}
 use Rattle.iofd_words.specs.World.{World}
@@ -30,11 +30,11 @@ use Rattle.iofd_words.specs.declared.rows.ObjectKind.{ObjectKind}
 use Rattle.iofd_words.specs.declared.rows.ObjectKind.TheVariants as kind
 use Rattle.iofd_words.specs.declared.rows.Pin.{Pin}
 use Rattle.iofd_words.specs.declared.width.Width.{Width}
-use Rattle.iofd_laws.proofs.Bools.{and_true, clash}
-use Rattle.iofd_laws.proofs.Found.{all_filter}
-use Rattle.iofd_laws.proofs.ListTests.{any-filter, false_else, filter_all}
-use Rattle.iofd_laws.proofs.PageTables.{hwpt-filter, hwpt_alike}
-use Rattle.iofd_laws.proofs.Settled.{kept_memory, kept_pins, named_by_area}
+use Rattle.iofd_rows.proofs.Bools.{and_true, clash}
+use Rattle.iofd_rows.proofs.Found.{all_filter}
+use Rattle.iofd_rows.proofs.ListTests.{any-filter, false_else, filter_all}
+use Rattle.iofd_rows.proofs.PageTables.{hwpt-filter, hwpt_alike}
+use Rattle.iofd_rows.proofs.Settled.{kept_memory, kept_pins, named_by_area}
 use Rattle.iommufd_core.proofs.Objects.{areas_at_rows, areas_of_held, kind_at, kind_of_rows, value_at}
 use Rattle.iommufd_core.proofs.ObjectsGone.{any_without, areas-removed, found_without, may_go, objects-removed}
 use Rattle.iommufd_core.specs.Held.{is_proper, areas_at, object_of, objects_in}

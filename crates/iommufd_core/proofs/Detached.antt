@@ -6,9 +6,9 @@ use Rattle.std.proofs.lemmas.Bool.Decides.{nat_tests}
 use Rattle.iofd_words.specs.After.{goes_with}
 use Rattle.iofd_words.specs.Areas.{all_paid, areas_of, is_of}
 use Rattle.iofd_words.specs.Attachments.{has_device_on, ioas_of, ioas_of_attachment}
-use Rattle.iofd_laws.specs.Laws.{have_own_ids}
+use Rattle.iofd_rows.specs.Ids.{have_own_ids}
 use Rattle.iofd_words.specs.Objects.{binding_of, has_hwpt, is_automatic, is_bound_as, is_hwpt_over, is_object, kind_of, without_object}
-use Rattle.iofd_laws.specs.Pinned.{have_own_memory}
+use Rattle.iofd_rows.specs.Pinned.{have_own_memory}
 use Rattle.iofd_words.specs.Pins.{ObjectPage, is_page, settled, page_of_pin}
 use Rattle.iofd_words.specs.World.{World}
 use Rattle.iofd_words.specs.declared.numbers.DeviceNo.{DeviceNo}
@@ -19,14 +19,14 @@ use Rattle.iofd_words.specs.declared.rows.Attachment.{Attachment}
 use Rattle.iofd_words.specs.declared.rows.Object.{Object}
 use Rattle.iofd_words.specs.declared.rows.ObjectKind.{ObjectKind}
 use Rattle.iofd_words.specs.declared.rows.ObjectKind.TheVariants as kind
-use Rattle.iofd_laws.proofs.Bools.{and_true, both_true, clash, not_true}
-use Rattle.iofd_laws.proofs.Each.{IsIn, of_any}
-use Rattle.iofd_laws.proofs.Found.{find-filter, none_both}
-use Rattle.iofd_laws.proofs.ListTests.{any-filter, false_else}
-use Rattle.iofd_laws.proofs.Named.{file_is, id_is, kind_only}
-use Rattle.iofd_laws.proofs.PageLists.{all_pages, pages_by_area}
-use Rattle.iofd_laws.proofs.PageTables.{hwpt-filter}
-use Rattle.iofd_laws.proofs.Settled.{kept_pins, settled_same}
+use Rattle.iofd_rows.proofs.Bools.{and_true, both_true, clash, not_true}
+use Rattle.iofd_rows.proofs.Each.{IsIn, of_any}
+use Rattle.iofd_rows.proofs.Found.{find-filter, none_both}
+use Rattle.iofd_rows.proofs.ListTests.{any-filter, false_else}
+use Rattle.iofd_rows.proofs.Named.{file_is, id_is, kind_only}
+use Rattle.iofd_rows.proofs.PageLists.{all_pages, pages_by_area}
+use Rattle.iofd_rows.proofs.PageTables.{hwpt-filter}
+use Rattle.iofd_rows.proofs.Settled.{kept_pins, settled_same}
 use Rattle.iommufd_core.specs.PinLists.{is_idle, is_unpinned}
 
 -- ---- rows of a list

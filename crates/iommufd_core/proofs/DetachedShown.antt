@@ -1,11 +1,11 @@
 -- What is kept after an attachment ended shows the world after it.
 use Rattle.std.proofs.Common.{◌≡◌, ℕ, true, false, not, Option, Some, None, List, map, refl, sym, ◌∙◌, ap, subst, ◌+◌}
-use Rattle.iofd_laws.proofs.PageLists.{pages_by_area}
+use Rattle.iofd_rows.proofs.PageLists.{pages_by_area}
 use Rattle.iofd_words.specs.Pins.{settled}
 use Rattle.iofd_words.specs.Answers.{Answers}
 use Rattle.iommufd_core.proofs.PinsKept.{only_kept, pins_follow}
-use Rattle.iofd_laws.proofs.NotRefused.{detach_passed, passes}
-use Rattle.iofd_laws.proofs.KeepsOwnMemory.{OwnPins, keeps_own_pins}
+use Rattle.iofd_runs.proofs.NotRefused.{detach_passed, passes}
+use Rattle.iofd_runs.proofs.KeepsOwnMemory.{OwnPins, keeps_own_pins}
 use Rattle.std.specs.Prelude.{is_none}
 use Rattle.std.specs.List.{filter, list_all}
 use Rattle.iofd_words.specs.After.{changed, detach_changes, detached, settle}
@@ -23,9 +23,9 @@ use Rattle.iofd_words.specs.declared.reply.Reply.TheVariants as reply
 use Rattle.iofd_words.specs.declared.rows.Attachment.{Attachment}
 use Rattle.iofd_words.specs.declared.rows.Object.{Object}
 use Rattle.iofd_words.specs.declared.rows.ObjectKind.TheVariants as kind
-use Rattle.iofd_laws.proofs.Found.{all_filter}
-use Rattle.iofd_laws.proofs.Owed.{table_of}
-use Rattle.iofd_laws.proofs.Paid.{paid_areas_of}
+use Rattle.iofd_rows.proofs.Found.{all_filter}
+use Rattle.iofd_rows.proofs.Owed.{table_of}
+use Rattle.iofd_rows.proofs.Paid.{paid_areas_of}
 use Rattle.iommufd_core.specs.Held.{areas_at, is_proper, object_of, objects_in, space_of}
 use Rattle.iommufd_core.specs.PinLists.{is_idle, is_unpinned}
 use Rattle.iommufd_core.specs.Shows.{Shows}

@@ -18,7 +18,7 @@ use Rattle.iofd_words.specs.declared.query.Query.{Query}
 use Rattle.iofd_words.specs.declared.query.Query.TheVariants as query
 use Rattle.iofd_words.specs.declared.refusal.Cause.{Cause}
 use Rattle.iommufd_core.proofs.BytesShown.{AreShown}
-use Rattle.iofd_laws.proofs.PinnedAccess.{some_outcome}
+use Rattle.iofd_runs.proofs.PinnedAccess.{some_outcome}
 use Rattle.iommufd_core.proofs.ViewShown.{same_query_refusal}
 use Rattle.iommufd_core.specs.Outcomes.{given_outcome}
 use Rattle.iommufd_core.specs.Seen.{seen}

@@ -5,7 +5,7 @@ use Rattle.std.specs.Option.{option_map}
 use Rattle.std.specs.List.{find, list_all}
 use Rattle.std.proofs.lemmas.List.Folds.{list_all-append}
 use Rattle.std.proofs.lemmas.Bool.Decides.{nat_tests}
-use Rattle.iofd_laws.proofs.Bools.{and_true, both_true}
+use Rattle.iofd_rows.proofs.Bools.{and_true, both_true}
 use Rattle.iofd_words.specs.Answers.{Answers, write_reply}
 use Rattle.iofd_words.specs.Areas.{area_at, areas_of}
 use Rattle.iofd_words.specs.Attachments.{attachment_of, ioas_of_attachment}
@@ -32,8 +32,8 @@ use Rattle.iofd_words.specs.declared.rows.Attachment.{Attachment}
 use Rattle.iofd_words.specs.declared.rows.Phase.{Phase}
 use Rattle.iofd_words.specs.declared.rows.Phase.TheVariants.{Live, Leaving}
 use Rattle.iofd_words.specs.declared.rows.Pin.{Pin}
-use Rattle.iofd_laws.proofs.PinnedAccess.{some_outcome}
-use Rattle.iofd_laws.proofs.Found.{found_passes as found_holds}
+use Rattle.iofd_runs.proofs.PinnedAccess.{some_outcome}
+use Rattle.iofd_rows.proofs.Found.{found_passes as found_holds}
 use Rattle.iommufd_core.specs.Choice.{IsChosen, MayUse, is_denial, without_cache, first_of}
 use Rattle.iommufd_core.specs.Outcomes.{given_outcome}
 use Rattle.iommufd_core.specs.Step.{IsTidy}

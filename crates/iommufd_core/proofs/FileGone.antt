@@ -1,10 +1,10 @@
 -- A file that was closed: all its objects, areas and attachments are gone.
 use Rattle.std.proofs.Common.{◌≡◌, ◌≢◌, ℕ, zero, suc, ◌-◌, ◌<◌, Vec, Bool, true, false, cond, ◌&&◌, ◌||◌, not, eqb, ltb, is_some, Option, Some, None, List, [], ◌∷◌, ◌++◌, Contains, map, get_or, set, refl, sym, ◌∙◌, ap, arith, ◌⊎◌, inl, inr, get_or-set_other, ◌+◌}
 use Rattle.iommufd_core.proofs.PinsKept.{only_kept, pins_follow}
-use Rattle.iofd_laws.proofs.NotRefused.{close_passed, passes}
-use Rattle.iofd_laws.proofs.KeepsOwnMemory.{keeps_own_pins}
+use Rattle.iofd_runs.proofs.NotRefused.{close_passed, passes}
+use Rattle.iofd_runs.proofs.KeepsOwnMemory.{keeps_own_pins}
 use Rattle.iofd_words.specs.Answers.{Answers}
-use Rattle.iofd_laws.proofs.PageLists.{pages_by_area}
+use Rattle.iofd_rows.proofs.PageLists.{pages_by_area}
 use Rattle.std.specs.List.{find, filter, list_all, list_any}
 use Rattle.std.proofs.lemmas.Bool.{eqb-true}
 use Rattle.std.proofs.lemmas.Bool.Decides.{nat_tests}
@@ -13,7 +13,7 @@ use Rattle.iofd_words.specs.After.{settle, without_areas, changed}
 use Rattle.iofd_words.specs.Areas.{areas_of, is_of}
 use Rattle.iofd_words.specs.Checks.{refusal}
 use Rattle.iofd_words.specs.Files as files
-use Rattle.iofd_laws.specs.Laws.{have_own_ids}
+use Rattle.iofd_rows.specs.Ids.{have_own_ids}
 use Rattle.iofd_words.specs.Objects.{has_hwpt, is_bound_as, is_bound_device, is_object, objects_of}
 use Rattle.iofd_words.specs.Pins.{settled}
 use Rattle.iofd_words.specs.View.{view}
@@ -30,13 +30,13 @@ use Rattle.iofd_words.specs.declared.rows.Object.{Object}
 use Rattle.iofd_words.specs.declared.rows.ObjectKind.{ObjectKind}
 use Rattle.iofd_words.specs.declared.rows.ObjectKind.TheVariants as kind
 use Rattle.iofd_words.specs.declared.rows.Pin.{Pin}
-use Rattle.iofd_laws.proofs.Bools.{and_true, both_true, clash, not_true}
-use Rattle.iofd_laws.proofs.Each.{IsIn, in_filter, in_found, of_any}
-use Rattle.iofd_laws.proofs.Found.{all_filter, find-filter}
-use Rattle.iofd_laws.proofs.ListTests.{alike, any-filter, any_weaker, none_stronger}
-use Rattle.iofd_laws.proofs.Named.{file_is}
-use Rattle.iofd_laws.proofs.PageTables.{hwpt-filter}
-use Rattle.iofd_laws.proofs.Settled.{kept_memory, kept_pins, named_by_area}
+use Rattle.iofd_rows.proofs.Bools.{and_true, both_true, clash, not_true}
+use Rattle.iofd_rows.proofs.Each.{IsIn, in_filter, in_found, of_any}
+use Rattle.iofd_rows.proofs.Found.{all_filter, find-filter}
+use Rattle.iofd_rows.proofs.ListTests.{alike, any-filter, any_weaker, none_stronger}
+use Rattle.iofd_rows.proofs.Named.{file_is}
+use Rattle.iofd_rows.proofs.PageTables.{hwpt-filter}
+use Rattle.iofd_rows.proofs.Settled.{kept_memory, kept_pins, named_by_area}
 use Rattle.iommufd_core.proofs.ObjectsGone.{device_rows, some_in}
 use Rattle.iommufd_core.specs.Held.{is_proper, areas_at, areas_in, kind_in, object_of, objects_in, table_kind}
 use Rattle.iommufd_core.specs.Memory.{is_over, holds_memory, without_memory, without_pins}

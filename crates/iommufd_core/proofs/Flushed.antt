@@ -3,7 +3,7 @@ use Rattle.std.proofs.Common.{◌≡◌, ℕ, Bool, true, false, ◌&&◌, eqb, 
 use Rattle.std.proofs.lemmas.Bool.Decides.{nat_tests}
 use Rattle.iofd_words.specs.Areas.{all_paid, areas_of}
 use Rattle.iofd_words.specs.Attachments.{attachment_of, ioas_of, ioas_of_attachment}
-use Rattle.iofd_laws.specs.Debts.{DebtsAttached}
+use Rattle.iofd_rows.specs.Debts.{DebtsAttached}
 use Rattle.iofd_words.specs.World.{World}
 use Rattle.iofd_words.specs.declared.numbers.DeviceNo.{DeviceNo}
 use Rattle.iofd_words.specs.declared.numbers.FileNo.{FileNo}
@@ -11,11 +11,11 @@ use Rattle.iofd_words.specs.declared.numbers.ObjId.{ObjId}
 use Rattle.iofd_words.specs.declared.rows.Attachment.{Attachment}
 use Rattle.iofd_words.specs.declared.rows.Object.{Object}
 use Rattle.iofd_words.specs.declared.rows.ObjectKind.{ObjectKind}
-use Rattle.iofd_laws.proofs.Bools.{and_true, both_true}
-use Rattle.iofd_laws.proofs.Each.{in_found}
-use Rattle.iofd_laws.proofs.Named.{file_is, id_is}
-use Rattle.iofd_laws.proofs.Owed.{each_owed}
-use Rattle.iofd_laws.proofs.Paid.{paid_areas_of, pays_none, pays_own}
+use Rattle.iofd_rows.proofs.Bools.{and_true, both_true}
+use Rattle.iofd_rows.proofs.Each.{in_found}
+use Rattle.iofd_rows.proofs.Named.{file_is, id_is}
+use Rattle.iofd_rows.proofs.Owed.{each_owed}
+use Rattle.iofd_rows.proofs.Paid.{paid_areas_of, pays_none, pays_own}
 use Rattle.iommufd_core.specs.Held.{areas_at, objects_in, space_of}
 use Rattle.iommufd_core.specs.Shows.{Shows}
 use Rattle.iommufd_core.specs.Spaces.{HasAreas, IsOrderly, is_space}

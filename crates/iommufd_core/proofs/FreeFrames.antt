@@ -1,13 +1,14 @@
 -- The frame that a user's new page gets.
 use Rattle.std.proofs.Common.{◌≡◌, ◌≤◌, ◌<◌, ℕ, zero, suc, ◌+◌, Bool, true, false, ◌&&◌, ◌||◌, cond, not, eqb, ltb, Option, Some, None, is_some, List, [], ◌∷◌, refl, sym, ◌∙◌, ap, subst, arith, length, take, take_all, get_or}
-use Rattle.std.proofs.lemmas.List.Sums.{sum_by-cons}
+use Rattle.std.proofs.lemmas.List.FromFn.{length-range_with_len}
+use Rattle.std.proofs.lemmas.List.Sums.{count_by-le-length, sum_by-cons}
 use Rattle.std.specs.List.{count_by, find, list_any, range_with_len}
 use Rattle.std.proofs.lemmas.Bool.{eqb-true}
 use Rattle.std.proofs.lemmas.List.Folds.{list_any_more}
 use Rattle.frame_memory.specs.FreeMap.{IsLeast, has_frame}
 use Rattle.std.specs.Option.{option_map}
 use Rattle.std.proofs.lemmas.Bool.Decides.{nat_tests}
-use Rattle.iofd_laws.proofs.Bools.{and_true}
+use Rattle.iofd_rows.proofs.Bools.{and_true}
 use Rattle.iofd_words.specs.Frames.{free_count, is_free, is_reached}
 use Rattle.iofd_words.specs.Limits.{first_outside}
 use Rattle.iofd_words.specs.Settings.{Settings, is_between}
@@ -85,6 +86,40 @@ module _ (pool : ℕ) (pages : List UserPage) (pins : List Pin) where
 
   pub none_free : (free : List ℕ) → ((f : ℕ) → has_frame free f ≡ is_free pool pages pins [] f) → ((f : ℕ) → has_frame free f ≡ false) → find (is_free pool pages pins []) (range_with_len 0 pool) ≡ None
   none_free free is none = none_found (is_free pool pages pins []) 0 pool (λ f. sym (is f) ∙ none f)
+
+-- ---- how many there are
+
+-- one number more
+counted : (p : ℕ → Bool) (from count : ℕ) → count_by p (range_with_len from (suc count)) ≡ count_by p (range_with_len from count) + cond (p (from + count)) 1 0
+counted p from zero = let same : from + 0 ≡ from = omega arith in sum_by-cons (λ n. cond (p n) 1 0) from [] ∙ rw same (omega arith)
+counted p from (suc count) =
+    let next : from + 1 + count ≡ from + suc count = omega arith in
+    let here : count_by p (range_with_len from (suc (suc count))) ≡ cond (p from) 1 0 + count_by p (range_with_len (from + 1) (suc count)) = sum_by-cons (λ n. cond (p n) 1 0) from (range_with_len (from + 1) (suc count)) in
+    let before : count_by p (range_with_len from (suc count)) ≡ cond (p from) 1 0 + count_by p (range_with_len (from + 1) count) = sum_by-cons (λ n. cond (p n) 1 0) from (range_with_len (from + 1) count) in
+    let rest : count_by p (range_with_len (from + 1) (suc count)) ≡ count_by p (range_with_len (from + 1) count) + cond (p (from + suc count)) 1 0 = rw (← next) (counted p (from + 1) count) in
+    omega (arith, here, before, rest)
+
+pub counted_more : (p : ℕ → Bool) (count so_far : ℕ) → so_far ≡ count_by p (range_with_len 0 count) → p count ≡ true → so_far + 1 ≡ count_by p (range_with_len 0 (count + 1))
+counted_more p count so_far before is =
+    let same : 0 + count ≡ count = omega arith in
+    let next : count + 1 ≡ suc count = omega arith in
+    let one : cond {A = ℕ} (p (0 + count)) 1 0 ≡ 1 = rw (same, is) refl in
+    let more = counted p 0 count in
+    rw next (omega (arith, more, one, before))
+
+pub counted_no_more : (p : ℕ → Bool) (count so_far : ℕ) → so_far ≡ count_by p (range_with_len 0 count) → p count ≡ false → so_far ≡ count_by p (range_with_len 0 (count + 1))
+counted_no_more p count so_far before is =
+    let same : 0 + count ≡ count = omega arith in
+    let next : count + 1 ≡ suc count = omega arith in
+    let none : cond {A = ℕ} (p (0 + count)) 1 0 ≡ 0 = rw (same, is) refl in
+    let more = counted p 0 count in
+    rw next (omega (arith, more, none, before))
+
+pub counted_few : (p : ℕ → Bool) (count so_far : ℕ) → so_far ≡ count_by p (range_with_len 0 count) → so_far ≤ count
+counted_few p count so_far before =
+    let few = count_by-le-length p (range_with_len 0 count) in
+    let size = length-range_with_len 0 count in
+    omega (arith, few, size, before)
 
 some_number : (o : Option ℕ) → is_some {T = FrameNo} (elim o [ Some frame ↦ Some (record { 0 = frame }) | None ↦ None ]) ≡ is_some o
 some_number None = refl

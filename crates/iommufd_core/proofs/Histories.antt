@@ -1,11 +1,11 @@
 -- What one more record makes of a run.
 use Rattle.std.proofs.Common.{◌≡◌, ℕ, suc, ◌+◌, List, [], ◌∷◌, ◌++◌, length, refl, arith}
-use Rattle.iofd_laws.proofs.KeepsDebts.{IsSound, keeps_sound, tabled_sound}
-use Rattle.iofd_laws.proofs.KeepsFits.{keeps_fit, tabled_fit}
-use Rattle.iofd_laws.proofs.KeepsOwnMemory.{OwnPins, keeps_own_pins, later_own, tabled_own}
-use Rattle.iofd_laws.proofs.KeepsPins.{opening_pinned}
-use Rattle.iofd_laws.proofs.Runs.{run_keeps, run_keeps_at}
-use Rattle.iofd_laws.specs.Fits.{RowsFit}
+use Rattle.iofd_runs.proofs.KeepsDebts.{IsSound, keeps_sound, tabled_sound}
+use Rattle.iofd_runs.proofs.KeepsFits.{keeps_fit, tabled_fit}
+use Rattle.iofd_runs.proofs.KeepsOwnMemory.{OwnPins, keeps_own_pins, later_own, tabled_own}
+use Rattle.iofd_runs.proofs.KeepsPins.{opening_pinned}
+use Rattle.iofd_runs.proofs.Runs.{run_keeps, run_keeps_at}
+use Rattle.iofd_runs.specs.Fits.{RowsFit}
 use Rattle.iofd_words.specs.Run.{IsRun, IsRunFrom, Lawful, after, world_from, world_of}
 use Rattle.iofd_words.specs.Settings.{Settings}
 use Rattle.iofd_words.specs.World.{World, opening}

@@ -32,4 +32,5 @@ pub mod TableRows
 pub mod Touched
 pub mod Unmapped
 pub mod Unpinned
+pub mod UserAccess
 pub mod ViewShown

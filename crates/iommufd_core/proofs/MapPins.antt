@@ -1,18 +1,18 @@
 -- The pages that a MAP pins, each at the frame that is the user's page now.
 use Rattle.std.proofs.Common.{◌≡◌, ℕ, zero, suc, ◌+◌, ◌/◌, ◌<◌, Bool, true, false, cond, eqb, ltb, Option, Some, None, List, [], ◌∷◌, ◌++◌, map, refl, sym, ap, ◌∙◌, arith, append_assoc, ◌*◌, ◌&&◌, ◌||◌}
-use Rattle.iofd_laws.proofs.PageLists.{pages_by_area}
+use Rattle.iofd_rows.proofs.PageLists.{pages_by_area}
 use Rattle.std.specs.List.{cons_option, filter_map, find, list_all, range_with_len, list_any}
 use Rattle.std.proofs.lemmas.List.{append-nil}
 use Rattle.std.proofs.lemmas.List.Elements.{filter_map-append}
 use Rattle.std.proofs.lemmas.Bool.Decides.{nat_tests}
-use Rattle.iofd_laws.proofs.Bools.{and_true, both_true}
-use Rattle.iofd_laws.proofs.Settled.{mapped_pages, mapped_pages_stay, settled_more}
+use Rattle.iofd_rows.proofs.Bools.{and_true, both_true}
+use Rattle.iofd_rows.proofs.Settled.{mapped_pages, mapped_pages_stay, settled_more}
 use Rattle.iofd_words.specs.After.{mapped_area, memory_object}
 use Rattle.iofd_words.specs.Areas.{with_area}
 use Rattle.iofd_words.specs.Frames.{frame_at}
 use Rattle.iofd_words.specs.Objects.{has_hwpt}
 use Rattle.iofd_words.specs.Pages.{page_of}
-use Rattle.iofd_laws.specs.Pinned.{ArePinned, has_object}
+use Rattle.iofd_rows.specs.Pinned.{ArePinned, has_object}
 use Rattle.iofd_words.specs.Pins.{pin_now, settled, area_pages, is_page, page_of_pin}
 use Rattle.iofd_words.specs.Span.{size_of}
 use Rattle.iofd_words.specs.World.{World}

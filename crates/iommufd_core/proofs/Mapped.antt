@@ -5,10 +5,10 @@ use Rattle.std.proofs.lemmas.Bool.Decides.{nat_tests}
 use Rattle.area_map.specs.Areas as own
 use Rattle.area_map.specs.Insertion.{insert_refusal}
 use Rattle.std.specs.List.{list_any}
-use Rattle.iofd_laws.proofs.Bools.{and_true, both_false}
-use Rattle.iofd_laws.proofs.Named.{file_is, id_is}
-use Rattle.iofd_laws.proofs.KeepsOwnMemory.{OwnPins, keeps_own_pins}
-use Rattle.iofd_laws.proofs.NotRefused.{map_passed, passes}
+use Rattle.iofd_rows.proofs.Bools.{and_true, both_false}
+use Rattle.iofd_rows.proofs.Named.{file_is, id_is}
+use Rattle.iofd_runs.proofs.KeepsOwnMemory.{OwnPins, keeps_own_pins}
+use Rattle.iofd_runs.proofs.NotRefused.{map_passed, passes}
 use Rattle.iommufd_core.proofs.PinsKept.{only_kept, pins_follow}
 use Rattle.iofd_words.specs.Checks.{checks, refusal}
 use Rattle.iofd_words.specs.After.{changed, mapped_area, memory_object, settle, map_changes}

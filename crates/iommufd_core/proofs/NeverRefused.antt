@@ -17,8 +17,8 @@ use Rattle.iofd_words.specs.declared.refusal.Refusal.{Refusal}
 use Rattle.iofd_words.specs.declared.rows.Attachment.{Attachment}
 use Rattle.iofd_words.specs.declared.rows.Object.{Object}
 use Rattle.iofd_words.specs.declared.width.Width.{Width}
-use Rattle.iofd_laws.proofs.Known.{alloc_open, bind_open, bound_known}
-use Rattle.iofd_laws.proofs.NotRefused.{alloc_passed, attach_passed, bind_passed, passes}
+use Rattle.iofd_runs.proofs.Known.{alloc_open, bind_open, bound_known}
+use Rattle.iofd_runs.proofs.NotRefused.{alloc_passed, attach_passed, bind_passed, passes}
 use Rattle.iommufd_core.specs.Held.{objects_in}
 use Rattle.iommufd_core.specs.PinLists.{width_of}
 use Rattle.iommufd_core.specs.Shows.{Shows}

@@ -4,19 +4,19 @@ use Rattle.std.specs.List.{find, filter, list_all, list_any}
 use Rattle.std.specs.Option.{option_map_or}
 use Rattle.std.proofs.lemmas.Bool.Decides.{nat_tests}
 use Rattle.iofd_words.specs.Areas.{areas_of, is_of}
-use Rattle.iofd_laws.specs.Laws.{have_own_ids}
+use Rattle.iofd_rows.specs.Ids.{have_own_ids}
 use Rattle.iofd_words.specs.Objects.{is_bound_device, is_object, kind_of, objects_of, without_object}
 use Rattle.iofd_words.specs.declared.numbers.FileNo.{FileNo}
 use Rattle.iofd_words.specs.declared.numbers.ObjId.{ObjId}
 use Rattle.iofd_words.specs.declared.rows.Area.{Area}
 use Rattle.iofd_words.specs.declared.rows.Object.{Object}
 use Rattle.iofd_words.specs.declared.rows.ObjectKind.{ObjectKind}
-use Rattle.iofd_laws.proofs.Bools.{and_true}
-use Rattle.iofd_laws.proofs.Each.{IsIn, in_found}
-use Rattle.iofd_laws.proofs.Found.{find-filter}
-use Rattle.iofd_laws.proofs.ListTests.{false_else}
-use Rattle.iofd_laws.proofs.Named.{file_is, id_is, kind_only}
-use Rattle.iofd_laws.proofs.OwnIds.{any_found}
+use Rattle.iofd_rows.proofs.Bools.{and_true}
+use Rattle.iofd_rows.proofs.Each.{IsIn, in_found}
+use Rattle.iofd_rows.proofs.Found.{find-filter}
+use Rattle.iofd_rows.proofs.ListTests.{false_else}
+use Rattle.iofd_rows.proofs.Named.{file_is, id_is, kind_only}
+use Rattle.iofd_runs.proofs.OwnIds.{any_found}
 use Rattle.iommufd_core.specs.Held.{is_proper, areas_at, kind_in, object_of, objects_in, table_kind}
 use Rattle.iommufd_core.specs.Spaces.{is_space}
 use Rattle.iommufd_core.specs.declared.held.Held.{Held}

@@ -11,7 +11,7 @@ use Rattle.iofd_words.specs.declared.numbers.ObjId.{ObjId}
 use Rattle.iofd_words.specs.declared.rows.Object.{Object}
 use Rattle.iofd_words.specs.declared.rows.ObjectKind.{ObjectKind}
 use Rattle.iofd_words.specs.declared.rows.ObjectKind.TheVariants as kind
-use Rattle.iofd_laws.proofs.Bools.{and_true, both_true}
+use Rattle.iofd_rows.proofs.Bools.{and_true, both_true}
 use Rattle.iommufd_core.proofs.Bindings.{bound_last}
 use Rattle.iommufd_core.proofs.Objects.{kind_at, kind_of_rows}
 use Rattle.iommufd_core.specs.Held.{is_proper, areas_at, areas_in, object_of}

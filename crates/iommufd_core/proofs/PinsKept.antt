@@ -5,15 +5,15 @@ use Rattle.iofd_words.specs.Pins.{ObjectPage, are_present, frame_now, is_page, p
 use Rattle.iofd_words.specs.World.{World}
 use Rattle.iofd_words.specs.declared.numbers.FrameNo.{FrameNo}
 use Rattle.iofd_words.specs.declared.rows.Pin.{Pin}
-use Rattle.iofd_laws.specs.Pinned.{ArePinned, differ}
-use Rattle.iofd_laws.proofs.Bools.{and_true, clash, not_true}
-use Rattle.iofd_laws.proofs.Each.{IsIn, in_found, of_all, of_any}
-use Rattle.iofd_laws.proofs.KeepsOwnMemory.{OwnPins}
-use Rattle.iofd_laws.proofs.ListTests.{alike}
-use Rattle.iofd_laws.proofs.OnePin.{settled_once}
-use Rattle.iofd_laws.proofs.PageLists.{all_pages, at_page, kept_page, page_itself, pages_by_area, same_page}
-use Rattle.iofd_laws.proofs.PinsFollow.{first_some, pin_found, pin_is_of, settled_frame}
-use Rattle.iofd_laws.proofs.SamePages.{area_pages_differ, same_pages}
+use Rattle.iofd_rows.specs.Pinned.{ArePinned, differ}
+use Rattle.iofd_rows.proofs.Bools.{and_true, clash, not_true}
+use Rattle.iofd_rows.proofs.Each.{IsIn, in_found, of_all, of_any}
+use Rattle.iofd_runs.proofs.KeepsOwnMemory.{OwnPins}
+use Rattle.iofd_rows.proofs.ListTests.{alike}
+use Rattle.iofd_rows.proofs.OnePin.{settled_once}
+use Rattle.iofd_rows.proofs.PageLists.{all_pages, at_page, kept_page, page_itself, pages_by_area, same_page}
+use Rattle.iofd_rows.proofs.PinsFollow.{first_some, pin_found, pin_is_of, settled_frame}
+use Rattle.iofd_runs.proofs.SamePages.{area_pages_differ, same_pages}
 use Rattle.iommufd_core.specs.Shows.{PinsShown}
 
 -- ---- which frames pins name

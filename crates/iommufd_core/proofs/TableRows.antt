@@ -9,9 +9,9 @@ use Rattle.iofd_words.specs.declared.rows.Area.{Area}
 use Rattle.iofd_words.specs.declared.rows.ObjectKind.{ObjectKind}
 use Rattle.iofd_words.specs.declared.rows.ObjectKind.TheVariants as kind
 use Rattle.iofd_words.specs.declared.width.Width.{Width}
-use Rattle.iofd_laws.proofs.Bools.{and_true}
-use Rattle.iofd_laws.proofs.Found.{find-filter, none_both}
-use Rattle.iofd_laws.proofs.Named.{file_is, id_is}
+use Rattle.iofd_rows.proofs.Bools.{and_true}
+use Rattle.iofd_rows.proofs.Found.{find-filter, none_both}
+use Rattle.iofd_rows.proofs.Named.{file_is, id_is}
 use Rattle.iommufd_core.specs.Held.{areas_at, areas_in, is_proper, kind_in, object_of, objects_in, table_kind}
 use Rattle.iommufd_core.specs.declared.held.Held.{Held}
 use Rattle.iommufd_core.proofs.Unpinned.{areas_of_other}

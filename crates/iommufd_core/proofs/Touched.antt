@@ -3,7 +3,7 @@ use Rattle.std.proofs.Common.{◌≡◌, ℕ, ◌+◌, ◌≤◌, Bool, true, fa
 use Rattle.std.specs.List.{filter}
 use Rattle.std.proofs.lemmas.Bool.Decides.{nat_tests}
 use Rattle.area_map.specs.Areas.{AreApartFrom, areas_outside, areas_within, marked}
-use Rattle.iofd_laws.proofs.Bools.{or_false}
+use Rattle.iofd_rows.proofs.Bools.{or_false}
 use Rattle.iofd_words.specs.Areas.{areas_of, is_cut, is_of, is_touched, is_waiting, leaving, touched, unmapped_span, with_leaving, with_phase}
 use Rattle.iofd_words.specs.Bounds.{Bounds}
 use Rattle.iofd_words.specs.Span.{lies_in, meets}

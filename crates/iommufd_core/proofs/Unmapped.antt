@@ -1,8 +1,8 @@
 -- The world after an UNMAP is shown.
 use Rattle.std.proofs.Common.{◌≡◌, ℕ, ◌+◌, ◌*◌, ◌<◌, ◌≤◌, leb, Bool, true, false, ◌&&◌, not, eqb, Option, Some, None, is_some, Vec, List, [], ◌∷◌, length, map, Contains, refl, sym, ◌∙◌, ap, arith}
 use Rattle.iommufd_core.proofs.PinsKept.{only_kept, pins_follow}
-use Rattle.iofd_laws.proofs.KeepsOwnMemory.{OwnPins}
-use Rattle.iofd_laws.proofs.ListTests.{any-filter}
+use Rattle.iofd_runs.proofs.KeepsOwnMemory.{OwnPins}
+use Rattle.iofd_rows.proofs.ListTests.{any-filter}
 use Rattle.iommufd_core.specs.Memory.{is_over, without_memory, without_pins}
 use Rattle.std.specs.List.{filter, list_all}
 use Rattle.std.specs.Option.{option_map}
@@ -12,16 +12,16 @@ use Rattle.area_map.specs.Areas.{AreKept, areas_outside, areas_within, bytes_of,
 use Rattle.std.proofs.lemmas.Bool.Decides.{nat_tests}
 use Rattle.std.proofs.lemmas.List.Sums.{sum_by-cons}
 use Rattle.area_map.proofs.Kept.{length-filter-le}
-use Rattle.iofd_laws.proofs.Bools.{and_true}
-use Rattle.iofd_laws.proofs.Found.{all_filter}
-use Rattle.iofd_laws.proofs.NotRefused.{passes, unmap_passed}
-use Rattle.iofd_laws.proofs.Settled.{kept_memory, kept_pins, named_by_area}
+use Rattle.iofd_rows.proofs.Bools.{and_true}
+use Rattle.iofd_rows.proofs.Found.{all_filter}
+use Rattle.iofd_runs.proofs.NotRefused.{passes, unmap_passed}
+use Rattle.iofd_rows.proofs.Settled.{kept_memory, kept_pins, named_by_area}
 use Rattle.iofd_words.specs.After.{settle, without_areas}
 use Rattle.iofd_words.specs.Areas.{areas_of, is_cut, is_of, is_touched, is_waiting, touched, touched_bytes, unmapped_span, with_leaving}
 use Rattle.iofd_words.specs.Attachments.{devices_of}
 use Rattle.iofd_words.specs.Bounds.{Bounds}
 use Rattle.iofd_words.specs.Checks.{refusal}
-use Rattle.iofd_laws.specs.Fits.{devices_rise, is_of_pages}
+use Rattle.iofd_runs.specs.Fits.{devices_rise, is_of_pages}
 use Rattle.iofd_words.specs.Pages.{is_above_sum, is_whole}
 use Rattle.iofd_words.specs.Span.{lies_in, size_of}
 use Rattle.iofd_words.specs.View.{view}

@@ -30,6 +30,7 @@ without_cache outcomes = elim (find is_denial outcomes) [ Some denial ↦ Some d
 -- the same of the answers to a question
 abbrev pub is_fault : Answer → Bool
 is_fault (answer.Read bytes) = false
+is_fault (answer.Count count) = false
 is_fault (answer.Fault fault) = true
 is_fault (answer.Refused refusal) = false
 
@@ -58,6 +59,8 @@ IsChosen w (event.Destroy file id) via answer = Unit {0}
 IsChosen w (event.Close file) via answer = Unit {0}
 IsChosen w (event.UserMap user va) via answer =
     option_map reply.Frame (free_frame w.settings.pool w.user_pages w.pins w.table_frames) ≡ Some answer
+IsChosen w (event.UserUnmap user va) via answer = Unit {0}
+IsChosen w (event.UserWrite user va bytes) via answer = Unit {0}
 IsChosen w (event.Bind file device) via answer = Unit {0}
 IsChosen w (event.Attach device pt_id) via answer = Unit {0}
 IsChosen w (event.Detach device) via answer = Unit {0}

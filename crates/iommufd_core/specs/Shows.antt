@@ -1,7 +1,7 @@
 -- When what is kept shows a world: each question of the world has its answer there. Four groups, by the lists that they are about.
 use Rattle.std.specs.Prelude.{◌≡◌, ◌==◌, ◌<◌, ◌+◌, ◌*◌, ℕ, true, List, [], length, map, slice_index}
 use Rattle.std.specs.List.{list_all, list_any}
-use Rattle.iofd_laws.specs.Pinned.{differ}
+use Rattle.iofd_rows.specs.Pinned.{differ}
 use Rattle.iofd_words.specs.Areas.{areas_of}
 use Rattle.iofd_words.specs.Files as file
 use Rattle.iofd_words.specs.Frames.{FrameWrite, byte_at}

@@ -1,7 +1,7 @@
 -- What a change of one address space's areas leaves as it was.
 use Rattle.std.specs.Prelude.{◌≡◌, Bool, true, false, ◌==◌, ◌&&◌, List}
 use Rattle.std.specs.List.{list_all}
-use Rattle.iofd_laws.specs.Laws.{have_own_ids}
+use Rattle.iofd_rows.specs.Ids.{have_own_ids}
 use Rattle.iofd_words.specs.declared.numbers.FileNo.{FileNo}
 use Rattle.iofd_words.specs.declared.numbers.ObjId.{ObjId}
 use Rattle.iofd_words.specs.declared.rows.Area.{Area}

@@ -3,10 +3,10 @@ use Rattle.std.specs.Prelude.{◌≡◌, ℕ, true, Option, None}
 use Rattle.iofd_words.specs.After.{changed}
 use Rattle.iofd_words.specs.Answers.{Answers}
 use Rattle.iofd_words.specs.Checks.{refusal}
-use Rattle.iofd_laws.specs.Debts.{DebtsAttached}
-use Rattle.iofd_laws.specs.Fits.{RowsFit}
-use Rattle.iofd_laws.specs.Laws.{have_own_ids}
-use Rattle.iofd_laws.specs.Pinned.{ArePinned, have_own_memory}
+use Rattle.iofd_rows.specs.Debts.{DebtsAttached}
+use Rattle.iofd_runs.specs.Fits.{RowsFit}
+use Rattle.iofd_rows.specs.Ids.{have_own_ids}
+use Rattle.iofd_rows.specs.Pinned.{ArePinned, have_own_memory}
 use Rattle.iofd_words.specs.World.{World}
 use Rattle.iofd_words.specs.declared.event.Event.{Event}
 use Rattle.iofd_words.specs.declared.numbers.FrameNo.{FrameNo}

@@ -17,11 +17,11 @@ ghost use Rattle.iommufd_core.specs.Outcomes.{given_outcome, outcome_told, outco
 ghost use Rattle.iommufd_core.specs.Seen.{seen};
 
 use crate::held::Held;
+use crate::lookups;
 use crate::state::State;
-use crate::{devices, lookups};
 use iofd_words::{
     AccessKind, Area, Attachment, Cause, Config, DeviceNo, FaultReason, FileNo, FrameNo, Iova,
-    ObjId, ObjectKind, Phase, Pin,
+    ObjId, ObjectKind, PAGE_SIZE, Phase, Pin,
 };
 use object_table::ObjectTable;
 use std::alloc::Allocator;
@@ -49,17 +49,17 @@ pub(crate) fn refusal<A: Allocator>(
     if state.binding_of(device).is_none() {
         return Some(Cause::Id);
     }
-    if crosses(iova, len) {
+    if crosses(iova.0, len) {
         return Some(Cause::Cross);
     }
     None
 }
 
-/// Whether so many bytes are none or more than 64, or leave the page.
-fn crosses(iova: Iova, len: usize) -> bool
-    ensures { result ≡ crosses iova.0 len }
+/// Whether so many bytes from the address on are none or more than 64, or leave the page.
+pub(crate) fn crosses(address: u64, len: usize) -> bool
+    ensures { result ≡ crosses address len }
 {
-    len == 0 || len > 64 || iova.0 % 4096 + len as u64 > 4096
+    len == 0 || len > 64 || address % PAGE_SIZE + len as u64 > PAGE_SIZE
 }
 
 /// What may come of the device's access to this address. None where the area has no pin for the page, which
@@ -172,7 +172,7 @@ fn at_area(
     if !area.rights.allow(kind) {
         return Some(Access::Denied(kind.denied()));
     }
-    let page = address.saturating_sub(area.span.first()) / 4096;
+    let page = address.saturating_sub(area.span.first()) / PAGE_SIZE;
     let frame = pinned_frame(pins, area.memory, page);
     by_phase(device, &area.phase, frame, kind.denied())
 }
@@ -210,7 +210,7 @@ pub(crate) fn pinned_frame(pins: &[Pin], memory: u64, index: u64) -> Option<Fram
 fn is_beyond<A: Allocator>(config: &Config<A>, device: DeviceNo, address: u64) -> bool
     ensures { result ≡ option_map_or (λ d. nat_le (2 ^ bits_of d.width) address) (files.device_of config.now device) false }
 {
-    match devices::settings_of(config, device) {
+    match config.device(device) {
         Some(settings) => address >= settings.width().end(),
         None => false,
     }

@@ -9,7 +9,7 @@ ghost use Rattle.iommufd_core.specs.History.{HasOneMore, may_apply, passes_in, w
 ghost use Rattle.iommufd_core.specs.Server.{MayWant};
 
 use crate::state::State;
-use crate::{access, device_read, events, opening};
+use crate::{access, events, look, opening};
 use iofd_words::{
     AccessKind, Act, Answer, Config, DeviceNo, FrameList, FrameNo, Iova, NoMemory, PassNo, Query,
     Record, Reply,
@@ -102,8 +102,7 @@ impl<A: Allocator> Core<A> {
     pub fn look(&self, query: &Query) -> Answer
         ensures { IsLooked (answers_to self.now.history.settings self.now.history.records query.now) result }
     {
-        let (device, iova, len) = device_read::parts_of(query);
-        device_read::look(&self.state, device, iova, len)
+        look::look(&self.state, query)
     }
 
     /// Whether nothing refuses the device's access to so many bytes, and the policy lets it pass at this frame: the
@@ -118,7 +117,7 @@ impl<A: Allocator> Core<A> {
     ) -> bool
         ensures { result ≡ passes_in (world self.now.history) device iova len right frame }
     {
-        device_read::refusal(&self.state, device, iova, len).is_none()
+        access::refusal(&self.state, device, iova, usize::from(len)).is_none()
             && access::may_pass(&self.state, device, iova.0, right, frame)
     }
 

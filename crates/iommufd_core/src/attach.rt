@@ -15,7 +15,7 @@ ghost use Rattle.iommufd_core.specs.Step.{ShowsSame, Steps};
 
 use crate::held::Held;
 use crate::state::State;
-use crate::{attachments, devices, lookups, pins};
+use crate::{attachments, lookups, pins};
 use iofd_words::{
     Area, Attachment, Cause, Config, DeviceNo, FileNo, NoMemory, ObjId, ObjectKind, Reply, Width,
 };
@@ -121,7 +121,7 @@ pub(crate) fn commit<A: Allocator>(
 fn width_of<A: Allocator>(config: &Config<A>, device: DeviceNo) -> Option<Width>
     ensures { result ≡ words.width_of config.now device }
 {
-    Some(devices::settings_of(config, device)?.width())
+    Some(config.device(device)?.width())
 }
 
 /// Whether the file has as many objects as it may have.

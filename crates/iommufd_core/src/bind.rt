@@ -7,7 +7,6 @@ ghost use Rattle.iofd_words.specs.declared.event.Event.TheVariants as event;
 ghost use Rattle.iommufd_core.specs.Seen.{seen};
 ghost use Rattle.iommufd_core.specs.Step.{ShowsSame, Steps};
 
-use crate::devices::is_device;
 use crate::held::Held;
 use crate::state::State;
 use iofd_words::{Cause, DeviceNo, FileNo, NoMemory, Object, ObjectKind, Reply};
@@ -26,7 +25,7 @@ pub(crate) fn refusal<A: Allocator>(
     if !state.objects.is_open(file) {
         return Some(Cause::Id);
     }
-    if !is_device(&state.config, device) {
+    if !state.config.has_device(device) {
         return Some(Cause::Id);
     }
     if state.binding_of(device).is_some() {

@@ -11,9 +11,10 @@ ghost use Rattle.iommufd_core.specs.Seen.{seen};
 ghost use Rattle.iommufd_core.specs.Step.{ChosenSteps};
 
 use crate::state::State;
-use crate::{access, bytes, devices};
+use crate::{access, bytes};
 use iofd_words::{
-    AccessKind, Burst, Cause, Config, DeviceNo, Fault, FaultReason, FrameNo, Iova, Reply, SourceId,
+    AccessKind, Burst, Cause, Config, DeviceNo, Fault, FaultReason, FrameNo, Iova, PAGE_SIZE,
+    Reply, SourceId,
 };
 use std::alloc::Allocator;
 
@@ -42,7 +43,7 @@ pub(crate) fn fault_of<A: Allocator>(
 {
     Fault {
         source: source_of(config, device),
-        page: iova.0 / 4096,
+        page: iova.0 / PAGE_SIZE,
         kind,
         reason,
     }
@@ -51,7 +52,7 @@ pub(crate) fn fault_of<A: Allocator>(
 fn source_of<A: Allocator>(config: &Config<A>, device: DeviceNo) -> SourceId
     ensures { result ≡ option_map_or (λ d. d.source) (files.device_of config.now device) (record { 0 = 0 }) }
 {
-    match devices::settings_of(config, device) {
+    match config.device(device) {
         Some(settings) => settings.source(),
         None => SourceId(0),
     }
@@ -70,7 +71,7 @@ pub(crate) fn commit<A: Allocator>(
 {
     match access::given(state, device, iova.0, AccessKind::Write, via) {
         Ok(frame) => {
-            let start = bytes::start_of(frame) + iova.0 % 4096;
+            let start = bytes::start_of(frame) + iova.0 % PAGE_SIZE;
             bytes::put(&mut state.frames, start, bytes.as_slice());
             Reply::Passed(frame)
         }

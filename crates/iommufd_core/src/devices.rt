@@ -1,43 +1,18 @@
-//! Devices of the configuration, and those that are attached to an address space.
+//! The devices that are attached to an address space.
 
-ghost use Rattle.std.specs.Prelude.{◌≡◌, ◌==◌, ◌≤◌, true, false, IfSome, IfNone};
+ghost use Rattle.std.specs.Prelude.{◌≡◌, true, false, IfSome, IfNone};
 ghost use Rattle.std.specs.List.{list_all};
-ghost use Rattle.std.specs.Option.{option_copied};
 ghost use Rattle.iofd_words.specs.Attachments.{devices_of, is_attached_to};
 ghost use Rattle.iofd_words.specs.Files as files;
-ghost use Rattle.iofd_laws.specs.Fits.{devices_rise};
+ghost use Rattle.iofd_runs.specs.Fits.{devices_rise};
 ghost use Rattle.iommufd_core.specs.Held.{objects_in};
 ghost use Rattle.iommufd_core.specs.Mapping.{is_over};
 
 use crate::held::Held;
 use crate::lookups;
-use iofd_words::{
-    Attachment, Config, DeviceConfig, DeviceNo, DeviceSet, FileNo, ObjId, ObjectKind,
-};
+use iofd_words::{Attachment, Config, DeviceSet, FileNo, ObjId, ObjectKind};
 use object_table::ObjectTable;
 use std::alloc::Allocator;
-
-/// The settings of the device; None where there is no such device.
-pub(crate) fn settings_of<A: Allocator>(
-    config: &Config<A>,
-    device: DeviceNo,
-) -> Option<&DeviceConfig<A>>
-    ensures { option_copied result ≡ files.device_of config.now device }
-{
-    let place = usize::from(device.0).checked_sub(1)?;
-    config.devices().get(place)
-}
-
-/// Whether there is such a device. Its number is 1 to 256 then.
-pub(crate) fn is_device<A: Allocator>(config: &Config<A>, device: DeviceNo) -> bool
-    ensures value { result ≡ files.is_device config.now device }
-    ensures from { result ≡ true → 1 ≤ device.0 }
-    ensures to { result ≡ true → device.0 ≤ 256 }
-{
-    // Called for its contract alone: a configuration is within its limits, one of which is 256 devices.
-    config.pool();
-    settings_of(config, device).is_some()
-}
 
 /// The devices that are attached to the file's address space of this id. None where some attachment is of a device that
 /// there isn't.
@@ -55,7 +30,7 @@ pub(crate) fn attached_to<A: Allocator>(
     let mut devices = DeviceSet::new();
     for attachment in attachments {
         if is_attached_to(table, file, ioas, attachment) {
-            if !is_device(config, attachment.device) {
+            if !config.has_device(attachment.device) {
                 return None;
             }
             devices.insert(attachment.device);

@@ -10,6 +10,7 @@ ghost use Rattle.iommufd_core.specs.Step.{Answered, ChosenSteps, TidyShowsSame};
 use crate::state::State;
 use crate::{
     attach, bind, close, destroy, detach, device_write, flush, ioas_alloc, map, unmap, user_map,
+    user_unmap, user_write,
 };
 use iofd_words::{Act, Cause, Event, NoMemory, Refusal, Reply};
 use std::alloc::Allocator;
@@ -42,6 +43,8 @@ fn refusal<A: Allocator>(state: &State<A>, event: &Event) -> Option<Cause>
         Event::Destroy(file, id) => destroy::refusal(state, *file, *id),
         Event::Close(file) => close::refusal(state, *file),
         Event::UserMap(user, va) => user_map::refusal(state, *user, *va),
+        Event::UserUnmap(user, va) => user_unmap::refusal(state, *user, *va),
+        Event::UserWrite(user, va, bytes) => user_write::refusal(state, *user, *va, bytes),
         Event::Bind(file, device) => bind::refusal(state, *file, *device),
         Event::Attach(device, pt_id) => attach::refusal(state, *device, *pt_id),
         Event::Detach(device) => detach::refusal(state, *device),
@@ -65,6 +68,8 @@ fn commit<A: Allocator + Copy>(state: &mut State<A>, at: u64, act: &Act) -> Resu
         Event::Destroy(file, id) => Ok(destroy::commit(state, *file, *id)),
         Event::Close(file) => Ok(close::commit(state, *file)),
         Event::UserMap(user, va) => user_map::commit(state, *user, *va),
+        Event::UserUnmap(user, va) => Ok(user_unmap::commit(state, *user, *va)),
+        Event::UserWrite(user, va, bytes) => Ok(user_write::commit(state, *user, *va, bytes)),
         Event::Bind(file, device) => bind::commit(state, *file, *device),
         Event::Attach(device, pt_id) => attach::commit(state, *device, *pt_id),
         Event::Detach(device) => Ok(detach::commit(state, *device)),

@@ -18,6 +18,7 @@ mod events;
 mod flush;
 mod held;
 mod ioas_alloc;
+mod look;
 mod lookups;
 mod map;
 mod map_pins;
@@ -28,6 +29,10 @@ mod pins;
 mod spaces;
 mod state;
 mod unmap;
+mod user_access;
 mod user_map;
+mod user_read;
+mod user_unmap;
+mod user_write;
 
 pub use apply::{Core, Stamp};

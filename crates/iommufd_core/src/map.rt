@@ -15,14 +15,12 @@ ghost use Rattle.iommufd_core.specs.Held.{objects_in};
 
 use crate::state::State;
 use crate::{area_changes, lookups, map_pins};
-use area_map::{Areas, MOST_AREAS};
+use area_map::Areas;
 use iofd_words::{
-    Area, Cause, FileNo, MapRequest, MemoryObject, NoMemory, Phase, Reply, Span, UserNo,
+    Area, Cause, FileNo, MapRequest, MemoryObject, NoMemory, PAGE_SIZE, Phase, Reply, Span,
+    USER_END, UserNo,
 };
 use std::alloc::Allocator;
-
-/// The end of the users' addresses.
-const USER_END: u128 = 1 << 48;
 
 /// Why it is refused.
 #[tactic(auto, unfolding(iofd_words::specs::Checks::checks))]
@@ -73,7 +71,7 @@ pub(crate) fn commit<A: Allocator>(
     ensures err { OnErr result (TidyShowsSame at state.old state.new) }
 {
     // Nothing refuses it: so the file has a user, and the span is one of whole pages.
-    let Some(user) = map_pins::user_of(&state.config, file) else {
+    let Some(user) = state.config.user_of(file) else {
         return Ok(Reply::Done);
     };
     let Some(span) = mapped_span(request) else {
@@ -97,7 +95,7 @@ fn pinned_count<A: Allocator>(state: &State<A>, file: FileNo, request: MapReques
     ensures few { result ≤ 2 ^ 52 }
 {
     if lookups::has_hwpt(&state.objects, file, request.ioas) {
-        request.length / 4096
+        request.length / PAGE_SIZE
     } else {
         0
     }
@@ -124,7 +122,7 @@ fn memory_object(at: u64, user: UserNo, request: MapRequest) -> MemoryObject
         number: at,
         user,
         va: request.user_va,
-        count: request.length / 4096,
+        count: request.length / PAGE_SIZE,
         writable: request.flags.is_writeable(),
     }
 }
@@ -146,7 +144,7 @@ fn refusal_by_areas<A: Allocator>(
     if areas.meets(span) {
         return Some(Cause::Overlap);
     }
-    if is_full(areas) {
+    if areas.is_full() {
         return Some(Cause::Full);
     }
     if lacks_page(state, file, request) {
@@ -155,20 +153,16 @@ fn refusal_by_areas<A: Allocator>(
     None
 }
 
-/// Whether there are as many areas as an address space may have.
-fn is_full<A: Allocator>(areas: &Areas<A>) -> bool
-    ensures { result ≡ has_no_room areas.now.areas }
-{
-    areas.len() >= MOST_AREAS
-}
-
 /// The span that it maps. None where it isn't made of whole pages, or ends above 2^64 - 1.
 fn mapped_span(request: MapRequest) -> Option<Span>
     ensures value { IfSome result (λ span. span ≡ span_from request.iova.0 request.length) }
     ensures some { is_above_sum request.iova.0 request.length ≡ false
         → is_some result ≡ not (request.length == 0 || not (is_whole request.length && is_whole request.user_va && is_whole request.iova.0)) }
 {
-    if request.length % 4096 != 0 || request.user_va % 4096 != 0 || request.iova.0 % 4096 != 0 {
+    if request.length % PAGE_SIZE != 0
+        || request.user_va % PAGE_SIZE != 0
+        || request.iova.0 % PAGE_SIZE != 0
+    {
         return None;
     }
     Span::of_length(request.iova.0, request.length)
@@ -185,7 +179,7 @@ pub(crate) fn is_above_sum(start: u64, length: u64) -> bool
 fn is_above_user(start: u64, length: u64) -> bool
     ensures { result ≡ is_above_user start length }
 {
-    u128::from(start) + u128::from(length) > USER_END
+    u128::from(start) + u128::from(length) > u128::from(USER_END)
 }
 
 /// Whether the address space has a page table, and a page is not in the memory of the file's user.
@@ -195,7 +189,7 @@ fn lacks_page<A: Allocator>(state: &State<A>, file: FileNo, request: MapRequest)
     if !lookups::has_hwpt(&state.objects, file, request.ioas) {
         return false;
     }
-    match map_pins::user_of(&state.config, file) {
+    match state.config.user_of(file) {
         Some(user) => {
             !map_pins::has_pages(&state.user_pages, user, request.user_va, request.length)
         }

@@ -2,29 +2,20 @@
 
 ghost use Rattle.std.specs.Prelude.{◌≡◌, ◌/◌, ◌+◌, ◌≤◌, ◌^◌, ◌++◌, vec_len, vec_capacity};
 ghost use Rattle.iofd_words.specs.Checks.{has_pages};
-ghost use Rattle.iofd_words.specs.Files as files;
 ghost use Rattle.iofd_words.specs.Frames.{frame_at};
 ghost use Rattle.iofd_words.specs.Pages.{page_of};
 ghost use Rattle.iommufd_core.specs.Mapping.{first_pins, pin_at};
 
 use crate::pages;
-use iofd_words::{Config, FileNo, MemoryObject, Pin, UserNo, UserPage};
+use iofd_words::{MemoryObject, PAGE_SIZE, Pin, UserNo, UserPage};
 use std::alloc::Allocator;
-
-/// The user of the file, if there is such a file.
-pub(crate) fn user_of<A: Allocator>(config: &Config<A>, file: FileNo) -> Option<UserNo>
-    ensures { result ≡ files.user_of config.now file }
-{
-    let place = usize::from(file.0).checked_sub(1)?;
-    config.files().get(place).copied()
-}
 
 /// Whether the pages of this many bytes from the address on are in the user's memory.
 pub(crate) fn has_pages(pages: &[UserPage], user: UserNo, va: u64, length: u64) -> bool
     ensures { result ≡ has_pages (frame_at pages.now) user (page_of va) (length / 4096) }
 {
-    let first = va / 4096;
-    (first..first + length / 4096).all(|page| pages::frame_at(pages, user, page).is_some())
+    let first = va / PAGE_SIZE;
+    (first..first + length / PAGE_SIZE).all(|page| pages::frame_at(pages, user, page).is_some())
 }
 
 /// Appends the pins of the memory object's first pages, so many of them, each at the frame that is the page's
@@ -51,7 +42,7 @@ fn pin_at(pages: &[UserPage], object: MemoryObject, index: u64) -> Option<Pin>
     requires { index ≤ 2 ^ 52 }
     ensures { result ≡ pin_at pages.now object index }
 {
-    let frame = pages::frame_at(pages, object.user, object.va / 4096 + index)?;
+    let frame = pages::frame_at(pages, object.user, object.va / PAGE_SIZE + index)?;
     Some(Pin {
         memory: object.number,
         index,

@@ -10,24 +10,21 @@ ghost use Rattle.iommufd_core.specs.Step.{ChosenSteps, ShowsSame};
 
 use crate::state::State;
 use crate::{bytes, pages};
-use iofd_words::{Cause, NoMemory, Reply, UserNo, UserPage};
+use iofd_words::{Cause, NoMemory, PAGE_SIZE, Reply, USER_END, UserNo, UserPage};
 use std::alloc::Allocator;
-
-/// The end of the users' addresses.
-const USER_END: u64 = 1 << 48;
 
 /// Why it is refused.
 #[tactic(auto, using(crate::proofs::FreeFrames::has_free_frame), unfolding(iofd_words::specs::Checks::checks))]
 pub(crate) fn refusal<A: Allocator>(state: &State<A>, user: UserNo, va: u64) -> Option<Cause>
     ensures { result ≡ first_true (checks (seen state.now) (event.UserMap user va)) }
 {
-    if !pages::has_user(&state.config, user) {
+    if !state.config.has_user(user) {
         return Some(Cause::Id);
     }
-    if va % 4096 != 0 || va >= USER_END {
+    if va % PAGE_SIZE != 0 || va >= USER_END {
         return Some(Cause::Align);
     }
-    if pages::frame_at(&state.user_pages, user, va / 4096).is_some() {
+    if pages::frame_at(&state.user_pages, user, va / PAGE_SIZE).is_some() {
         return Some(Cause::Overlap);
     }
     if pages::free_frame(state.config.pool(), &state.user_pages, &state.pins).is_none() {
@@ -55,7 +52,7 @@ pub(crate) fn commit<A: Allocator>(
     bytes::clear(&mut state.frames, frame);
     state.user_pages.push_reserved(UserPage {
         user,
-        page: va / 4096,
+        page: va / PAGE_SIZE,
         frame,
     });
     Ok(Reply::Frame(frame))

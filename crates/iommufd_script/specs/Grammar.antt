@@ -46,12 +46,16 @@ step_keyword word = first_true (
     (step.Ioctl, bytes_eq word (codes "ioctl"))
     ∷ (step.Close, bytes_eq word (codes "close"))
     ∷ (step.UserMap, bytes_eq word (codes "umap"))
+    ∷ (step.UserUnmap, bytes_eq word (codes "uunmap"))
+    ∷ (step.UserRead, bytes_eq word (codes "uread"))
+    ∷ (step.UserWrite, bytes_eq word (codes "uwrite"))
     ∷ (step.Bind, bytes_eq word (codes "bind"))
     ∷ (step.Attach, bytes_eq word (codes "attach"))
     ∷ (step.Detach, bytes_eq word (codes "detach"))
     ∷ (step.Flush, bytes_eq word (codes "flush"))
     ∷ (step.DeviceRead, bytes_eq word (codes "dread"))
     ∷ (step.DeviceWrite, bytes_eq word (codes "dwrite"))
+    ∷ (step.FreeFrames, bytes_eq word (codes "free"))
     ∷ [])
 
 abbrev pub step_row : StepKeyword → Row Step
@@ -61,6 +65,21 @@ step_row step.Ioctl = record { kinds = Decimal 16 ∷ Hex 32 ∷ Bytes ∷ []; m
 step_row step.Close = record { kinds = Decimal 16 ∷ []; makes = λ file. made.Close (record { 0 = file }) }
 -- user, address
 step_row step.UserMap = record { kinds = Decimal 16 ∷ Hex 64 ∷ []; makes = λ user va. made.UserMap (record { 0 = user }) va }
+-- user, address
+step_row step.UserUnmap = record {
+  kinds = Decimal 16 ∷ Hex 64 ∷ [];
+  makes = λ user va. made.UserUnmap (record { 0 = user }) va;
+}
+-- user, address, how many bytes
+step_row step.UserRead = record {
+  kinds = Decimal 16 ∷ Hex 64 ∷ Length ∷ [];
+  makes = λ user va len. made.UserRead (record { 0 = user }) va len;
+}
+-- user, address, bytes
+step_row step.UserWrite = record {
+  kinds = Decimal 16 ∷ Hex 64 ∷ Access ∷ [];
+  makes = λ user va bytes. made.UserWrite (record { 0 = user }) va bytes;
+}
 -- file, device
 step_row step.Bind = record { kinds = Decimal 16 ∷ Decimal 16 ∷ []; makes = λ file device. made.Bind (record { 0 = file }) (record { 0 = device }) }
 -- device, id of an address space
@@ -73,6 +92,7 @@ step_row step.Flush = record { kinds = Decimal 16 ∷ []; makes = λ device. mad
 step_row step.DeviceRead = record { kinds = Decimal 16 ∷ Hex 64 ∷ Length ∷ []; makes = λ device iova len. made.DeviceRead (record { 0 = device }) (record { 0 = iova }) len }
 -- device, address, bytes
 step_row step.DeviceWrite = record { kinds = Decimal 16 ∷ Hex 64 ∷ Access ∷ []; makes = λ device iova bytes. made.DeviceWrite (record { 0 = device }) (record { 0 = iova }) bytes }
+step_row step.FreeFrames = record { kinds = []; makes = made.FreeFrames }
 
 -- ---- a line by its keyword
 

@@ -19,12 +19,16 @@ pub enum StepKeyword {
     Ioctl,
     Close,
     UserMap,
+    UserUnmap,
+    UserRead,
+    UserWrite,
     Bind,
     Attach,
     Detach,
     Flush,
     DeviceRead,
     DeviceWrite,
+    FreeFrames,
 }
 
 // The word of the head that this is.
@@ -56,6 +60,12 @@ pub fn step_keyword(word: &[u8]) -> Option<StepKeyword>
         Some(StepKeyword::Close)
     } else if word == b"umap".as_slice() {
         Some(StepKeyword::UserMap)
+    } else if word == b"uunmap".as_slice() {
+        Some(StepKeyword::UserUnmap)
+    } else if word == b"uread".as_slice() {
+        Some(StepKeyword::UserRead)
+    } else if word == b"uwrite".as_slice() {
+        Some(StepKeyword::UserWrite)
     } else if word == b"bind".as_slice() {
         Some(StepKeyword::Bind)
     } else if word == b"attach".as_slice() {
@@ -68,6 +78,8 @@ pub fn step_keyword(word: &[u8]) -> Option<StepKeyword>
         Some(StepKeyword::DeviceRead)
     } else if word == b"dwrite".as_slice() {
         Some(StepKeyword::DeviceWrite)
+    } else if word == b"free".as_slice() {
+        Some(StepKeyword::FreeFrames)
     } else {
         None
     }

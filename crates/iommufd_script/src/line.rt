@@ -27,6 +27,12 @@ pub enum Step<'a> {
     Close(FileNo),
     /// Gives a user a page at this user address.
     UserMap(UserNo, u64),
+    /// Takes the page at this user address out of a user's memory.
+    UserUnmap(UserNo, u64),
+    /// A user reads so many bytes of its memory, 1 to 64.
+    UserRead(UserNo, u64, u8),
+    /// A user writes these bytes to its memory.
+    UserWrite(UserNo, u64, Burst),
     /// Binds a device to a file.
     Bind(FileNo, DeviceNo),
     /// Attaches a device to the address space of this id.
@@ -39,6 +45,8 @@ pub enum Step<'a> {
     DeviceRead(DeviceNo, Iova, u8),
     /// A device writes these bytes.
     DeviceWrite(DeviceNo, Iova, Burst),
+    /// How many frames are free.
+    FreeFrames,
 }
 
 /// A line of a script.

@@ -95,6 +95,35 @@ fn umap<'a>(fields: Fields<'a>) -> Option<Step<'a>>
     fields.end(Step::UserMap(UserNo(user), address))
 }
 
+// `uunmap <user> <x>`
+fn uunmap<'a>(fields: Fields<'a>) -> Option<Step<'a>>
+    ensures { result ≡ step_at step.UserUnmap fields.entry }
+{
+    let (user, fields) = fields.decimal_u16()?;
+    let (address, fields) = fields.hexadecimal_u64()?;
+    fields.end(Step::UserUnmap(UserNo(user), address))
+}
+
+// `uread <user> <x> <len>`
+fn uread<'a>(fields: Fields<'a>) -> Option<Step<'a>>
+    ensures { result ≡ step_at step.UserRead fields.entry }
+{
+    let (user, fields) = fields.decimal_u16()?;
+    let (address, fields) = fields.hexadecimal_u64()?;
+    let (length, fields) = fields.length()?;
+    fields.end(Step::UserRead(UserNo(user), address, length))
+}
+
+// `uwrite <user> <x> <h>`
+fn uwrite<'a>(fields: Fields<'a>) -> Option<Step<'a>>
+    ensures { result ≡ step_at step.UserWrite fields.entry }
+{
+    let (user, fields) = fields.decimal_u16()?;
+    let (address, fields) = fields.hexadecimal_u64()?;
+    let (bytes, fields) = fields.access()?;
+    fields.end(Step::UserWrite(UserNo(user), address, bytes))
+}
+
 // `bind <file> <device>`
 fn bind<'a>(fields: Fields<'a>) -> Option<Step<'a>>
     ensures { result ≡ step_at step.Bind fields.entry }
@@ -149,6 +178,13 @@ fn dwrite<'a>(fields: Fields<'a>) -> Option<Step<'a>>
     fields.end(Step::DeviceWrite(DeviceNo(device), Iova(iova), bytes))
 }
 
+// `free`
+fn free<'a>(fields: Fields<'a>) -> Option<Step<'a>>
+    ensures { result ≡ step_at step.FreeFrames fields.entry }
+{
+    fields.end(Step::FreeFrames)
+}
+
 // A step, by its word and the fields behind it.
 #[tactic(auto)]
 fn step<'a>(keyword: StepKeyword, fields: Fields<'a>) -> Option<Step<'a>>
@@ -158,12 +194,16 @@ fn step<'a>(keyword: StepKeyword, fields: Fields<'a>) -> Option<Step<'a>>
         StepKeyword::Ioctl => ioctl(fields),
         StepKeyword::Close => close(fields),
         StepKeyword::UserMap => umap(fields),
+        StepKeyword::UserUnmap => uunmap(fields),
+        StepKeyword::UserRead => uread(fields),
+        StepKeyword::UserWrite => uwrite(fields),
         StepKeyword::Bind => bind(fields),
         StepKeyword::Attach => attach(fields),
         StepKeyword::Detach => detach(fields),
         StepKeyword::Flush => flush(fields),
         StepKeyword::DeviceRead => dread(fields),
         StepKeyword::DeviceWrite => dwrite(fields),
+        StepKeyword::FreeFrames => free(fields),
     }
 }
 

@@ -6,7 +6,7 @@ use Rattle.std.specs.declared.sync.Arc.{Arc}
 use Rattle.atomic_table.specs.Table.{rest}
 use Rattle.lane_lock.specs.declared.table.View.{View}
 use Rattle.lane_lock.specs.declared.refusal.Busy.{Busy}
-use Rattle.lane_lock.specs.Outcomes.{Stops}
+use Rattle.lane_lock.specs.Outcomes.{MetHeld, Stops}
 use Rattle.lane_lock.specs.Rule.{Names}
 use Rattle.lane_lock.proofs.Keeps.{names_some}
 use Rattle.lane_lock.specs.Hands.{Shows, Stack, Climbed, Lowered}
@@ -76,10 +76,23 @@ module _ {K E Z : Type 0} where
   is_share hist v k None some pin s = some
   is_share hist v k (Some a) some pin s = (pin, s)
 
+-- the first lane of a take was met held
+pub met : {K E Z : Type 0} (m m' : Mine K E Z) (lane found holder : ℕ) → m' ≡ (noted m.0 lane found, m.1)
+    → Names holder found → (Names m.0.number found → get_or m.0.held lane 0 ≡ found)
+    → ((q : ℕ) → Names q found → q < m.0.passes) → MetHeld m.0 m'.0 lane holder
+met {K} {E} {Z} m m' lane found holder now names own few = record {
+  counted = ap (λ (u : Mine K E Z). u.0.busy) now;
+  noted = ap (λ (u : Mine K E Z). u.0.lane) now;
+  by_holder = subst (Names holder) (sym (ap (λ (u : Mine K E Z). u.0.word) now)) names;
+  among = few holder names;
+  own = λ e z. names_some holder found names (sym (own (subst (λ (p : ℕ). Names p found) e names)) ∙ z);
+}
+
 module _ {K E Z : Type 0} (hist : K → List E) where
   pub stops : (m before m' : Mine K E Z) (w found : ℕ) (b : Busy) → 0 < b.lane → Climbed hist m w (b.lane - 1) before → m' ≡ (noted before.0 b.lane found, before.1) → Names b.holder.0 found
-      → (Names before.0.number found → get_or before.0.held b.lane 0 ≡ found) → Stops hist m w b m'
-  stops m before m' w found b some c now names own = record {
+      → (Names before.0.number found → get_or before.0.held b.lane 0 ≡ found)
+      → ((q : ℕ) → Names q found → q < before.0.passes) → Stops hist m w b m'
+  stops m before m' w found b some c now names own few = record {
     above = some;
     before = before;
     climbed = c;
@@ -88,6 +101,7 @@ module _ {K E Z : Type 0} (hist : K → List E) where
     met = record {
       counted = ap (λ (u : Mine K E Z). u.0.busy) now ∙ ap (λ (v : View E). v.busy + 1) c.view;
       noted = ap (λ (u : Mine K E Z). u.0.lane) now;
+      among = subst (λ (n : ℕ). b.holder.0 < n) (ap (λ (v : View E). v.passes) c.view) (few b.holder.0 names);
       by_holder = subst (Names b.holder.0) (sym (ap (λ (u : Mine K E Z). u.0.word) now)) names;
       own = λ e z. names_some b.holder.0 found names (sym (own (subst (λ (p : ℕ). Names p found) (e ∙ sym (ap (λ (v : View E). v.number) c.view)) names)) ∙ (c.else_same b.lane (inr (omega arith)) ∙ z));
     };

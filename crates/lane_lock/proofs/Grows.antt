@@ -106,7 +106,7 @@ module _ {K E : Type 0} (Z : Type 0) (hist : K → List E) (by : E → ℕ) (key
               has s r id i o.0 pin d h' at e there (subst (Has s.views (r.seat o.0) o.0 i) (sym same) o.3),
             ));
         each = λ j v e. ⊎_elim
-            (λ (t : (j ≡ id) × (w ≡ v)). subst (λ (c : ℕ × V). Knows by key.lanes key.passes base r.seat h' (set s.words 0 0) c.0 c.1) (λ q. (sym t.0 q, t.1 q)) record {
+            (λ (t : (j ≡ id) × (w ≡ v)). subst (λ (c : ℕ × V). Knows by key.lanes key.passes (hist key.value.value) r.seat h' (set s.words 0 0) c.0 c.1) (λ q. (sym t.0 q, t.1 q)) record {
               begins = ([], sym (append-nil h'));
               stands = λ _. (std.0, std.1, std.2, length-set d.held 0 0 ∙ std.3, record { begins = ([], sym (append-nil h')); makes = mine_now ∙ fresh; inside = mine_now ∙ fresh });
               others = λ i o e. absurd (some-ne-none o (sym e ∙ ap (λ (l : List (Known E)). get_elem? l i) alone));
@@ -114,7 +114,7 @@ module _ {K E : Type 0} (Z : Type 0) (hist : K → List E) (by : E → ℕ) (key
                   (λ e. let now = get_or-set_other d.held 0 i 0 0 e in let h = mine.held i (λ z. n (now ∙ z)) in (get_or-set_other s.words 0 i 0 0 e ∙ (h.0 ∙ sym now), up, subst (Names d.number) (sym now) h.2));
               pin = λ n. (refl, keeps_pin n);
             })
-            (λ (t : (j ≢ id) × (get_elem? s.views j ≡ some v)). subst (λ l. Knows by key.lanes key.passes base r.seat l (set s.words 0 0) j v) (sym next) (rests s r id j d v x at up all base_le made t.0 t.1)) (at_set s.views id j w v e);
+            (λ (t : (j ≢ id) × (get_elem? s.views j ≡ some v)). subst (λ l. Knows by key.lanes key.passes (hist key.value.value) r.seat l (set s.words 0 0) j v) (sym next) (rests s r id j d v x at up all base_le made t.0 t.1)) (at_set s.views id j w v e);
         foreign = λ p le. ap (λ l. made_by by p (drop base l)) next ∙ (makes_on by p base r.history x base_le ∙ (λ i. r.foreign p le i ++ made_none by p x (λ e. let lt = std.0 in omega arith) i));
       }
     where
@@ -126,7 +126,7 @@ module _ {K E : Type 0} (Z : Type 0) (hist : K → List E) (by : E → ℕ) (key
           absurd (other (sym ((r.each j v there).stands theirs.1).1 ∙ (ap r.seat same ∙ (mine.stands up).1))))
 
       rests : (s : St) (r : Rule s) (id j : ℕ) (d v : V) (x : E) → get_elem? s.views id ≡ some d → d.stands ≡ true → ((k : ℕ) → k < key.lanes → get_or d.held k 0 ≢ 0) → base ≤ length r.history → by x ≡ d.number
-          → j ≢ id → get_elem? s.views j ≡ some v → Knows by key.lanes key.passes base r.seat (r.history ++ x ∷ []) (set s.words 0 0) j v
+          → j ≢ id → get_elem? s.views j ≡ some v → Knows by key.lanes key.passes (hist key.value.value) r.seat (r.history ++ x ∷ []) (set s.words 0 0) j v
       rests s r id j d v x at up all le made other there = let o = r.each j v there in let std = (r.each id d at).stands up in record {
         begins = begins_on by r.history v.seen x o.begins;
         stands = λ z. let t = o.stands z in (t.0, t.1, t.2, t.3, legal_on by base v.number r.history v.seen v.made x le (λ e. other (sym t.1 ∙ (ap r.seat (sym e ∙ made) ∙ std.1))) t.4);

@@ -67,7 +67,7 @@ module _ {K E : Type 0} (Z : Type 0) (hist : K → List E) (by : E → ℕ) (key
   base = length (hist key.value.value)
 
   abbrev Known' : (s : St) → Rule s → List ℕ → ℕ → V → Type 0
-  Known' s r words j v = Knows by key.lanes key.passes base r.seat r.history words j v
+  Known' s r words j v = Knows by key.lanes key.passes (hist key.value.value) r.seat r.history words j v
 
   -- what another seat knows stays so, where the word of lane k was 0 or named the pass p of another seat
   others_stay : (s : St) (r : Rule s) (id p k x j : ℕ) (v : V) → r.seat p ≡ id → j ≢ id → (get_or s.words k 0 ≡ 0) ⊎ Names p (get_or s.words k 0) → Known' s r s.words j v → Known' s r (set s.words k x) j v
@@ -220,7 +220,19 @@ module _ {K E : Type 0} (Z : Type 0) (hist : K → List E) (by : E → ℕ) (key
             (λ n. (sym now, pinned_by d.held k w some_word (λ z. some_word (sym held_now ∙ (ap (λ (i : ℕ). get_or (set d.held k w) i 0) (let e : k ≡ (k + 1) - 1 = omega arith in e) ∙ z))) d.pin (λ q. (mine.pin q).1)))
             (length-set s.homes k none) (λ j e. set_else s.homes k j none e) (λ z. absurd (some_word z)) (λ _. set_here s.homes k none (omega arith))
             (λ a e. absurd (gone s.homes k (Some a) (omega arith) e)) (λ z e. absurd (gone s.homes k None (omega arith) (ap (get_elem? (set s.homes k none)) z ∙ e))),
-        (Some b, refl, (refl, subst (λ h. StartsWith h d.seen) (sym now) mine.begins, subst (λ (n : ℕ). made_by by d.number (drop n (hist (arc_value b))) ≡ d.made) (sym std.2) legal, λ n. now ∙ (mine.pin n).0), blank),
+        (
+          Some b,
+          refl,
+          (
+            refl,
+            subst (λ h. StartsWith h d.seen) (sym now) mine.begins,
+            subst (λ (o : List E). made_by by d.number (drop (length o) (hist (arc_value b))) ≡ d.made) (sym std.2.0) legal,
+            (λ n. now ∙ (mine.pin n).0),
+            subst (λ (o : List E). StartsWith (hist (arc_value b)) o) (sym std.2.0)
+                (subst (λ h. StartsWith h (hist key.value.value)) (sym now) r.opened),
+          ),
+          blank,
+        ),
       )
 
   -- steps 1 and 3
@@ -239,10 +251,12 @@ module _ {K E : Type 0} (Z : Type 0) (hist : K → List E) (by : E → ℕ) (key
           λ _. (
             refl,
             (o.0, (let lt = o.1 in omega arith), o.2),
-            λ mine. let there = o.3 in
+            (λ mine. let there = o.3 in
                 let same : o.0 ≡ me.0.number = names_one o.0 me.0.number n o.2 mine in let std = (r.each id me.0 at).stands up in
                 let here : r.seat o.0 ≡ id = ap r.seat same ∙ std.1 in
-                let one : there.0 ≡ me.0 = some-injective there.0 me.0 (sym there.1 ∙ (ap (get_elem? s.views) here ∙ at)) in ap (λ (c : V). get_or c.held k 0) (sym one) ∙ there.4,
+                let one : there.0 ≡ me.0 = some-injective there.0 me.0 (sym there.1 ∙ (ap (get_elem? s.views) here ∙ at)) in ap (λ (c : V). get_or c.held k 0) (sym one) ∙ there.4),
+            λ q named. subst (λ (n : ℕ). n < me.0.passes) (names_one o.0 q n o.2 named)
+                (subst (λ (m : ℕ). o.0 < m) (sym ((r.each id me.0 at).stands up).2.1) o.1),
           ),
         ),
       ))

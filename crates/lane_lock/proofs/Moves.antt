@@ -106,7 +106,7 @@ module _ {K E : Type 0} (Z : Type 0) (hist : K → List E) (by : E → ℕ) (key
     filled = r.filled;
     named = λ k n. let o = r.named k n in let h = o.3 in (o.0, o.1, o.2, (h.0, at_longer (set s.views id v) (note v ∷ []) (r.seat o.0) h.0 (ap (λ (l : List V). get_elem? l (r.seat o.0)) (set_again s.views id v at) ∙ h.1), h.2, h.3, h.4));
     each = λ j w e. ⊎_elim (λ (h : get_elem? (set s.views id v) j ≡ some w). r.each j w (ap (λ (l : List V). get_elem? l j) (sym (set_again s.views id v at)) ∙ h))
-        (λ (t : (j ≡ length (set s.views id v)) × (note v ≡ w)). subst (λ (u : V). Knows by key.lanes key.passes base r.seat r.history s.words j u) t.1 record {
+        (λ (t : (j ≡ length (set s.views id v)) × (note v ≡ w)). subst (λ (u : V). Knows by key.lanes key.passes (hist key.value.value) r.seat r.history s.words j u) t.1 record {
           begins = (r.each id v at).begins;
           stands = λ z. cc;
           others = λ i o e. absurd (some-ne-none o (sym e));
@@ -121,9 +121,9 @@ module _ {K E : Type 0} (Z : Type 0) (hist : K → List E) (by : E → ℕ) (key
       let seat' : ℕ → ℕ = put r.seat o.number n in
       let first : get_elem? v.others 0 ≡ some o = ap (λ (l : List (Known E)). get_elem? l 0) apart.1 in
       let theirs = mine.others 0 o first in
-      let fresh : first_alone v ≡ alone v.base (length v.held) (o ∷ tail v.others) = ap (alone v.base (length v.held)) apart.1 in
+      let fresh : first_alone v ≡ alone v.opening v.passes (length v.held) (o ∷ tail v.others) = ap (alone v.opening v.passes (length v.held)) apart.1 in
       let there = at_inside s.views id v at in
-      let K' : ℕ → V → Type 0 = Knows by key.lanes key.passes base seat' r.history s.words in
+      let K' : ℕ → V → Type 0 = Knows by key.lanes key.passes (hist key.value.value) seat' r.history s.words in
       let alike : (q : ℕ) → q ≢ o.number → seat' q ≡ r.seat q = λ q ne. put_else r.seat o.number n q ne in
       record {
         history = r.history;
@@ -212,7 +212,7 @@ module _ {K E : Type 0} (Z : Type 0) (hist : K → List E) (by : E → ℕ) (key
         filled = r.filled;
         named = λ k n. let o = r.named k n in (o.0, o.1, o.2, has (r.seat o.0) o.0 k (get_or s.words k 0) both refl refl refl inside theirs o.3);
         each = λ j w e. ⊎_elim
-            (λ (t : (j ≡ other) × (note_of [] ≡ w)). subst (λ (u : V). Knows by key.lanes key.passes base r.seat r.history s.words j u) t.1 record {
+            (λ (t : (j ≡ other) × (note_of [] ≡ w)). subst (λ (u : V). Knows by key.lanes key.passes (hist key.value.value) r.seat r.history s.words j u) t.1 record {
               begins = (r.history, refl);
               stands = λ z. cc;
               others = λ i o f. absurd (some-ne-none o (sym f));
@@ -220,7 +220,7 @@ module _ {K E : Type 0} (Z : Type 0) (hist : K → List E) (by : E → ℕ) (key
               pin = λ n. absurd (n refl);
             })
             (λ (t : (j ≢ other) × (get_elem? (set s.views id both) j ≡ some w)). ⊎_elim
-            (λ (u : (j ≡ id) × (both ≡ w)). subst (λ (c : ℕ × V). Knows by key.lanes key.passes base r.seat r.history s.words c.0 c.1) (λ q. (sym u.0 q, u.1 q)) record {
+            (λ (u : (j ≡ id) × (both ≡ w)). subst (λ (c : ℕ × V). Knows by key.lanes key.passes (hist key.value.value) r.seat r.history s.words c.0 c.1) (λ q. (sym u.0 q, u.1 q)) record {
               begins = (legal_longer v.number r.history v.seen seen v.made (mine.stands up).4 told).begins;
               stands = λ z. let x = mine.stands z in (x.0, x.1, x.2, x.3, legal_longer v.number r.history v.seen seen v.made x.4 told);
               others = mine.others;
@@ -262,7 +262,7 @@ module _ {K E : Type 0} (Z : Type 0) (hist : K → List E) (by : E → ℕ) (key
       let seat' : ℕ → ℕ = put r.seat w.number id in
       let inside : id < length s.views = at_inside s.views id v at in
       let alike : (q : ℕ) → q ≢ w.number → seat' q ≡ r.seat q = λ q ne. put_else r.seat w.number id q ne in
-      let K' : ℕ → V → Type 0 = Knows by key.lanes key.passes base seat' r.history s.words in
+      let K' : ℕ → V → Type 0 = Knows by key.lanes key.passes (hist key.value.value) seat' r.history s.words in
       let else_where : (q j : ℕ) → j ≢ other → r.seat q ≡ j → q ≢ w.number = λ q j ne at_j e. ne (sym at_j ∙ (ap r.seat e ∙ std.1)) in
       record {
         history = r.history;

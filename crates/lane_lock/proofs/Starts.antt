@@ -59,9 +59,9 @@ module _ {K E : Type 0} (Z : Type 0) (hist : K → List E) (by : E → ℕ) (key
     shown = λ k a e. o.shares k a (unmap slots k (Some a) e);
     filled = λ e. o.first (unmap slots 0 None e);
     named = λ k n. absurd (n (o.blank k));
-    each = λ j v e. let t = only (starting hist key) v j e in subst (λ (c : ℕ × View E). Knows by key.lanes key.passes (length H) (λ _. 0) H words c.0 c.1) (λ i. (sym t.0 i, t.1 i)) record {
+    each = λ j v e. let t = only (starting hist key) v j e in subst (λ (c : ℕ × View E). Knows by key.lanes key.passes H (λ _. 0) H words c.0 c.1) (λ i. (sym t.0 i, t.1 i)) record {
       begins = (H, refl);
-      stands = λ _. ((let q : key.passes - 1 < key.passes = omega arith in q), refl, refl, length-replicate key.lanes 0, fresh (key.passes - 1));
+      stands = λ _. ((let q : key.passes - 1 < key.passes = omega arith in q), refl, (refl, refl), length-replicate key.lanes 0, fresh (key.passes - 1));
       others = λ i u f. let c = crowd_at 0 (key.passes - 1) i u f in let lt = c.0 in (
         (let q : u.number < key.passes = omega arith in q),
         refl,
@@ -102,9 +102,9 @@ crowd_above p (suc n) (suc i) o e = let h = crowd_above (p + 1) n i o e in omega
 pub crowd_cut : {E : Type 0} (i last : ℕ) → i < last → crowd {E = E} i (last - i) ≡ record { number = i; seen = []; made = [] } ∷ crowd (i + 1) (last - (i + 1))
 crowd_cut {E} i last lt = let n : last - i ≡ suc (last - (i + 1)) = omega arith in ap (crowd {E = E} i) n
 
-module _ {E : Type 0} (base lanes i last : ℕ) (lt : i < last) where
+module _ {E : Type 0} (opening : List E) (passes lanes i last : ℕ) (lt : i < last) where
   abbrev Before : View E
-  Before = newcomer last base lanes (crowd i (last - i))
+  Before = newcomer last opening passes lanes (crowd i (last - i))
 
   apart : HasApart Before
   apart = let c = crowd_cut {E = E} i last lt in (
@@ -114,20 +114,20 @@ module _ {E : Type 0} (base lanes i last : ℕ) (lt : i < last) where
     λ k u e n. let h = crowd_above (i + 1) (last - (i + 1)) k u (sym (ap (λ (l : List (Known E)). get_elem? l k) (ap tail c)) ∙ e) in omega arith,
   )
 
-  cut_off : first_alone Before ≡ newcomer i base lanes []
-  cut_off = ap (alone base (length (replicate lanes 0))) (crowd_cut {E = E} i last lt) ∙ ap (λ (n : ℕ). newcomer {E = E} i base n []) (length-replicate lanes 0)
+  cut_off : first_alone Before ≡ newcomer i opening passes lanes []
+  cut_off = ap (alone opening passes (length (replicate lanes 0))) (crowd_cut {E = E} i last lt) ∙ ap (λ (n : ℕ). newcomer {E = E} i opening passes n []) (length-replicate lanes 0)
 
-  left_over : without_one Before ≡ newcomer last base lanes (crowd (i + 1) (last - (i + 1)))
-  left_over = ap (λ (l : List (Known E)). newcomer last base lanes (tail l)) (crowd_cut {E = E} i last lt)
+  left_over : without_one Before ≡ newcomer last opening passes lanes (crowd (i + 1) (last - (i + 1)))
+  left_over = ap (λ (l : List (Known E)). newcomer last opening passes lanes (tail l)) (crowd_cut {E = E} i last lt)
 
   module _ {A : Type 0} (m : View E × List A) (is : m ≡ (Before, [])) where
     pub apart_in : (m.0.stands ≡ true) × HasApart m.0
     apart_in = subst (λ (u : View E × List A). (u.0.stands ≡ true) × HasApart u.0) (sym is) (refl, apart)
 
-    pub cut_off_in : first_alone m.0 ≡ newcomer i base lanes []
+    pub cut_off_in : first_alone m.0 ≡ newcomer i opening passes lanes []
     cut_off_in = ap (λ (u : View E × List A). first_alone u.0) is ∙ cut_off
 
-    pub left_over_in : (w : View E × List A) → w ≡ (without_one m.0, m.1) → w ≡ (newcomer last base lanes (crowd (i + 1) (last - (i + 1))), [])
+    pub left_over_in : (w : View E × List A) → w ≡ (without_one m.0, m.1) → w ≡ (newcomer last opening passes lanes (crowd (i + 1) (last - (i + 1))), [])
     left_over_in w e = e ∙ (ap (λ (u : View E × List A). (without_one u.0, u.1)) is ∙ ap (λ (v : View E). (v, [])) left_over)
 
 pub zeros_within : (n m k : ℕ) → get_or {A = ℕ} (take n (replicate m 0)) k 0 ≡ 0

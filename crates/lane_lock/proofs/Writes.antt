@@ -47,12 +47,13 @@ module _ {K E Z : Type 0} (hist : K → List E) (by : E → ℕ) where
     pub later : StartsWith (hist (arc_value a)) m.0.seen
     pub legal : IsLegal by (seeing m.0 0 w (hist (arc_value a)))
     pub free : get_or m.0.held 0 0 ≡ 0
+    pub opened : StartsWith (hist (arc_value a)) m.0.opening
 
   pub took_first : (m m' m'' : Mine K E Z) (w : ℕ) (x : Option (Arc K Z)) (a : Arc K Z) → m'.1 ≡ (0, x) ∷ m.1 → Takes hist by m.0 0 w x m'.0 → m'.1 ≡ (0, Some a) ∷ rest m'.1
       → m'' ≡ (m'.0, (0, None) ∷ rest m'.1) → get_or m.0.held 0 0 ≡ 0 → TookFirst m w a m''
   took_first m m' m'' w x a hand takes top now free =
       let t = subst (λ (y : Option (Arc K Z)). Takes hist by m.0 0 w y m'.0) (top_is 0 x (Some a) m'.1 m.1 (rest m'.1) hand top) takes in
-      record { is = now ∙ (λ i. (t.0 i, (0, None) ∷ ap rest hand i)); later = t.1; legal = subst (IsLegal by) t.0 t.2; free = free }
+      record { is = now ∙ (λ i. (t.0 i, (0, None) ∷ ap rest hand i)); later = t.1; legal = subst (IsLegal by) t.0 t.2; free = free; opened = t.4 }
 
   module _ (m m' : Mine K E Z) (w : ℕ) (a : Arc K Z) (f : TookFirst m w a m') where
     first_else : (k : ℕ) → 0 < k → get_or m'.0.held k 0 ≡ get_or m.0.held k 0
@@ -72,6 +73,8 @@ module _ {K E Z : Type 0} (hist : K → List E) (by : E → ℕ) where
         record {
           there = refl;
           shows = sym (same ∙ seen);
+          opened = let opening : m''.0.opening ≡ m.0.opening = ap (λ (v : View E). v.opening) c.view ∙ ap (λ (u : Mine K E Z). u.0.opening) f.is in
+              subst (λ (s : List E). StartsWith s m''.0.opening) (sym (same ∙ seen)) (subst (StartsWith (hist (arc_value a))) (sym opening) f.opened);
           legal = subst (IsLegal by) (sym c.view) (subst (λ (u : Mine K E Z). IsLegal by (record u.0 { held = m''.0.held })) (sym f.is) f.legal);
           stack = subst (λ (s : List E). Stack (Shows hist s) (lanes - 1) m''.1 ((0, None) ∷ [])) (sym same)
               (subst (Stack (Shows hist m'.0.seen) (lanes - 1) m''.1) (ap (λ (u : Mine K E Z). u.1) f.is ∙ ap (λ l. (0, None) ∷ l) none) c.stack);
@@ -123,15 +126,16 @@ module _ {K E Z : Type 0} (hist : K → List E) (by : E → ℕ) where
 
         -- the rest of the view: what was seen is what lane 0 showed, and no lane pins it
         pub stopped_rest : (l5 : Mine K E Z) → l5.0 ≡ freed l4.0 0 0
-            → (l5.0.stands ≡ m.0.stands) × (l5.0.number ≡ m.0.number) × (l5.0.base ≡ m.0.base) × (l5.0.others ≡ m.0.others) × (l5.0.made ≡ m.0.made) × (l5.0.seen ≡ hist (arc_value a)) × (l5.0.pin ≡ 0)
+            → (l5.0.stands ≡ m.0.stands) × (l5.0.number ≡ m.0.number) × (l5.0.opening ≡ m.0.opening) × (l5.0.others ≡ m.0.others) × (l5.0.made ≡ m.0.made) × (l5.0.seen ≡ hist (arc_value a)) × (l5.0.pin ≡ 0) × (l5.0.passes ≡ m.0.passes)
         stopped_rest l5 now = (
           ap (λ (v : View E). v.stands) now ∙ (ap (λ (v : View E). v.stands) low.view ∙ (ap (λ (v : View E). v.stands) same_but_held ∙ ap (λ (u : Mine K E Z). u.0.stands) f.is)),
           ap (λ (v : View E). v.number) now ∙ (ap (λ (v : View E). v.number) low.view ∙ (ap (λ (v : View E). v.number) same_but_held ∙ ap (λ (u : Mine K E Z). u.0.number) f.is)),
-          ap (λ (v : View E). v.base) now ∙ (ap (λ (v : View E). v.base) low.view ∙ (ap (λ (v : View E). v.base) same_but_held ∙ ap (λ (u : Mine K E Z). u.0.base) f.is)),
+          ap (λ (v : View E). v.opening) now ∙ (ap (λ (v : View E). v.opening) low.view ∙ (ap (λ (v : View E). v.opening) same_but_held ∙ ap (λ (u : Mine K E Z). u.0.opening) f.is)),
           ap (λ (v : View E). v.others) now ∙ (ap (λ (v : View E). v.others) low.view ∙ (ap (λ (v : View E). v.others) same_but_held ∙ ap (λ (u : Mine K E Z). u.0.others) f.is)),
           ap (λ (v : View E). v.made) now ∙ (ap (λ (v : View E). v.made) low.view ∙ (ap (λ (v : View E). v.made) same_but_held ∙ ap (λ (u : Mine K E Z). u.0.made) f.is)),
           ap (λ (v : View E). v.seen) now ∙ (ap (λ (v : View E). v.seen) low.view ∙ (ap (λ (v : View E). v.seen) same_but_held ∙ ap (λ (u : Mine K E Z). u.0.seen) f.is)),
           ap (λ (v : View E). v.pin) now,
+          ap (λ (v : View E). v.passes) now ∙ (ap (λ (v : View E). v.passes) low.view ∙ (ap (λ (v : View E). v.passes) same_but_held ∙ ap (λ (u : Mine K E Z). u.0.passes) f.is)),
         )
 
 module _ {K E Z : Type 0} where
@@ -214,7 +218,8 @@ module _ {K E Z : Type 0} where
 pub appended : {K E Z : Type 0} (by : E → ℕ) (m m' : Mine K E Z) (v : View E) (h : List E) (r : E) → AllBack m h m' → m.0 ≡ v → h ≡ v.seen ++ r ∷ [] → by r ≡ v.number → Appends by v m'.0 r
 appended {E = E} by m m' v h r back is grown maker = record {
   number = ap (λ (u : View E). u.number) back.view ∙ ap (λ (u : View E). u.number) is;
-  base = ap (λ (u : View E). u.base) back.view ∙ ap (λ (u : View E). u.base) is;
+  opening = ap (λ (u : View E). u.opening) back.view ∙ ap (λ (u : View E). u.opening) is;
+  passes = ap (λ (u : View E). u.passes) back.view ∙ ap (λ (u : View E). u.passes) is;
   seen = ap (λ (u : View E). u.seen) back.view ∙ grown;
   made = ap (λ (u : View E). u.made) back.view ∙ (ap (λ (u : View E). u.made ++ drop (length u.seen) h) is ∙ (ap (λ l. v.made ++ drop (length v.seen) l) grown ∙ ap (λ l. v.made ++ l) (drop-append_seam v.seen (r ∷ []))));
   maker = maker;

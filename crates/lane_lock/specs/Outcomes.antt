@@ -15,14 +15,16 @@ module _ {E : Type 0} where
   -- the pass made no record, and has seen no less
   pub record OnlySees (v w : View E) : Type 0 where
     pub number : w.number ≡ v.number
-    pub base : w.base ≡ v.base
+    pub opening : w.opening ≡ v.opening
+    pub passes : w.passes ≡ v.passes
     pub made : w.made ≡ v.made
     pub later : StartsWith w.seen v.seen
 
   -- the pass made no record, and has seen what it had seen
   pub record KeepsHistory (v w : View E) : Type 0 where
     pub number : w.number ≡ v.number
-    pub base : w.base ≡ v.base
+    pub opening : w.opening ≡ v.opening
+    pub passes : w.passes ≡ v.passes
     pub made : w.made ≡ v.made
     pub seen : w.seen ≡ v.seen
 
@@ -30,11 +32,13 @@ module _ {E : Type 0} where
   abbrev pub KeepsLanes : View E → View E → Type 0
   KeepsLanes v w = (k : ℕ) → slice_index w.held k ≡ slice_index v.held k
 
-  -- One more take met a lane that was held: this lane, by this holder. The holder is another pass unless this one held the lane before.
+  -- One more take met a lane that was held: this lane, by this holder, a pass of the lock. It is another pass unless this
+  -- one held the lane before.
   pub record MetHeld (v w : View E) (lane holder : ℕ) : Type 0 where
     pub counted : w.busy ≡ v.busy + 1
     pub noted : w.lane ≡ lane
     pub by_holder : Names holder w.word
+    pub among : holder < v.passes
     pub own : holder ≡ v.number → slice_index v.held lane ≢ 0
 
   -- a read was refused: its lane was held, or empty
@@ -47,17 +51,14 @@ module _ {E : Type 0} where
   RefusesWrite v w lanes b = OnlySees v w × KeepsLanes v w × (b.lane < lanes) × MetHeld v w b.lane b.holder.0
 
   -- the pass has seen these records, and nothing else has changed
-  pub record Learns (v : View E) (seen : List E) (w : View E) : Type 0 where
-    pub number : w.number ≡ v.number
-    pub base : w.base ≡ v.base
-    pub made : w.made ≡ v.made
-    pub seen_is : w.seen ≡ seen
-    pub held : w.held ≡ v.held
+  abbrev pub Learns : View E → List E → View E → Type 0
+  Learns v seen w = w ≡ record v { seen = seen }
 
   -- the pass made this record, which ends all that it has seen
   pub record Appends (by : E → ℕ) (v w : View E) (x : E) : Type 0 where
     pub number : w.number ≡ v.number
-    pub base : w.base ≡ v.base
+    pub opening : w.opening ≡ v.opening
+    pub passes : w.passes ≡ v.passes
     pub seen : w.seen ≡ v.seen ++ x ∷ []
     pub made : w.made ≡ v.made ++ x ∷ []
     pub maker : by x ≡ v.number

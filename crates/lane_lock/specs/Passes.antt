@@ -9,6 +9,7 @@ use Rattle.lane_lock.specs.declared.pass.Pass.{Pass}
 use Rattle.lane_lock.specs.declared.table.View.{View}
 use Rattle.lane_lock.specs.Guards.{HasOneLane, HasAllLanes}
 use Rattle.lane_lock.specs.Outcomes.{Appends}
+use Rattle.lane_lock.specs.Views.{IsBlank}
 
 -- the history of the value that the lock was made with
 abbrev pub opening_of : {K A S E : Type 0} → (K → List E) → LaneLock K A S E → List E
@@ -34,7 +35,8 @@ module _ {K A S E : Type 0} {g : kept.Ghosts K A S E} where
   -- the pass came from this lock's `new`
   pub record Owns (lock : LaneLock K A S E) (p : Pass K A S E g) : Type 0 where
     pub table : p.seat.table_id ≡ lock.table.shared.table_id
-    pub base : p.seat.me.0.base ≡ length (opening_of g.history lock)
+    pub opening : p.seat.me.0.opening ≡ opening_of g.history lock
+    pub passes : p.seat.me.0.passes ≡ passes_of lock
 
   -- it is the same pass
   pub record SamePass (p q : Pass K A S E g) : Type 0 where
@@ -72,6 +74,7 @@ module _ {K A S E : Type 0} {g : kept.Ghosts K A S E} where
     pub lane : p.lane ≡ i % lock.lanes
     pub seen : p.seat.me.0.seen ≡ []
     pub made : p.seat.me.0.made ≡ []
+    pub idle : IsBlank p.seat.me.0
 
   -- so many passes, each new, in the order of their numbers
   pub record AllNew (lock : LaneLock K A S E) (n : ℕ) (passes : List (Pass K A S E g)) : Type 0 where

@@ -16,11 +16,11 @@ Names p w = (w ≡ 2 * p + 1) ⊎ (w ≡ 2 * p + 2)
 
 -- What seat j knows, by its view: each pass in it has its seat here, and the history is legal for it; a lane that it holds has its word; and
 -- a pin says that it has seen the whole history, while it holds the lane of the pin.
-module _ {E : Type 0} (by : E → ℕ) (lanes passes base : ℕ) (seat : ℕ → ℕ) (history : List E) (words : List ℕ) (j : ℕ) where
+module _ {E : Type 0} (by : E → ℕ) (lanes passes : ℕ) (opening : List E) (seat : ℕ → ℕ) (history : List E) (words : List ℕ) (j : ℕ) where
   pub record Knows (v : View E) : Type 0 where
     pub begins : StartsWith history v.seen
-    pub stands : v.stands ≡ true → (v.number < passes) × (seat v.number ≡ j) × (v.base ≡ base) × (length v.held ≡ lanes) × Legal by base history v.number v.seen v.made
-    pub others : (i : ℕ) (o : Known E) → get_elem? v.others i ≡ some o → (o.number < passes) × (seat o.number ≡ j) × Legal by base history o.number o.seen o.made
+    pub stands : v.stands ≡ true → (v.number < passes) × (seat v.number ≡ j) × ((v.opening ≡ opening) × (v.passes ≡ passes)) × (length v.held ≡ lanes) × Legal by (length opening) history v.number v.seen v.made
+    pub others : (i : ℕ) (o : Known E) → get_elem? v.others i ≡ some o → (o.number < passes) × (seat o.number ≡ j) × Legal by (length opening) history o.number o.seen o.made
     pub held : (k : ℕ) → slice_index v.held k ≢ 0 → (slice_index words k ≡ slice_index v.held k) × (v.stands ≡ true) × Names v.number (slice_index v.held k)
     pub pin : v.pin ≢ 0 → (history ≡ v.seen) × (slice_index v.held (v.pin - 1) ≢ 0)
 
@@ -43,7 +43,7 @@ pub record Ruled {K E Z : Type 0} (hist : K → List E) (by : E → ℕ) (key : 
   pub shown : (k : ℕ) (a : Arc K Z) → get_elem? s.homes k ≡ some (some (Some a)) → hist (arc_value a) ≡ history
   pub filled : get_elem? s.homes 0 ≢ some (some None)
   pub named : (k : ℕ) → slice_index s.words k ≢ 0 → (q : ℕ) × (q < key.passes) × Names q (slice_index s.words k) × Has s.views (seat q) q k (slice_index s.words k)
-  pub each : (j : ℕ) (v : View E) → get_elem? s.views j ≡ some v → Knows by key.lanes key.passes (length (hist key.value.value)) seat history s.words j v
+  pub each : (j : ℕ) (v : View E) → get_elem? s.views j ≡ some v → Knows by key.lanes key.passes (hist key.value.value) seat history s.words j v
   pub foreign : (p : ℕ) → key.passes ≤ p → made_by by p (drop (length (hist key.value.value)) history) ≡ []
 
 -- the passes from p on, n of them, which have seen and made nothing
@@ -52,12 +52,12 @@ crowd p zero = []
 crowd p (suc n) = record { number = p; seen = []; made = [] } ∷ crowd (p + 1) n
 
 -- a pass that has seen and made nothing and holds no lane, and further passes
-abbrev pub newcomer : {E : Type 0} → ℕ → ℕ → ℕ → List (Known E) → View E
-newcomer p base lanes others = record { stands = true; number = p; base = base; seen = []; made = []; others = others; held = replicate lanes 0; pin = 0; busy = 0; lane = 0; word = 0 }
+abbrev pub newcomer : {E : Type 0} → ℕ → List E → ℕ → ℕ → List (Known E) → View E
+newcomer p opening passes lanes others = record { stands = true; number = p; opening = opening; passes = passes; seen = []; made = []; others = others; held = replicate lanes 0; pin = 0; busy = 0; lane = 0; word = 0 }
 
 -- the view of the first seat: the last pass, and all others before it
 abbrev pub starting : {K E : Type 0} → (K → List E) → Setup K → View E
-starting hist key = newcomer (key.passes - 1) (length (hist key.value.value)) key.lanes (crowd 0 (key.passes - 1))
+starting hist key = newcomer (key.passes - 1) (hist key.value.value) key.passes key.lanes (crowd 0 (key.passes - 1))
 
 -- what a table begins with: lanes at home, each with a share of the opening value or none, and lane 0 with one
 pub record Opens {K E Z : Type 0} (hist : K → List E) (key : Setup K) (words : List ℕ) (slots : List (Option (Arc K Z))) : Type 0 where

@@ -21,17 +21,21 @@ abbrev pub At : Type 0 → Type 0 → Type 0
 At K Z = Step (Option (Arc K Z))
 
 module _ {K E Z : Type 0} where
-  -- A lane was taken whose slot has x. With a share its history is seen, which is legal for the pass; if a lane pins what it has seen, it has seen it all before.
+  -- A lane was taken whose slot has x. With a share its history is seen, which begins with the opening one and is legal for
+  -- the pass; if a lane pins what it has seen, it has seen it all before.
   abbrev pub Takes : (K → List E) → (E → ℕ) → View E → ℕ → ℕ → Option (Arc K Z) → View E → Type 0
   Takes hist by v k w None v' = (v' ≡ holding v k w) × (k ≢ 0)
-  Takes hist by v k w (Some a) v' = (v' ≡ seeing v k w (hist (arc_value a))) × StartsWith (hist (arc_value a)) v.seen × IsLegal by v' × (v.pin ≢ 0 → hist (arc_value a) ≡ v.seen)
+  Takes hist by v k w (Some a) v' =
+      (v' ≡ seeing v k w (hist (arc_value a))) × StartsWith (hist (arc_value a)) v.seen × IsLegal by v'
+      × (v.pin ≢ 0 → hist (arc_value a) ≡ v.seen) × StartsWith (hist (arc_value a)) v.opening
 
   -- Taking a lane, to read or to write. At 0 it was at home, and the pass has it and what its slot had; at another word it was held, and the
-  -- pass notes that. The word names a pass, and this pass only if it held the lane.
+  -- pass notes that. The word names a pass of the lock, and this pass only if it held the lane.
   abbrev pub took : (K → List E) → (E → ℕ) → At K Z → Mine K E Z → ℕ → Mine K E Z → Type 0
   took hist by st m r m' =
       (r ≡ 0 → (x : Option (Arc K Z)) × (m'.1 ≡ (st.word, x) ∷ m.1) × Takes hist by m.0 st.word st.second x m'.0 × (slice_index m.0.held st.word ≡ 0))
-      × (r ≢ 0 → (m' ≡ (noted m.0 st.word r, m.1)) × ((q : ℕ) × (q < 1024) × Names q r) × (Names m.0.number r → slice_index m.0.held st.word ≡ r))
+      × (r ≢ 0 → (m' ≡ (noted m.0 st.word r, m.1)) × ((q : ℕ) × (q < 1024) × Names q r)
+      × (Names m.0.number r → slice_index m.0.held st.word ≡ r) × ((q : ℕ) → Names q r → q < m.0.passes))
 
   -- the history of a share, or h where there is none
   abbrev pub share_history : (K → List E) → Option (Arc K Z) → List E → List E

@@ -34,7 +34,7 @@ module _ {E : Type 0} where
 
   -- of the records after the opening that the view has seen, those of its pass are those that it made
   abbrev pub IsLegal : (E → ℕ) → View E → Type 0
-  IsLegal by v = made_by by v.number (drop v.base v.seen) ≡ v.made
+  IsLegal by v = made_by by v.number (drop (length v.opening) v.seen) ≡ v.made
 
   -- the pass holds no lane
   abbrev pub IsBlank : View E → Type 0
@@ -46,19 +46,19 @@ module _ {E : Type 0} where
 
   -- a view that stands for no pass, and knows that the history begins so
   abbrev pub note_of : List E → View E
-  note_of seen = record { stands = false; number = 0; base = 0; seen = seen; made = []; others = []; held = []; pin = 0; busy = 0; lane = 0; word = 0 }
+  note_of seen = record { stands = false; number = 0; opening = []; passes = 0; seen = seen; made = []; others = []; held = []; pin = 0; busy = 0; lane = 0; word = 0 }
 
   -- the first of these passes, alone in a view
-  abbrev pub alone : ℕ → ℕ → List (Known E) → View E
-  alone base lanes [] = note_of []
-  alone base lanes (o ∷ os) = record { stands = true; number = o.number; base = base; seen = o.seen; made = o.made; others = []; held = replicate lanes 0; pin = 0; busy = 0; lane = 0; word = 0 }
+  abbrev pub alone : List E → ℕ → ℕ → List (Known E) → View E
+  alone opening passes lanes [] = note_of []
+  alone opening passes lanes (o ∷ os) = record { stands = true; number = o.number; opening = opening; passes = passes; seen = o.seen; made = o.made; others = []; held = replicate lanes 0; pin = 0; busy = 0; lane = 0; word = 0 }
 
   -- the view without its first further pass, and that pass alone
   abbrev pub without_one : View E → View E
   without_one v = record v { others = tail v.others }
 
   abbrev pub first_alone : View E → View E
-  first_alone v = alone v.base (length v.held) v.others
+  first_alone v = alone v.opening v.passes (length v.held) v.others
 
   -- there is a first further pass, with a number of its own
   abbrev pub HasApart : View E → Type 0

@@ -59,7 +59,7 @@ fn home_words(lanes: u16) -> &'static [u64]
 // A pass that has seen and made nothing.
 fn new_pass<K: Kept>(lock: &LaneLock<K>, seat: PassSeat<K>, number: u16) -> Pass<K>
     requires { (seat.table_id ≡ lock.now.table.shared.table_id)
-        × (seat.me ≡ (newcomer number (length (opening_of K.history lock.now)) lock.now.lanes [], [])) }
+        × (seat.me ≡ (newcomer number (opening_of K.history lock.now) lock.now.passes lock.now.lanes [], [])) }
     ensures { IsNew lock.now number result }
 {
     Pass {

@@ -22,8 +22,10 @@ pub struct View<E> {
     pub stands: bool,
     /// The number of the pass.
     pub number: u64,
-    /// The length of the opening value's history.
-    pub base: u64,
+    /// The opening value's history.
+    pub opening: LinkedList<E>,
+    /// How many passes the lock has.
+    pub passes: u64,
     /// What the pass has seen of the history, from its beginning on.
     pub seen: LinkedList<E>,
     /// The records that the pass made.

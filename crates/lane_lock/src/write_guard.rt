@@ -38,19 +38,30 @@ impl<K: Kept> Pass<K> {
 }
 
 impl<'a, K: Kept> WriteGuard<'a, K> {
-    ghost use Rattle.std.specs.Prelude.{◌≡◌, IfOk, OnErr};
-    ghost use Rattle.lane_lock.specs.History.{Legal};
+    ghost use Rattle.std.specs.Prelude.{◌≡◌, length, IfOk, OnErr};
+    ghost use Rattle.lane_lock.specs.History.{Legal, StartsWith};
     ghost use Rattle.lane_lock.specs.Outcomes.{KeepsHistory};
-    ghost use Rattle.lane_lock.specs.Passes.{SamePass, IsWriting, ShowsValue, Commits, view_of};
+    ghost use Rattle.lane_lock.specs.Passes.{
+      SamePass,
+      IsWriting,
+      ShowsValue,
+      Commits,
+      view_of,
+      number_of,
+      opening_of,
+    };
     ghost use Rattle.lane_lock.specs.Views.{IsBlank};
 
-    /// The value. Its history is all that the pass has seen, and legal for the pass.
+    /// The value. Its history begins with the opening value's, is all that the pass has seen, and is legal for the
+    /// pass.
     pub fn get(&self) -> &K
         requires { IsWriting self.now.lock.now self.now.pass.now }
         ensures value { ShowsValue self.now.pass.now result.now }
         ensures seen { K.history result.now ≡ (view_of self.now.pass.now).seen }
-        ensures legal { let v = view_of self.now.pass.now in Legal K.maker v.base
-            (K.history result.now) v.number v.seen v.made }
+        ensures opened { StartsWith (K.history result.now) (opening_of K.history self.now.lock.now) }
+        ensures legal { let v = view_of self.now.pass.now in
+            Legal K.maker (length (opening_of K.history self.now.lock.now)) (K.history result.now)
+            (number_of self.now.pass.now) v.seen v.made }
     {
         match &self.pass.share {
             Some(share) => share,

@@ -32,6 +32,19 @@ pub fn last_pass(lock: &LaneLock<Numbers>, passes: &mut Vec<Pass<Numbers>>) -> O
     passes.pop()
 }
 
+// A lock of two lanes over no numbers, and its two passes.
+fn lock_of_two(
+    alloc: Global,
+    room: usize,
+) -> Option<(LaneLock<Numbers>, Pass<Numbers>, Pass<Numbers>)>
+    ensures { IfSome result (λ r. Owns r.0 r.1 × Owns r.0 r.2) }
+{
+    let (lock, mut passes) = new_lock(alloc, room, 2, 2)?;
+    let p1 = last_pass(&lock, &mut passes)?;
+    let p0 = last_pass(&lock, &mut passes)?;
+    Some((lock, p0, p1))
+}
+
 // Adds a number, at once. The answer is its place.
 fn add(
     lock: &LaneLock<Numbers>,
@@ -142,7 +155,7 @@ fn closes_with_both(
         return false;
     }
     match lock.close(passes) {
-        Ok(numbers) => numbers.has_of(PassNo(0), &[7]) && numbers.has_of(PassNo(1), &[]),
+        Ok(numbers) => numbers.entries.len() == 1 && numbers.has_of(PassNo(0), &[7]),
         Err(_) => false,
     }
 }
@@ -171,7 +184,8 @@ fn dropped_guards(lock: &LaneLock<Numbers>, p0: &mut Pass<Numbers>, p1: &mut Pas
         return false;
     };
     drop(writing);
-    read_again && written && shown(lock, p0) == Ok(0) && shown(lock, p1) == Ok(0)
+    let after = shown(lock, p0) == Ok(0) && refusal_of_write(lock, p1).is_none();
+    read_again && written && after && shown(lock, p1) == Ok(0)
 }
 
 // A forgotten guard keeps its lane, for its own pass too. The other lane serves, and the lock can't be closed.
@@ -244,56 +258,32 @@ fn two_readers_refuse_a_writer(rt: HostRuntime) {
 
 #[test]
 fn a_record_is_met(rt: HostRuntime) {
-    let Some((lock, mut passes)) = new_lock(rt.alloc(), 8, 2, 2) else {
+    let Some((lock, p0, p1)) = lock_of_two(rt.alloc(), 8) else {
         panic!(rt; "no memory");
-    };
-    let Some(p1) = last_pass(&lock, &mut passes) else {
-        panic!(rt; "no pass");
-    };
-    let Some(p0) = last_pass(&lock, &mut passes) else {
-        panic!(rt; "no pass");
     };
     assert!(rt; passes_meet(lock, p0, p1, Vec::new(rt.alloc())));
 }
 
 #[test]
 fn a_refused_growth_makes_no_record(rt: HostRuntime) {
-    let Some((lock, mut passes)) = new_lock(rt.alloc(), 1, 2, 2) else {
+    let Some((lock, mut p0, mut p1)) = lock_of_two(rt.alloc(), 1) else {
         panic!(rt; "no memory");
-    };
-    let Some(mut p1) = last_pass(&lock, &mut passes) else {
-        panic!(rt; "no pass");
-    };
-    let Some(mut p0) = last_pass(&lock, &mut passes) else {
-        panic!(rt; "no pass");
     };
     assert!(rt; refused_growth(&lock, &mut p0, &mut p1));
 }
 
 #[test]
 fn dropped_guards_put_their_lanes_back(rt: HostRuntime) {
-    let Some((lock, mut passes)) = new_lock(rt.alloc(), 8, 2, 2) else {
+    let Some((lock, mut p0, mut p1)) = lock_of_two(rt.alloc(), 8) else {
         panic!(rt; "no memory");
-    };
-    let Some(mut p1) = last_pass(&lock, &mut passes) else {
-        panic!(rt; "no pass");
-    };
-    let Some(mut p0) = last_pass(&lock, &mut passes) else {
-        panic!(rt; "no pass");
     };
     assert!(rt; dropped_guards(&lock, &mut p0, &mut p1));
 }
 
 #[test]
 fn a_forgotten_guard_keeps_its_lane(rt: HostRuntime) {
-    let Some((lock, mut passes)) = new_lock(rt.alloc(), 8, 2, 2) else {
+    let Some((lock, p0, p1)) = lock_of_two(rt.alloc(), 8) else {
         panic!(rt; "no memory");
-    };
-    let Some(p1) = last_pass(&lock, &mut passes) else {
-        panic!(rt; "no pass");
-    };
-    let Some(p0) = last_pass(&lock, &mut passes) else {
-        panic!(rt; "no pass");
     };
     assert!(rt; forgotten_guard(lock, p0, p1, Vec::new(rt.alloc())));
 }

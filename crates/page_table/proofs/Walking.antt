@@ -13,14 +13,14 @@ use Rattle.iofd_words.specs.declared.width.Width.{Width}
 use Rattle.frame_memory.specs.Pool.{FramePool}
 use Rattle.page_table.specs.declared.walk.Walk.{Walk}
 use Rattle.page_table.specs.declared.walk.Walk.TheVariants as walk
-use Rattle.page_table.specs.Entries.{entry_at, page_entry}
-use Rattle.page_table.specs.Levels.{index_at}
-use Rattle.page_table.specs.Reached.{IsLowest}
-use Rattle.page_table.specs.Rows.{MappedPage, TableRow, page_at, table_at}
-use Rattle.page_table.specs.Stands.{Stands}
+use Rattle.table_words.specs.Entries.{entry_at, page_entry}
+use Rattle.table_words.specs.Levels.{index_at}
+use Rattle.table_words.specs.Reached.{IsLowest}
+use Rattle.table_words.specs.Rows.{MappedPage, TableRow, page_at, table_at}
+use Rattle.table_words.specs.Stands.{Stands}
 use Rattle.page_table.specs.Walks.{walk_of}
-use Rattle.page_table.proofs.Lookups.{cases_Option, none_or_some, same_frame, the_some}
-use Rattle.page_table.proofs.Tables.{none_below}
+use Rattle.table_words.proofs.Lookups.{cases_Option, none_or_some, same_frame, the_some}
+use Rattle.table_words.proofs.Tables.{none_below}
 
 -- ---- the page
 

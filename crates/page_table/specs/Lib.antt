@@ -1,13 +1,1 @@
-pub mod Entries
-pub mod Extended
-pub mod Levels
-pub mod Mapped
-pub mod Needed
-pub mod Reached
-pub mod Released
-pub mod Rows
-pub mod SameTables
-pub mod Stands
-pub mod Taken
-pub mod Under
 pub mod Walks

@@ -1,8 +1,8 @@
 //! The entries of tables.
 
-ghost use Rattle.std.specs.Prelude.{◌≡◌, ◌≤◌, ◌<◌, ◌+◌, ◌*◌, ◌/◌, ◌%◌, ◌^◌, ◌==◌, not, length};
-ghost use Rattle.page_table.specs.Entries.{WritesEntry, entry_at};
-ghost use Rattle.page_table.specs.Levels.{index_at};
+ghost use Rattle.std.specs.Prelude.{ℕ, ◌≡◌, ◌≤◌, ◌<◌, ◌+◌, ◌*◌, ◌/◌, ◌%◌, ◌^◌, ◌==◌, not, length};
+ghost use Rattle.table_words.specs.Entries.{WritesEntry, entry_at};
+ghost use Rattle.table_words.specs.Levels.{index_at};
 
 use crate::levels::index;
 use frame_memory::Pool;
@@ -51,7 +51,18 @@ impl Entry {
         requires few { level ≤ 5 }
         ensures { WritesEntry pool.old pool.new frame.0 level page self.0 }
     {
-        pool.set_word(frame, index(level, page), self.0);
+        self.put(pool, frame, index(level, page));
+    }
+
+    /// Makes this entry `index`, below 512, of the table in this frame. Every other entry stays, each other frame's
+    /// bytes and every hold.
+    pub(crate) fn put<A: Allocator>(self, pool: &mut Pool<A>, frame: FrameNo, index: usize)
+        requires frame { frame.0 < length pool.old.holds }
+        requires within { index < 512 }
+        ensures { (level page : ℕ) → index ≡ index_at level page →
+            WritesEntry pool.old pool.new frame.0 level page self.0 }
+    {
+        pool.set_word(frame, index, self.0);
     }
 
     /// The entry that leads to this frame with these rights.

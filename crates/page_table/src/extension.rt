@@ -3,11 +3,11 @@
 ghost use Rattle.std.specs.Prelude.{ℕ, ◌≡◌, ◌≤◌, ◌<◌, ◌+◌, ◌-◌, ◌++◌, List, slice_index, vec_len, vec_capacity};
 ghost use Rattle.iofd_words.specs.declared.numbers.FrameNo.{FrameNo};
 ghost use Rattle.frame_memory.specs.Pool.{free_count};
-ghost use Rattle.page_table.specs.Extended.{AddsTable, Extends};
-ghost use Rattle.page_table.specs.Reached.{EndsAt, IsLowest};
-ghost use Rattle.page_table.specs.Rows.{MappedPage, TableRow};
-ghost use Rattle.page_table.specs.Stands.{Stands};
-ghost use Rattle.page_table.specs.Taken.{least_frames};
+ghost use Rattle.table_words.specs.Extended.{AddsTable, Extends};
+ghost use Rattle.table_words.specs.Reached.{EndsAt, IsLowest};
+ghost use Rattle.table_words.specs.Rows.{MappedPage, TableRow};
+ghost use Rattle.table_words.specs.Stands.{Stands};
+ghost use Rattle.table_words.specs.Taken.{least_frames};
 
 use crate::entry::Entry;
 use frame_memory::Pool;

@@ -1,15 +1,11 @@
 //! Laws of page tables, each the contract of a function that does nothing.
 
-ghost use Rattle.std.specs.Prelude.{ℕ, ◌≡◌, ◌≤◌, ◌+◌, true, List, slice_index};
-ghost use Rattle.iofd_words.specs.Bounds.{Bounds};
-ghost use Rattle.frame_memory.specs.Pool.{FramePool, free_count};
-ghost use Rattle.page_table.specs.Levels.{levels_of};
-ghost use Rattle.page_table.specs.Mapped.{IsBelow};
-ghost use Rattle.page_table.specs.Needed.{HasPage, needed};
-ghost use Rattle.page_table.specs.Rows.{MappedPage, TableRow, page_at};
-ghost use Rattle.page_table.specs.SameTables.{SameTables};
-ghost use Rattle.page_table.specs.Stands.{TableRoot, TableStands};
-ghost use Rattle.page_table.specs.Taken.{missing, names, with_tables};
+ghost use Rattle.std.specs.Prelude.{ℕ, ◌≡◌, true, List, slice_index};
+ghost use Rattle.frame_memory.specs.Pool.{FramePool};
+ghost use Rattle.table_words.specs.Rows.{MappedPage, TableRow, page_at};
+ghost use Rattle.table_words.specs.SameTables.{SameTables};
+ghost use Rattle.table_words.specs.Stands.{TableRoot, TableStands};
+ghost use Rattle.table_words.specs.Taken.{names};
 
 /// What is done to other frames leaves a page table as it was: where another pool has the same words in each of its
 /// table frames, and as many holds on them, it stands there too, with the same rows and pages.
@@ -30,15 +26,4 @@ pub fn lookups_tell_pages()
 pub fn table_frames_are_held()
     ensures { (pool : FramePool) (table : TableRoot) (rows : List TableRow) (pages : List MappedPage) (frame : ℕ) →
         TableStands pool table rows pages → names rows frame ≡ true → slice_index pool.holds frame ≡ 1 }
-{}
-
-/// While a page of the spans is mapped, just so many frames are taken as they then need fewer tables. So all their
-/// pages can be mapped where as many frames are free as they need.
-pub fn mapping_takes_what_is_needed()
-    ensures { (pool : FramePool) (table : TableRoot) (rows : List TableRow) (pages : List MappedPage) (page : ℕ)
-        (spans : List Bounds) → TableStands pool table rows pages → IsBelow table.width page → HasPage spans page →
-        missing rows (levels_of table.width) page ≤ free_count pool.holds →
-        needed (with_tables rows (levels_of table.width) page pool.holds) (levels_of table.width) spans
-        + missing rows (levels_of table.width) page
-        ≡ needed rows (levels_of table.width) spans }
 {}

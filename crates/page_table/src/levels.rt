@@ -1,8 +1,8 @@
 //! The levels of tables, and which entry of each a page goes through.
 
 ghost use Rattle.std.specs.Prelude.{◌≡◌, ◌≤◌, ◌<◌, ◌^◌};
-ghost use Rattle.page_table.specs.Levels.{index_at, levels_of, number_at};
-ghost use Rattle.page_table.specs.Needed.{first_page};
+ghost use Rattle.table_words.specs.Levels.{index_at, levels_of, number_at};
+ghost use Rattle.table_words.specs.Needed.{first_page};
 
 use iofd_words::Width;
 

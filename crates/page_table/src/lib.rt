@@ -8,14 +8,12 @@ mod entry;
 mod extension;
 mod laws;
 mod levels;
+mod prune;
 mod release;
 mod table;
 mod visit;
 mod walk;
 
-pub use laws::{
-    lookups_tell_pages, mapping_takes_what_is_needed, other_frames_leave_tables,
-    table_frames_are_held,
-};
+pub use laws::{lookups_tell_pages, other_frames_leave_tables, table_frames_are_held};
 pub use table::Table;
 pub use walk::Walk;

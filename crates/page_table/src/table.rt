@@ -4,20 +4,22 @@ ghost use Rattle.std.specs.Prelude.{ℕ, ◌≡◌, ◌≤◌, ◌<◌, ◌+◌,
 ghost use Rattle.std.specs.List.{count_by, range_with_len};
 ghost use Rattle.iofd_words.specs.Width.{bits_of};
 ghost use Rattle.frame_memory.specs.Pool.{free_count, given, least_free};
-ghost use Rattle.page_table.specs.Levels.{levels_of};
-ghost use Rattle.page_table.specs.Mapped.{Becomes, HasRoom, IsBelow, IsTable, root_row};
-ghost use Rattle.page_table.specs.Needed.{AreOrdered, is_absent, needed, needed_at};
-ghost use Rattle.page_table.specs.Reached.{EndsAt, IsLowest};
-ghost use Rattle.page_table.specs.Released.{CanRelease, GivesBack, Releases};
-ghost use Rattle.page_table.specs.Rows.{with_page, without_page};
-ghost use Rattle.page_table.specs.Stands.{IfStands};
-ghost use Rattle.page_table.specs.Taken.{least_frames, missing, with_tables};
+ghost use Rattle.table_words.specs.Levels.{levels_of};
+ghost use Rattle.table_words.specs.Mapped.{Becomes, HasRoom, IsBelow, IsTable, root_row};
+ghost use Rattle.table_words.specs.Needed.{AreOrdered, is_absent, needed, needed_at};
+ghost use Rattle.table_words.specs.Pruned.{CanPrune, Prunes, gone, left};
+ghost use Rattle.table_words.specs.Reached.{EndsAt, IsLowest};
+ghost use Rattle.table_words.specs.Released.{CanRelease, GivesBack, Releases};
+ghost use Rattle.table_words.specs.Rows.{with_page, without_page};
+ghost use Rattle.table_words.specs.Stands.{IfStands, TableStands};
+ghost use Rattle.table_words.specs.Taken.{least_frames, missing, with_tables};
 ghost use Rattle.page_table.specs.Walks.{walk_of};
 
 use crate::descent::{Reached, descend};
 use crate::entry::Entry;
 use crate::extension::extend;
 use crate::levels::{first_page, levels, number};
+use crate::prune::{count_idle, cut_idle};
 use crate::release::{release_all, sort_from};
 use crate::visit::{collect, count};
 use crate::walk::Walk;
@@ -36,7 +38,7 @@ pub struct Table {
 }
 
 impl Model for Table {
-    ghost use Rattle.page_table.specs.Stands.{TableRoot};
+    ghost use Rattle.table_words.specs.Stands.{TableRoot};
 
     ghost Value = { TableRoot };
 
@@ -209,6 +211,43 @@ impl Table {
     {
         let start = out.len();
         collect(pool, levels(self.width), self.root, out);
+        sort_from(out, start);
+        release_all(pool, &out[start..]);
+    }
+
+    /// How many tables below the root go where it is pruned: those through which no mapped page goes and no page of a
+    /// kept span. It visits the entries of each table, and takes no memory.
+    pub fn prunable<A: Allocator>(&self, pool: &Pool<A>, kept: &[Span]) -> u64
+        requires { IsTable pool.now self.now }
+        ensures { IfStands pool.now self.now (λ rows pages.
+            result ≡ length (gone (levels_of self.now.width) pages kept.now rows)) }
+    {
+        count_idle(pool, levels(self.width), 0, self.root, kept)
+    }
+
+    /// Takes the tables below the root away through which no mapped page goes and no page of a kept span, and gives
+    /// their frames back: the hold on each goes off, and it is free. They are appended to `out` by rising number, where
+    /// there is room. Every mapped page stays; of the pool nothing else changes but the entries that led to them. It
+    /// visits the entries of each table, and takes no memory.
+    pub fn prune<A: Allocator, B: Allocator>(
+        &mut self,
+        pool: &mut Pool<A>,
+        kept: &[Span],
+        out: &mut Vec<FrameNo, B>,
+    )
+        requires { CanPrune pool.old self.old kept.now (vec_capacity out.old - vec_len out.old) }
+        ensures same { self.new ≡ self.old }
+        ensures table { IfStands pool.old self.old (λ rows pages.
+            TableStands pool.new self.new (left (levels_of self.old.width) pages kept.now rows) pages) }
+        ensures out { IfStands pool.old self.old (λ rows pages.
+            GivesBack (gone (levels_of self.old.width) pages kept.now rows) out.old.items out.new.items) }
+        ensures pool { IfStands pool.old self.old (λ rows pages.
+            Prunes (gone (levels_of self.old.width) pages kept.now rows)
+            (left (levels_of self.old.width) pages kept.now rows) pool.old pool.new) }
+        ensures capacity { vec_capacity out.new ≡ vec_capacity out.old }
+    {
+        let start = out.len();
+        cut_idle(pool, levels(self.width), 0, self.root, kept, out);
         sort_from(out, start);
         release_all(pool, &out[start..]);
     }

@@ -1,7 +1,7 @@
 //! All tables below a table.
 
 ghost use Rattle.std.specs.Prelude.{◌≡◌, ◌≤◌, ◌<◌, ◌+◌, ◌-◌, ◌^◌, ◌++◌, length, vec_len, vec_capacity};
-ghost use Rattle.page_table.specs.Under.{HoldsTable, frames_under};
+ghost use Rattle.table_words.specs.Under.{HoldsTable, frames_under};
 
 use crate::entry::Entry;
 use frame_memory::Pool;

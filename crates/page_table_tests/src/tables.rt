@@ -1,7 +1,7 @@
 //! Calls one after the other with what each answers, and a whole pool of tables.
 
 ghost use Rattle.std.specs.Prelude.{IsTrue};
-ghost use Rattle.page_table.specs.Mapped.{IsBelow, IsTable};
+ghost use Rattle.table_words.specs.Mapped.{IsBelow, IsTable};
 
 use frame_memory::Pool;
 use iofd_words::{Cause, FrameNo, NoMemory, PAGE_SIZE, Rights, Span, Width};
@@ -24,6 +24,9 @@ enum Call {
     Walk(u64),
     /// With the first and the last page of two spans.
     Needs(u64, u64, u64, u64),
+    /// With the first and the last page of a kept span, if one is kept.
+    Prunable(Option<(u64, u64)>),
+    Prune(Option<(u64, u64)>),
     Frames,
     FreeCount,
     /// A word of a frame.
@@ -118,6 +121,49 @@ fn needed_by_pages(pool: &Pool, table: &Table, pages: (u64, u64, u64, u64)) -> A
     needed(pool, table, first, second)
 }
 
+/// How many tables go, or how many went.
+fn pruned(
+    pool: &mut Pool,
+    table: &mut Table,
+    out: &mut Vec<FrameNo>,
+    kept: &[Span],
+    really: bool,
+) -> Answer
+    requires { IsTable pool.old table.old }
+    ensures { IsTable pool.new table.new }
+{
+    let count = table.prunable(pool, kept);
+    if !really {
+        return Answer::Gives(count);
+    }
+    if ((out.capacity() - out.len()) as u64) < count {
+        return Answer::Barred;
+    }
+    let before = out.len();
+    table.prune(pool, kept, out);
+    Answer::Gives((out.len() - before) as u64)
+}
+
+fn pruned_by_pages(
+    pool: &mut Pool,
+    table: &mut Table,
+    out: &mut Vec<FrameNo>,
+    kept: Option<(u64, u64)>,
+    really: bool,
+) -> Answer
+    requires { IsTable pool.old table.old }
+    ensures { IsTable pool.new table.new }
+{
+    let Some((first, last)) = kept else {
+        return pruned(pool, table, out, &[], really);
+    };
+    // spans may lie above the width, and needn't rise
+    match (Span::new(u64::MAX, u64::MAX), span_of(first, last)) {
+        (Some(highest), Some(span)) => pruned(pool, table, out, &[highest, span], really),
+        _ => Answer::Barred,
+    }
+}
+
 fn word(pool: &Pool, frame: u32, index: usize) -> Answer {
     if !pool.has(FrameNo(frame)) || index >= 512 {
         return Answer::Barred;
@@ -141,6 +187,8 @@ fn asked(pool: &mut Pool, table: &mut Table, out: &mut Vec<FrameNo>, call: Call)
         Call::Clear(page) => cleared(pool, table, page),
         Call::Walk(iova) => walked(table.walk(pool, iova)),
         Call::Needs(a, b, c, d) => needed_by_pages(pool, table, (a, b, c, d)),
+        Call::Prunable(kept) => pruned_by_pages(pool, table, out, kept, false),
+        Call::Prune(kept) => pruned_by_pages(pool, table, out, kept, true),
         Call::Frames => Answer::Gives(table.frames(pool)),
         Call::FreeCount => Answer::Gives(u64::from(pool.free_count())),
         Call::Word(frame, index) => word(pool, frame, index),
@@ -310,6 +358,89 @@ const AGAIN: &[(Call, Answer)] = &[
     (Call::Map(5, 3, 0), Answer::Barred),
 ];
 
+const PRUNED: &[(Call, Answer)] = &[
+    // the root and a way of two tables; one more of the last level, and another way
+    (Call::Map(0, 9, BOTH), Answer::Done),
+    (Call::Map(512, 9, BOTH), Answer::Done),
+    (Call::Map(0x4_0000, 9, READ), Answer::Done),
+    (Call::Frames, Answer::Gives(6)),
+    (Call::Prunable(None), Answer::Gives(0)),
+    (Call::Prune(None), Answer::Gives(0)),
+    (Call::Clear(512), Answer::Done),
+    (Call::Word(1, 1), Answer::Gives(0x3003)),
+    // a kept span keeps the table, from its first page to its last
+    (Call::Prunable(Some((512, 512))), Answer::Gives(0)),
+    (Call::Prunable(Some((1023, 1023))), Answer::Gives(0)),
+    (Call::Prunable(Some((0, 0x7ff_ffff))), Answer::Gives(0)),
+    (Call::Prune(Some((600, 700))), Answer::Gives(0)),
+    (Call::Frames, Answer::Gives(6)),
+    (Call::Prunable(Some((0, 511))), Answer::Gives(1)),
+    (Call::Prunable(Some((1024, 1024))), Answer::Gives(1)),
+    (
+        Call::Prunable(Some((0x800_0000, 0x800_0200))),
+        Answer::Gives(1),
+    ),
+    (Call::Prune(Some((0, 511))), Answer::Gives(1)),
+    (Call::Taken(6), Answer::Gives(3)),
+    (Call::Word(1, 1), Answer::Gives(0)),
+    (Call::Word(1, 0), Answer::Gives(0x2003)),
+    (Call::Frames, Answer::Gives(5)),
+    (Call::FreeCount, Answer::Gives(11)),
+    (Call::Walk(0), Answer::Hit(9, BOTH)),
+    (Call::Walk(0x4000_0000), Answer::Hit(9, READ)),
+    (Call::Needs(512, 512, 513, 513), Answer::Gives(1)),
+    // the least free frame is the one that came back
+    (Call::Map(513, 7, WRITE), Answer::Done),
+    (Call::Taken(7), Answer::Gives(3)),
+    (Call::Walk(0x20_1000), Answer::Hit(7, WRITE)),
+    (Call::Walk(0x20_0000), Answer::Nowhere),
+    // both tables of a way, by rising number
+    (Call::Clear(0x4_0000), Answer::Done),
+    (Call::Prune(None), Answer::Gives(2)),
+    (Call::Taken(8), Answer::Gives(4)),
+    (Call::Taken(9), Answer::Gives(5)),
+    (Call::Word(0, 1), Answer::Gives(0)),
+    (Call::Walk(0x4000_0000), Answer::Nowhere),
+    // of a table below another that is kept, that one alone; the root stays
+    (Call::Clear(0), Answer::Done),
+    (Call::Clear(513), Answer::Done),
+    (Call::Prune(Some((0, 0))), Answer::Gives(1)),
+    (Call::Taken(10), Answer::Gives(3)),
+    (Call::Prunable(None), Answer::Gives(2)),
+    (Call::Prune(None), Answer::Gives(2)),
+    (Call::Frames, Answer::Gives(1)),
+    (Call::FreeCount, Answer::Gives(15)),
+    (Call::Prune(None), Answer::Gives(0)),
+    (Call::Map(5, 9, BOTH), Answer::Done),
+    (Call::Walk(0x5000), Answer::Hit(9, BOTH)),
+    (Call::Frames, Answer::Gives(3)),
+];
+
+const PRUNED_IN_ORDER: &[(Call, Answer)] = &[
+    // the later page's tables have the lower numbers
+    (Call::Map(0x800_0200, 9, BOTH), Answer::Done),
+    (Call::Map(0, 9, BOTH), Answer::Done),
+    (Call::Frames, Answer::Gives(7)),
+    (Call::Clear(0x800_0200), Answer::Done),
+    (Call::Clear(0), Answer::Done),
+    (Call::Prunable(None), Answer::Gives(6)),
+    (
+        Call::Prunable(Some((0x800_0200, 0x800_0200))),
+        Answer::Gives(3),
+    ),
+    (
+        Call::Prunable(Some((0x800_0000, 0x800_0000))),
+        Answer::Gives(4),
+    ),
+    (Call::Prune(None), Answer::Gives(6)),
+    (Call::Taken(7), Answer::Gives(1)),
+    (Call::Taken(8), Answer::Gives(2)),
+    (Call::Taken(9), Answer::Gives(3)),
+    (Call::Taken(12), Answer::Gives(6)),
+    (Call::Frames, Answer::Gives(1)),
+    (Call::FreeCount, Answer::Gives(15)),
+];
+
 const SHORT_BY_ONE: &[(Call, Answer)] = &[
     // two tables are lacked, and one frame is free
     (Call::Map(0, 9, BOTH), FULL),
@@ -356,6 +487,13 @@ fn each_call_answers_as_its_row_says(rt: HostRuntime) -> Result<(), Fail> {
         ("pages share tables", (16, 0), Width::Bits39, SHARED),
         ("spans need tables", (16, 0), Width::Bits39, NEEDED),
         ("a page is mapped again", (8, 0), Width::Bits39, AGAIN),
+        ("idle tables go", (16, 0), Width::Bits39, PRUNED),
+        (
+            "idle tables go in order",
+            (16, 0),
+            Width::Bits48,
+            PRUNED_IN_ORDER,
+        ),
         ("one frame too few", (2, 0), Width::Bits39, SHORT_BY_ONE),
         ("too few below", (3, 0), Width::Bits39, SHORT_BELOW),
         ("too few at four levels", (3, 0), Width::Bits48, SHORT_OF_48),

@@ -2,7 +2,7 @@
 use bitflags::Flags;
 use iofd_words::{
     AccessKind, Burst, Cause, Config, ConfigError, DeviceConfig, DeviceNo, DeviceSet, FaultReason,
-    FrameList, FrameNo, MapFlags, Refusal, Rights, SourceId, Span, SpanList, UserNo, Width,
+    FileNo, FrameList, FrameNo, MapFlags, Refusal, Rights, SourceId, Span, SpanList, UserNo, Width,
 };
 use std::alloc::{AllocError, Global};
 use std::test::Fail;
@@ -217,7 +217,23 @@ fn a_copy_has_what_the_configuration_was_given(rt: HostRuntime) -> Result<(), Fa
     assert!(rt; config.files() == [UserNo(1), UserNo(1)].as_slice());
     assert!(rt; config.devices().len() == 1);
     assert!(rt; is_device(&config.devices()[0], reserved));
+    assert!(rt; answers_by_number(&config, reserved));
     Ok(())
+}
+
+// Whether one user, two files of that user and one device are found by their numbers, and no others.
+fn answers_by_number(config: &Config, reserved: Span) -> bool {
+    let users = [0, 1, 2].map(|user| config.has_user(UserNo(user)));
+    let files = [0, 1, 2, 3].map(|file| config.user_of(FileNo(file)));
+    let devices = [0, 1, 2].map(|device| config.has_device(DeviceNo(device)));
+    users == [false, true, false]
+        && files == [None, Some(UserNo(1)), Some(UserNo(1)), None]
+        && devices == [false, true, false]
+        && config.device(DeviceNo(2)).is_none()
+        && match config.device(DeviceNo(1)) {
+            Some(device) => is_device(device, reserved),
+            None => false,
+        }
 }
 
 // The part that is outside its limits. The device, where there is one, has half a page reserved.

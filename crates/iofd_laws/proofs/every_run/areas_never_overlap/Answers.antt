@@ -4,7 +4,7 @@ use Rattle.iofd_laws.specs.Laws.{are_apart}
 use Rattle.iofd_words.specs.Run.{IsRun, world_of}
 use Rattle.iofd_words.specs.World.{opening}
 use Rattle.iofd_laws.proofs.AreasApart.{keeps_apart}
-use Rattle.iofd_laws.proofs.Runs.{run_keeps}
+use Rattle.iofd_runs.proofs.Runs.{run_keeps}
 use Rattle.iofd_laws.proofs.every_run.areas_never_overlap.Goals as goal
 
 pub returns : goal.returns

@@ -1,8 +1,8 @@
 use Rattle.std.proofs.Common.{refl}
 use Rattle.iofd_words.specs.Run.{IsRun, world_of}
 use Rattle.iofd_words.specs.World.{opening}
-use Rattle.iofd_laws.proofs.KeepsDebts.{IsSound, keeps_sound, tabled_sound}
-use Rattle.iofd_laws.proofs.Runs.{run_keeps}
+use Rattle.iofd_runs.proofs.KeepsDebts.{IsSound, keeps_sound, tabled_sound}
+use Rattle.iofd_runs.proofs.Runs.{run_keeps}
 use Rattle.iofd_laws.proofs.every_run.debtors_are_attached.Goals as goal
 
 pub returns : goal.returns

@@ -1,12 +1,12 @@
 use Rattle.std.proofs.Common.{length, refl, arith}
-use Rattle.iofd_laws.specs.Fits.{RowsFit}
-use Rattle.iofd_laws.specs.Pinned.{ArePinned}
+use Rattle.iofd_runs.specs.Fits.{RowsFit}
+use Rattle.iofd_rows.specs.Pinned.{ArePinned}
 use Rattle.iofd_words.specs.Run.{IsRun, world_of}
 use Rattle.iofd_words.specs.World.{opening}
-use Rattle.iofd_laws.proofs.KeepsFits.{keeps_fit, tabled_fit}
-use Rattle.iofd_laws.proofs.KeepsPins.{keeps_pins, later_pinned, tabled_pinned, opening_pinned}
+use Rattle.iofd_runs.proofs.KeepsFits.{keeps_fit, tabled_fit}
+use Rattle.iofd_runs.proofs.KeepsPins.{keeps_pins, later_pinned, tabled_pinned, opening_pinned}
 use Rattle.iofd_laws.proofs.SomeAnswer.{some_answer}
-use Rattle.iofd_laws.proofs.Runs.{run_keeps, run_keeps_at}
+use Rattle.iofd_runs.proofs.Runs.{run_keeps, run_keeps_at}
 use Rattle.iofd_laws.proofs.every_run.every_event_has_an_answer.Goals as goal
 
 pub returns : goal.returns

@@ -3,7 +3,7 @@ use Rattle.iofd_words.specs.Run.{IsRun, world_of}
 use Rattle.iofd_words.specs.World.{opening}
 use Rattle.iofd_laws.proofs.FilesApart.{after_keeps_others}
 use Rattle.iofd_laws.proofs.KeepsBound.{IsTidy, keeps_tidy, tabled_tidy}
-use Rattle.iofd_laws.proofs.Runs.{run_keeps}
+use Rattle.iofd_runs.proofs.Runs.{run_keeps}
 use Rattle.iofd_laws.proofs.every_run.files_are_apart.Goals as goal
 
 pub returns : goal.returns

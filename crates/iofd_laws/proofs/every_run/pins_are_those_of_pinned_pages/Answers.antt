@@ -1,9 +1,9 @@
 use Rattle.std.proofs.Common.{length, arith}
-use Rattle.iofd_laws.specs.Pinned.{ArePinned}
+use Rattle.iofd_rows.specs.Pinned.{ArePinned}
 use Rattle.iofd_words.specs.Run.{IsRun, world_of}
 use Rattle.iofd_words.specs.World.{opening}
-use Rattle.iofd_laws.proofs.KeepsPins.{keeps_pins, later_pinned, tabled_pinned, opening_pinned}
-use Rattle.iofd_laws.proofs.Runs.{run_keeps_at}
+use Rattle.iofd_runs.proofs.KeepsPins.{keeps_pins, later_pinned, tabled_pinned, opening_pinned}
+use Rattle.iofd_runs.proofs.Runs.{run_keeps_at}
 use Rattle.iofd_laws.proofs.every_run.pins_are_those_of_pinned_pages.Goals as goal
 
 pub returns : goal.returns

@@ -1,9 +1,9 @@
 use Rattle.std.proofs.Common.{refl}
-use Rattle.iofd_laws.specs.Fits.{RowsFit}
+use Rattle.iofd_runs.specs.Fits.{RowsFit}
 use Rattle.iofd_words.specs.Run.{IsRun, world_of}
 use Rattle.iofd_words.specs.World.{opening}
-use Rattle.iofd_laws.proofs.KeepsFits.{keeps_fit, tabled_fit}
-use Rattle.iofd_laws.proofs.Runs.{run_keeps}
+use Rattle.iofd_runs.proofs.KeepsFits.{keeps_fit, tabled_fit}
+use Rattle.iofd_runs.proofs.Runs.{run_keeps}
 use Rattle.iofd_laws.proofs.every_run.rows_fit.Goals as goal
 
 pub returns : goal.returns

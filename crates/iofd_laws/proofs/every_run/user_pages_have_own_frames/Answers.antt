@@ -4,7 +4,7 @@ use Rattle.iofd_laws.specs.Laws.{have_own_frames}
 use Rattle.iofd_words.specs.Run.{IsRun, world_of}
 use Rattle.iofd_words.specs.World.{opening}
 use Rattle.iofd_laws.proofs.OwnFrames.{keeps_own_frames}
-use Rattle.iofd_laws.proofs.Runs.{run_keeps}
+use Rattle.iofd_runs.proofs.Runs.{run_keeps}
 use Rattle.iofd_laws.proofs.every_run.user_pages_have_own_frames.Goals as goal
 
 pub returns : goal.returns

@@ -14,7 +14,7 @@ use Rattle.iofd_words.specs.declared.refusal.Cause.{Cause}
 use Rattle.iofd_words.specs.declared.refusal.Cause.TheVariants as cause
 use Rattle.iofd_words.specs.declared.reply.Reply.{Reply}
 use Rattle.iofd_words.specs.declared.reply.Reply.TheVariants as reply
-use Rattle.iofd_laws.proofs.Contained.{contained_in_one, contained_in_two}
+use Rattle.iofd_rows.proofs.Contained.{contained_in_one, contained_in_two}
 use Rattle.iofd_laws.proofs.worked_script.altered_scripts_are_no_runs.Goals as goal
 
 -- answers that are not one

@@ -5,7 +5,7 @@ use Rattle.iofd_words.specs.View.{view}
 use Rattle.iofd_words.specs.declared.event.Event.TheVariants as event
 use Rattle.iofd_words.specs.declared.rows.Object.{Object}
 use Rattle.iofd_words.specs.declared.rows.ObjectKind.TheVariants as kind
-use Rattle.iofd_laws.proofs.NotRefused.{bind_passed, passes}
+use Rattle.iofd_runs.proofs.NotRefused.{bind_passed, passes}
 use Rattle.iommufd_core.proofs.NeverRefused.{bind_taken}
 use Rattle.iommufd_core.proofs.ObjectsMoved.{fresh_id, shows_bound}
 use Rattle.iommufd_core.proofs.bind.commit.Goals as goal

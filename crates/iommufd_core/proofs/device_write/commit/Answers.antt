@@ -1,22 +1,17 @@
-use Rattle.std.proofs.Common.{◌≡◌, ℕ, ◌+◌, ◌*◌, ◌%◌, ◌≤◌, false, length, ◌∙◌, ap, sym, arith}
-use Rattle.std.proofs.lemmas.Bool.Decides.{nat_tests}
-use Rattle.iofd_laws.proofs.NotRefused.{passes, write_passed}
+use Rattle.std.proofs.Common.{◌≡◌, ◌+◌, ◌*◌, ◌%◌, ◌≤◌, length, ◌∙◌, ap, sym, arith}
+use Rattle.iofd_runs.proofs.NotRefused.{passes, write_passed}
 use Rattle.iofd_words.specs.After.{changed}
-use Rattle.iofd_words.specs.Pages.{crosses}
 use Rattle.iofd_words.specs.Policy.{Passes, fault_of, outcomes}
 use Rattle.iofd_words.specs.View.{view}
 use Rattle.iofd_words.specs.declared.event.Event.TheVariants as event
 use Rattle.iofd_words.specs.declared.fault.AccessKind.TheVariants.{Write}
 use Rattle.iommufd_core.proofs.BytesShown.{written, same_length}
 use Rattle.iommufd_core.proofs.DeviceWrites.{chosen_answer, pass_in_pool}
+use Rattle.iommufd_core.proofs.UserAccess.{short}
 use Rattle.iommufd_core.proofs.ViewShown.{same_outcomes}
 use Rattle.iommufd_core.specs.Bytes.{overwritten}
 use Rattle.iommufd_core.specs.Outcomes.{given_outcome}
 use Rattle.iommufd_core.proofs.device_write.commit.Goals as goal
-
--- an access that crosses no page ends in its page
-ends_in_page : (address len : ℕ) → crosses address len ≡ false → address % 4096 + len ≤ 4096
-ends_in_page address len is = search (is, arith, nat_tests)
 
 pub returns-in-Ok : goal.returns-in-Ok
 unfolding changed
@@ -27,10 +22,10 @@ returns-in-Ok g c = λ at w tidy shows none may.
     let told : Passes frame ≡ given_outcome c.args.via (outcomes w c.args.device iova.0 Write) = c.in-Ok.ensures ∙ ap (given_outcome c.args.via) (same_outcomes w c.args.state.now shows c.args.device iova.0 Write) in
     let answer = chosen_answer at w c.args.device iova bytes c.args.via (Passes frame) tidy told may in
     let within = pass_in_pool w tidy.fit.pin_frames c.args.device iova.0 Write frame answer.0 in
-    let short = ends_in_page iova.0 (length bytes) (write_passed (view w) c.args.device iova bytes (passes w (event.DeviceWrite c.args.device iova bytes) none)).short in
+    let within_page = (short iova.0 (length bytes) (write_passed (view w) c.args.device iova bytes (passes w (event.DeviceWrite c.args.device iova bytes) none)).short).within in
     let old = c.args.state.now.frames.items in
     let put : c.put.new.frames.items ≡ overwritten (frame.0 * 4096 + iova.0 % 4096) bytes old = rw (c.start_of.ensures.value, c.as_slice.ensures.value) at c.put.ensures in
-    let fits : frame.0 * 4096 + iova.0 % 4096 + length bytes ≤ length old = rw shows.frames.size (omega (arith, within, short)) in (
+    let fits : frame.0 * 4096 + iova.0 % 4096 + length bytes ≤ length old = rw shows.frames.size (omega (arith, within, within_page)) in (
       answer.1,
       answer.2,
       record {
@@ -40,7 +35,7 @@ returns-in-Ok g c = λ at w tidy shows none may.
         memory = shows.memory;
         frames = record {
           size = rw put (same_length (frame.0 * 4096 + iova.0 % 4096) bytes old fits ∙ shows.frames.size);
-          written = rw put (written w.settings.pool w.writes old shows.frames.size shows.frames.written frame.0 (iova.0 % 4096) bytes within short);
+          written = rw put (written w.settings.pool w.writes old shows.frames.size shows.frames.written frame.0 (iova.0 % 4096) bytes within within_page);
           no_tables = shows.frames.no_tables;
         };
       },

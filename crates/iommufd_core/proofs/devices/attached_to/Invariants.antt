@@ -1,6 +1,6 @@
 use Rattle.std.proofs.Common.{◌≡◌, true, take}
 use Rattle.iofd_words.specs.Attachments.{devices_of}
-use Rattle.iofd_laws.specs.Fits.{devices_rise}
+use Rattle.iofd_runs.specs.Fits.{devices_rise}
 use Rattle.iommufd_core.specs.Held.{objects_in}
 use Rattle.iommufd_core.proofs.devices.attached_to.Given as goal
 

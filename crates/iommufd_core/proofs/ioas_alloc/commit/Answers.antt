@@ -2,7 +2,7 @@ use Rattle.std.proofs.Common.{refl, ◌∙◌}
 use Rattle.iofd_words.specs.After.{changed}
 use Rattle.iofd_words.specs.Answers.{Answers}
 use Rattle.iofd_words.specs.Objects.{is_bound_as}
-use Rattle.iofd_laws.proofs.Found.{find-with_object}
+use Rattle.iofd_rows.proofs.Found.{find-with_object}
 use Rattle.iommufd_core.proofs.NeverRefused.{alloc_taken}
 use Rattle.iommufd_core.proofs.ObjectsMoved.{fresh_id, shows_inserted}
 use Rattle.iommufd_core.proofs.ioas_alloc.commit.Goals as goal

@@ -2,8 +2,8 @@ use Rattle.std.proofs.Common.{refl, sym, ◌∙◌}
 use Rattle.std.proofs.lemmas.Result.{OkIff-at_ok}
 use Rattle.iofd_words.specs.After.{changed}
 use Rattle.iofd_words.specs.Answers.{Answers}
-use Rattle.iofd_laws.proofs.Bools.{not_false}
-use Rattle.iofd_laws.proofs.KeepsOwnMemory.{keeps_own_pins, OwnPins}
+use Rattle.iofd_rows.proofs.Bools.{not_false}
+use Rattle.iofd_runs.proofs.KeepsOwnMemory.{keeps_own_pins, OwnPins}
 use Rattle.iofd_words.specs.declared.event.Event.TheVariants as event
 use Rattle.iofd_words.specs.declared.reply.Reply.TheVariants as reply
 use Rattle.iommufd_core.proofs.NeverRefused.{never_strange}

@@ -6,7 +6,7 @@ use Rattle.iofd_words.specs.World.{World}
 use Rattle.iommufd_core.specs.declared.state.State.{State}
 use Rattle.iommufd_core.specs.Shows.{Shows}
 use Rattle.iommufd_core.proofs.ViewShown.{same_free}
-use Rattle.iofd_laws.proofs.NotRefused.{passes, user_map_passed}
+use Rattle.iofd_runs.proofs.NotRefused.{passes, user_map_passed}
 use Rattle.std.proofs.lemmas.List.{get_or-replicate, length-replicate}
 use Rattle.iofd_words.specs.After.{changed}
 use Rattle.iofd_words.specs.Answers.{Answers}

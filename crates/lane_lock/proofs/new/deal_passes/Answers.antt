@@ -1,4 +1,4 @@
-use Rattle.std.proofs.Common.{◌≡◌, ◌+◌, ◌-◌, length, rules, arith, sym, subst, ap, ◌∙◌, []}
+use Rattle.std.proofs.Common.{◌≡◌, ◌+◌, ◌-◌, rules, arith, sym, subst, ap, ◌∙◌, []}
 use Rattle.lane_lock.specs.Passes.{AllNew, opening_of}
 use Rattle.lane_lock.proofs.NewPasses.{more_new}
 use Rattle.lane_lock.proofs.Starts.{apart_in, cut_off_in, left_over_in}
@@ -6,20 +6,20 @@ use Rattle.lane_lock.proofs.new.deal_passes.Goals as goal
 
 pub split_off_pass-cut-requires-clause-pass : goal.split_off_pass-cut-requires-clause-pass
 split_off_pass-cut-requires-clause-pass g c = let lock = c.args.lock.now in
-    apart_in (length (opening_of g.K.Kept.history lock)) lock.lanes c.loop-number.number (lock.passes - 1) c.loop-number-test.true c.loop-number.seat.me c.loop-number.invariant.view
+    apart_in (opening_of g.K.Kept.history lock) lock.passes lock.lanes c.loop-number.number (lock.passes - 1) c.loop-number-test.true c.loop-number.seat.me c.loop-number.invariant.view
 
 pub new_pass-requires : goal.new_pass-requires
 new_pass-requires g c = let lock = c.args.lock.now in (
   search rules,
   c.split_off_pass-cut.ensures.dealt.1
-      ∙ ap (λ v. (v, [])) (cut_off_in (length (opening_of g.K.Kept.history lock)) lock.lanes c.loop-number.number (lock.passes - 1) c.loop-number-test.true c.loop-number.seat.me c.loop-number.invariant.view),
+      ∙ ap (λ v. (v, [])) (cut_off_in (opening_of g.K.Kept.history lock) lock.passes lock.lanes c.loop-number.number (lock.passes - 1) c.loop-number-test.true c.loop-number.seat.me c.loop-number.invariant.view),
 )
 
 pub loop-number-preserved : goal.loop-number-preserved
 loop-number-preserved g c = let lock = c.args.lock.now in record {
   room = search rules;
   table = search rules;
-  view = left_over_in (length (opening_of g.K.Kept.history lock)) lock.lanes c.loop-number.number (lock.passes - 1) c.loop-number-test.true c.loop-number.seat.me c.loop-number.invariant.view _ c.split_off_pass-cut.ensures.kept.1;
+  view = left_over_in (opening_of g.K.Kept.history lock) lock.passes lock.lanes c.loop-number.number (lock.passes - 1) c.loop-number-test.true c.loop-number.seat.me c.loop-number.invariant.view _ c.split_off_pass-cut.ensures.kept.1;
   new = subst (AllNew lock (c.loop-number.number + 1)) (sym c.push_reserved.ensures.items) (more_new _ _ _ _ c.loop-number.invariant.new c.new_pass.ensures);
 }
 

@@ -1,4 +1,4 @@
-use Rattle.std.proofs.Common.{◌≡◌, ⊎_elim, ℕ, Bool, true, false, cond, List, [], ◌∷◌, ◌++◌, slice_get, Some, sym, refl, subst, is_ok}
+use Rattle.std.proofs.Common.{◌≡◌, ⊎_elim, Bool, true, false, cond, List, [], ◌∷◌, ◌++◌, slice_get, Some, sym, refl, subst, is_ok}
 use Rattle.lane_lock.specs.declared.kept.Kept as kept
 use Rattle.lane_lock.specs.declared.lock.LaneLock.{LaneLock}
 use Rattle.lane_lock.specs.declared.pass.Pass.{Pass}

@@ -1,5 +1,5 @@
 use Rattle.std.proofs.Common.{sym, arith}
-use Rattle.page_table.proofs.Descends.{next_at, through_within}
+use Rattle.table_words.proofs.Descends.{next_at, through_within}
 use Rattle.page_table.proofs.descent.+descend.Goals as goal
 
 pub returns-clause-lowest : goal.returns-clause-lowest

@@ -1,5 +1,5 @@
-use Rattle.page_table.specs.Levels.{levels_of}
-use Rattle.page_table.proofs.Releasing.{named_held}
+use Rattle.table_words.specs.Levels.{levels_of}
+use Rattle.table_words.proofs.Releasing.{named_held}
 use Rattle.page_table.proofs.laws.table_frames_are_held.Goals as goal
 
 pub returns : goal.returns

@@ -1,8 +1,8 @@
 use Rattle.std.proofs.Common.{◌≡◌, ◌+◌, ◌-◌, ◌++◌, ℕ, List, ◌∷◌, length, sym, ap, ◌∙◌, arith}
 use Rattle.std.specs.List.{flat_map, range_with_len}
 use Rattle.iofd_words.specs.declared.numbers.FrameNo.{FrameNo}
-use Rattle.page_table.specs.Under.{frames_of_entry, frames_under}
-use Rattle.page_table.proofs.Visiting.{absent_frames, all_entries, entry_small, holds_within, items_more, items_same, length_more, length_within, next_holds, no_entries, present_frames, some_under}
+use Rattle.table_words.specs.Under.{frames_of_entry, frames_under}
+use Rattle.table_words.proofs.Visiting.{absent_frames, all_entries, entry_small, holds_within, items_more, items_same, length_more, length_within, next_holds, no_entries, present_frames, some_under}
 use Rattle.page_table.proofs.visit.+collect.Goals as goal
 use Rattle.page_table.proofs.visit.+collect.Goals.{then-is_present, else-is_present}
 

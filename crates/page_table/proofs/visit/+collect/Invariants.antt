@@ -1,6 +1,6 @@
 use Rattle.std.proofs.Common.{◌≡◌, ◌+◌, ◌-◌, ◌++◌, ◌∷◌, length, vec_len, vec_capacity}
 use Rattle.std.specs.List.{flat_map, range_with_len}
-use Rattle.page_table.specs.Under.{frames_of_entry}
+use Rattle.table_words.specs.Under.{frames_of_entry}
 use Rattle.page_table.proofs.visit.+collect.Given as goal
 
 abbrev pub decreases-collect : goal.decreases-collect

@@ -1,8 +1,8 @@
 use Rattle.std.proofs.Common.{◌≡◌, ◌-◌, ℕ, List, length, sym, ap, arith}
 use Rattle.std.specs.List.{flat_map, range_with_len}
 use Rattle.iofd_words.specs.declared.numbers.FrameNo.{FrameNo}
-use Rattle.page_table.specs.Under.{frames_of_entry}
-use Rattle.page_table.proofs.Visiting.{absent_frames, all_entries, bound_kept, entry_small, holds_within, length_more, next_holds, no_entries, present_frames}
+use Rattle.table_words.specs.Under.{frames_of_entry}
+use Rattle.table_words.proofs.Visiting.{absent_frames, all_entries, bound_kept, entry_small, holds_within, length_more, next_holds, no_entries, present_frames}
 use Rattle.page_table.proofs.visit.+count.Goals as goal
 use Rattle.page_table.proofs.visit.+count.Goals.{then-is_present, else-is_present}
 

@@ -1,4 +1,4 @@
-use Rattle.page_table.specs.Rows.{without_page}
+use Rattle.table_words.specs.Rows.{without_page}
 use Rattle.page_table_tests.proofs.tables.cleared.Goals as goal
 
 pub returns : goal.returns

@@ -1,4 +1,4 @@
-use Rattle.page_table.specs.Mapped.{IsTable}
+use Rattle.table_words.specs.Mapped.{IsTable}
 use Rattle.page_table_tests.proofs.tables.first_wrong.Given as goal
 
 abbrev pub invariant-loop-place : goal.invariant-loop-place

@@ -7,4 +7,4 @@ pub returns : goal.returns
 returns g c =
     let settings = c.self.inside.state.config in
     let records = c.self.inside.records.items in
-    rw (← c.self.view_is, c.parts_of-len.ensures) (c.look.ensures (length records) (world_of settings records) records (tidy_run settings records c.self.invariant.run) c.self.invariant.shows)
+    rw (← c.self.view_is) (c.look.ensures (length records) (world_of settings records) records (tidy_run settings records c.self.invariant.run) c.self.invariant.shows)

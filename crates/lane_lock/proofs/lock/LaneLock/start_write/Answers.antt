@@ -1,9 +1,20 @@
 use Rattle.std.proofs.Common.{◌-◌, None, rules, sym, ap, ◌∙◌}
 use Rattle.std.specs.Prelude.{is_some}
 use Rattle.atomic_table.specs.Table.{rest}
+use Rattle.lane_lock.proofs.Climbs.{met}
 use Rattle.lane_lock.proofs.Guards.{idle_if_free}
-use Rattle.lane_lock.proofs.Writes.{took_first, own_free, takes_all, no_pin, stopped_stack, stopped_hand, stopped_lanes, stopped_long, stopped_rest}
+use Rattle.lane_lock.proofs.Writes.{took_first, own_free, takes_all, no_pin, stopped_pass, stopped_stack, stopped_hand, stopped_lanes, stopped_long, stopped_rest}
 use Rattle.lane_lock.proofs.lock.LaneLock.start_write.Goals as goal
+
+pub returns-then-found-ne0-clause-refused : goal.returns-then-found-ne0-clause-refused
+returns-then-found-ne0-clause-refused g c = let t = c.take_lane-found.ensures.told.1 c.if-found-ne0.true in
+    (search rules, search rules, search rules, met c.args.pass.now.seat.me _ _ _ _ t.0 c.holder_of.ensures t.2 t.3)
+
+pub put_back_upper-requires-clause-pass : goal.put_back_upper-requires-clause-pass
+put_back_upper-requires-clause-pass g c = let t = c.take_lane-found.ensures.told.0 (search rules) in
+    let f = took_first g.K.Kept.history g.K.Kept.maker c.args.pass.now.seat.me c.take_lane-found.new.seat.me c.exchange.new.seat.me _ t.0 c.in-Some.share t.1 t.2 c.in-Some.ensures.2 c.in-Some.ensures.3 t.3 in
+    let pass = c.args.pass.now in let s = c.in-Some-take_upper.ensures.told.1 in
+    stopped_pass g.K.Kept.history g.K.Kept.maker _ _ _ _ f _ _ s pass.stands.0 (search rules) pass.pinned
 
 pub put_back_upper-requires-clause-stack : goal.put_back_upper-requires-clause-stack
 put_back_upper-requires-clause-stack g c = let t = c.take_lane-found.ensures.told.0 (search rules) in

@@ -1,0 +1,476 @@
+//! Each event's refusals come in their order: where two neighbours apply, the first is the answer.
+
+use After::*;
+use Step::*;
+use iommufd_cli::session;
+use std::alloc::{AllocError, Global};
+use std::test::Fail;
+
+// Two frames, a user, two files of that user, and a device.
+const HEAD: &str = "pool 2\nuser 4\nfile 1\nfile 1\ndevice 0018 39\nbegin\n";
+
+// Two pages from here on lead above 2^64.
+const LAST_PAGE: u64 = 0xffff_ffff_ffff_f000;
+
+// Where users' addresses end.
+const USER_END: u64 = 1 << 48;
+
+// Flags of a MAP: FIXED_IOVA alone, and with it WRITEABLE and READABLE.
+const FIXED: u32 = 1;
+
+const ALL: u32 = 7;
+
+// What comes behind the fields of a structure whose size names 8 bytes more.
+#[derive(Clone, Copy)]
+enum After {
+    // 7 bytes, one of them not 0.
+    Cut,
+    // 8 bytes, one of them not 0, and a byte behind them.
+    Tail,
+    // 8 bytes that are 0, and a byte behind them.
+    More,
+    // 8 bytes that are 0.
+    Zeros,
+}
+
+// A line of a script, or many.
+#[derive(Clone, Copy)]
+enum Step {
+    // As it is written.
+    Line(&'static str),
+    // Commands of file 9, which isn't there, in structures of 8 bytes more: flags and reserved field, and those bytes.
+    LargeAlloc(u32, After),
+    LargeMap(u32, u32, After),
+    LargeUnmap(After),
+    LargeDestroy(After),
+    // IOAS_ALLOC: file.
+    Alloc(u16),
+    // MAP: file, flags, address space, user's address, length, iova.
+    Map(u16, u32, u32, u64, u64, u64),
+    // UNMAP: file, address space, iova, length.
+    Unmap(u16, u32, u64, u64),
+    // DESTROY: file, object.
+    Destroy(u16, u32),
+    // So many IOAS_ALLOC of file 1.
+    Allocs(u32),
+    // So many MAPs of the user's page at 0x10000 into address space 1 of file 1, side by side from iova 0 on.
+    Maps(u32),
+}
+
+// What has gone before, and steps that are asked then, with their answers. None of these changes anything.
+struct Chain {
+    what: &'static str,
+    before: &'static [Step],
+    asks: &'static [(Step, &'static str)],
+}
+
+// In a chain each step is like the one before it, cured of the cause by which that was refused: so the next step's
+// cause applies to a step as well as its own, and most often all later ones do. Comments say where it is otherwise,
+// or where another such row of steps begins.
+//
+// No step meets both of these neighbours:
+// - a size below the structure's, and one above 4096;
+// - IOAS_ALLOC, Id and Full: a file that isn't open has no objects;
+// - MAP, Id of the address space and Overlap, Full or Absent by pages that are to be pinned: what isn't there has
+//   neither areas nor a page table;
+// - UNMAP, Sum and Align: a length of 0 leads to no address above 2^64; Span twice is one answer;
+// - DESTROY, Id of the file and of the object are one answer; InUse and Bound: the first is of address spaces and page
+//   tables alone, the second of devices;
+// - close, Id and InUse: a file that isn't open has no device;
+// - bind, Id of the file and of the device are one answer; Id of the device and Bound: an unknown device isn't bound;
+// - attach, Id of the device and Bound: a device that isn't bound isn't attached.
+// A flush can be refused by Id alone.
+static CHAINS: [Chain; 20] = [
+    Chain {
+        what: "IOAS_ALLOC's structure",
+        before: &[],
+        asks: &[
+            (Line("ioctl 9 3b87 -"), "25 Number"),
+            // Fewer than 4 bytes have no size, so nothing else applies to them.
+            (Line("ioctl 9 3b81 -"), "22 Short"),
+            // A size of 4097, and 4 bytes.
+            (Line("ioctl 9 3b81 01100000"), "7 Tail"),
+            (LargeAlloc(1, Cut), "22 Short"),
+            (LargeAlloc(1, Tail), "7 Tail"),
+            (LargeAlloc(1, More), "95 Unsupported"),
+            (LargeAlloc(0, More), "22 Array"),
+            (LargeAlloc(0, Zeros), "2 Id"),
+        ],
+    },
+    Chain {
+        what: "a size below IOAS_ALLOC's, with an unknown flag",
+        before: &[],
+        asks: &[
+            (Line("ioctl 9 3b81 0b0000000100000000000000"), "22 Short"),
+            (
+                Line("ioctl 9 3b81 0c0000000100000000000000"),
+                "95 Unsupported",
+            ),
+        ],
+    },
+    Chain {
+        what: "MAP's structure",
+        before: &[],
+        asks: &[
+            // An unknown flag.
+            (LargeMap(ALL + 8, 0, Tail), "7 Tail"),
+            (LargeMap(ALL + 8, 0, More), "95 Unsupported"),
+            // Without FIXED_IOVA.
+            (LargeMap(ALL - FIXED, 0, Tail), "7 Tail"),
+            (LargeMap(ALL - FIXED, 0, More), "95 Unsupported"),
+            // A reserved field that isn't 0.
+            (Line("ioctl 9 3b85 01100000"), "7 Tail"),
+            (LargeMap(ALL, 1, Cut), "22 Short"),
+            (LargeMap(ALL, 1, Tail), "7 Tail"),
+            (LargeMap(ALL, 1, More), "95 Unsupported"),
+            (LargeMap(ALL, 0, More), "22 Array"),
+            (LargeMap(ALL, 0, Zeros), "2 Id"),
+        ],
+    },
+    Chain {
+        what: "UNMAP's structure, which has neither flags nor reserved fields",
+        before: &[],
+        asks: &[
+            (Line("ioctl 9 3b86 01100000"), "7 Tail"),
+            (LargeUnmap(Cut), "22 Short"),
+            (LargeUnmap(Tail), "7 Tail"),
+            (LargeUnmap(More), "22 Array"),
+            (LargeUnmap(Zeros), "2 Id"),
+        ],
+    },
+    Chain {
+        what: "DESTROY's structure, which has neither flags nor reserved fields",
+        before: &[],
+        asks: &[
+            (Line("ioctl 9 3b80 01100000"), "7 Tail"),
+            (LargeDestroy(Cut), "22 Short"),
+            (LargeDestroy(Tail), "7 Tail"),
+            (LargeDestroy(More), "22 Array"),
+            (LargeDestroy(Zeros), "2 Id"),
+        ],
+    },
+    Chain {
+        what: "a closed file",
+        before: &[Line("bind 1 1"), Line("close 2")],
+        asks: &[
+            // No cures: to the first Id applies too, to the last three NoRight, Sum and Bound.
+            (Line("ioctl 2 3b81 0c000000000000000000000000"), "22 Array"),
+            (Map(2, FIXED, 1, 0x10000, 0x1000, 0x1000), "2 Id"),
+            (Unmap(2, 1, LAST_PAGE, 0x2000), "2 Id"),
+            (Line("bind 2 1"), "2 Id"),
+        ],
+    },
+    Chain {
+        what: "MAP of pages that the user doesn't have, into an address space that isn't there",
+        before: &[],
+        asks: &[
+            // The user's addresses above 2^64.
+            (Map(9, FIXED, 9, LAST_PAGE, 0x2000, 0x1001), "2 Id"),
+            (Map(1, FIXED, 9, LAST_PAGE, 0x2000, 0x1001), "22 NoRight"),
+            (Map(1, ALL, 9, LAST_PAGE, 0x2000, 0x1001), "75 Sum"),
+            (Map(1, ALL, 9, USER_END, 0x2000, 0x1001), "22 Align"),
+            (Map(1, ALL, 9, USER_END, 0x2000, 0x1000), "14 Absent"),
+            (Map(1, ALL, 9, 0x10000, 0x2000, 0x1000), "2 Id"),
+            // The iova above 2^64.
+            (Map(1, FIXED, 9, USER_END, 0x2001, LAST_PAGE), "22 NoRight"),
+            (Map(1, ALL, 9, USER_END, 0x2001, LAST_PAGE), "75 Sum"),
+            (Map(1, ALL, 9, USER_END, 0x2001, 0x1000), "22 Align"),
+            (Map(1, ALL, 9, USER_END, 0x2000, 0x1000), "14 Absent"),
+            // A user's address within a page.
+            (Map(1, ALL, 9, LAST_PAGE + 1, 0x2000, 0x1000), "75 Sum"),
+            (Map(1, ALL, 9, USER_END + 1, 0x2000, 0x1000), "22 Align"),
+            // No bytes.
+            (Map(1, ALL, 9, LAST_PAGE, 0, 0x1000), "22 Align"),
+            (Map(1, ALL, 9, LAST_PAGE, 0x1000, 0x1000), "14 Absent"),
+        ],
+    },
+    Chain {
+        what: "MAP under a page table",
+        before: &[
+            Alloc(1),
+            Line("umap 1 10000"),
+            Line("bind 1 1"),
+            Line("attach 1 1"),
+            Map(1, ALL, 1, 0x10000, 0x1000, 0x1000),
+        ],
+        asks: &[
+            // In file 1's address space 1 the first would meet an area; file 2 has no address space.
+            (Map(2, ALL, 1, 0x20000, 0x1000, 0x1000), "2 Id"),
+            (Map(1, ALL, 1, 0x20000, 0x1000, 0x1000), "17 Overlap"),
+            (Map(1, ALL, 1, 0x20000, 0x1000, 0x2000), "14 Absent"),
+        ],
+    },
+    Chain {
+        what: "MAP into an address space that is full of areas",
+        before: &[
+            Alloc(1),
+            Line("umap 1 10000"),
+            Line("bind 1 1"),
+            Line("attach 1 1"),
+            Maps(65_535),
+        ],
+        asks: &[
+            // To the second Absent applies too.
+            (Map(1, ALL, 1, 0x20000, 0x1000, 0x1000), "17 Overlap"),
+            (Map(1, ALL, 1, 0x20000, 0x1000, 0x1000_0000), "28 Full"),
+        ],
+    },
+    Chain {
+        what: "UNMAP",
+        before: &[Alloc(1), Map(1, ALL, 1, 0x10000, 0x2000, 0x1000)],
+        asks: &[
+            // Above 2^64.
+            (Unmap(9, 9, LAST_PAGE, 0x2000), "2 Id"),
+            (Unmap(1, 9, LAST_PAGE, 0x2000), "75 Sum"),
+            (Unmap(1, 9, 0x5000, 0x1000), "2 Id"),
+            (Unmap(1, 1, 0x5000, 0x1000), "2 Span"),
+            // No bytes.
+            (Unmap(9, 9, 0x5000, 0), "2 Id"),
+            (Unmap(1, 9, 0x5000, 0), "22 Align"),
+            // A part of an area. In file 1's address space 1 the first would cut it; file 2 has no address space.
+            (Unmap(2, 1, 0x1000, 0x1000), "2 Id"),
+            (Unmap(1, 1, 0x1000, 0x1000), "2 Span"),
+        ],
+    },
+    Chain {
+        what: "DESTROY of another file's object, and of its own",
+        before: &[Alloc(1), Line("bind 1 1"), Line("attach 1 1")],
+        asks: &[
+            // Its address space, its page table, its device.
+            (Destroy(2, 1), "2 Id"),
+            (Destroy(1, 1), "16 InUse"),
+            (Destroy(2, 3), "2 Id"),
+            (Destroy(1, 3), "16 InUse"),
+            (Destroy(2, 2), "2 Id"),
+            (Destroy(1, 2), "16 Bound"),
+        ],
+    },
+    Chain {
+        what: "umap with no free frame",
+        before: &[Line("umap 1 10000"), Line("umap 1 11000")],
+        asks: &[
+            (Line("umap 2 10001"), "2 Id"),
+            (Line("umap 1 10001"), "22 Align"),
+            (Line("umap 1 10000"), "17 Overlap"),
+            (Line("umap 1 12000"), "12 Frames"),
+            // Above the users' addresses.
+            (Line("umap 2 1000000000000"), "2 Id"),
+            (Line("umap 1 1000000000000"), "22 Align"),
+        ],
+    },
+    Chain {
+        what: "a page that the user doesn't have",
+        before: &[],
+        asks: &[
+            (Line("uunmap 2 10001"), "2 Id"),
+            (Line("uunmap 1 10001"), "22 Align"),
+            (Line("uunmap 1 10000"), "14 Absent"),
+            // Above the users' addresses.
+            (Line("uunmap 2 1000000000000"), "2 Id"),
+            (Line("uunmap 1 1000000000000"), "22 Align"),
+            (Line("uread 2 10fff 2"), "2 Id"),
+            (Line("uread 1 10fff 2"), "22 Cross"),
+            (Line("uread 1 10fff 1"), "14 Absent"),
+            (Line("uwrite 2 10fff beef"), "2 Id"),
+            (Line("uwrite 1 10fff beef"), "22 Cross"),
+            (Line("uwrite 1 10fff be"), "14 Absent"),
+        ],
+    },
+    Chain {
+        what: "bind of a bound device",
+        before: &[Line("bind 1 1")],
+        asks: &[(Line("bind 9 1"), "2 Id"), (Line("bind 1 1"), "16 Bound")],
+    },
+    Chain {
+        what: "a file full of objects, the first the device",
+        before: &[
+            Line("bind 1 1"),
+            Allocs(65_534),
+            Map(1, ALL, 2, 0x10000, 0x1000, 0x1000),
+        ],
+        asks: &[
+            // To the first three Full applies too, to the last Absent: the user hasn't the page of the area.
+            (Line("bind 1 9"), "2 Id"),
+            (Line("bind 1 1"), "16 Bound"),
+            (Line("attach 1 65536"), "2 Id"),
+            (Line("attach 1 2"), "28 Full"),
+        ],
+    },
+    Chain {
+        what: "a file full of address spaces",
+        before: &[Allocs(65_535)],
+        asks: &[(Line("bind 1 1"), "28 Full"), (Alloc(1), "28 Full")],
+    },
+    Chain {
+        what: "attach of an attached device",
+        before: &[Alloc(1), Line("bind 1 1"), Line("attach 1 1")],
+        asks: &[
+            // Id applies too.
+            (Line("attach 1 9"), "16 Bound"),
+        ],
+    },
+    Chain {
+        what: "attach of a device that isn't attached",
+        before: &[
+            Alloc(1),
+            Map(1, ALL, 1, 0x10000, 0x1000, 0x1000),
+            Line("bind 1 1"),
+        ],
+        asks: &[
+            (Line("attach 1 9"), "2 Id"),
+            (Line("attach 1 1"), "14 Absent"),
+        ],
+    },
+    Chain {
+        what: "a device that isn't bound",
+        before: &[],
+        asks: &[
+            // Unattached applies to the first too, Cross to the others.
+            (Line("detach 1"), "2 Id"),
+            (Line("dwrite 1 1fff beef"), "2 Id"),
+            (Line("dread 1 1fff 2"), "2 Id"),
+        ],
+    },
+    Chain {
+        what: "a device that is bound",
+        before: &[Line("bind 1 1")],
+        asks: &[
+            (Line("detach 1"), "2 Unattached"),
+            // A refusal comes before a fault.
+            (Line("dwrite 1 1fff beef"), "22 Cross"),
+            (Line("dwrite 1 1fff be"), "fault 2 source 0018 page 1 write"),
+            (Line("dread 1 1fff 2"), "22 Cross"),
+            (Line("dread 1 1fff 1"), "fault 2 source 0018 page 1 read"),
+        ],
+    },
+];
+
+fn digits(after: After) -> &'static str {
+    match after {
+        Cut => "00000000000001",
+        Tail => "000000000000010000",
+        More => "000000000000000000",
+        Zeros => "0000000000000000",
+    }
+}
+
+fn put_step(script: &mut String, step: Step) -> Result<(), AllocError> {
+    match step {
+        Line(line) => writeln!(script, "{line}"),
+        LargeAlloc(flags, after) => writeln!(
+            script,
+            "ioctl 9 3b81 14000000{:08x}00000000{}",
+            flags.swap_bytes(),
+            digits(after)
+        ),
+        LargeMap(flags, reserved, after) => put_large_map(script, flags, reserved, after),
+        LargeUnmap(after) => writeln!(
+            script,
+            "ioctl 9 3b86 200000000100000000100000000000000010000000000000{}",
+            digits(after)
+        ),
+        LargeDestroy(after) => writeln!(script, "ioctl 9 3b80 1000000001000000{}", digits(after)),
+        Alloc(file) => put_alloc(script, file),
+        Map(file, flags, ioas, va, length, iova) => writeln!(
+            script,
+            "ioctl {file} 3b85 28000000{:08x}{:08x}00000000{:016x}{:016x}{:016x}",
+            flags.swap_bytes(),
+            ioas.swap_bytes(),
+            va.swap_bytes(),
+            length.swap_bytes(),
+            iova.swap_bytes()
+        ),
+        Unmap(file, ioas, iova, length) => writeln!(
+            script,
+            "ioctl {file} 3b86 18000000{:08x}{:016x}{:016x}",
+            ioas.swap_bytes(),
+            iova.swap_bytes(),
+            length.swap_bytes()
+        ),
+        Destroy(file, id) => writeln!(script, "ioctl {file} 3b80 08000000{:08x}", id.swap_bytes()),
+        Allocs(count) => put_allocs(script, count),
+        Maps(count) => put_maps(script, count),
+    }
+}
+
+fn put_large_map(
+    script: &mut String,
+    flags: u32,
+    reserved: u32,
+    after: After,
+) -> Result<(), AllocError> {
+    writeln!(
+        script,
+        "ioctl 9 3b85 30000000{:08x}01000000{:08x}000001000000000000100000000000000010000000000000{}",
+        flags.swap_bytes(),
+        reserved.swap_bytes(),
+        digits(after)
+    )
+}
+
+fn put_alloc(script: &mut String, file: u16) -> Result<(), AllocError> {
+    writeln!(script, "ioctl {file} 3b81 0c0000000000000000000000")
+}
+
+fn put_allocs(script: &mut String, count: u32) -> Result<(), AllocError> {
+    for _ in 0..count {
+        put_alloc(script, 1)?;
+    }
+    Ok(())
+}
+
+fn put_maps(script: &mut String, count: u32) -> Result<(), AllocError> {
+    for page in 0..count {
+        let iova = u64::from(page) * 0x1000;
+        writeln!(
+            script,
+            "ioctl 1 3b85 2800000007000000010000000000000000000100000000000010000000000000{:016x}",
+            iova.swap_bytes()
+        )?;
+    }
+    Ok(())
+}
+
+fn put_steps(script: &mut String, steps: &[Step]) -> Result<(), AllocError> {
+    for step in steps {
+        put_step(script, *step)?;
+    }
+    Ok(())
+}
+
+// Leads to the chain's situation, and then asks its steps.
+fn script_of(alloc: Global, chain: &Chain) -> Result<String, AllocError> {
+    let mut script = String::from_str(alloc, HEAD)?;
+    put_steps(&mut script, chain.before)?;
+    for (step, _) in chain.asks {
+        put_step(&mut script, *step)?;
+    }
+    Ok(script)
+}
+
+// The line feed before the answers, and each of their lines.
+fn answers_of(alloc: Global, chain: &Chain) -> Result<String, AllocError> {
+    let mut answers = String::from_str(alloc, "\n")?;
+    for (_, answer) in chain.asks {
+        answers.push_str(answer)?;
+        answers.push('\n')?;
+    }
+    Ok(answers)
+}
+
+// Whether the lines of the steps that are asked, which are the last ones, are their answers.
+fn is_answered(alloc: Global, chain: &Chain) -> Result<bool, Fail> {
+    let script = script_of(alloc, chain)?;
+    let answers = answers_of(alloc, chain)?;
+    let mut output = vec![in alloc; b'\n']?;
+    let status = session(alloc, &mut script.as_bytes(), &mut output)?;
+    Ok(status == 0 && output.ends_with(answers.as_bytes()))
+}
+
+#[test]
+fn the_first_refusal_that_applies_is_the_answer(rt: HostRuntime) -> Result<(), Fail> {
+    for chain in &CHAINS {
+        assert!(rt; is_answered(rt.alloc(), chain)?, "{}", chain.what);
+    }
+    Ok(())
+}

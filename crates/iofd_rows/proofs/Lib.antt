@@ -1,0 +1,16 @@
+pub mod Bools
+pub mod Contained
+pub mod Each
+pub mod Found
+pub mod ListTests
+pub mod Moves
+pub mod Named
+pub mod ObjectPages
+pub mod OnePin
+pub mod Owed
+pub mod OwnMemory
+pub mod PageLists
+pub mod PageTables
+pub mod Paid
+pub mod PinsFollow
+pub mod Settled

@@ -1,0 +1,3 @@
+pub mod Debts
+pub mod Ids
+pub mod Pinned

@@ -1,0 +1,107 @@
+-- Every event keeps each debtor attached to the address space of its area.
+use Rattle.std.proofs.Common.{◌≡◌, ℕ, true, false, not, Option, Some, None, List, refl}
+use Rattle.iofd_words.specs.After.{changed, map_changes, attach_changes, target_changes, detach_changes, settle, without_areas, attached, detached, mapped_area}
+use Rattle.iofd_words.specs.Answers.{Answers, IsHwptOf, IsTarget}
+use Rattle.iofd_words.specs.Areas.{is_touched}
+use Rattle.iofd_words.specs.Attachments.{attachment_of}
+use Rattle.iofd_words.specs.Checks.{refusal, is_used}
+use Rattle.iofd_rows.specs.Debts.{DebtsAttached}
+use Rattle.iofd_words.specs.Files.{user_of, device_of}
+use Rattle.iofd_rows.specs.Ids.{have_own_ids}
+use Rattle.iofd_words.specs.Objects.{binding_of, has_ioas, kind_of}
+use Rattle.iofd_words.specs.Settings.{DeviceSettings}
+use Rattle.iofd_words.specs.Tables.{with_tables}
+use Rattle.iofd_words.specs.View.{view}
+use Rattle.iofd_words.specs.World.{World}
+use Rattle.iofd_words.specs.declared.event.Event.{Event}
+use Rattle.iofd_words.specs.declared.event.Event.TheVariants as event
+use Rattle.iofd_words.specs.declared.event.MapRequest.{MapRequest}
+use Rattle.iofd_words.specs.declared.numbers.DeviceNo.{DeviceNo}
+use Rattle.iofd_words.specs.declared.numbers.FileNo.{FileNo}
+use Rattle.iofd_words.specs.declared.numbers.FrameNo.{FrameNo}
+use Rattle.iofd_words.specs.declared.numbers.ObjId.{ObjId}
+use Rattle.iofd_words.specs.declared.numbers.UserNo.{UserNo}
+use Rattle.iofd_words.specs.declared.reply.Reply.{Reply}
+use Rattle.iofd_words.specs.declared.reply.Reply.TheVariants as reply
+use Rattle.iofd_words.specs.declared.rows.Attachment.{Attachment}
+use Rattle.iofd_words.specs.declared.rows.Object.{Object}
+use Rattle.iofd_words.specs.declared.rows.ObjectKind.{ObjectKind}
+use Rattle.iofd_words.specs.declared.rows.ObjectKind.TheVariants as kind
+use Rattle.iofd_runs.proofs.AttachMoves.{owed_attached, owed_detached}
+use Rattle.iofd_rows.proofs.Moves.{owed_area, owed_fewer, owed_flush, owed_leaving, owed_object}
+use Rattle.iofd_runs.proofs.ObjectsGo.{owed_closed, owed_destroyed}
+use Rattle.iofd_rows.proofs.Owed.{EachOwed, debts_attached, each_owed, space_of}
+use Rattle.iofd_runs.proofs.OwnIds.{keeps_own_ids, unused}
+use Rattle.iofd_runs.proofs.NotRefused.{AttachPassed, attach_passed, destroy_passed, map_passed, passes}
+
+-- what holds of every world of a run
+pub record IsSound (w : World) : Type 0 where
+  pub own_ids : have_own_ids w.objects ≡ true
+  pub debts : DebtsAttached w
+
+abbrev IsOwed : World → Type 0
+IsOwed w = EachOwed w.objects w.attachments w.areas
+
+-- ---- what the refusals rule out
+
+map_has_space : (w : World) (file : FileNo) (request : MapRequest) → refusal w (event.Map file request) ≡ None → has_ioas w.objects file request.ioas ≡ true
+map_has_space w file request none = (map_passed (view w) file request (passes w (event.Map file request) none)).space
+
+destroy_unused : (w : World) (file : FileNo) (id : ObjId) → refusal w (event.Destroy file id) ≡ None → is_used (view w) file id (kind_of w.objects file id) ≡ false
+destroy_unused w file id none = (destroy_passed (view w) file id (passes w (event.Destroy file id) none)).unused
+
+attach_free : (w : World) (device : DeviceNo) (pt_id : ObjId) (object : Object) → binding_of w.objects device ≡ Some object → refusal w (event.Attach device pt_id) ≡ None → AttachPassed (view w) device pt_id object
+attach_free w device pt_id object is none = attach_passed (view w) device pt_id object is (passes w (event.Attach device pt_id) none)
+
+-- ---- each event
+
+keeps_owed : (at : ℕ) (w : World) (e : Event) (answer : Reply) → refusal w e ≡ None → Answers w e answer → have_own_ids w.objects ≡ true → IsOwed w → IsOwed (changed at w e answer)
+unfolding changed settle without_areas attached detached Answers
+keeps_owed at w (event.IoasAlloc file) (reply.Id id) none answers own each =
+    owed_object w.objects w.attachments w.areas (record { file = file; id = id; kind = kind.Ioas }) (unused w.objects file id answers) (λ ioas is. cc) each
+keeps_owed at w (event.Map file request) (reply.Iova iova) none answers own each = mapped (user_of w.settings file)
+  where
+    mapped : (user : Option UserNo) → IsOwed (map_changes at w file request iova user)
+    mapped None = each
+    mapped (Some user) = owed_area w.objects w.attachments w.areas (mapped_area at file request iova) refl (space_of w.objects file request.ioas (map_has_space w file request none)) each
+keeps_owed at w (event.Unmap file request) (reply.Bytes count) none answers own each = owed_fewer w.objects w.attachments w.areas (λ area. not (is_touched file request area)) each
+keeps_owed at w (event.Unmap file request) (reply.Pending errno) none answers own each = owed_leaving w.objects w.attachments w.areas file request each
+keeps_owed at w (event.Destroy file id) reply.Done none answers own each = owed_destroyed w file id (destroy_unused w file id none) each
+keeps_owed at w (event.Close file) reply.Done none answers own each = owed_closed w.objects w.attachments w.areas file each
+keeps_owed at w (event.UserMap user va) (reply.Frame frame) none answers own each = each
+keeps_owed at w (event.UserUnmap user va) reply.Done none answers own each = each
+keeps_owed at w (event.UserWrite user va bytes) reply.Done none answers own each = each
+keeps_owed at w (event.Bind file device) (reply.Id id) none answers own each =
+    owed_object w.objects w.attachments w.areas (record { file = file; id = id; kind = kind.Device device }) (unused w.objects file id answers) (λ ioas is. cc) each
+keeps_owed at w (event.Attach device pt_id) (reply.Id id) none answers own each = bound (binding_of w.objects device) refl (device_of w.settings device) answers
+  where
+    bound : (object : Option Object) → binding_of w.objects device ≡ object → (settings : Option DeviceSettings) → IsHwptOf w pt_id id object settings → IsOwed (attach_changes w device pt_id id object settings)
+    bound None is settings never = absurd never
+    bound (Some object) is None never = absurd never
+    bound (Some object) is (Some settings) hwpt = by_kind (kind_of w.objects object.file pt_id) refl hwpt
+      where
+        by_kind : (k : Option ObjectKind) → kind_of w.objects object.file pt_id ≡ k → IsTarget w object.file pt_id id settings.width k → IsOwed (target_changes w device pt_id id object settings k)
+        by_kind (Some kind.Ioas) space made = owed_attached w device object.file pt_id id settings.width own (attach_free w device pt_id object is none).unattached space made each
+        by_kind k space never = each
+keeps_owed at w (event.Detach device) reply.Done none answers own each = attached_or_not (attachment_of w.attachments device)
+  where
+    attached_or_not : (a : Option Attachment) → IsOwed (detach_changes w device a)
+    attached_or_not None = each
+    attached_or_not (Some a) = owed_detached w.objects w.attachments w.areas device a each
+keeps_owed at w (event.Flush device) reply.Done none answers own each = owed_flush w.objects w.attachments w.areas device each
+keeps_owed at w (event.DeviceWrite device iova bytes) (reply.Passed frame) none answers own each = each
+keeps_owed at w e answer none answers own each = each
+
+pub keeps_sound : (at : ℕ) (w : World) (e : Event) (answer : Reply) → refusal w e ≡ None → Answers w e answer → IsSound w → IsSound (changed at w e answer)
+keeps_sound at w e answer none answers sound = record {
+  own_ids = keeps_own_ids at w e answer none answers sound.own_ids;
+  debts = debts_attached (changed at w e answer) (keeps_owed at w e answer none answers sound.own_ids (each_owed w sound.debts));
+}
+
+-- the frames of tables are no part of it
+pub tabled_sound : (w : World) (taken given : List FrameNo) → IsSound w → IsSound (with_tables taken given w)
+unfolding with_tables
+tabled_sound w taken given sound = record {
+  own_ids = sound.own_ids;
+  debts = record { once = sound.debts.once; debtors = sound.debts.debtors; tables = sound.debts.tables; spaces = sound.debts.spaces; areas = sound.debts.areas };
+}

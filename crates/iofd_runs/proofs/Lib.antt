@@ -1,0 +1,14 @@
+pub mod AttachMoves
+pub mod AttachedPages
+pub mod KeepsDebts
+pub mod KeepsFits
+pub mod KeepsOwnMemory
+pub mod KeepsPins
+pub mod Known
+pub mod MappedPages
+pub mod NotRefused
+pub mod ObjectsGo
+pub mod OwnIds
+pub mod PinnedAccess
+pub mod Runs
+pub mod SamePages

@@ -1,0 +1,226 @@
+-- What it says of a world, or of what a server shows of one, that nothing refuses an event: a fact for each row of the event's table,
+-- by a name of its own.
+use Rattle.std.proofs.Common.{◌≡◌, ℕ, ◌^◌, Bool, true, false, ◌&&◌, ◌||◌, not, eqb, leb, is_none, is_some, Option, Some, None, List, ◌∷◌, length, refl}
+use Rattle.std.specs.List.{list_any}
+use Rattle.iofd_words.specs.Areas.{areas_meet, has_no_room, is_cut, is_everything, unmapped_span}
+use Rattle.iofd_words.specs.Attachments.{attachment_of}
+use Rattle.iofd_words.specs.Checks.{attach_checks, checks, is_device_object, is_used, lacks_attached_page, lacks_mapped_page, lacks_room_for_hwpt, refusal, target_checks, user_access_checks}
+use Rattle.iofd_words.specs.Files.{device_of, is_device, is_user}
+use Rattle.iofd_words.specs.FirstTrue.{first_true}
+use Rattle.iofd_words.specs.Objects.{has_ioas, is_bound_device, is_full, kind_of, objects_of}
+use Rattle.iofd_words.specs.Pages.{crosses, is_above_sum, is_above_user, is_whole, page_of}
+use Rattle.iofd_words.specs.Rights.{is_fixed}
+use Rattle.iofd_words.specs.Span.{span_from}
+use Rattle.iofd_words.specs.View.{View, view}
+use Rattle.iofd_words.specs.World.{World}
+use Rattle.iofd_words.specs.declared.event.Event.{Event}
+use Rattle.iofd_words.specs.declared.event.Event.TheVariants as event
+use Rattle.iofd_words.specs.declared.event.MapRequest.{MapRequest}
+use Rattle.iofd_words.specs.declared.event.UnmapRequest.{UnmapRequest}
+use Rattle.iofd_words.specs.declared.numbers.DeviceNo.{DeviceNo}
+use Rattle.iofd_words.specs.declared.numbers.FileNo.{FileNo}
+use Rattle.iofd_words.specs.declared.numbers.Iova.{Iova}
+use Rattle.iofd_words.specs.declared.numbers.ObjId.{ObjId}
+use Rattle.iofd_words.specs.declared.numbers.UserNo.{UserNo}
+use Rattle.iofd_words.specs.declared.refusal.Cause.TheVariants as cause
+use Rattle.iofd_words.specs.declared.rows.Object.{Object}
+use Rattle.iofd_words.specs.declared.rows.ObjectKind.{ObjectKind}
+use Rattle.iofd_words.specs.declared.rows.ObjectKind.TheVariants as kind
+use Rattle.iofd_rows.proofs.Bools.{or_false}
+use Rattle.iofd_runs.proofs.Runs.{tests_false}
+
+-- nothing refuses the event in the world: no test of its table is true
+pub passes : (w : World) (e : Event) → refusal w e ≡ None → first_true (checks (view w) e) ≡ None
+unfolding refusal
+passes w e none = none
+
+not_not : (b : Bool) → not b ≡ false → b ≡ true
+not_not true is = refl
+not_not false is = cc
+
+-- ---- files and objects
+
+pub record AllocPassed (v : View) (file : FileNo) : Type 0 where
+  pub opened : v.is_open file ≡ true
+  pub roomy : is_full v.objects file ≡ false
+
+pub alloc_passed : (v : View) (file : FileNo) → first_true (checks v (event.IoasAlloc file)) ≡ None → AllocPassed v file
+unfolding checks
+alloc_passed v file none = let rows = checks v (event.IoasAlloc file) in record { opened = not_not _ (tests_false rows 0 none); roomy = tests_false rows 1 none }
+
+pub record DestroyPassed (v : View) (file : FileNo) (id : ObjId) : Type 0 where
+  pub opened : v.is_open file ≡ true
+  pub there : is_none (kind_of v.objects file id) ≡ false
+  pub unused : is_used v file id (kind_of v.objects file id) ≡ false
+  pub no_device : is_device_object (kind_of v.objects file id) ≡ false
+
+pub destroy_passed : (v : View) (file : FileNo) (id : ObjId) → first_true (checks v (event.Destroy file id)) ≡ None → DestroyPassed v file id
+unfolding checks
+destroy_passed v file id none =
+    let rows = checks v (event.Destroy file id) in
+    record { opened = not_not _ (tests_false rows 0 none); there = tests_false rows 1 none; unused = tests_false rows 2 none; no_device = tests_false rows 3 none }
+
+pub record ClosePassed (v : View) (file : FileNo) : Type 0 where
+  pub opened : v.is_open file ≡ true
+  pub no_device : list_any (λ (o : Object). is_bound_device o.kind) (objects_of v.objects file) ≡ false
+
+pub close_passed : (v : View) (file : FileNo) → first_true (checks v (event.Close file)) ≡ None → ClosePassed v file
+unfolding checks
+close_passed v file none = let rows = checks v (event.Close file) in record { opened = not_not _ (tests_false rows 0 none); no_device = tests_false rows 1 none }
+
+-- ---- areas
+
+pub record MapPassed (v : View) (file : FileNo) (request : MapRequest) : Type 0 where
+  pub opened : v.is_open file ≡ true
+  pub fixed : is_fixed request.flags ≡ true
+  pub user_sum : is_above_sum request.user_va request.length ≡ false
+  pub sum : is_above_sum request.iova.0 request.length ≡ false
+  pub some : eqb request.length 0 ≡ false
+  pub whole : not (is_whole request.length && is_whole request.user_va && is_whole request.iova.0) ≡ false
+  pub in_user : is_above_user request.user_va request.length ≡ false
+  pub space : has_ioas v.objects file request.ioas ≡ true
+  pub apart : areas_meet (span_from request.iova.0 request.length) (v.areas_of file request.ioas) ≡ false
+  pub roomy : has_no_room (v.areas_of file request.ioas) ≡ false
+  pub present : lacks_mapped_page v file request ≡ false
+
+pub map_passed : (v : View) (file : FileNo) (request : MapRequest) → first_true (checks v (event.Map file request)) ≡ None → MapPassed v file request
+unfolding checks
+map_passed v file request none =
+    let rows = checks v (event.Map file request) in
+    let sums = or_false (is_above_sum request.user_va request.length) (is_above_sum request.iova.0 request.length) (tests_false rows 3 none) in
+    let aligned = or_false (eqb request.length 0) (not (is_whole request.length && is_whole request.user_va && is_whole request.iova.0)) (tests_false rows 4 none) in
+    record {
+      opened = not_not _ (tests_false rows 0 none);
+      fixed = not_not _ (tests_false rows 1 none);
+      user_sum = sums.0;
+      sum = sums.1;
+      some = aligned.0;
+      whole = aligned.1;
+      in_user = tests_false rows 5 none;
+      space = not_not _ (tests_false rows 6 none);
+      apart = tests_false rows 7 none;
+      roomy = tests_false rows 8 none;
+      present = tests_false rows 9 none;
+    }
+
+pub record UnmapPassed (v : View) (file : FileNo) (request : UnmapRequest) : Type 0 where
+  pub opened : v.is_open file ≡ true
+  pub sum : is_above_sum request.iova.0 request.length ≡ false
+  pub some : eqb request.length 0 ≡ false
+  pub space : has_ioas v.objects file request.ioas ≡ true
+  pub touches : (not (is_everything request) && not (areas_meet (unmapped_span request) (v.areas_of file request.ioas))) ≡ false
+  pub uncut : is_cut (unmapped_span request) (v.areas_of file request.ioas) ≡ false
+
+pub unmap_passed : (v : View) (file : FileNo) (request : UnmapRequest) → first_true (checks v (event.Unmap file request)) ≡ None → UnmapPassed v file request
+unfolding checks
+unmap_passed v file request none =
+    let rows = checks v (event.Unmap file request) in
+    record {
+      opened = not_not _ (tests_false rows 0 none);
+      sum = tests_false rows 1 none;
+      some = tests_false rows 2 none;
+      space = not_not _ (tests_false rows 3 none);
+      touches = tests_false rows 4 none;
+      uncut = tests_false rows 5 none;
+    }
+
+-- ---- users' memory
+
+pub record UserMapPassed (v : View) (user : UserNo) (va : ℕ) : Type 0 where
+  pub known : is_user v.settings user ≡ true
+  pub aligned : (not (is_whole va) || leb (2 ^ 48) va) ≡ false
+  pub unmapped : is_some (v.frame_at user (page_of va)) ≡ false
+  pub roomy : eqb v.free_count 0 ≡ false
+
+pub user_map_passed : (v : View) (user : UserNo) (va : ℕ) → first_true (checks v (event.UserMap user va)) ≡ None → UserMapPassed v user va
+unfolding checks
+user_map_passed v user va none =
+    let rows = checks v (event.UserMap user va) in
+    record { known = not_not _ (tests_false rows 0 none); aligned = tests_false rows 1 none; unmapped = tests_false rows 2 none; roomy = tests_false rows 3 none }
+
+pub record UserUnmapPassed (v : View) (user : UserNo) (va : ℕ) : Type 0 where
+  pub known : is_user v.settings user ≡ true
+  pub aligned : (not (is_whole va) || leb (2 ^ 48) va) ≡ false
+  pub mapped : is_none (v.frame_at user (page_of va)) ≡ false
+
+pub user_unmap_passed : (v : View) (user : UserNo) (va : ℕ) → first_true (checks v (event.UserUnmap user va)) ≡ None → UserUnmapPassed v user va
+unfolding checks
+user_unmap_passed v user va none =
+    let rows = checks v (event.UserUnmap user va) in
+    record { known = not_not _ (tests_false rows 0 none); aligned = tests_false rows 1 none; mapped = tests_false rows 2 none }
+
+-- of an access to so many bytes of the user's own memory
+pub record UserAccessPassed (v : View) (user : UserNo) (va len : ℕ) : Type 0 where
+  pub known : is_user v.settings user ≡ true
+  pub short : crosses va len ≡ false
+  pub mapped : is_none (v.frame_at user (page_of va)) ≡ false
+
+pub user_access_passed : (v : View) (user : UserNo) (va len : ℕ) → first_true (user_access_checks v user va len) ≡ None → UserAccessPassed v user va len
+user_access_passed v user va len none =
+    let rows = user_access_checks v user va len in
+    record { known = not_not _ (tests_false rows 0 none); short = tests_false rows 1 none; mapped = tests_false rows 2 none }
+
+pub user_write_passed : (v : View) (user : UserNo) (va : ℕ) (bytes : List ℕ) → first_true (checks v (event.UserWrite user va bytes)) ≡ None → UserAccessPassed v user va (length bytes)
+unfolding checks
+user_write_passed v user va bytes none = user_access_passed v user va (length bytes) none
+
+-- ---- devices
+
+pub record BindPassed (v : View) (file : FileNo) (device : DeviceNo) : Type 0 where
+  pub opened : v.is_open file ≡ true
+  pub known : is_device v.settings device ≡ true
+  pub unbound : is_some (v.binding_of device) ≡ false
+  pub roomy : is_full v.objects file ≡ false
+
+pub bind_passed : (v : View) (file : FileNo) (device : DeviceNo) → first_true (checks v (event.Bind file device)) ≡ None → BindPassed v file device
+unfolding checks
+bind_passed v file device none =
+    let rows = checks v (event.Bind file device) in
+    record { opened = not_not _ (tests_false rows 0 none); known = not_not _ (tests_false rows 1 none); unbound = tests_false rows 2 none; roomy = tests_false rows 3 none }
+
+-- of a device that is bound to the object's file
+pub record AttachPassed (v : View) (device : DeviceNo) (pt_id : ObjId) (bound : Object) : Type 0 where
+  pub unattached : is_some (attachment_of v.attachments device) ≡ false
+  pub space : kind_of v.objects bound.file pt_id ≡ Some kind.Ioas
+  pub roomy : lacks_room_for_hwpt v bound.file pt_id (device_of v.settings device) ≡ false
+  pub present : lacks_attached_page v bound.file pt_id ≡ false
+
+pub attach_passed : (v : View) (device : DeviceNo) (pt_id : ObjId) (bound : Object) → v.binding_of device ≡ Some bound → first_true (checks v (event.Attach device pt_id)) ≡ None → AttachPassed v device pt_id bound
+unfolding checks
+attach_passed v device pt_id bound is none =
+    let passed : first_true (attach_checks v device pt_id bound.file) ≡ None = rw (is, checks) at none in
+    let unattached = tests_false (attach_checks v device pt_id bound.file) 0 passed in
+    by_kind (kind_of v.objects bound.file pt_id) refl unattached (others (is_some (attachment_of v.attachments device)) unattached passed)
+  where
+    others : (first : Bool) → first ≡ false → first_true ((cause.Bound, first) ∷ target_checks v device pt_id bound.file (kind_of v.objects bound.file pt_id)) ≡ None → first_true (target_checks v device pt_id bound.file (kind_of v.objects bound.file pt_id)) ≡ None
+    others true is passed = cc
+    others false is passed = passed
+
+    by_kind : (k : Option ObjectKind) → kind_of v.objects bound.file pt_id ≡ k → is_some (attachment_of v.attachments device) ≡ false → first_true (target_checks v device pt_id bound.file k) ≡ None → AttachPassed v device pt_id bound
+    by_kind (Some kind.Ioas) is unattached passed =
+        let rows = target_checks v device pt_id bound.file (Some kind.Ioas) in
+        record { unattached = unattached; space = is; roomy = tests_false rows 0 passed; present = tests_false rows 1 passed }
+    by_kind (Some (kind.Hwpt ioas width automatic)) is unattached passed = cc
+    by_kind (Some (kind.Device other)) is unattached passed = cc
+    by_kind None is unattached passed = cc
+
+pub record DetachPassed (v : View) (device : DeviceNo) : Type 0 where
+  pub bound : is_none (v.binding_of device) ≡ false
+  pub attached : is_none (attachment_of v.attachments device) ≡ false
+
+pub detach_passed : (v : View) (device : DeviceNo) → first_true (checks v (event.Detach device)) ≡ None → DetachPassed v device
+unfolding checks
+detach_passed v device none = let rows = checks v (event.Detach device) in record { bound = tests_false rows 0 none; attached = tests_false rows 1 none }
+
+pub flush_passed : (v : View) (device : DeviceNo) → first_true (checks v (event.Flush device)) ≡ None → is_none (v.binding_of device) ≡ false
+unfolding checks
+flush_passed v device none = tests_false (checks v (event.Flush device)) 0 none
+
+-- of an access to so many bytes
+pub record AccessPassed (v : View) (device : DeviceNo) (iova : Iova) (len : ℕ) : Type 0 where
+  pub bound : is_none (v.binding_of device) ≡ false
+  pub short : crosses iova.0 len ≡ false
+
+pub write_passed : (v : View) (device : DeviceNo) (iova : Iova) (bytes : List ℕ) → first_true (checks v (event.DeviceWrite device iova bytes)) ≡ None → AccessPassed v device iova (length bytes)
+unfolding checks
+write_passed v device iova bytes none = let rows = checks v (event.DeviceWrite device iova bytes) in record { bound = tests_false rows 0 none; short = tests_false rows 1 none }

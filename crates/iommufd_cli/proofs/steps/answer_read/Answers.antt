@@ -1,5 +1,0 @@
-use Rattle.std.proofs.Common.{rules}
-use Rattle.iommufd_cli.proofs.steps.answer_read.Goals as goal
-
-pub returns : goal.returns
-returns g c = search rules

@@ -1,0 +1,16 @@
+use Rattle.std.proofs.Common.{sym, ◌∙◌, subst}
+use Rattle.iommufd_core.specs.Choice.{IsLooked}
+use Rattle.iommufd_core.proofs.DeviceReads.{answered_read, refused_read}
+use Rattle.iommufd_core.proofs.ViewShown.{same_query_refusal}
+use Rattle.iommufd_core.proofs.look.look.Goals as goal
+
+pub returns-in-Some : goal.returns-in-Some
+returns-in-Some g c = λ at w records tidy shows.
+    refused_read w records c.args.state.now shows c.args.query.now _ (sym c.in-Some.is ∙ c.refusal.ensures)
+
+pub returns-in-None : goal.returns-in-None
+returns-in-None g c = λ at w records tidy shows.
+    let query = c.args.query.now in
+    let none = sym c.in-None.is ∙ c.refusal.ensures in
+    let unrefused = sym (none ∙ same_query_refusal w c.args.state.now shows query) in
+    subst (λ lawful. IsLooked lawful c.answer.result) (sym (answered_read w records c.args.state.now shows query none)) (c.answer.ensures at w records tidy shows unrefused)

@@ -1,0 +1,36 @@
+//! A user reads its own memory.
+
+ghost use Rattle.std.specs.Prelude.{◌≡◌, ℕ, List, None};
+ghost use Rattle.iofd_words.specs.FirstTrue.{first_true};
+ghost use Rattle.iofd_words.specs.Look.{lawful_answers, query_checks};
+ghost use Rattle.iofd_words.specs.View.{view};
+ghost use Rattle.iofd_words.specs.World.{World};
+ghost use Rattle.iofd_words.specs.declared.query.Query.TheVariants as queries;
+ghost use Rattle.iofd_words.specs.declared.record.Record.{Record};
+ghost use Rattle.iommufd_core.specs.Choice.{IsLooked};
+ghost use Rattle.iommufd_core.specs.Shows.{Shows};
+ghost use Rattle.iommufd_core.specs.Step.{IsTidy};
+
+use crate::state::State;
+use crate::{bytes, pages};
+use iofd_words::{Answer, Cause, PAGE_SIZE, Refusal, UserNo};
+use std::alloc::Allocator;
+
+/// What the user is answered where nothing refuses it: the bytes of the page's frame, from the address's offset on.
+pub(crate) fn read<A: Allocator>(state: &State<A>, user: UserNo, va: u64, len: u8) -> Answer
+    ensures { (at : ℕ) (w : World) (records : List (Record A)) → IsTidy at w → Shows w state.now
+        → first_true (query_checks (view w) (queries.UserRead user va len)) ≡ None
+        → IsLooked (lawful_answers w records (queries.UserRead user va len)) result }
+{
+    // Nothing refuses it: so the user has the page, and the bytes are in it.
+    let absent = Answer::Refused(Refusal {
+        cause: Cause::Absent,
+    });
+    let Some(frame) = pages::frame_at(&state.user_pages, user, va / PAGE_SIZE) else {
+        return absent;
+    };
+    match bytes::burst_of(&state.frames, frame, va % PAGE_SIZE, usize::from(len)) {
+        Some(bytes) => Answer::Read(bytes),
+        None => absent,
+    }
+}

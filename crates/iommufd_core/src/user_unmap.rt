@@ -1,0 +1,47 @@
+//! UserUnmap: a page goes out of a user's memory.
+
+ghost use Rattle.std.specs.Prelude.{◌≡◌, ℕ};
+ghost use Rattle.iofd_words.specs.Checks.{checks};
+ghost use Rattle.iofd_words.specs.FirstTrue.{first_true};
+ghost use Rattle.iofd_words.specs.Frames.{without_page};
+ghost use Rattle.iofd_words.specs.declared.event.Event.TheVariants as event;
+ghost use Rattle.iommufd_core.specs.Seen.{seen};
+ghost use Rattle.iommufd_core.specs.Step.{Steps};
+
+use crate::pages;
+use crate::state::State;
+use iofd_words::{Cause, PAGE_SIZE, Reply, USER_END, UserNo, UserPage};
+use std::alloc::Allocator;
+
+/// Why it is refused.
+#[tactic(auto, unfolding(iofd_words::specs::Checks::checks))]
+pub(crate) fn refusal<A: Allocator>(state: &State<A>, user: UserNo, va: u64) -> Option<Cause>
+    ensures { result ≡ first_true (checks (seen state.now) (event.UserUnmap user va)) }
+{
+    if !state.config.has_user(user) {
+        return Some(Cause::Id);
+    }
+    if va % PAGE_SIZE != 0 || va >= USER_END {
+        return Some(Cause::Align);
+    }
+    if pages::frame_at(&state.user_pages, user, va / PAGE_SIZE).is_none() {
+        return Some(Cause::Absent);
+    }
+    None
+}
+
+/// What it does where nothing refuses it: the page goes. Pins of it stay at its frame, which is free only without them.
+/// It takes no memory.
+pub(crate) fn commit<A: Allocator>(state: &mut State<A>, user: UserNo, va: u64) -> Reply
+    ensures { (at : ℕ) → Steps at (event.UserUnmap user va) state.old result state.new }
+{
+    drop_page(&mut state.user_pages, user, va / PAGE_SIZE);
+    Reply::Done
+}
+
+/// Takes the user's page away. All others stay.
+fn drop_page<A: Allocator>(pages: &mut Vec<UserPage, A>, user: UserNo, page: u64)
+    ensures { pages.new.items ≡ without_page pages.old.items user page }
+{
+    pages.retain(|p| !(p.user == user && p.page == page));
+}

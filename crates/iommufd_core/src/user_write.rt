@@ -1,0 +1,44 @@
+//! UserWrite: a user writes its own memory.
+
+ghost use Rattle.std.specs.Prelude.{◌≡◌, ℕ};
+ghost use Rattle.iofd_words.specs.Checks.{checks};
+ghost use Rattle.iofd_words.specs.FirstTrue.{first_true};
+ghost use Rattle.iofd_words.specs.declared.event.Event.TheVariants as event;
+ghost use Rattle.iommufd_core.specs.Seen.{seen};
+ghost use Rattle.iommufd_core.specs.Step.{Steps};
+
+use crate::state::State;
+use crate::{bytes, pages, user_access};
+use iofd_words::{Burst, Cause, PAGE_SIZE, Reply, UserNo};
+use std::alloc::Allocator;
+
+/// Why it is refused.
+#[tactic(auto, unfolding(iofd_words::specs::Checks::checks))]
+pub(crate) fn refusal<A: Allocator>(
+    state: &State<A>,
+    user: UserNo,
+    va: u64,
+    bytes: &Burst,
+) -> Option<Cause>
+    ensures { result ≡ first_true (checks (seen state.now) (event.UserWrite user va bytes.now)) }
+{
+    user_access::refusal(state, user, va, bytes.as_slice().len())
+}
+
+/// What it does where nothing refuses it: the bytes stand in the page's frame, from the address's offset on. It takes no
+/// memory.
+pub(crate) fn commit<A: Allocator>(
+    state: &mut State<A>,
+    user: UserNo,
+    va: u64,
+    bytes: &Burst,
+) -> Reply
+    ensures { (at : ℕ) → Steps at (event.UserWrite user va bytes.now) state.old result state.new }
+{
+    // Nothing refuses it: so the user has the page.
+    if let Some(frame) = pages::frame_at(&state.user_pages, user, va / PAGE_SIZE) {
+        let start = bytes::start_of(frame) + va % PAGE_SIZE;
+        bytes::put(&mut state.frames, start, bytes.as_slice());
+    }
+    Reply::Done
+}

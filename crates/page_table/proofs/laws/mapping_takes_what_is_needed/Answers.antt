@@ -1,5 +1,0 @@
-use Rattle.page_table.proofs.Taking.{takes_needed}
-use Rattle.page_table.proofs.laws.mapping_takes_what_is_needed.Goals as goal
-
-pub returns : goal.returns
-returns c = takes_needed

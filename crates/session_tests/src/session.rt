@@ -1,0 +1,223 @@
+//! Whole sessions, over readers and writers that fail at each of their calls.
+
+use crate::fakes::{Comment, Input, Output};
+use iommufd_cli::{CliFault, InputFault, session};
+use std::alloc::Global;
+use std::io::ErrorKind;
+use std::test::Fail;
+
+// A mapped page, writes and reads, the page given up, and an UNMAP that waits for a flush.
+const SCRIPT: &str = "pool 8
+user 4
+file 1
+device 0018 39
+begin
+ioctl 1 3b81 0c0000000000000000000000
+umap 1 10000
+ioctl 1 3b85 28000000070000000100000000000000000001000000000000100000000000000010000000000000
+bind 1 1
+attach 1 1
+uwrite 1 10ffe beef
+dread 1 1ffe 2
+uunmap 1 10000
+uread 1 10ffe 2
+free
+dread 1 2000 1
+ioctl 1 3b86 180000000100000000100000000000000010000000000000
+flush 1
+ioctl 1 3b86 180000000100000000100000000000000010000000000000
+free
+";
+
+static LINES: [&str; 15] = [
+    "0 0c0000000000000001000000\n",
+    "ok frame 0\n",
+    "0 28000000070000000100000000000000000001000000000000100000000000000010000000000000\n",
+    "ok id 2\n",
+    "ok id 3\n",
+    "ok\n",
+    "ok beef\n",
+    "ok\n",
+    "14 Absent\n",
+    "ok 7\n",
+    "fault 6 source 0018 page 2 read\n",
+    "11 Pending\n",
+    "ok\n",
+    "0 180000000100000000100000000000000010000000000000\n",
+    "ok 8\n",
+];
+
+// The first lines, one behind the other.
+fn first_lines(alloc: Global, count: usize) -> Result<Vec<u8>, Fail> {
+    let mut text = Vec::new(alloc);
+    for line in LINES.iter().take(count) {
+        text.extend_from_slice(line.as_bytes())?;
+    }
+    Ok(text)
+}
+
+// Whether the session of the script has this status, and has written this.
+fn writes(alloc: Global, script: &str, status: u8, text: &[u8]) -> Result<bool, Fail> {
+    let mut reader = script.as_bytes();
+    let mut written = Vec::new(alloc);
+    let given = session(alloc, &mut reader, &mut written)?;
+    Ok(given == status && written.as_slice() == text)
+}
+
+#[test]
+fn worked_script(rt: HostRuntime) -> Result<(), Fail> {
+    let all = first_lines(rt.alloc(), LINES.len())?;
+    assert!(rt; writes(rt.alloc(), SCRIPT, 0, &all)?);
+    Ok(())
+}
+
+// Scripts with their status and what is written. The last line may lack its line feed.
+static SHORT_SCRIPTS: [(&str, u8, &str); 4] = [
+    ("", 1, "bad line 1\n"),
+    ("pool 8\nuser 4\nfile 2\nbegin\n", 1, "bad line 3\n"),
+    (
+        "pool 8\nuser 4\nfile 1\nbegin\nclose 1\nclose",
+        1,
+        "bad line 6\n",
+    ),
+    ("pool 8\nuser 4\nfile 1\nbegin\nclose 1", 0, "ok\n"),
+];
+
+#[test]
+fn short_scripts(rt: HostRuntime) -> Result<(), Fail> {
+    for (script, status, text) in &SHORT_SCRIPTS {
+        assert!(rt;
+            writes(rt.alloc(), script, *status, text.as_bytes())?,
+            "{text}"
+        );
+    }
+    Ok(())
+}
+
+// Whether a read that fails at this call ends the session, and nothing is written.
+fn ends_at_read(alloc: Global, bad: usize) -> bool {
+    let mut reader = Input::new(SCRIPT, 100, bad, ErrorKind::BrokenPipe);
+    let mut written = Vec::new(alloc);
+    let answer = session(alloc, &mut reader, &mut written);
+    matches!(answer, Err(CliFault::Input(InputFault::Read(_)))) && written.is_empty()
+}
+
+// Whether a read that is interrupted at this call is tried again, and all is written.
+fn reads_again(alloc: Global, bad: usize, all: &[u8]) -> Result<bool, Fail> {
+    let mut reader = Input::new(SCRIPT, 100, bad, ErrorKind::Interrupted);
+    let mut written = Vec::new(alloc);
+    let status = session(alloc, &mut reader, &mut written)?;
+    Ok(status == 0 && written.as_slice() == all)
+}
+
+#[test]
+fn failed_reads(rt: HostRuntime) -> Result<(), Fail> {
+    let all = first_lines(rt.alloc(), LINES.len())?;
+    for bad in 0..SCRIPT.len() / 100 + 2 {
+        assert!(rt; ends_at_read(rt.alloc(), bad), "at call {bad}");
+        assert!(rt; reads_again(rt.alloc(), bad, &all)?, "at call {bad}");
+    }
+    Ok(())
+}
+
+// Whether a write that fails at this call, each of at most so many bytes, ends the session there, and this is written.
+fn ends_at_write(alloc: Global, most: usize, bad: usize, text: &[u8]) -> bool {
+    let mut reader = SCRIPT.as_bytes();
+    let mut writer = Output::new(alloc, most, bad, ErrorKind::BrokenPipe);
+    let answer = session(alloc, &mut reader, &mut writer);
+    matches!(answer, Err(CliFault::Output(_)))
+        && writer.taken.as_slice() == text
+        && writer.calls.checked_sub(1) == Some(bad)
+}
+
+// Whether all is written by writes of at most so many bytes, where the one of this call is interrupted.
+fn writes_again(alloc: Global, most: usize, bad: usize, all: &[u8]) -> Result<bool, Fail> {
+    let mut reader = SCRIPT.as_bytes();
+    let mut writer = Output::new(alloc, most, bad, ErrorKind::Interrupted);
+    let status = session(alloc, &mut reader, &mut writer)?;
+    Ok(status == 0 && writer.taken.as_slice() == all)
+}
+
+#[test]
+fn failed_writes(rt: HostRuntime) -> Result<(), Fail> {
+    let all = first_lines(rt.alloc(), LINES.len())?;
+    for bad in 0..LINES.len() {
+        let lines = first_lines(rt.alloc(), bad)?;
+        assert!(rt;
+            ends_at_write(rt.alloc(), 192, bad, &lines),
+            "at line {bad}"
+        );
+        assert!(rt; writes_again(rt.alloc(), 192, bad, &all)?, "at line {bad}");
+    }
+    Ok(())
+}
+
+#[test]
+fn bytes_written_one_by_one(rt: HostRuntime) -> Result<(), Fail> {
+    let all = first_lines(rt.alloc(), LINES.len())?;
+    for bad in 0..all.len() {
+        assert!(rt;
+            ends_at_write(rt.alloc(), 1, bad, &all[..bad]),
+            "at byte {bad}"
+        );
+    }
+    assert!(rt; writes_again(rt.alloc(), 1, all.len(), &all)?);
+    Ok(())
+}
+
+// The kind of the error at a writer that takes no byte, and how often it was called.
+fn at_full_writer(alloc: Global, script: &str) -> (Option<ErrorKind>, usize) {
+    let mut reader = script.as_bytes();
+    let mut writer = Output::new(alloc, 0, 9, ErrorKind::Other);
+    match session(alloc, &mut reader, &mut writer) {
+        Err(CliFault::Output(error)) => (Some(error.kind()), writer.calls),
+        _ => (None, writer.calls),
+    }
+}
+
+#[test]
+fn a_writer_that_takes_nothing(rt: HostRuntime) {
+    for script in [SCRIPT, "pool 0\n"] {
+        assert!(rt; at_full_writer(rt.alloc(), script) == (Some(ErrorKind::WriteZero), 1));
+    }
+}
+
+#[test]
+fn longest_input(rt: HostRuntime) -> Result<(), Fail> {
+    let mut written = Vec::new(rt.alloc());
+    let mut reader = Comment::new(1 << 24);
+    assert_eq!(rt; session(rt.alloc(), &mut reader, &mut written)?, 1);
+    assert_eq!(rt; written.as_slice(), b"bad line 2\n".as_slice());
+    Ok(())
+}
+
+#[test]
+fn too_long_input(rt: HostRuntime) {
+    let mut written = Vec::new(rt.alloc());
+    let mut reader = Comment::new((1 << 24) + 1);
+    let answer = session(rt.alloc(), &mut reader, &mut written);
+    assert!(rt; matches!(answer, Err(CliFault::Input(InputFault::TooLong))));
+    assert!(rt; written.is_empty());
+}
+
+#[test]
+fn faults_in_words(rt: HostRuntime) -> Result<(), Fail> {
+    let pipe = || ErrorKind::BrokenPipe.into();
+    for (fault, words) in [
+        (
+            CliFault::Input(InputFault::TooLong),
+            "the input has more than 16777216 bytes",
+        ),
+        (
+            CliFault::Input(InputFault::Read(pipe())),
+            "can't read the input: broken pipe",
+        ),
+        (
+            CliFault::Output(pipe()),
+            "can't write the output: broken pipe",
+        ),
+    ] {
+        assert_eq!(rt; format!(in rt.alloc(); "{fault}")?.as_str(), words);
+    }
+    Ok(())
+}

@@ -1,0 +1,14 @@
+pub mod Cut
+pub mod Entries
+pub mod Extended
+pub mod Levels
+pub mod Mapped
+pub mod Needed
+pub mod Pruned
+pub mod Reached
+pub mod Released
+pub mod Rows
+pub mod SameTables
+pub mod Stands
+pub mod Taken
+pub mod Under
