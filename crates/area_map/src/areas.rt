@@ -3,18 +3,17 @@
 ghost use Rattle.std.specs.Prelude.{◌≡◌, ◌==◌, ◌↔◌, ◌+◌, ◌<◌, ◌≤◌, [], length, map, is_ok, IsOk, IfOk, IfErr, IfSome, IfNone, OnOk, OnErr, IsOkUnless, vec_len, vec_capacity};
 ghost use Rattle.std.specs.List.{list_any};
 ghost use Rattle.std.specs.Option.{option_copied};
-ghost use Rattle.std.specs.Slice.Iter.{iter_rest};
 ghost use Rattle.area_map.specs.Areas.{AreKept, with_area, area_of, is_covered, IsCovered, HasGap, marked, without_debt, areas_owe, areas_within, areas_outside, bytes_of, most_tries, tried};
 ghost use Rattle.iofd_words.specs.Areas.{areas_meet, has_no_room, is_cut, area_at};
 ghost use Rattle.area_map.specs.Insertion.{insert_refusal};
 
 use crate::insert_error::InsertError;
 use crate::insertion::MOST_AREAS;
+use crate::iter::Iter;
 use crate::{insertion, lookups, marking, removal, totals};
 use iofd_words::{Area, Cause, DeviceNo, DeviceSet, NoMemory, Refusal, Span};
 use std::alloc::{Allocator, Global};
 use std::marker::Model;
-use std::slice::Iter;
 
 /// The areas of one I/O address space: what IOMMU_IOAS_MAP and IOMMU_IOAS_COPY made and IOMMU_IOAS_UNMAP
 /// hasn't taken away (uapi header, `linux/iommufd.h`). No two overlap, and there are at most 65,535. A
@@ -98,11 +97,18 @@ impl<A: Allocator> Areas<A> {
     }
 
     /// The areas, by rising start.
-    pub fn iter(&self) -> Iter<'_, Area>
-        ensures areas { iter_rest result ≡ self.now.areas }
+    pub fn iter(&self) -> Iter<'_, A>
+        ensures areas { result ≡ self.now.areas }
         ensures kept { AreKept self.now.areas }
     {
-        self.sorted.iter()
+        Iter::new(&self.sorted, &self.sorted)
+    }
+
+    /// The areas that lie in the span, by rising start.
+    pub fn within(&self, span: Span) -> Iter<'_, A>
+        ensures { result ≡ areas_within span self.now.areas }
+    {
+        Iter::new(lookups::within(&self.sorted, span), &self.sorted)
     }
 
     /// Adds an area, before the first that begins after it.

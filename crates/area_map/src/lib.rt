@@ -5,6 +5,7 @@
 mod areas;
 mod insert_error;
 mod insertion;
+mod iter;
 mod lookups;
 mod marking;
 mod removal;
@@ -13,3 +14,4 @@ mod totals;
 pub use areas::Areas;
 pub use insert_error::InsertError;
 pub use insertion::MOST_AREAS;
+pub use iter::Iter;

@@ -259,6 +259,8 @@ fn a_read_gives_what_was_written(rt: HostRuntime) -> Result<(), Fail> {
     };
     assert!(rt; core.look(&by_user) == Answer::Read(written));
     assert!(rt; core.look(&Query::FreeFrames) == Answer::Count(1));
+    assert!(rt; core.look(&Query::Held(UserNo(1))) == Answer::Count(1));
+    assert!(rt; is_told(&core, &Query::Held(UserNo(2)), UNKNOWN));
     Ok(())
 }
 

@@ -6,8 +6,9 @@ use iommufd_cli::session;
 use std::alloc::{AllocError, Global};
 use std::test::Fail;
 
-// Two frames, a user, two files of that user, and a device.
-const HEAD: &str = "pool 2\nuser 4\nfile 1\nfile 1\ndevice 0018 39\nbegin\n";
+// Two frames, a user who may have as many pinned pages as there are areas, two files of that user, a user who may have
+// one, its file, which is file 3, and a device.
+const HEAD: &str = "pool 2\nuser 65535\nuser 1\nfile 1\nfile 1\nfile 2\ndevice 0018 39\nbegin\n";
 
 // Two pages from here on lead above 2^64.
 const LAST_PAGE: u64 = 0xffff_ffff_ffff_f000;
@@ -71,8 +72,8 @@ struct Chain {
 // No step meets both of these neighbours:
 // - a size below the structure's, and one above 4096;
 // - IOAS_ALLOC, Id and Full: a file that isn't open has no objects;
-// - MAP, Id of the address space and Overlap, Full or Absent by pages that are to be pinned: what isn't there has
-//   neither areas nor a page table;
+// - MAP, Id of the address space and Overlap, Full, Absent by pages that are to be pinned or Account: what isn't there
+//   has neither areas nor a page table;
 // - UNMAP, Sum and Align: a length of 0 leads to no address above 2^64; Span twice is one answer;
 // - DESTROY, Id of the file and of the object are one answer; InUse and Bound: the first is of address spaces and page
 //   tables alone, the second of devices;
@@ -80,7 +81,7 @@ struct Chain {
 // - bind, Id of the file and of the device are one answer; Id of the device and Bound: an unknown device isn't bound;
 // - attach, Id of the device and Bound: a device that isn't bound isn't attached.
 // A flush can be refused by Id alone.
-static CHAINS: [Chain; 20] = [
+static CHAINS: [Chain; 22] = [
     Chain {
         what: "IOAS_ALLOC's structure",
         before: &[],
@@ -210,9 +211,24 @@ static CHAINS: [Chain; 20] = [
             Maps(65_535),
         ],
         asks: &[
-            // To the second Absent applies too.
+            // To the second Absent and Account apply too.
             (Map(1, ALL, 1, 0x20000, 0x1000, 0x1000), "17 Overlap"),
             (Map(1, ALL, 1, 0x20000, 0x1000, 0x1000_0000), "28 Full"),
+        ],
+    },
+    Chain {
+        what: "MAP of more pages than its user may have pinned",
+        before: &[
+            Alloc(3),
+            Line("umap 2 10000"),
+            Line("umap 2 11000"),
+            Line("bind 3 1"),
+            Line("attach 1 1"),
+        ],
+        asks: &[
+            // The user has the first page alone.
+            (Map(3, ALL, 1, 0x11000, 0x2000, 0x1000), "14 Absent"),
+            (Map(3, ALL, 1, 0x10000, 0x2000, 0x1000), "12 Account"),
         ],
     },
     Chain {
@@ -249,12 +265,12 @@ static CHAINS: [Chain; 20] = [
         what: "umap with no free frame",
         before: &[Line("umap 1 10000"), Line("umap 1 11000")],
         asks: &[
-            (Line("umap 2 10001"), "2 Id"),
+            (Line("umap 3 10001"), "2 Id"),
             (Line("umap 1 10001"), "22 Align"),
             (Line("umap 1 10000"), "17 Overlap"),
             (Line("umap 1 12000"), "12 Frames"),
             // Above the users' addresses.
-            (Line("umap 2 1000000000000"), "2 Id"),
+            (Line("umap 3 1000000000000"), "2 Id"),
             (Line("umap 1 1000000000000"), "22 Align"),
         ],
     },
@@ -262,16 +278,16 @@ static CHAINS: [Chain; 20] = [
         what: "a page that the user doesn't have",
         before: &[],
         asks: &[
-            (Line("uunmap 2 10001"), "2 Id"),
+            (Line("uunmap 3 10001"), "2 Id"),
             (Line("uunmap 1 10001"), "22 Align"),
             (Line("uunmap 1 10000"), "14 Absent"),
             // Above the users' addresses.
-            (Line("uunmap 2 1000000000000"), "2 Id"),
+            (Line("uunmap 3 1000000000000"), "2 Id"),
             (Line("uunmap 1 1000000000000"), "22 Align"),
-            (Line("uread 2 10fff 2"), "2 Id"),
+            (Line("uread 3 10fff 2"), "2 Id"),
             (Line("uread 1 10fff 2"), "22 Cross"),
             (Line("uread 1 10fff 1"), "14 Absent"),
-            (Line("uwrite 2 10fff beef"), "2 Id"),
+            (Line("uwrite 3 10fff beef"), "2 Id"),
             (Line("uwrite 1 10fff beef"), "22 Cross"),
             (Line("uwrite 1 10fff be"), "14 Absent"),
         ],
@@ -319,6 +335,23 @@ static CHAINS: [Chain; 20] = [
         asks: &[
             (Line("attach 1 9"), "2 Id"),
             (Line("attach 1 1"), "14 Absent"),
+        ],
+    },
+    Chain {
+        what: "attach to address spaces of more pages than their user may have pinned",
+        before: &[
+            Alloc(3),
+            Alloc(3),
+            Line("umap 2 10000"),
+            Line("umap 2 11000"),
+            Map(3, ALL, 1, 0x11000, 0x2000, 0x1000),
+            Map(3, ALL, 2, 0x10000, 0x2000, 0x1000),
+            Line("bind 3 1"),
+        ],
+        asks: &[
+            // Of the first one's pages the user has one.
+            (Line("attach 1 1"), "14 Absent"),
+            (Line("attach 1 2"), "12 Account"),
         ],
     },
     Chain {

@@ -1,6 +1,6 @@
 //! The pages of the users' memory.
 
-ghost use Rattle.std.specs.Prelude.{◌≡◌, ◌<◌, ◌≤◌, ◌+◌, ◌-◌, [], slice_index, IfOk, IfSome, IfNone, OnOk, OnErr, IsOkUnless};
+ghost use Rattle.std.specs.Prelude.{◌≡◌, ◌<◌, ◌≤◌, ◌+◌, ◌-◌, [], length, slice_index, IfOk, IfSome, IfNone, OnOk, OnErr, IsOkUnless};
 ghost use Rattle.iofd_words.specs.Frames.{frame_at};
 ghost use Rattle.iofd_words.specs.Pages.{page_of};
 ghost use Rattle.frame_memory.specs.Pool.{given, least_free, with_holds};
@@ -41,11 +41,25 @@ impl<A: Allocator> UserMap<A> {
         }
     }
 
+    /// How many pages there are.
+    pub fn len(&self) -> usize
+        ensures { result ≡ length self.now.pages }
+    {
+        self.pages.len()
+    }
+
     /// The frame of the user's page that holds this user address, in bytes. It takes no memory.
     pub fn frame_at(&self, user: UserNo, va: u64) -> Option<FrameNo>
         ensures { result ≡ frame_at self.now.pages user (page_of va) }
     {
-        match user_rows::row_at(&self.pages, user, va / PAGE_SIZE) {
+        self.frame_of_page(user, va / PAGE_SIZE)
+    }
+
+    /// The frame of the user's page of this number, which is its address over 4096. It takes no memory.
+    pub fn frame_of_page(&self, user: UserNo, page: u64) -> Option<FrameNo>
+        ensures { result ≡ frame_at self.now.pages user page }
+    {
+        match user_rows::row_at(&self.pages, user, page) {
             Some(row) => Some(row.frame),
             None => None,
         }

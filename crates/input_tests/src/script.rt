@@ -68,6 +68,7 @@ enum Said<'a> {
     Read(u16, u64, u8),
     Write(u16, u64, &'a [u8]),
     FreeFrames,
+    Held(u16),
 }
 
 static WORKED_STEPS: [Said<'static>; 21] = [
@@ -128,6 +129,7 @@ fn says(alloc: Global, step: &Step, said: Said) -> bool {
             device.0 == of && iova.0 == at && burst.as_slice() == bytes
         }
         (Step::FreeFrames, Said::FreeFrames) => true,
+        (Step::Held(user), Said::Held(of)) => user.0 == of,
         _ => false,
     }
 }
@@ -228,8 +230,7 @@ fn error<A: Allocator + Copy>(alloc: A, script: &str) -> Option<ScriptError> {
 }
 
 // A script that is good but for one of these is bad at it.
-static BAD_STEPS: [&str; 48] = [
-    "held 1",
+static BAD_STEPS: [&str; 51] = [
     "access 1",
     "aattach 1 1 1",
     "adetach 1 1",
@@ -278,6 +279,10 @@ static BAD_STEPS: [&str; 48] = [
     "free ",
     "free 1",
     "Free",
+    "held",
+    "held 1 1",
+    "held 65536",
+    "held -1",
 ];
 
 #[test]
@@ -309,7 +314,7 @@ static NUMBERS: [(&str, Said<'static>); 5] = [
 ];
 
 // At the ends of what a user, an address and the bytes may be.
-static MEMORY_STEPS: [(&str, Said<'static>); 7] = [
+static MEMORY_STEPS: [(&str, Said<'static>); 9] = [
     ("uunmap 1 1000", Said::UserUnmap(1, 0x1000)),
     (
         "uunmap 65535 ffffffffffffffff",
@@ -327,6 +332,8 @@ static MEMORY_STEPS: [(&str, Said<'static>); 7] = [
         Said::UserWrite(65535, u64::MAX, &[0; 64]),
     ),
     ("free", Said::FreeFrames),
+    ("held 0", Said::Held(0)),
+    ("held 65535", Said::Held(65535)),
 ];
 
 // Whether the line is a step that says this.

@@ -4,6 +4,7 @@ pub mod FilesApart
 pub mod FreshIds
 pub mod KeepsBound
 pub mod KeepsFrames
+pub mod KeepsLimits
 pub mod MemoryApart
 pub mod OwnFrames
 pub mod SomeAnswer

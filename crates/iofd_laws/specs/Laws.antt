@@ -4,13 +4,14 @@ use Rattle.std.specs.List.{list_any}
 use Rattle.iofd_words.specs.Areas.{meets_area}
 use Rattle.iofd_words.specs.Frames.{is_reached}
 use Rattle.iofd_words.specs.Objects.{binding_of, objects_of}
-use Rattle.iofd_words.specs.Pins.{ObjectPage, frame_now, pinned_frame}
+use Rattle.iofd_words.specs.Pins.{ObjectPage, frame_now, held_by, pinned_frame}
 use Rattle.iofd_words.specs.World.{World}
 use Rattle.iofd_words.specs.declared.event.Event.{Event}
 use Rattle.iofd_words.specs.declared.event.Event.TheVariants as event
 use Rattle.iofd_words.specs.declared.numbers.DeviceNo.{DeviceNo}
 use Rattle.iofd_words.specs.declared.numbers.FileNo.{FileNo}
 use Rattle.iofd_words.specs.declared.numbers.FrameNo.{FrameNo}
+use Rattle.iofd_words.specs.declared.numbers.UserNo.{UserNo}
 use Rattle.iofd_words.specs.declared.rows.Area.{Area}
 use Rattle.iofd_words.specs.declared.rows.Attachment.{Attachment}
 use Rattle.iofd_words.specs.declared.rows.MemoryObject.{MemoryObject}
@@ -105,3 +106,7 @@ PinMoves old None now = Unit {0}
 abbrev pub pin_moves : ObjectPage → World → World → Type 0
 pin_moves page old new =
     PinMoves (pinned_frame old.pins page) (pinned_frame new.pins page) (frame_now new.memory new.user_pages page)
+
+-- how many pinned pages a user has
+abbrev pub held_in : World → UserNo → ℕ
+held_in w user = held_by (pinned_frame w.pins) w.memory user

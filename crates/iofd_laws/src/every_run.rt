@@ -1,14 +1,16 @@
 //! What is true of every run, each the contract of a function that does nothing.
 
-ghost use Rattle.std.specs.Prelude.{◌≡◌, ◌≢◌, ℕ, None, List, [], ◌∷◌, ◌++◌, length, IsTrue};
+ghost use Rattle.std.specs.Prelude.{◌≡◌, ◌≢◌, ◌≤◌, ℕ, Some, None, List, [], ◌∷◌, ◌++◌, length, IsTrue};
 ghost use Rattle.iofd_rows.specs.Debts.{DebtsAttached};
 ghost use Rattle.iofd_runs.specs.Fits.{RowsFit};
-ghost use Rattle.iofd_laws.specs.Laws.{are_apart, have_own_frames, has_memory, IsOfAnother, SameMemory, WasFree, rows_of};
+ghost use Rattle.iofd_runs.specs.Owned.{AreasOwned};
+ghost use Rattle.iofd_laws.specs.Laws.{are_apart, have_own_frames, has_memory, held_in, IsOfAnother, SameMemory, WasFree, rows_of};
 ghost use Rattle.iofd_rows.specs.Ids.{have_own_ids};
 ghost use Rattle.iofd_laws.specs.Laws.{pin_moves};
 ghost use Rattle.iofd_rows.specs.Pinned.{ArePinned};
 ghost use Rattle.iofd_words.specs.Answers.{Answers};
 ghost use Rattle.iofd_words.specs.Checks.{refusal};
+ghost use Rattle.iofd_words.specs.Files.{limit_of};
 ghost use Rattle.iofd_words.specs.Pins.{ObjectPage};
 ghost use Rattle.iofd_words.specs.Policy.{outcomes};
 ghost use Rattle.iofd_words.specs.Run.{IsRun, after, world_of};
@@ -18,6 +20,7 @@ ghost use Rattle.iofd_words.specs.declared.fault.AccessKind.{AccessKind};
 ghost use Rattle.iofd_words.specs.declared.numbers.DeviceNo.{DeviceNo};
 ghost use Rattle.iofd_words.specs.declared.numbers.FileNo.{FileNo};
 ghost use Rattle.iofd_words.specs.declared.numbers.FrameNo.{FrameNo};
+ghost use Rattle.iofd_words.specs.declared.numbers.UserNo.{UserNo};
 ghost use Rattle.iofd_words.specs.declared.record.Record.{Record};
 ghost use Rattle.iofd_words.specs.declared.reply.Reply.{Reply};
 ghost use Rattle.iofd_words.specs.declared.reply.Reply.TheVariants as reply;
@@ -80,6 +83,18 @@ pub fn every_event_has_an_answer<A: Allocator>()
 pub fn rows_fit<A: Allocator>()
     ensures { (settings : Settings) (records : List (Record A)) → IsRun settings records →
         RowsFit (world_of settings records) }
+{}
+
+/// In every run, the memory object under an area is of the user of the area's file.
+pub fn areas_are_of_the_files_user<A: Allocator>()
+    ensures { (settings : Settings) (records : List (Record A)) → IsRun settings records →
+        AreasOwned (world_of settings records) }
+{}
+
+/// In every run, no user has more pinned pages than its limit allows.
+pub fn limits_are_kept<A: Allocator>()
+    ensures { (settings : Settings) (records : List (Record A)) (user : UserNo) (limit : ℕ) → IsRun settings records →
+        limit_of settings user ≡ Some limit → held_in (world_of settings records) user ≤ limit }
 {}
 
 /// A record changes no object, area or attachment of a file that its event isn't of, and doesn't close it: not by a

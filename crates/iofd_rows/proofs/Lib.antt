@@ -9,6 +9,7 @@ pub mod ObjectPages
 pub mod OnePin
 pub mod Owed
 pub mod OwnMemory
+pub mod PageCounts
 pub mod PageLists
 pub mod PageTables
 pub mod Paid

@@ -72,7 +72,7 @@ later_pinned at w p = record {
 }
 
 -- the pages that are to be pinned in a world
-abbrev pages_in : World → List ObjectPage
+abbrev pub pages_in : World → List ObjectPage
 pages_in w = pinned_pages w.objects w.areas w.memory w.access_pins
 
 -- ---- where no pin comes or goes
@@ -239,7 +239,13 @@ mapped_pinned at w file request iova user fixed none is p =
         here : ((eqb at at && eqb (request.length / 4096 * 4096) (size_of (span_from iova.0 request.length))) || false) ≡ true
         here = rw (eqb_same at, size) refl
 
--- areas and objects go
+-- areas and objects go: no page comes
+pub gone_within : (w : World) (goes : Area → Bool) (left : List Object) (stays : MemoryObject → Bool) (page : ObjectPage) → ((file : FileNo) (ioas : ObjId) → has_hwpt left file ioas ≡ true → has_hwpt w.objects file ioas ≡ true)
+    → list_any (is_page page) (pinned_pages left (filter (λ (a : Area). not (goes a)) w.areas) (filter stays w.memory) w.access_pins) ≡ true → list_any (is_page page) (pages_in w) ≡ true
+gone_within w goes left stays page fewer within =
+    let parts = and_true (is_listed (filter stays w.memory) page) (is_translated left (filter (λ (a : Area). not (goes a)) w.areas) page.memory) (sym (in_pinned left (filter (λ (a : Area). not (goes a)) w.areas) (filter stays w.memory) w.access_pins page) ∙ within) in
+    in_pinned w.objects w.areas w.memory w.access_pins page ∙ both_true _ _ (listed_fewer stays w.memory page parts.0) (translated_fewer w.objects left goes w.areas page.memory fewer parts.1)
+
 gone_pinned : (at : ℕ) (w : World) (goes : Area → Bool) (left : List Object) (attachments : List Attachment) (allowed : List AllowedRanges) (closed : List FileNo) → ((file : FileNo) (ioas : ObjId) → has_hwpt left file ioas ≡ true → has_hwpt w.objects file ioas ≡ true) → ArePinned at w → ArePinned (at + 1) (settle w (record (without_areas goes w) { objects = left; attachments = attachments; allowed = allowed; closed = closed }))
 unfolding without_areas
 gone_pinned at w goes left attachments allowed closed fewer p =
@@ -251,7 +257,7 @@ gone_pinned at w goes left attachments allowed closed fewer p =
       sizes = sizes_left;
       used = areas-filter goes w.areas w.memory;
     })
-    (λ page within before. absurd (clash _ before (was page within)))
+    (λ page within before. absurd (clash _ before (gone_within w goes left stays page fewer within)))
   where
     stays : MemoryObject → Bool
     stays m = list_any (λ (a : Area). eqb a.memory m.number && not (goes a)) w.areas
@@ -272,21 +278,19 @@ gone_pinned at w goes left attachments allowed closed fewer p =
         let parts = in_filter (λ (a : Area). not (goes a)) w.areas a among in
         object_left a parts.0 parts.1 (of_each (has_object w.memory) w.areas a p.sizes parts.0))
 
-    was : (page : ObjectPage) → list_any (is_page page) (pinned_pages left (filter (λ (a : Area). not (goes a)) w.areas) (filter stays w.memory) w.access_pins) ≡ true → list_any (is_page page) (pages_in w) ≡ true
-    was page within =
-        let parts = and_true (is_listed (filter stays w.memory) page) (is_translated left (filter (λ (a : Area). not (goes a)) w.areas) page.memory) (sym (in_pinned left (filter (λ (a : Area). not (goes a)) w.areas) (filter stays w.memory) w.access_pins page) ∙ within) in
-        in_pinned w.objects w.areas w.memory w.access_pins page ∙ both_true _ _ (listed_fewer stays w.memory page parts.0) (translated_fewer w.objects left goes w.areas page.memory fewer parts.1)
+-- page tables come or go with a device: what is to be pinned then, and wasn't, is new
+pub moved_new : (w : World) (phase : Area → Phase) (left : List Object) (page : ObjectPage) → list_any (is_page page) (pinned_pages left (map (λ (a : Area). with_phase (phase a) a) w.areas) w.memory w.access_pins) ≡ true → list_any (is_page page) (pages_in w) ≡ false → IsNew w left page
+moved_new w phase left page within before =
+    let now = and_true (is_listed w.memory page) (is_translated left (map (λ (a : Area). with_phase (phase a) a) w.areas) page.memory) (sym (in_pinned left (map (λ (a : Area). with_phase (phase a) a) w.areas) w.memory w.access_pins page) ∙ within) in
+    let old = and_rest (is_listed w.memory page) (is_translated w.objects w.areas page.memory) now.0 (sym (in_pinned w.objects w.areas w.memory w.access_pins page) ∙ before) in
+    (now.0, sym (translated-map left phase w.areas page.memory) ∙ now.1, old)
 
--- page tables come or go with a device
 moved_pinned : (at : ℕ) (w : World) (phase : Area → Phase) (left : List Object) (attachments : List Attachment) → ((page : ObjectPage) → IsNew w left page → is_some (frame_now w.memory w.user_pages page) ≡ true) → ArePinned at w → ArePinned (at + 1) (settle w (record w { objects = left; attachments = attachments; areas = map (λ (a : Area). with_phase (phase a) a) w.areas }))
 moved_pinned at w phase left attachments present p =
     let q = other_phases at w phase p in
     settle_pinned at w (record w { objects = left; attachments = attachments; areas = map (λ (a : Area). with_phase (phase a) a) w.areas }) p
     (record { numbers = q.numbers; made = q.made; sizes = q.sizes; used = q.used })
-    (λ page within before.
-    let now = and_true (is_listed w.memory page) (is_translated left (map (λ (a : Area). with_phase (phase a) a) w.areas) page.memory) (sym (in_pinned left (map (λ (a : Area). with_phase (phase a) a) w.areas) w.memory w.access_pins page) ∙ within) in
-    let old = and_rest (is_listed w.memory page) (is_translated w.objects w.areas page.memory) now.0 (sym (in_pinned w.objects w.areas w.memory w.access_pins page) ∙ before) in
-    present page (now.0, sym (translated-map left phase w.areas page.memory) ∙ now.1, old))
+    (λ page within before. present page (moved_new w phase left page within before))
 
 -- ---- each event
 

@@ -3,6 +3,7 @@ pub mod AttachedPages
 pub mod KeepsDebts
 pub mod KeepsFits
 pub mod KeepsOwnMemory
+pub mod KeepsOwned
 pub mod KeepsPins
 pub mod Known
 pub mod MappedPages
@@ -12,3 +13,4 @@ pub mod OwnIds
 pub mod PinnedAccess
 pub mod Runs
 pub mod SamePages
+pub mod SameSettings

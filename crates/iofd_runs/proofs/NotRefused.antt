@@ -4,7 +4,7 @@ use Rattle.std.proofs.Common.{◌≡◌, ℕ, ◌^◌, Bool, true, false, ◌&&�
 use Rattle.std.specs.List.{list_any}
 use Rattle.iofd_words.specs.Areas.{areas_meet, has_no_room, is_cut, is_everything, unmapped_span}
 use Rattle.iofd_words.specs.Attachments.{attachment_of}
-use Rattle.iofd_words.specs.Checks.{attach_checks, checks, is_device_object, is_used, lacks_attached_page, lacks_mapped_page, lacks_room_for_hwpt, refusal, target_checks, user_access_checks}
+use Rattle.iofd_words.specs.Checks.{attach_checks, checks, is_device_object, is_used, lacks_attached_page, lacks_mapped_page, lacks_room_for_hwpt, passes_limit_attached, passes_limit_mapped, refusal, target_checks, user_access_checks}
 use Rattle.iofd_words.specs.Files.{device_of, is_device, is_user}
 use Rattle.iofd_words.specs.FirstTrue.{first_true}
 use Rattle.iofd_words.specs.Objects.{has_ioas, is_bound_device, is_full, kind_of, objects_of}
@@ -82,6 +82,7 @@ pub record MapPassed (v : View) (file : FileNo) (request : MapRequest) : Type 0 
   pub apart : areas_meet (span_from request.iova.0 request.length) (v.areas_of file request.ioas) ≡ false
   pub roomy : has_no_room (v.areas_of file request.ioas) ≡ false
   pub present : lacks_mapped_page v file request ≡ false
+  pub within_limit : passes_limit_mapped v file request ≡ false
 
 pub map_passed : (v : View) (file : FileNo) (request : MapRequest) → first_true (checks v (event.Map file request)) ≡ None → MapPassed v file request
 unfolding checks
@@ -101,6 +102,7 @@ map_passed v file request none =
       apart = tests_false rows 7 none;
       roomy = tests_false rows 8 none;
       present = tests_false rows 9 none;
+      within_limit = tests_false rows 10 none;
     }
 
 pub record UnmapPassed (v : View) (file : FileNo) (request : UnmapRequest) : Type 0 where
@@ -184,6 +186,7 @@ pub record AttachPassed (v : View) (device : DeviceNo) (pt_id : ObjId) (bound : 
   pub space : kind_of v.objects bound.file pt_id ≡ Some kind.Ioas
   pub roomy : lacks_room_for_hwpt v bound.file pt_id (device_of v.settings device) ≡ false
   pub present : lacks_attached_page v bound.file pt_id ≡ false
+  pub within_limit : passes_limit_attached v bound.file pt_id ≡ false
 
 pub attach_passed : (v : View) (device : DeviceNo) (pt_id : ObjId) (bound : Object) → v.binding_of device ≡ Some bound → first_true (checks v (event.Attach device pt_id)) ≡ None → AttachPassed v device pt_id bound
 unfolding checks
@@ -199,7 +202,7 @@ attach_passed v device pt_id bound is none =
     by_kind : (k : Option ObjectKind) → kind_of v.objects bound.file pt_id ≡ k → is_some (attachment_of v.attachments device) ≡ false → first_true (target_checks v device pt_id bound.file k) ≡ None → AttachPassed v device pt_id bound
     by_kind (Some kind.Ioas) is unattached passed =
         let rows = target_checks v device pt_id bound.file (Some kind.Ioas) in
-        record { unattached = unattached; space = is; roomy = tests_false rows 0 passed; present = tests_false rows 1 passed }
+        record { unattached = unattached; space = is; roomy = tests_false rows 0 passed; present = tests_false rows 1 passed; within_limit = tests_false rows 2 passed }
     by_kind (Some (kind.Hwpt ioas width automatic)) is unattached passed = cc
     by_kind (Some (kind.Device other)) is unattached passed = cc
     by_kind None is unattached passed = cc

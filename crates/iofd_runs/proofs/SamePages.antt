@@ -11,12 +11,29 @@ use Rattle.iofd_words.specs.declared.rows.Area.{Area}
 use Rattle.iofd_words.specs.declared.rows.MemoryObject.{MemoryObject}
 use Rattle.iofd_words.specs.declared.rows.Object.{Object}
 use Rattle.iofd_rows.specs.Pinned.{differ, has_object, have_own_memory, have_own_numbers}
-use Rattle.iofd_runs.proofs.AttachedPages.{covered}
 use Rattle.iofd_rows.proofs.Bools.{and_true, both_true, not_true}
 use Rattle.iofd_rows.proofs.ListTests.{alike, any_of_all, any_weaker, none_stronger}
-use Rattle.iofd_rows.proofs.ObjectPages.{has_page, in_pinned, is_listed, listed_is}
+use Rattle.iofd_rows.proofs.ObjectPages.{has_page, in_pinned, is_listed, listed_is, one_count}
 use Rattle.iofd_rows.proofs.OnePin.{differ-append, pages_differ}
 use Rattle.iofd_rows.proofs.PageLists.{any-if, any-pinned, in_pages, memory_of_page, memory_of_pinned, pages_by_area, pins_page}
+
+-- a page of an area's memory object is one of the area's pages
+covered : (memory : List MemoryObject) (a : Area) (page : ObjectPage) → have_own_numbers memory ≡ true → has_object memory a ≡ true → is_listed memory page ≡ true → eqb a.memory page.memory ≡ true → list_any (is_page page) (area_pages a) ≡ true
+covered memory a page own sized listed same =
+    let is : a.memory ≡ page.memory = eqb-true a.memory page.memory same in
+    let counted : list_any (λ (m : MemoryObject). eqb m.number page.memory && eqb m.count (size_of a.span / 4096)) memory ≡ true =
+    any_weaker (λ (m : MemoryObject). eqb m.number a.memory && eqb (m.count * 4096) (size_of a.span)) (λ (m : MemoryObject). eqb m.number page.memory && eqb m.count (size_of a.span / 4096)) memory
+    (λ m both. let parts = and_true (eqb m.number a.memory) (eqb (m.count * 4096) (size_of a.span)) both in both_true _ _ (rw is at parts.0) (counts m.count (size_of a.span) parts.1)) sized in
+    in_pages page a.memory (size_of a.span / 4096) ∙ both_true _ _ (flipped a.memory page.memory same) (one_count memory page (size_of a.span / 4096) own listed counted)
+  where
+    flipped : (m n : ℕ) → eqb m n ≡ true → eqb n m ≡ true
+    flipped m n is = grind (arith, nat_tests)
+
+    counts : (count size : ℕ) → eqb (count * 4096) size ≡ true → eqb count (size / 4096) ≡ true
+    counts count size is =
+        let whole : count * 4096 ≡ size = eqb-true (count * 4096) size is in
+        let divided : size / 4096 ≡ count = omega (arith, whole) in
+        rw divided (search (arith, nat_tests))
 
 pub same_pages : (objects : List Object) (areas : List Area) (memory : List MemoryObject) (pins : List AccessPin) (page : ObjectPage) → have_own_numbers memory ≡ true → list_all (has_object memory) areas ≡ true
     → list_any (is_page page) (pinned_pages objects areas memory pins) ≡ list_any (is_page page) (pages_by_area objects areas)

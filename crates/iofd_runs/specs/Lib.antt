@@ -1,1 +1,2 @@
 pub mod Fits
+pub mod Owned

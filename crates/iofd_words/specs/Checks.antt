@@ -1,14 +1,14 @@
 -- The refusals of each event, in their order, by what they read of a world: the first test that is true gives the cause. A closed
 -- or unknown file comes before all.
-use Rattle.std.specs.Prelude.{ℕ, ◌+◌, ◌/◌, ◌^◌, Bool, true, false, ◌==◌, ◌&&◌, ◌||◌, not, nat_le, Option, Some, None, is_some, is_none, List, [], ◌∷◌, length}
-use Rattle.std.specs.List.{list_any, list_all, range_with_len, flat_map}
+use Rattle.std.specs.Prelude.{ℕ, ◌+◌, ◌/◌, ◌^◌, Bool, true, false, ◌==◌, ◌&&◌, ◌||◌, not, nat_le, nat_lt, Option, Some, None, is_some, is_none, List, [], ◌∷◌, filter, length}
+use Rattle.std.specs.List.{list_any, list_all, range_with_len}
 use Rattle.iofd_words.specs.Areas.{areas_meet, has_no_room, is_cut, is_everything, unmapped_span}
 use Rattle.iofd_words.specs.Attachments.{attachment_of, has_device_on}
-use Rattle.iofd_words.specs.Files.{is_user, is_device, user_of, device_of}
+use Rattle.iofd_words.specs.Files.{is_user, is_device, limit_of, user_of, device_of}
 use Rattle.iofd_words.specs.FirstTrue.{first_true}
 use Rattle.iofd_words.specs.Objects.{kind_of, has_ioas, has_hwpt, automatic_hwpt, is_full, objects_of, is_bound_device}
 use Rattle.iofd_words.specs.Pages.{is_whole, page_of, is_above_sum, is_above_user, crosses}
-use Rattle.iofd_words.specs.Pins.{area_pages}
+use Rattle.iofd_words.specs.Pins.{ObjectPage, unpinned_pages}
 use Rattle.iofd_words.specs.Rights.{is_fixed, is_readable, is_writeable}
 use Rattle.iofd_words.specs.Settings.{DeviceSettings}
 use Rattle.iofd_words.specs.Span.{span_from}
@@ -40,11 +40,33 @@ lacks_mapped_page v file request =
     has_hwpt v.objects file request.ioas
     && elim (user_of v.settings file) [ Some user ↦ not (has_pages v.frame_at user (page_of request.user_va) (request.length / 4096)) | None ↦ true ]
 
--- the first page table of an address space pins the pages of all its areas, and needs those that aren't pinned yet
+-- the pages that the first page table of an address space pins: of the memory objects of all its areas, those that
+-- aren't pinned yet
+abbrev pub newly_pinned : View → FileNo → ObjId → List ObjectPage
+newly_pinned v file ioas =
+    unpinned_pages v.pinned_frame (filter (λ m. list_any (λ area. area.memory == m.number) (v.areas_of file ioas)) v.memory)
+
+-- they are needed
 abbrev pub lacks_attached_page : View → FileNo → ObjId → Bool
 lacks_attached_page v file ioas =
+    not (has_hwpt v.objects file ioas) && list_any (λ page. is_none (v.frame_now page)) (newly_pinned v file ioas)
+
+-- with so many pinned pages more the user would have more than the limit allows
+abbrev pub passes_limit : View → Option UserNo → ℕ → Bool
+passes_limit v None count = false
+passes_limit v (Some user) count =
+    elim (limit_of v.settings user) [ Some limit ↦ nat_lt limit (v.held_by user + count) | None ↦ false ]
+
+-- by a MAP into an address space with a page table
+abbrev pub passes_limit_mapped : View → FileNo → MapRequest → Bool
+passes_limit_mapped v file request =
+    has_hwpt v.objects file request.ioas && passes_limit v (user_of v.settings file) (request.length / 4096)
+
+-- by the first page table of an address space
+abbrev pub passes_limit_attached : View → FileNo → ObjId → Bool
+passes_limit_attached v file ioas =
     not (has_hwpt v.objects file ioas)
-    && list_any (λ page. is_none (v.pinned_frame page) && is_none (v.frame_now page)) (flat_map area_pages (v.areas_of file ioas))
+    && passes_limit v (user_of v.settings file) (length (newly_pinned v file ioas))
 
 -- others stand on the object: page tables on an address space, devices on a page table
 abbrev pub is_used : View → FileNo → ObjId → Option ObjectKind → Bool
@@ -85,6 +107,7 @@ abbrev pub target_checks : View → DeviceNo → ObjId → FileNo → Option Obj
 target_checks v device pt_id file (Some kind.Ioas) =
     (cause.Full, lacks_room_for_hwpt v file pt_id (device_of v.settings device))
     ∷ (cause.Absent, lacks_attached_page v file pt_id)
+    ∷ (cause.Account, passes_limit_attached v file pt_id)
     ∷ []
 target_checks v device pt_id file (Some (kind.Hwpt ioas width automatic)) = (cause.Id, true) ∷ []
 target_checks v device pt_id file (Some (kind.Device bound)) = (cause.Id, true) ∷ []
@@ -113,6 +136,7 @@ checks v (event.Map file request) =
     ∷ (cause.Overlap, areas_meet (span_from request.iova.0 request.length) (v.areas_of file request.ioas))
     ∷ (cause.Full, has_no_room (v.areas_of file request.ioas))
     ∷ (cause.Absent, lacks_mapped_page v file request)
+    ∷ (cause.Account, passes_limit_mapped v file request)
     ∷ []
 checks v (event.Unmap file request) =
     (cause.Id, not (v.is_open file))

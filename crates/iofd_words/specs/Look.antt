@@ -1,9 +1,11 @@
 -- The answers to questions, which change nothing.
-use Rattle.std.specs.Prelude.{ℕ, Bool, Option, Some, None, List, [], ◌∷◌, map}
+use Rattle.std.specs.Prelude.{ℕ, Bool, not, Option, Some, None, List, [], ◌∷◌, map}
 use Rattle.iofd_words.specs.Checks.{access_checks, user_access_checks}
 use Rattle.iofd_words.specs.FirstTrue.{first_true}
 use Rattle.iofd_words.specs.Frames.{bytes_at, frame_at, free_count}
+use Rattle.iofd_words.specs.Files.{is_user}
 use Rattle.iofd_words.specs.Pages.{offset_of, page_of}
+use Rattle.iofd_words.specs.Pins.{held_by, pinned_frame}
 use Rattle.iofd_words.specs.Policy.{Outcome, Passes, Denied, outcomes, fault_of}
 use Rattle.iofd_words.specs.Run.{world_of}
 use Rattle.iofd_words.specs.Settings.{Settings}
@@ -15,15 +17,17 @@ use Rattle.iofd_words.specs.declared.numbers.FrameNo.{FrameNo}
 use Rattle.iofd_words.specs.declared.query.Answer.{Answer}
 use Rattle.iofd_words.specs.declared.query.Answer.TheVariants as answer
 use Rattle.iofd_words.specs.declared.query.Query.{Query}
-use Rattle.iofd_words.specs.declared.query.Query.TheVariants.{DeviceRead, FreeFrames, UserRead}
+use Rattle.iofd_words.specs.declared.query.Query.TheVariants.{DeviceRead, FreeFrames, Held, UserRead}
 use Rattle.iofd_words.specs.declared.record.Record.{Record}
 use Rattle.iofd_words.specs.declared.refusal.Cause.{Cause}
+use Rattle.iofd_words.specs.declared.refusal.Cause.TheVariants as cause
 
 -- the refusals of a question, in their order
 abbrev pub query_checks : View → Query → List (Cause × Bool)
 query_checks v (DeviceRead device iova len) = access_checks v device iova len
 query_checks v (UserRead user va len) = user_access_checks v user va len
 query_checks v FreeFrames = []
+query_checks v (Held user) = (cause.Id, not (is_user v.settings user)) ∷ []
 
 -- how the outcome of a read is told: the bytes of the frame where it passes
 abbrev pub read_answer : World → DeviceNo → ℕ → ℕ → Outcome → Answer
@@ -40,6 +44,7 @@ abbrev pub lawful_answers : {A : Type 0} → World → List (Record A) → Query
 lawful_answers w records (DeviceRead device iova len) = map (read_answer w device iova.0 len) (outcomes w device iova.0 Read)
 lawful_answers w records (UserRead user va len) = user_bytes w va len (frame_at w.user_pages user (page_of va))
 lawful_answers w records FreeFrames = answer.Count (free_count w.settings.pool w.user_pages w.pins w.table_frames) ∷ []
+lawful_answers w records (Held user) = answer.Count (held_by (pinned_frame w.pins) w.memory user) ∷ []
 
 -- all lawful answers, in this world and after these records
 unfoldable pub answers_in : {A : Type 0} → World → List (Record A) → Query → List Answer

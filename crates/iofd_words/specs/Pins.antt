@@ -1,14 +1,15 @@
 -- Pinned pages: those of memory objects that an area in an address space with a hardware page table translates, or that an access
 -- object has pinned (iommufd.rst, "User Objects", on struct iopt_pages). A page keeps the frame that it had when it was pinned,
 -- whatever its user does, for as long as it stays pinned.
-use Rattle.std.specs.Prelude.{ℕ, ◌+◌, ◌*◌, ◌/◌, Bool, false, ◌==◌, ◌&&◌, ◌||◌, not, Option, Some, None, is_some, List, ◌++◌, map, filter, find}
-use Rattle.std.specs.List.{list_any, list_all, flat_map, filter_map, range_with_len}
+use Rattle.std.specs.Prelude.{ℕ, ◌+◌, ◌*◌, ◌/◌, Bool, false, ◌==◌, ◌&&◌, ◌||◌, not, Option, Some, None, is_some, is_none, List, ◌++◌, map, filter, find}
+use Rattle.std.specs.List.{count_by, list_any, list_all, flat_map, filter_map, range_with_len}
 use Rattle.iofd_words.specs.Bounds.{Bounds}
 use Rattle.iofd_words.specs.Pages.{page_of}
 use Rattle.iofd_words.specs.Span.{lies_in, size_of, span_from}
 use Rattle.iofd_words.specs.Objects.{has_hwpt, is_access_of, kind_of}
 use Rattle.iofd_words.specs.Frames.{frame_at}
 use Rattle.iofd_words.specs.declared.numbers.FrameNo.{FrameNo}
+use Rattle.iofd_words.specs.declared.numbers.UserNo.{UserNo}
 use Rattle.iofd_words.specs.declared.rows.AccessPin.{AccessPin}
 use Rattle.iofd_words.specs.declared.rows.Area.{Area}
 use Rattle.iofd_words.specs.declared.rows.MemoryObject.{MemoryObject}
@@ -94,3 +95,14 @@ settled before after memory user_pages pins =
 -- the frame that a page was pinned at
 abbrev pub pinned_frame : List Pin → ObjectPage → Option FrameNo
 pinned_frame pins page = elim (find (λ pin. is_page (page_of_pin pin) page) pins) [ Some pin ↦ Some pin.frame | None ↦ None ]
+
+-- ---- how many are charged to a user
+
+-- the pages of these memory objects of which a look-up finds no pin
+abbrev pub unpinned_pages : (ObjectPage → Option FrameNo) → List MemoryObject → List ObjectPage
+unpinned_pages pinned_frame memory = filter (λ page. is_none (pinned_frame page)) (flat_map pages_of memory)
+
+-- the user's account: how many pages of the user's memory objects are pinned, by a look-up of the pins
+abbrev pub held_by : (ObjectPage → Option FrameNo) → List MemoryObject → UserNo → ℕ
+held_by pinned_frame memory user =
+    count_by (λ page. is_some (pinned_frame page)) (flat_map pages_of (filter (λ m. m.user.0 == user.0) memory))

@@ -16,6 +16,7 @@ use Rattle.iofd_words.specs.declared.numbers.ObjId.{ObjId}
 use Rattle.iofd_words.specs.declared.numbers.UserNo.{UserNo}
 use Rattle.iofd_words.specs.declared.rows.Area.{Area}
 use Rattle.iofd_words.specs.declared.rows.Attachment.{Attachment}
+use Rattle.iofd_words.specs.declared.rows.MemoryObject.{MemoryObject}
 use Rattle.iofd_words.specs.declared.rows.Object.{Object}
 
 pub record View : Type 0 where
@@ -28,12 +29,15 @@ pub record View : Type 0 where
   pub attachments : List Attachment
   -- the areas of an address space
   pub areas_of : FileNo → ObjId → List Area
+  pub memory : List MemoryObject
   -- the frame of a page in a user's memory
   pub frame_at : UserNo → ℕ → Option FrameNo
   -- the frame that a page of a memory object has in its user's memory now
   pub frame_now : ObjectPage → Option FrameNo
   -- the frame at which a page of a memory object is pinned
   pub pinned_frame : ObjectPage → Option FrameNo
+  -- how many pinned pages a user has
+  pub held_by : UserNo → ℕ
   -- how many frames nobody reaches
   pub free_count : ℕ
 
@@ -47,8 +51,10 @@ view w =
       binding_of = object.binding_of w.objects;
       attachments = w.attachments;
       areas_of = area.areas_of w.areas;
+      memory = w.memory;
       frame_at = frame.frame_at w.user_pages;
       frame_now = pin.frame_now w.memory w.user_pages;
       pinned_frame = pin.pinned_frame w.pins;
+      held_by = pin.held_by (pin.pinned_frame w.pins) w.memory;
       free_count = frame.free_count w.settings.pool w.user_pages w.pins w.table_frames;
     }

@@ -22,6 +22,8 @@ pub enum Query {
     },
     /// How many frames of the pool are free.
     FreeFrames,
+    /// How many pinned pages a user has.
+    Held(UserNo),
 }
 
 /// The answer to a question.

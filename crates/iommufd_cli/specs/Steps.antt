@@ -90,3 +90,4 @@ module _ {A : Type 0} where
   IsAnswered s (step.DeviceRead device iova len) text after = IsAsked s (query.DeviceRead device iova len) text after
   IsAnswered s (step.DeviceWrite device iova bytes) text after = IsApplied s (event.DeviceWrite device iova bytes) reply_text text after
   IsAnswered s step.FreeFrames text after = IsAsked s query.FreeFrames text after
+  IsAnswered s (step.Held user) text after = IsAsked s (query.Held user) text after

@@ -44,6 +44,7 @@ pub fn answer_step<A: Allocator + Copy>(alloc: A, core: &mut Core<A>, step: &Ste
             answer_event(core, Event::DeviceWrite(*device, *iova, *bytes))
         }
         Step::FreeFrames => answer_query(core, &Query::FreeFrames),
+        Step::Held(user) => answer_query(core, &Query::Held(*user)),
     }
 }
 

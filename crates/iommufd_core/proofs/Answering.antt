@@ -52,8 +52,17 @@ pub tabled_shown : {A : Type 0} (w : World) (s : State A) → Shows w s → Show
 unfolding with_tables
 tabled_shown w s shows = record {
   settings = shows.settings;
+  limits = shows.limits;
   objects = shows.objects;
   devices = shows.devices;
-  memory = shows.memory;
-  frames = record { size = shows.frames.size; written = shows.frames.written; no_tables = rw shows.frames.no_tables refl };
+  users = shows.users;
+  pins = shows.pins;
+  frames = record {
+    size = shows.frames.size;
+    count = shows.frames.count;
+    full = shows.frames.full;
+    holds = shows.frames.holds;
+    written = shows.frames.written;
+    no_tables = rw shows.frames.no_tables refl;
+  };
 }

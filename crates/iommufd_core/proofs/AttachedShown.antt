@@ -1,11 +1,26 @@
 -- What is kept after an attachment came shows the world after it.
-use Rattle.std.proofs.Common.{◌≡◌, ◌<◌, ◌^◌, ℕ, true, not, Option, Some, None, List, ◌++◌, map, refl, sym, ◌∙◌, ap, subst, arith, ◌+◌}
+use Rattle.std.proofs.Common.{◌≡◌, ◌<◌, ◌^◌, ℕ, Bool, true, false, cond, eqb, not, Option, Some, None, List, [], map, refl, sym, ◌∙◌, ap, subst, arith, ◌+◌}
 use Rattle.iofd_words.specs.View.{view}
-use Rattle.iommufd_core.proofs.PinsKept.{only_kept, pins_follow}
+use Rattle.frame_memory.specs.Pool.{FramePool}
+use Rattle.iofd_rows.specs.Ids.{have_own_ids}
+use Rattle.iofd_words.specs.Frames.{frame_at}
+use Rattle.iofd_words.specs.declared.rows.UserPage.{UserPage}
+use Rattle.memory_rows.proofs.FramesFollow.{frames_follow, pins_same, translated_same}
+use Rattle.memory_rows.proofs.PinsFollow.{only_kept, pins_follow}
+use Rattle.memory_rows.proofs.Released.{settles_none}
+use Rattle.memory_rows.specs.Moves.{ArePinnedMore}
+use Rattle.memory_rows.specs.Shown.{FramesShown, over, translated}
+use Rattle.pinned_pages.specs.Objects.{pins_on}
+use Rattle.user_memory.specs.Memory.{Memory, table_pins}
+use Rattle.iommufd_core.proofs.AreasBecome.{own_at}
+use Rattle.iommufd_core.proofs.Flushed.{orderly}
+use Rattle.iommufd_core.specs.Mapping.{own_areas}
+use Rattle.iommufd_core.specs.Pinning.{Stays, newly_translated}
+use Rattle.iommufd_core.specs.Spaces.{IsOrderly}
 use Rattle.iofd_runs.proofs.NotRefused.{attach_passed, passes}
 use Rattle.iofd_runs.proofs.KeepsOwnMemory.{OwnPins, keeps_own_pins}
 use Rattle.std.specs.Prelude.{is_some}
-use Rattle.std.specs.List.{filter_map, find, list_all}
+use Rattle.std.specs.List.{count_by, find, list_all}
 use Rattle.std.specs.Option.{option_map}
 use Rattle.std.proofs.lemmas.Bool.Decides.{nat_tests}
 use Rattle.iofd_words.specs.After.{attach_changes, attached, changed, settle, with_hwpt, target_changes}
@@ -14,8 +29,8 @@ use Rattle.iofd_words.specs.Areas.{all_paid, areas_of}
 use Rattle.iofd_words.specs.Attachments.{with_attachment}
 use Rattle.iofd_words.specs.Checks.{refusal}
 use Rattle.iofd_words.specs.Files.{device_of}
-use Rattle.iofd_words.specs.Objects.{automatic_hwpt, binding_of, is_bound_as, is_fresh, kind_of, with_object}
-use Rattle.iofd_words.specs.Pins.{pin_now, pinned_pages, settled}
+use Rattle.iofd_words.specs.Objects.{automatic_hwpt, binding_of, has_hwpt, is_bound_as, is_fresh, kind_of, with_object}
+use Rattle.iofd_words.specs.Pins.{pinned_pages, settled}
 use Rattle.iofd_words.specs.Settings.{DeviceSettings, is_between}
 use Rattle.iofd_words.specs.World.{World}
 use Rattle.iofd_words.specs.declared.event.Event.TheVariants as event
@@ -32,14 +47,13 @@ use Rattle.iofd_rows.proofs.Bools.{both_true}
 use Rattle.iofd_rows.proofs.Found.{find-with_object}
 use Rattle.iofd_rows.proofs.Paid.{pays_none}
 use Rattle.iommufd_core.specs.Held.{areas_at, is_proper, object_of, objects_in}
-use Rattle.iommufd_core.specs.PinLists.{newly_pinned, width_of}
+use Rattle.iommufd_core.specs.PinLists.{width_of}
 use Rattle.iommufd_core.specs.Shows.{Shows}
-use Rattle.iommufd_core.specs.Step.{IsTidy}
+use Rattle.iommufd_core.specs.Step.{IsTidy, ShowsSame}
 use Rattle.iommufd_core.specs.declared.held.Held.{Held}
 use Rattle.iommufd_core.specs.declared.held.Held.TheVariants as held
 use Rattle.iommufd_core.specs.declared.state.State.{State}
-use Rattle.iommufd_core.proofs.Attached.{hwpt_object, never_unbound, pins_grown, was_unattached}
-use Rattle.iommufd_core.proofs.Detached.{all_pinned}
+use Rattle.iommufd_core.proofs.Attached.{hwpt_object, never_unbound, same_tables, table_gained, was_unattached}
 use Rattle.iommufd_core.proofs.Objects.{kind_at, kind_of_rows}
 use Rattle.iommufd_core.proofs.ObjectsMoved.{areas-inserted, objects-inserted, proper-inserted}
 use Rattle.object_table.specs.Table.{Row, Table, inserted, is_at, row_at}
@@ -106,6 +120,14 @@ module _ (at : ℕ) (w : World) (device : DeviceNo) (pt_id id : ObjId) (bound : 
       of_width : (d : DeviceSettings) → d.width ≡ width → automatic_hwpt w.objects bound.file pt_id d.width ≡ o
       of_width d same = ap (automatic_hwpt w.objects bound.file pt_id) same ∙ automatic
 
+-- the first page table translates the areas of its address space, another no more
+gained : (objects : List Object) (areas : List Area) (file : FileNo) (ioas id : ObjId) (width : Width) (n : ℕ) → translated (with_object (hwpt_object file ioas id width) objects) areas n ≡ translated objects areas n + over (newly_translated objects file ioas (areas_of areas file ioas)) n
+gained objects areas file ioas id width n = by_table (has_hwpt objects file ioas) refl
+  where
+    by_table : (b : Bool) → has_hwpt objects file ioas ≡ b → translated (with_object (hwpt_object file ioas id width) objects) areas n ≡ translated objects areas n + over (cond b [] (areas_of areas file ioas)) n
+    by_table true had = let same = translated_same objects (with_object (hwpt_object file ioas id width) objects) areas (same_tables objects areas file ioas id width had) n in omega (arith, same)
+    by_table false none = table_gained objects areas file ioas id width none n
+
 module _ {A : Type 0} where
   joined : (at : ℕ) (w : World) (s : State A) (device : DeviceNo) (pt_id id : ObjId) (bound : Object) (width : Width) (o : Option Object) → IsTidy at w → refusal w (event.Attach device pt_id) ≡ None
       → binding_of w.objects device ≡ Some bound
@@ -144,13 +166,13 @@ module _ {A : Type 0} where
           bindings = shows.devices.bindings;
           attached = ap (with_attachment (record { device = device; file = bound.file; hwpt = id })) shows.devices.attached ∙ sym added;
         };
-        memory = record {
-          objects = shows.memory.objects;
-          pages = shows.memory.pages;
-          pinned =
-              pins_follow at w s.pins.items tidy.pins shows.memory.pinned (at + 1) (grown w device bound.file pt_id id width (Some object)) next refl s.pins.items
-              (sym (all_pinned w device s.pins.items (only_kept at w s.pins.items tidy.pins shows.memory.pinned)));
-        };
+        limits = shows.limits;
+        users = shows.users;
+        pins =
+            pins_follow at (at + 1) w (grown w device bound.file pt_id id width (Some object)) s.memory s.memory s.pool s.pool tidy.pins next.pins shows.pins refl shows.users.pages shows.pins.rows
+            (λ n. shows.pins.areas n ∙ ap (λ (areas : List Area). over areas n) (sym paid))
+            (λ n. shows.pins.tables n ∙ ap (λ (areas : List Area). translated w.objects areas n) (sym paid))
+            (settles_none s.memory s.pool shows.pins.invariant (only_kept at w s.memory tidy.pins shows.pins));
         frames = shows.frames;
       })
 
@@ -169,30 +191,29 @@ module _ {A : Type 0} where
   abbrev new_row : FileNo → ObjId → ObjId → Width → Row (Held A)
   new_row file ioas id width = record { file = file; id = id; kind = of_kind.Hwpt; users = 0; value = held.Hwpt ioas width true }
 
-  pub shows_grown : (at : ℕ) (w : World) (s new : State A) (device : DeviceNo) (pt_id id : ObjId) (bound : Object) (width : Width) (table : Table (Held A)) → IsTidy at w → Shows w s → refusal w (event.Attach device pt_id) ≡ None
+  pub shows_grown : (at : ℕ) (w : World) (s new : State A) (device : DeviceNo) (pt_id id : ObjId) (bound : Object) (width : Width) (table : Table (Held A)) (after : Memory) (pool : FramePool) → IsTidy at w → Shows w s → refusal w (event.Attach device pt_id) ≡ None
       → find (λ object. is_bound_as device object.kind) s.bindings.items ≡ Some bound
       → width_of s.config device ≡ Some width
       → option_map (λ (object : Object). object.id) (automatic_hwpt (objects_in s.objects) bound.file pt_id width) ≡ None
       → table.rows ≡ s.objects.rows → table.files ≡ s.objects.files
       → row_at table bound.file id ≡ None → 0 < id.0 → id.0 < 2 ^ 31
       → new.objects.rows ≡ inserted (new_row bound.file pt_id id width) table.rows → new.objects.files ≡ table.files
-      → new.pins.items ≡ s.pins.items ++ filter_map (pin_now s.memory.items s.user_pages.items) (newly_pinned (objects_in table) bound.file pt_id (areas_at table.rows bound.file pt_id))
+      → ArePinnedMore (newly_translated (objects_in table) bound.file pt_id (own_areas table bound.file pt_id)) s.memory after s.pool pool
       → new.attachments.items ≡ with_attachment (record { device = device; file = bound.file; hwpt = id }) s.attachments.items
-      → Answers w (event.Attach device pt_id) (reply.Id id) × Shows (changed at w (event.Attach device pt_id) (reply.Id id)) (record s { objects = new.objects; attachments = new.attachments; pins = new.pins })
-  shows_grown at w s new device pt_id id bound width table tidy shows none binding wide automatic same_rows same_files free above below rows files pins added =
+      → Answers w (event.Attach device pt_id) (reply.Id id) × Shows (changed at w (event.Attach device pt_id) (reply.Id id)) (record s { objects = new.objects; attachments = new.attachments; memory = after; pool = pool })
+  shows_grown at w s new device pt_id id bound width table after pool tidy shows none binding wide automatic same_rows same_files free above below rows files more added =
       let binding_w : binding_of w.objects device ≡ Some bound = shows.devices.bindings device ∙ binding in
       let absent : automatic_hwpt w.objects bound.file pt_id width ≡ None = ap (λ (objects : List Object). automatic_hwpt objects bound.file pt_id width) shows.objects.rows ∙ none_found (automatic_hwpt (objects_in s.objects) bound.file pt_id width) automatic in
       let paid : all_paid device w.areas ≡ w.areas = pays_none w device tidy.debts (was_unattached w device pt_id bound none binding_w) in
       let free_s : row_at s.objects bound.file id ≡ None = ap (λ (rows : List (Row (Held A))). find (is_at bound.file id) rows) (sym same_rows) ∙ free in
       let rows_s : new.objects.rows ≡ inserted (new_row bound.file pt_id id width) s.objects.rows = rows ∙ ap (inserted (new_row bound.file pt_id id width)) same_rows in
       let files_s : new.objects.files ≡ s.objects.files = files ∙ same_files in
-      let newly : newly_pinned (objects_in table) bound.file pt_id (areas_at table.rows bound.file pt_id) ≡ newly_pinned w.objects bound.file pt_id (areas_of w.areas bound.file pt_id) =
-      ap (λ (rows : List (Row (Held A))). newly_pinned (map object_of rows) bound.file pt_id (areas_at rows bound.file pt_id)) same_rows
-      ∙ ap (λ (objects : List Object). newly_pinned objects bound.file pt_id (areas_at s.objects.rows bound.file pt_id)) (sym shows.objects.rows)
-      ∙ ap (newly_pinned w.objects bound.file pt_id) (sym (shows.objects.spaces bound.file pt_id)) in
-      let pins_w : new.pins.items ≡ s.pins.items ++ filter_map (pin_now w.memory w.user_pages) (newly_pinned w.objects bound.file pt_id (areas_of w.areas bound.file pt_id)) =
-      rw (shows.memory.objects, shows.memory.pages, ← newly) pins in
-      joined at w (record s { objects = new.objects; attachments = new.attachments; pins = new.pins }) device pt_id id bound width None tidy none binding_w (ap (λ settings. width_of settings device) shows.settings ∙ wide) absent (fresh_id w s bound.file id shows above below free_s) (λ next. record {
+      let is_orderly : IsOrderly table = let old = orderly at w s tidy shows in record { proper = ap (list_all is_proper) same_rows ∙ old.proper; ids = ap (λ (rows : List (Row (Held A))). have_own_ids (map object_of rows)) same_rows ∙ old.ids } in
+      let space : own_areas table bound.file pt_id ≡ areas_of w.areas bound.file pt_id = own_at table bound.file pt_id is_orderly ∙ ap (λ (rows : List (Row (Held A))). areas_at rows bound.file pt_id) same_rows ∙ sym (shows.objects.spaces bound.file pt_id) in
+      let objects : objects_in table ≡ w.objects = ap (map object_of) same_rows ∙ sym shows.objects.rows in
+      let newly : newly_translated (objects_in table) bound.file pt_id (own_areas table bound.file pt_id) ≡ newly_translated w.objects bound.file pt_id (areas_of w.areas bound.file pt_id) =
+      ap (λ (areas : List Area). newly_translated (objects_in table) bound.file pt_id areas) space ∙ ap (λ (rows : List Object). newly_translated rows bound.file pt_id (areas_of w.areas bound.file pt_id)) objects in
+      joined at w (record s { objects = new.objects; attachments = new.attachments; memory = after; pool = pool }) device pt_id id bound width None tidy none binding_w (ap (λ settings. width_of settings device) shows.settings ∙ wide) absent (fresh_id w s bound.file id shows above below free_s) (λ next. record {
         settings = shows.settings;
         objects = record {
           rows = ap (with_object (hwpt_object bound.file pt_id id width)) shows.objects.rows ∙ sym (objects-inserted (new_row bound.file pt_id id width) s.objects.rows) ∙ ap (map object_of) (sym rows_s);
@@ -204,14 +225,51 @@ module _ {A : Type 0} where
           bindings = λ d. find-with_object (λ (object : Object). is_bound_as d object.kind) (hwpt_object bound.file pt_id id width) w.objects refl ∙ shows.devices.bindings d;
           attached = ap (with_attachment (record { device = device; file = bound.file; hwpt = id })) shows.devices.attached ∙ sym added;
         };
-        memory = record {
-          objects = shows.memory.objects;
-          pages = shows.memory.pages;
-          pinned =
-              pins_follow at w s.pins.items tidy.pins shows.memory.pinned (at + 1) (grown w device bound.file pt_id id width None) next refl new.pins.items
-              (pins_w ∙ sym (pins_grown w device bound.file pt_id id width s.pins.items tidy.own (only_kept at w s.pins.items tidy.pins shows.memory.pinned)));
+        limits = more.settles.limits ∙ shows.limits;
+        users = record {
+          pages = λ u page. shows.users.pages u page ∙ ap (λ (rows : List UserPage). frame_at rows u page) (sym more.settles.pages);
+          counts = λ test. shows.users.counts test ∙ ap (count_by test) (sym more.settles.pages);
         };
-        frames = shows.frames;
+        pins =
+            pins_follow at (at + 1) w (grown w device bound.file pt_id id width None) s.memory after s.pool pool tidy.pins next.pins shows.pins refl
+            (λ u page. shows.users.pages u page ∙ ap (λ (rows : List UserPage). frame_at rows u page) (sym more.settles.pages))
+            (shows.pins.rows ∙ sym more.pins.rows)
+            (λ n. more.pins.areas n ∙ shows.pins.areas n ∙ ap (λ (areas : List Area). over areas n) (sym paid))
+            (λ n. more.pins.pins n ∙ ap (λ (areas : List Area). table_pins s.memory n + over areas n) newly ∙ ap (λ k. k + over (newly_translated w.objects bound.file pt_id (areas_of w.areas bound.file pt_id)) n) (shows.pins.tables n)
+            ∙ sym (gained w.objects w.areas bound.file pt_id id width n) ∙ ap (λ (areas : List Area). translated (with_object (hwpt_object bound.file pt_id id width) w.objects) areas n) (sym paid))
+            more.settles;
+        frames = frames_follow w.settings.pool w.writes w.table_frames s.memory after s.pool pool shows.frames more.settles.holds more.settles.bytes;
+      })
+
+  -- where memory was wanting nothing is seen to have changed
+  pub shows_stayed : (s new : State A) → new.objects.rows ≡ s.objects.rows → new.objects.files ≡ s.objects.files → new.attachments.items ≡ s.attachments.items → Stays s.memory new.memory s.pool new.pool
+      → ShowsSame s (record s { objects = new.objects; attachments = new.attachments; memory = new.memory; pool = new.pool })
+  shows_stayed s new rows files attachments stays w shows = record {
+    settings = shows.settings;
+    limits = stays.limits ∙ shows.limits;
+    objects = record {
+      rows = shows.objects.rows ∙ ap (map object_of) (sym rows);
+      proper = ap (list_all is_proper) rows ∙ shows.objects.proper;
+      spaces = λ f i. shows.objects.spaces f i ∙ ap (λ (l : List (Row (Held A))). areas_at l f i) (sym rows);
+      files = λ number. rw files (shows.objects.files number);
+    };
+    devices = record { bindings = shows.devices.bindings; attached = shows.devices.attached ∙ sym attachments };
+    users = record {
+      pages = λ u page. shows.users.pages u page ∙ ap (λ (l : List UserPage). frame_at l u page) (sym stays.pages);
+      counts = λ test. shows.users.counts test ∙ ap (count_by test) (sym stays.pages);
+    };
+    pins = pins_same w.objects w.areas w.memory w.pins s.memory new.memory shows.pins stays.objects;
+    frames = frames_stay w s new stays shows.frames;
+  }
+    where
+      frames_stay : (w : World) (s new : State A) → Stays s.memory new.memory s.pool new.pool → FramesShown w.settings.pool w.writes w.table_frames s.memory s.pool → FramesShown w.settings.pool w.writes w.table_frames new.memory new.pool
+      frames_stay w s new stays shown = subst (FramesShown w.settings.pool w.writes w.table_frames new.memory) (sym stays.pool) (record {
+        size = shown.size;
+        count = shown.count;
+        full = shown.full;
+        holds = λ f. shown.holds f ∙ sym (ap (λ (l : List UserPage). count_by (λ page. eqb page.frame.0 f) l + pins_on new.memory.objects f) stays.pages ∙ ap (λ n. count_by (λ page. eqb page.frame.0 f) s.memory.pages + n) (stays.objects.named f));
+        written = shown.written;
+        no_tables = shown.no_tables;
       })
 
   -- a device that isn't bound was refused

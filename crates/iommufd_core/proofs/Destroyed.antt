@@ -1,21 +1,24 @@
 -- An object that was destroyed: an address space with its areas, or a page table with pins.
-use Rattle.std.proofs.Common.{◌≡◌, ℕ, Vec, Bool, true, false, cond, ◌&&◌, ◌||◌, not, eqb, is_none, Option, Some, None, List, [], ◌∷◌, Contains, map, refl, sym, ◌∙◌, ap, arith, ◌+◌}
+use Rattle.std.proofs.Common.{◌≡◌, ℕ, Bool, true, false, cond, ◌&&◌, ◌||◌, not, eqb, is_none, Option, Some, None, List, [], ◌∷◌, map, refl, sym, ◌∙◌, ap, arith, ◌+◌}
 use Rattle.iofd_words.specs.Answers.{Answers}
-use Rattle.iommufd_core.proofs.PinsKept.{only_kept, pins_follow}
+use Rattle.iofd_runs.proofs.KeepsPins.{keeps_pins}
 use Rattle.iofd_runs.proofs.NotRefused.{destroy_passed, passes}
-use Rattle.iofd_runs.proofs.KeepsOwnMemory.{OwnPins, keeps_own_pins}
-use Rattle.iofd_rows.proofs.OwnMemory.{have_areas}
-use Rattle.iofd_rows.proofs.PageLists.{pages_by_area}
+use Rattle.iofd_runs.proofs.OwnIds.{own_ids-filter}
+use Rattle.frame_memory.specs.Pool.{FramePool}
+use Rattle.memory_rows.proofs.FramesFollow.{translated_same}
+use Rattle.memory_rows.proofs.Gone.{objects_left, over_parts, table_lost, translated_parts, translated_space}
+use Rattle.memory_rows.specs.Moves.{IsReleased, MayRelease, if_translated}
+use Rattle.memory_rows.specs.Shown.{over, translated}
+use Rattle.user_memory.specs.Changes.{never}
+use Rattle.user_memory.specs.Memory.{Memory}
+use Rattle.iofd_rows.specs.Pinned.{ArePinned}
 use Rattle.std.specs.List.{filter, list_all, list_any}
 use Rattle.std.proofs.lemmas.Bool.Decides.{nat_tests}
-use Rattle.std.proofs.lemmas.List.Folds.{list_any_at}
 use Rattle.iofd_words.specs.After.{settle, without_areas, changed}
 use Rattle.iofd_words.specs.Areas.{areas_of, is_of}
 use Rattle.iofd_words.specs.Checks.{is_device_object, is_used, refusal}
 use Rattle.iofd_rows.specs.Ids.{have_own_ids}
-use Rattle.iofd_words.specs.Objects.{has_hwpt, is_bound_as, is_bound_device, is_hwpt_over, is_object, kind_of, without_object}
-use Rattle.iofd_rows.specs.Pinned.{have_own_memory}
-use Rattle.iofd_words.specs.Pins.{settled, is_page, page_of_pin}
+use Rattle.iofd_words.specs.Objects.{has_hwpt, is_bound_as, is_bound_device, is_hwpt_over, kind_of, without_object}
 use Rattle.iofd_words.specs.View.{view}
 use Rattle.iofd_words.specs.World.{World}
 use Rattle.iofd_words.specs.declared.event.Event.TheVariants as event
@@ -24,21 +27,22 @@ use Rattle.iofd_words.specs.declared.numbers.DeviceNo.{DeviceNo}
 use Rattle.iofd_words.specs.declared.numbers.FileNo.{FileNo}
 use Rattle.iofd_words.specs.declared.numbers.ObjId.{ObjId}
 use Rattle.iofd_words.specs.declared.rows.Area.{Area}
-use Rattle.iofd_words.specs.declared.rows.MemoryObject.{MemoryObject}
 use Rattle.iofd_words.specs.declared.rows.Object.{Object}
 use Rattle.iofd_words.specs.declared.rows.ObjectKind.{ObjectKind}
 use Rattle.iofd_words.specs.declared.rows.ObjectKind.TheVariants as kind
-use Rattle.iofd_words.specs.declared.rows.Pin.{Pin}
 use Rattle.iofd_words.specs.declared.width.Width.{Width}
 use Rattle.iofd_rows.proofs.Bools.{and_true, clash}
 use Rattle.iofd_rows.proofs.Found.{all_filter}
-use Rattle.iofd_rows.proofs.ListTests.{any-filter, false_else, filter_all}
-use Rattle.iofd_rows.proofs.PageTables.{hwpt-filter, hwpt_alike}
-use Rattle.iofd_rows.proofs.Settled.{kept_memory, kept_pins, named_by_area}
+use Rattle.iofd_rows.proofs.ListTests.{filter_all}
+use Rattle.iofd_rows.proofs.PageTables.{hwpt_alike}
+use Rattle.iommufd_core.proofs.AreasBecome.{own_at}
+use Rattle.iommufd_core.proofs.Detached.{has_table}
+use Rattle.iommufd_core.proofs.Flushed.{orderly}
+use Rattle.iommufd_core.proofs.MemoryReleased.{AreFewer, may_release, nothing_released, shown_after}
 use Rattle.iommufd_core.proofs.Objects.{areas_at_rows, areas_of_held, kind_at, kind_of_rows, value_at}
 use Rattle.iommufd_core.proofs.ObjectsGone.{any_without, areas-removed, found_without, may_go, objects-removed}
 use Rattle.iommufd_core.specs.Held.{is_proper, areas_at, object_of, objects_in}
-use Rattle.iommufd_core.specs.Memory.{is_over, without_memory, without_pins}
+use Rattle.iommufd_core.specs.Mapping.{own_areas}
 use Rattle.iommufd_core.specs.Shows.{Shows}
 use Rattle.iommufd_core.specs.Step.{IsTidy}
 use Rattle.iommufd_core.specs.declared.held.Held.{Held}
@@ -49,11 +53,6 @@ use Rattle.object_table.specs.declared.kind.Kind.TheVariants as tablekind
 
 -- ---- lists
 
--- where nothing goes all stays
-all_true : {X : Type 0} (xs : List X) → filter (λ (x : X). true) xs ≡ xs
-all_true [] = refl
-all_true (x ∷ xs) = ap (λ l. x ∷ l) (all_true xs)
-
 none_left : {X : Type 0} (p : X → Bool) (xs : List X) → filter p xs ≡ [] → list_any p xs ≡ false
 none_left p [] none = refl
 none_left p (x ∷ xs) none = by_test (p x) none (λ later. none_left p xs later)
@@ -61,12 +60,6 @@ none_left p (x ∷ xs) none = by_test (p x) none (λ later. none_left p xs later
     by_test : (b : Bool) → cond b (x ∷ filter p xs) (filter p xs) ≡ [] → (filter p xs ≡ [] → list_any p xs ≡ false) → (b || list_any p xs) ≡ false
     by_test true none later = cc
     by_test false none later = later none
-
-none_contained : {X : Type 0} (p : X → Bool) (xs : List X) (x : X) → list_any p xs ≡ false → Contains xs x → p x ≡ false
-none_contained p xs x none (k, within, is) = false_else (p x) (λ passes. let some = list_any_at p xs k x within (ap p is ∙ passes) in differ (sym none ∙ some))
-  where
-    differ : false ≡ true → ⊥
-    differ is = cc
 
 none_pass : {X : Type 0} (p : X → Bool) (xs : List X) → list_any p xs ≡ false → list_all (λ x. not (p x)) xs ≡ true
 none_pass p [] none = refl
@@ -76,98 +69,74 @@ none_pass p (x ∷ xs) none = by_test (p x) none (λ later. none_pass p xs later
     by_test true none later = cc
     by_test false none later = later none
 
--- the numbers of the memory objects of an address space's areas name them
-pub named_by_space : (areas : List Area) (file : FileNo) (ioas : ObjId) (area : Area) → have_own_memory areas ≡ true → Contains areas area → is_over (areas_of areas file ioas) area.memory ≡ is_of file ioas area
-named_by_space areas file ioas area own within =
-    any-filter (λ (a : Area). eqb a.memory area.memory) (is_of file ioas) areas ∙ named_by_area (is_of file ioas) areas area own within
+-- ---- what goes of the counts
 
--- ---- an address space without page tables
-
-module _ (w : World) (file : FileNo) (id : ObjId) (own : have_own_memory w.areas ≡ true) (used : have_areas w.areas w.memory ≡ true) (ids : have_own_ids w.objects ≡ true) where
+module _ (w : World) (file : FileNo) (id : ObjId) (ids : have_own_ids w.objects ≡ true) where
   abbrev left : List Object
   left = without_object file id w.objects
 
   abbrev stay : List Area
   stay = filter (λ (area : Area). not (is_of file id area)) w.areas
 
-  -- each of these pins is of a page that is to be pinned
-  abbrev pub AreByArea : List Pin → Type 0
-  AreByArea kept = list_all (λ (pin : Pin). list_any (is_page (page_of_pin pin)) (pages_by_area w.objects w.areas)) kept ≡ true
+  -- an address space without page tables
+  module _ (is_kind : kind_of w.objects file id ≡ Some kind.Ioas) (unused : has_hwpt w.objects file id ≡ false) (own : List Area) (own_is : own ≡ areas_of w.areas file id) where
+    same_tables : (f : FileNo) (i : ObjId) → has_hwpt left f i ≡ has_hwpt w.objects f i
+    same_tables f i = any_without (λ (o : Object). eqb o.file.0 f.0 && is_hwpt_over i o.kind) w.objects file id kind.Ioas ids is_kind (λ object of_file of_kind. rw of_kind (fails (eqb object.file.0 f.0)))
+      where
+        fails : (b : Bool) → (b && false) ≡ false
+        fails true = refl
+        fails false = refl
 
-  fewer : (f : FileNo) (i : ObjId) → has_hwpt left f i ≡ true → has_hwpt w.objects f i ≡ true
-  fewer f i has = hwpt-filter (λ (object : Object). not (is_object file id object)) w.objects f i has
+    no_pins : (n : ℕ) → translated w.objects (areas_of w.areas file id) n ≡ 0
+    no_pins n = translated_space w.objects file id (is_of file id) w.areas (λ area is. is) n ∙ ap (λ (b : Bool). if_translated b (areas_of w.areas file id) n) unused
 
-  -- no page of its areas was pinned
-  pub pins_of_space : (kept : List Pin) → AreByArea kept → (memory : List MemoryObject) → kind_of w.objects file id ≡ Some kind.Ioas → has_hwpt w.objects file id ≡ false
-      → settled (pages_by_area w.objects w.areas) (pages_by_area left stay) memory w.user_pages kept ≡ kept
-  pins_of_space kept only memory is_kind unused =
-      kept_pins (is_of file id) (λ n. false) w.objects left w.areas memory w.user_pages kept own only fewer (λ area within has. names area has (is_of file id area) refl)
-      ∙ all_true kept
-    where
-      same : (f : FileNo) (i : ObjId) → has_hwpt left f i ≡ has_hwpt w.objects f i
-      same f i = any_without (λ (o : Object). eqb o.file.0 f.0 && is_hwpt_over i o.kind) w.objects file id kind.Ioas ids is_kind (λ object of_file of_kind. rw of_kind (fails (eqb object.file.0 f.0)))
-        where
-          fails : (b : Bool) → (b && false) ≡ false
-          fails true = refl
-          fails false = refl
+    space_fewer : AreFewer (over own) never w left stay
+    space_fewer = record {
+      over_left = λ n. ap (λ (l : List Area). over stay n + over l n) own_is ∙ over_parts (is_of file id) w.areas n;
+      translated_left =
+          λ n. let same = translated_same w.objects left stay same_tables n in
+          let parts = translated_parts w.objects (is_of file id) w.areas n in
+          let none = no_pins n in
+          omega (arith, same, parts, none);
+    }
 
-      names : (area : Area) → has_hwpt w.objects area.file area.ioas ≡ true → (b : Bool) → is_of file id area ≡ b → false ≡ not (not b && has_hwpt left area.file area.ioas)
-      names area has true is =
-          let parts = and_true (eqb area.file.0 file.0) (eqb area.ioas.0 id.0) is in
-          let alike = hwpt_alike w.objects area.file file area.ioas id parts.0 parts.1 in
-          absurd (differ (sym unused ∙ alike ∙ has))
-        where
-          differ : false ≡ true → ⊥
-          differ is = cc
-      names area has false is = rw (same area.file area.ioas, has) refl
-
-  pub memory_of_space : filter (λ (m : MemoryObject). list_any (λ (area : Area). eqb area.memory m.number && not (is_of file id area)) w.areas) w.memory ≡ without_memory (is_over (areas_of w.areas file id)) w.memory
-  memory_of_space = kept_memory (is_of file id) (is_over (areas_of w.areas file id)) w.areas w.memory own used (λ area within. named_by_space w.areas file id area own within)
-
-  -- ---- a page table, under whose id no area is
-
+  -- a page table, under whose id no area is
   module _ (ioas : ObjId) (width : Width) (automatic : Bool) (is_kind : kind_of w.objects file id ≡ Some (kind.Hwpt ioas width automatic)) (empty : areas_of w.areas file id ≡ []) where
-    none_goes : (area : Area) → Contains w.areas area → is_of file id area ≡ false
-    none_goes area within = none_contained (is_of file id) w.areas area (none_left (is_of file id) w.areas empty) within
-
-    pub all_stay : stay ≡ w.areas
+    all_stay : stay ≡ w.areas
     all_stay = filter_all (λ (area : Area). not (is_of file id area)) w.areas (none_pass (is_of file id) w.areas (none_left (is_of file id) w.areas empty))
-
-    pub memory_of_table : filter (λ (m : MemoryObject). list_any (λ (area : Area). eqb area.memory m.number && not (is_of file id area)) w.areas) w.memory ≡ w.memory
-    memory_of_table = kept_memory (is_of file id) (λ n. false) w.areas w.memory own used (λ area within. sym (none_goes area within)) ∙ all_true w.memory
 
     -- other address spaces keep their page tables
     other_table : (f : FileNo) (i : ObjId) → (eqb f.0 file.0 && eqb i.0 ioas.0) ≡ false → has_hwpt left f i ≡ has_hwpt w.objects f i
     other_table f i other = any_without (λ (o : Object). eqb o.file.0 f.0 && is_hwpt_over i o.kind) w.objects file id (kind.Hwpt ioas width automatic) ids is_kind (λ object of_file of_kind. rw (of_file, of_kind) (grind (arith, nat_tests)))
 
-    -- the last one over its address space: the pins of its areas go
-    pub pins_of_last : (kept : List Pin) → AreByArea kept → (memory : List MemoryObject) → has_hwpt left file ioas ≡ false
-        → settled (pages_by_area w.objects w.areas) (pages_by_area left stay) memory w.user_pages kept ≡ without_pins (is_over (areas_of w.areas file ioas)) kept
-    pins_of_last kept only memory last =
-        kept_pins (is_of file id) (is_over (areas_of w.areas file ioas)) w.objects left w.areas memory w.user_pages kept own only fewer
-        (λ area within has. named_by_space w.areas file ioas area own within ∙ rw (none_goes area within) (names area has (is_of file ioas area) refl))
-      where
-        names : (area : Area) → has_hwpt w.objects area.file area.ioas ≡ true → (b : Bool) → is_of file ioas area ≡ b → b ≡ not (not false && has_hwpt left area.file area.ioas)
-        names area has true is =
-            let parts = and_true (eqb area.file.0 file.0) (eqb area.ioas.0 ioas.0) is in
-            let none = sym (hwpt_alike left area.file file area.ioas ioas parts.0 parts.1) ∙ last in
-            rw none refl
-        names area has false is = rw (other_table area.file area.ioas is, has) refl
+    had : has_hwpt w.objects file ioas ≡ true
+    had = has_table w.objects file id ioas width automatic is_kind
 
-    -- where another is over it, all pages stay pinned
-    pub pins_of_other : (kept : List Pin) → AreByArea kept → (memory : List MemoryObject) → has_hwpt left file ioas ≡ true
-        → settled (pages_by_area w.objects w.areas) (pages_by_area left stay) memory w.user_pages kept ≡ kept
-    pins_of_other kept only memory more =
-        kept_pins (is_of file id) (λ n. false) w.objects left w.areas memory w.user_pages kept own only fewer
-        (λ area within has. rw (none_goes area within) (names area has (is_of file ioas area) refl))
-        ∙ all_true kept
+    -- the last one over its address space
+    last_fewer : (own : List Area) → own ≡ areas_of w.areas file ioas → has_hwpt left file ioas ≡ false → AreFewer never (over own) w left stay
+    last_fewer own own_is last = record {
+      over_left = λ n. let same = ap (λ (l : List Area). over l n) all_stay in omega (arith, same);
+      translated_left =
+          λ n. ap (λ (l : List Area). translated left l n + over own n) all_stay
+          ∙ ap (λ (l : List Area). translated left w.areas n + over l n) own_is
+          ∙ table_lost w.objects left w.areas file ioas had last other_table n;
+    }
+
+    -- where another is over it, its areas stay translated
+    other_fewer : has_hwpt left file ioas ≡ true → AreFewer never never w left stay
+    other_fewer more = record {
+      over_left = λ n. let same = ap (λ (l : List Area). over l n) all_stay in omega (arith, same);
+      translated_left = λ n. let same = ap (λ (l : List Area). translated left l n) all_stay ∙ translated_same w.objects left w.areas tables n in omega (arith, same);
+    }
       where
-        names : (area : Area) → has_hwpt w.objects area.file area.ioas ≡ true → (b : Bool) → is_of file ioas area ≡ b → false ≡ not (not false && has_hwpt left area.file area.ioas)
-        names area has true is =
-            let parts = and_true (eqb area.file.0 file.0) (eqb area.ioas.0 ioas.0) is in
-            let some = sym (hwpt_alike left area.file file area.ioas ioas parts.0 parts.1) ∙ more in
-            rw some refl
-        names area has false is = rw (other_table area.file area.ioas is, has) refl
+        tables : (f : FileNo) (i : ObjId) → has_hwpt left f i ≡ has_hwpt w.objects f i
+        tables f i = by_space (eqb f.0 file.0 && eqb i.0 ioas.0) refl
+          where
+            by_space : (b : Bool) → (eqb f.0 file.0 && eqb i.0 ioas.0) ≡ b → has_hwpt left f i ≡ has_hwpt w.objects f i
+            by_space true is =
+                let names = and_true (eqb f.0 file.0) (eqb i.0 ioas.0) is in
+                sym (hwpt_alike left f file i ioas names.0 names.1) ∙ more ∙ sym had ∙ hwpt_alike w.objects f file i ioas names.0 names.1
+            by_space false is = other_table f i is
 
 -- ---- what is kept
 
@@ -202,14 +171,15 @@ module _ {A : Type 0} where
       shows.objects.spaces file id ∙ areas_at_rows s.objects.rows file id
       ∙ no_areas_in (value_at s.objects.rows file id) ioas width automatic (sym (kind_of_rows s.objects.rows file id) ∙ ap (λ (l : List Object). kind_of l file id) (sym shows.objects.rows) ∙ is_kind)
 
-  pub shows_destroyed : (at : ℕ) (w : World) (s : State A) (file : FileNo) (id : ObjId) (k : ObjectKind) (table : Table (Held A)) (memory : Vec MemoryObject A) (pins : Vec Pin A) → IsTidy at w → Shows w s → refusal w (event.Destroy file id) ≡ None
+  pub shows_destroyed : (at : ℕ) (w : World) (s : State A) (file : FileNo) (id : ObjId) (k : ObjectKind) (table : Table (Held A)) (areas pins : ℕ → ℕ) (memory : Memory) (pool : FramePool) → IsTidy at w → Shows w s → refusal w (event.Destroy file id) ≡ None
       → kind_of w.objects file id ≡ Some k → is_bound_device k ≡ false → table.rows ≡ removed file id s.objects.rows → table.files ≡ s.objects.files
-      → filter (λ (m : MemoryObject). list_any (λ (area : Area). eqb area.memory m.number && not (is_of file id area)) w.areas) w.memory ≡ memory.items
-      → settled (pages_by_area w.objects w.areas) (pages_by_area (without_object file id w.objects) (filter (λ (area : Area). not (is_of file id area)) w.areas)) (filter (λ (m : MemoryObject). list_any (λ (area : Area). eqb area.memory m.number && not (is_of file id area)) w.areas) w.memory) w.user_pages s.pins.items ≡ pins.items
-      → Shows (gone w file id) (record s { objects = table; memory = memory; pins = pins })
+      → AreFewer areas pins w (without_object file id w.objects) (filter (λ (area : Area). not (is_of file id area)) w.areas)
+      → IsReleased areas pins s.memory memory s.pool pool
+      → Shows (gone w file id) (record s { objects = table; memory = memory; pool = pool })
   unfolding settle without_areas changed Answers
-  shows_destroyed at w s file id k table memory pins tidy shows none is_kind no_device rows files memory_is pins_is =
-      let next : OwnPins (at + 1) (gone w file id) = keeps_own_pins at w (event.Destroy file id) reply.Done none tt (record { pins = tidy.pins; own = tidy.own }) in
+  shows_destroyed at w s file id k table areas pins memory pool tidy shows none is_kind no_device rows files fewer released =
+      let next : ArePinned (at + 1) (gone w file id) = keeps_pins at w (event.Destroy file id) reply.Done none tt tidy.pins in
+      let after = shown_after at w s tidy shows areas pins (without_object file id w.objects) (filter (λ (area : Area). not (is_of file id area)) w.areas) fewer (at + 1) (gone w file id) memory pool next refl refl (objects_left (is_of file id) w.areas w.memory) refl refl released in
       record {
         settings = shows.settings;
         objects = record {
@@ -222,12 +192,10 @@ module _ {A : Type 0} where
           bindings = λ device. found_without (λ (o : Object). is_bound_as device o.kind) w.objects file id k tidy.ids is_kind (λ object of_file of_kind. rw of_kind (unbound k device no_device)) ∙ shows.devices.bindings device;
           attached = shows.devices.attached;
         };
-        memory = record {
-          objects = memory_is;
-          pages = shows.memory.pages;
-          pinned = pins_follow at w s.pins.items tidy.pins shows.memory.pinned (at + 1) (gone w file id) next refl pins.items (sym pins_is);
-        };
-        frames = shows.frames;
+        limits = after.limits;
+        users = after.users;
+        pins = after.pins;
+        frames = after.frames;
       }
     where
       unbound : (k : ObjectKind) (device : DeviceNo) → is_bound_device k ≡ false → is_bound_as device k ≡ false
@@ -241,16 +209,26 @@ module _ {A : Type 0} where
   kind_shown : (w : World) (s : State A) (file : FileNo) (id : ObjId) (k : ObjectKind) → Shows w s → kind_of (objects_in s.objects) file id ≡ Some k → kind_of w.objects file id ≡ Some k
   kind_shown w s file id k shows is_kind = ap (λ (l : List Object). kind_of l file id) shows.objects.rows ∙ is_kind
 
-  pub space_destroyed : (at : ℕ) (w : World) (s : State A) (file : FileNo) (id : ObjId) (table : Table (Held A)) (memory : Vec MemoryObject A) → IsTidy at w → Shows w s → refusal w (event.Destroy file id) ≡ None
-      → kind_of (objects_in s.objects) file id ≡ Some kind.Ioas → (destroy_refusal s.objects file tablekind.Ioas id ≡ None → table.rows ≡ removed file id s.objects.rows) → table.files ≡ s.objects.files
-      → memory.items ≡ without_memory (is_over (areas_at s.objects.rows file id)) s.memory.items
-      → Shows (gone w file id) (record s { objects = table; memory = memory })
-  space_destroyed at w s file id table memory tidy shows none is_kind rows files dropped =
-      let of_world = kind_shown w s file id kind.Ioas shows is_kind in
-      shows_destroyed at w s file id kind.Ioas table memory s.pins tidy shows none of_world refl (rows (may_go s.objects file id kind.Ioas shows.objects.proper is_kind)) files
-      (memory_of_space w file id tidy.own tidy.pins.used tidy.ids ∙ ap (λ l. without_memory (is_over l) w.memory) (shows.objects.spaces file id) ∙ ap (without_memory (is_over (areas_at s.objects.rows file id))) shows.memory.objects ∙ sym dropped)
-      (pins_of_space w file id tidy.own tidy.pins.used tidy.ids s.pins.items (only_kept at w s.pins.items tidy.pins shows.memory.pinned) _ of_world (unused w file id kind.Ioas none of_world))
+  -- an address space
+  module _ (at : ℕ) (w : World) (s : State A) (file : FileNo) (id : ObjId) (tidy : IsTidy at w) (shows : Shows w s) (none : refusal w (event.Destroy file id) ≡ None) (is_kind : kind_of (objects_in s.objects) file id ≡ Some kind.Ioas) where
+    space_kind : kind_of w.objects file id ≡ Some kind.Ioas
+    space_kind = kind_shown w s file id kind.Ioas shows is_kind
 
+    goes : AreFewer (over (own_areas s.objects file id)) never w (without_object file id w.objects) (filter (λ (area : Area). not (is_of file id area)) w.areas)
+    goes =
+        space_fewer w file id tidy.ids space_kind (unused w file id kind.Ioas none space_kind) (own_areas s.objects file id)
+        (own_at s.objects file id (orderly at w s tidy shows) ∙ sym (shows.objects.spaces file id))
+
+    pub space_may : MayRelease (over (own_areas s.objects file id)) never s.memory s.pool.holds
+    space_may = may_release at w s tidy shows (over (own_areas s.objects file id)) never (without_object file id w.objects) (filter (λ (area : Area). not (is_of file id area)) w.areas) goes
+
+    pub space_destroyed : (table : Table (Held A)) (memory : Memory) (pool : FramePool) → (destroy_refusal s.objects file tablekind.Ioas id ≡ None → table.rows ≡ removed file id s.objects.rows) → table.files ≡ s.objects.files
+        → IsReleased (over (own_areas s.objects file id)) never s.memory memory s.pool pool
+        → Shows (gone w file id) (record s { objects = table; memory = memory; pool = pool })
+    space_destroyed table memory pool rows files released =
+        shows_destroyed at w s file id kind.Ioas table (over (own_areas s.objects file id)) never memory pool tidy shows none space_kind refl (rows (may_go s.objects file id kind.Ioas shows.objects.proper is_kind)) files goes released
+
+  -- a page table
   module _ (at : ℕ) (w : World) (s : State A) (file : FileNo) (id ioas : ObjId) (width : Width) (automatic : Bool) (table : Table (Held A)) (tidy : IsTidy at w) (shows : Shows w s) (none : refusal w (event.Destroy file id) ≡ None)
       (is_kind : kind_of (objects_in s.objects) file id ≡ Some (kind.Hwpt ioas width automatic)) (may : destroy_refusal s.objects file tablekind.Hwpt id ≡ None → table.rows ≡ removed file id s.objects.rows) (files : table.files ≡ s.objects.files) where
     of_world : kind_of w.objects file id ≡ Some (kind.Hwpt ioas width automatic)
@@ -262,29 +240,38 @@ module _ {A : Type 0} where
     rows : table.rows ≡ removed file id s.objects.rows
     rows = may (may_go s.objects file id (kind.Hwpt ioas width automatic) shows.objects.proper is_kind)
 
-    objects_left : objects_in table ≡ without_object file id w.objects
-    objects_left = ap (map object_of) rows ∙ objects-removed s.objects.rows file id ∙ ap (without_object file id) (sym shows.objects.rows)
+    objects_kept : objects_in table ≡ without_object file id w.objects
+    objects_kept = ap (map object_of) rows ∙ objects-removed s.objects.rows file id ∙ ap (without_object file id) (sym shows.objects.rows)
 
-    areas_left : areas_at table.rows file ioas ≡ areas_of w.areas file ioas
-    areas_left =
-        ap (λ l. areas_at l file ioas) rows
+    proper_kept : list_all is_proper table.rows ≡ true
+    proper_kept = ap (list_all is_proper) rows ∙ all_filter is_proper (λ row. not (is_at file id row)) s.objects.rows shows.objects.proper
+
+    -- the areas of its address space
+    own_kept : own_areas table file ioas ≡ areas_of w.areas file ioas
+    own_kept =
+        own_at table file ioas (record { proper = proper_kept; ids = ap have_own_ids objects_kept ∙ own_ids-filter _ w.objects tidy.ids })
+        ∙ ap (λ l. areas_at l file ioas) rows
         ∙ sym (areas-removed w.areas s.objects.rows file id shows.objects.spaces file ioas)
-        ∙ ap (λ (l : List Area). areas_of l file ioas) (all_stay w file id tidy.own tidy.pins.used tidy.ids ioas width automatic of_world empty)
+        ∙ ap (λ (l : List Area). areas_of l file ioas) (all_stay w file id tidy.ids ioas width automatic of_world empty)
+
+    loses : has_hwpt (objects_in table) file ioas ≡ false → AreFewer never (over (own_areas table file ioas)) w (without_object file id w.objects) (filter (λ (area : Area). not (is_of file id area)) w.areas)
+    loses last = last_fewer w file id tidy.ids ioas width automatic of_world empty (own_areas table file ioas) own_kept (ap (λ (l : List Object). has_hwpt l file ioas) (sym objects_kept) ∙ last)
+
+    pub last_may : has_hwpt (objects_in table) file ioas ≡ false → MayRelease never (over (own_areas table file ioas)) s.memory s.pool.holds
+    last_may last = may_release at w s tidy shows never (over (own_areas table file ioas)) (without_object file id w.objects) (filter (λ (area : Area). not (is_of file id area)) w.areas) (loses last)
 
     -- the pins of the space's areas went with its last page table
-    pub last_destroyed : (pins : Vec Pin A) → has_hwpt (objects_in table) file ioas ≡ false → pins.items ≡ without_pins (is_over (areas_at table.rows file ioas)) s.pins.items
-        → Shows (gone w file id) (record s { objects = table; pins = pins })
-    last_destroyed pins last dropped =
-        shows_destroyed at w s file id (kind.Hwpt ioas width automatic) table s.memory pins tidy shows none of_world refl rows files
-        (memory_of_table w file id tidy.own tidy.pins.used tidy.ids ioas width automatic of_world empty ∙ shows.memory.objects)
-        (pins_of_last w file id tidy.own tidy.pins.used tidy.ids ioas width automatic of_world empty s.pins.items (only_kept at w s.pins.items tidy.pins shows.memory.pinned) _ (ap (λ (l : List Object). has_hwpt l file ioas) (sym objects_left) ∙ last) ∙ ap (λ l. without_pins (is_over l) s.pins.items) (sym areas_left) ∙ sym dropped)
+    pub last_destroyed : (memory : Memory) (pool : FramePool) → has_hwpt (objects_in table) file ioas ≡ false → IsReleased never (over (own_areas table file ioas)) s.memory memory s.pool pool
+        → Shows (gone w file id) (record s { objects = table; memory = memory; pool = pool })
+    last_destroyed memory pool last released =
+        shows_destroyed at w s file id (kind.Hwpt ioas width automatic) table never (over (own_areas table file ioas)) memory pool tidy shows none of_world refl rows files (loses last) released
 
     pub other_destroyed : has_hwpt (objects_in table) file ioas ≡ true
         → Shows (gone w file id) (record s { objects = table })
     other_destroyed more =
-        shows_destroyed at w s file id (kind.Hwpt ioas width automatic) table s.memory s.pins tidy shows none of_world refl rows files
-        (memory_of_table w file id tidy.own tidy.pins.used tidy.ids ioas width automatic of_world empty ∙ shows.memory.objects)
-        (pins_of_other w file id tidy.own tidy.pins.used tidy.ids ioas width automatic of_world empty s.pins.items (only_kept at w s.pins.items tidy.pins shows.memory.pinned) _ (ap (λ (l : List Object). has_hwpt l file ioas) (sym objects_left) ∙ more))
+        let fewer = other_fewer w file id tidy.ids ioas width automatic of_world empty (ap (λ (l : List Object). has_hwpt l file ioas) (sym objects_kept) ∙ more) in
+        shows_destroyed at w s file id (kind.Hwpt ioas width automatic) table never never s.memory s.pool tidy shows none of_world refl rows files fewer
+        (nothing_released at w s tidy shows (without_object file id w.objects) (filter (λ (area : Area). not (is_of file id area)) w.areas) fewer)
 
   -- ---- what was refused
 

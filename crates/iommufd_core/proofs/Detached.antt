@@ -1,10 +1,10 @@
 -- An attachment that ends: its page table may go with it, and the pins of its address space with the page table.
-use Rattle.std.proofs.Common.{◌≡◌, ℕ, Bool, true, false, ◌&&◌, ◌||◌, not, eqb, Option, Some, None, List, [], ◌∷◌, Contains, refl, sym, ◌∙◌, ap, arith, inl, inr, ◌⊎◌, zero, suc}
+use Rattle.std.proofs.Common.{◌≡◌, ℕ, Bool, true, false, cond, ◌&&◌, ◌||◌, not, eqb, Option, Some, None, List, [], ◌∷◌, refl, sym, ◌∙◌, ap, arith, inl, inr, ◌⊎◌}
 use Rattle.iofd_words.specs.declared.rows.Pin.{Pin}
-use Rattle.std.specs.List.{filter, list_all, list_any}
+use Rattle.std.specs.List.{filter, find, list_all, list_any}
 use Rattle.std.proofs.lemmas.Bool.Decides.{nat_tests}
 use Rattle.iofd_words.specs.After.{goes_with}
-use Rattle.iofd_words.specs.Areas.{all_paid, areas_of, is_of}
+use Rattle.iofd_words.specs.Areas.{all_paid}
 use Rattle.iofd_words.specs.Attachments.{has_device_on, ioas_of, ioas_of_attachment}
 use Rattle.iofd_rows.specs.Ids.{have_own_ids}
 use Rattle.iofd_words.specs.Objects.{binding_of, has_hwpt, is_automatic, is_bound_as, is_hwpt_over, is_object, kind_of, without_object}
@@ -19,22 +19,18 @@ use Rattle.iofd_words.specs.declared.rows.Attachment.{Attachment}
 use Rattle.iofd_words.specs.declared.rows.Object.{Object}
 use Rattle.iofd_words.specs.declared.rows.ObjectKind.{ObjectKind}
 use Rattle.iofd_words.specs.declared.rows.ObjectKind.TheVariants as kind
+use Rattle.iofd_words.specs.declared.width.Width.{Width}
 use Rattle.iofd_rows.proofs.Bools.{and_true, both_true, clash, not_true}
 use Rattle.iofd_rows.proofs.Each.{IsIn, of_any}
 use Rattle.iofd_rows.proofs.Found.{find-filter, none_both}
-use Rattle.iofd_rows.proofs.ListTests.{any-filter, false_else}
+use Rattle.iofd_rows.proofs.ListTests.{alike, any-filter, or_right}
 use Rattle.iofd_rows.proofs.Named.{file_is, id_is, kind_only}
 use Rattle.iofd_rows.proofs.PageLists.{all_pages, pages_by_area}
-use Rattle.iofd_rows.proofs.PageTables.{hwpt-filter}
-use Rattle.iofd_rows.proofs.Settled.{kept_pins, settled_same}
-use Rattle.iommufd_core.specs.PinLists.{is_idle, is_unpinned}
+use Rattle.iofd_rows.proofs.PageTables.{hwpt-filter, hwpt_alike}
+use Rattle.iofd_rows.proofs.Settled.{settled_same}
+use Rattle.iommufd_core.specs.PinLists.{is_idle}
 
 -- ---- rows of a list
-
-pub in_contained : {X : Type 0} (xs : List X) (x : X) → Contains xs x → IsIn xs x
-in_contained [] x (k, within, is) = absurd (omega (arith, within))
-in_contained (y ∷ xs) x (zero, within, is) = inl is
-in_contained (y ∷ xs) x (suc k, within, is) = inr (in_contained xs x (k, omega (arith, within), is))
 
 -- some row passes the test
 pub some_row : {X : Type 0} (p : X → Bool) (xs : List X) → list_any p xs ≡ true → (x : X) × IsIn xs x × (p x ≡ true)
@@ -104,10 +100,6 @@ pub pinned_paid : (objects : List Object) (device : DeviceNo) (areas : List Area
 pinned_paid objects device [] = refl
 pinned_paid objects device (area ∷ areas) = rw (pinned_paid objects device areas) refl
 
-memory_paid : (n : ℕ) (device : DeviceNo) (areas : List Area) → list_any (λ (a : Area). eqb a.memory n) (all_paid device areas) ≡ list_any (λ (a : Area). eqb a.memory n) areas
-memory_paid n device [] = refl
-memory_paid n device (area ∷ areas) = rw (memory_paid n device areas) refl
-
 -- ---- the pins that go
 
 -- no other area has the area's memory object
@@ -159,60 +151,44 @@ other_stays w others a ioas over file own attached other has =
         contrary : (o f g m n : ℕ) → eqb o f ≡ true → eqb o g ≡ true → eqb m n ≡ true → (eqb f g && eqb n m) ≡ false → ⊥
         contrary o f g m n first second third fails = grind (arith, nat_tests)
 
--- the pins that stay are those of all other areas
-pub unpinned : (w : World) (others : List Attachment) (a : Attachment) (ioas : ObjId) (device : DeviceNo) (kept : List Pin) → have_own_memory w.areas ≡ true → list_all (λ (pin : Pin). list_any (is_page (page_of_pin pin)) (pages_by_area w.objects w.areas)) kept ≡ true → have_own_ids w.objects ≡ true → ioas_of_attachment w.objects a ≡ Some ioas
-    → settled (pages_by_area w.objects w.areas) (pages_by_area (left_of others a w.objects) (all_paid device w.areas)) w.memory w.user_pages kept
-    ≡ filter (λ pin. not (is_unpinned (left_of others a w.objects) a.file ioas (all_paid device (areas_of w.areas a.file ioas)) pin)) kept
-unpinned w others a ioas device kept memory_own only own attached =
-    ap (λ pages. settled (pages_by_area w.objects w.areas) pages w.memory w.user_pages kept) (pinned_paid left device w.areas ∙ ap (pages_by_area left) (sym (filter_true w.areas)))
-    ∙ kept_pins (λ (area : Area). false) gone w.objects left w.areas w.memory w.user_pages kept memory_own only (hwpt-filter (λ object. not (goes_with others a object)) w.objects) names
+-- its address space has a page table
+pub has_table : (objects : List Object) (file : FileNo) (id ioas : ObjId) (width : Width) (automatic : Bool) → kind_of objects file id ≡ Some (kind.Hwpt ioas width automatic) → has_hwpt objects file ioas ≡ true
+has_table [] file id ioas width automatic is = cc
+has_table (object ∷ objects) file id ioas width automatic is = by_name (is_object file id object) refl is (λ later. has_table objects file id ioas width automatic later)
   where
-    left : List Object
-    left = left_of others a w.objects
+    itself : (n : ℕ) → eqb n n ≡ true
+    itself n = grind (arith, nat_tests)
 
-    gone : ℕ → Bool
-    gone n = not (has_hwpt left a.file ioas) && list_any (λ (area : Area). eqb area.memory n) (all_paid device (areas_of w.areas a.file ioas))
+    by_name : (b : Bool) → is_object file id object ≡ b → elim (cond b (Some object) (find (is_object file id) objects)) as (λ _. Option ObjectKind) [ Some o ↦ Some o.kind | None ↦ None ] ≡ Some (kind.Hwpt ioas width automatic)
+        → (kind_of objects file id ≡ Some (kind.Hwpt ioas width automatic) → has_hwpt objects file ioas ≡ true) → ((eqb object.file.0 file.0 && is_hwpt_over ioas object.kind) || has_hwpt objects file ioas) ≡ true
+    by_name true named is later =
+        let names = and_true (eqb object.file.0 file.0) (eqb object.id.0 id.0) named in
+        let same : object.kind ≡ kind.Hwpt ioas width automatic = cc in
+        let over : is_hwpt_over ioas object.kind ≡ true = ap (is_hwpt_over ioas) same ∙ itself ioas.0 in
+        rw (names.0, over) refl
+    by_name false named is later = or_right (eqb object.file.0 file.0 && is_hwpt_over ioas object.kind) (has_hwpt objects file ioas) (later is)
 
-    in_space : ℕ → Bool
-    in_space n = list_any (λ (x : Area). is_of a.file ioas x && eqb x.memory n) w.areas
+-- all other address spaces keep their page tables
+pub others_stay : (w : World) (others : List Attachment) (a : Attachment) (ioas : ObjId) → have_own_ids w.objects ≡ true → ioas_of_attachment w.objects a ≡ Some ioas
+    → (f : FileNo) (i : ObjId) → (eqb f.0 a.file.0 && eqb i.0 ioas.0) ≡ false → has_hwpt (left_of others a w.objects) f i ≡ has_hwpt w.objects f i
+others_stay w others a ioas own attached f i other =
+    alike (has_hwpt (left_of others a w.objects) f i) (has_hwpt w.objects f i)
+    (λ has. hwpt-filter (λ object. not (goes_with others a object)) w.objects f i has)
+    (λ has. other_stays w others a ioas i f own attached (turned f.0 a.file.0 i.0 ioas.0 other) has)
+  where
+    turned : (f g m n : ℕ) → (eqb f g && eqb m n) ≡ false → (eqb g f && eqb n m) ≡ false
+    turned f g m n fails = grind (arith, nat_tests)
 
-    in_space_is : (n : ℕ) → list_any (λ (area : Area). eqb area.memory n) (all_paid device (areas_of w.areas a.file ioas)) ≡ in_space n
-    in_space_is n = memory_paid n device (areas_of w.areas a.file ioas) ∙ any-filter (λ (area : Area). eqb area.memory n) (is_of a.file ioas) w.areas
-
-    own_one : (n : ℕ) → eqb n n ≡ true
-    own_one n = grind (arith, nat_tests)
-
-    not_twice : (b : Bool) → (not b && true) ≡ not b
-    not_twice true = refl
-    not_twice false = refl
-
-    never : (b : Bool) → (not b && false) ≡ false
-    never true = refl
-    never false = refl
-
-    by_space : (area : Area) (b : Bool) → is_of a.file ioas area ≡ b → IsIn w.areas area → has_hwpt w.objects area.file area.ioas ≡ true → gone area.memory ≡ not (has_hwpt left area.file area.ioas)
-    by_space area true is within had =
-        let parts = and_true (eqb area.file.0 a.file.0) (eqb area.ioas.0 ioas.0) is in
-        let there = in_space_is area.memory ∙ of_any (λ (x : Area). is_of a.file ioas x && eqb x.memory area.memory) w.areas area within (both_true _ _ is (own_one area.memory)) in
-        ap (λ b. not (has_hwpt left a.file ioas) && b) there
-        ∙ not_twice (has_hwpt left a.file ioas)
-        ∙ rw (file_is area.file a.file parts.0, id_is area.ioas ioas parts.1) refl
-    by_space area false is within had =
-        let none : in_space area.memory ≡ false = false_else (in_space area.memory) (λ some.
-        let (x, among, both) = some_row (λ (x : Area). is_of a.file ioas x && eqb x.memory area.memory) w.areas some in
-        let parts = and_true (is_of a.file ioas x) (eqb x.memory area.memory) both in
-        let same = one_memory w.areas x area memory_own among within parts.1 in
-        clash (is_of a.file ioas area) is (ap (is_of a.file ioas) (sym same) ∙ parts.0)) in
-        let has = other_stays w others a ioas area.ioas area.file own attached (turned area.file.0 a.file.0 area.ioas.0 ioas.0 is) had in
-        ap (λ b. not (has_hwpt left a.file ioas) && b) (in_space_is area.memory ∙ none)
-        ∙ never (has_hwpt left a.file ioas)
-        ∙ sym (ap not has)
-      where
-        turned : (f g m n : ℕ) → (eqb f g && eqb m n) ≡ false → (eqb g f && eqb n m) ≡ false
-        turned f g m n fails = grind (arith, nat_tests)
-
-    names : (area : Area) → Contains w.areas area → has_hwpt w.objects area.file area.ioas ≡ true → gone area.memory ≡ not (not false && has_hwpt left area.file area.ioas)
-    names area among had = by_space area (is_of a.file ioas area) refl (in_contained w.areas area among) had
+-- where its own has one left, all do
+pub all_stay : (w : World) (others : List Attachment) (a : Attachment) (ioas : ObjId) → have_own_ids w.objects ≡ true → ioas_of_attachment w.objects a ≡ Some ioas → has_hwpt w.objects a.file ioas ≡ true → has_hwpt (left_of others a w.objects) a.file ioas ≡ true
+    → (f : FileNo) (i : ObjId) → has_hwpt (left_of others a w.objects) f i ≡ has_hwpt w.objects f i
+all_stay w others a ioas own attached had has f i = by_space (eqb f.0 a.file.0 && eqb i.0 ioas.0) refl
+  where
+    by_space : (b : Bool) → (eqb f.0 a.file.0 && eqb i.0 ioas.0) ≡ b → has_hwpt (left_of others a w.objects) f i ≡ has_hwpt w.objects f i
+    by_space true is =
+        let names = and_true (eqb f.0 a.file.0) (eqb i.0 ioas.0) is in
+        sym (hwpt_alike (left_of others a w.objects) f a.file i ioas names.0 names.1) ∙ has ∙ sym had ∙ hwpt_alike w.objects f a.file i ioas names.0 names.1
+    by_space false is = others_stay w others a ioas own attached f i is
 
 -- no pin goes where the objects stay
 pub all_pinned : (w : World) (device : DeviceNo) (kept : List Pin) → list_all (λ (pin : Pin). list_any (is_page (page_of_pin pin)) (pages_by_area w.objects w.areas)) kept ≡ true → settled (pages_by_area w.objects w.areas) (pages_by_area w.objects (all_paid device w.areas)) w.memory w.user_pages kept ≡ kept

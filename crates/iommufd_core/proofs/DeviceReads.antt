@@ -1,11 +1,10 @@
 -- What a device's read is answered.
-use Rattle.std.proofs.Common.{◌≡◌, ℕ, zero, suc, ◌+◌, ◌*◌, ◌<◌, ◌≤◌, Some, None, List, [], ◌∷◌, map, length, take, drop, get_or, Contains, refl, sym, ◌∙◌, arith, is_some, cond, ◌||◌, Bool, true, false}
+use Rattle.std.proofs.Common.{◌≡◌, ℕ, Some, None, List, [], ◌∷◌, map, Contains, refl, sym, ◌∙◌, arith, is_some, cond, ◌||◌, Bool, true, false}
 use Rattle.iofd_words.specs.declared.record.Record.{Record}
 use Rattle.iommufd_core.proofs.DeviceWrites.{given_is, contained_map}
 use Rattle.iommufd_core.specs.Choice.{IsLooked, is_denial, is_fault}
-use Rattle.std.specs.List.{range_with_len, find, list_any}
+use Rattle.std.specs.List.{find, list_any}
 use Rattle.iofd_words.specs.FirstTrue.{first_true}
-use Rattle.iofd_words.specs.Frames.{FrameWrite, byte_at}
 use Rattle.iofd_words.specs.Look.{lawful_answers, query_checks, read_answer, answers_in}
 use Rattle.iofd_words.specs.Policy.{Outcome, outcomes, Passes, Denied}
 use Rattle.iofd_words.specs.View.{view}
@@ -17,7 +16,6 @@ use Rattle.iofd_words.specs.declared.query.Answer.TheVariants as answer
 use Rattle.iofd_words.specs.declared.query.Query.{Query}
 use Rattle.iofd_words.specs.declared.query.Query.TheVariants as query
 use Rattle.iofd_words.specs.declared.refusal.Cause.{Cause}
-use Rattle.iommufd_core.proofs.BytesShown.{AreShown}
 use Rattle.iofd_runs.proofs.PinnedAccess.{some_outcome}
 use Rattle.iommufd_core.proofs.ViewShown.{same_query_refusal}
 use Rattle.iommufd_core.specs.Outcomes.{given_outcome}
@@ -25,25 +23,6 @@ use Rattle.iommufd_core.specs.Seen.{seen}
 use Rattle.iommufd_core.specs.Shows.{Shows}
 use Rattle.iommufd_core.specs.Step.{IsTidy}
 use Rattle.iommufd_core.specs.declared.state.State.{State}
-
--- ---- bytes
-
-first_of_drop : (items : List ℕ) (place count : ℕ) → place < length items → take (suc count) (drop place items) ≡ get_or items place 0 ∷ take count (drop (place + 1) items)
-first_of_drop [] place count below = absurd (omega (arith, below))
-first_of_drop (x ∷ items) zero count below = refl
-first_of_drop (x ∷ items) (suc place) count below = let step : suc place + 1 ≡ suc (place + 1) = omega arith in rw step (first_of_drop items place count (omega (arith, below)))
-
-pub read_bytes : (pool : ℕ) (items : List ℕ) (writes : List FrameWrite) (frame offset count : ℕ) → length items ≡ pool * 4096 → AreShown pool items writes → frame < pool → offset + count ≤ 4096
-    → map (byte_at writes frame) (range_with_len offset count) ≡ take count (drop (frame * 4096 + offset) items)
-read_bytes pool items writes frame offset zero len shown within short = refl
-read_bytes pool items writes frame offset (suc count) len shown within short =
-    let below : frame * 4096 + offset < length items = rw len (omega (arith, within, short)) in
-    let rest = read_bytes pool items writes frame (offset + 1) count len shown within (omega (arith, short)) in
-    let here = shown frame offset within (omega (arith, short)) in
-    let next : frame * 4096 + (offset + 1) ≡ frame * 4096 + offset + 1 = omega arith in
-    let later = rw next at rest in
-    let both = first_of_drop items (frame * 4096 + offset) count below in
-    cc
 
 -- ---- answers
 

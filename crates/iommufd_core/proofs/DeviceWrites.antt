@@ -1,6 +1,6 @@
 -- What a device's write is answered, and what it leaves.
 use Rattle.std.proofs.Common.{◌≡◌, ℕ, zero, suc, ◌^◌, ◌<◌, Bool, true, false, cond, ltb, leb, Option, Some, None, List, [], ◌∷◌, ◌++◌, map, Contains, refl, sym, ◌∙◌, ap, subst, arith, is_some}
-use Rattle.iommufd_core.proofs.FreeFrames.{found_passes}
+use Rattle.iofd_rows.proofs.Each.{in_found}
 use Rattle.std.specs.Option.{option_map}
 use Rattle.std.specs.List.{find, list_all}
 use Rattle.std.proofs.lemmas.List.Folds.{list_all-append}
@@ -82,7 +82,7 @@ given_is os o some is = by_denial (find is_denial os) refl
         record {
           uncached = uncached ∙ ap Some (sym here);
           lawful = rw here (found_contained is_denial os d found);
-          denial = λ has. rw here (found_passes is_denial os d found);
+          denial = λ has. rw here (in_found is_denial os d found).1;
         }
 
 pub contained_map : {X Y : Type 0} (f : X → Y) (xs : List X) (x : X) → Contains xs x → Contains (map f xs) (f x)

@@ -1,21 +1,27 @@
 -- A file that was closed: all its objects, areas and attachments are gone.
-use Rattle.std.proofs.Common.{◌≡◌, ◌≢◌, ℕ, zero, suc, ◌-◌, ◌<◌, Vec, Bool, true, false, cond, ◌&&◌, ◌||◌, not, eqb, ltb, is_some, Option, Some, None, List, [], ◌∷◌, ◌++◌, Contains, map, get_or, set, refl, sym, ◌∙◌, ap, arith, ◌⊎◌, inl, inr, get_or-set_other, ◌+◌}
-use Rattle.iommufd_core.proofs.PinsKept.{only_kept, pins_follow}
+use Rattle.std.proofs.Common.{◌≡◌, ◌≢◌, ℕ, zero, suc, ◌-◌, ◌<◌, Vec, Bool, true, false, cond, ◌&&◌, ◌||◌, not, eqb, ltb, is_some, None, List, [], ◌∷◌, ◌++◌, map, get_or, set, refl, sym, ◌∙◌, ap, arith, get_or-set_other, ◌+◌}
+use Rattle.iofd_runs.proofs.KeepsPins.{keeps_pins}
 use Rattle.iofd_runs.proofs.NotRefused.{close_passed, passes}
-use Rattle.iofd_runs.proofs.KeepsOwnMemory.{keeps_own_pins}
+use Rattle.frame_memory.specs.Pool.{FramePool}
+use Rattle.memory_rows.proofs.Counts.{count_alike, count_within}
+use Rattle.memory_rows.proofs.Gone.{objects_left, over_parts, translated_parts}
+use Rattle.memory_rows.specs.Moves.{IsReleased, MayRelease}
+use Rattle.memory_rows.specs.Shown.{over, translated}
+use Rattle.user_memory.specs.Memory.{Memory}
+use Rattle.iommufd_core.proofs.Flushed.{orderly}
+use Rattle.iommufd_core.proofs.MemoryReleased.{AreFewer, may_release, shown_after}
+use Rattle.iommufd_core.proofs.RowsCounted.{file_over, file_translated}
+use Rattle.iommufd_core.specs.Release.{areas_of_rows, translated_of}
 use Rattle.iofd_words.specs.Answers.{Answers}
-use Rattle.iofd_rows.proofs.PageLists.{pages_by_area}
 use Rattle.std.specs.List.{find, filter, list_all, list_any}
 use Rattle.std.proofs.lemmas.Bool.{eqb-true}
 use Rattle.std.proofs.lemmas.Bool.Decides.{nat_tests}
 use Rattle.std.proofs.lemmas.List.Folds.{list_any-append}
 use Rattle.iofd_words.specs.After.{settle, without_areas, changed}
-use Rattle.iofd_words.specs.Areas.{areas_of, is_of}
+use Rattle.iofd_words.specs.Areas.{areas_of}
 use Rattle.iofd_words.specs.Checks.{refusal}
 use Rattle.iofd_words.specs.Files as files
-use Rattle.iofd_rows.specs.Ids.{have_own_ids}
-use Rattle.iofd_words.specs.Objects.{has_hwpt, is_bound_as, is_bound_device, is_object, objects_of}
-use Rattle.iofd_words.specs.Pins.{settled}
+use Rattle.iofd_words.specs.Objects.{has_hwpt, is_bound_as, is_bound_device, objects_of}
 use Rattle.iofd_words.specs.View.{view}
 use Rattle.iofd_words.specs.World.{World}
 use Rattle.iofd_words.specs.declared.event.Event.TheVariants as event
@@ -25,26 +31,19 @@ use Rattle.iofd_words.specs.declared.numbers.FileNo.{FileNo}
 use Rattle.iofd_words.specs.declared.numbers.ObjId.{ObjId}
 use Rattle.iofd_words.specs.declared.rows.Area.{Area}
 use Rattle.iofd_words.specs.declared.rows.Attachment.{Attachment}
-use Rattle.iofd_words.specs.declared.rows.MemoryObject.{MemoryObject}
 use Rattle.iofd_words.specs.declared.rows.Object.{Object}
 use Rattle.iofd_words.specs.declared.rows.ObjectKind.{ObjectKind}
 use Rattle.iofd_words.specs.declared.rows.ObjectKind.TheVariants as kind
-use Rattle.iofd_words.specs.declared.rows.Pin.{Pin}
-use Rattle.iofd_rows.proofs.Bools.{and_true, both_true, clash, not_true}
-use Rattle.iofd_rows.proofs.Each.{IsIn, in_filter, in_found, of_any}
+use Rattle.iofd_rows.proofs.Bools.{and_true, both_true}
 use Rattle.iofd_rows.proofs.Found.{all_filter, find-filter}
-use Rattle.iofd_rows.proofs.ListTests.{alike, any-filter, any_weaker, none_stronger}
-use Rattle.iofd_rows.proofs.Named.{file_is}
-use Rattle.iofd_rows.proofs.PageTables.{hwpt-filter}
-use Rattle.iofd_rows.proofs.Settled.{kept_memory, kept_pins, named_by_area}
-use Rattle.iommufd_core.proofs.ObjectsGone.{device_rows, some_in}
-use Rattle.iommufd_core.specs.Held.{is_proper, areas_at, areas_in, kind_in, object_of, objects_in, table_kind}
-use Rattle.iommufd_core.specs.Memory.{is_over, holds_memory, without_memory, without_pins}
+use Rattle.iofd_rows.proofs.ListTests.{any-filter, none_stronger}
+use Rattle.iommufd_core.proofs.ObjectsGone.{device_rows}
+use Rattle.iommufd_core.specs.Held.{is_proper, areas_at, kind_in, object_of, objects_in, table_kind}
 use Rattle.iommufd_core.specs.Shows.{Shows}
 use Rattle.iommufd_core.specs.Step.{IsTidy}
 use Rattle.iommufd_core.specs.declared.held.Held.{Held}
 use Rattle.iommufd_core.specs.declared.state.State.{State}
-use Rattle.object_table.specs.Table.{Row, Table, close_refusal, closed, is_at, is_of_file, is_open, is_same_kind, keeps_file_open, rows_of}
+use Rattle.object_table.specs.Table.{Row, Table, close_refusal, closed, is_of_file, is_open, is_same_kind, keeps_file_open, rows_of}
 use Rattle.object_table.specs.declared.kind.Kind.{Kind}
 use Rattle.object_table.specs.declared.kind.Kind.TheVariants as tablekind
 
@@ -136,75 +135,6 @@ module _ {A : Type 0} where
       by_file true is = areas_closed areas file f i is ∙ sym (rows_closed rows file f i is)
       by_file false is = areas_other areas file f i is ∙ same f i ∙ sym (rows_other rows file f i is)
 
-  -- ---- the memory objects of a file's areas
-
-  any_rows : (p : Object → Bool) (rows : List (Row (Held A))) → list_any p (map object_of rows) ≡ list_any (λ row. p (object_of row)) rows
-  any_rows p [] = refl
-  any_rows p (row ∷ rows) = ap (λ b. p (object_of row) || b) (any_rows p rows)
-
-  -- a row is the one at its file and id
-  row_only : (rows : List (Row (Held A))) (row : Row (Held A)) → have_own_ids (map object_of rows) ≡ true → IsIn rows row → find (is_at row.file row.id) rows ≡ Some row
-  row_only [] row unique within = absurd within
-  row_only (x ∷ rows) row unique within =
-      let parts = and_true (not (list_any (is_object x.file x.id) (map object_of rows))) (have_own_ids (map object_of rows)) unique in
-      by_name (is_at row.file row.id x) refl within (not_true _ parts.0) (λ later. row_only rows row parts.1 later)
-    where
-      flipped : eqb x.file.0 row.file.0 ≡ true → eqb x.id.0 row.id.0 ≡ true → (eqb row.file.0 x.file.0 && eqb row.id.0 x.id.0) ≡ true
-      flipped of_file of_id = grind (arith, nat_tests)
-
-      itself : (r : Row (Held A)) → is_at r.file r.id r ≡ true
-      itself r = grind (arith, nat_tests)
-
-      by_name : (b : Bool) → is_at row.file row.id x ≡ b → (x ≡ row) ⊎ IsIn rows row → list_any (is_object x.file x.id) (map object_of rows) ≡ false → (IsIn rows row → find (is_at row.file row.id) rows ≡ Some row) → cond b (Some x) (find (is_at row.file row.id) rows) ≡ Some row
-      by_name true is (inl same) none rest = ap Some same
-      by_name true is (inr later) none rest =
-          let names = and_true (eqb x.file.0 row.file.0) (eqb x.id.0 row.id.0) is in
-          let again = of_any (λ (r : Row (Held A)). is_object x.file x.id (object_of r)) rows row later (flipped names.0 names.1) in
-          absurd (clash _ none (any_rows (is_object x.file x.id) rows ∙ again))
-      by_name false is (inl same) none rest = absurd (clash _ is (ap (λ (r : Row (Held A)). is_at row.file row.id r) same ∙ itself row))
-      by_name false is (inr later) none rest = rest later
-
-  abbrev areas_of_row : Option (Row (Held A)) → List Area
-  areas_of_row o = elim o [ Some row ↦ areas_in row.value | None ↦ [] ]
-
-  -- what the file's address spaces hold is what the file's areas are over
-  pub held_by_file : (areas : List Area) (rows : List (Row (Held A))) (file : FileNo) (n : ℕ) → have_own_ids (map object_of rows) ≡ true → ((f : FileNo) (i : ObjId) → areas_of areas f i ≡ areas_at rows f i)
-      → holds_memory (filter (is_of_file file) rows) n ≡ list_any (λ area. eqb area.file.0 file.0 && eqb area.memory n) areas
-  held_by_file areas rows file n unique same = alike (holds_memory (filter (is_of_file file) rows) n) (list_any (λ area. eqb area.file.0 file.0 && eqb area.memory n) areas) to from
-    where
-      to : holds_memory (filter (is_of_file file) rows) n ≡ true → list_any (λ area. eqb area.file.0 file.0 && eqb area.memory n) areas ≡ true
-      to holds =
-          let (row, within, over) = some_in (λ row. is_over (areas_in row.value) n) (filter (is_of_file file) rows) holds in
-          let (among, of_file) = in_filter (is_of_file file) rows row within in
-          let found : areas_at rows row.file row.id ≡ areas_in row.value = ap areas_of_row (row_only rows row unique among) in
-          let some : is_over (areas_of areas row.file row.id) n ≡ true = ap (λ l. is_over l n) (same row.file row.id ∙ found) ∙ over in
-          any_weaker (λ area. is_of row.file row.id area && eqb area.memory n) (λ area. eqb area.file.0 file.0 && eqb area.memory n) areas
-          (λ area both.
-          let parts = and_true (is_of row.file row.id area) (eqb area.memory n) both in
-          let names = and_true (eqb area.file.0 row.file.0) (eqb area.ioas.0 row.id.0) parts.0 in
-          both_true _ _ (ap (λ (f : FileNo). eqb area.file.0 f.0) (sym (file_is row.file file of_file)) ∙ names.0) parts.1)
-          (sym (any-filter (λ area. eqb area.memory n) (is_of row.file row.id) areas) ∙ some)
-
-      by_found : (o : Option (Row (Held A))) (ioas : ObjId) → find (is_at file ioas) rows ≡ o → is_over (areas_of_row o) n ≡ true → holds_memory (filter (is_of_file file) rows) n ≡ true
-      by_found None ioas found over = cc
-      by_found (Some row) ioas found over =
-          let (within, is) = in_found (is_at file ioas) rows row found in
-          let names = and_true (is_of_file file row) (eqb row.id.0 ioas.0) is in
-          any-filter (λ (row : Row (Held A)). is_over (areas_in row.value) n) (is_of_file file) rows
-          ∙ of_any (λ (row : Row (Held A)). is_of_file file row && is_over (areas_in row.value) n) rows row within (both_true _ _ names.0 over)
-
-      from : list_any (λ area. eqb area.file.0 file.0 && eqb area.memory n) areas ≡ true → holds_memory (filter (is_of_file file) rows) n ≡ true
-      from some =
-          let (area, within, both) = some_in (λ area. eqb area.file.0 file.0 && eqb area.memory n) areas some in
-          let parts = and_true (eqb area.file.0 file.0) (eqb area.memory n) both in
-          let over : is_over (areas_of areas file area.ioas) n ≡ true =
-          any-filter (λ area. eqb area.memory n) (is_of file area.ioas) areas
-          ∙ of_any (λ (a : Area). is_of file area.ioas a && eqb a.memory n) areas area within (both_true _ _ (both_true _ _ parts.0 (itself area.ioas.0)) parts.1) in
-          by_found (find (is_at file area.ioas) rows) area.ioas refl (ap (λ l. is_over l n) (sym (same file area.ioas)) ∙ over)
-        where
-          itself : (m : ℕ) → eqb m m ≡ true
-          itself m = grind (arith, nat_tests)
-
   -- ---- the table lets the file go
 
   held_open : (rows : List (Row (Held A))) (file : FileNo) → list_all is_proper rows ≡ true → list_any (λ row. keeps_file_open row.kind) (filter (is_of_file file) rows) ≡ list_any (λ row. is_bound_device (kind_in row.value)) (filter (is_of_file file) rows)
@@ -260,33 +190,51 @@ module _ {A : Type 0} where
         bound (kind.Hwpt ioas width automatic) is = cc
         bound (kind.Device d) is = refl
 
-    held_names : (area : Area) → Contains w.areas area → holds_memory (rows_of s.objects file) area.memory ≡ eqb area.file.0 file.0
-    held_names area within =
-        held_by_file w.areas s.objects.rows file area.memory (ap have_own_ids (sym shows.objects.rows) ∙ tidy.ids) shows.objects.spaces
-        ∙ named_by_area (λ (a : Area). eqb a.file.0 file.0) w.areas area tidy.own within
+    -- ---- what goes of the counts
 
-    memory_left : filter (λ (m : MemoryObject). list_any (λ (area : Area). eqb area.memory m.number && not (eqb area.file.0 file.0)) w.areas) w.memory ≡ without_memory (holds_memory (rows_of s.objects file)) w.memory
-    memory_left = kept_memory (λ (a : Area). eqb a.file.0 file.0) (holds_memory (rows_of s.objects file)) w.areas w.memory tidy.own tidy.pins.used held_names
+    abbrev of_file : Area → Bool
+    of_file area = eqb area.file.0 file.0
 
-    pins_left : (memory : List MemoryObject) → settled (pages_by_area w.objects w.areas) (pages_by_area (filter (λ (o : Object). not (eqb o.file.0 file.0)) w.objects) (filter (λ (area : Area). not (eqb area.file.0 file.0)) w.areas)) memory w.user_pages s.pins.items ≡ without_pins (holds_memory (rows_of s.objects file)) s.pins.items
-    pins_left memory =
-        kept_pins (λ (a : Area). eqb a.file.0 file.0) (holds_memory (rows_of s.objects file)) w.objects (filter (λ (o : Object). not (eqb o.file.0 file.0)) w.objects) w.areas memory w.user_pages s.pins.items tidy.own (only_kept at w s.pins.items tidy.pins shows.memory.pinned)
-        (λ f i has. hwpt-filter (λ (o : Object). not (eqb o.file.0 file.0)) w.objects f i has)
-        (λ area within has. held_names area within ∙ names area has (eqb area.file.0 file.0) refl)
+    abbrev left : List Object
+    left = filter (λ (o : Object). not (eqb o.file.0 file.0)) w.objects
+
+    abbrev stay : List Area
+    stay = filter (λ (area : Area). not (eqb area.file.0 file.0)) w.areas
+
+    -- other files keep their page tables
+    tables_stay : (n : ℕ) → translated left stay n ≡ translated w.objects stay n
+    tables_stay n =
+        count_within (λ (area : Area). eqb area.memory n && has_hwpt left area.file area.ioas) (λ (area : Area). not (eqb area.file.0 file.0)) w.areas
+        ∙ count_alike (λ (area : Area). not (eqb area.file.0 file.0) && (eqb area.memory n && has_hwpt left area.file area.ioas)) (λ (area : Area). not (eqb area.file.0 file.0) && (eqb area.memory n && has_hwpt w.objects area.file area.ioas)) w.areas
+        (λ area. by_file area (eqb area.file.0 file.0) refl)
+        ∙ sym (count_within (λ (area : Area). eqb area.memory n && has_hwpt w.objects area.file area.ioas) (λ (area : Area). not (eqb area.file.0 file.0)) w.areas)
       where
-        names : (area : Area) → has_hwpt w.objects area.file area.ioas ≡ true → (b : Bool) → eqb area.file.0 file.0 ≡ b → b ≡ not (not b && has_hwpt (filter (λ (o : Object). not (eqb o.file.0 file.0)) w.objects) area.file area.ioas)
-        names area has true is = refl
-        names area has false is = rw (hwpt_other w.objects file area.file area.ioas is, has) refl
+        by_file : (area : Area) (b : Bool) → eqb area.file.0 file.0 ≡ b → (not b && (eqb area.memory n && has_hwpt left area.file area.ioas)) ≡ (not b && (eqb area.memory n && has_hwpt w.objects area.file area.ioas))
+        by_file area true is = refl
+        by_file area false is = ap (λ b. eqb area.memory n && b) (hwpt_other w.objects file area.file area.ioas is)
 
-    pub shows_closed : (table : Table (Held A)) (attachments : Vec Attachment A) (memory : Vec MemoryObject A) (pins : Vec Pin A) → (close_refusal s.objects file ≡ None → table ≡ closed s.objects file)
+    fewer : AreFewer (over (areas_of_rows (rows_of s.objects file))) (over (translated_of (objects_in s.objects) (rows_of s.objects file))) w left stay
+    fewer = record {
+      over_left = λ n. ap (λ k. over stay n + k) (sym (file_over w.areas s.objects.rows file (orderly at w s tidy shows).ids shows.objects.spaces n)) ∙ over_parts of_file w.areas n;
+      translated_left =
+          λ n. ap (λ k. k + over (translated_of (objects_in s.objects) (rows_of s.objects file)) n) (tables_stay n)
+          ∙ ap (λ k. translated w.objects stay n + k) (sym (file_translated w.areas s.objects.rows file (orderly at w s tidy shows).ids shows.objects.spaces (objects_in s.objects) n))
+          ∙ ap (λ (l : List Object). translated w.objects stay n + translated l (filter of_file w.areas) n) (sym shows.objects.rows)
+          ∙ translated_parts w.objects of_file w.areas n;
+    }
+
+    pub areas_may : MayRelease (over (areas_of_rows (rows_of s.objects file))) (over (translated_of (objects_in s.objects) (rows_of s.objects file))) s.memory s.pool.holds
+    areas_may = may_release at w s tidy shows (over (areas_of_rows (rows_of s.objects file))) (over (translated_of (objects_in s.objects) (rows_of s.objects file))) left stay fewer
+
+    pub shows_closed : (table : Table (Held A)) (attachments : Vec Attachment A) (memory : Memory) (pool : FramePool) → (close_refusal s.objects file ≡ None → table ≡ closed s.objects file)
         → attachments.items ≡ filter (λ (a : Attachment). not (eqb a.file.0 file.0)) s.attachments.items
-        → memory.items ≡ without_memory (holds_memory (rows_of s.objects file)) s.memory.items
-        → pins.items ≡ without_pins (holds_memory (rows_of s.objects file)) s.pins.items
-        → Shows (changed at w (event.Close file) reply.Done) (record s { objects = table; attachments = attachments; memory = memory; pins = pins })
+        → IsReleased (over (areas_of_rows (rows_of s.objects file))) (over (translated_of (objects_in s.objects) (rows_of s.objects file))) s.memory memory s.pool pool
+        → Shows (changed at w (event.Close file) reply.Done) (record s { objects = table; attachments = attachments; memory = memory; pool = pool })
     unfolding changed settle without_areas Answers
-    shows_closed table attachments memory pins closes detached dropped unpinned =
+    shows_closed table attachments memory pool closes detached released =
         let is = closes may_close in
-        let next = keeps_own_pins at w (event.Close file) reply.Done none tt (record { pins = tidy.pins; own = tidy.own }) in
+        let next = keeps_pins at w (event.Close file) reply.Done none tt tidy.pins in
+        let after = shown_after at w s tidy shows (over (areas_of_rows (rows_of s.objects file))) (over (translated_of (objects_in s.objects) (rows_of s.objects file))) left stay fewer (at + 1) (changed at w (event.Close file) reply.Done) memory pool next refl refl (objects_left of_file w.areas w.memory) refl refl released in
         record {
           settings = shows.settings;
           objects = record {
@@ -299,10 +247,8 @@ module _ {A : Type 0} where
             bindings = λ device. bound_left device ∙ shows.devices.bindings device;
             attached = ap (filter (λ (a : Attachment). not (eqb a.file.0 file.0))) shows.devices.attached ∙ sym detached;
           };
-          memory = record {
-            objects = memory_left ∙ ap (without_memory (holds_memory (rows_of s.objects file))) shows.memory.objects ∙ sym dropped;
-            pages = shows.memory.pages;
-            pinned = pins_follow at w s.pins.items tidy.pins shows.memory.pinned (at + 1) (changed at w (event.Close file) reply.Done) next refl pins.items (unpinned ∙ sym (pins_left _));
-          };
-          frames = shows.frames;
+          limits = after.limits;
+          users = after.users;
+          pins = after.pins;
+          frames = after.frames;
         }

@@ -1,13 +1,14 @@
 -- A device that has flushed: the areas of the address space to which it is attached are paid, and so all are.
 use Rattle.std.proofs.Common.{◌≡◌, ℕ, Bool, true, false, ◌&&◌, eqb, Option, Some, None, List, refl, sym, ◌∙◌, ap, arith}
 use Rattle.std.proofs.lemmas.Bool.Decides.{nat_tests}
-use Rattle.iofd_words.specs.Areas.{all_paid, areas_of}
+use Rattle.iofd_words.specs.Areas.{all_paid, areas_of, paid, with_phase}
 use Rattle.iofd_words.specs.Attachments.{attachment_of, ioas_of, ioas_of_attachment}
 use Rattle.iofd_rows.specs.Debts.{DebtsAttached}
 use Rattle.iofd_words.specs.World.{World}
 use Rattle.iofd_words.specs.declared.numbers.DeviceNo.{DeviceNo}
 use Rattle.iofd_words.specs.declared.numbers.FileNo.{FileNo}
 use Rattle.iofd_words.specs.declared.numbers.ObjId.{ObjId}
+use Rattle.iofd_words.specs.declared.rows.Area.{Area}
 use Rattle.iofd_words.specs.declared.rows.Attachment.{Attachment}
 use Rattle.iofd_words.specs.declared.rows.Object.{Object}
 use Rattle.iofd_words.specs.declared.rows.ObjectKind.{ObjectKind}
@@ -16,6 +17,7 @@ use Rattle.iofd_rows.proofs.Each.{in_found}
 use Rattle.iofd_rows.proofs.Named.{file_is, id_is}
 use Rattle.iofd_rows.proofs.Owed.{each_owed}
 use Rattle.iofd_rows.proofs.Paid.{paid_areas_of, pays_none, pays_own}
+use Rattle.iommufd_core.proofs.MemoryReleased.{pins_changed}
 use Rattle.iommufd_core.specs.Held.{areas_at, objects_in, space_of}
 use Rattle.iommufd_core.specs.Shows.{Shows}
 use Rattle.iommufd_core.specs.Spaces.{HasAreas, IsOrderly, is_space}
@@ -95,8 +97,8 @@ module _ {A : Type 0} where
       → space_of (objects_in s.objects) (attachment_of s.attachments.items device) ≡ Some (file, ioas)
       → (IsOrderly s.objects → HasAreas file ioas (all_paid device (areas_at s.objects.rows file ioas)) s.objects table)
       → Shows (record w { areas = all_paid device w.areas }) (record s { objects = table })
-  shows_paid at w s device file ioas table tidy shows space paid =
-      let has = paid (orderly at w s tidy shows) in
+  shows_paid at w s device file ioas table tidy shows space pays =
+      let has = pays (orderly at w s tidy shows) in
       record {
         settings = shows.settings;
         objects = record {
@@ -106,7 +108,9 @@ module _ {A : Type 0} where
           files = λ number. rw has.files (shows.objects.files number);
         };
         devices = shows.devices;
-        memory = shows.memory;
+        limits = shows.limits;
+        users = shows.users;
+        pins = pins_changed w.objects w.areas w.memory w.pins s.memory (λ (area : Area). with_phase (paid device area.phase) area) (λ area. refl) (λ area. refl) (λ area. refl) shows.pins;
         frames = shows.frames;
       }
 

@@ -3,6 +3,7 @@ use Rattle.std.proofs.Common.{◌≡◌, ℕ, suc, ◌+◌, List, [], ◌∷◌,
 use Rattle.iofd_runs.proofs.KeepsDebts.{IsSound, keeps_sound, tabled_sound}
 use Rattle.iofd_runs.proofs.KeepsFits.{keeps_fit, tabled_fit}
 use Rattle.iofd_runs.proofs.KeepsOwnMemory.{OwnPins, keeps_own_pins, later_own, tabled_own}
+use Rattle.iofd_runs.proofs.KeepsOwned.{OwnedPins, keeps_owned_pins, later_owned, opening_owned, tabled_owned}
 use Rattle.iofd_runs.proofs.KeepsPins.{opening_pinned}
 use Rattle.iofd_runs.proofs.Runs.{run_keeps, run_keeps_at}
 use Rattle.iofd_runs.specs.Fits.{RowsFit}
@@ -35,4 +36,14 @@ module _ {A : Type 0} where
       let sound = run_keeps IsSound tabled_sound keeps_sound 0 (opening settings) records run (record { own_ids = refl; debts = record { once = refl; debtors = refl; tables = refl; spaces = refl; areas = refl } }) in
       let fit = run_keeps RowsFit tabled_fit keeps_fit 0 (opening settings) records run (record { pages = refl; starts = refl; rise = refl; user_frames = refl; pin_frames = refl; known = refl; attached = refl }) in
       let pins = run_keeps_at OwnPins tabled_own later_own keeps_own_pins 0 (length records) (opening settings) records (omega arith) run (record { pins = opening_pinned settings; own = refl }) in
-      record { pins = pins.pins; own = pins.own; debts = sound.debts; ids = sound.own_ids; fit = fit }
+      let owned = run_keeps_at OwnedPins tabled_owned later_owned keeps_owned_pins 0 (length records)
+      (opening settings) records (omega arith) run (opening_owned settings) in
+      record {
+        pins = pins.pins;
+        own = pins.own;
+        debts = sound.debts;
+        ids = sound.own_ids;
+        fit = fit;
+        owned =
+            owned.areas;
+      }

@@ -4,12 +4,11 @@ use Rattle.iofd_words.specs.Answers.{Answers}
 use Rattle.std.proofs.lemmas.Bool.Decides.{nat_tests}
 use Rattle.area_map.specs.Areas as own
 use Rattle.area_map.specs.Insertion.{insert_refusal}
-use Rattle.std.specs.List.{list_any}
+use Rattle.std.specs.List.{count_by, list_any}
 use Rattle.iofd_rows.proofs.Bools.{and_true, both_false}
 use Rattle.iofd_rows.proofs.Named.{file_is, id_is}
 use Rattle.iofd_runs.proofs.KeepsOwnMemory.{OwnPins, keeps_own_pins}
 use Rattle.iofd_runs.proofs.NotRefused.{map_passed, passes}
-use Rattle.iommufd_core.proofs.PinsKept.{only_kept, pins_follow}
 use Rattle.iofd_words.specs.Checks.{checks, refusal}
 use Rattle.iofd_words.specs.After.{changed, mapped_area, memory_object, settle, map_changes}
 use Rattle.iofd_words.specs.Areas.{areas_meet, areas_of, has_no_room, is_of}
@@ -17,6 +16,13 @@ use Rattle.iofd_words.specs.Areas as world
 use Rattle.iofd_words.specs.Files.{is_open, user_of}
 use Rattle.iofd_words.specs.Pages.{is_above_sum, is_whole}
 use Rattle.iofd_words.specs.FirstTrue.{first_true}
+use Rattle.iofd_words.specs.Frames.{frame_at}
+use Rattle.frame_memory.specs.Pool.{FramePool}
+use Rattle.memory_rows.proofs.FramesFollow.{frames_follow}
+use Rattle.user_memory.specs.Changes.{HasObject, Settles}
+use Rattle.user_memory.specs.Memory.{Memory}
+use Rattle.iommufd_core.proofs.MapMemory.{area, mapped_shown, mapped_world, object}
+use Rattle.std.specs.Prelude.{if◌then◌else◌}
 use Rattle.iofd_words.specs.Objects.{has_hwpt, has_ioas}
 use Rattle.iofd_words.specs.View.{view}
 use Rattle.iofd_words.specs.World.{World}
@@ -27,18 +33,16 @@ use Rattle.iofd_words.specs.declared.numbers.ObjId.{ObjId}
 use Rattle.iofd_words.specs.declared.numbers.UserNo.{UserNo}
 use Rattle.iofd_words.specs.declared.reply.Reply.TheVariants as reply
 use Rattle.iofd_words.specs.declared.rows.Area.{Area}
-use Rattle.iofd_words.specs.declared.rows.MemoryObject.{MemoryObject}
 use Rattle.iofd_words.specs.declared.rows.Object.{Object}
-use Rattle.iofd_words.specs.declared.rows.Pin.{Pin}
 use Rattle.iofd_words.specs.declared.rows.UserPage.{UserPage}
+use Rattle.iommufd_core.proofs.AreasBecome.{areas_become}
 use Rattle.iommufd_core.proofs.Flushed.{orderly}
 use Rattle.iommufd_core.proofs.AreasFiltered.{with_area_own, with_area_other}
-use Rattle.iommufd_core.proofs.MapPins.{mapped_pins}
 use Rattle.iommufd_core.proofs.ViewShown.{same_refusal}
-use Rattle.iommufd_core.specs.Held.{areas_at, objects_in}
-use Rattle.iommufd_core.specs.Mapping.{first_pins}
+use Rattle.iommufd_core.specs.Held.{areas_at, objects_in, room_at}
+use Rattle.iofd_rows.specs.Ids.{have_own_ids}
 use Rattle.iommufd_core.specs.Seen.{seen}
-use Rattle.iommufd_core.specs.Shows.{PinsShown, Shows}
+use Rattle.iommufd_core.specs.Shows.{Shows}
 use Rattle.iommufd_core.specs.Spaces.{HasAreas, IsOrderly, is_space}
 use Rattle.iommufd_core.specs.Step.{IsTidy, TidyShowsSame}
 use Rattle.iommufd_core.specs.declared.held.Held.{Held}
@@ -50,30 +54,15 @@ not_of : (area : Area) (f : FileNo) (i : ObjId) → is_space area.file area.ioas
 not_of area f i other = grind (arith, nat_tests)
 
 module _ {A : Type 0} where
-  -- what is made of the areas of one address space, where no other area changes
-  pub areas_become : (areas : List Area) (w : World) (s : State A) (file : FileNo) (ioas : ObjId) (after : List Area) (table : Table (Held A)) → Shows w s → HasAreas file ioas after s.objects table
-      → areas_of areas file ioas ≡ after
-      → ((f : FileNo) (i : ObjId) → is_space file ioas f i ≡ false → areas_of areas f i ≡ areas_of w.areas f i)
-      → (f : FileNo) (i : ObjId) → areas_of areas f i ≡ areas_at table.rows f i
-  areas_become areas w s file ioas after table shows has here others f i = by_test (is_space file ioas f i) refl
-    where
-      by_test : (b : Bool) → is_space file ioas f i ≡ b → areas_of areas f i ≡ areas_at table.rows f i
-      by_test true is =
-          let parts = and_true (eqb f.0 file.0) (eqb i.0 ioas.0) is in
-          let of_file = file_is f file parts.0 in
-          let of_id = id_is i ioas parts.1 in
-          rw (of_file, of_id) (here ∙ sym has.here)
-      by_test false is = others f i is ∙ shows.objects.spaces f i ∙ sym (has.others f i is)
-
-  -- an area that doesn't come changes nothing
-  pub shows_unmapped : (at : ℕ) (s : State A) (file : FileNo) (ioas : ObjId) (table : Table (Held A)) (memory : Vec MemoryObject A) (pins : Vec Pin A)
+  -- room for an area changes nothing
+  pub shows_roomy : (at : ℕ) (s : State A) (file : FileNo) (ioas : ObjId) (table : Table (Held A))
       → (IsOrderly s.objects → HasAreas file ioas (areas_at s.objects.rows file ioas) s.objects table)
-      → memory.items ≡ s.memory.items → pins.items ≡ s.pins.items
-      → TidyShowsSame at s (record s { objects = table; memory = memory; pins = pins })
-  shows_unmapped at s file ioas table memory pins stays same_memory same_pins w tidy shows =
+      → TidyShowsSame at s (record s { objects = table })
+  shows_roomy at s file ioas table stays w tidy shows =
       let has = stays (orderly at w s tidy shows) in
       record {
         settings = shows.settings;
+        limits = shows.limits;
         objects = record {
           rows = shows.objects.rows ∙ sym has.objects;
           proper = has.proper;
@@ -81,68 +70,86 @@ module _ {A : Type 0} where
           files = λ number. rw has.files (shows.objects.files number);
         };
         devices = shows.devices;
-        memory = record {
-          objects = shows.memory.objects ∙ sym same_memory;
-          pages = shows.memory.pages;
-          pinned = subst (PinsShown w.pins) (sym same_pins) shows.memory.pinned;
-        };
+        users = shows.users;
+        pins = shows.pins;
         frames = shows.frames;
       }
 
-  -- the same pages of users and objects give the same pins
-  pins_alike : (w : World) (s : State A) (m : MemoryObject) (file : FileNo) (ioas : ObjId) (count : ℕ) → Shows w s
-      → s.pins.items ++ first_pins w.user_pages m (cond (has_hwpt w.objects file ioas) count 0) ≡ s.pins.items ++ first_pins s.user_pages.items m (cond (has_hwpt (objects_in s.objects) file ioas) count 0)
-  pins_alike w s m file ioas count shows =
-      ap (λ (pages : List UserPage). s.pins.items ++ first_pins pages m (cond (has_hwpt w.objects file ioas) count 0)) shows.memory.pages
-      ∙ ap (λ (objects : List Object). s.pins.items ++ first_pins s.user_pages.items m (cond (has_hwpt objects file ioas) count 0)) shows.objects.rows
+  -- nor does want of memory for the object
+  pub shows_unmapped : (at : ℕ) (s : State A) (file : FileNo) (ioas : ObjId) (table : Table (Held A)) (after : Memory) (pool : FramePool)
+      → (IsOrderly s.objects → HasAreas file ioas (areas_at s.objects.rows file ioas) s.objects table)
+      → after ≡ s.memory → pool ≡ s.pool
+      → TidyShowsSame at s (record s { objects = table; memory = after; pool = pool })
+  shows_unmapped at s file ioas table after pool stays same_memory same_pool =
+      let P : Memory → Type 0 = λ m. TidyShowsSame at s (record s { objects = table; memory = m; pool = pool }) in
+      let Q : FramePool → Type 0 = λ p. TidyShowsSame at s (record s { objects = table; pool = p }) in
+      subst P (sym same_memory) (subst Q (sym same_pool) (shows_roomy at s file ioas table stays))
 
-  module _ (at : ℕ) (w : World) (s : State A) (file : FileNo) (request : MapRequest) (user : UserNo) (table : Table (Held A)) (memory : Vec MemoryObject A) (pins : Vec Pin A) where
-    abbrev area : Area
-    area = mapped_area at file request request.iova
+  -- where there is room the area comes
+  pub comes : (old roomy new : Table (Held A)) (file : FileNo) (ioas : ObjId) (added : Area) → IsOrderly old → has_ioas (objects_in old) file ioas ≡ true → insert_refusal added.span (areas_at old.rows file ioas) ≡ None
+      → (IsOrderly old → HasAreas file ioas (areas_at old.rows file ioas) old roomy)
+      → (IsOrderly old → has_ioas (objects_in old) file ioas ≡ true → 0 < room_at roomy.rows file ioas)
+      → (IsOrderly roomy → has_ioas (objects_in roomy) file ioas ≡ true → insert_refusal added.span (areas_at roomy.rows file ioas) ≡ None → 0 < room_at roomy.rows file ioas → HasAreas file ioas (own.with_area added (areas_at roomy.rows file ioas)) roomy new)
+      → HasAreas file ioas (own.with_area added (areas_at old.rows file ioas)) old new
+  comes old roomy new file ioas added is_orderly space free stays room inserts =
+      let first = stays is_orderly in
+      let again : IsOrderly roomy = record { proper = first.proper; ids = ap have_own_ids first.objects ∙ is_orderly.ids } in
+      let there : has_ioas (objects_in roomy) file ioas ≡ true = ap (λ (objects : List Object). has_ioas objects file ioas) first.objects ∙ space in
+      let taken : insert_refusal added.span (areas_at roomy.rows file ioas) ≡ None = ap (insert_refusal added.span) first.here ∙ free in
+      let last = inserts again there taken (room is_orderly space) in
+      record {
+        objects = last.objects ∙ first.objects;
+        proper = last.proper;
+        here = last.here ∙ ap (own.with_area added) first.here;
+        others = λ f i other. last.others f i other ∙ first.others f i other;
+        files = last.files ∙ first.files;
+      }
 
-    shows_settled : IsTidy at w → Shows w s → 0 < request.length
-        → OwnPins (at + 1) (settle w (record w { memory = w.memory ++ memory_object at user request ∷ []; areas = world.with_area area w.areas }))
-        → (IsOrderly s.objects → HasAreas file request.ioas (own.with_area area (areas_at s.objects.rows file request.ioas)) s.objects table)
-        → memory.items ≡ s.memory.items ++ memory_object at user request ∷ []
-        → pins.items ≡ s.pins.items ++ first_pins s.user_pages.items (memory_object at user request) (cond (has_hwpt (objects_in s.objects) file request.ioas) (request.length / 4096) 0)
-        → Shows (settle w (record w { memory = w.memory ++ memory_object at user request ∷ []; areas = world.with_area area w.areas })) (record s { objects = table; memory = memory; pins = pins })
+  module _ (at : ℕ) (w : World) (s : State A) (file : FileNo) (request : MapRequest) (user : UserNo) (table : Table (Held A)) (after : Memory) (pool : FramePool) (pinned : Bool) where
+    shows_settled : IsTidy at w → Shows w s
+        → OwnPins (at + 1) (mapped_world at w file request user)
+        → (IsOrderly s.objects → HasAreas file request.ioas (own.with_area (area at w file request user) (areas_at s.objects.rows file request.ioas)) s.objects table)
+        → pinned ≡ has_hwpt (objects_in s.objects) file request.ioas
+        → HasObject (if pinned then 1 else 0) (object at w file request user) s.memory after
+        → Settles s.memory after s.pool pool
+        → Shows (mapped_world at w file request user) (record s { objects = table; memory = after; pool = pool })
     unfolding settle
-    shows_settled tidy shows some next inserted pushed pinned =
+    shows_settled tidy shows next inserted is_pinned has_object settles =
         let has = inserted (orderly at w s tidy shows) in
         record {
           settings = shows.settings;
+          limits = settles.limits ∙ shows.limits;
           objects = record {
             rows = shows.objects.rows ∙ sym has.objects;
             proper = has.proper;
             spaces =
-                areas_become (world.with_area area w.areas) w s file request.ioas (own.with_area area (areas_at s.objects.rows file request.ioas)) table shows has
-                (with_area_own area w.areas ∙ ap (own.with_area area) (shows.objects.spaces file request.ioas))
-                (λ f i other. with_area_other area w.areas f i (not_of area f i other));
+                areas_become (world.with_area (area at w file request user) w.areas) w s file request.ioas (own.with_area (area at w file request user) (areas_at s.objects.rows file request.ioas)) table shows has
+                (with_area_own (area at w file request user) w.areas ∙ ap (own.with_area (area at w file request user)) (shows.objects.spaces file request.ioas))
+                (λ f i other. with_area_other (area at w file request user) w.areas f i (not_of (area at w file request user) f i other));
             files = λ number. rw has.files (shows.objects.files number);
           };
           devices = shows.devices;
-          memory = record {
-            objects = ap (λ (l : List MemoryObject). l ++ memory_object at user request ∷ []) shows.memory.objects ∙ sym pushed;
-            pages = shows.memory.pages;
-            pinned =
-                pins_follow at w s.pins.items tidy.pins shows.memory.pinned (at + 1) (settle w (record w { memory = w.memory ++ memory_object at user request ∷ []; areas = world.with_area area w.areas })) next refl pins.items
-                (pinned ∙ sym (pins_alike w s (memory_object at user request) file request.ioas (request.length / 4096) shows) ∙ sym (mapped_pins at w user file request tidy.pins some s.pins.items (only_kept at w s.pins.items tidy.pins shows.memory.pinned)));
+          users = record {
+            pages = λ u page. shows.users.pages u page ∙ ap (λ (rows : List UserPage). frame_at rows u page) (sym settles.pages);
+            counts = λ test. shows.users.counts test ∙ ap (count_by test) (sym settles.pages);
           };
-          frames = shows.frames;
+          pins = mapped_shown at w file request user s.memory after s.pool pool pinned tidy shows.pins next shows.users.pages (is_pinned ∙ ap (λ (objects : List Object). has_hwpt objects file request.ioas) (sym shows.objects.rows)) has_object settles;
+          frames = frames_follow w.settings.pool w.writes w.table_frames s.memory after s.pool pool shows.frames settles.holds settles.bytes;
         }
 
-    pub shows_mapped : IsTidy at w → Shows w s → refusal w (event.Map file request) ≡ None → 0 < request.length → user_of s.config file ≡ Some user
-        → (IsOrderly s.objects → HasAreas file request.ioas (own.with_area area (areas_at s.objects.rows file request.ioas)) s.objects table)
-        → memory.items ≡ s.memory.items ++ memory_object at user request ∷ []
-        → pins.items ≡ s.pins.items ++ first_pins s.user_pages.items (memory_object at user request) (cond (has_hwpt (objects_in s.objects) file request.ioas) (request.length / 4096) 0)
-        → Shows (changed at w (event.Map file request) (reply.Iova request.iova)) (record s { objects = table; memory = memory; pins = pins })
+    pub shows_mapped : IsTidy at w → Shows w s → refusal w (event.Map file request) ≡ None → user_of s.config file ≡ Some user
+        → (IsOrderly s.objects → HasAreas file request.ioas (own.with_area (area at w file request user) (areas_at s.objects.rows file request.ioas)) s.objects table)
+        → pinned ≡ has_hwpt (objects_in s.objects) file request.ioas
+        → HasObject (if pinned then 1 else 0) (object at w file request user) s.memory after
+        → Settles s.memory after s.pool pool
+        → Shows (changed at w (event.Map file request) (reply.Iova request.iova)) (record s { objects = table; memory = after; pool = pool })
     unfolding changed Answers
-    shows_mapped tidy shows none some is_user inserted pushed pinned =
+    shows_mapped tidy shows none is_user inserted is_pinned has_object settles =
         let known : user_of w.settings file ≡ Some user = rw shows.settings is_user in
         let next : OwnPins (at + 1) (map_changes at w file request request.iova (user_of w.settings file)) = keeps_own_pins at w (event.Map file request) (reply.Iova request.iova) none refl (record { pins = tidy.pins; own = tidy.own }) in
-        let P = λ (o : Option UserNo). Shows (map_changes at w file request request.iova o) (record s { objects = table; memory = memory; pins = pins }) in
+        let P = λ (o : Option UserNo). Shows (map_changes at w file request request.iova o) (record s { objects = table; memory = after; pool = pool }) in
         let Q = λ (o : Option UserNo). OwnPins (at + 1) (map_changes at w file request request.iova o) in
-        subst P (sym known) (shows_settled tidy shows some (subst Q known next) inserted pushed pinned)
+        subst P (sym known) (shows_settled tidy shows (subst Q known next) inserted is_pinned has_object settles)
 
 -- ---- where nothing refuses
 

@@ -1,5 +1,5 @@
 -- Where nothing refuses an event, the file takes one more object, and a bound device has settings.
-use Rattle.std.proofs.Common.{◌≡◌, ℕ, true, false, leb, is_some, Option, Some, None, List, length, refl, sym, ◌∙◌, ap}
+use Rattle.std.proofs.Common.{◌≡◌, ℕ, true, false, leb, is_some, Option, Some, None, List, length, refl, sym, ◌∙◌, ap, Bool, ◌&&◌}
 use Rattle.std.specs.List.{filter, find, list_all}
 use Rattle.std.specs.Option.{option_map}
 use Rattle.iofd_words.specs.Checks.{lacks_room_for_hwpt, refusal}
@@ -87,3 +87,19 @@ module _ {A : Type 0} where
   never_strange at w s attachments tidy shows is strange =
       let all : list_all (λ (a : Attachment). is_device s.config a.device) attachments ≡ true = rw (is, ← shows.devices.attached, ← shows.settings) tidy.fit.attached in
       cc
+
+  -- nor a file without a user, that a device is bound to
+  pub never_userless : (at : ℕ) (w : World) (s : State A) (device : DeviceNo) (bound : Object) → IsTidy at w → Shows w s → find (λ object. is_bound_as device object.kind) s.bindings.items ≡ Some bound → files.user_of s.config bound.file ≡ None → ⊥
+  never_userless at w s device bound tidy shows binding lacks =
+      let binding_w : binding_of w.objects device ≡ Some bound = shows.devices.bindings device ∙ binding in
+      let opened : files.is_open w.settings w.closed bound.file ≡ true = (bound_known w.settings w.closed w.objects device bound tidy.fit.known binding_w).0 in
+      let lacks_w : files.user_of w.settings bound.file ≡ None = ap (λ settings. files.user_of settings bound.file) shows.settings ∙ lacks in
+      by_user (files.user_of w.settings bound.file) lacks_w (opened_user (files.user_of w.settings bound.file) _ opened)
+    where
+      opened_user : {X : Type 0} (o : Option X) (b : Bool) → (is_some o && b) ≡ true → is_some o ≡ true
+      opened_user None b is = cc
+      opened_user (Some x) b is = refl
+
+      by_user : {X : Type 0} (o : Option X) → o ≡ None → is_some o ≡ true → ⊥
+      by_user None is there = cc
+      by_user (Some x) is there = cc

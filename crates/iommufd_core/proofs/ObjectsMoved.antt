@@ -3,7 +3,7 @@ use Rattle.std.proofs.Common.{◌≡◌, ◌<◌, ◌^◌, is_some, Vec, Bool, t
 use Rattle.std.specs.List.{find, filter, list_all}
 use Rattle.std.specs.Option.{option_map}
 use Rattle.std.proofs.lemmas.Bool.Decides.{nat_tests}
-use Rattle.iofd_words.specs.Objects.{binding_of, is_bound_as, is_fresh, is_full, kind_of, objects_of, with_object}
+use Rattle.iofd_words.specs.Objects.{binding_of, is_bound_as, is_fresh, is_full, is_hwpt_over, kind_of, objects_of, with_object}
 use Rattle.iofd_words.specs.World.{World}
 use Rattle.iofd_words.specs.declared.numbers.DeviceNo.{DeviceNo}
 use Rattle.iofd_words.specs.declared.numbers.FileNo.{FileNo}
@@ -12,6 +12,8 @@ use Rattle.iofd_words.specs.declared.rows.Object.{Object}
 use Rattle.iofd_words.specs.declared.rows.ObjectKind.{ObjectKind}
 use Rattle.iofd_words.specs.declared.rows.ObjectKind.TheVariants as kind
 use Rattle.iofd_rows.proofs.Bools.{and_true, both_true}
+use Rattle.iofd_rows.proofs.PageTables.{same_hwpt}
+use Rattle.memory_rows.proofs.FramesFollow.{pins_moved, translated_same}
 use Rattle.iommufd_core.proofs.Bindings.{bound_last}
 use Rattle.iommufd_core.proofs.Objects.{kind_at, kind_of_rows}
 use Rattle.iommufd_core.specs.Held.{is_proper, areas_at, areas_in, object_of}
@@ -59,10 +61,11 @@ module _ {A : Type 0} where
 
   -- one that no other id is like, in its file
   pub shows_inserted : (w : World) (s : State A) (row : Row (Held A)) (table : Table (Held A)) (bindings : Vec Object A) → Shows w s → is_proper row ≡ true → areas_in row.value ≡ [] → find (is_at row.file row.id) s.objects.rows ≡ None
+      → ((ioas : ObjId) → is_hwpt_over ioas (object_of row).kind ≡ false)
       → table.rows ≡ inserted row s.objects.rows → table.files ≡ s.objects.files
       → ((device : DeviceNo) → binding_of (with_object (object_of row) w.objects) device ≡ find (λ object. is_bound_as device object.kind) bindings.items)
       → Shows (record w { objects = with_object (object_of row) w.objects }) (record s { objects = table; bindings = bindings })
-  shows_inserted w s row table bindings shows proper none unused rows files bound =
+  shows_inserted w s row table bindings shows proper none unused no_table rows files bound =
       record {
         settings = shows.settings;
         objects = record {
@@ -72,7 +75,12 @@ module _ {A : Type 0} where
           files = λ number. rw files (shows.objects.files number);
         };
         devices = record { bindings = bound; attached = shows.devices.attached };
-        memory = shows.memory;
+        limits = shows.limits;
+        users = shows.users;
+        pins = pins_moved w.objects (with_object (object_of row) w.objects) w.areas w.areas w.memory w.pins s.memory
+            shows.pins (λ number. refl)
+            (translated_same w.objects (with_object (object_of row) w.objects) w.areas
+            (λ file ioas. same_hwpt (object_of row) w.objects file ioas (no_table ioas)));
         frames = shows.frames;
       }
 
@@ -82,7 +90,14 @@ module _ {A : Type 0} where
       → bindings.items ≡ s.bindings.items ++ record { file = file; id = id; kind = kind.Device device } ∷ []
       → Shows (record w { objects = with_object (record { file = file; id = id; kind = kind.Device device }) w.objects }) (record s { objects = table; bindings = bindings })
   shows_bound w s file id device table bindings shows free unused rows files last =
-      shows_inserted w s (record { file = file; id = id; kind = tablekind.Device; users = 0; value = held.Device device }) table bindings shows refl refl unused rows files
+      shows_inserted w s (record {
+        file = file;
+        id = id;
+        kind = tablekind.Device;
+        users = 0;
+        value =
+            held.Device device;
+      }) table bindings shows refl refl unused (λ ioas. refl) rows files
       (λ d. bound_last w.objects s.bindings.items file id device shows.devices.bindings free d ∙ ap (find (λ (object : Object). is_bound_as d object.kind)) (sym last))
 
   no_kind : (o : Option (Row (Held A))) → o ≡ None → is_some (kind_at (option_map (λ (row : Row (Held A)). row.value) o)) ≡ false

@@ -14,11 +14,22 @@ use Rattle.iofd_rows.proofs.Found.{find-filter, none_both}
 use Rattle.iofd_rows.proofs.Named.{file_is, id_is}
 use Rattle.iommufd_core.specs.Held.{areas_at, areas_in, is_proper, kind_in, object_of, objects_in, table_kind}
 use Rattle.iommufd_core.specs.declared.held.Held.{Held}
-use Rattle.iommufd_core.proofs.Unpinned.{areas_of_other}
+use Rattle.iommufd_core.specs.declared.held.Held.TheVariants as held
+use Rattle.iommufd_core.proofs.Objects.{areas_at_rows, areas_of_held, has_ioas_rows, is_space, value_at}
 use Rattle.object_table.specs.Table.{Row, Table, destroy_refusal, is_at, is_own, is_same_kind, removed}
 use Rattle.object_table.specs.declared.kind.Kind.TheVariants as of_kind
 
 module _ {A : Type 0} where
+  no_space : (o : Option (Held A)) → is_space o ≡ false → areas_of_held o ≡ []
+  no_space None none = refl
+  no_space (Some (held.Ioas areas)) none = cc
+  no_space (Some (held.Hwpt ioas width automatic)) none = refl
+  no_space (Some (held.Device device)) none = refl
+
+  -- what is no address space has no areas
+  pub areas_of_other : (rows : List (Row (Held A))) (file : FileNo) (id : ObjId) → has_ioas (map object_of rows) file id ≡ false → areas_at rows file id ≡ []
+  areas_of_other rows file id none = areas_at_rows rows file id ∙ no_space (value_at rows file id) (sym (has_ioas_rows rows file id) ∙ none)
+
   -- ---- a row goes
 
   abbrev areas_of_row : Option (Row (Held A)) → List Area

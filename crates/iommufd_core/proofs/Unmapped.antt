@@ -1,11 +1,6 @@
 -- The world after an UNMAP is shown.
-use Rattle.std.proofs.Common.{◌≡◌, ℕ, ◌+◌, ◌*◌, ◌<◌, ◌≤◌, leb, Bool, true, false, ◌&&◌, not, eqb, Option, Some, None, is_some, Vec, List, [], ◌∷◌, length, map, Contains, refl, sym, ◌∙◌, ap, arith}
-use Rattle.iommufd_core.proofs.PinsKept.{only_kept, pins_follow}
-use Rattle.iofd_runs.proofs.KeepsOwnMemory.{OwnPins}
-use Rattle.iofd_rows.proofs.ListTests.{any-filter}
-use Rattle.iommufd_core.specs.Memory.{is_over, without_memory, without_pins}
+use Rattle.std.proofs.Common.{◌≡◌, ℕ, ◌+◌, ◌*◌, ◌<◌, ◌≤◌, leb, Bool, true, false, cond, not, eqb, Option, None, is_some, List, [], ◌∷◌, length, map, refl, sym, ◌∙◌, ap, arith}
 use Rattle.std.specs.List.{filter, list_all}
-use Rattle.std.specs.Option.{option_map}
 use Rattle.std.specs.Prelude.{Result, Ok, Err}
 use Rattle.std.specs.Result.{OkIff}
 use Rattle.area_map.specs.Areas.{AreKept, areas_outside, areas_within, bytes_of, marked}
@@ -15,13 +10,19 @@ use Rattle.area_map.proofs.Kept.{length-filter-le}
 use Rattle.iofd_rows.proofs.Bools.{and_true}
 use Rattle.iofd_rows.proofs.Found.{all_filter}
 use Rattle.iofd_runs.proofs.NotRefused.{passes, unmap_passed}
-use Rattle.iofd_rows.proofs.Settled.{kept_memory, kept_pins, named_by_area}
 use Rattle.iofd_words.specs.After.{settle, without_areas}
-use Rattle.iofd_words.specs.Areas.{areas_of, is_cut, is_of, is_touched, is_waiting, touched, touched_bytes, unmapped_span, with_leaving}
+use Rattle.iofd_words.specs.Areas.{areas_of, is_cut, is_of, is_touched, is_waiting, leaving, touched, touched_bytes, unmapped_span, with_leaving, with_phase}
 use Rattle.iofd_words.specs.Attachments.{devices_of}
 use Rattle.iofd_words.specs.Bounds.{Bounds}
 use Rattle.iofd_words.specs.Checks.{refusal}
 use Rattle.iofd_runs.specs.Fits.{devices_rise, is_of_pages}
+use Rattle.iofd_rows.specs.Pinned.{ArePinned}
+use Rattle.iofd_words.specs.Objects.{has_hwpt}
+use Rattle.frame_memory.specs.Pool.{FramePool}
+use Rattle.memory_rows.proofs.Gone.{objects_left, over_parts, translated_parts, translated_space}
+use Rattle.memory_rows.specs.Moves.{IsReleased, MayRelease, if_translated}
+use Rattle.memory_rows.specs.Shown.{over, translated}
+use Rattle.user_memory.specs.Memory.{Memory}
 use Rattle.iofd_words.specs.Pages.{is_above_sum, is_whole}
 use Rattle.iofd_words.specs.Span.{lies_in, size_of}
 use Rattle.iofd_words.specs.View.{view}
@@ -29,36 +30,23 @@ use Rattle.iofd_words.specs.World.{World}
 use Rattle.iofd_words.specs.declared.event.Event.TheVariants as event
 use Rattle.iofd_words.specs.declared.event.UnmapRequest.{UnmapRequest}
 use Rattle.iofd_words.specs.declared.numbers.FileNo.{FileNo}
-use Rattle.iofd_words.specs.declared.numbers.ObjId.{ObjId}
 use Rattle.iofd_words.specs.declared.rows.Area.{Area}
 use Rattle.iofd_words.specs.declared.rows.Attachment.{Attachment}
-use Rattle.iofd_words.specs.declared.rows.MemoryObject.{MemoryObject}
 use Rattle.iofd_words.specs.declared.rows.Object.{Object}
-use Rattle.iofd_words.specs.declared.rows.Pin.{Pin}
-use Rattle.iommufd_core.proofs.AreasHeld.{areas_absent, areas_found}
 use Rattle.iommufd_core.proofs.Flushed.{orderly}
-use Rattle.iommufd_core.proofs.Mapped.{areas_become}
+use Rattle.iommufd_core.proofs.AreasBecome.{areas_become, own_at}
+use Rattle.iommufd_core.proofs.MemoryReleased.{AreFewer, may_release, pins_changed, shown_after}
 use Rattle.iommufd_core.proofs.Touched.{AreAlike, alike, leaving_other, leaving_own, left_other, left_own, met_marked, met_within, touched_own, unmet_outside, waits_filtered}
-use Rattle.iommufd_core.specs.Held.{areas_at, areas_in, objects_in}
+use Rattle.iommufd_core.specs.Held.{areas_at, objects_in}
 use Rattle.iommufd_core.specs.Shows.{Shows}
 use Rattle.iommufd_core.specs.Spaces.{HasAreas, IsOrderly}
 use Rattle.iommufd_core.specs.Step.{IsTidy}
 use Rattle.iommufd_core.specs.Mapping.{own_areas, some_waits}
 use Rattle.iommufd_core.specs.declared.held.Held.{Held}
 use Rattle.iommufd_core.specs.declared.state.State.{State}
-use Rattle.object_table.specs.Table as table
-use Rattle.object_table.specs.Table.{Row, Table}
-use Rattle.object_table.specs.declared.kind.Kind.TheVariants.{Ioas}
+use Rattle.object_table.specs.Table.{Table}
 
 module _ {A : Type 0} where
-  -- the areas of an address space are those at its id
-  own_at : (t : Table (Held A)) (file : FileNo) (ioas : ObjId) → IsOrderly t → own_areas t file ioas ≡ areas_at t.rows file ioas
-  own_at t file ioas is = by_row (table.own t file Ioas ioas) refl
-    where
-      by_row : (o : Option (Row (Held A))) → table.own t file Ioas ioas ≡ o → elim o as (λ _. List Area) [ Some row ↦ areas_in row.value | None ↦ [] ] ≡ areas_at t.rows file ioas
-      by_row None found = sym (areas_absent t file ioas is found)
-      by_row (Some row) found = sym (areas_found t file Ioas ioas row.value is (ap (option_map (λ (r : Row (Held A)). r.value)) found))
-
   module _ (at : ℕ) (w : World) (s : State A) (file : FileNo) (request : UnmapRequest) (tidy : IsTidy at w) (shows : Shows w s) where
     pub own_shown : own_areas s.objects file request.ioas ≡ areas_of w.areas file request.ioas
     own_shown = own_at s.objects file request.ioas (orderly at w s tidy shows) ∙ sym (shows.objects.spaces file request.ioas)
@@ -111,7 +99,11 @@ module _ {A : Type 0} where
               files = λ number. rw has.files (shows.objects.files number);
             };
             devices = shows.devices;
-            memory = shows.memory;
+            limits = shows.limits;
+            users = shows.users;
+            pins =
+                pins_changed w.objects w.areas w.memory w.pins s.memory (λ (area : Area). with_phase (cond (is_touched file request area) (leaving devices area.phase) area.phase) area)
+                (λ area. refl) (λ area. refl) (λ area. refl) shows.pins;
             frames = shows.frames;
           }
 
@@ -122,52 +114,54 @@ module _ {A : Type 0} where
       pub bytes_shown : (span : Bounds) → span ≡ unmapped_span request → touched_bytes w.areas file request ≡ bytes_of (areas_within span (own_areas s.objects file request.ioas))
       bytes_shown span is_span = ap bytes_of (touched_within span is_span)
 
-      -- their memory objects are named
-      named : (span : Bounds) → span ≡ unmapped_span request → (area : Area) → Contains w.areas area → is_over (areas_within span (own_areas s.objects file request.ioas)) area.memory ≡ is_touched file request area
-      named span is_span area among =
-          ap (λ (areas : List Area). is_over areas area.memory) (sym (touched_within span is_span))
-          ∙ any-filter (λ (a : Area). eqb a.memory area.memory) (is_touched file request) w.areas
-          ∙ named_by_area (is_touched file request) w.areas area tidy.own among
+      -- those that stay
+      abbrev stay : List Area
+      stay = filter (λ (a : Area). not (is_touched file request a)) w.areas
 
-      -- the touched areas go
-      pub shows_removed : (span : Bounds) (t : Table (Held A)) (memory : Vec MemoryObject A) (pins : Vec Pin A) → span ≡ unmapped_span request
-          → OwnPins (at + 1) (settle w (without_areas (is_touched file request) w))
-          → (IsOrderly s.objects → HasAreas file request.ioas (areas_outside span (areas_at s.objects.rows file request.ioas)) s.objects t)
-          → memory.items ≡ without_memory (is_over (areas_within span (own_areas s.objects file request.ioas))) s.memory.items
-          → pins.items ≡ without_pins (is_over (areas_within span (own_areas s.objects file request.ioas))) s.pins.items
-          → Shows (settle w (without_areas (is_touched file request) w)) (record s { objects = t; memory = memory; pins = pins })
-      unfolding settle without_areas
-      shows_removed span t memory pins is_span next removes dropped unpinned =
-          let has : HasAreas file request.ioas (areas_outside (unmapped_span request) (areas_at s.objects.rows file request.ioas)) s.objects t = rw is_span at (removes (orderly at w s tidy shows)) in
-          record {
-            settings = shows.settings;
-            objects = record {
-              rows = shows.objects.rows ∙ sym has.objects;
-              proper = has.proper;
-              spaces =
-                  areas_become (filter (λ (a : Area). not (is_touched file request a)) w.areas) w s file request.ioas (areas_outside (unmapped_span request) (areas_at s.objects.rows file request.ioas)) t shows has
-                  (left_own file request w.areas ∙ unmet_outside (unmapped_span request) (areas_of w.areas file request.ioas) are ∙ ap (areas_outside (unmapped_span request)) (shows.objects.spaces file request.ioas))
-                  (left_other file request w.areas);
-              files = λ number. rw has.files (shows.objects.files number);
-            };
-            devices = shows.devices;
-            memory = record {
-              objects =
-                  kept_memory (is_touched file request) (is_over (areas_within span (own_areas s.objects file request.ioas))) w.areas w.memory tidy.own tidy.pins.used (named span is_span)
-                  ∙ ap (without_memory (is_over (areas_within span (own_areas s.objects file request.ioas)))) shows.memory.objects ∙ sym dropped;
-              pages = shows.memory.pages;
-              pinned =
-                  pins_follow at w s.pins.items tidy.pins shows.memory.pinned (at + 1) (settle w (without_areas (is_touched file request) w)) next refl pins.items
-                  (unpinned
-                  ∙ sym (kept_pins (is_touched file request) (is_over (areas_within span (own_areas s.objects file request.ioas))) w.objects w.objects w.areas _ w.user_pages s.pins.items tidy.own (only_kept at w s.pins.items tidy.pins shows.memory.pinned) (λ f i table. table)
-                  (λ area among table. named span is_span area among ∙ (let kept : (b c : Bool) → c ≡ true → b ≡ not (not b && c) = twice in kept _ _ table))));
-            };
-            frames = shows.frames;
-          }
-        where
-          twice : (b c : Bool) → c ≡ true → b ≡ not (not b && c)
-          twice true c is = refl
-          twice false c is = rw is refl
+      -- as the touched areas go
+      module _ (span : Bounds) (is_translated : Bool) (is_span : span ≡ unmapped_span request) (is_table : is_translated ≡ has_hwpt (objects_in s.objects) file request.ioas) where
+        abbrev going : List Area
+        going = areas_within span (own_areas s.objects file request.ioas)
+
+        fewer : AreFewer (over going) (if_translated is_translated going) w w.objects stay
+        fewer = record {
+          over_left = λ n. ap (λ (l : List Area). over stay n + over l n) (sym (touched_within span is_span)) ∙ over_parts (is_touched file request) w.areas n;
+          translated_left =
+              λ n. ap (λ (l : List Area). translated w.objects stay n + if_translated is_translated l n) (sym (touched_within span is_span))
+              ∙ ap (λ (b : Bool). translated w.objects stay n + if_translated b (touched w.areas file request) n) (is_table ∙ ap (λ (l : List Object). has_hwpt l file request.ioas) (sym shows.objects.rows))
+              ∙ ap (λ (k : ℕ). translated w.objects stay n + k) (sym (translated_space w.objects file request.ioas (is_touched file request) w.areas (λ area is. (and_true (is_of file request.ioas area) _ is).0) n))
+              ∙ translated_parts w.objects (is_touched file request) w.areas n;
+        }
+
+        pub may_remove : MayRelease (over going) (if_translated is_translated going) s.memory s.pool.holds
+        may_remove = may_release at w s tidy shows (over going) (if_translated is_translated going) w.objects stay fewer
+
+        pub shows_removed : (t : Table (Held A)) (memory : Memory) (pool : FramePool)
+            → ArePinned (at + 1) (settle w (without_areas (is_touched file request) w))
+            → (IsOrderly s.objects → HasAreas file request.ioas (areas_outside span (areas_at s.objects.rows file request.ioas)) s.objects t)
+            → IsReleased (over going) (if_translated is_translated going) s.memory memory s.pool pool
+            → Shows (settle w (without_areas (is_touched file request) w)) (record s { objects = t; memory = memory; pool = pool })
+        unfolding settle without_areas
+        shows_removed t memory pool next removes released =
+            let has : HasAreas file request.ioas (areas_outside (unmapped_span request) (areas_at s.objects.rows file request.ioas)) s.objects t = rw is_span at (removes (orderly at w s tidy shows)) in
+            let shown = shown_after at w s tidy shows (over going) (if_translated is_translated going) w.objects stay fewer (at + 1) (settle w (without_areas (is_touched file request) w)) memory pool next refl refl (objects_left (is_touched file request) w.areas w.memory) refl refl released in
+            record {
+              settings = shows.settings;
+              limits = shown.limits;
+              objects = record {
+                rows = shows.objects.rows ∙ sym has.objects;
+                proper = has.proper;
+                spaces =
+                    areas_become stay w s file request.ioas (areas_outside (unmapped_span request) (areas_at s.objects.rows file request.ioas)) t shows has
+                    (left_own file request w.areas ∙ unmet_outside (unmapped_span request) (areas_of w.areas file request.ioas) are ∙ ap (areas_outside (unmapped_span request)) (shows.objects.spaces file request.ioas))
+                    (left_other file request w.areas);
+                files = λ number. rw has.files (shows.objects.files number);
+              };
+              devices = shows.devices;
+              users = shown.users;
+              pins = shown.pins;
+              frames = shown.frames;
+            }
 
 -- ---- how many bytes go
 

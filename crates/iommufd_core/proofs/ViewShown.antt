@@ -1,14 +1,20 @@
 -- What is kept gives the view of the world that is shown: so the same refuses an event, and the same may come of an access.
-use Rattle.std.proofs.Common.{◌≡◌, ℕ, sym, ap, refl, ◌||◌, ◌&&◌, false, not, eqb, ltb, [], ◌∙◌}
-use Rattle.std.specs.List.{count_by, list_any, range_with_len}
+use Rattle.std.proofs.Common.{◌≡◌, ℕ, ◌+◌, List, Option, Some, None, sym, ap, refl, eqb, ◌∙◌}
+use Rattle.std.specs.List.{find, range_with_len}
 use Rattle.std.proofs.Math.Path.{fun_ext}
 use Rattle.iofd_words.specs.Areas as area
 use Rattle.iofd_words.specs.Checks.{checks, refusal}
 use Rattle.iofd_words.specs.Files as file
 use Rattle.iofd_words.specs.Frames as frame
+use Rattle.iofd_words.specs.Pages.{page_of}
 use Rattle.iofd_words.specs.Pins as pin
-use Rattle.iofd_words.specs.Settings.{Settings}
-use Rattle.iofd_words.specs.declared.rows.UserPage.{UserPage}
+use Rattle.iofd_words.specs.Pins.{ObjectPage}
+use Rattle.iofd_words.specs.declared.numbers.FrameNo.{FrameNo}
+use Rattle.iofd_words.specs.declared.numbers.UserNo.{UserNo}
+use Rattle.iofd_words.specs.declared.rows.MemoryObject.{MemoryObject}
+use Rattle.frame_memory.specs.Pool.{free_count, least_free}
+use Rattle.memory_rows.proofs.FramesFollow.{free_count_alike, least_alike}
+use Rattle.user_memory.specs.Memory as kept
 use Rattle.iofd_words.specs.FirstTrue.{first_true}
 use Rattle.iofd_words.specs.Look.{query_checks}
 use Rattle.iofd_words.specs.Objects as object
@@ -26,34 +32,53 @@ use Rattle.iommufd_core.specs.declared.state.State.{State}
 use Rattle.object_table.specs.Table as table
 
 module _ {A : Type 0} (w : World) (s : State A) (shows : Shows w s) where
-  -- the same frames are free
-  pub same_free : frame.is_free w.settings.pool w.user_pages w.pins w.table_frames ≡ frame.is_free w.settings.pool s.user_pages.items s.pins.items []
-  same_free =
-      fun_ext (λ f.
-      ap (λ pages. frame.is_free w.settings.pool pages w.pins w.table_frames f) shows.memory.pages
-      ∙ ap (λ tables. frame.is_free w.settings.pool s.user_pages.items w.pins tables f) shows.frames.no_tables
-      ∙ ap (λ reached. ltb f w.settings.pool && not (list_any (λ (p : UserPage). eqb p.frame.0 f) s.user_pages.items || reached || false)) (shows.memory.pinned.reached f))
+  -- as many frames are free
+  pub same_count : free_count s.pool.holds ≡ frame.free_count w.settings.pool w.user_pages w.pins w.table_frames
+  same_count =
+      sym
+      (free_count_alike w.settings.pool w.writes w.table_frames w.user_pages w.objects w.areas w.memory w.pins
+      s.memory s.pool shows.users shows.pins shows.frames)
+
+  -- and the least is the same
+  pub same_least : find (frame.is_free w.settings.pool w.user_pages w.pins w.table_frames)
+      (range_with_len 0 w.settings.pool) ≡ least_free s.pool.holds
+  same_least =
+      least_alike w.settings.pool w.writes w.table_frames w.user_pages w.objects w.areas w.memory w.pins s.memory
+      s.pool shows.users shows.pins shows.frames
 
   pub same_view : seen s ≡ view w
   same_view =
       let is_open : table.is_open s.objects ≡ file.is_open w.settings w.closed = fun_ext shows.objects.files in
       let bindings : object.binding_of s.bindings.items ≡ object.binding_of w.objects = fun_ext (λ d. sym (shows.devices.bindings d)) in
       let areas : areas_at s.objects.rows ≡ area.areas_of w.areas = fun_ext (λ f. fun_ext (λ ioas. sym (shows.objects.spaces f ioas))) in
-      let pinned : pin.pinned_frame s.pins.items ≡ pin.pinned_frame w.pins = fun_ext (λ page. sym (shows.memory.pinned.frames page)) in
-      let free : frame.free_count s.config.pool s.user_pages.items s.pins.items [] ≡ frame.free_count w.settings.pool w.user_pages w.pins w.table_frames =
-      ap (λ (settings : Settings). frame.free_count settings.pool s.user_pages.items s.pins.items []) (sym shows.settings)
-      ∙ ap (λ p. count_by p (range_with_len 0 w.settings.pool)) (sym same_free) in
+      let pinned : kept.pinned_frame s.memory ≡ pin.pinned_frame w.pins =
+      fun_ext (λ page. sym (shows.pins.frames page)) in
+      let pages : frame.frame_at s.memory.pages ≡ frame.frame_at w.user_pages =
+      fun_ext (λ user. fun_ext (λ page. sym (shows.users.pages user page))) in
+      let now : kept.frame_now s.memory ≡ pin.frame_now w.memory w.user_pages =
+      fun_ext (λ page.
+      ap (λ (rows : List MemoryObject). pin.frame_now rows s.memory.pages page) (sym shows.pins.rows)
+      ∙ ap (λ (at : UserNo → ℕ → Option FrameNo). elim (find (λ (m : MemoryObject). eqb m.number page.memory)
+      w.memory) as (λ _. Option FrameNo) [ Some m ↦ at m.user (page_of m.va + page.index) | None ↦ None ]) pages)
+      in
+      let held : kept.held_by s.memory ≡ pin.held_by (pin.pinned_frame w.pins) w.memory =
+      fun_ext (λ user.
+      ap (λ (rows : List MemoryObject). pin.held_by (kept.pinned_frame s.memory) rows user) (sym shows.pins.rows)
+      ∙ ap (λ (at : ObjectPage → Option FrameNo). pin.held_by at w.memory user) pinned)
+      in
       rw (
         is_open,
         bindings,
         areas,
+        held,
+        now,
         pinned,
-        free,
+        pages,
+        same_count,
         ← shows.settings,
         ← shows.objects.rows,
         ← shows.devices.attached,
-        ← shows.memory.objects,
-        ← shows.memory.pages,
+        ← shows.pins.rows,
       )
       refl
 

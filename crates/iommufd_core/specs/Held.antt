@@ -1,5 +1,5 @@
 -- What the objects of a table are in the world.
-use Rattle.std.specs.Prelude.{Bool, ◌==◌, ◌&&◌, Option, Some, None, List, [], find, map}
+use Rattle.std.specs.Prelude.{ℕ, Bool, ◌==◌, ◌&&◌, Option, Some, None, List, [], find, map}
 use Rattle.iofd_words.specs.Attachments.{ioas_of_attachment}
 use Rattle.iofd_words.specs.declared.numbers.FileNo.{FileNo}
 use Rattle.iofd_words.specs.declared.numbers.ObjId.{ObjId}
@@ -33,6 +33,12 @@ module _ {A : Type 0} where
   areas_in (held.Hwpt ioas width automatic) = []
   areas_in (held.Device device) = []
 
+  -- for how many more areas it has room
+  abbrev pub room_in : Held A → ℕ
+  room_in (held.Ioas areas) = areas.room
+  room_in (held.Hwpt ioas width automatic) = 0
+  room_in (held.Device device) = 0
+
   abbrev pub object_of : Row (Held A) → Object
   object_of row = record { file = row.file; id = row.id; kind = kind_in row.value }
 
@@ -43,6 +49,9 @@ module _ {A : Type 0} where
   -- the areas of the address space of this id; of another object none
   abbrev pub areas_at : List (Row (Held A)) → FileNo → ObjId → List Area
   areas_at rows file id = elim (find (is_at file id) rows) [ Some row ↦ areas_in row.value | None ↦ [] ]
+
+  abbrev pub room_at : List (Row (Held A)) → FileNo → ObjId → ℕ
+  room_at rows file id = elim (find (is_at file id) rows) [ Some row ↦ room_in row.value | None ↦ 0 ]
 
   -- the objects of the world that the table has
   abbrev pub objects_in : Table (Held A) → List Object

@@ -1,13 +1,13 @@
-pub mod Bytes
 pub mod Choice
 pub mod Held
 pub mod History
 pub mod Kept
 pub mod Mapping
-pub mod Memory
 pub mod Outcomes
 pub mod Pages
 pub mod PinLists
+pub mod Pinning
+pub mod Release
 pub mod Seen
 pub mod Server
 pub mod Shows

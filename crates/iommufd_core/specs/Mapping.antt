@@ -20,17 +20,6 @@ use Rattle.iommufd_core.specs.declared.held.Held.{Held}
 use Rattle.object_table.specs.Table.{Table, own}
 use Rattle.object_table.specs.declared.kind.Kind.TheVariants.{Ioas}
 
--- ---- pins
-
--- the pin of one page of a memory object, if that page is in the user's memory: at the frame that is the page's now
-abbrev pub pin_at : List UserPage → MemoryObject → ℕ → Option Pin
-pin_at user_pages object index =
-    elim (frame_at user_pages object.user (page_of object.va + index)) [ Some frame ↦ Some (record { memory = object.number; index = index; frame = frame }) | None ↦ None ]
-
--- the pins of its first pages, so many of them
-abbrev pub first_pins : List UserPage → MemoryObject → ℕ → List Pin
-first_pins user_pages object count = filter_map (pin_at user_pages object) (range_with_len 0 count)
-
 -- ---- one address space
 
 -- the attachment is by a page table over this address space

@@ -1,12 +1,9 @@
--- When what is kept shows a world: each question of the world has its answer there. Four groups, by the lists that they are about.
-use Rattle.std.specs.Prelude.{◌≡◌, ◌==◌, ◌<◌, ◌+◌, ◌*◌, ℕ, true, List, [], length, map, slice_index}
-use Rattle.std.specs.List.{list_all, list_any}
-use Rattle.iofd_rows.specs.Pinned.{differ}
+-- When what is kept shows a world: each question of the world has its answer there. Five groups, by the lists that they are about.
+use Rattle.std.specs.Prelude.{◌≡◌, true, List, map}
+use Rattle.std.specs.List.{list_all}
 use Rattle.iofd_words.specs.Areas.{areas_of}
 use Rattle.iofd_words.specs.Files as file
-use Rattle.iofd_words.specs.Frames.{FrameWrite, byte_at}
 use Rattle.iofd_words.specs.Objects.{binding_of}
-use Rattle.iofd_words.specs.Pins.{ObjectPage, page_of_pin, pinned_frame}
 use Rattle.iofd_words.specs.Settings.{Settings}
 use Rattle.iofd_words.specs.World.{World}
 use Rattle.iofd_words.specs.declared.numbers.DeviceNo.{DeviceNo}
@@ -14,14 +11,11 @@ use Rattle.iofd_words.specs.declared.numbers.FileNo.{FileNo}
 use Rattle.iofd_words.specs.declared.numbers.ObjId.{ObjId}
 use Rattle.iofd_words.specs.declared.rows.Area.{Area}
 use Rattle.iofd_words.specs.declared.rows.Attachment.{Attachment}
-use Rattle.iofd_words.specs.declared.rows.MemoryObject.{MemoryObject}
 use Rattle.iofd_words.specs.declared.rows.Object.{Object}
-use Rattle.iofd_words.specs.declared.rows.Pin.{Pin}
-use Rattle.iofd_words.specs.declared.rows.TableFrame.{TableFrame}
-use Rattle.iofd_words.specs.declared.rows.UserPage.{UserPage}
 use Rattle.iommufd_core.specs.Held.{object_of, is_proper, areas_at}
 use Rattle.iommufd_core.specs.declared.held.Held.{Held}
 use Rattle.iommufd_core.specs.declared.state.State.{State}
+use Rattle.memory_rows.specs.Shown.{FramesShown, PinsShown, UsersShown}
 use Rattle.object_table.specs.Table.{Table, is_open}
 
 -- the files, and the objects of each with the areas of its address spaces
@@ -37,27 +31,11 @@ pub record DevicesShown (objects : List Object) (attachments : List Attachment) 
   pub bindings : (device : DeviceNo) → binding_of objects device ≡ binding_of kept_bindings device
   pub attached : attachments ≡ kept_attachments
 
--- at which frame a page is pinned, and which frames pins name; each page has one pin
-pub record PinsShown (pins kept : List Pin) : Type 0 where
-  pub frames : (page : ObjectPage) → pinned_frame pins page ≡ pinned_frame kept page
-  pub reached : (frame : ℕ) → list_any (λ pin. pin.frame.0 == frame) pins ≡ list_any (λ pin. pin.frame.0 == frame) kept
-  pub once : differ (map page_of_pin kept) ≡ true
-
--- memory objects, the users' pages and the pins
-pub record MemoryShown (memory : List MemoryObject) (user_pages : List UserPage) (pins : List Pin) (kept_memory : List MemoryObject) (kept_pages : List UserPage) (kept_pins : List Pin) : Type 0 where
-  pub objects : memory ≡ kept_memory
-  pub pages : user_pages ≡ kept_pages
-  pub pinned : PinsShown pins kept_pins
-
--- the bytes of frames: each is what was written there last. No frame holds a table.
-pub record FramesShown (pool : ℕ) (writes : List FrameWrite) (tables : List TableFrame) (bytes : List ℕ) : Type 0 where
-  pub size : length bytes ≡ pool * 4096
-  pub written : (frame offset : ℕ) → frame < pool → offset < 4096 → slice_index bytes (frame * 4096 + offset) ≡ byte_at writes frame offset
-  pub no_tables : tables ≡ []
-
 pub record Shows {A : Type 0} (w : World) (s : State A) : Type 0 where
   pub settings : w.settings ≡ s.config
+  pub limits : s.memory.limits ≡ w.settings.users
   pub objects : ObjectsShown w.settings w.closed w.objects w.areas s.objects
   pub devices : DevicesShown w.objects w.attachments s.bindings.items s.attachments.items
-  pub memory : MemoryShown w.memory w.user_pages w.pins s.memory.items s.user_pages.items s.pins.items
-  pub frames : FramesShown w.settings.pool w.writes w.table_frames s.frames.items
+  pub users : UsersShown w.user_pages s.memory.pages
+  pub pins : PinsShown w.objects w.areas w.memory w.pins s.memory
+  pub frames : FramesShown w.settings.pool w.writes w.table_frames s.memory s.pool

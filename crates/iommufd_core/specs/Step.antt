@@ -5,10 +5,15 @@ use Rattle.iofd_words.specs.Answers.{Answers}
 use Rattle.iofd_words.specs.Checks.{refusal}
 use Rattle.iofd_rows.specs.Debts.{DebtsAttached}
 use Rattle.iofd_runs.specs.Fits.{RowsFit}
+use Rattle.iofd_runs.specs.Owned.{AreasOwned}
 use Rattle.iofd_rows.specs.Ids.{have_own_ids}
 use Rattle.iofd_rows.specs.Pinned.{ArePinned, have_own_memory}
 use Rattle.iofd_words.specs.World.{World}
+use Rattle.iofd_words.specs.FirstTrue.{first_true}
+use Rattle.iofd_words.specs.Look.{query_checks}
+use Rattle.iofd_words.specs.View.{view}
 use Rattle.iofd_words.specs.declared.event.Event.{Event}
+use Rattle.iofd_words.specs.declared.query.Query.{Query}
 use Rattle.iofd_words.specs.declared.numbers.FrameNo.{FrameNo}
 use Rattle.iofd_words.specs.declared.reply.Reply.{Reply}
 use Rattle.iofd_words.specs.Run.{Lawful, after}
@@ -26,8 +31,50 @@ pub record IsTidy (at : ℕ) (w : World) : Type 0 where
   pub debts : DebtsAttached w
   pub ids : have_own_ids w.objects ≡ true
   pub fit : RowsFit w
+  -- memory is of the users of its areas' files
+  pub owned : AreasOwned w
 
 module _ {A : Type 0} where
+  -- a world of a run is shown
+  pub record IsKnown (s : State A) : Type 0 where
+    pub at : ℕ
+    pub world : World
+    pub tidy : IsTidy at world
+    pub shows : Shows world s
+
+  -- and nothing refuses the event there, at this position
+  pub record IsGrantedAt (at : ℕ) (event : Event) (s : State A) : Type 0 where
+    pub world : World
+    pub tidy : IsTidy at world
+    pub shows : Shows world s
+    pub none : refusal world event ≡ None
+
+  -- at some position
+  pub record IsGranted (event : Event) (s : State A) : Type 0 where
+    pub at : ℕ
+    pub granted : IsGrantedAt at event s
+
+  -- and a cached frame is one at which the policy lets the event pass
+  pub record IsGrantedFor (at : ℕ) (event : Event) (via : Option FrameNo) (s : State A) : Type 0 where
+    pub granted : IsGrantedAt at event s
+    pub may : MayUse granted.world event via
+
+  pub record IsGrantedVia (event : Event) (via : Option FrameNo) (s : State A) : Type 0 where
+    pub at : ℕ
+    pub granted : IsGrantedFor at event via s
+
+  -- the event is asked for at this position, with such a frame if nothing refuses it
+  pub record IsCalled (at : ℕ) (event : Event) (via : Option FrameNo) (s : State A) : Type 0 where
+    pub world : World
+    pub tidy : IsTidy at world
+    pub shows : Shows world s
+    pub may : refusal world event ≡ None → MayUse world event via
+
+  -- nothing refuses the question there
+  pub record IsAsked (query : Query) (s : State A) : Type 0 where
+    pub known : IsKnown s
+    pub none : first_true (query_checks (view known.world) query) ≡ None
+
   -- an event that nothing refuses is answered so, and the world after it is shown
   abbrev pub Steps : ℕ → Event → State A → Reply → State A → Type 0
   Steps at event old reply new =

@@ -8,23 +8,24 @@ ghost use Rattle.iofd_words.specs.Checks.{access_checks};
 ghost use Rattle.iofd_words.specs.Files as files;
 ghost use Rattle.iofd_words.specs.FirstTrue.{first_true};
 ghost use Rattle.iofd_words.specs.Pages.{crosses};
-ghost use Rattle.iofd_words.specs.Pins as pinned;
 ghost use Rattle.iofd_words.specs.Policy as policy;
 ghost use Rattle.iofd_words.specs.Width.{bits_of};
 ghost use Rattle.iommufd_core.specs.Held.{areas_at};
 ghost use Rattle.iommufd_core.specs.History.{is_pass_at};
 ghost use Rattle.iommufd_core.specs.Outcomes.{given_outcome, outcome_told, outcomes_of, passes_at};
 ghost use Rattle.iommufd_core.specs.Seen.{seen};
+ghost use Rattle.user_memory.specs.Memory.{pinned_frame};
 
 use crate::held::Held;
 use crate::lookups;
 use crate::state::State;
 use iofd_words::{
     AccessKind, Area, Attachment, Cause, Config, DeviceNo, FaultReason, FileNo, FrameNo, Iova,
-    ObjId, ObjectKind, PAGE_SIZE, Phase, Pin,
+    ObjId, ObjectKind, PAGE_SIZE, Phase,
 };
 use object_table::ObjectTable;
 use std::alloc::Allocator;
+use user_memory::UserMemory;
 
 /// What may come of an access.
 #[derive(Clone, Copy, PartialEq, Eq, Debug)]
@@ -138,7 +139,7 @@ fn translated<A: Allocator>(
         return denied;
     };
     match area_at(&state.objects, attachment.file, ioas, address) {
-        Some(area) => at_area(&state.pins, device, address, kind, area),
+        Some(area) => at_area(&state.memory, device, address, kind, area),
         None => denied,
     }
 }
@@ -160,20 +161,20 @@ fn area_at<A: Allocator>(
 }
 
 /// What comes of it at the area that holds the address.
-fn at_area(
-    pins: &[Pin],
+fn at_area<A: Allocator>(
+    memory: &UserMemory<A>,
     device: DeviceNo,
     address: u64,
     kind: AccessKind,
     area: &Area,
 ) -> Option<Access>
-    ensures { outcomes_of result ≡ policy.at_area (pinned.pinned_frame pins.now) device address kind (Some area.now) }
+    ensures { outcomes_of result ≡ policy.at_area (pinned_frame memory.now) device address kind (Some area.now) }
 {
     if !area.rights.allow(kind) {
         return Some(Access::Denied(kind.denied()));
     }
     let page = address.saturating_sub(area.span.first()) / PAGE_SIZE;
-    let frame = pinned_frame(pins, area.memory, page);
+    let frame = memory.frame(area.memory, page);
     by_phase(device, &area.phase, frame, kind.denied())
 }
 
@@ -194,16 +195,6 @@ fn by_phase(
         }
         (Phase::Leaving { .. }, _) => Some(Access::Denied(denied)),
     }
-}
-
-/// The frame at which the page of a memory object is pinned.
-pub(crate) fn pinned_frame(pins: &[Pin], memory: u64, index: u64) -> Option<FrameNo>
-    ensures { result ≡ pinned.pinned_frame pins.now (record { memory = memory; index = index }) }
-{
-    let found = pins
-        .iter()
-        .find(|pin| pin.memory == memory && pin.index == index)?;
-    Some(found.frame)
 }
 
 /// Whether the address is at or above the width of the device's tables.

@@ -1,58 +1,80 @@
 //! Changes of one address space's areas: one comes, or some go.
 
-ghost use Rattle.std.specs.Prelude.{◌≡◌, ◌==◌, not, true, None, [], length, map, OnOk, OnErr, MatchOption};
+ghost use Rattle.std.specs.Prelude.{◌≡◌, ◌<◌, ◌==◌, not, true, None, [], length, map, OnOk, MatchOption};
 ghost use Rattle.area_map.specs.Areas.{AreKept, areas_outside, areas_within, bytes_of, marked, with_area};
 ghost use Rattle.area_map.specs.Insertion.{insert_refusal};
 ghost use Rattle.iofd_words.specs.Areas.{owed_by};
 ghost use Rattle.iofd_words.specs.Objects.{has_ioas, is_ioas};
-ghost use Rattle.iommufd_core.specs.Held.{areas_at, areas_in, kind_in, objects_in};
+ghost use Rattle.iommufd_core.specs.Held.{areas_at, areas_in, kind_in, objects_in, room_at, room_in};
 ghost use Rattle.iommufd_core.specs.Spaces.{IsOrderly, IsWith, HasAreas};
 ghost use Rattle.iommufd_core.specs.Mapping.{own_areas, some_waits};
-ghost use Rattle.iommufd_core.specs.Memory.{is_over};
 
 use crate::held::Held;
-use area_map::{Areas, InsertError};
+use area_map::Areas;
 use iofd_words::{Area, DeviceSet, FileNo, NoMemory, ObjId, Phase, Span};
 use object_table::{Kind, ObjectTable};
 use std::alloc::Allocator;
 
-/// Adds the area to those of this address space, where it meets no other and there may be one more. Elsewhere, or where
-/// there is no such address space, it changes nothing. The only error is want of memory; then no area changes.
+/// Takes memory for one more area of this address space, if there is no room. No area changes.
+#[tactic(auto, using(crate::proofs::AreasHeld::areas_absent))]
+pub(crate) fn reserve<A: Allocator>(
+    table: &mut ObjectTable<Held<A>, A>,
+    file: FileNo,
+    ioas: ObjId,
+) -> Result<(), NoMemory>
+    ensures areas { IsOrderly table.old
+        → HasAreas file ioas (areas_at table.old.rows file ioas) table.old table.new }
+    ensures ok { OnOk result (IsOrderly table.old → has_ioas (objects_in table.old) file ioas ≡ true
+        → 0 < room_at table.new.rows file ioas) }
+{
+    match table.get_mut(file, Kind::Ioas, ioas) {
+        Ok(held) => reserve_held(held),
+        Err(_) => Ok(()),
+    }
+}
+
+fn reserve_held<A: Allocator>(held: &mut Held<A>) -> Result<(), NoMemory>
+    ensures areas { IsWith (areas_in held.old) held.old held.new }
+    ensures ok { OnOk result (is_ioas (kind_in held.old) ≡ true → 0 < room_in held.new) }
+{
+    match held {
+        Held::Ioas(areas) => areas.reserve(),
+        _ => Ok(()),
+    }
+}
+
+/// Adds the area to those of this address space, which has room for it (`reserve`), where it meets no other and there
+/// may be one more. Elsewhere, or where there is no such address space, it changes nothing.
 #[tactic(auto, using(crate::proofs::AreasHeld::rewritten, crate::proofs::AreasHeld::unwritten, crate::proofs::AreasHeld::areas_absent))]
 pub(crate) fn insert<A: Allocator>(
     table: &mut ObjectTable<Held<A>, A>,
     file: FileNo,
     ioas: ObjId,
     area: Area,
-) -> Result<(), NoMemory>
-    ensures ok { OnOk result (IsOrderly table.old → has_ioas (objects_in table.old) file ioas ≡ true
+)
+    ensures { IsOrderly table.old → has_ioas (objects_in table.old) file ioas ≡ true
         → insert_refusal area.span (areas_at table.old.rows file ioas) ≡ None
-        → HasAreas file ioas (with_area area (areas_at table.old.rows file ioas)) table.old table.new) }
-    ensures err { OnErr result (IsOrderly table.old
-        → HasAreas file ioas (areas_at table.old.rows file ioas) table.old table.new) }
+        → 0 < room_at table.old.rows file ioas
+        → HasAreas file ioas (with_area area (areas_at table.old.rows file ioas)) table.old table.new }
 {
     match table.get_mut(file, Kind::Ioas, ioas) {
         Ok(held) => insert_held(held, area),
-        Err(_) => Ok(()),
+        Err(_) => (),
     }
 }
 
-fn insert_held<A: Allocator>(held: &mut Held<A>, area: Area) -> Result<(), NoMemory>
-    ensures ok { OnOk result (is_ioas (kind_in held.old) ≡ true → insert_refusal area.span (areas_in held.old) ≡ None
-        → IsWith (with_area area (areas_in held.old)) held.old held.new) }
-    ensures err { OnErr result (IsWith (areas_in held.old) held.old held.new) }
+fn insert_held<A: Allocator>(held: &mut Held<A>, area: Area)
+    ensures { is_ioas (kind_in held.old) ≡ true → insert_refusal area.span (areas_in held.old) ≡ None
+        → 0 < room_in held.old
+        → IsWith (with_area area (areas_in held.old)) held.old held.new }
 {
-    match held {
-        Held::Ioas(areas) => match areas.insert(area) {
-            Err(InsertError::Memory(no_memory)) => Err(no_memory),
-            Ok(()) | Err(InsertError::Refused(_)) => Ok(()),
-        },
-        _ => Ok(()),
+    if let Held::Ioas(areas) = held {
+        let _ = areas.insert(area);
     }
 }
 
 /// The areas in this address space. None where there is no such address space.
-fn own_areas<A: Allocator>(
+pub(crate) fn own_areas<A: Allocator>(
     table: &ObjectTable<Held<A>, A>,
     file: FileNo,
     ioas: ObjId,
@@ -92,22 +114,6 @@ fn waits(phase: &Phase, attached: &DeviceSet) -> bool
     match phase {
         Phase::Live => !attached.is_empty(),
         Phase::Leaving { owed, .. } => !owed.is_empty(),
-    }
-}
-
-/// Whether an area of the address space that lies in the span is over the memory object of this number.
-pub(crate) fn has_memory_within<A: Allocator>(
-    table: &ObjectTable<Held<A>, A>,
-    file: FileNo,
-    ioas: ObjId,
-    span: Span,
-    memory: u64,
-) -> bool
-    ensures { result ≡ is_over (areas_within span (own_areas table.now file ioas)) memory }
-{
-    match own_areas(table, file, ioas) {
-        Some(areas) => areas.has_memory_within(span, memory),
-        None => false,
     }
 }
 

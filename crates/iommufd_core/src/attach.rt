@@ -1,26 +1,30 @@
 //! Attach: a device translates by an address space.
 
-ghost use Rattle.std.specs.Prelude.{◌≡◌, ℕ, Some, IfOk, OnErr};
-ghost use Rattle.std.specs.List.{flat_map};
-ghost use Rattle.iofd_words.specs.Checks.{checks, lacks_attached_page, lacks_room_for_hwpt, target_checks};
+ghost use Rattle.std.specs.Prelude.{◌≡◌, ℕ, Some, false, IfOk, OnErr, OnOk};
+ghost use Rattle.iofd_words.specs.Checks.{checks, lacks_attached_page, lacks_room_for_hwpt, passes_limit_attached, target_checks};
 ghost use Rattle.iofd_words.specs.FirstTrue.{first_true};
 ghost use Rattle.iofd_words.specs.Files.{device_of};
 ghost use Rattle.iofd_words.specs.Objects as objects;
-ghost use Rattle.iofd_words.specs.Pins as spec;
+ghost use Rattle.iofd_words.specs.Objects.{has_hwpt};
 ghost use Rattle.iofd_words.specs.declared.event.Event.TheVariants as event;
-ghost use Rattle.iommufd_core.specs.Held.{areas_at, objects_in};
+ghost use Rattle.iommufd_core.specs.Held.{objects_in};
+ghost use Rattle.iommufd_core.specs.Mapping.{own_areas};
 ghost use Rattle.iommufd_core.specs.PinLists as words;
+ghost use Rattle.iommufd_core.specs.Pinning.{Stays, newly_translated};
+ghost use Rattle.memory_rows.specs.Moves.{ArePinnedMore, MayPin, PinsAreKnown};
 ghost use Rattle.iommufd_core.specs.Seen.{seen};
-ghost use Rattle.iommufd_core.specs.Step.{ShowsSame, Steps};
+ghost use Rattle.iommufd_core.specs.Step.{IsGranted, IsKnown, ShowsSame, Steps};
 
 use crate::held::Held;
 use crate::state::State;
-use crate::{attachments, lookups, pins};
+use crate::{accounts, area_changes, attachments, lookups, pins};
+use frame_memory::Pool;
 use iofd_words::{
-    Area, Attachment, Cause, Config, DeviceNo, FileNo, NoMemory, ObjId, ObjectKind, Reply, Width,
+    Attachment, Cause, Config, DeviceNo, FileNo, NoMemory, ObjId, ObjectKind, Reply, UserNo, Width,
 };
 use object_table::{Kind, ObjectTable, ReserveError};
 use std::alloc::Allocator;
+use user_memory::UserMemory;
 
 /// Why it is refused.
 #[tactic(auto, unfolding(iofd_words::specs::Checks::checks))]
@@ -29,6 +33,7 @@ pub(crate) fn refusal<A: Allocator>(
     device: DeviceNo,
     pt_id: ObjId,
 ) -> Option<Cause>
+    requires { IsKnown state.now }
     ensures { result ≡ first_true (checks (seen state.now) (event.Attach device pt_id)) }
 {
     let Some(bound) = state.binding_of(device) else {
@@ -47,6 +52,7 @@ fn refusal_by_target<A: Allocator>(
     file: FileNo,
     pt_id: ObjId,
 ) -> Option<Cause>
+    requires { IsKnown state.now }
     ensures { result ≡ first_true (target_checks (seen state.now) device pt_id file
         (objects.kind_of (objects_in state.now.objects) file pt_id)) }
 {
@@ -63,6 +69,7 @@ fn refusal_by_space<A: Allocator>(
     file: FileNo,
     ioas: ObjId,
 ) -> Option<Cause>
+    requires { IsKnown state.now }
     ensures { result ≡ first_true (target_checks (seen state.now) device ioas file (Some ObjectKind.Ioas)) }
 {
     if lacks_room(state, device, file, ioas) {
@@ -71,17 +78,21 @@ fn refusal_by_space<A: Allocator>(
     if lacks_page(state, file, ioas) {
         return Some(Cause::Absent);
     }
+    if passes_limit(state, file, ioas) {
+        return Some(Cause::Account);
+    }
     None
 }
 
 /// What it does where nothing refuses it: the device translates by the automatic page table of its width,
 /// which is made where there is none yet. The first page table of an address space pins the pages of all
 /// its areas. The answer is the page table's id. An error changes nothing.
-pub(crate) fn commit<A: Allocator>(
+pub(crate) fn commit<A: Allocator + Copy>(
     state: &mut State<A>,
     device: DeviceNo,
     pt_id: ObjId,
 ) -> Result<Reply, NoMemory>
+    requires { IsGranted (event.Attach device pt_id) state.old }
     ensures ok { IfOk result (λ reply. (at : ℕ) → Steps at (event.Attach device pt_id) state.old reply state.new) }
     ensures err { OnErr result (ShowsSame state.old state.new) }
 {
@@ -91,6 +102,10 @@ pub(crate) fn commit<A: Allocator>(
     let file = bound.file;
     let Some(width) = width_of(&state.config, device) else {
         // Never: each bound device is one of the configuration.
+        return Ok(Reply::Done);
+    };
+    let Some(user) = accounts::user_of(&state.config, file) else {
+        // Never: each file has a user.
         return Ok(Reply::Done);
     };
     state.attachments.reserve(1)?;
@@ -104,9 +119,15 @@ pub(crate) fn commit<A: Allocator>(
         Err(ReserveError::Refused(_)) => return Ok(Reply::Done),
         Err(ReserveError::Memory(no_memory)) => return Err(no_memory),
     }
-    let areas = areas_to_pin(&state.objects, file, pt_id);
-    pins::reserve_areas(&mut state.pins, areas)?;
-    pins::push_areas(&mut state.pins, &state.memory, &state.user_pages, areas);
+    pin_space(
+        state.alloc,
+        &state.objects,
+        file,
+        pt_id,
+        user,
+        &mut state.memory,
+        &mut state.pool,
+    )?;
     let table = Held::Hwpt {
         ioas: pt_id,
         width,
@@ -115,6 +136,35 @@ pub(crate) fn commit<A: Allocator>(
     let hwpt = state.objects.insert_reserved(file, Kind::Hwpt, table);
     attachments::insert(&mut state.attachments, Attachment { device, file, hwpt });
     Ok(Reply::Id(hwpt))
+}
+
+/// Pins the pages of all areas of the address space, for its first page table; where it has one they are pinned. An
+/// error leaves all pins as they were.
+fn pin_space<A: Allocator + Copy>(
+    alloc: A,
+    table: &ObjectTable<Held<A>, A>,
+    file: FileNo,
+    ioas: ObjId,
+    user: UserNo,
+    memory: &mut UserMemory<A>,
+    pool: &mut Pool<A>,
+) -> Result<(), NoMemory>
+    requires known { PinsAreKnown memory.old }
+    requires may { has_hwpt (objects_in table.now) file ioas ≡ false
+        → MayPin user (own_areas table.now file ioas) memory.old pool.old.holds }
+    ensures ok { OnOk result (ArePinnedMore (newly_translated (objects_in table.now) file ioas (own_areas table.now file ioas))
+        memory.old memory.new pool.old pool.new) }
+    ensures err { OnErr result (Stays memory.old memory.new pool.old pool.new) }
+{
+    if lookups::has_hwpt(table, file, ioas) {
+        return Ok(());
+    }
+    let Some(areas) = area_changes::own_areas(table, file, ioas) else {
+        return Ok(());
+    };
+    let numbers = pins::numbers_of(alloc, areas)?;
+    memory.objects_told();
+    memory.pin(pool, user, &numbers)
 }
 
 /// The width of the device's addresses, if there is such a device.
@@ -142,25 +192,36 @@ fn lacks_room<A: Allocator>(state: &State<A>, device: DeviceNo, file: FileNo, io
     }
 }
 
-/// Whether another page table would have to pin a page anew that isn't in its user's memory.
+/// Whether the first page table over the address space would have to pin a page that isn't in its user's memory.
 fn lacks_page<A: Allocator>(state: &State<A>, file: FileNo, ioas: ObjId) -> bool
+    requires { IsKnown state.now }
     ensures { result ≡ lacks_attached_page (seen state.now) file ioas }
 {
-    let areas = areas_to_pin(&state.objects, file, ioas);
-    pins::lack_page(&state.pins, &state.memory, &state.user_pages, areas)
+    if lookups::has_hwpt(&state.objects, file, ioas) {
+        return false;
+    }
+    match lookups::areas_of(&state.objects, file, ioas) {
+        Some(areas) => {
+            state.memory.objects_told();
+            pins::lack_page(areas, &state.memory)
+        }
+        None => false,
+    }
 }
 
-/// The areas whose pages another page table over the address space would pin: where it would be the first,
-/// all of them, else none.
-fn areas_to_pin<A: Allocator>(table: &ObjectTable<Held<A>, A>, file: FileNo, ioas: ObjId) -> &[Area]
-    ensures { flat_map spec.area_pages result.now
-        ≡ words.newly_pinned (objects_in table.now) file ioas (areas_at table.now.rows file ioas) }
+/// Whether with the pages that the first page table over the address space would pin the file's user would have more
+/// pinned pages than the limit allows.
+fn passes_limit<A: Allocator>(state: &State<A>, file: FileNo, ioas: ObjId) -> bool
+    requires { IsKnown state.now }
+    ensures { result ≡ passes_limit_attached (seen state.now) file ioas }
 {
-    if lookups::has_hwpt(table, file, ioas) {
-        return &[];
+    if lookups::has_hwpt(&state.objects, file, ioas) {
+        return false;
     }
-    match lookups::areas_of(table, file, ioas) {
-        Some(areas) => areas.iter().as_slice(),
-        None => &[],
-    }
+    let Some(areas) = lookups::areas_of(&state.objects, file, ioas) else {
+        return accounts::passes_limit(state, file, 0);
+    };
+    state.memory.objects_told();
+    let count = pins::new_pages(areas, &state.memory);
+    accounts::passes_limit(state, file, count)
 }

@@ -6,17 +6,22 @@ ghost use Rattle.iofd_words.specs.Checks.{checks};
 ghost use Rattle.iofd_words.specs.FirstTrue.{first_true};
 ghost use Rattle.iofd_words.specs.Objects.{objects_of, is_bound_device};
 ghost use Rattle.iofd_words.specs.declared.event.Event.TheVariants as event;
-ghost use Rattle.object_table.specs.Table.{close_refusal, closed};
+ghost use Rattle.object_table.specs.Table.{close_refusal, closed, rows_of};
 ghost use Rattle.iommufd_core.specs.Held.{kind_in, objects_in};
+ghost use Rattle.iommufd_core.specs.Release.{areas_of_rows, translated_of};
+ghost use Rattle.memory_rows.specs.Moves.{IsReleased, MayRelease};
+ghost use Rattle.memory_rows.specs.Shown.{over};
 ghost use Rattle.iommufd_core.specs.Seen.{seen};
-ghost use Rattle.iommufd_core.specs.Step.{Steps};
+ghost use Rattle.iommufd_core.specs.Step.{IsGranted, Steps};
 
 use crate::held::Held;
-use crate::memory_objects;
 use crate::state::State;
+use crate::{lookups, release};
+use frame_memory::Pool;
 use iofd_words::{Attachment, Cause, FileNo, Reply};
 use object_table::ObjectTable;
 use std::alloc::Allocator;
+use user_memory::UserMemory;
 
 /// Why it is refused.
 #[tactic(auto, unfolding(iofd_words::specs::Checks::checks))]
@@ -48,13 +53,33 @@ fn is_device<A: Allocator>(held: &Held<A>) -> bool
 /// What it does where nothing refuses it: the file's objects and attachments go, and its areas with their memory
 /// objects and the pins of their pages.
 pub(crate) fn commit<A: Allocator>(state: &mut State<A>, file: FileNo) -> Reply
+    requires { IsGranted (event.Close file) state.old }
     ensures { (at : ℕ) → Steps at (event.Close file) state.old result state.new }
 {
-    memory_objects::drop_of_file(&mut state.memory, &state.objects, file);
-    memory_objects::unpin_file(&mut state.pins, &state.objects, file);
+    remove_areas(&state.objects, file, &mut state.memory, &mut state.pool);
     detach_all(&mut state.attachments, file);
     close_table(&mut state.objects, file);
     Reply::Done
+}
+
+/// The areas of all address spaces of the file go.
+fn remove_areas<A: Allocator>(
+    table: &ObjectTable<Held<A>, A>,
+    file: FileNo,
+    memory: &mut UserMemory<A>,
+    pool: &mut Pool<A>,
+)
+    requires { MayRelease (over (areas_of_rows (rows_of table.now file))) (over (translated_of (objects_in table.now) (rows_of table.now file)))
+        memory.old pool.old.holds }
+    ensures { IsReleased (over (areas_of_rows (rows_of table.now file))) (over (translated_of (objects_in table.now) (rows_of table.now file)))
+        memory.old memory.new pool.old pool.new }
+{
+    for object in table.iter(file) {
+        if let Held::Ioas(areas) = object.value {
+            let translated = lookups::has_hwpt(table, file, object.id);
+            release::remove(areas.iter(), translated, memory, pool);
+        }
+    }
 }
 
 /// Drops the attachments of the file's devices.

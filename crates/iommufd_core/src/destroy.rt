@@ -7,11 +7,11 @@ ghost use Rattle.iofd_words.specs.FirstTrue.{first_true};
 ghost use Rattle.iofd_words.specs.declared.event.Event.TheVariants as event;
 ghost use Rattle.object_table.specs.Table.{destroy_refusal, removed};
 ghost use Rattle.iommufd_core.specs.Seen.{seen};
-ghost use Rattle.iommufd_core.specs.Step.{Steps};
+ghost use Rattle.iommufd_core.specs.Step.{IsGranted, Steps};
 
 use crate::held::Held;
 use crate::state::State;
-use crate::{lookups, memory_objects};
+use crate::{lookups, release};
 use iofd_words::{Attachment, Cause, FileNo, ObjId, ObjectKind, Reply};
 use object_table::{Kind, ObjectTable};
 use std::alloc::Allocator;
@@ -63,17 +63,32 @@ fn is_device(kind: ObjectKind) -> bool
 /// What it does where nothing refuses it. An address space goes with its areas and their memory objects, of which no
 /// page is pinned; a page table goes, and with the last one over an address space the pins of its areas' pages.
 pub(crate) fn commit<A: Allocator>(state: &mut State<A>, file: FileNo, id: ObjId) -> Reply
+    requires { IsGranted (event.Destroy file id) state.old }
     ensures { (at : ℕ) → Steps at (event.Destroy file id) state.old result state.new }
 {
     match lookups::kind_of(&state.objects, file, id) {
         Some(ObjectKind::Ioas) => {
-            memory_objects::drop_of_space(&mut state.memory, &state.objects, file, id);
+            // It was refused while it had a page table: so no page of its areas is pinned for it.
+            release::remove_space(
+                &state.objects,
+                file,
+                id,
+                false,
+                &mut state.memory,
+                &mut state.pool,
+            );
             remove(&mut state.objects, file, Kind::Ioas, id);
         }
         Some(ObjectKind::Hwpt { ioas, .. }) => {
             remove(&mut state.objects, file, Kind::Hwpt, id);
             if !lookups::has_hwpt(&state.objects, file, ioas) {
-                memory_objects::unpin_space(&mut state.pins, &state.objects, file, ioas);
+                release::unpin_space(
+                    &state.objects,
+                    file,
+                    ioas,
+                    &mut state.memory,
+                    &mut state.pool,
+                );
             }
         }
         // It was refused.

@@ -1,21 +1,21 @@
 //! Detach: a device translates no more.
 
-ghost use Rattle.std.specs.Prelude.{◌≡◌, ℕ, Some, None, false, not, filter};
+ghost use Rattle.std.specs.Prelude.{◌≡◌, ℕ, Some, None, false};
 ghost use Rattle.iofd_words.specs.Checks.{checks};
 ghost use Rattle.iofd_words.specs.FirstTrue.{first_true};
 ghost use Rattle.iofd_words.specs.Objects as objects;
 ghost use Rattle.iofd_words.specs.declared.event.Event.TheVariants as event;
-ghost use Rattle.iommufd_core.specs.Held.{areas_at, objects_in};
-ghost use Rattle.iommufd_core.specs.PinLists.{is_idle, is_unpinned};
+ghost use Rattle.iommufd_core.specs.Held.{objects_in};
+ghost use Rattle.iommufd_core.specs.PinLists.{is_idle};
 ghost use Rattle.iommufd_core.specs.Seen.{seen};
-ghost use Rattle.iommufd_core.specs.Step.{Steps};
+ghost use Rattle.iommufd_core.specs.Step.{IsGranted, Steps};
 ghost use Rattle.object_table.specs.Table.{destroy_refusal, removed};
 ghost use Rattle.object_table.specs.declared.kind.Kind.TheVariants as of_kind;
 
 use crate::held::Held;
 use crate::state::State;
-use crate::{attachments, lookups, pins, spaces};
-use iofd_words::{Attachment, Cause, DeviceNo, FileNo, ObjId, ObjectKind, Pin, Reply};
+use crate::{attachments, lookups, release, spaces};
+use iofd_words::{Attachment, Cause, DeviceNo, FileNo, ObjId, ObjectKind, Reply};
 use object_table::{Kind, ObjectTable};
 use std::alloc::Allocator;
 
@@ -36,6 +36,7 @@ pub(crate) fn refusal<A: Allocator>(state: &State<A>, device: DeviceNo) -> Optio
 /// What it does where nothing refuses it: the device owes no area a flush any more, and an automatic page
 /// table goes with its last device. It takes no memory.
 pub(crate) fn commit<A: Allocator>(state: &mut State<A>, device: DeviceNo) -> Reply
+    requires { IsGranted (event.Detach device) state.old }
     ensures { (at : ℕ) → Steps at (event.Detach device) state.old result state.new }
 {
     let Some(attachment) = state.attachment_of(device) else {
@@ -48,7 +49,16 @@ pub(crate) fn commit<A: Allocator>(state: &mut State<A>, device: DeviceNo) -> Re
     spaces::pay(&mut state.objects, file, ioas, device);
     attachments::remove(&mut state.attachments, device);
     if is_idle(&state.objects, &state.attachments, file, hwpt) {
-        drop_table(&mut state.objects, &mut state.pins, file, ioas, hwpt);
+        drop_table(&mut state.objects, file, hwpt);
+        if !lookups::has_hwpt(&state.objects, file, ioas) {
+            release::unpin_space(
+                &state.objects,
+                file,
+                ioas,
+                &mut state.memory,
+                &mut state.pool,
+            );
+        }
     }
     Reply::Done
 }
@@ -75,37 +85,11 @@ fn is_automatic<A: Allocator>(table: &ObjectTable<Held<A>, A>, file: FileNo, id:
     }
 }
 
-/// The page table over the address space goes, and with its last one the pins of its areas. All other
-/// objects, areas and pins stay.
-fn drop_table<A: Allocator>(
-    table: &mut ObjectTable<Held<A>, A>,
-    pins: &mut Vec<Pin, A>,
-    file: FileNo,
-    ioas: ObjId,
-    hwpt: ObjId,
-)
+/// The page table goes. All other objects and all areas stay.
+fn drop_table<A: Allocator>(table: &mut ObjectTable<Held<A>, A>, file: FileNo, hwpt: ObjId)
     ensures rows { destroy_refusal table.old file of_kind.Hwpt hwpt ≡ None
         → table.new.rows ≡ removed file hwpt table.old.rows }
     ensures files { table.new.files ≡ table.old.files }
-    ensures pins { pins.new.items ≡ filter (λ pin. not (is_unpinned (objects_in table.new) file ioas (areas_at table.new.rows file ioas) pin)) pins.old.items }
 {
     let _ = table.destroy(file, Kind::Hwpt, hwpt);
-    drop_pins(table, pins, file, ioas);
-}
-
-/// Where the address space has no page table, the pins of its areas go. All others stay.
-fn drop_pins<A: Allocator>(
-    table: &ObjectTable<Held<A>, A>,
-    pins: &mut Vec<Pin, A>,
-    file: FileNo,
-    ioas: ObjId,
-)
-    ensures { pins.new.items ≡ filter (λ pin. not (is_unpinned (objects_in table.now) file ioas (areas_at table.now.rows file ioas) pin)) pins.old.items }
-{
-    if lookups::has_hwpt(table, file, ioas) {
-        return;
-    }
-    if let Some(areas) = lookups::areas_of(table, file, ioas) {
-        pins::drop_areas(pins, areas.iter().as_slice());
-    }
 }

@@ -11,26 +11,29 @@ ghost use Rattle.iofd_words.specs.declared.query.Query.TheVariants as queries;
 ghost use Rattle.iofd_words.specs.declared.record.Record.{Record};
 ghost use Rattle.iommufd_core.specs.Choice.{IsLooked};
 ghost use Rattle.iommufd_core.specs.Shows.{Shows};
-ghost use Rattle.iommufd_core.specs.Step.{IsTidy};
+ghost use Rattle.iommufd_core.specs.Step.{IsAsked, IsTidy};
 
 use crate::access;
-use crate::bytes::burst_of;
 use crate::device_write::fault_of;
 use crate::state::State;
-use iofd_words::{AccessKind, Answer, DeviceNo, FaultReason, Iova, PAGE_SIZE};
+use iofd_words::{AccessKind, Answer, Burst, DeviceNo, FaultReason, Iova, PAGE_SIZE};
 use std::alloc::Allocator;
 
 /// What the device is answered where nothing refuses it. Where it owes the area a flush, its access is denied.
 pub(crate) fn read<A: Allocator>(state: &State<A>, device: DeviceNo, iova: Iova, len: u8) -> Answer
+    requires { IsAsked (queries.DeviceRead device iova len) state.now }
     ensures { (at : ℕ) (w : World) (records : List (Record A)) → IsTidy at w → Shows w state.now
         → first_true (query_checks (view w) (queries.DeviceRead device iova len)) ≡ None
         → IsLooked (lawful_answers w records (queries.DeviceRead device iova len)) result }
 {
     match access::given(state, device, iova.0, AccessKind::Read, None) {
-        Ok(frame) => match burst_of(&state.frames, frame, iova.0 % PAGE_SIZE, usize::from(len)) {
-            Some(bytes) => Answer::Read(bytes),
-            None => denied(state, device, iova, FaultReason::ReadDenied),
-        },
+        Ok(frame) => {
+            let offset = (iova.0 % PAGE_SIZE) as usize;
+            match Burst::new(state.pool.read(frame, offset, usize::from(len))) {
+                Some(bytes) => Answer::Read(bytes),
+                None => denied(state, device, iova, FaultReason::ReadDenied),
+            }
+        }
         Err(reason) => denied(state, device, iova, reason),
     }
 }

@@ -8,10 +8,10 @@ ghost use Rattle.iofd_words.specs.FirstTrue.{first_true};
 ghost use Rattle.iofd_words.specs.Policy as policy;
 ghost use Rattle.iofd_words.specs.declared.event.Event.TheVariants as event;
 ghost use Rattle.iommufd_core.specs.Seen.{seen};
-ghost use Rattle.iommufd_core.specs.Step.{ChosenSteps};
+ghost use Rattle.iommufd_core.specs.Step.{ChosenSteps, IsGrantedVia};
 
+use crate::access;
 use crate::state::State;
-use crate::{access, bytes};
 use iofd_words::{
     AccessKind, Burst, Cause, Config, DeviceNo, Fault, FaultReason, FrameNo, Iova, PAGE_SIZE,
     Reply, SourceId,
@@ -67,12 +67,13 @@ pub(crate) fn commit<A: Allocator>(
     bytes: &Burst,
     via: Option<FrameNo>,
 ) -> Reply
+    requires { IsGrantedVia (event.DeviceWrite device iova bytes.now) via state.old }
     ensures { (at : ℕ) → ChosenSteps at (event.DeviceWrite device iova bytes.now) via state.old result state.new }
 {
     match access::given(state, device, iova.0, AccessKind::Write, via) {
         Ok(frame) => {
-            let start = bytes::start_of(frame) + iova.0 % PAGE_SIZE;
-            bytes::put(&mut state.frames, start, bytes.as_slice());
+            let offset = (iova.0 % PAGE_SIZE) as usize;
+            state.pool.write(frame, offset, bytes.as_slice());
             Reply::Passed(frame)
         }
         Err(reason) => Reply::Fault(fault_of(

@@ -5,7 +5,7 @@ ghost use Rattle.iofd_words.specs.Checks.{checks};
 ghost use Rattle.iofd_words.specs.FirstTrue.{first_true};
 ghost use Rattle.iommufd_core.specs.Seen.{seen};
 ghost use Rattle.iommufd_core.specs.Server.{takes_memory};
-ghost use Rattle.iommufd_core.specs.Step.{Answered, ChosenSteps, TidyShowsSame};
+ghost use Rattle.iommufd_core.specs.Step.{Answered, ChosenSteps, IsCalled, IsGrantedFor, IsKnown, TidyShowsSame};
 
 use crate::state::State;
 use crate::{
@@ -22,6 +22,7 @@ pub(crate) fn answer<A: Allocator + Copy>(
     at: u64,
     act: &Act,
 ) -> Result<Reply, NoMemory>
+    requires { IsCalled at act.now.event act.now.via state.old }
     ensures ok { IfOk result (λ reply. Answered at act.now.event act.now.via state.old reply state.new) }
     ensures err { OnErr result (TidyShowsSame at state.old state.new) }
     ensures memory { OnErr result ((first_true (checks (seen state.old) act.now.event) ≡ None) × IsTrue (takes_memory act.now.event)) }
@@ -34,6 +35,7 @@ pub(crate) fn answer<A: Allocator + Copy>(
 
 /// Why the event is refused, if it is. It takes no memory.
 fn refusal<A: Allocator>(state: &State<A>, event: &Event) -> Option<Cause>
+    requires { IsKnown state.now }
     ensures { result ≡ first_true (checks (seen state.now) event.now) }
 {
     match event {
@@ -57,6 +59,7 @@ fn refusal<A: Allocator>(state: &State<A>, event: &Event) -> Option<Cause>
 
 /// Carries out an event that nothing refuses, at this position. An error leaves the world as it was.
 fn commit<A: Allocator + Copy>(state: &mut State<A>, at: u64, act: &Act) -> Result<Reply, NoMemory>
+    requires { IsGrantedFor at act.now.event act.now.via state.old }
     ensures ok { IfOk result (λ reply. ChosenSteps at act.now.event act.now.via state.old reply state.new) }
     ensures err { OnErr result (TidyShowsSame at state.old state.new) }
     ensures memory { OnErr result (IsTrue (takes_memory act.now.event)) }

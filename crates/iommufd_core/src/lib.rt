@@ -2,12 +2,12 @@
 #![tactic(auto)]
 
 mod access;
+mod accounts;
 mod apply;
 mod area_changes;
 mod attach;
 mod attachments;
 mod bind;
-mod bytes;
 mod close;
 mod destroy;
 mod detach;
@@ -21,11 +21,9 @@ mod ioas_alloc;
 mod look;
 mod lookups;
 mod map;
-mod map_pins;
-mod memory_objects;
 mod opening;
-mod pages;
 mod pins;
+mod release;
 mod spaces;
 mod state;
 mod unmap;

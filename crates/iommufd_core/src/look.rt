@@ -10,15 +10,16 @@ ghost use Rattle.iofd_words.specs.declared.record.Record.{Record};
 ghost use Rattle.iommufd_core.specs.Choice.{IsLooked};
 ghost use Rattle.iommufd_core.specs.Seen.{seen};
 ghost use Rattle.iommufd_core.specs.Shows.{Shows};
-ghost use Rattle.iommufd_core.specs.Step.{IsTidy};
+ghost use Rattle.iommufd_core.specs.Step.{IsAsked, IsKnown, IsTidy};
 
 use crate::state::State;
-use crate::{access, device_read, pages, user_access, user_read};
-use iofd_words::{Answer, Cause, Query, Refusal};
+use crate::{access, device_read, user_access, user_read};
+use iofd_words::{Answer, Cause, Query, Refusal, UserNo};
 use std::alloc::Allocator;
 
 /// What is answered. A device that owes the area a flush is denied.
 pub(crate) fn look<A: Allocator>(state: &State<A>, query: &Query) -> Answer
+    requires { IsKnown state.now }
     ensures { (at : ℕ) (w : World) (records : List (Record A)) → IsTidy at w → Shows w state.now
         → IsLooked (answers_in w records query.now) result }
 {
@@ -40,11 +41,13 @@ fn refusal<A: Allocator>(state: &State<A>, query: &Query) -> Option<Cause>
             user_access::refusal(state, *user, *va, usize::from(*len))
         }
         Query::FreeFrames => None,
+        Query::Held(user) => refusal_by_user(state, *user),
     }
 }
 
 /// What is answered to a question that nothing refuses.
 fn answer<A: Allocator>(state: &State<A>, query: &Query) -> Answer
+    requires { IsAsked query.now state.now }
     ensures { (at : ℕ) (w : World) (records : List (Record A)) → IsTidy at w → Shows w state.now
         → first_true (query_checks (view w) query.now) ≡ None
         → IsLooked (lawful_answers w records query.now) result }
@@ -52,15 +55,18 @@ fn answer<A: Allocator>(state: &State<A>, query: &Query) -> Answer
     match query {
         Query::DeviceRead { device, iova, len } => device_read::read(state, *device, *iova, *len),
         Query::UserRead { user, va, len } => user_read::read(state, *user, *va, *len),
-        Query::FreeFrames => free_frames(state),
+        Query::FreeFrames => Answer::Count(u64::from(state.pool.free_count())),
+        Query::Held(user) => Answer::Count(state.memory.held(*user)),
     }
 }
 
-/// How many frames of the pool nobody reaches.
-fn free_frames<A: Allocator>(state: &State<A>) -> Answer
-    ensures { (at : ℕ) (w : World) (records : List (Record A)) → IsTidy at w → Shows w state.now
-        → IsLooked (lawful_answers w records queries.FreeFrames) result }
+/// Why a question about the user's account is refused.
+fn refusal_by_user<A: Allocator>(state: &State<A>, user: UserNo) -> Option<Cause>
+    ensures { result ≡ first_true (query_checks (seen state.now) (queries.Held user)) }
 {
-    let pool = state.config.pool();
-    Answer::Count(pages::free_count(pool, &state.user_pages, &state.pins))
+    if state.config.has_user(user) {
+        None
+    } else {
+        Some(Cause::Id)
+    }
 }

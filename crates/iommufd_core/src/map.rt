@@ -3,18 +3,18 @@
 ghost use Rattle.std.specs.Prelude.{◌≡◌, ◌==◌, ◌&&◌, ◌||◌, not, false, is_some, IfSome, IfOk, OnErr, [], ◌∷◌, ◌/◌, ◌≤◌, ◌^◌, if◌then◌else◌};
 ghost use Rattle.iofd_words.specs.After.{mapped_area, memory_object};
 ghost use Rattle.iofd_words.specs.Areas.{areas_meet, has_no_room};
-ghost use Rattle.iofd_words.specs.Checks.{checks, lacks_mapped_page};
+ghost use Rattle.iofd_words.specs.Checks.{checks, lacks_mapped_page, passes_limit_mapped};
 ghost use Rattle.iofd_words.specs.FirstTrue.{first_true};
 ghost use Rattle.iofd_words.specs.Span.{span_from};
 ghost use Rattle.iofd_words.specs.Objects.{has_hwpt};
 ghost use Rattle.iofd_words.specs.Pages.{is_above_sum, is_above_user, is_whole};
 ghost use Rattle.iofd_words.specs.declared.event.Event.TheVariants as event;
 ghost use Rattle.iommufd_core.specs.Seen.{seen};
-ghost use Rattle.iommufd_core.specs.Step.{Steps, TidyShowsSame};
+ghost use Rattle.iommufd_core.specs.Step.{IsGrantedAt, IsKnown, Steps, TidyShowsSame};
 ghost use Rattle.iommufd_core.specs.Held.{objects_in};
 
 use crate::state::State;
-use crate::{area_changes, lookups, map_pins};
+use crate::{accounts, area_changes, lookups};
 use area_map::Areas;
 use iofd_words::{
     Area, Cause, FileNo, MapRequest, MemoryObject, NoMemory, PAGE_SIZE, Phase, Reply, Span,
@@ -29,6 +29,7 @@ pub(crate) fn refusal<A: Allocator>(
     file: FileNo,
     request: MapRequest,
 ) -> Option<Cause>
+    requires { IsKnown state.now }
     ensures { result ≡ first_true (checks (seen state.now) (event.Map file request)) }
 {
     if !state.objects.is_open(file) {
@@ -61,44 +62,30 @@ pub(crate) fn refusal<A: Allocator>(
 /// of the record, and where a page table translates the area its pages are pinned.
 ///
 /// The only error is want of memory. It changes nothing.
-pub(crate) fn commit<A: Allocator>(
+pub(crate) fn commit<A: Allocator + Copy>(
     state: &mut State<A>,
     at: u64,
     file: FileNo,
     request: MapRequest,
 ) -> Result<Reply, NoMemory>
+    requires { IsGrantedAt at (event.Map file request) state.old }
     ensures ok { IfOk result (λ reply. Steps at (event.Map file request) state.old reply state.new) }
     ensures err { OnErr result (TidyShowsSame at state.old state.new) }
 {
     // Nothing refuses it: so the file has a user, and the span is one of whole pages.
-    let Some(user) = state.config.user_of(file) else {
+    let Some(user) = accounts::user_of(&state.config, file) else {
         return Ok(Reply::Done);
     };
     let Some(span) = mapped_span(request) else {
         return Ok(Reply::Done);
     };
-    let pinned = pinned_count(state, file, request);
-    state.memory.reserve(1)?;
-    state.pins.reserve(pinned as usize)?;
     let area = mapped_area(at, file, request, span);
-    area_changes::insert(&mut state.objects, file, request.ioas, area)?;
     let object = memory_object(at, user, request);
-    state.memory.push_reserved(object);
-    map_pins::pin_first(&mut state.pins, &state.user_pages, object, pinned);
+    let pinned = lookups::has_hwpt(&state.objects, file, request.ioas);
+    area_changes::reserve(&mut state.objects, file, request.ioas)?;
+    state.memory.add(&mut state.pool, object, pinned)?;
+    area_changes::insert(&mut state.objects, file, request.ioas, area);
     Ok(Reply::Iova(request.iova))
-}
-
-/// How many pages it pins: all where the address space has a page table, else none.
-fn pinned_count<A: Allocator>(state: &State<A>, file: FileNo, request: MapRequest) -> u64
-    ensures value { result
-        ≡ (if has_hwpt (objects_in state.now.objects) file request.ioas then request.length / 4096 else 0) }
-    ensures few { result ≤ 2 ^ 52 }
-{
-    if lookups::has_hwpt(&state.objects, file, request.ioas) {
-        request.length / PAGE_SIZE
-    } else {
-        0
-    }
 }
 
 fn mapped_area(at: u64, file: FileNo, request: MapRequest, span: Span) -> Area
@@ -135,10 +122,12 @@ fn refusal_by_areas<A: Allocator>(
     span: Span,
     areas: &Areas<A>,
 ) -> Option<Cause>
+    requires { IsKnown state.now }
     ensures { result ≡ first_true (
         (Cause.Overlap, areas_meet span areas.now.areas)
         ∷ (Cause.Full, has_no_room areas.now.areas)
         ∷ (Cause.Absent, lacks_mapped_page (seen state.now) file request)
+        ∷ (Cause.Account, passes_limit_mapped (seen state.now) file request)
         ∷ []) }
 {
     if areas.meets(span) {
@@ -149,6 +138,9 @@ fn refusal_by_areas<A: Allocator>(
     }
     if lacks_page(state, file, request) {
         return Some(Cause::Absent);
+    }
+    if passes_limit(state, file, request) {
+        return Some(Cause::Account);
     }
     None
 }
@@ -191,8 +183,22 @@ fn lacks_page<A: Allocator>(state: &State<A>, file: FileNo, request: MapRequest)
     }
     match state.config.user_of(file) {
         Some(user) => {
-            !map_pins::has_pages(&state.user_pages, user, request.user_va, request.length)
+            let count = request.length / PAGE_SIZE;
+            !state.memory.has_pages(user, request.user_va, count)
         }
         None => true,
     }
+}
+
+/// Whether the address space has a page table, and with its pages the file's user would have more pinned pages than the
+/// limit allows.
+fn passes_limit<A: Allocator>(state: &State<A>, file: FileNo, request: MapRequest) -> bool
+    requires { IsKnown state.now }
+    ensures { result ≡ passes_limit_mapped (seen state.now) file request }
+{
+    if !lookups::has_hwpt(&state.objects, file, request.ioas) {
+        return false;
+    }
+    let count = u128::from(request.length / PAGE_SIZE);
+    accounts::passes_limit(state, file, count)
 }

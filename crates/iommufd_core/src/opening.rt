@@ -1,13 +1,15 @@
 //! What is kept at the opening: all frames free, all files open and empty.
 
-ghost use Rattle.std.specs.Prelude.{◌≡◌, ◌*◌, replicate, IfOk};
+ghost use Rattle.std.specs.Prelude.{◌≡◌, IfOk};
 ghost use Rattle.iofd_words.specs.World.{opening};
 ghost use Rattle.iommufd_core.specs.Shows.{Shows};
 
 use crate::state::State;
+use frame_memory::Pool;
 use iofd_words::{Config, NoMemory};
 use object_table::ObjectTable;
 use std::alloc::Allocator;
+use user_memory::UserMemory;
 
 /// What is kept at the opening. It fails only where memory does.
 pub(crate) fn opened<A: Allocator + Copy, B: Allocator>(
@@ -25,16 +27,7 @@ pub(crate) fn opened<A: Allocator + Copy, B: Allocator>(
         objects: ObjectTable::new(alloc, files)?,
         bindings: Vec::new(alloc),
         attachments: Vec::new(alloc),
-        memory: Vec::new(alloc),
-        user_pages: Vec::new(alloc),
-        pins: Vec::new(alloc),
-        frames: zeroes(alloc, pool as usize * 4096)?,
+        memory: UserMemory::new(alloc, config.users())?,
+        pool: Pool::new(alloc, pool)?,
     })
-}
-
-/// So many bytes that are zero.
-fn zeroes<A: Allocator>(alloc: A, count: usize) -> Result<Vec<u8, A>, NoMemory>
-    ensures { IfOk result (λ bytes. bytes.items ≡ replicate count 0) }
-{
-    Ok(vec![in alloc; 0; count]?)
 }

@@ -1,11 +1,14 @@
 //! What the server keeps of the world.
 
 use crate::held::Held;
-use iofd_words::{Attachment, Config, DeviceNo, MemoryObject, Object, Pin, UserPage};
+use frame_memory::Pool;
+use iofd_words::{Attachment, Config, Object};
 use object_table::ObjectTable;
 use std::alloc::{Allocator, Global};
+use user_memory::UserMemory;
 
-/// The rows of the world: objects with the areas of address spaces, devices, and the users' memory.
+/// What shows the rows of the world: objects with the areas of address spaces, devices, the users' memory and the
+/// frames.
 #[derive(Drop)]
 pub(crate) struct State<A: Allocator = Global> {
     pub(crate) alloc: A,
@@ -14,9 +17,8 @@ pub(crate) struct State<A: Allocator = Global> {
     /// The objects by which devices are bound.
     pub(crate) bindings: Vec<Object, A>,
     pub(crate) attachments: Vec<Attachment, A>,
-    pub(crate) memory: Vec<MemoryObject, A>,
-    pub(crate) user_pages: Vec<UserPage, A>,
-    pub(crate) pins: Vec<Pin, A>,
-    /// The bytes of all frames, 4096 each.
-    pub(crate) frames: Vec<u8, A>,
+    /// The users' pages and accounts, and the memory objects with their pins.
+    pub(crate) memory: UserMemory<A>,
+    /// The frames.
+    pub(crate) pool: Pool<A>,
 }

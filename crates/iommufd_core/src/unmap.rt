@@ -1,24 +1,19 @@
 //! UNMAP: areas go, or are on their way out until devices have flushed.
 
 ghost use Rattle.std.specs.Prelude.{◌≡◌, ◌<◌, ◌&&◌, ◌∷◌, [], ℕ, false, not, IfSome, IsSome};
-ghost use Rattle.area_map.specs.Areas.{areas_within};
 ghost use Rattle.iofd_words.specs.Areas.{areas_meet, is_cut, is_everything, unmapped_span};
 ghost use Rattle.iofd_words.specs.Checks.{checks};
 ghost use Rattle.iofd_words.specs.FirstTrue.{first_true};
 ghost use Rattle.iofd_words.specs.Pages.{is_above_sum};
 ghost use Rattle.iofd_words.specs.declared.event.Event.TheVariants as event;
 ghost use Rattle.iommufd_core.specs.Seen.{seen};
-ghost use Rattle.iommufd_core.specs.Step.{Steps};
-ghost use Rattle.iommufd_core.specs.Mapping.{own_areas};
-ghost use Rattle.iommufd_core.specs.Memory.{is_over, without_memory, without_pins};
+ghost use Rattle.iommufd_core.specs.Step.{IsGranted, Steps};
 
-use crate::held::Held;
 use crate::map::is_above_sum;
 use crate::state::State;
-use crate::{area_changes, devices, lookups};
+use crate::{area_changes, devices, lookups, release};
 use area_map::Areas;
-use iofd_words::{Cause, Errno, FileNo, MemoryObject, ObjId, Pin, Reply, Span, UnmapRequest};
-use object_table::ObjectTable;
+use iofd_words::{Cause, Errno, FileNo, Reply, Span, UnmapRequest};
 use std::alloc::Allocator;
 
 /// Why it is refused.
@@ -73,6 +68,7 @@ pub(crate) fn commit<A: Allocator>(
     file: FileNo,
     request: UnmapRequest,
 ) -> Reply
+    requires { IsGranted (event.Unmap file request) state.old }
     ensures { (at : ℕ) → Steps at (event.Unmap file request) state.old result state.new }
 {
     // Nothing refuses it: so it names a span.
@@ -99,40 +95,18 @@ pub(crate) fn commit<A: Allocator>(
         // Never: 65,535 areas of at most 2^48 bytes have fewer than 2^64.
         return Reply::Done;
     };
-    drop_memory(&mut state.memory, &state.objects, file, ioas, span);
-    drop_pins(&mut state.pins, &state.objects, file, ioas, span);
+    let translated = lookups::has_hwpt(&state.objects, file, ioas);
+    release::remove_within(
+        &state.objects,
+        file,
+        ioas,
+        span,
+        translated,
+        &mut state.memory,
+        &mut state.pool,
+    );
     area_changes::remove(&mut state.objects, file, ioas, span);
     Reply::Bytes(bytes)
-}
-
-/// Takes away the memory objects of the areas of the address space that lie in the span.
-fn drop_memory<A: Allocator>(
-    memory: &mut Vec<MemoryObject, A>,
-    table: &ObjectTable<Held<A>, A>,
-    file: FileNo,
-    ioas: ObjId,
-    span: Span,
-)
-    ensures { memory.new.items
-        ≡ without_memory (is_over (areas_within span (own_areas table.now file ioas))) memory.old.items }
-{
-    memory.retain(|object| {
-        !area_changes::has_memory_within(table, file, ioas, span, object.number)
-    });
-}
-
-/// Takes away the pins of those memory objects.
-fn drop_pins<A: Allocator>(
-    pins: &mut Vec<Pin, A>,
-    table: &ObjectTable<Held<A>, A>,
-    file: FileNo,
-    ioas: ObjId,
-    span: Span,
-)
-    ensures { pins.new.items
-        ≡ without_pins (is_over (areas_within span (own_areas table.now file ioas))) pins.old.items }
-{
-    pins.retain(|pin| !area_changes::has_memory_within(table, file, ioas, span, pin.memory));
 }
 
 /// Whether it names every address, the last one too.

@@ -6,9 +6,8 @@ ghost use Rattle.iofd_words.specs.FirstTrue.{first_true};
 ghost use Rattle.iommufd_core.specs.Seen.{seen};
 
 use crate::access::crosses;
-use crate::pages;
 use crate::state::State;
-use iofd_words::{Cause, PAGE_SIZE, UserNo};
+use iofd_words::{Cause, UserNo};
 use std::alloc::Allocator;
 
 /// Why the user's access to so many bytes from the address on is refused, a read or a write.
@@ -26,7 +25,7 @@ pub(crate) fn refusal<A: Allocator>(
     if crosses(va, len) {
         return Some(Cause::Cross);
     }
-    if pages::frame_at(&state.user_pages, user, va / PAGE_SIZE).is_none() {
+    if state.memory.frame_at(user, va).is_none() {
         return Some(Cause::Absent);
     }
     None

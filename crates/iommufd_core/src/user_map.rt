@@ -6,15 +6,14 @@ ghost use Rattle.iofd_words.specs.FirstTrue.{first_true};
 ghost use Rattle.iofd_words.specs.declared.event.Event.TheVariants as event;
 ghost use Rattle.iofd_words.specs.declared.numbers.FrameNo.{FrameNo};
 ghost use Rattle.iommufd_core.specs.Seen.{seen};
-ghost use Rattle.iommufd_core.specs.Step.{ChosenSteps, ShowsSame};
+ghost use Rattle.iommufd_core.specs.Step.{ChosenSteps, IsGranted, ShowsSame};
 
 use crate::state::State;
-use crate::{bytes, pages};
-use iofd_words::{Cause, NoMemory, PAGE_SIZE, Reply, USER_END, UserNo, UserPage};
+use iofd_words::{Cause, NoMemory, PAGE_SIZE, Reply, USER_END, UserNo};
 use std::alloc::Allocator;
 
 /// Why it is refused.
-#[tactic(auto, using(crate::proofs::FreeFrames::has_free_frame), unfolding(iofd_words::specs::Checks::checks))]
+#[tactic(auto, unfolding(iofd_words::specs::Checks::checks))]
 pub(crate) fn refusal<A: Allocator>(state: &State<A>, user: UserNo, va: u64) -> Option<Cause>
     ensures { result ≡ first_true (checks (seen state.now) (event.UserMap user va)) }
 {
@@ -24,10 +23,10 @@ pub(crate) fn refusal<A: Allocator>(state: &State<A>, user: UserNo, va: u64) -> 
     if va % PAGE_SIZE != 0 || va >= USER_END {
         return Some(Cause::Align);
     }
-    if pages::frame_at(&state.user_pages, user, va / PAGE_SIZE).is_some() {
+    if state.memory.frame_at(user, va).is_some() {
         return Some(Cause::Overlap);
     }
-    if pages::free_frame(state.config.pool(), &state.user_pages, &state.pins).is_none() {
+    if state.pool.free_count() == 0 {
         return Some(Cause::Frames);
     }
     None
@@ -39,21 +38,11 @@ pub(crate) fn commit<A: Allocator>(
     user: UserNo,
     va: u64,
 ) -> Result<Reply, NoMemory>
+    requires { IsGranted (event.UserMap user va) state.old }
     ensures ok { IfOk result (λ reply. (at : ℕ) (via : Option FrameNo)
         → ChosenSteps at (event.UserMap user va) via state.old reply state.new) }
     ensures err { OnErr result (ShowsSame state.old state.new) }
 {
-    let Some(frame) = pages::free_frame(state.config.pool(), &state.user_pages, &state.pins) else {
-        return Ok(Reply::Done);
-    };
-    if state.user_pages.reserve(1).is_err() {
-        return Err(NoMemory);
-    }
-    bytes::clear(&mut state.frames, frame);
-    state.user_pages.push_reserved(UserPage {
-        user,
-        page: va / PAGE_SIZE,
-        frame,
-    });
+    let frame = state.memory.map_page(&mut state.pool, user, va)?;
     Ok(Reply::Frame(frame))
 }

@@ -9,15 +9,15 @@ ghost use Rattle.iofd_words.specs.declared.query.Query.TheVariants as queries;
 ghost use Rattle.iofd_words.specs.declared.record.Record.{Record};
 ghost use Rattle.iommufd_core.specs.Choice.{IsLooked};
 ghost use Rattle.iommufd_core.specs.Shows.{Shows};
-ghost use Rattle.iommufd_core.specs.Step.{IsTidy};
+ghost use Rattle.iommufd_core.specs.Step.{IsAsked, IsTidy};
 
 use crate::state::State;
-use crate::{bytes, pages};
-use iofd_words::{Answer, Cause, PAGE_SIZE, Refusal, UserNo};
+use iofd_words::{Answer, Burst, Cause, PAGE_SIZE, Refusal, UserNo};
 use std::alloc::Allocator;
 
 /// What the user is answered where nothing refuses it: the bytes of the page's frame, from the address's offset on.
 pub(crate) fn read<A: Allocator>(state: &State<A>, user: UserNo, va: u64, len: u8) -> Answer
+    requires { IsAsked (queries.UserRead user va len) state.now }
     ensures { (at : ℕ) (w : World) (records : List (Record A)) → IsTidy at w → Shows w state.now
         → first_true (query_checks (view w) (queries.UserRead user va len)) ≡ None
         → IsLooked (lawful_answers w records (queries.UserRead user va len)) result }
@@ -26,10 +26,11 @@ pub(crate) fn read<A: Allocator>(state: &State<A>, user: UserNo, va: u64, len: u
     let absent = Answer::Refused(Refusal {
         cause: Cause::Absent,
     });
-    let Some(frame) = pages::frame_at(&state.user_pages, user, va / PAGE_SIZE) else {
+    let Some(frame) = state.memory.frame_at(user, va) else {
         return absent;
     };
-    match bytes::burst_of(&state.frames, frame, va % PAGE_SIZE, usize::from(len)) {
+    let offset = (va % PAGE_SIZE) as usize;
+    match Burst::new(state.pool.read(frame, offset, usize::from(len))) {
         Some(bytes) => Answer::Read(bytes),
         None => absent,
     }

@@ -3,14 +3,12 @@
 ghost use Rattle.std.specs.Prelude.{◌≡◌, ℕ};
 ghost use Rattle.iofd_words.specs.Checks.{checks};
 ghost use Rattle.iofd_words.specs.FirstTrue.{first_true};
-ghost use Rattle.iofd_words.specs.Frames.{without_page};
 ghost use Rattle.iofd_words.specs.declared.event.Event.TheVariants as event;
 ghost use Rattle.iommufd_core.specs.Seen.{seen};
-ghost use Rattle.iommufd_core.specs.Step.{Steps};
+ghost use Rattle.iommufd_core.specs.Step.{IsGranted, Steps};
 
-use crate::pages;
 use crate::state::State;
-use iofd_words::{Cause, PAGE_SIZE, Reply, USER_END, UserNo, UserPage};
+use iofd_words::{Cause, PAGE_SIZE, Reply, USER_END, UserNo};
 use std::alloc::Allocator;
 
 /// Why it is refused.
@@ -24,7 +22,7 @@ pub(crate) fn refusal<A: Allocator>(state: &State<A>, user: UserNo, va: u64) -> 
     if va % PAGE_SIZE != 0 || va >= USER_END {
         return Some(Cause::Align);
     }
-    if pages::frame_at(&state.user_pages, user, va / PAGE_SIZE).is_none() {
+    if state.memory.frame_at(user, va).is_none() {
         return Some(Cause::Absent);
     }
     None
@@ -33,15 +31,9 @@ pub(crate) fn refusal<A: Allocator>(state: &State<A>, user: UserNo, va: u64) -> 
 /// What it does where nothing refuses it: the page goes. Pins of it stay at its frame, which is free only without them.
 /// It takes no memory.
 pub(crate) fn commit<A: Allocator>(state: &mut State<A>, user: UserNo, va: u64) -> Reply
+    requires { IsGranted (event.UserUnmap user va) state.old }
     ensures { (at : ℕ) → Steps at (event.UserUnmap user va) state.old result state.new }
 {
-    drop_page(&mut state.user_pages, user, va / PAGE_SIZE);
+    state.memory.unmap_page(&mut state.pool, user, va);
     Reply::Done
-}
-
-/// Takes the user's page away. All others stay.
-fn drop_page<A: Allocator>(pages: &mut Vec<UserPage, A>, user: UserNo, page: u64)
-    ensures { pages.new.items ≡ without_page pages.old.items user page }
-{
-    pages.retain(|p| !(p.user == user && p.page == page));
 }

@@ -5,10 +5,10 @@ ghost use Rattle.iofd_words.specs.Checks.{checks};
 ghost use Rattle.iofd_words.specs.FirstTrue.{first_true};
 ghost use Rattle.iofd_words.specs.declared.event.Event.TheVariants as event;
 ghost use Rattle.iommufd_core.specs.Seen.{seen};
-ghost use Rattle.iommufd_core.specs.Step.{Steps};
+ghost use Rattle.iommufd_core.specs.Step.{IsGranted, Steps};
 
 use crate::state::State;
-use crate::{bytes, pages, user_access};
+use crate::user_access;
 use iofd_words::{Burst, Cause, PAGE_SIZE, Reply, UserNo};
 use std::alloc::Allocator;
 
@@ -33,12 +33,13 @@ pub(crate) fn commit<A: Allocator>(
     va: u64,
     bytes: &Burst,
 ) -> Reply
+    requires { IsGranted (event.UserWrite user va bytes.now) state.old }
     ensures { (at : ℕ) → Steps at (event.UserWrite user va bytes.now) state.old result state.new }
 {
     // Nothing refuses it: so the user has the page.
-    if let Some(frame) = pages::frame_at(&state.user_pages, user, va / PAGE_SIZE) {
-        let start = bytes::start_of(frame) + va % PAGE_SIZE;
-        bytes::put(&mut state.frames, start, bytes.as_slice());
+    if let Some(frame) = state.memory.frame_at(user, va) {
+        let offset = (va % PAGE_SIZE) as usize;
+        state.pool.write(frame, offset, bytes.as_slice());
     }
     Reply::Done
 }

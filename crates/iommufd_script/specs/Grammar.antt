@@ -56,6 +56,7 @@ step_keyword word = first_true (
     ∷ (step.DeviceRead, bytes_eq word (codes "dread"))
     ∷ (step.DeviceWrite, bytes_eq word (codes "dwrite"))
     ∷ (step.FreeFrames, bytes_eq word (codes "free"))
+    ∷ (step.Held, bytes_eq word (codes "held"))
     ∷ [])
 
 abbrev pub step_row : StepKeyword → Row Step
@@ -93,6 +94,8 @@ step_row step.DeviceRead = record { kinds = Decimal 16 ∷ Hex 64 ∷ Length ∷
 -- device, address, bytes
 step_row step.DeviceWrite = record { kinds = Decimal 16 ∷ Hex 64 ∷ Access ∷ []; makes = λ device iova bytes. made.DeviceWrite (record { 0 = device }) (record { 0 = iova }) bytes }
 step_row step.FreeFrames = record { kinds = []; makes = made.FreeFrames }
+-- user
+step_row step.Held = record { kinds = Decimal 16 ∷ []; makes = λ user. made.Held (record { 0 = user }) }
 
 -- ---- a line by its keyword
 

@@ -29,6 +29,7 @@ pub enum StepKeyword {
     DeviceRead,
     DeviceWrite,
     FreeFrames,
+    Held,
 }
 
 // The word of the head that this is.
@@ -80,6 +81,8 @@ pub fn step_keyword(word: &[u8]) -> Option<StepKeyword>
         Some(StepKeyword::DeviceWrite)
     } else if word == b"free".as_slice() {
         Some(StepKeyword::FreeFrames)
+    } else if word == b"held".as_slice() {
+        Some(StepKeyword::Held)
     } else {
         None
     }

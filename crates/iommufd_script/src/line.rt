@@ -47,6 +47,8 @@ pub enum Step<'a> {
     DeviceWrite(DeviceNo, Iova, Burst),
     /// How many frames are free.
     FreeFrames,
+    /// How many pinned pages a user has.
+    Held(UserNo),
 }
 
 /// A line of a script.

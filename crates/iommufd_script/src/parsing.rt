@@ -185,6 +185,14 @@ fn free<'a>(fields: Fields<'a>) -> Option<Step<'a>>
     fields.end(Step::FreeFrames)
 }
 
+// `held <user>`
+fn held<'a>(fields: Fields<'a>) -> Option<Step<'a>>
+    ensures { result ≡ step_at step.Held fields.entry }
+{
+    let (user, fields) = fields.decimal_u16()?;
+    fields.end(Step::Held(UserNo(user)))
+}
+
 // A step, by its word and the fields behind it.
 #[tactic(auto)]
 fn step<'a>(keyword: StepKeyword, fields: Fields<'a>) -> Option<Step<'a>>
@@ -204,6 +212,7 @@ fn step<'a>(keyword: StepKeyword, fields: Fields<'a>) -> Option<Step<'a>>
         StepKeyword::DeviceRead => dread(fields),
         StepKeyword::DeviceWrite => dwrite(fields),
         StepKeyword::FreeFrames => free(fields),
+        StepKeyword::Held => held(fields),
     }
 }
 

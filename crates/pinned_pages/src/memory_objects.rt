@@ -1,6 +1,6 @@
 //! All memory objects, by number.
 
-ghost use Rattle.std.specs.Prelude.{ℕ, ◌≡◌, ◌==◌, ◌+◌, ◌<◌, ◌≤◌, ◌^◌, ◌&&◌, ◌++◌, ◌∷◌, [], false, None, find, if◌then◌else◌, IsTrue, IfSome, OnOk, OnErr};
+ghost use Rattle.std.specs.Prelude.{ℕ, ◌≡◌, ◌==◌, ◌+◌, ◌<◌, ◌≤◌, ◌^◌, ◌&&◌, ◌++◌, ◌∷◌, [], false, None, find, length, if◌then◌else◌, IsTrue, IfSome, OnOk, OnErr};
 ghost use Rattle.std.specs.List.{list_all};
 ghost use Rattle.std.specs.List.Sorted.{IsNonDecreasing};
 ghost use Rattle.std.specs.Option.{option_map};
@@ -8,7 +8,7 @@ ghost use Rattle.mem_account.specs.Accounts.{has_room, is_user};
 ghost use Rattle.pinned_pages.specs.Backed.{AccountsMove, AreBacked, CanPin, Fits, HoldsMove, is_backed};
 ghost use Rattle.pinned_pages.specs.Holds.{times};
 ghost use Rattle.pinned_pages.specs.Invariant.{MemoryInvariant};
-ghost use Rattle.pinned_pages.specs.Objects.{MemoryGrows, SamePins, all_pass, all_pinned, all_unpinned, are_below, can_pin, frame_now_in, has_memory, have_areas, have_pins, is_of, is_pinned_anew, is_unpinned, new_pages, object_at, pinned_by, pinned_frame, pins_on, rows_of, with_area, without_areas};
+ghost use Rattle.pinned_pages.specs.Objects.{MemoryGrows, SamePins, all_pass, all_pinned, all_unpinned, are_below, can_pin, frame_now_in, has_memory, have_areas, have_pins, is_of, is_pinned_anew, is_unpinned, new_count_in, new_pages, object_at, pinned_by, pinned_frame, pins_on, rows_of, with_area, without_areas};
 ghost use Rattle.pinned_pages.specs.Pages.{frame_of, held_frames, pinned_count};
 
 use crate::entry::Entry;
@@ -51,6 +51,13 @@ impl<A: Allocator> MemoryObjects<A> {
         MemoryObjects {
             entries: Vec::new(alloc),
         }
+    }
+
+    /// How many objects there are.
+    pub fn len(&self) -> usize
+        ensures { result ≡ length self.now.objects }
+    {
+        self.entries.len()
     }
 
     /// The row of the object of this number. It takes no memory.
@@ -168,6 +175,14 @@ impl<A: Allocator> MemoryObjects<A> {
         ensures { result ≡ all_pass (can_pin users.now.pages) self.now.objects numbers.now }
     {
         questions::can_pin(&self.entries, numbers, users)
+    }
+
+    /// How many pages pinning the object of this number pins anew. It takes no memory.
+    pub fn new_count(&self, number: u64) -> u64
+        ensures value { result ≡ new_count_in (object_at self.now.objects number) }
+        ensures few { result ≤ 2 ^ 36 }
+    {
+        questions::new_count(&self.entries, number)
     }
 
     /// How many pages pinning these objects pins anew, each page once. The numbers rise or stay. It takes no memory.

@@ -72,7 +72,7 @@ fn are_of<A: Allocator>(entries: &[Entry<Pages<A>>], numbers: &[u64], user: User
 }
 
 /// How many pages pinning the object of this number pins anew.
-fn new_count<A: Allocator>(entries: &[Entry<Pages<A>>], number: u64) -> u64
+pub(crate) fn new_count<A: Allocator>(entries: &[Entry<Pages<A>>], number: u64) -> u64
     requires { IsTrue (are_rising entries.now) }
     ensures value { result ≡ new_count_in (object_at entries.now number) }
     ensures few { result ≤ 2 ^ 36 }

@@ -1,5 +1,5 @@
 use Rattle.std.proofs.Common.{◌∙◌}
-use Rattle.iommufd_core.proofs.Present.{full_file}
+use Rattle.iommufd_core.proofs.FullFile.{full_file}
 use Rattle.iommufd_core.proofs.attach.is_full.Goals as goal
 
 pub returns : goal.returns

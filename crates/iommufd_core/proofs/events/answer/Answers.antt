@@ -1,6 +1,7 @@
 use Rattle.std.proofs.Common.{◌≡◌, Some, None, sym, ◌∙◌, subst}
 use Rattle.iommufd_core.proofs.ViewShown.{same_refusal}
 use Rattle.iommufd_core.proofs.Answering.{refused_lawful, refused_after, answered_lawful, answered_after, tabled_shown, if_ok, on_err}
+use Rattle.iofd_words.specs.Checks.{refusal}
 use Rattle.iofd_words.specs.declared.refusal.Cause.{Cause}
 use Rattle.iommufd_core.specs.Shows.{Shows}
 use Rattle.iommufd_core.proofs.events.answer.Goals as goal
@@ -21,3 +22,15 @@ returns-in-None-clause-ok g c = if_ok c.commit.result _ _ (λ reply steps pass w
 
 pub returns-in-None-clause-memory : goal.returns-in-None-clause-memory
 returns-in-None-clause-memory g c = on_err c.commit.result _ _ (λ takes. (sym c.refusal.ensures ∙ c.in-None.is, takes)) c.commit.ensures.memory
+
+pub commit-requires : goal.commit-requires
+commit-requires g c =
+    let called = c.requires in
+    let event = c.args.act.now.event in
+    let none : refusal called.world event ≡ None = sym (c.refusal.ensures
+    ∙ same_refusal called.world c.args.state.now called.shows event) ∙ c.in-None.is in
+    record {
+      granted = record { world = called.world; tidy = called.tidy; shows = called.shows; none = none };
+      may =
+          called.may none;
+    }

@@ -1,3 +1,8 @@
+use Rattle.std.proofs.Common.{◌≡◌, ℕ, [], ◌∷◌, sym, ◌∙◌, ap, arith}
+use Rattle.iofd_words.specs.View.{View}
+use Rattle.iofd_words.specs.declared.query.Answer.TheVariants as answer
+use Rattle.iommufd_core.specs.Choice.{IsLooked}
+use Rattle.iommufd_core.proofs.ViewShown.{same_count, same_view}
 use Rattle.iommufd_core.proofs.look.answer.Goals as goal
 
 pub returns-in-DeviceRead : goal.returns-in-DeviceRead
@@ -6,5 +11,16 @@ returns-in-DeviceRead g c = rw c.in-DeviceRead.is c.read.ensures
 pub returns-in-UserRead : goal.returns-in-UserRead
 returns-in-UserRead g c = rw c.in-UserRead.is c.read-in-UserRead.ensures
 
+-- the one lawful answer
+one_count : (n m : ℕ) → m ≡ n → IsLooked (answer.Count n ∷ []) (answer.Count m)
+one_count n m is = record { is_lawful = (0, omega arith, ap answer.Count (sym is)); is_fault_else = λ has. cc }
+
 pub returns-in-FreeFrames : goal.returns-in-FreeFrames
-returns-in-FreeFrames g c = rw c.in-FreeFrames.is (λ at w records tidy shows none. c.free_frames.ensures at w records tidy shows)
+returns-in-FreeFrames g c =
+    rw c.in-FreeFrames.is (λ at w records tidy shows none. one_count _ _
+    (c.from.ensures ∙ c.free_count.ensures ∙ same_count w c.args.state.now shows))
+
+pub returns-in-Held : goal.returns-in-Held
+returns-in-Held g c =
+    rw c.in-Held.is (λ at w records tidy shows none. one_count _ _
+    (c.held.ensures ∙ ap (λ (v : View). v.held_by c.in-Held.user) (same_view w c.args.state.now shows)))

@@ -14,3 +14,13 @@ returns-in-None g c = λ at w records tidy shows.
     let none = sym c.in-None.is ∙ c.refusal.ensures in
     let unrefused = sym (none ∙ same_query_refusal w c.args.state.now shows query) in
     subst (λ lawful. IsLooked lawful c.answer.result) (sym (answered_read w records c.args.state.now shows query none)) (c.answer.ensures at w records tidy shows unrefused)
+
+pub answer-requires : goal.answer-requires
+answer-requires g c =
+    let known = c.requires in
+    let query = c.args.query.now in
+    record {
+      known = known;
+      none = sym (same_query_refusal known.world c.args.state.now known.shows query)
+          ∙ sym c.refusal.ensures ∙ c.in-None.is;
+    }

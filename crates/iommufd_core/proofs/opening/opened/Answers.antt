@@ -1,6 +1,8 @@
-use Rattle.std.proofs.Common.{ℕ, ◌*◌, refl, sym}
-use Rattle.std.proofs.lemmas.List.{length-replicate}
-use Rattle.iommufd_core.proofs.Opened.{all_open, all_zero}
+use Rattle.std.proofs.Common.{◌≡◌, ◌≤◌, Bool, true, false, None, refl, sym, ◌∙◌, arith}
+use Rattle.std.proofs.lemmas.Bool.Decides.{nat_tests}
+use Rattle.iofd_words.specs.Limits.{first_outside}
+use Rattle.iofd_words.specs.Settings.{Settings, is_between}
+use Rattle.iommufd_core.proofs.Opened.{all_open, frames_opened, pins_opened}
 use Rattle.iommufd_core.proofs.opening.opened.Goals as goal
 
 pub returns-clause-shows : goal.returns-clause-shows
@@ -17,18 +19,26 @@ returns-clause-shows g c =
         bindings = λ device. rw c.new-2.ensures.items refl;
         attached = sym c.new-3.ensures.items;
       };
-      memory = record {
-        objects = sym c.new-4.ensures.items;
-        pages = sym c.new-5.ensures.items;
-        pinned = record {
-          frames = λ page. rw c.new-6.ensures.items refl;
-          reached = λ frame. rw c.new-6.ensures.items refl;
-          once = rw c.new-6.ensures.items refl;
-        };
-      };
-      frames = record {
-        size = rw (c.in_ok-zeroes.ensures, c.pool-pool.ensures.value) (length-replicate {A = ℕ} (c.args.config.now.pool * 4096) 0);
-        written = λ frame offset within below. rw (c.in_ok-zeroes.ensures, c.pool-pool.ensures.value) (all_zero c.args.config.now.pool frame offset within below);
-        no_tables = refl;
-      };
+      limits = c.in_ok-new-2.ensures.limits ∙ c.users.ensures;
+      users = rw c.in_ok-new-2.ensures.pages (record { pages = λ user page. refl; counts = λ test. refl });
+      pins = pins_opened c.in_ok-new-2.field-0 c.in_ok-new-2.ensures.objects;
+      frames = rw (c.in_ok-new-3.ensures, c.pool-pool.ensures.value)
+          (frames_opened c.args.config.now.pool c.in_ok-new-2.field-0 c.in_ok-new-2.ensures.pages
+          c.in_ok-new-2.ensures.objects);
     }
+
+-- the pool of a configuration within its limits
+pool_between : (s : Settings) → first_outside s ≡ None → (1 ≤ s.pool) × (s.pool ≤ 4096)
+pool_between s within = by_test (is_between 1 4096 s.pool) refl within
+  where
+    by_test : (b : Bool) → is_between 1 4096 s.pool ≡ b → first_outside s ≡ None → (1 ≤ s.pool) × (s.pool ≤ 4096)
+    by_test true is within = (search (is, arith, nat_tests), search (is, arith, nat_tests))
+    by_test false is within = let first = rw is at within in cc
+
+pub new-requires-5-clause-some : goal.new-requires-5-clause-some
+new-requires-5-clause-some g c = rw c.pool-pool.ensures.value
+    (pool_between c.args.config.now c.pool-pool.ensures.within).0
+
+pub new-requires-5-clause-few : goal.new-requires-5-clause-few
+new-requires-5-clause-few g c = rw c.pool-pool.ensures.value
+    (pool_between c.args.config.now c.pool-pool.ensures.within).1

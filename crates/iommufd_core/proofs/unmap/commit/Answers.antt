@@ -3,11 +3,11 @@ use Rattle.std.proofs.lemmas.Result.{OkIff-at_ok}
 use Rattle.iofd_words.specs.After.{changed}
 use Rattle.iofd_words.specs.Answers.{Answers}
 use Rattle.iofd_rows.proofs.Bools.{not_false}
-use Rattle.iofd_runs.proofs.KeepsOwnMemory.{keeps_own_pins, OwnPins}
+use Rattle.iofd_runs.proofs.KeepsPins.{keeps_pins}
 use Rattle.iofd_words.specs.declared.event.Event.TheVariants as event
 use Rattle.iofd_words.specs.declared.reply.Reply.TheVariants as reply
 use Rattle.iommufd_core.proofs.NeverRefused.{never_strange}
-use Rattle.iommufd_core.proofs.Unmapped.{attached_is, bytes_fit, bytes_shown, converted, names_span, shows_pending, shows_removed, waits_shown}
+use Rattle.iommufd_core.proofs.Unmapped.{attached_is, bytes_fit, bytes_shown, converted, may_remove, names_span, shows_pending, shows_removed, waits_shown}
 use Rattle.iommufd_core.proofs.unmap.commit.Goals as goal
 
 pub returns-in_default : goal.returns-in_default
@@ -30,17 +30,20 @@ returns-in_default-try_from g c = λ at w tidy shows none.
     let fit = bytes_fit at w c.args.state.now c.args.file c.args.request c.in-Some.span tidy shows c.some_waits.ensures.kept in
     absurd (converted c.try_from.result c.bytes_within.result c.try_from.ensures (rw c.bytes_within.ensures fit) c.in_default-try_from.not-Ok)
 
+pub remove_within-requires : goal.remove_within-requires
+remove_within-requires g c =
+    let known = c.requires.granted in
+    may_remove c.requires.at known.world c.args.state.now c.args.file c.args.request known.tidy known.shows known.none c.some_waits.ensures.kept c.in-Some.span c.has_hwpt-translated.result c.in-Some.ensures.value c.has_hwpt-translated.ensures
+
 pub returns : goal.returns
 unfolding changed Answers
 returns g c = λ at w tidy shows none.
-    let own : OwnPins at w = record { pins = tidy.pins; own = tidy.own } in
     let devices = attached_is at w c.args.state.now c.args.file c.args.request tidy shows c.in-Some-attached_to.attached c.deref.result.now c.deref.ensures.value c.in-Some-attached_to.ensures.some in
     let waits = waits_shown at w c.args.state.now c.args.file c.args.request tidy shows c.in-Some.span c.in-Some-attached_to.attached c.in-Some.ensures.value devices in
     let answers : Answers w (event.Unmap c.args.file c.args.request) (reply.Bytes c.in-Ok.bytes) = (not_false _ (waits ∙ sym c.some_waits.ensures.value ∙ c.if-some_waits.false), (OkIff-at_ok _ _ _ _ c.try_from.ensures c.in-Ok.is).1 ∙ c.bytes_within.ensures ∙ sym (bytes_shown at w c.args.state.now c.args.file c.args.request tidy shows none c.some_waits.ensures.kept c.in-Some.span c.in-Some.ensures.value)) in (
       answers,
-      shows_removed at w c.args.state.now c.args.file c.args.request tidy shows none c.some_waits.ensures.kept c.in-Some.span c.remove.new.table c.drop_memory.new.memory c.drop_pins.new.pins c.in-Some.ensures.value
-          (keeps_own_pins at w (event.Unmap c.args.file c.args.request) (reply.Bytes c.in-Ok.bytes) none answers own)
+      shows_removed at w c.args.state.now c.args.file c.args.request tidy shows none c.some_waits.ensures.kept c.in-Some.span c.has_hwpt-translated.result c.in-Some.ensures.value c.has_hwpt-translated.ensures c.remove.new.table c.remove_within.new.memory c.remove_within.new.pool
+          (keeps_pins at w (event.Unmap c.args.file c.args.request) (reply.Bytes c.in-Ok.bytes) none answers tidy.pins)
           c.remove.ensures
-          c.drop_memory.ensures
-          c.drop_pins.ensures,
+          c.remove_within.ensures,
     )

@@ -1,11 +1,12 @@
 use Rattle.std.proofs.Common.{◌≡◌, length, inr, refl, ◌∙◌, ap, subst, sym}
 use Rattle.iofd_words.specs.Run.{world_of}
 use Rattle.iommufd_core.proofs.Applied.{may_use, unchanged_config, unchanged_kept, applied_config, applied_kept, applied_chosen}
+use Rattle.iommufd_core.proofs.Histories.{tidy_run}
 use Rattle.iommufd_core.specs.Choice.{MayUse}
 use Rattle.iommufd_core.specs.History.{HasOneMore, recorded}
 use Rattle.iommufd_core.specs.Server.{Server}
 use Rattle.iommufd_core.proofs.ViewShown.{same_refusal}
-use Rattle.iommufd_core.specs.Step.{Answered, TidyShowsSame}
+use Rattle.iommufd_core.specs.Step.{Answered, IsCalled, TidyShowsSame}
 use Rattle.iommufd_core.proofs.apply.Core.apply.Goals as goal
 
 pub invariant_of-self-in_default : goal.invariant_of-self-in_default
@@ -74,3 +75,20 @@ returns-in_default-clause-memory g c =
     let records = c.self.inside.records.items in
     let wants = c.in_default.ensures.memory in
     rw (← c.self.view_is) (inr (sym (same_refusal (world_of old.config records) old c.self.invariant.shows c.args.act.now.event) ∙ wants.0, wants.1))
+
+pub answer-requires : goal.answer-requires
+answer-requires g c =
+    let state = c.self.inside.state in
+    let records = c.self.inside.records.items in
+    let act = c.args.act.now in
+    let at : c.len-at.result ≡ length records = c.len-at.ensures ∙ c.self.inside.records.ok.0 in
+    let may : MayUse (world_of state.config records) act.event act.via =
+    may_use (record { settings = state.config; records = records }) act.event act.via
+    (rw (← c.self.view_is) at c.requires) in
+    let called : IsCalled (length records) act.event act.via state = record {
+      world = world_of state.config records;
+      tidy = tidy_run state.config records c.self.invariant.run;
+      shows = c.self.invariant.shows;
+      may = λ none. may;
+    } in
+    subst (λ n. IsCalled n act.event act.via state) (sym at) called

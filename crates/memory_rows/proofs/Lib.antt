@@ -1,0 +1,6 @@
+pub mod AreasGoing
+pub mod Counts
+pub mod FramesFollow
+pub mod Gone
+pub mod PinsFollow
+pub mod Released

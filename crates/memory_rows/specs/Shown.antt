@@ -1,0 +1,50 @@
+-- When the users' memory and a pool show the rows of a world: users' pages, memory objects with their areas, pins, and
+-- the bytes of frames.
+use Rattle.std.specs.Prelude.{◌≡◌, ◌==◌, ◌&&◌, ◌<◌, ℕ, Bool, nat_lt, List, [], length, slice_index}
+use Rattle.std.specs.List.{count_by, list_any}
+use Rattle.frame_memory.specs.Pool.{FramePool, bytes_of}
+use Rattle.iofd_words.specs.Frames.{FrameWrite, byte_at, frame_at}
+use Rattle.iofd_words.specs.Objects.{has_hwpt}
+use Rattle.iofd_words.specs.Pins.{ObjectPage, pinned_frame}
+use Rattle.iofd_words.specs.declared.numbers.UserNo.{UserNo}
+use Rattle.iofd_words.specs.declared.rows.Area.{Area}
+use Rattle.iofd_words.specs.declared.rows.MemoryObject.{MemoryObject}
+use Rattle.iofd_words.specs.declared.rows.Object.{Object}
+use Rattle.iofd_words.specs.declared.rows.Pin.{Pin}
+use Rattle.iofd_words.specs.declared.rows.TableFrame.{TableFrame}
+use Rattle.iofd_words.specs.declared.rows.UserPage.{UserPage}
+use Rattle.pinned_pages.specs.Invariant.{MemoryInvariant}
+use Rattle.pinned_pages.specs.Objects.{pins_on}
+use Rattle.user_memory.specs.Memory as memory
+use Rattle.user_memory.specs.Memory.{Memory, areas_over, reached, rows_of, table_pins}
+
+-- how many of the areas are over the memory object of this number, and how many of these a page table translates
+abbrev pub over : List Area → ℕ → ℕ
+over areas number = count_by (λ area. area.memory == number) areas
+
+abbrev pub translated : List Object → List Area → ℕ → ℕ
+translated objects areas number = count_by (λ area. area.memory == number && has_hwpt objects area.file area.ioas) areas
+
+-- which page is which frame; the same rows, in whatever order
+pub record UsersShown (user_pages kept : List UserPage) : Type 0 where
+  pub pages : (user : UserNo) (page : ℕ) → frame_at user_pages user page ≡ frame_at kept user page
+  pub counts : (test : UserPage → Bool) → count_by test user_pages ≡ count_by test kept
+
+-- the memory objects, how many areas and how many translated areas lie over each, and at which frame a page is pinned
+pub record PinsShown (objects : List Object) (all_areas : List Area) (memory_objects : List MemoryObject) (pins : List Pin) (kept : Memory) : Type 0 where
+  pub rows : memory_objects ≡ rows_of kept
+  pub areas : (number : ℕ) → areas_over kept number ≡ over all_areas number
+  pub tables : (number : ℕ) → table_pins kept number ≡ translated objects all_areas number
+  pub frames : (page : ObjectPage) → pinned_frame pins page ≡ memory.pinned_frame kept page
+  pub names : (frame : ℕ) → list_any (λ pin. pin.frame.0 == frame) pins ≡ nat_lt 0 (pins_on kept.objects frame)
+  pub invariant : MemoryInvariant kept.objects
+
+-- each frame has a hold for each page and each pin that names it, and each byte is what was written there last. No frame
+-- holds a table.
+pub record FramesShown (pool : ℕ) (writes : List FrameWrite) (tables : List TableFrame) (kept : Memory) (frames : FramePool) : Type 0 where
+  pub size : length frames.holds ≡ pool
+  pub count : length frames.bytes ≡ pool
+  pub full : (frame : ℕ) → frame < pool → length (bytes_of frames frame) ≡ 4096
+  pub holds : (frame : ℕ) → slice_index frames.holds frame ≡ reached kept frame
+  pub written : (frame offset : ℕ) → frame < pool → offset < 4096 → slice_index (bytes_of frames frame) offset ≡ byte_at writes frame offset
+  pub no_tables : tables ≡ []

@@ -1,0 +1,13 @@
+pub mod Added
+pub mod Counts
+pub mod Follow
+pub mod Found
+pub mod Kept
+pub mod Moves
+pub mod NewPages
+pub mod Opened
+pub mod Pinned
+pub mod PinsNamed
+pub mod Removed
+pub mod Settled
+pub mod Users

@@ -1,0 +1,4 @@
+pub mod Adding
+pub mod Changes
+pub mod Invariant
+pub mod Memory
