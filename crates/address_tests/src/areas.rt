@@ -49,7 +49,7 @@ enum Answer {
 
 const OVERLAP: Answer = Answer::Refused(Cause::Overlap);
 
-fn added<A: Allocator>(areas: &mut Areas<A>, span: Span, memory: u64) -> Answer {
+fn added<A: Allocator + Copy>(areas: &mut Areas<A>, span: Span, memory: u64) -> Answer {
     let area = Area {
         file: FileNo(1),
         ioas: ObjId(1),
@@ -240,7 +240,26 @@ const TAKEN: &[Row] = &[
     (0x5000, 0x5000, Call::At, Answer::Gives(13)),
 ];
 
-static TABLES: [(&str, &[Row]); 7] = [
+// At the two ends of all addresses.
+const ENDS: &[Row] = &[
+    (0, 0xfff, Call::Add(10), Answer::Done),
+    (0, 0, Call::At, Answer::Gives(10)),
+    (0, 0xfff, Call::Exact, Answer::Gives(10)),
+    (0, 0x2fff, Call::Look, Answer::Looks(true, false, true)),
+    (TOP, TOP, Call::At, Answer::Gives(14)),
+    (TOP - 0xfff, TOP, Call::Exact, Answer::Gives(14)),
+    (0, TOP, Call::Amount, Answer::Counts(5, 0x7000)),
+    (0, TOP, Call::Leave(&[7]), Answer::Done),
+    (0, 0xfff, Call::Owes, Answer::Is(true)),
+    (TOP - 0xfff, TOP, Call::Owes, Answer::Is(true)),
+    (0, 0xfff, Call::Take(&[10]), Answer::Done),
+    (0, 0, Call::Pay(7), Answer::Done),
+    (0, TOP, Call::Owes, Answer::Is(false)),
+    (0, TOP, Call::Take(&[11, 12, 13, 14]), Answer::Done),
+    (0, TOP, Call::Have(&[]), Answer::Is(true)),
+];
+
+static TABLES: [(&str, &[Row]); 8] = [
     ("areas are found by address", BY_ADDRESS),
     ("areas are found by their span, and counted", BY_SPAN),
     ("spans meet, cut and are covered", MET),
@@ -248,6 +267,7 @@ static TABLES: [(&str, &[Row]); 7] = [
     ("leaving areas owe until all have paid", OWED),
     ("leaving areas count their tries", TRIED),
     ("areas are taken away", TAKEN),
+    ("areas lie at the ends of all addresses", ENDS),
 ];
 
 #[test]
@@ -357,7 +377,7 @@ fn is_added_later(areas: &mut Areas<&LocalHeap>, number: u16) -> bool {
 
 // Whether memory is refused beside a block of this size, and then nothing has changed.
 fn keeps_its_areas(alloc: Global, size: usize) -> Result<bool, AllocError> {
-    let heap = LocalHeap::new(alloc, 1 << 13)?;
+    let heap = LocalHeap::new(alloc, 1 << 15)?;
     let mut areas: Areas<&LocalHeap> = Areas::new(&heap);
     match page_refused(&mut areas, &heap, size) {
         Some(number) => Ok(is_added_later(&mut areas, number)),
@@ -365,11 +385,11 @@ fn keeps_its_areas(alloc: Global, size: usize) -> Result<bool, AllocError> {
     }
 }
 
-// Beside these blocks the heap refuses the map its first, second, third and fourth growth.
+// Beside larger and larger blocks the heap refuses the map each of its growths in turn.
 #[test]
 fn a_refused_growth_changes_nothing(rt: HostRuntime) -> Result<(), Fail> {
-    for size in [8100, 7500, 6000, 4000] {
-        assert!(rt; keeps_its_areas(rt.alloc(), size)?);
+    for part in 0..127usize {
+        assert!(rt; keeps_its_areas(rt.alloc(), 5_000 + 216 * (part % 127))?);
     }
     Ok(())
 }

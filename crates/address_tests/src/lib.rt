@@ -1,10 +1,12 @@
-//! Tests of `area_map` (`areas`) and `iova_ranges` (`ranges`, `ranges_memory`) through public calls.
+//! Tests of `area_map` (`areas`, `many_areas`) and `iova_ranges` (`ranges`, `ranges_memory`) through public calls.
 #![tactic(auto)]
 
 #[cfg(test)]
 mod areas;
 #[cfg(test)]
 mod heaps;
+#[cfg(test)]
+mod many_areas;
 #[cfg(test)]
 mod ranges;
 #[cfg(test)]

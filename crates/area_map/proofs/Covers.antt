@@ -79,7 +79,7 @@ pub covers : (span : Bounds) (xs : List Area) → AreApart xs → span.first ≤
 covers span xs apart ordered = covers_after 0 span xs apart ordered
 
 -- all that begin from an address on reach it
-reaching_all : (address low : ℕ) (xs : List Area) → AreApartFrom low xs → address ≤ low → filter (λ (a : Area). leb address a.span.last) xs ≡ xs
+pub reaching_all : (address low : ℕ) (xs : List Area) → AreApartFrom low xs → address ≤ low → filter (λ (a : Area). leb address a.span.last) xs ≡ xs
 reaching_all address low [] apart from = refl
 reaching_all address low (x ∷ xs) apart from =
     let from_low = apart.0 in
@@ -88,7 +88,7 @@ reaching_all address low (x ∷ xs) apart from =
     let rest = reaching_all address (x.span.last + 1) xs apart.2 (omega (arith, apart.0, apart.1)) in
     rw reached (ap (λ ys. x ∷ ys) rest)
 
-reaching_from : (address low : ℕ) (xs : List Area) → AreApartFrom low xs → drop (prefix_len (λ (a : Area). ltb a.span.last address) xs) xs ≡ filter (λ (a : Area). leb address a.span.last) xs
+pub reaching_from : (address low : ℕ) (xs : List Area) → AreApartFrom low xs → drop (prefix_len (λ (a : Area). ltb a.span.last address) xs) xs ≡ filter (λ (a : Area). leb address a.span.last) xs
 reaching_from address low [] apart = refl
 reaching_from address low (x ∷ xs) apart =
     ⊎_elim

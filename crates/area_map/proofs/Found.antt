@@ -13,7 +13,7 @@ use Rattle.area_map.specs.Areas.{AreApartFrom, AreApart, area_of, is_same, begin
 use Rattle.iofd_words.specs.Areas.{area_at, areas_meet, is_cut}
 
 -- the place that a binary search finds
-pub prefix_len-from_within : (p : Area → Bool) (xs : List Area) (i : ℕ) → i ≤ length xs → AllWithin (λ y. p y ≡ true) xs 0 i → AllWithin (λ y. p y ≡ false) xs i (length xs) → i ≡ prefix_len p xs
+pub prefix_len-from_within : {X : Type 0} (p : X → Bool) (xs : List X) (i : ℕ) → i ≤ length xs → AllWithin (λ y. p y ≡ true) xs 0 i → AllWithin (λ y. p y ≡ false) xs i (length xs) → i ≡ prefix_len p xs
 prefix_len-from_within p [] i within passing failing = omega arith
 prefix_len-from_within p (x ∷ xs) zero within passing failing =
     let here : p x ≡ false = failing 0 x (omega arith) (omega arith) in

@@ -17,7 +17,7 @@ apart-map f same low (x ∷ xs) apart = rw (same x) (apart.0, apart.1, apart-map
 pub kept-map : (f : Area → Area) → ((a : Area) → (f a).span ≡ a.span) → (xs : List Area) → AreKept xs → AreKept (map f xs)
 kept-map f same xs kept = record { apart = apart-map f same 0 xs kept.apart; few = rw (length-map xs f) kept.few }
 
-apart-lower : (low below : ℕ) (xs : List Area) → below ≤ low → AreApartFrom low xs → AreApartFrom below xs
+pub apart-lower : (low below : ℕ) (xs : List Area) → below ≤ low → AreApartFrom low xs → AreApartFrom below xs
 apart-lower low below [] less apart = apart
 apart-lower low below (x ∷ xs) less apart = (omega (arith, apart.0), apart.1, apart.2)
 

@@ -4,3 +4,11 @@ pub mod Added
 pub mod Covers
 pub mod Within
 pub mod Kept
+pub mod Rows
+pub mod RowsFound
+pub mod RowsAdded
+pub mod RowsWithin
+pub mod RowsChanged
+pub mod RowsRemoved
+pub mod Hull
+pub mod RowsKept

@@ -10,7 +10,7 @@ use Rattle.area_map.specs.Areas.{AreApartFrom, AreApart, areas_within}
 use Rattle.area_map.proofs.Covers.{drop_behind}
 
 -- what fails from an address on is not kept of what begins there
-filter_from : (p : Area → Bool) (low : ℕ) (xs : List Area) → AreApartFrom low xs → ((b : Area) → low ≤ b.span.first → b.span.first ≤ b.span.last → p b ≡ false) → filter p xs ≡ []
+pub filter_from : (p : Area → Bool) (low : ℕ) (xs : List Area) → AreApartFrom low xs → ((b : Area) → low ≤ b.span.first → b.span.first ≤ b.span.last → p b ≡ false) → filter p xs ≡ []
 filter_from p low [] apart fails = refl
 filter_from p low (x ∷ xs) apart fails =
     let here = fails x apart.0 apart.1 in

@@ -1,3 +1,4 @@
 pub mod Areas
 pub mod AreaTable
 pub mod Insertion
+pub mod Rows

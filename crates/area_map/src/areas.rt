@@ -1,6 +1,6 @@
 //! The map of areas.
 
-ghost use Rattle.std.specs.Prelude.{◌≡◌, ◌==◌, ◌↔◌, ◌+◌, ◌<◌, ◌≤◌, [], length, map, is_ok, IsOk, IfOk, IfErr, IfSome, IfNone, OnOk, OnErr, IsOkUnless, vec_len, vec_capacity};
+ghost use Rattle.std.specs.Prelude.{◌≡◌, ◌==◌, ◌↔◌, ◌+◌, ◌<◌, ◌≤◌, [], find, length, map, nat_le, is_ok, IsOk, IfOk, IfErr, IfSome, IfNone, OnOk, OnErr, IsOkUnless};
 ghost use Rattle.std.specs.List.{list_any};
 ghost use Rattle.std.specs.Option.{option_copied};
 ghost use Rattle.area_map.specs.Areas.{AreKept, with_area, area_of, is_covered, IsCovered, HasGap, marked, without_debt, areas_owe, areas_within, areas_outside, bytes_of, most_tries, tried};
@@ -10,7 +10,8 @@ ghost use Rattle.area_map.specs.Insertion.{insert_refusal};
 use crate::insert_error::InsertError;
 use crate::insertion::MOST_AREAS;
 use crate::iter::Iter;
-use crate::{insertion, lookups, marking, removal, totals};
+use crate::row::Row;
+use crate::{changes, insertion, leaving, lookups, removal, totals};
 use iofd_words::{Area, Cause, DeviceNo, DeviceSet, NoMemory, Refusal, Span};
 use std::alloc::{Allocator, Global};
 use std::marker::Model;
@@ -20,20 +21,27 @@ use std::marker::Model;
 /// contract sees their list by rising start, and for how many more there is memory.
 #[derive(Debug, Drop)]
 pub struct Areas<A: Allocator = Global> {
-    sorted: Vec<Area, A>,
+    // By rising start. Each has areas, and memory for one more than it has.
+    rows: Vec<Row<A>, A>,
+    // A row without areas, for which there is a place among the rows.
+    spare: Option<Row<A>>,
+    // How many areas there are.
+    count: usize,
+    // Each leaving area lies in this span; without a span none is leaving.
+    leaving: Option<Span>,
 }
 
 impl<A: Allocator> Model for Areas<A> {
-    ghost use Rattle.std.specs.Prelude.{◌-◌};
     ghost use Rattle.std.specs.Vec.{vec_len, vec_capacity};
     ghost use Rattle.area_map.specs.AreaTable.{AreaTable};
-    ghost use Rattle.area_map.specs.Areas.{AreKept};
+    ghost use Rattle.area_map.specs.Rows.{in_rows, room_of, AreInRows, IsSpare};
 
     ghost Value = { AreaTable };
 
-    ghost view = { λ map. record { areas = map.sorted.items; room = vec_capacity map.sorted - vec_len map.sorted } };
+    ghost view = { λ map. record { areas = in_rows map.rows.items; room = room_of map.spare } };
 
-    ghost invariant = { λ map. AreKept map.sorted.items };
+    ghost invariant = { λ map. AreInRows map.rows.items map.count map.leaving
+        × IsSpare map.spare (vec_len map.rows) (vec_capacity map.rows) };
 }
 
 impl<A: Allocator> Areas<A> {
@@ -42,7 +50,10 @@ impl<A: Allocator> Areas<A> {
         ensures { result.areas ≡ [] }
     {
         Areas {
-            sorted: Vec::new(alloc),
+            rows: Vec::new(alloc),
+            spare: None,
+            count: 0,
+            leaving: None,
         }
     }
 
@@ -51,49 +62,57 @@ impl<A: Allocator> Areas<A> {
         ensures value { result ≡ length self.now.areas }
         ensures kept { AreKept self.now.areas }
     {
-        self.sorted.len()
+        self.count
     }
 
     /// Whether there are none.
     pub fn is_empty(&self) -> bool
         ensures { result ≡ (length self.now.areas == 0) }
     {
-        self.sorted.is_empty()
+        self.count == 0
     }
 
     /// Whether there are as many areas as may be.
     pub fn is_full(&self) -> bool
         ensures { result ≡ has_no_room self.now.areas }
     {
-        self.sorted.len() >= MOST_AREAS
+        self.count >= MOST_AREAS
     }
 
     /// The area that holds the address, of any phase. It takes no memory.
     pub fn at(&self, iova: u64) -> Option<&Area>
         ensures { option_copied result ≡ area_at iova self.now.areas }
     {
-        lookups::at(&self.sorted, iova)
+        lookups::at(&self.rows, iova)
     }
 
     /// The area of exactly this span, of any phase. It takes no memory.
     pub fn exact(&self, span: Span) -> Option<&Area>
         ensures { option_copied result ≡ area_of span self.now.areas }
     {
-        lookups::exact(&self.sorted, span)
+        lookups::exact(&self.rows, span)
+    }
+
+    /// The first area, of any phase, that ends at the address or above it. It takes no memory.
+    pub fn first_reaching(&self, address: u64) -> Option<&Area>
+        ensures area { option_copied result ≡ find (λ area. nat_le address area.span.last) self.now.areas }
+        ensures kept { AreKept self.now.areas }
+    {
+        lookups::first_reaching(&self.rows, address)
     }
 
     /// Whether some area, of any phase, meets the span. It takes no memory.
     pub fn meets(&self, span: Span) -> bool
         ensures { result ≡ areas_meet span self.now.areas }
     {
-        lookups::meets(&self.sorted, span)
+        lookups::meets(&self.rows, span)
     }
 
     /// Whether some area, of any phase, meets the span and isn't wholly in it. It takes no memory.
     pub fn cuts(&self, span: Span) -> bool
         ensures { result ≡ is_cut span self.now.areas }
     {
-        lookups::cuts(&self.sorted, span)
+        lookups::cuts(&self.rows, span)
     }
 
     /// The areas, by rising start.
@@ -101,14 +120,14 @@ impl<A: Allocator> Areas<A> {
         ensures areas { result ≡ self.now.areas }
         ensures kept { AreKept self.now.areas }
     {
-        Iter::new(&self.sorted, &self.sorted)
+        Iter::new(&[], &self.rows, None)
     }
 
     /// The areas that lie in the span, by rising start.
     pub fn within(&self, span: Span) -> Iter<'_, A>
         ensures { result ≡ areas_within span self.now.areas }
     {
-        Iter::new(lookups::within(&self.sorted, span), &self.sorted)
+        lookups::within(&self.rows, span)
     }
 
     /// Adds an area, before the first that begins after it.
@@ -117,6 +136,8 @@ impl<A: Allocator> Areas<A> {
     /// Full (23, ENOSPC) where there are as many areas as may be. An error leaves the map as it was, and
     /// want of memory comes only where there was no room.
     pub fn insert(&mut self, area: Area) -> Result<(), InsertError>
+    where
+        A: Copy,
         ensures refused { IfSome (insert_refusal area.span self.old.areas)
             (λ cause. result ≡ Err (InsertError.Refused (record { cause = cause }))) }
         ensures taken { IfNone (insert_refusal area.span self.old.areas)
@@ -128,22 +149,35 @@ impl<A: Allocator> Areas<A> {
         ensures room { self.old.room ≤ self.new.room + 1 }
         ensures err_room { OnErr result (self.old.room ≤ self.new.room) }
     {
-        insertion::insert(&mut self.sorted, area)
+        let span = area.span;
+        if lookups::meets(&self.rows, span) {
+            return Err(refused(Cause::Overlap));
+        }
+        if self.count >= MOST_AREAS {
+            return Err(refused(Cause::Full));
+        }
+        let index = insertion::row_for(&self.rows, span.first());
+        if insertion::prepare(&mut self.rows, &mut self.spare, index).is_err() {
+            return Err(InsertError::Memory(NoMemory));
+        }
+        self.leaving = leaving::with_area(self.leaving, &area);
+        self.count += 1;
+        insertion::add(&mut self.rows, &mut self.spare, index, area);
+        Ok(())
     }
 
     /// Takes memory for one more area, if there is no room. The areas stay. After an Ok the next `insert`
     /// doesn't want for memory; an error changes nothing.
     pub fn reserve(&mut self) -> Result<(), NoMemory>
+    where
+        A: Copy,
         ensures areas { self.new.areas ≡ self.old.areas }
         ensures ok { OnOk result (0 < self.new.room) }
         ensures full { OnErr result (self.old.room ≡ 0) }
         ensures room { self.old.room ≤ self.new.room }
         ensures unchanged { OnErr result (self.new ≡ self.old) }
     {
-        match self.sorted.reserve(1) {
-            Ok(()) => Ok(()),
-            Err(_) => Err(NoMemory),
-        }
+        insertion::reserve(&mut self.rows, &mut self.spare)
     }
 
     /// Whether each address of the span lies in some area, of any phase. Where one doesn't, Span (10,
@@ -154,7 +188,7 @@ impl<A: Allocator> Areas<A> {
         ensures gap { IfErr result
             (λ refusal. (refusal ≡ record { cause = Cause.Span }) × HasGap span self.now.areas) }
     {
-        if lookups::covers(&self.sorted, span) {
+        if lookups::covers(&self.rows, span) {
             Ok(())
         } else {
             Err(Refusal { cause: Cause::Span })
@@ -166,7 +200,7 @@ impl<A: Allocator> Areas<A> {
         ensures ok { IfOk result (λ spans. spans.items ≡ map (λ area. area.span) self.now.areas) }
         ensures memory { OnErr result (0 < length self.now.areas) }
     {
-        totals::spans(alloc, &self.sorted)
+        totals::spans(alloc, self.iter(), self.count)
     }
 
     /// Makes each live area that lies in the span leaving: it owes a flush to each of these devices, and no
@@ -176,14 +210,15 @@ impl<A: Allocator> Areas<A> {
         ensures areas { self.new.areas ≡ map (marked span owed.now) self.old.areas }
         ensures room { self.new.room ≡ self.old.room }
     {
-        marking::mark_leaving(&mut self.sorted, span, owed);
+        changes::mark_leaving(&mut self.rows, span, owed);
+        self.leaving = leaving::joined(self.leaving, span);
     }
 
     /// Whether some leaving area that lies in the span still owes a flush. It takes no memory.
     pub fn owes(&self, span: Span) -> bool
         ensures { result ≡ areas_owe span self.now.areas }
     {
-        totals::owe(lookups::within(&self.sorted, span))
+        totals::owe(self.within(span))
     }
 
     /// Takes the device out of the debt of each leaving area. Nothing else changes. It takes no memory.
@@ -191,7 +226,9 @@ impl<A: Allocator> Areas<A> {
         ensures areas { self.new.areas ≡ map (without_debt device) self.old.areas }
         ensures room { self.new.room ≡ self.old.room }
     {
-        marking::pay(&mut self.sorted, device);
+        if let Some(hull) = self.leaving {
+            changes::pay(&mut self.rows, hull, device);
+        }
     }
 
     /// The greatest number of further calls that a leaving area in the span has seen; 0 where none is
@@ -199,7 +236,7 @@ impl<A: Allocator> Areas<A> {
     pub fn most_tries(&self, span: Span) -> u8
         ensures { result ≡ most_tries (areas_within span self.now.areas) }
     {
-        totals::most_tries(lookups::within(&self.sorted, span))
+        totals::most_tries(self.within(span))
     }
 
     /// Gives each leaving area that lies in the span this number of further calls. Nothing else changes. It
@@ -208,28 +245,28 @@ impl<A: Allocator> Areas<A> {
         ensures areas { self.new.areas ≡ map (tried span tries) self.old.areas }
         ensures room { self.new.room ≡ self.old.room }
     {
-        marking::set_tries(&mut self.sorted, span, tries);
+        changes::set_tries(&mut self.rows, span, tries);
     }
 
     /// How many areas lie in the span. It takes no memory.
     pub fn count_within(&self, span: Span) -> usize
         ensures { result ≡ length (areas_within span self.now.areas) }
     {
-        lookups::within(&self.sorted, span).len()
+        totals::count(lookups::within(&self.rows, span))
     }
 
     /// How many addresses the areas that lie in the span have together; it may be 2^64. It takes no memory.
     pub fn bytes_within(&self, span: Span) -> u128
         ensures { result ≡ bytes_of (areas_within span self.now.areas) }
     {
-        totals::bytes_of(lookups::within(&self.sorted, span))
+        totals::bytes_of(lookups::within(&self.rows, span))
     }
 
     /// Whether an area that lies in the span is over the memory object of this number. It takes no memory.
     pub fn has_memory_within(&self, span: Span, memory: u64) -> bool
         ensures { result ≡ list_any (λ area. area.memory == memory) (areas_within span self.now.areas) }
     {
-        totals::have_memory(lookups::within(&self.sorted, span), memory)
+        totals::have_memory(self.within(span), memory)
     }
 
     /// Takes away the areas that lie in the span. The other areas stay. It takes no memory.
@@ -237,6 +274,14 @@ impl<A: Allocator> Areas<A> {
         ensures areas { self.new.areas ≡ areas_outside span self.old.areas }
         ensures room { self.old.room ≤ self.new.room }
     {
-        removal::remove(&mut self.sorted, span);
+        self.count -= removal::remove(&mut self.rows, span);
+        self.leaving = leaving::without(self.leaving, span, &self.rows);
     }
+}
+
+// The refusal for this cause.
+fn refused(cause: Cause) -> InsertError
+    ensures { result ≡ InsertError.Refused (record { cause = cause }) }
+{
+    InsertError::Refused(Refusal { cause })
 }

@@ -1,49 +1,171 @@
 //! Adding an area.
 
-ghost use Rattle.std.specs.Prelude.{◌≡◌, ◌+◌, ◌≤◌, IfSome, IfNone, OnOk, OnErr, IsOkUnless, vec_len, vec_capacity};
-ghost use Rattle.area_map.specs.Areas.{AreKept, with_area};
-ghost use Rattle.area_map.specs.Insertion.{insert_refusal};
+ghost use Rattle.std.specs.Prelude.{◌≡◌, ◌+◌, ◌-◌, ◌<◌, ◌≤◌, [], ◌∷◌, true, false, IsSome, None, OnOk, OnErr, drop, get_or, length, min, nat_le, nat_lt, set, take, vec_len, vec_capacity};
+ghost use Rattle.std.specs.List.{prefix_len};
+ghost use Rattle.area_map.specs.Areas.{AreApart, with_area};
+ghost use Rattle.area_map.specs.Rows.{in_rows, AreRows, IsSpare, end_of, takes_row};
+ghost use Rattle.iofd_words.specs.Areas.{areas_meet};
 
-use crate::insert_error::InsertError;
 use crate::lookups;
-use iofd_words::{Area, Cause, NoMemory, Refusal};
+use crate::row::{ROW, Row};
+use iofd_words::{Area, NoMemory};
 use std::alloc::Allocator;
 
 /// The most areas that an address space may have.
 pub const MOST_AREAS: usize = 65_535;
 
-/// Adds an area, before the first that begins after it.
-pub fn insert<A: Allocator>(areas: &mut Vec<Area, A>, area: Area) -> Result<(), InsertError>
-    requires { AreKept areas.old.items }
-    ensures refused { IfSome (insert_refusal area.span areas.old.items)
-        (λ cause. result ≡ Err (InsertError.Refused (record { cause = cause }))) }
-    ensures taken { IfNone (insert_refusal area.span areas.old.items)
-        (IsOkUnless result (InsertError.Memory (record {}))) }
-    ensures memory { result ≡ Err (InsertError.Memory (record {})) → vec_capacity areas.old ≤ vec_len areas.old }
-    ensures ok { OnOk result (areas.new.items ≡ with_area area areas.old.items) }
-    ensures kept { AreKept areas.new.items }
-    ensures err { OnErr result (areas.new.items ≡ areas.old.items) }
-    ensures capacity { vec_capacity areas.old ≤ vec_capacity areas.new }
-    ensures len { vec_len areas.new ≤ vec_len areas.old + 1 }
-    ensures err_len { OnErr result (vec_len areas.new ≡ vec_len areas.old) }
+/// Takes memory for one more row, if there is no spare one.
+pub fn reserve<A: Allocator + Copy>(
+    rows: &mut Vec<Row<A>, A>,
+    spare: &mut Option<Row<A>>,
+) -> Result<(), NoMemory>
+    requires { IsSpare spare.old (vec_len rows.old) (vec_capacity rows.old) }
+    ensures rows { rows.new.items ≡ rows.old.items }
+    ensures spare { IsSpare spare.new (vec_len rows.new) (vec_capacity rows.new) }
+    ensures ok { OnOk result (IsSome spare.new) }
+    ensures err { OnErr result (spare.old ≡ None) }
+    ensures unchanged { OnErr result (spare.new ≡ None) }
 {
-    let span = area.span;
-    if lookups::meets(areas, span) {
-        return Err(refused(Cause::Overlap));
+    if spare.is_some() {
+        return Ok(());
     }
-    if areas.len() >= MOST_AREAS {
-        return Err(refused(Cause::Full));
-    }
-    let place = lookups::count_below(areas, span.first());
-    match areas.insert(place, area) {
-        Ok(()) => Ok(()),
-        Err(_) => Err(InsertError::Memory(NoMemory)),
+    let alloc = *rows.allocator();
+    rows.reserve(1)?;
+    *spare = Some(Row::new(alloc)?);
+    Ok(())
+}
+
+/// The row to which an area belongs that begins at this address and meets no other: the first that ends behind
+/// it, or else the last.
+pub fn row_for<A: Allocator>(rows: &[Row<A>], address: u64) -> usize
+    requires apart { AreApart (in_rows rows.now) }
+    requires rows { AreRows rows.now }
+    ensures { result ≡ min (prefix_len (λ row. nat_lt (end_of row) address) rows.now) (length rows.now - 1) }
+{
+    lookups::rows_below(rows, address).min(rows.len().saturating_sub(1))
+}
+
+/// Whether one more area in this row takes a row more.
+pub fn takes_row<A: Allocator>(rows: &[Row<A>], index: usize) -> bool
+    ensures { result ≡ takes_row rows.now index }
+{
+    match rows.get(index) {
+        Some(row) => row.len() >= ROW - 1,
+        None => true,
     }
 }
 
-// The refusal for this cause.
-fn refused(cause: Cause) -> InsertError
-    ensures { result ≡ InsertError.Refused (record { cause = cause }) }
+/// Takes memory for one more row, if one more area in this row takes one and there is no spare one.
+pub fn prepare<A: Allocator + Copy>(
+    rows: &mut Vec<Row<A>, A>,
+    spare: &mut Option<Row<A>>,
+    index: usize,
+) -> Result<(), NoMemory>
+    requires { IsSpare spare.old (vec_len rows.old) (vec_capacity rows.old) }
+    ensures rows { rows.new.items ≡ rows.old.items }
+    ensures spare { IsSpare spare.new (vec_len rows.new) (vec_capacity rows.new) }
+    ensures ok { OnOk result (takes_row rows.old.items index ≡ true → IsSome spare.new) }
+    ensures err { OnErr result (spare.old ≡ None) }
+    ensures unchanged { OnErr result (spare.new ≡ None) }
 {
-    InsertError::Refused(Refusal { cause })
+    if takes_row(rows, index) {
+        reserve(rows, spare)
+    } else {
+        Ok(())
+    }
+}
+
+/// Adds the area to this row, to which it belongs. A row that is full then becomes two.
+pub fn add<A: Allocator>(
+    rows: &mut Vec<Row<A>, A>,
+    spare: &mut Option<Row<A>>,
+    index: usize,
+    area: Area,
+)
+    requires apart { AreApart (in_rows rows.old.items) }
+    requires rows { AreRows rows.old.items }
+    requires spare { IsSpare spare.old (vec_len rows.old) (vec_capacity rows.old) }
+    requires room { takes_row rows.old.items index ≡ true → IsSome spare.old }
+    requires place { index ≡ min (prefix_len (λ row. nat_lt (end_of row) area.span.first) rows.old.items)
+        (length rows.old.items - 1) }
+    requires alone { areas_meet area.span (in_rows rows.old.items) ≡ false }
+    ensures areas { in_rows rows.new.items ≡ with_area area (in_rows rows.old.items) }
+    ensures rows { AreRows rows.new.items }
+    ensures spare { IsSpare spare.new (vec_len rows.new) (vec_capacity rows.new) }
+{
+    if rows.is_empty() {
+        return add_first(rows, spare, area);
+    }
+    if add_to(rows, index, area) {
+        split(rows, spare, index);
+    }
+}
+
+// Adds the first area of all in the spare row.
+fn add_first<A: Allocator>(rows: &mut Vec<Row<A>, A>, spare: &mut Option<Row<A>>, area: Area)
+    requires none { rows.old.items ≡ [] }
+    requires spare { IsSpare spare.old (vec_len rows.old) (vec_capacity rows.old) }
+    requires some { IsSome spare.old }
+    ensures rows { rows.new.items ≡ (area ∷ []) ∷ [] }
+    ensures spare { spare.new ≡ None }
+{
+    if let Some(mut row) = spare.take() {
+        row.add(area);
+        rows.push(row).unwrap();
+    }
+}
+
+// Adds the area in this row, and says whether it is full now.
+fn add_to<A: Allocator>(rows: &mut [Row<A>], index: usize, area: Area) -> bool
+    requires bound { index < length rows.old }
+    requires apart { AreApart (get_or rows.old index []) }
+    requires few { length (get_or rows.old index []) < 32 }
+    requires alone { areas_meet area.span (get_or rows.old index []) ≡ false }
+    ensures rows { rows.new ≡ set rows.old index (with_area area (get_or rows.old index [])) }
+    ensures full { result ≡ nat_le 32 (length (get_or rows.old index []) + 1) }
+{
+    let row = &mut rows[index];
+    row.add(area);
+    row.len() >= ROW
+}
+
+// How many areas a full row keeps. The last one keeps all but one, since areas often come by rising start.
+fn split_place(index: usize, count: usize) -> usize
+    requires { index < count }
+    ensures some { 0 < result }
+    ensures few { result < 32 }
+{
+    if index + 1 < count { ROW / 2 } else { ROW - 1 }
+}
+
+// Makes two rows of this one.
+fn split<A: Allocator>(rows: &mut Vec<Row<A>, A>, spare: &mut Option<Row<A>>, index: usize)
+    requires bound { index < length rows.old.items }
+    requires full { length (get_or rows.old.items index []) ≡ 32 }
+    requires before { AreRows (take index rows.old.items) }
+    requires behind { AreRows (drop (index + 1) rows.old.items) }
+    requires spare { IsSpare spare.old (vec_len rows.old) (vec_capacity rows.old) }
+    requires some { IsSome spare.old }
+    ensures areas { in_rows rows.new.items ≡ in_rows rows.old.items }
+    ensures rows { AreRows rows.new.items }
+    ensures spare { spare.new ≡ None }
+{
+    let at = split_place(index, rows.len());
+    if let Some(mut upper) = spare.take() {
+        cut(rows, index, at, &mut upper);
+        rows.insert(index + 1, upper).unwrap();
+    }
+}
+
+// The areas of this row from the place on go to the other row.
+fn cut<A: Allocator>(rows: &mut [Row<A>], index: usize, at: usize, upper: &mut Row<A>)
+    requires bound { index < length rows.old }
+    requires few { length (get_or rows.old index []) ≤ 32 }
+    requires at { at ≤ length (get_or rows.old index []) }
+    requires upper { upper.old ≡ [] }
+    ensures rows { rows.new ≡ set rows.old index (take at (get_or rows.old index [])) }
+    ensures upper { upper.new ≡ drop at (get_or rows.old index []) }
+{
+    let row = &mut rows[index];
+    row.split(at, upper);
 }

@@ -3,12 +3,16 @@
 #![tactic(auto)]
 
 mod areas;
+mod changes;
 mod insert_error;
 mod insertion;
 mod iter;
+mod joining;
+mod leaving;
 mod lookups;
 mod marking;
 mod removal;
+mod row;
 mod totals;
 
 pub use areas::Areas;

@@ -1,16 +1,98 @@
 //! Taking areas away.
 
-ghost use Rattle.std.specs.Prelude.{◌≡◌, ◌≤◌, vec_len, vec_capacity};
-ghost use Rattle.area_map.specs.Areas.{areas_outside};
+ghost use Rattle.std.specs.Prelude.{◌≡◌, ◌==◌, ◌+◌, ◌≤◌, false, length, map, not, vec_len, vec_capacity};
+ghost use Rattle.std.specs.List.{list_any, filter};
+ghost use Rattle.area_map.specs.Areas.{AreKept, areas_outside};
+ghost use Rattle.area_map.specs.Rows.{in_rows, AreRows};
 
-use iofd_words::{Area, Span};
+use crate::row::Row;
+use crate::{changes, joining};
+use iofd_words::Span;
 use std::alloc::Allocator;
 
-/// Takes away the areas that lie in the span.
-pub fn remove<A: Allocator>(areas: &mut Vec<Area, A>, span: Span)
-    ensures areas { areas.new.items ≡ areas_outside span areas.old.items }
-    ensures capacity { vec_capacity areas.new ≡ vec_capacity areas.old }
-    ensures len { vec_len areas.new ≤ vec_len areas.old }
+/// Takes away the areas that lie in the span, and says how many they were. A row that has none left goes.
+pub fn remove<A: Allocator>(rows: &mut Vec<Row<A>, A>, span: Span) -> usize
+    requires kept { AreKept (in_rows rows.old.items) }
+    requires rows { AreRows rows.old.items }
+    ensures areas { in_rows rows.new.items ≡ areas_outside span (in_rows rows.old.items) }
+    ensures rows { AreRows rows.new.items }
+    ensures count { result + length (in_rows rows.new.items) ≡ length (in_rows rows.old.items) }
+    ensures len { vec_len rows.new ≤ vec_len rows.old }
+    ensures capacity { vec_capacity rows.new ≡ vec_capacity rows.old }
 {
-    areas.retain(|area| !area.span.lies_in(span));
+    let (from, removed) = remove_areas(rows, span);
+    joining::join_around(rows, from);
+    removed
+}
+
+// Takes away the areas that lie in the span. Says from which row on, and how many they were.
+fn remove_areas<A: Allocator>(rows: &mut Vec<Row<A>, A>, span: Span) -> (usize, usize)
+    requires kept { AreKept (in_rows rows.old.items) }
+    requires rows { AreRows rows.old.items }
+    ensures areas { in_rows rows.new.items ≡ areas_outside span (in_rows rows.old.items) }
+    ensures rows { AreRows rows.new.items }
+    ensures count { result.1 + length (in_rows rows.new.items) ≡ length (in_rows rows.old.items) }
+    ensures len { vec_len rows.new ≤ vec_len rows.old }
+    ensures capacity { vec_capacity rows.new ≡ vec_capacity rows.old }
+{
+    let (from, removed, empty) = remove_within(rows, span);
+    if !empty {
+        return (from, removed);
+    }
+    drop_empty(rows);
+    (from, removed)
+}
+
+// Takes away the areas that lie in the span. Says from which row on, how many they were, and whether some row has none
+// left.
+fn remove_within<A: Allocator>(rows: &mut [Row<A>], span: Span) -> (usize, usize, bool)
+    requires kept { AreKept (in_rows rows.old) }
+    requires rows { AreRows rows.old }
+    ensures rows { rows.new ≡ map (areas_outside span) rows.old }
+    ensures count { result.1 + length (in_rows rows.new) ≡ length (in_rows rows.old) }
+    ensures empty { result.2 ≡ false → AreRows rows.new }
+{
+    let (from, to) = changes::meeting(rows, span);
+    let (removed, empty) = remove_part(&mut rows[from..to], span);
+    (from, removed, empty)
+}
+
+// Takes the areas that lie in the span out of each row. Says how many they were, and whether some row has none left.
+fn remove_part<A: Allocator>(rows: &mut [Row<A>], span: Span) -> (usize, bool)
+    requires { length (in_rows rows.old) ≤ 65535 }
+    ensures rows { rows.new ≡ map (areas_outside span) rows.old }
+    ensures count { result.0 + length (in_rows rows.new) ≡ length (in_rows rows.old) }
+    ensures empty { result.1 ≡ list_any (λ row. length row == 0) rows.new }
+{
+    let removed = remove_each(rows, span);
+    (removed, has_empty(rows))
+}
+
+// Takes the areas that lie in the span out of each row, and says how many they were.
+fn remove_each<A: Allocator>(rows: &mut [Row<A>], span: Span) -> usize
+    requires { length (in_rows rows.old) ≤ 65535 }
+    ensures areas { rows.new ≡ map (areas_outside span) rows.old }
+    ensures count { result + length (in_rows rows.new) ≡ length (in_rows rows.old) }
+{
+    let mut removed = 0;
+    for row in rows.iter_mut() {
+        removed += row.remove(span);
+    }
+    removed
+}
+
+// Whether some row has no areas.
+fn has_empty<A: Allocator>(rows: &[Row<A>]) -> bool
+    ensures { result ≡ list_any (λ row. length row == 0) rows.now }
+{
+    rows.iter().any(|row| row.is_empty())
+}
+
+// Rows without areas go.
+fn drop_empty<A: Allocator>(rows: &mut Vec<Row<A>, A>)
+    ensures rows { rows.new.items ≡ filter (λ row. not (length row == 0)) rows.old.items }
+    ensures len { vec_len rows.new ≤ vec_len rows.old }
+    ensures capacity { vec_capacity rows.new ≡ vec_capacity rows.old }
+{
+    rows.retain(|row| !row.is_empty());
 }

@@ -352,7 +352,7 @@ fn apply_at_last<'a>(
 #[test]
 fn a_refused_growth_changes_nothing(rt: HostRuntime) -> Result<(), Fail> {
     let config = config(rt.alloc())?;
-    let heap = LocalHeap::new(rt.alloc(), 24576)?;
+    let heap = LocalHeap::new(rt.alloc(), 30720)?;
     assert!(rt; is_refused(rt.alloc(), &heap, &config)?);
     let mut core = Core::new(&heap, &config)?;
     let mut refused_steps = 0u32;

@@ -18,6 +18,8 @@ const USER_END: u64 = 1 << 48;
 
 // Flags of a MAP: FIXED_IOVA alone, and with it WRITEABLE and READABLE.
 const FIXED: u32 = 1;
+// Where addresses of 39 bits end.
+const WIDTH_END: u64 = 1 << 39;
 
 const ALL: u32 = 7;
 
@@ -118,7 +120,7 @@ static CHAINS: [Chain; 22] = [
             (LargeMap(ALL + 8, 0, More), "95 Unsupported"),
             // Without FIXED_IOVA.
             (LargeMap(ALL - FIXED, 0, Tail), "7 Tail"),
-            (LargeMap(ALL - FIXED, 0, More), "95 Unsupported"),
+            (LargeMap(ALL - FIXED, 0, More), "22 Array"),
             // A reserved field that isn't 0.
             (Line("ioctl 9 3b85 01100000"), "7 Tail"),
             (LargeMap(ALL, 1, Cut), "22 Short"),
@@ -378,6 +380,61 @@ static CHAINS: [Chain; 22] = [
     },
 ];
 
+// Where addresses can't be used, and where none may be chosen.
+static RANGE_CHAINS: [Chain; 2] = [
+    Chain {
+        what: "MAP at the end of what a page table translates, 2^39",
+        before: &[
+            Alloc(1),
+            Line("umap 1 10000"),
+            Line("bind 1 1"),
+            Line("attach 1 1"),
+            Map(1, ALL, 1, 0x10000, 0x1000, WIDTH_END - 0x1000),
+        ],
+        asks: &[
+            // To the second Overlap, Absent and Account apply too; file 2 has no address space.
+            (Map(2, ALL, 1, 0x20000, 0x2000, WIDTH_END - 0x1000), "2 Id"),
+            (
+                Map(1, ALL, 1, 0x20000, 0x2000, WIDTH_END - 0x1000),
+                "22 Reserved",
+            ),
+            (
+                Map(1, ALL, 1, 0x20000, 0x1000, WIDTH_END - 0x1000),
+                "17 Overlap",
+            ),
+            // So long a span fits nowhere. Absent and Account apply too, and an address that isn't fixed is ignored.
+            (
+                Map(1, ALL - FIXED, 1, 0x20000, WIDTH_END, LAST_PAGE + 1),
+                "28 Full",
+            ),
+            (
+                Map(
+                    1,
+                    ALL - FIXED,
+                    1,
+                    0x20000,
+                    WIDTH_END - 0x1000,
+                    LAST_PAGE + 1,
+                ),
+                "14 Absent",
+            ),
+        ],
+    },
+    Chain {
+        what: "attach over an area that the device doesn't translate",
+        before: &[
+            Alloc(1),
+            Line("bind 1 1"),
+            Map(1, ALL, 1, 0x10000, 0x1000, WIDTH_END),
+        ],
+        asks: &[
+            // To the second Absent applies too.
+            (Line("attach 1 2"), "2 Id"),
+            (Line("attach 1 1"), "98 Narrow"),
+        ],
+    },
+];
+
 fn digits(after: After) -> &'static str {
     match after {
         Cut => "00000000000001",
@@ -503,6 +560,14 @@ fn is_answered(alloc: Global, chain: &Chain) -> Result<bool, Fail> {
 #[test]
 fn the_first_refusal_that_applies_is_the_answer(rt: HostRuntime) -> Result<(), Fail> {
     for chain in &CHAINS {
+        assert!(rt; is_answered(rt.alloc(), chain)?, "{}", chain.what);
+    }
+    Ok(())
+}
+
+#[test]
+fn ranges_refuse_in_their_order(rt: HostRuntime) -> Result<(), Fail> {
+    for chain in &RANGE_CHAINS {
         assert!(rt; is_answered(rt.alloc(), chain)?, "{}", chain.what);
     }
     Ok(())

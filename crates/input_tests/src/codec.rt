@@ -19,6 +19,15 @@ const FIXED_MAP: MapRequest = MapRequest {
     iova: Iova(0x1000),
 };
 
+// The server chooses the address.
+const CHOSEN_MAP: MapRequest = MapRequest {
+    flags: MapFlags(6),
+    ioas: ObjId(1),
+    user_va: 0x10000,
+    length: 0x2000,
+    iova: Iova(0),
+};
+
 const UNMAP_ALL: UnmapRequest = UnmapRequest {
     ioas: ObjId(1),
     iova: Iova(0),
@@ -44,13 +53,18 @@ const BUSY: Reply = Reply::Refused(Refusal {
 });
 
 // Each structure's number, its canonical bytes and the command that they are.
-static CANONICAL: [(u32, &[u8], Command); 4] = [
+static CANONICAL: [(u32, &[u8], Command); 5] = [
     (0x3b80, b"\x08\0\0\0\x01\0\0\0", Command::Destroy(ObjId(1))),
     (0x3b81, b"\x0c\0\0\0\0\0\0\0\0\0\0\0", Command::IoasAlloc),
     (
         0x3b85,
         b"\x28\0\0\0\x07\0\0\0\x01\0\0\0\0\0\0\0\0\0\x01\0\0\0\0\0\0\x20\0\0\0\0\0\0\0\x10\0\0\0\0\0\0",
         Command::IoasMap(FIXED_MAP),
+    ),
+    (
+        0x3b85,
+        b"\x28\0\0\0\x06\0\0\0\x01\0\0\0\0\0\0\0\0\0\x01\0\0\0\0\0\0\x20\0\0\0\0\0\0\0\0\0\0\0\0\0\0",
+        Command::IoasMap(CHOSEN_MAP),
     ),
     (
         0x3b86,
@@ -60,7 +74,7 @@ static CANONICAL: [(u32, &[u8], Command); 4] = [
 ];
 
 // What is written back for a reply; nothing for one that isn't good.
-static REPLIES: [(Command, Reply, &[u8]); 10] = [
+static REPLIES: [(Command, Reply, &[u8]); 11] = [
     (
         Command::Destroy(ObjId(1)),
         Reply::Done,
@@ -75,6 +89,11 @@ static REPLIES: [(Command, Reply, &[u8]); 10] = [
         Command::IoasMap(FIXED_MAP),
         Reply::Iova(Iova(0x1000)),
         b"\x28\0\0\0\x07\0\0\0\x01\0\0\0\0\0\0\0\0\0\x01\0\0\0\0\0\0\x20\0\0\0\0\0\0\0\x10\0\0\0\0\0\0",
+    ),
+    (
+        Command::IoasMap(CHOSEN_MAP),
+        Reply::Iova(Iova(0x3000)),
+        b"\x28\0\0\0\x06\0\0\0\x01\0\0\0\0\0\0\0\0\0\x01\0\0\0\0\0\0\x20\0\0\0\0\0\0\0\x30\0\0\0\0\0\0",
     ),
     (
         Command::IoasMap(NEAR_THE_END),
@@ -101,7 +120,7 @@ static REPLIES: [(Command, Reply, &[u8]); 10] = [
     (Command::IoasAlloc, Reply::Done, b""),
 ];
 
-static REFUSED: [(u32, &[u8], Cause); 16] = [
+static REFUSED: [(u32, &[u8], Cause); 15] = [
     (0x3b81, b"\x10\0\0\0\0\0\0\0\0\0\0\0\x01\0\0\0", Cause::Tail),
     (0x3b81, b"\x08\0\0\0\0\0\0\0", Cause::Short),
     (0x3b81, b"\x0c\0\0\0", Cause::Short),
@@ -113,15 +132,10 @@ static REFUSED: [(u32, &[u8], Cause); 16] = [
     (0x3b80, b"\x09\0\0\0\x01\0\0\0\x01", Cause::Tail),
     (0x3b80, b"\x09\0\0\0\x01\0\0\0\0\0", Cause::Array),
     (0x3b81, b"\x0c\0\0\0\x01\0\0\0\0\0\0\0", Cause::Unsupported),
-    // An unknown flag, a MAP that isn't fixed, a reserved field.
+    // An unknown flag, a reserved field.
     (
         0x3b85,
         b"\x28\0\0\0\x0f\0\0\0\x01\0\0\0\0\0\0\0\0\0\x01\0\0\0\0\0\0\x20\0\0\0\0\0\0\0\x10\0\0\0\0\0\0",
-        Cause::Unsupported,
-    ),
-    (
-        0x3b85,
-        b"\x28\0\0\0\x06\0\0\0\x01\0\0\0\0\0\0\0\0\0\x01\0\0\0\0\0\0\x20\0\0\0\0\0\0\0\x10\0\0\0\0\0\0",
         Cause::Unsupported,
     ),
     (
@@ -132,12 +146,12 @@ static REFUSED: [(u32, &[u8], Cause); 16] = [
     // A tail is looked at before the flags, and the flags before what follows.
     (
         0x3b85,
-        b"\x29\0\0\0\x06\0\0\0\x01\0\0\0\0\0\0\0\0\0\x01\0\0\0\0\0\0\x20\0\0\0\0\0\0\0\x10\0\0\0\0\0\0\x01",
+        b"\x29\0\0\0\x0e\0\0\0\x01\0\0\0\0\0\0\0\0\0\x01\0\0\0\0\0\0\x20\0\0\0\0\0\0\0\x10\0\0\0\0\0\0\x01",
         Cause::Tail,
     ),
     (
         0x3b85,
-        b"\x28\0\0\0\x06\0\0\0\x01\0\0\0\0\0\0\0\0\0\x01\0\0\0\0\0\0\x20\0\0\0\0\0\0\0\x10\0\0\0\0\0\0\0",
+        b"\x28\0\0\0\x0e\0\0\0\x01\0\0\0\0\0\0\0\0\0\x01\0\0\0\0\0\0\x20\0\0\0\0\0\0\0\x10\0\0\0\0\0\0\0",
         Cause::Unsupported,
     ),
 ];
@@ -196,6 +210,15 @@ fn replies_are_written_back(rt: HostRuntime) -> Result<(), Fail> {
         assert!(rt; puts(command, reply, *bytes), "row {place}");
     }
     Ok(())
+}
+
+// A MAP whose address the server chooses, with an address all the same.
+static IGNORED_IOVA: &[u8] =
+    b"\x28\0\0\0\x06\0\0\0\x01\0\0\0\0\0\0\0\0\0\x01\0\0\0\0\0\0\x20\0\0\0\0\0\0\x77\0\0\0\0\0\0\0";
+
+#[test]
+fn address_that_is_not_fixed_is_ignored(rt: HostRuntime) {
+    assert!(rt; decode(0x3b85, IGNORED_IOVA) == Ok(Command::IoasMap(CHOSEN_MAP)));
 }
 
 // Whether a structure of 16 bytes that are zero behind the size is read, and one of 12 is written back.
@@ -310,6 +333,7 @@ fn each_byte_of_a_tail_is_zero(rt: HostRuntime) -> Result<(), Fail> {
 
 #[test]
 fn commands_without_a_spelling(rt: HostRuntime) {
+    // Unknown flags, and an address that isn't fixed.
     for flags in [6, 9, 15, 0] {
         let map = MapRequest {
             flags: MapFlags(flags),

@@ -172,7 +172,7 @@ fn steps_come_in_order(rt: HostRuntime) {
 }
 
 // Each with its first bad line.
-static BAD_SCRIPTS: [(&str, u64); 30] = [
+static BAD_SCRIPTS: [(&str, u64); 29] = [
     ("", 1),
     ("pool 8", 2),
     ("pool 8\n", 2),
@@ -200,7 +200,6 @@ static BAD_SCRIPTS: [(&str, u64); 30] = [
         4,
     ),
     ("pool 16\nuser 8\nfile 1\ndevice 0100 48\n", 4),
-    ("pool 16\nuser 8\nfile 1\ndevice 0010 39 x86\n", 4),
     ("pool 16\nuser 8\nfile 1\ndevice 010 39\n", 4),
     (
         "pool 16\nuser 8\nfile 1\ndevice 0018 39\ndevice 0019 39\n",
@@ -209,7 +208,7 @@ static BAD_SCRIPTS: [(&str, u64); 30] = [
     ("pool 16\nuser 8\nfile 1\nbegin\nbegin\n", 5),
     (
         "pool 16\nuser 8\nuser 2\nfile 1\nfile 1\nfile 2\ndevice 0010 39 x86\ndevice 0018 39\ndevice 0100 48\nbegin\n",
-        7,
+        8,
     ),
     ("# \u{e9}\n", 1),
 ];
@@ -227,6 +226,142 @@ fn the_first_bad_line_is_told(rt: HostRuntime) {
 // Why the script isn't read.
 fn error<A: Allocator + Copy>(alloc: A, script: &str) -> Option<ScriptError> {
     read_script(alloc, script.as_bytes()).err()
+}
+
+// What stands behind `device`, and whether the device is then marked, and its reserved spans.
+static DEVICES: [(&str, bool, &[(u64, u64)]); 10] = [
+    ("0018 39", false, &[]),
+    ("0018 39 x86", true, &[]),
+    ("0018 39 4000-4fff", false, &[(0x4000, 0x4fff)]),
+    ("0018 39 x86 4000-4fff", true, &[(0x4000, 0x4fff)]),
+    ("0018 39 0-fff", false, &[(0, 0xfff)]),
+    ("0018 39 0-ffffffffffffffff", false, &[(0, u64::MAX)]),
+    (
+        "0018 39 Fee00000-FEEFffff",
+        false,
+        &[(0xfee0_0000, 0xfeef_ffff)],
+    ),
+    (
+        "0018 39 x86 0000000000004000-0000000000004fff",
+        true,
+        &[(0x4000, 0x4fff)],
+    ),
+    (
+        "0018 39 9000-9fff 1000-2fff",
+        false,
+        &[(0x9000, 0x9fff), (0x1000, 0x2fff)],
+    ),
+    (
+        "0018 39 x86 1000-2fff 2000-3fff 1000-2fff",
+        true,
+        &[(0x1000, 0x2fff), (0x2000, 0x3fff), (0x1000, 0x2fff)],
+    ),
+];
+
+// A script whose line 4 has this behind `device`.
+fn with_device(alloc: Global, fields: &str) -> Result<String, AllocError> {
+    format!(in alloc; "pool 8\nuser 4\nfile 1\ndevice {fields}\nbegin\n")
+}
+
+// Whether it has these reserved spans, in this order.
+fn reserves(device: &DeviceConfig, spans: &[(u64, u64)]) -> bool {
+    let reserved = device.reserved();
+    let mut pairs = reserved.iter().zip(spans);
+    reserved.len() == spans.len()
+        && pairs.all(|(span, ends)| span.first() == ends.0 && span.last() == ends.1)
+}
+
+#[test]
+fn a_device_line_says_its_mark_and_its_spans(rt: HostRuntime) -> Result<(), Fail> {
+    for (fields, x86, spans) in &DEVICES {
+        let text = with_device(rt.alloc(), fields)?;
+        let (config, mut steps) = read_script(rt.alloc(), text.as_bytes())?;
+        assert_eq!(rt; config.devices().len(), 1);
+        let device = &config.devices()[0];
+        assert!(rt; device.source().0 == 0x18 && device.width().bits() == 39);
+        assert!(rt;
+            device.is_x86() == *x86 && reserves(device, spans),
+            "{fields}"
+        );
+        assert!(rt; steps.next_step().is_none());
+    }
+    Ok(())
+}
+
+// None of these may stand behind `device`.
+static BAD_DEVICES: [&str; 34] = [
+    "",
+    "0018",
+    "0018 48",
+    "0018 48 x86",
+    "0018 39 48",
+    "0018 39 ",
+    "0018 39 x86 ",
+    "0018 39  x86",
+    "0018 39 X86",
+    "0018 39 x86 x86",
+    "0018 39 x86x",
+    "0018 x86 39",
+    "0018 39 4000-4fff ",
+    "0018 39 4000-4fff  6000-6fff",
+    "0018 39 4000-4fff x86",
+    "0018 39 x86 4000-4fff x86",
+    "0018 39 4000",
+    "0018 39 4000-",
+    "0018 39 -4fff",
+    "0018 39 -",
+    "0018 39 4000--4fff",
+    "0018 39 4000-4fff-",
+    "0018 39 4000-4fff-5fff",
+    "0018 39 4000-4ffg",
+    "0018 39 0x4000-0x4fff",
+    "0018 39 00000000000004000-4fff",
+    "0018 39 4000-00000000000004fff",
+    "0018 39 4000-4000",
+    "0018 39 4fff-4fff",
+    "0018 39 5000-4fff",
+    "0018 39 4001-4fff",
+    "0018 39 4000-4ffe",
+    "0018 39 4000-5000",
+    "0018 39 4000-4fff 6000-6ffe",
+];
+
+#[test]
+fn a_bad_device_line_is_the_first_bad_line(rt: HostRuntime) -> Result<(), Fail> {
+    for fields in &BAD_DEVICES {
+        let text = with_device(rt.alloc(), fields)?;
+        assert!(rt; first_bad_line(text.as_bytes()) == Some(4), "{fields}");
+        assert!(rt;
+            error(rt.alloc(), &text) == Some(ScriptError::BadLine(4)),
+            "{fields}"
+        );
+    }
+    Ok(())
+}
+
+#[test]
+fn a_device_has_at_most_16_reserved_spans(rt: HostRuntime) -> Result<(), Fail> {
+    for (count, bad) in [(16, None), (17, Some(4)), (300, Some(4))] {
+        let spans = lines(rt.alloc(), " 4000-4fff", count)?;
+        for mark in ["", " x86"] {
+            let fields = format!(in rt.alloc(); "0018 39{mark}{spans}")?;
+            let text = with_device(rt.alloc(), &fields)?;
+            assert!(rt; first_bad_line(text.as_bytes()) == bad, "{count}{mark}");
+        }
+    }
+    Ok(())
+}
+
+#[test]
+fn the_most_reserved_spans_are_read(rt: HostRuntime) -> Result<(), Fail> {
+    let spans = lines(rt.alloc(), " 4000-4fff", 16)?;
+    let fields = format!(in rt.alloc(); "0018 39{spans}")?;
+    let text = with_device(rt.alloc(), &fields)?;
+    let (config, mut steps) = read_script(rt.alloc(), text.as_bytes())?;
+    assert_eq!(rt; config.devices().len(), 1);
+    assert!(rt; reserves(&config.devices()[0], &[(0x4000, 0x4fff); 16]));
+    assert!(rt; steps.next_step().is_none());
+    Ok(())
 }
 
 // A script that is good but for one of these is bad at it.

@@ -1,32 +1,65 @@
 -- The canonical spelling of a command spells it, and a command that is spelled at all may be encoded.
-use Rattle.std.proofs.Common.{◌≡◌, ℕ, ◌-◌, ◌≤◌, true, List, [], ◌++◌, replicate, None, refl, sym, ap, subst, ◌∙◌, lit≤, arith}
+use Rattle.std.proofs.Common.{◌≡◌, ℕ, ◌-◌, ◌≤◌, Bool, true, false, ◌||◌, ◌==◌, List, [], ◌∷◌, ◌++◌, replicate, None, refl, sym, ap, subst, ◌∙◌, lit≤, arith}
 use Rattle.std.specs.Int.{w32, to_le_bytes}
 use Rattle.std.proofs.lemmas.List.{append-nil}
+use Rattle.std.proofs.lemmas.Bool.{eqb-true}
+use Rattle.std.specs.Prelude.{slice_index}
+use Rattle.std.specs.Int.RustNames.{bit_and}
+use Rattle.iofd_words.specs.Rights.{has_flag}
+use Rattle.iofd_words.specs.declared.event.MapRequest.{MapRequest}
 use Rattle.ioctl_codec.specs.declared.command.Command.{Command}
 use Rattle.ioctl_codec.specs.declared.command.Command.TheVariants.{Destroy, IoasAlloc, IoasMap, IoasUnmap}
 use Rattle.ioctl_codec.specs.Layout.{are_allowed, carried, filled, spelled, length_of, structure_bytes}
-use Rattle.ioctl_codec.specs.Structures.{structure_of, values_of, is_spellable}
+use Rattle.ioctl_codec.specs.Structures.{ioas_map, structure_of, values_of, is_spellable}
 use Rattle.ioctl_codec.specs.Spelling.{Spells, canonical, FitsFields, HasSpelling}
-use Rattle.ioctl_codec.specs.Refusals.{refusal}
+use Rattle.ioctl_codec.specs.Refusals.{read_numbers, read_values, refusal}
 use Rattle.ioctl_codec.proofs.Commands.{refusal-number}
 use Rattle.ioctl_codec.proofs.BothWays.{is_read}
 use Rattle.ioctl_codec.proofs.Refusing.{and-true}
-use Rattle.ioctl_codec.proofs.Rows.{are_allowed-filled}
+use Rattle.ioctl_codec.proofs.Rows.{and-parts, and_both, are_allowed-filled}
 
 abbrev canonical_row : Command → List ℕ
 canonical_row c = filled (structure_of c).fields (values_of c) None
 
-are_allowed-canonical : (c : Command) → are_allowed (structure_of c).fields (canonical_row c) ≡ is_spellable c
-are_allowed-canonical (Destroy id) = refl
-are_allowed-canonical IoasAlloc = refl
-are_allowed-canonical (IoasMap m) = and-true (is_spellable (IoasMap m))
-are_allowed-canonical (IoasUnmap u) = refl
+abbrev has_known_flags : MapRequest → Bool
+has_known_flags m = bit_and m.flags.0 7 == m.flags.0
 
-carried-canonical : (c : Command) → carried (structure_of c).fields (canonical_row c) ≡ values_of c
-carried-canonical (Destroy id) = refl
-carried-canonical IoasAlloc = refl
-carried-canonical (IoasMap m) = refl
-carried-canonical (IoasUnmap u) = refl
+abbrev map_row : Bool → MapRequest → List ℕ
+map_row fixed m = filled (ioas_map fixed).fields (values_of (IoasMap m)) None
+
+are_allowed-map : (fixed : Bool) (m : MapRequest) → are_allowed (ioas_map fixed).fields (map_row fixed m) ≡ has_known_flags m
+are_allowed-map true m = and-true (has_known_flags m)
+are_allowed-map false m = and-true (has_known_flags m)
+
+are_allowed-canonical : (c : Command) → is_spellable c ≡ true → are_allowed (structure_of c).fields (canonical_row c) ≡ true
+are_allowed-canonical (Destroy id) e = refl
+are_allowed-canonical IoasAlloc e = refl
+are_allowed-canonical (IoasMap m) e =
+    let fixed = has_flag m.flags.0 1 in
+    let p = and-parts (has_known_flags m) (fixed || m.iova.0 == 0) e in
+    are_allowed-map fixed m ∙ p.0
+are_allowed-canonical (IoasUnmap u) e = refl
+
+carried-map : (fixed : Bool) (m : MapRequest) → (fixed || m.iova.0 == 0) ≡ true → carried (ioas_map fixed).fields (map_row fixed m) ≡ values_of (IoasMap m)
+carried-map true m e = refl
+carried-map false m e = ap (λ (iova : ℕ). m.flags.0 ∷ m.ioas.0 ∷ m.user_va ∷ m.length ∷ iova ∷ []) (sym (eqb-true m.iova.0 0 e))
+
+carried-canonical : (c : Command) → is_spellable c ≡ true → carried (structure_of c).fields (canonical_row c) ≡ values_of c
+carried-canonical (Destroy id) e = refl
+carried-canonical IoasAlloc e = refl
+carried-canonical (IoasMap m) e =
+    let fixed = has_flag m.flags.0 1 in
+    let p = and-parts (has_known_flags m) (fixed || m.iova.0 == 0) e in
+    carried-map fixed m p.1
+carried-canonical (IoasUnmap u) e = refl
+
+-- an address that isn't fixed is read as 0
+kept-map : (fixed : Bool) (m : MapRequest) (bytes : List ℕ) → read_values (ioas_map fixed) bytes ≡ values_of (IoasMap m) → (fixed || m.iova.0 == 0) ≡ true
+unfolding read_numbers
+kept-map true m bytes e = refl
+kept-map false m bytes e =
+    let zero_is : 0 ≡ m.iova.0 = ap (λ (vs : List ℕ). slice_index vs 4) e in
+    subst (λ (n : ℕ). (n == 0) ≡ true) zero_is refl
 
 length_at_most : (c : Command) → length_of (structure_of c) ≤ 4096
 length_at_most (Destroy id) = lit≤ tt
@@ -53,17 +86,26 @@ canonical_spells c fits spellable =
         least = omega arith;
         most = length_at_most c;
         widths = fits;
-        allowed = are_allowed-canonical c ∙ spellable;
-        values_are = carried-canonical c;
+        allowed = are_allowed-canonical c spellable;
+        values_are = carried-canonical c spellable;
         bytes_are = ap (λ (x : List ℕ). to_le_bytes w32 (length_of s) ++ x) (sym (append-nil fields) ∙ ap (λ (x : List ℕ). fields ++ x) (sym (no_tail c)));
       };
     }
+
+spellable-if : (c : Command) (bytes : List ℕ) → are_allowed (structure_of c).fields (canonical_row c) ≡ true → read_values (structure_of c) bytes ≡ values_of c → is_spellable c ≡ true
+spellable-if (Destroy id) bytes e values = refl
+spellable-if IoasAlloc bytes e values = refl
+spellable-if (IoasMap m) bytes e values =
+    let fixed = has_flag m.flags.0 1 in
+    and_both (has_known_flags m) (fixed || m.iova.0 == 0) (sym (are_allowed-map fixed m) ∙ e) (kept-map fixed m bytes values)
+spellable-if (IoasUnmap u) bytes e values = refl
 
 pub spellable_from : (c : Command) (nr : ℕ) (bytes : List ℕ) → Spells nr bytes c → is_spellable c ≡ true
 spellable_from c nr bytes spells =
     let laid = spells.laid_out in
     let zeroed = are_allowed-filled (structure_of c).fields laid.numbers laid.allowed in
-    sym (are_allowed-canonical c) ∙ subst (λ (values : List ℕ). are_allowed (structure_of c).fields (filled (structure_of c).fields values None) ≡ true) laid.values_are zeroed
+    let read = is_read (structure_of c) (values_of c) bytes laid in
+    spellable-if c bytes (subst (λ (values : List ℕ). are_allowed (structure_of c).fields (filled (structure_of c).fields values None) ≡ true) laid.values_are zeroed) read.values_are
 
 pub canonical_accepted : (c : Command) → FitsFields c → is_spellable c ≡ true → refusal (structure_of c).number (canonical c) ≡ None
 canonical_accepted c fits spellable =

@@ -1,26 +1,45 @@
 -- Commands: each is known from its number and its values, and decoding finds exactly the one that is spelled.
-use Rattle.std.proofs.Common.{◌≡◌, ℕ, cond, ◌==◌, List, Some, None, Result, Ok, Err, refl, sym, ap, subst, ◌∙◌}
+use Rattle.std.proofs.Common.{◌≡◌, ℕ, Bool, true, false, cond, ◌==◌, List, take, drop, None, Result, Ok, Err, refl, sym, ap, subst, ◌∙◌}
 use Rattle.std.specs.Prelude.{IfOk, slice_index}
+use Rattle.std.specs.Int.{w32, from_le_bytes}
+use Rattle.iofd_words.specs.Rights.{has_flag}
 use Rattle.ioctl_codec.specs.declared.command.Command.{Command}
 use Rattle.ioctl_codec.specs.declared.command.Command.TheVariants.{Destroy, IoasAlloc, IoasMap, IoasUnmap}
 use Rattle.ioctl_codec.specs.declared.command.DecodeError.{DecodeError}
 use Rattle.ioctl_codec.specs.Layout.{Structure, IsLaidOut}
-use Rattle.ioctl_codec.specs.Structures.{destroy, ioas_alloc, ioas_map, ioas_unmap, structure_at, structure_of, values_of}
+use Rattle.ioctl_codec.specs.Structures.{destroy, ioas_alloc, ioas_map, ioas_unmap, structure_of, values_of}
 use Rattle.ioctl_codec.specs.Spelling.{Spells}
-use Rattle.ioctl_codec.specs.Refusals.{refusal_of, refusal, refused_of, read_values}
+use Rattle.ioctl_codec.specs.Refusals.{refusal_of, refusal, refused_of, read_numbers, read_values}
 use Rattle.ioctl_codec.proofs.LittleEndian.{IsBytes}
 use Rattle.ioctl_codec.proofs.BothWays.{is_laid_out, is_read}
 
-pub structure_at-number : (c : Command) (nr : ℕ) → (structure_of c).number ≡ nr → structure_at nr ≡ Some (structure_of c)
-structure_at-number (Destroy id) nr e = subst (λ (n : ℕ). structure_at n ≡ Some destroy) e refl
-structure_at-number IoasAlloc nr e = subst (λ (n : ℕ). structure_at n ≡ Some ioas_alloc) e refl
-structure_at-number (IoasMap m) nr e = subst (λ (n : ℕ). structure_at n ≡ Some ioas_map) e refl
-structure_at-number (IoasUnmap u) nr e = subst (λ (n : ℕ). structure_at n ≡ Some ioas_unmap) e refl
+-- the structure that bytes with this number have, by their flags if it's a MAP
+structure_in : ℕ → List ℕ → Structure
+structure_in nr bytes =
+    cond (nr == 0x3B80) destroy
+    (cond (nr == 0x3B81) ioas_alloc
+    (cond (nr == 0x3B85) (ioas_map (has_flag (from_le_bytes w32 (take 4 (drop 4 bytes))) 1))
+    ioas_unmap))
+
+structure-is : (c : Command) (nr : ℕ) (bytes : List ℕ) → (structure_of c).number ≡ nr → values_of c ≡ read_values (structure_of c) bytes → structure_of c ≡ structure_in nr bytes
+unfolding structure_in read_numbers
+structure-is (Destroy id) nr bytes e values = subst (λ (n : ℕ). destroy ≡ structure_in n bytes) e refl
+structure-is IoasAlloc nr bytes e values = subst (λ (n : ℕ). ioas_alloc ≡ structure_in n bytes) e refl
+structure-is (IoasMap m) nr bytes e values =
+    let flags : m.flags.0 ≡ from_le_bytes w32 (take 4 (drop 4 bytes)) = ap (λ (vs : List ℕ). slice_index vs 0) values in
+    subst (λ (n : ℕ). structure_of (IoasMap m) ≡ structure_in n bytes) e (ap (λ (n : ℕ). ioas_map (has_flag n 1)) flags)
+structure-is (IoasUnmap u) nr bytes e values = subst (λ (n : ℕ). ioas_unmap ≡ structure_in n bytes) e refl
+
+-- both structures of a MAP have the same refusals
+pub refusal-map : (fixed : Bool) (bytes : List ℕ) → refusal_of (ioas_map true) bytes ≡ refusal_of (ioas_map fixed) bytes
+unfolding refusal_of read_numbers
+refusal-map true bytes = refl
+refusal-map false bytes = refl
 
 pub refusal-number : (c : Command) (nr : ℕ) (bytes : List ℕ) → (structure_of c).number ≡ nr → refusal nr bytes ≡ refusal_of (structure_of c) bytes
 refusal-number (Destroy id) nr bytes e = subst (λ (n : ℕ). refusal n bytes ≡ refusal_of destroy bytes) e refl
 refusal-number IoasAlloc nr bytes e = subst (λ (n : ℕ). refusal n bytes ≡ refusal_of ioas_alloc bytes) e refl
-refusal-number (IoasMap m) nr bytes e = subst (λ (n : ℕ). refusal n bytes ≡ refusal_of ioas_map bytes) e refl
+refusal-number (IoasMap m) nr bytes e = subst (λ (n : ℕ). refusal n bytes ≡ refusal_of (structure_of (IoasMap m)) bytes) e (refusal-map (has_flag m.flags.0 1) bytes)
 refusal-number (IoasUnmap u) nr bytes e = subst (λ (n : ℕ). refusal n bytes ≡ refusal_of ioas_unmap bytes) e refl
 
 -- the command of a number and its values
@@ -63,10 +82,9 @@ pub only : (nr : ℕ) (bytes : List ℕ) (r : Result Command DecodeError) (c : C
     → IfOk r (λ c. (structure_of c).number ≡ nr) → IfOk r (λ c. values_of c ≡ read_values (structure_of c) bytes) → r ≡ Ok c
 only nr bytes (Ok d) c spells e number values =
     let same : (structure_of d).number ≡ (structure_of c).number = number ∙ sym spells.number in
-    let at-d : structure_at nr ≡ Some (structure_of d) = structure_at-number d nr number in
-    let at-c : structure_at nr ≡ Some (structure_of c) = structure_at-number c nr spells.number in
-    let structures : structure_of d ≡ structure_of c = cc in
     let read = is_read (structure_of c) (values_of c) bytes spells.laid_out in
+    let structures : structure_of d ≡ structure_of c =
+    structure-is d nr bytes number values ∙ sym (structure-is c nr bytes spells.number (sym read.values_are)) in
     ap (λ (x : Command). Ok x) (same_command d c same (values ∙ (ap (λ (s : Structure). read_values s bytes) structures ∙ read.values_are)))
 only nr bytes (Err d) c spells e number values =
     let read = is_read (structure_of c) (values_of c) bytes spells.laid_out in

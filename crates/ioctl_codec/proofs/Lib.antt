@@ -5,4 +5,5 @@ pub mod Rows
 pub mod BothWays
 pub mod Commands
 pub mod Writes
+pub mod MapBytes
 pub mod Canonical

@@ -3,7 +3,7 @@ use Rattle.std.proofs.Common.{◌≡◌, ℕ, ◌+◌, ◌≤◌, Bool, true, fa
 use Rattle.std.specs.Prelude.{slice_index}
 use Rattle.std.specs.Int.{byte_len, from_le_bytes, to_le_bytes}
 use Rattle.std.proofs.lemmas.List.{take_at, drop_at, take-append-drop, take-take, drop-take, length-append, length-take, length-drop}
-use Rattle.ioctl_codec.specs.Layout.{Role, Flags, Argument, Answered, Output, Reserved, Field, width, bytes_of, is_allowed, are_allowed, AreOfWidth, is_carried, carried, number_in, filled, spelled, numbers_at}
+use Rattle.ioctl_codec.specs.Layout.{Role, Flags, Argument, Answered, Chosen, Output, Reserved, Field, width, bytes_of, is_allowed, are_allowed, AreOfWidth, is_carried, value_in, carried, number_in, filled, spelled, numbers_at}
 use Rattle.ioctl_codec.proofs.LittleEndian.{IsBytes, IsBytes-drop, IsBytes-take, length-to_le_bytes, to_le_bytes-from_le_bytes, from_le_bytes-to_le_bytes, from_le_bytes_below}
 
 take-add : (k m : ℕ) (bytes : List ℕ) → take (k + m) bytes ≡ take k bytes ++ take m (drop k bytes)
@@ -51,17 +51,18 @@ pub and-parts : (a b : Bool) → (a && b) ≡ true → (a ≡ true) × (b ≡ tr
 and-parts true b e = (refl, e)
 and-parts false b e = absurd cc
 
-and_both : (a b : Bool) → a ≡ true → b ≡ true → (a && b) ≡ true
+pub and_both : (a b : Bool) → a ≡ true → b ≡ true → (a && b) ≡ true
 and_both true b e f = f
 and_both false b e f = absurd cc
 
 allowed_step : (role : Role) (n : ℕ) (fields : List Field) (numbers : List ℕ) → (is_allowed role n && are_allowed fields numbers) ≡ true
     → are_allowed fields (filled fields (carried fields numbers) None) ≡ true
-    → let values = cond (is_carried role) (n ∷ carried fields numbers) (carried fields numbers) in
+    → let values = cond (is_carried role) (value_in role n ∷ carried fields numbers) (carried fields numbers) in
     (is_allowed role (number_in role (slice_index values 0) None) && are_allowed fields (filled fields (cond (is_carried role) (drop 1 values) values) None)) ≡ true
-allowed_step (Flags known needed) n fields numbers e h = let p = and-parts (is_allowed (Flags known needed) n) (are_allowed fields numbers) e in and_both (is_allowed (Flags known needed) n) (are_allowed fields (filled fields (carried fields numbers) None)) p.0 h
+allowed_step (Flags known) n fields numbers e h = let p = and-parts (is_allowed (Flags known) n) (are_allowed fields numbers) e in and_both (is_allowed (Flags known) n) (are_allowed fields (filled fields (carried fields numbers) None)) p.0 h
 allowed_step Argument n fields numbers e h = h
 allowed_step Answered n fields numbers e h = h
+allowed_step Chosen n fields numbers e h = h
 allowed_step Output n fields numbers e h = h
 allowed_step Reserved n fields numbers e h = h
 

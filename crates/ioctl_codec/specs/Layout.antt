@@ -4,16 +4,17 @@
 use Rattle.std.specs.Prelude.{◌≡◌, ℕ, ◌+◌, ◌-◌, ◌*◌, ◌^◌, ◌<◌, ◌≤◌, Bool, true, false, ◌&&◌, ◌==◌, IsTrue, List, [], ◌∷◌, ◌++◌, take, drop, replicate, slice_index, Option, unwrap_or, if◌then◌else◌}
 use Rattle.std.specs.Int.{Width, w32, w64, byte_len, from_le_bytes, to_le_bytes}
 use Rattle.std.specs.Int.RustNames.{bit_and}
-use Rattle.iofd_words.specs.Rights.{has_flag}
 
 -- what a field is for
 pub data Role : Type 0 where
-  -- flags that the command carries: no bit but the known ones, and each of the needed ones
-  Flags : (known needed : ℕ) → Role
+  -- flags that the command carries: no bit but the known ones
+  Flags : (known : ℕ) → Role
   -- a number that the command carries
   Argument : Role
   -- the same, and what is written back has the answer in its place
   Answered : Role
+  -- the same, but it's read and ignored: the command has 0 for it
+  Chosen : Role
   -- it's read and ignored, and what is written back has the answer in it
   Output : Role
   -- it has to be 0
@@ -57,10 +58,11 @@ length_of s = 4 + bytes_of s.fields
 
 -- a number that may stand in such a field
 abbrev pub is_allowed : Role → ℕ → Bool
-is_allowed (Flags known needed) n = (bit_and n known == n) && has_flag n needed
+is_allowed (Flags known) n = bit_and n known == n
 is_allowed Reserved n = n == 0
 is_allowed Argument n = true
 is_allowed Answered n = true
+is_allowed Chosen n = true
 is_allowed Output n = true
 
 abbrev pub are_allowed : List Field → List ℕ → Bool
@@ -77,23 +79,34 @@ AreOfWidth (field ∷ fields) [] = ⊥
 AreOfWidth (field ∷ fields) (n ∷ numbers) = (n < 2 ^ (8 * byte_len (width field))) × AreOfWidth fields numbers
 
 abbrev pub is_carried : Role → Bool
-is_carried (Flags known needed) = true
+is_carried (Flags known) = true
 is_carried Argument = true
 is_carried Answered = true
+is_carried Chosen = true
 is_carried Output = false
 is_carried Reserved = false
+
+-- the value that a command carries for the number in such a field
+abbrev pub value_in : Role → ℕ → ℕ
+value_in (Flags known) n = n
+value_in Argument n = n
+value_in Answered n = n
+value_in Chosen n = 0
+value_in Output n = n
+value_in Reserved n = n
 
 -- those that the command carries
 abbrev pub carried : List Field → List ℕ → List ℕ
 carried [] numbers = []
 carried (field ∷ fields) [] = []
-carried (field ∷ fields) (n ∷ numbers) = if is_carried field.role then n ∷ carried fields numbers else carried fields numbers
+carried (field ∷ fields) (n ∷ numbers) = if is_carried field.role then value_in field.role n ∷ carried fields numbers else carried fields numbers
 
 -- what stands in a field for a carried value and for an answer, if there is one
 abbrev pub number_in : Role → ℕ → Option ℕ → ℕ
-number_in (Flags known needed) value answer = value
+number_in (Flags known) value answer = value
 number_in Argument value answer = value
 number_in Answered value answer = unwrap_or answer value
+number_in Chosen value answer = unwrap_or answer 0
 number_in Output value answer = unwrap_or answer 0
 number_in Reserved value answer = 0
 

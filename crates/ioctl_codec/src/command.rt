@@ -1,11 +1,11 @@
 //! Commands, and why bytes are none.
 
-ghost use Rattle.std.specs.Prelude.{◌≡◌, ◌==◌, ◌&&◌};
+ghost use Rattle.std.specs.Prelude.{◌≡◌, ◌==◌, ◌&&◌, ◌||◌, if◌then◌else◌};
 ghost use Rattle.std.specs.Int.RustNames.{bit_and};
 ghost use Rattle.iofd_words.specs.Rights.{is_fixed};
 
 use crate::structure::{DESTROY, IOAS_ALLOC, IOAS_MAP, IOAS_UNMAP};
-use iofd_words::{MapFlags, MapRequest, ObjId, Refusal, UnmapRequest};
+use iofd_words::{Iova, MapFlags, MapRequest, ObjId, Refusal, UnmapRequest};
 
 // FIXED_IOVA, WRITEABLE and READABLE.
 const KNOWN_MAP_FLAGS: u32 = MapFlags::FIXED_IOVA.0 | MapFlags::WRITEABLE.0 | MapFlags::READABLE.0;
@@ -17,7 +17,7 @@ pub enum Command {
     Destroy(ObjId),
     /// IOMMU_IOAS_ALLOC: makes an I/O address space.
     IoasAlloc,
-    /// IOMMU_IOAS_MAP: maps user memory at an address.
+    /// IOMMU_IOAS_MAP: maps user memory at an address, the given one or one that the server chooses.
     IoasMap(MapRequest),
     /// IOMMU_IOAS_UNMAP: takes areas away.
     IoasUnmap(UnmapRequest),
@@ -38,13 +38,13 @@ impl Command {
         }
     }
 
-    /// Whether some bytes spell the command, so that `encode` may write it. It's so unless it's a MAP
-    /// with an unknown flag or without FIXED_IOVA.
+    /// Whether some bytes spell the command, so that `encode` may write it. It's so unless it's a MAP with an unknown
+    /// flag, or with an address other than 0 that its flags don't fix.
     pub fn is_spellable(&self) -> bool
         ensures { result ≡ is_spellable self.now }
     {
         match *self {
-            Command::IoasMap(map) => are_spellable(map.flags),
+            Command::IoasMap(map) => are_spellable(map.flags) && is_kept(map.flags, map.iova),
             Command::Destroy(_) | Command::IoasAlloc | Command::IoasUnmap(_) => true,
         }
     }
@@ -57,10 +57,26 @@ pub enum DecodeError {
     Refused(Refusal),
 }
 
-// Whether a MAP may have these flags: none but the known ones, and FIXED_IOVA, since the server
-// chooses no address yet.
+// Whether a MAP may have these flags: none but the known ones.
 pub fn are_spellable(flags: MapFlags) -> bool
-    ensures { result ≡ ((bit_and flags.0 7 == flags.0) && is_fixed flags) }
+    ensures { result ≡ (bit_and flags.0 7 == flags.0) }
 {
-    flags.0 & KNOWN_MAP_FLAGS == flags.0 && flags.is_fixed()
+    flags.0 & KNOWN_MAP_FLAGS == flags.0
+}
+
+// Whether a MAP with these flags keeps this address.
+fn is_kept(flags: MapFlags, iova: Iova) -> bool
+    ensures { result ≡ (is_fixed flags || iova.0 == 0) }
+{
+    flags.is_fixed() || iova.0 == 0
+}
+
+// The address that a MAP keeps: one that the flags don't fix is ignored.
+pub fn kept_iova(flags: MapFlags, iova: Iova) -> Iova
+    ensures { result.0 ≡ (if is_fixed flags then iova.0 else 0) }
+{
+    if flags.is_fixed() {
+        return iova;
+    }
+    Iova(0)
 }

@@ -1,7 +1,7 @@
 //! From bytes to commands.
 #![tactic(auto, using(crate::proofs::Refusing::checked_late, crate::proofs::Refusing::refused_late), unfolding(crate::specs::Refusals::read_numbers))]
 
-ghost use Rattle.std.specs.Prelude.{◌≡◌, ℕ, ◌&&◌, IfOk};
+ghost use Rattle.std.specs.Prelude.{◌≡◌, ℕ, true, ◌&&◌, IfOk};
 ghost use Rattle.ioctl_codec.specs.Layout.{Flags, Reserved, is_allowed};
 ghost use Rattle.ioctl_codec.specs.Structures.{destroy, ioas_alloc, ioas_map, ioas_unmap, structure_of, values_of};
 ghost use Rattle.ioctl_codec.specs.Spelling.{Spells};
@@ -9,7 +9,7 @@ ghost use Rattle.ioctl_codec.specs.Refusals.{refusal_of, refusal, refused_of, re
 ghost use Rattle.ioctl_codec.specs.declared.command.Command.{Command};
 
 use crate::checks::{checked, parts, refused};
-use crate::command::{Command, DecodeError, are_spellable};
+use crate::command::{Command, DecodeError, are_spellable, kept_iova};
 use crate::number::{u32_at, u64_at};
 use crate::structure::{
     DESTROY, DESTROY_LENGTH, IOAS_ALLOC, IOAS_ALLOC_LENGTH, IOAS_MAP, IOAS_MAP_LENGTH, IOAS_UNMAP,
@@ -43,16 +43,16 @@ fn ioas_alloc_of(bytes: &[u8]) -> Result<Command, DecodeError>
 
 // Whether a MAP's flags and its reserved field may be these.
 fn is_supported(flags: MapFlags, reserved: u32) -> bool
-    ensures { result ≡ (is_allowed (Flags 7 1) flags.0 && is_allowed Reserved reserved) }
+    ensures { result ≡ (is_allowed (Flags 7) flags.0 && is_allowed Reserved reserved) }
 {
     are_spellable(flags) && reserved == 0
 }
 
-// IOAS_MAP: flags, ioas_id, reserved, user_va, length, iova.
+// IOAS_MAP: flags, ioas_id, reserved, user_va, length, iova. An address that the flags don't fix is ignored.
 fn ioas_map_of(bytes: &[u8]) -> Result<Command, DecodeError>
-    ensures refused { refused_of result ≡ refusal_of ioas_map bytes.now }
-    ensures structure { IfOk result (λ c. structure_of c ≡ ioas_map) }
-    ensures values { IfOk result (λ c. values_of c ≡ read_values ioas_map bytes.now) }
+    ensures refused { refused_of result ≡ refusal_of (ioas_map true) bytes.now }
+    ensures number { IfOk result (λ c. (structure_of c).number ≡ (ioas_map true).number) }
+    ensures values { IfOk result (λ c. values_of c ≡ read_values (structure_of c) bytes.now) }
 {
     let (fields, after) = parts(bytes, IOAS_MAP_LENGTH)?;
     let (flags, fields) = u32_at(fields);
@@ -68,7 +68,7 @@ fn ioas_map_of(bytes: &[u8]) -> Result<Command, DecodeError>
         ioas: ObjId(ioas),
         user_va,
         length,
-        iova: Iova(iova),
+        iova: kept_iova(flags, Iova(iova)),
     }))
 }
 
@@ -109,8 +109,9 @@ fn read(nr: u32, bytes: &[u8]) -> Result<Command, DecodeError>
 /// Where the bytes spell no served command, the error is the first of these refusals that applies:
 /// the number isn't served (Number); fewer than 4 bytes, or a size below the structure's own length
 /// (Short); a size above 4096 (Tail); fewer bytes than the size (Short); a byte past the known
-/// structure, up to the size, that isn't 0 (Tail); an unknown flag, a MAP without FIXED_IOVA, or a
-/// reserved field that isn't 0 (Unsupported); bytes after the size (Array).
+/// structure, up to the size, that isn't 0 (Tail); an unknown flag, or a reserved field that
+/// isn't 0 (Unsupported); bytes after the size (Array). The address of a MAP without FIXED_IOVA is
+/// ignored, and the command has 0 for it.
 pub fn decode(nr: u32, bytes: &[u8]) -> Result<Command, DecodeError>
     // What is answered is spelled so.
     ensures found { IfOk result (λ c. Spells nr bytes.now c) }

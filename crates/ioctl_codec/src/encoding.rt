@@ -1,13 +1,34 @@
 //! From commands, and replies to them, to bytes.
 
-ghost use Rattle.std.specs.Prelude.{◌≡◌, ◌≤◌, ◌++◌, length, drop, IsTrue, IfOk, OnErr, ◌<◌};
-ghost use Rattle.ioctl_codec.specs.Structures.{is_spellable, structure_of};
+ghost use Rattle.std.specs.Prelude.{◌≡◌, ◌≤◌, ◌++◌, length, drop, Some, IsTrue, IfOk, OnErr, ◌<◌};
+ghost use Rattle.ioctl_codec.specs.Layout.{structure_bytes};
+ghost use Rattle.ioctl_codec.specs.Structures.{is_spellable, structure_of, values_of};
+ghost use Rattle.ioctl_codec.specs.declared.command.Command.TheVariants.{IoasMap};
 ghost use Rattle.ioctl_codec.specs.Spelling.{canonical, written_back, Spells, FitsFields};
 
-use crate::command::Command;
+use crate::command::{Command, kept_iova};
 use crate::writing::{put_destroy, put_ioas_alloc, put_ioas_map, put_ioas_unmap};
-use iofd_words::{MapRequest, NoMemory, ObjId, Reply, UnmapRequest};
+use iofd_words::{Iova, MapRequest, NoMemory, ObjId, Reply, UnmapRequest};
 use std::alloc::Allocator;
+
+// Writes a MAP's one spelling to the front, with 0 for an address that isn't fixed.
+fn put_map(out: &mut [u8; 64], map: MapRequest) -> usize
+    ensures count { result ≡ 40 }
+    ensures bytes { out.new ≡ canonical (IoasMap map) ++ drop result out.old }
+    ensures fits { FitsFields (IoasMap map) }
+{
+    let iova = kept_iova(map.flags, map.iova);
+    put_ioas_map(out, MapRequest { iova, ..map })
+}
+
+// Writes a MAP with the address that was answered to the front.
+fn put_mapped(out: &mut [u8; 64], map: MapRequest, iova: Iova) -> usize
+    ensures count { result ≡ 40 }
+    ensures bytes { out.new
+        ≡ structure_bytes (structure_of (IoasMap map)) (values_of (IoasMap map)) (Some iova.0) ++ drop result out.old }
+{
+    put_ioas_map(out, MapRequest { iova, ..map })
+}
 
 // Writes the command's one spelling to the front, and answers its length. The rest stays.
 #[tactic(auto, unfolding(crate::specs::Layout::structure_bytes))]
@@ -20,7 +41,7 @@ fn put_command(out: &mut [u8; 64], command: &Command) -> usize
     match *command {
         Command::Destroy(id) => put_destroy(out, id),
         Command::IoasAlloc => put_ioas_alloc(out, ObjId(0)),
-        Command::IoasMap(map) => put_ioas_map(out, map),
+        Command::IoasMap(map) => put_map(out, map),
         Command::IoasUnmap(unmap) => put_ioas_unmap(out, unmap),
     }
 }
@@ -81,9 +102,7 @@ pub fn encode_reply_to(command: &Command, reply: &Reply, buffer: &mut [u8; 64]) 
     match (*command, *reply) {
         (Command::Destroy(id), Reply::Done) => put_destroy(buffer, id),
         (Command::IoasAlloc, Reply::Id(id)) => put_ioas_alloc(buffer, id),
-        (Command::IoasMap(map), Reply::Iova(iova)) => {
-            put_ioas_map(buffer, MapRequest { iova, ..map })
-        }
+        (Command::IoasMap(map), Reply::Iova(iova)) => put_mapped(buffer, map, iova),
         (Command::IoasUnmap(unmap), Reply::Bytes(length)) => {
             put_ioas_unmap(buffer, UnmapRequest { length, ..unmap })
         }

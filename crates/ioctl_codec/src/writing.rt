@@ -1,6 +1,6 @@
 //! Structures written to the front of a buffer, each of its own length. The rest of the buffer stays.
 
-ghost use Rattle.std.specs.Prelude.{◌≡◌, ◌+◌, ◌^◌, ◌<◌, ◌≤◌, ◌++◌, [], ◌∷◌, take, drop, Some, None};
+ghost use Rattle.std.specs.Prelude.{◌≡◌, ◌+◌, ◌^◌, ◌<◌, ◌≤◌, ◌++◌, [], ◌∷◌, take, drop, true, Some, None};
 ghost use Rattle.std.specs.Int.{w32, w64, to_le_bytes};
 ghost use Rattle.ioctl_codec.specs.Layout.{AreOfWidth, filled, structure_bytes};
 ghost use Rattle.ioctl_codec.specs.Structures.{destroy, ioas_alloc, ioas_map, ioas_unmap};
@@ -51,9 +51,9 @@ pub fn put_ioas_alloc(out: &mut [u8; 64], out_ioas_id: ObjId) -> usize
 pub fn put_ioas_map(out: &mut [u8; 64], map: MapRequest) -> usize
     ensures count { result ≡ 40 }
     ensures bytes { out.new
-        ≡ structure_bytes ioas_map (map.flags.0 ∷ map.ioas.0 ∷ map.user_va ∷ map.length ∷ map.iova.0 ∷ []) None
+        ≡ structure_bytes (ioas_map true) (map.flags.0 ∷ map.ioas.0 ∷ map.user_va ∷ map.length ∷ map.iova.0 ∷ []) None
         ++ drop result out.old }
-    ensures fits { AreOfWidth ioas_map.fields (filled ioas_map.fields (map.flags.0 ∷ map.ioas.0 ∷ map.user_va ∷ map.length ∷ map.iova.0 ∷ []) None) }
+    ensures fits { AreOfWidth (ioas_map true).fields (filled (ioas_map true).fields (map.flags.0 ∷ map.ioas.0 ∷ map.user_va ∷ map.length ∷ map.iova.0 ∷ []) None) }
 {
     let at = put_u32(out, 0, IOAS_MAP_LENGTH);
     let at = put_u32(out, at, map.flags.0);

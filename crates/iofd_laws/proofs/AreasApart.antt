@@ -8,11 +8,12 @@ use Rattle.iofd_words.specs.Attachments.{attachment_of}
 use Rattle.iofd_words.specs.Files.{user_of, device_of}
 use Rattle.iofd_words.specs.Objects.{binding_of, kind_of}
 use Rattle.iofd_words.specs.Settings.{DeviceSettings}
-use Rattle.iofd_words.specs.Answers.{Answers}
+use Rattle.iofd_words.specs.Answers.{Answers, IsMappedAt}
 use Rattle.iofd_words.specs.Areas.{areas_meet, areas_of, is_of, meets_area, with_area, with_phase}
 use Rattle.iofd_words.specs.Bounds.{Bounds}
 use Rattle.iofd_words.specs.Checks.{refusal}
 use Rattle.iofd_laws.specs.Laws.{are_apart}
+use Rattle.iofd_words.specs.Rights.{is_fixed}
 use Rattle.iofd_words.specs.Span.{meets, span_from}
 use Rattle.iofd_words.specs.View.{view}
 use Rattle.iofd_words.specs.World.{World}
@@ -32,7 +33,7 @@ use Rattle.iofd_words.specs.declared.reply.Reply.TheVariants as reply
 use Rattle.iofd_words.specs.declared.rows.Area.{Area}
 use Rattle.iofd_words.specs.declared.rows.Phase.{Phase}
 use Rattle.iofd_rows.proofs.Bools.{or_false, and_true, both_false, not_true, swapped}
-use Rattle.iofd_runs.proofs.NotRefused.{map_passed, passes}
+use Rattle.iofd_runs.proofs.MappedAt.{lies_at}
 
 -- a and b are of one address space, and have an address in common
 abbrev clash : Area → Area → Bool
@@ -116,9 +117,9 @@ are_apart-map phase (a ∷ areas) = rw (meets_area-map phase areas a.file a.ioas
 
 -- ---- every event keeps them apart
 
--- a MAP is refused where its span meets an area
-map_is_free : (w : World) (file : FileNo) (request : MapRequest) (iova : Iova) → iova ≡ request.iova → refusal w (event.Map file request) ≡ None → meets_area w.areas file request.ioas (span_from iova.0 request.length) ≡ false
-map_is_free w file request iova is none = rw is (map_passed (view w) file request (passes w (event.Map file request) none)).apart
+-- a MAP's span meets no area, be its address fixed or chosen
+map_is_free : (w : World) (file : FileNo) (request : MapRequest) (iova : Iova) → IsMappedAt w file request (is_fixed request.flags) iova → refusal w (event.Map file request) ≡ None → meets_area w.areas file request.ioas (span_from iova.0 request.length) ≡ false
+map_is_free w file request iova is none = (lies_at w file request iova none is).apart
 
 pub keeps_apart : (at : ℕ) (w : World) (e : Event) (answer : Reply) → refusal w e ≡ None → Answers w e answer → are_apart w.areas ≡ true → are_apart (changed at w e answer).areas ≡ true
 unfolding changed settle without_areas attached detached Answers

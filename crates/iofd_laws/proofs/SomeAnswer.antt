@@ -1,31 +1,36 @@
 -- Every event that nothing refuses has a lawful answer.
-use Rattle.std.proofs.Common.{◌≡◌, ℕ, ◌+◌, Bool, true, false, cond, ◌&&◌, eqb, is_some, is_none, Option, Some, None, List, [], ◌∷◌, map, Contains, refl, sym, ◌∙◌, ap, arith}
-use Rattle.std.specs.List.{count_by, range_with_len}
+use Rattle.std.proofs.Common.{◌≡◌, ℕ, ◌+◌, Bool, true, false, cond, ◌&&◌, ◌||◌, not, eqb, is_some, is_none, Option, Some, None, List, [], ◌∷◌, map, Contains, refl, sym, ◌∙◌, ap, arith}
+use Rattle.std.specs.List.{count_by, list_any, range_with_len}
+use Rattle.std.proofs.lemmas.Bool.{not-false}
 use Rattle.std.proofs.lemmas.List.Sums.{sum_by-cons}
 use Rattle.iofd_runs.specs.Fits.{RowsFit}
 use Rattle.iofd_rows.specs.Pinned.{ArePinned}
 use Rattle.iofd_rows.proofs.Bools.{not_false}
 use Rattle.iofd_laws.proofs.FreshIds.{fresh_id}
 use Rattle.iofd_runs.proofs.Known.{bound_known}
-use Rattle.iofd_runs.proofs.NotRefused.{alloc_passed, attach_passed, bind_passed, passes, user_map_passed}
+use Rattle.iofd_runs.proofs.NotRefused.{alloc_passed, attach_passed, bind_passed, map_passed, passes, user_map_passed}
 use Rattle.iofd_runs.proofs.PinnedAccess.{some_outcome}
-use Rattle.iofd_words.specs.Answers.{Answers, IsHwptFor, IsHwptOf, IsTarget, UnmapAnswers, write_reply}
+use Rattle.iofd_words.specs.Answers.{Answers, IsHwptFor, IsHwptOf, IsMappedAt, IsTarget, UnmapAnswers, write_reply}
 use Rattle.iofd_words.specs.Areas.{is_waiting, touched_bytes}
 use Rattle.iofd_words.specs.Attachments.{devices_of}
-use Rattle.iofd_words.specs.Checks.{checks, lacks_room_for_hwpt, refusal}
+use Rattle.iofd_words.specs.Checks.{checks, choices, has_choice, lacks_choice, lacks_room_for_hwpt, may_choose, refusal, taken_spans}
 use Rattle.iofd_words.specs.Files.{device_of}
 use Rattle.iofd_words.specs.Frames.{is_free}
 use Rattle.iofd_words.specs.Objects.{automatic_hwpt, binding_of, is_full, kind_of}
 use Rattle.iofd_words.specs.Policy.{outcomes}
+use Rattle.iofd_words.specs.Rights.{is_fixed}
+use Rattle.iofd_words.specs.Room.{starts_to_try}
 use Rattle.iofd_words.specs.Settings.{DeviceSettings}
 use Rattle.iofd_words.specs.View.{view}
 use Rattle.iofd_words.specs.World.{World}
 use Rattle.iofd_words.specs.declared.event.Event.{Event}
 use Rattle.iofd_words.specs.declared.event.Event.TheVariants as event
+use Rattle.iofd_words.specs.declared.event.MapRequest.{MapRequest}
 use Rattle.iofd_words.specs.declared.event.UnmapRequest.{UnmapRequest}
 use Rattle.iofd_words.specs.declared.fault.AccessKind.TheVariants.{Write}
 use Rattle.iofd_words.specs.declared.numbers.DeviceNo.{DeviceNo}
 use Rattle.iofd_words.specs.declared.numbers.FileNo.{FileNo}
+use Rattle.iofd_words.specs.declared.numbers.Iova.{Iova}
 use Rattle.iofd_words.specs.declared.numbers.ObjId.{ObjId}
 use Rattle.iofd_words.specs.declared.refusal.Errno.TheVariants.{EAGAIN}
 use Rattle.iofd_words.specs.declared.reply.Reply.{Reply}
@@ -42,6 +47,14 @@ counted {X = X} p (x ∷ xs) some = by_test (p x) refl (ap (λ n. eqb n 0) (sym 
     by_test : (b : Bool) → p x ≡ b → eqb (cond b 1 0 + count_by p xs) 0 ≡ false → (eqb (count_by p xs) 0 ≡ false → (x : X) × (p x ≡ true)) → (x : X) × (p x ≡ true)
     by_test true is some later = (x, is)
     by_test false is some later = let same : 0 + count_by p xs ≡ count_by p xs = omega arith in later (ap (λ n. eqb n 0) (sym same) ∙ some)
+
+one_of : {X : Type 0} (p : X → Bool) (xs : List X) → list_any p xs ≡ true → (x : X) × (p x ≡ true)
+one_of p [] some = cc
+one_of {X = X} p (x ∷ xs) some = by_test (p x) refl some (one_of p xs)
+  where
+    by_test : (b : Bool) → p x ≡ b → (b || list_any p xs) ≡ true → (list_any p xs ≡ true → (y : X) × (p y ≡ true)) → (y : X) × (p y ≡ true)
+    by_test true is some later = (x, is)
+    by_test false is some later = later some
 
 first_of_map : {X Y : Type 0} (f : X → Y) (xs : List X) → (xs ≡ [] → ⊥) → (y : Y) × Contains (map f xs) y
 first_of_map f [] some = absurd (some refl)
@@ -60,6 +73,16 @@ module _ (at : ℕ) (w : World) (pins : ArePinned at w) (fits : RowsFit w) where
       by_test : (b : Bool) → is_waiting w.areas (devices_of w.objects w.attachments file request.ioas) file request ≡ b → (answer : Reply) × UnmapAnswers w file request answer
       by_test true waits = (reply.Pending EAGAIN, (waits, refl))
       by_test false waits = (reply.Bytes (touched_bytes w.areas file request), (not_false _ waits, refl))
+
+  -- the fixed address, or one that may be chosen
+  map_answer : (file : FileNo) (request : MapRequest) → lacks_choice (view w) file request ≡ false → (iova : Iova) × IsMappedAt w file request (is_fixed request.flags) iova
+  map_answer file request chosen = by_flag (is_fixed request.flags) chosen
+    where
+      by_flag : (fixed : Bool) → (not fixed && not (has_choice (view w) file request)) ≡ false → (iova : Iova) × IsMappedAt w file request fixed iova
+      by_flag true chosen = (request.iova, refl)
+      by_flag false chosen =
+          let one = one_of (may_choose (view w) file request) (starts_to_try (choices (view w) file request) (taken_spans (view w) file request)) (not-false (has_choice (view w) file request) chosen) in
+          (record { 0 = one.0 }, one.1)
 
   -- a page table over the address space: the automatic one that is there, or a new one
   table_id : (file : FileNo) (o : Option Object) → (is_none o ≡ true → is_full w.objects file ≡ false) → (id : ObjId) × IsHwptFor w file id o
@@ -97,7 +120,9 @@ module _ (at : ℕ) (w : World) (pins : ArePinned at w) (fits : RowsFit w) where
   some_answer (event.IoasAlloc file) none =
       let (id, fresh) = fresh_id w.objects file (alloc_passed (view w) file (passes w (event.IoasAlloc file) none)).roomy in
       (reply.Id id, fresh)
-  some_answer (event.Map file request) none = (reply.Iova request.iova, refl)
+  some_answer (event.Map file request) none =
+      let (iova, at) = map_answer file request (map_passed (view w) file request (passes w (event.Map file request) none)).chosen in
+      (reply.Iova iova, at)
   some_answer (event.Unmap file request) none = unmap_answer file request
   some_answer (event.Destroy file id) none = (reply.Done, tt)
   some_answer (event.Close file) none = (reply.Done, tt)

@@ -3,6 +3,7 @@
 ghost use Rattle.std.specs.Prelude.{◌≡◌, ◌≢◌, ◌≤◌, ℕ, Some, None, List, [], ◌∷◌, ◌++◌, length, IsTrue};
 ghost use Rattle.iofd_rows.specs.Debts.{DebtsAttached};
 ghost use Rattle.iofd_runs.specs.Fits.{RowsFit};
+ghost use Rattle.iofd_runs.specs.InUsable.{AreasUsable};
 ghost use Rattle.iofd_runs.specs.Owned.{AreasOwned};
 ghost use Rattle.iofd_laws.specs.Laws.{are_apart, have_own_frames, has_memory, held_in, IsOfAnother, SameMemory, WasFree, rows_of};
 ghost use Rattle.iofd_rows.specs.Ids.{have_own_ids};
@@ -89,6 +90,13 @@ pub fn rows_fit<A: Allocator>()
 pub fn areas_are_of_the_files_user<A: Allocator>()
     ensures { (settings : Settings) (records : List (Record A)) → IsRun settings records →
         AreasOwned (world_of settings records) }
+{}
+
+/// In every run, each area lies in addresses that its address space can use: none that a page table of it doesn't
+/// translate, and none that a device attached to it keeps for itself.
+pub fn areas_are_usable<A: Allocator>()
+    ensures { (settings : Settings) (records : List (Record A)) → IsRun settings records →
+        AreasUsable (world_of settings records) }
 {}
 
 /// In every run, no user has more pinned pages than its limit allows.

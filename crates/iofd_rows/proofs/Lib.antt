@@ -15,3 +15,4 @@ pub mod PageTables
 pub mod Paid
 pub mod PinsFollow
 pub mod Settled
+pub mod Unusable

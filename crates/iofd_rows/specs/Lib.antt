@@ -1,3 +1,4 @@
 pub mod Debts
 pub mod Ids
 pub mod Pinned
+pub mod Reached

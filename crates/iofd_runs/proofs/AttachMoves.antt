@@ -85,11 +85,11 @@ owed_detached objects attachments areas device a each =
 -- ---- an attachment comes
 
 -- the page table of an attachment to an address space is over that address space, be it there already or new
-record IsMade (objects new : List Object) (file : FileNo) (ioas id : ObjId) : Type 0 where
-  stay : KindsStay objects new
-  spaces : (object : Object) → IsIn new object → (over : ObjId) → ioas_of object.kind ≡ Some over → IsSpace new object.file over
-  width : Width
-  table : kind_of new file id ≡ Some (kind.Hwpt ioas width true)
+pub record IsMade (objects new : List Object) (file : FileNo) (ioas id : ObjId) : Type 0 where
+  pub stay : KindsStay objects new
+  pub spaces : (object : Object) → IsIn new object → (over : ObjId) → ioas_of object.kind ≡ Some over → IsSpace new object.file over
+  pub width : Width
+  pub table : kind_of new file id ≡ Some (kind.Hwpt ioas width true)
 
 automatic_kind : (k : ObjectKind) (ioas : ObjId) (width : Width) → is_automatic_over ioas width k ≡ true → (of : Width) × (k ≡ kind.Hwpt ioas of true)
 automatic_kind kind.Ioas ioas width is = cc
@@ -100,7 +100,7 @@ automatic_kind (kind.Hwpt over of automatic) ioas width is =
     (of, rw (same, both.1) refl)
 automatic_kind (kind.Device device) ioas width is = cc
 
-is_made : (w : World) (file : FileNo) (ioas id : ObjId) (width : Width) (o : Option Object) → have_own_ids w.objects ≡ true → automatic_hwpt w.objects file ioas width ≡ o → IsHwptFor w file id o → IsSpace w.objects file ioas → ((object : Object) → IsIn w.objects object → (over : ObjId) → ioas_of object.kind ≡ Some over → IsSpace w.objects object.file over) → IsMade w.objects (with_hwpt file ioas id width o w.objects) file ioas id
+pub is_made : (w : World) (file : FileNo) (ioas id : ObjId) (width : Width) (o : Option Object) → have_own_ids w.objects ≡ true → automatic_hwpt w.objects file ioas width ≡ o → IsHwptFor w file id o → IsSpace w.objects file ioas → ((object : Object) → IsIn w.objects object → (over : ObjId) → ioas_of object.kind ≡ Some over → IsSpace w.objects object.file over) → IsMade w.objects (with_hwpt file ioas id width o w.objects) file ioas id
 is_made w file ioas id width (Some object) own found answers space spaces =
     let (within, passes) = in_found (λ (object : Object). eqb object.file.0 file.0 && is_automatic_over ioas width object.kind) w.objects object found in
     let parts = and_true (eqb object.file.0 file.0) (is_automatic_over ioas width object.kind) passes in

@@ -3,15 +3,16 @@ use Rattle.std.proofs.Common.{◌≡◌, ℕ, ◌+◌, ◌<◌, ◌≤◌, ◌^�
 use Rattle.std.specs.List.{filter, list_all, find, filter_map, list_any}
 use Rattle.std.proofs.lemmas.Bool.Decides.{nat_tests}
 use Rattle.iofd_words.specs.After.{changed, map_changes, attach_changes, target_changes, detach_changes, settle, without_areas, attached, detached, mapped_area}
-use Rattle.iofd_words.specs.Answers.{Answers}
+use Rattle.iofd_words.specs.Answers.{Answers, IsMappedAt}
 use Rattle.iofd_words.specs.Attachments.{attachment_of, with_attachment}
 use Rattle.iofd_words.specs.Checks.{refusal}
 use Rattle.iofd_words.specs.Files.{user_of, device_of}
 use Rattle.iofd_runs.specs.Fits.{RowsFit, begins_at_page, devices_rise, is_of_pages}
 use Rattle.iofd_words.specs.Frames.{frame_at, is_free}
 use Rattle.iofd_words.specs.Objects.{automatic_hwpt, binding_of, kind_of}
-use Rattle.iofd_words.specs.Pages.{is_whole, is_above_user, page_of}
+use Rattle.iofd_words.specs.Pages.{is_above_user, page_of}
 use Rattle.iofd_words.specs.Pins.{ObjectPage, frame_now, is_page, pin_now, settled}
+use Rattle.iofd_words.specs.Rights.{is_fixed}
 use Rattle.iofd_words.specs.Settings.{DeviceSettings}
 use Rattle.iofd_words.specs.Span.{size_of, span_from}
 use Rattle.iofd_words.specs.Tables.{with_tables}
@@ -40,6 +41,7 @@ use Rattle.iofd_rows.proofs.Bools.{and_true, both_true}
 use Rattle.iofd_rows.proofs.Found.{all_filter, all_map, found_passes}
 use Rattle.iofd_rows.proofs.OwnMemory.{all-with_area}
 use Rattle.iofd_runs.proofs.Known.{alloc_open, attached_one, bind_device, bind_open, bound_known, is_known, known_closed, known_hwpt, known_one}
+use Rattle.iofd_runs.proofs.MappedAt.{lies_at}
 use Rattle.iofd_runs.proofs.NotRefused.{attach_passed, map_passed, passes}
 
 -- ---- a span of a length has that many numbers
@@ -49,10 +51,6 @@ from_size first length some = let above : 0 < length = search (some, arith, nat_
 
 -- ---- one more area
 
-whole_length : (length va iova : Bool) → not (length && va && iova) ≡ false → length ≡ true
-whole_length true va iova is = refl
-whole_length false va iova is = cc
-
 short_length : (va length : ℕ) → is_above_user va length ≡ false → length ≤ 2 ^ 48
 short_length va length is = search (is, arith, nat_tests)
 
@@ -60,19 +58,11 @@ mapped_pages : (at : ℕ) (w : World) (file : FileNo) (request : MapRequest) (io
 mapped_pages at w file request iova none =
     let passed = map_passed (view w) file request (passes w (event.Map file request) none) in
     let size = from_size iova.0 request.length passed.some in
-    let length_whole = whole_length (is_whole request.length) (is_whole request.user_va) (is_whole request.iova.0) passed.whole in
     let below : request.length ≤ 2 ^ 48 = short_length request.user_va request.length passed.in_user in
-    rw size (both_true _ _ length_whole (search (below, arith, nat_tests)))
+    rw size (both_true _ _ passed.whole (search (below, arith, nat_tests)))
 
-whole_start : (length va iova : Bool) → not (length && va && iova) ≡ false → iova ≡ true
-whole_start true true true is = refl
-whole_start true true false is = cc
-whole_start true false iova is = cc
-whole_start false va iova is = cc
-
-mapped_start : (at : ℕ) (w : World) (file : FileNo) (request : MapRequest) (iova : Iova) → iova ≡ request.iova → refusal w (event.Map file request) ≡ None → begins_at_page (mapped_area at file request iova) ≡ true
-mapped_start at w file request iova is none =
-    rw is (whole_start (is_whole request.length) (is_whole request.user_va) (is_whole request.iova.0) (map_passed (view w) file request (passes w (event.Map file request) none)).whole)
+mapped_start : (at : ℕ) (w : World) (file : FileNo) (request : MapRequest) (iova : Iova) → IsMappedAt w file request (is_fixed request.flags) iova → refusal w (event.Map file request) ≡ None → begins_at_page (mapped_area at file request iova) ≡ true
+mapped_start at w file request iova is none = (lies_at w file request iova none is).whole
 
 -- ---- one more attachment
 

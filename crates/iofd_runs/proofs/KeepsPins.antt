@@ -14,7 +14,6 @@ use Rattle.iofd_words.specs.Files.{user_of, device_of}
 use Rattle.iofd_words.specs.Frames.{FrameWrite}
 use Rattle.iofd_words.specs.Objects.{automatic_hwpt, binding_of, has_hwpt, is_object, kind_of, with_object, without_object}
 use Rattle.iofd_rows.specs.Pinned.{ArePinned, has_object, have_own_numbers}
-use Rattle.iofd_words.specs.Pages.{is_whole}
 use Rattle.iofd_words.specs.Pins.{ObjectPage, are_present, frame_now, is_page, is_translated, page_of_pin, pinned_frame, pinned_pages}
 use Rattle.iofd_words.specs.Settings.{DeviceSettings, Settings}
 use Rattle.iofd_words.specs.Span.{size_of, span_from}
@@ -195,8 +194,8 @@ none_over at (a ∷ areas) memory made sizes =
             let other : eqb m.number a.memory ≡ false = grind (arith, nat_tests) in
             rw (other, none rows parts.1 same) refl
 
-mapped_pinned : (at : ℕ) (w : World) (file : FileNo) (request : MapRequest) (iova : Iova) (user : UserNo) → iova ≡ request.iova → refusal w (event.Map file request) ≡ None → user_of w.settings file ≡ Some user → ArePinned at w → ArePinned (at + 1) (map_changes at w file request iova (Some user))
-mapped_pinned at w file request iova user fixed none is p =
+mapped_pinned : (at : ℕ) (w : World) (file : FileNo) (request : MapRequest) (iova : Iova) (user : UserNo) → refusal w (event.Map file request) ≡ None → user_of w.settings file ≡ Some user → ArePinned at w → ArePinned (at + 1) (map_changes at w file request iova (Some user))
+mapped_pinned at w file request iova user none is p =
     let area = mapped_area at file request iova in
     let object = memory_object at user request in
     let q = later_pinned at w p in
@@ -221,15 +220,10 @@ mapped_pinned at w file request iova user fixed none is p =
         whole_size : (request : MapRequest) (iova : Iova) → MapPassed (view w) file request → eqb (request.length / 4096 * 4096) (size_of (span_from iova.0 request.length)) ≡ true
         whole_size request iova passed =
             let some : 0 < request.length = let other = passed.some in search (other, arith, nat_tests) in
-            let whole : is_whole request.length ≡ true = first (is_whole request.length) (is_whole request.user_va) (is_whole request.iova.0) passed.whole in
-            let rest : request.length % 4096 ≡ 0 = eqb-true (request.length % 4096) 0 whole in
+            let rest : request.length % 4096 ≡ 0 = eqb-true (request.length % 4096) 0 passed.whole in
             let parts = div-add-mod request.length 4096 in
             let same : request.length / 4096 * 4096 ≡ iova.0 + request.length - 1 + 1 - iova.0 = omega (arith, some, rest, parts) in
             rw same (eqb_same (iova.0 + request.length - 1 + 1 - iova.0))
-          where
-            first : (length va start : Bool) → not (length && va && start) ≡ false → length ≡ true
-            first true va start is = refl
-            first false va start is = cc
 
     own_object : has_object (w.memory ++ memory_object at user request ∷ []) (mapped_area at file request iova) ≡ true
     own_object =
@@ -303,7 +297,7 @@ keeps_pins at w (event.Map file request) (reply.Iova iova) none answers p = mapp
   where
     mapped : (user : Option UserNo) → user_of w.settings file ≡ user → ArePinned (at + 1) (map_changes at w file request iova user)
     mapped None is = later_pinned at w p
-    mapped (Some user) is = mapped_pinned at w file request iova user answers none is p
+    mapped (Some user) is = mapped_pinned at w file request iova user none is p
 keeps_pins at w (event.Unmap file request) (reply.Bytes count) none answers p =
     gone_pinned at w (is_touched file request) w.objects w.attachments w.allowed w.closed (λ own ioas has. has) p
 keeps_pins at w (event.Unmap file request) (reply.Pending errno) none answers p = other_phases at w _ p

@@ -5,7 +5,9 @@ pub mod KeepsFits
 pub mod KeepsOwnMemory
 pub mod KeepsOwned
 pub mod KeepsPins
+pub mod KeepsUsable
 pub mod Known
+pub mod MappedAt
 pub mod MappedPages
 pub mod NotRefused
 pub mod ObjectsGo

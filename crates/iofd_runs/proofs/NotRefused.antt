@@ -4,13 +4,12 @@ use Rattle.std.proofs.Common.{◌≡◌, ℕ, ◌^◌, Bool, true, false, ◌&&�
 use Rattle.std.specs.List.{list_any}
 use Rattle.iofd_words.specs.Areas.{areas_meet, has_no_room, is_cut, is_everything, unmapped_span}
 use Rattle.iofd_words.specs.Attachments.{attachment_of}
-use Rattle.iofd_words.specs.Checks.{attach_checks, checks, is_device_object, is_used, lacks_attached_page, lacks_mapped_page, lacks_room_for_hwpt, passes_limit_attached, passes_limit_mapped, refusal, target_checks, user_access_checks}
+use Rattle.iofd_words.specs.Checks.{attach_checks, checks, is_device_object, is_interrupt, is_outside_usable, is_used, lacks_attached_page, lacks_choice, lacks_mapped_page, lacks_room_for_hwpt, narrows, overlaps, passes_limit_attached, passes_limit_mapped, refusal, target_checks, user_access_checks}
 use Rattle.iofd_words.specs.Files.{device_of, is_device, is_user}
 use Rattle.iofd_words.specs.FirstTrue.{first_true}
 use Rattle.iofd_words.specs.Objects.{has_ioas, is_bound_device, is_full, kind_of, objects_of}
 use Rattle.iofd_words.specs.Pages.{crosses, is_above_sum, is_above_user, is_whole, page_of}
 use Rattle.iofd_words.specs.Rights.{is_fixed}
-use Rattle.iofd_words.specs.Span.{span_from}
 use Rattle.iofd_words.specs.View.{View, view}
 use Rattle.iofd_words.specs.World.{World}
 use Rattle.iofd_words.specs.declared.event.Event.{Event}
@@ -26,7 +25,7 @@ use Rattle.iofd_words.specs.declared.refusal.Cause.TheVariants as cause
 use Rattle.iofd_words.specs.declared.rows.Object.{Object}
 use Rattle.iofd_words.specs.declared.rows.ObjectKind.{ObjectKind}
 use Rattle.iofd_words.specs.declared.rows.ObjectKind.TheVariants as kind
-use Rattle.iofd_rows.proofs.Bools.{or_false}
+use Rattle.iofd_rows.proofs.Bools.{and_true, or_false}
 use Rattle.iofd_runs.proofs.Runs.{tests_false}
 
 -- nothing refuses the event in the world: no test of its table is true
@@ -72,15 +71,18 @@ close_passed v file none = let rows = checks v (event.Close file) in record { op
 
 pub record MapPassed (v : View) (file : FileNo) (request : MapRequest) : Type 0 where
   pub opened : v.is_open file ≡ true
-  pub fixed : is_fixed request.flags ≡ true
   pub user_sum : is_above_sum request.user_va request.length ≡ false
-  pub sum : is_above_sum request.iova.0 request.length ≡ false
+  pub sum : (is_fixed request.flags && is_above_sum request.iova.0 request.length) ≡ false
   pub some : eqb request.length 0 ≡ false
-  pub whole : not (is_whole request.length && is_whole request.user_va && is_whole request.iova.0) ≡ false
+  pub whole : is_whole request.length ≡ true
+  pub whole_user : is_whole request.user_va ≡ true
+  pub whole_iova : (is_fixed request.flags && not (is_whole request.iova.0)) ≡ false
   pub in_user : is_above_user request.user_va request.length ≡ false
   pub space : has_ioas v.objects file request.ioas ≡ true
-  pub apart : areas_meet (span_from request.iova.0 request.length) (v.areas_of file request.ioas) ≡ false
+  pub usable : is_outside_usable v file request ≡ false
+  pub apart : overlaps v file request ≡ false
   pub roomy : has_no_room (v.areas_of file request.ioas) ≡ false
+  pub chosen : lacks_choice v file request ≡ false
   pub present : lacks_mapped_page v file request ≡ false
   pub within_limit : passes_limit_mapped v file request ≡ false
 
@@ -88,21 +90,26 @@ pub map_passed : (v : View) (file : FileNo) (request : MapRequest) → first_tru
 unfolding checks
 map_passed v file request none =
     let rows = checks v (event.Map file request) in
-    let sums = or_false (is_above_sum request.user_va request.length) (is_above_sum request.iova.0 request.length) (tests_false rows 3 none) in
-    let aligned = or_false (eqb request.length 0) (not (is_whole request.length && is_whole request.user_va && is_whole request.iova.0)) (tests_false rows 4 none) in
+    let sums = or_false (is_above_sum request.user_va request.length) (is_fixed request.flags && is_above_sum request.iova.0 request.length) (tests_false rows 2 none) in
+    let aligned = or_false (eqb request.length 0) (not (is_whole request.length && is_whole request.user_va)) (tests_false rows 3 none) in
+    let wholes = and_true (is_whole request.length) (is_whole request.user_va) (not_not _ aligned.1) in
+    let places = or_false (has_no_room (v.areas_of file request.ioas)) (lacks_choice v file request) (tests_false rows 9 none) in
     record {
       opened = not_not _ (tests_false rows 0 none);
-      fixed = not_not _ (tests_false rows 1 none);
       user_sum = sums.0;
       sum = sums.1;
       some = aligned.0;
-      whole = aligned.1;
+      whole = wholes.0;
+      whole_user = wholes.1;
+      whole_iova = tests_false rows 4 none;
       in_user = tests_false rows 5 none;
       space = not_not _ (tests_false rows 6 none);
-      apart = tests_false rows 7 none;
-      roomy = tests_false rows 8 none;
-      present = tests_false rows 9 none;
-      within_limit = tests_false rows 10 none;
+      usable = tests_false rows 7 none;
+      apart = tests_false rows 8 none;
+      roomy = places.0;
+      chosen = places.1;
+      present = tests_false rows 10 none;
+      within_limit = tests_false rows 11 none;
     }
 
 pub record UnmapPassed (v : View) (file : FileNo) (request : UnmapRequest) : Type 0 where
@@ -184,6 +191,7 @@ bind_passed v file device none =
 pub record AttachPassed (v : View) (device : DeviceNo) (pt_id : ObjId) (bound : Object) : Type 0 where
   pub unattached : is_some (attachment_of v.attachments device) ≡ false
   pub space : kind_of v.objects bound.file pt_id ≡ Some kind.Ioas
+  pub wide : narrows v bound.file pt_id (device_of v.settings device) ≡ false
   pub roomy : lacks_room_for_hwpt v bound.file pt_id (device_of v.settings device) ≡ false
   pub present : lacks_attached_page v bound.file pt_id ≡ false
   pub within_limit : passes_limit_attached v bound.file pt_id ≡ false
@@ -202,7 +210,7 @@ attach_passed v device pt_id bound is none =
     by_kind : (k : Option ObjectKind) → kind_of v.objects bound.file pt_id ≡ k → is_some (attachment_of v.attachments device) ≡ false → first_true (target_checks v device pt_id bound.file k) ≡ None → AttachPassed v device pt_id bound
     by_kind (Some kind.Ioas) is unattached passed =
         let rows = target_checks v device pt_id bound.file (Some kind.Ioas) in
-        record { unattached = unattached; space = is; roomy = tests_false rows 0 passed; present = tests_false rows 1 passed; within_limit = tests_false rows 2 passed }
+        record { unattached = unattached; space = is; wide = tests_false rows 0 passed; roomy = tests_false rows 1 passed; present = tests_false rows 2 passed; within_limit = tests_false rows 3 passed }
     by_kind (Some (kind.Hwpt ioas width automatic)) is unattached passed = cc
     by_kind (Some (kind.Device other)) is unattached passed = cc
     by_kind None is unattached passed = cc
@@ -223,7 +231,8 @@ flush_passed v device none = tests_false (checks v (event.Flush device)) 0 none
 pub record AccessPassed (v : View) (device : DeviceNo) (iova : Iova) (len : ℕ) : Type 0 where
   pub bound : is_none (v.binding_of device) ≡ false
   pub short : crosses iova.0 len ≡ false
+  pub outside : is_interrupt (device_of v.settings device) iova.0 ≡ false
 
 pub write_passed : (v : View) (device : DeviceNo) (iova : Iova) (bytes : List ℕ) → first_true (checks v (event.DeviceWrite device iova bytes)) ≡ None → AccessPassed v device iova (length bytes)
 unfolding checks
-write_passed v device iova bytes none = let rows = checks v (event.DeviceWrite device iova bytes) in record { bound = tests_false rows 0 none; short = tests_false rows 1 none }
+write_passed v device iova bytes none = let rows = checks v (event.DeviceWrite device iova bytes) in record { bound = tests_false rows 0 none; short = tests_false rows 1 none; outside = tests_false rows 2 none }

@@ -1,16 +1,20 @@
 -- What an event that nothing refuses may answer. Where the server may choose (an id, a frame, whether a
 -- device that owes a flush is still let through), each lawful choice is an answer.
-use Rattle.std.specs.Prelude.{◌≡◌, ℕ, not, Option, Some, None, map, Contains, IsTrue}
+use Rattle.std.specs.Prelude.{◌≡◌, ℕ, Bool, true, false, not, Option, Some, None, map, Contains, IsTrue}
 use Rattle.iofd_words.specs.Areas.{is_waiting, touched_bytes}
 use Rattle.iofd_words.specs.Attachments.{devices_of}
+use Rattle.iofd_words.specs.Checks.{may_choose}
 use Rattle.iofd_words.specs.Files.{device_of}
 use Rattle.iofd_words.specs.Frames.{is_free}
 use Rattle.iofd_words.specs.Objects.{automatic_hwpt, binding_of, is_fresh, kind_of}
 use Rattle.iofd_words.specs.Policy.{Outcome, Passes, Denied, outcomes, fault_of}
+use Rattle.iofd_words.specs.Rights.{is_fixed}
 use Rattle.iofd_words.specs.Settings.{DeviceSettings}
+use Rattle.iofd_words.specs.View.{view}
 use Rattle.iofd_words.specs.World.{World}
 use Rattle.iofd_words.specs.declared.event.Event.{Event}
 use Rattle.iofd_words.specs.declared.event.Event.TheVariants as event
+use Rattle.iofd_words.specs.declared.event.MapRequest.{MapRequest}
 use Rattle.iofd_words.specs.declared.event.UnmapRequest.{UnmapRequest}
 use Rattle.iofd_words.specs.declared.fault.AccessKind.TheVariants.{Write}
 use Rattle.iofd_words.specs.declared.numbers.DeviceNo.{DeviceNo}
@@ -49,6 +53,11 @@ abbrev pub write_reply : World → DeviceNo → ℕ → Outcome → Reply
 write_reply w device address (Passes frame) = reply.Passed frame
 write_reply w device address (Denied reason) = reply.Fault (fault_of w.settings device address Write reason)
 
+-- where a MAP's area lies: at the fixed address, or at one that may be chosen
+abbrev pub IsMappedAt : World → FileNo → MapRequest → Bool → Iova → Type 0
+IsMappedAt w file request true iova = iova ≡ request.iova
+IsMappedAt w file request false iova = IsTrue (may_choose (view w) file request iova.0)
+
 -- ---- answers by their kind
 
 -- the answer is an id, a frame or an address that is lawful; each other kind is none
@@ -82,7 +91,7 @@ UnmapAnswers w file request answer = ⊥
 
 unfoldable pub Answers : World → Event → Reply → Type 0
 Answers w (event.IoasAlloc file) answer = AnswersId (λ id. IsTrue (is_fresh w.objects file id)) answer
-Answers w (event.Map file request) answer = AnswersIova (λ iova. iova ≡ request.iova) answer
+Answers w (event.Map file request) answer = AnswersIova (IsMappedAt w file request (is_fixed request.flags)) answer
 Answers w (event.Unmap file request) answer = UnmapAnswers w file request answer
 Answers w (event.Destroy file id) answer = AnswersDone answer
 Answers w (event.Close file) answer = AnswersDone answer

@@ -1,17 +1,21 @@
 -- The refusals of each event, in their order, by what they read of a world: the first test that is true gives the cause. A closed
 -- or unknown file comes before all.
-use Rattle.std.specs.Prelude.{ℕ, ◌+◌, ◌/◌, ◌^◌, Bool, true, false, ◌==◌, ◌&&◌, ◌||◌, not, nat_le, nat_lt, Option, Some, None, is_some, is_none, List, [], ◌∷◌, filter, length}
+use Rattle.std.specs.Prelude.{ℕ, ◌+◌, ◌/◌, ◌^◌, Bool, true, false, ◌==◌, ◌&&◌, ◌||◌, not, nat_le, nat_lt, Option, Some, None, is_some, is_none, List, [], ◌∷◌, ◌++◌, filter, length, map}
 use Rattle.std.specs.List.{list_any, list_all, range_with_len}
 use Rattle.iofd_words.specs.Areas.{areas_meet, has_no_room, is_cut, is_everything, unmapped_span}
 use Rattle.iofd_words.specs.Attachments.{attachment_of, has_device_on}
 use Rattle.iofd_words.specs.Files.{is_user, is_device, limit_of, user_of, device_of}
+use Rattle.iofd_words.specs.Bounds.{Bounds}
 use Rattle.iofd_words.specs.FirstTrue.{first_true}
 use Rattle.iofd_words.specs.Objects.{kind_of, has_ioas, has_hwpt, automatic_hwpt, is_full, objects_of, is_bound_device}
 use Rattle.iofd_words.specs.Pages.{is_whole, page_of, is_above_sum, is_above_user, crosses}
 use Rattle.iofd_words.specs.Pins.{ObjectPage, unpinned_pages}
+use Rattle.iofd_words.specs.Ranges.{meets_some}
 use Rattle.iofd_words.specs.Rights.{is_fixed, is_readable, is_writeable}
+use Rattle.iofd_words.specs.Room.{fits, starts_to_try}
 use Rattle.iofd_words.specs.Settings.{DeviceSettings}
-use Rattle.iofd_words.specs.Span.{span_from}
+use Rattle.iofd_words.specs.Span.{holds, span_from}
+use Rattle.iofd_words.specs.Usable.{allowed_spans, beyond, interrupt_range, occupied, reserved_by, unusable}
 use Rattle.iofd_words.specs.View.{View, view}
 use Rattle.iofd_words.specs.World.{World}
 use Rattle.iofd_words.specs.declared.event.Event.{Event}
@@ -33,6 +37,43 @@ use Rattle.iofd_words.specs.declared.rows.ObjectKind.TheVariants as kind
 -- the pages from this one on, so many of them, are in the user's memory, by a look-up of the frames of its pages
 abbrev pub has_pages : (UserNo → ℕ → Option FrameNo) → UserNo → ℕ → ℕ → Bool
 has_pages frame_at user page count = list_all (λ i. is_some (frame_at user (page + i))) (range_with_len 0 count)
+
+-- the spans of an address space that can't be used
+abbrev pub unusable_in : View → FileNo → ObjId → List Bounds
+unusable_in v file ioas = unusable v.settings v.objects v.attachments file ioas
+
+-- a MAP's fixed address, or none where the server chooses; sums and multiples of a fixed address are checked, and its span must be
+-- free and usable
+abbrev pub mapped_span : MapRequest → Bounds
+mapped_span request = span_from request.iova.0 request.length
+
+abbrev pub is_outside_usable : View → FileNo → MapRequest → Bool
+is_outside_usable v file request = is_fixed request.flags && meets_some (unusable_in v file request.ioas) (mapped_span request)
+
+abbrev pub overlaps : View → FileNo → MapRequest → Bool
+overlaps v file request = is_fixed request.flags && areas_meet (mapped_span request) (v.areas_of file request.ioas)
+
+-- the ranges to which a chosen address is bounded, and what can't be mapped in them
+abbrev pub choices : View → FileNo → MapRequest → List Bounds
+choices v file request = allowed_spans (v.allowed_of file request.ioas)
+
+abbrev pub taken_spans : View → FileNo → MapRequest → List Bounds
+taken_spans v file request = occupied (unusable_in v file request.ioas) (v.areas_of file request.ioas)
+
+-- the server may choose this address for a MAP: a multiple of a page, from which on the span lies in the allowed ranges, can be used
+-- and meets no area
+abbrev pub may_choose : View → FileNo → MapRequest → ℕ → Bool
+may_choose v file request start =
+    not (is_above_sum start request.length) && fits request.length (choices v file request) (taken_spans v file request) start
+
+-- there is such an address: where one may be chosen, one may that has nothing before it
+abbrev pub has_choice : View → FileNo → MapRequest → Bool
+has_choice v file request =
+    list_any (may_choose v file request) (starts_to_try (choices v file request) (taken_spans v file request))
+
+-- an address is to be chosen, and there is none
+abbrev pub lacks_choice : View → FileNo → MapRequest → Bool
+lacks_choice v file request = not (is_fixed request.flags) && not (has_choice v file request)
 
 -- a MAP into an address space with a page table pins its pages, and needs them
 abbrev pub lacks_mapped_page : View → FileNo → MapRequest → Bool
@@ -79,10 +120,22 @@ abbrev pub is_device_object : Option ObjectKind → Bool
 is_device_object None = false
 is_device_object (Some kind) = is_bound_device kind
 
+-- with the device attached, an area or an allowed range of the address space would lie outside what can be used
+abbrev pub narrows : View → FileNo → ObjId → Option DeviceSettings → Bool
+narrows v file ioas None = false
+narrows v file ioas (Some device) =
+    list_any (meets_some (beyond device.width ∷ reserved_by device ++ unusable_in v file ioas))
+    (map (λ area. area.span) (v.areas_of file ioas) ++ v.allowed_of file ioas)
+
 -- an attachment would have to make a page table, and the file has no room for it
 abbrev pub lacks_room_for_hwpt : View → FileNo → ObjId → Option DeviceSettings → Bool
 lacks_room_for_hwpt v file ioas None = false
 lacks_room_for_hwpt v file ioas (Some device) = is_none (automatic_hwpt v.objects file ioas device.width) && is_full v.objects file
+
+-- an x86 device's address of interrupts
+abbrev pub is_interrupt : Option DeviceSettings → ℕ → Bool
+is_interrupt None address = false
+is_interrupt (Some device) address = device.x86 && holds interrupt_range address
 
 -- ---- the refusals
 
@@ -91,6 +144,7 @@ abbrev pub access_checks : View → DeviceNo → Iova → ℕ → List (Cause ×
 access_checks v device iova len =
     (cause.Id, is_none (v.binding_of device))
     ∷ (cause.Cross, crosses iova.0 len)
+    ∷ (cause.InterruptRange, is_interrupt (device_of v.settings device) iova.0)
     ∷ []
 
 -- those of a user's access to so many bytes of its own memory, for reads and writes alike
@@ -105,7 +159,8 @@ user_access_checks v user va len =
 -- named yet.
 abbrev pub target_checks : View → DeviceNo → ObjId → FileNo → Option ObjectKind → List (Cause × Bool)
 target_checks v device pt_id file (Some kind.Ioas) =
-    (cause.Full, lacks_room_for_hwpt v file pt_id (device_of v.settings device))
+    (cause.Narrow, narrows v file pt_id (device_of v.settings device))
+    ∷ (cause.Full, lacks_room_for_hwpt v file pt_id (device_of v.settings device))
     ∷ (cause.Absent, lacks_attached_page v file pt_id)
     ∷ (cause.Account, passes_limit_attached v file pt_id)
     ∷ []
@@ -126,15 +181,15 @@ checks v (event.IoasAlloc file) =
     ∷ []
 checks v (event.Map file request) =
     (cause.Id, not (v.is_open file))
-    -- no address is chosen yet: this row goes when one is
-    ∷ (cause.Unsupported, not (is_fixed request.flags))
     ∷ (cause.NoRight, not (is_readable request.flags || is_writeable request.flags))
-    ∷ (cause.Sum, is_above_sum request.user_va request.length || is_above_sum request.iova.0 request.length)
-    ∷ (cause.Align, request.length == 0 || not (is_whole request.length && is_whole request.user_va && is_whole request.iova.0))
+    ∷ (cause.Sum, is_above_sum request.user_va request.length || (is_fixed request.flags && is_above_sum request.iova.0 request.length))
+    ∷ (cause.Align, request.length == 0 || not (is_whole request.length && is_whole request.user_va))
+    ∷ (cause.Align, is_fixed request.flags && not (is_whole request.iova.0))
     ∷ (cause.Absent, is_above_user request.user_va request.length)
     ∷ (cause.Id, not (has_ioas v.objects file request.ioas))
-    ∷ (cause.Overlap, areas_meet (span_from request.iova.0 request.length) (v.areas_of file request.ioas))
-    ∷ (cause.Full, has_no_room (v.areas_of file request.ioas))
+    ∷ (cause.Reserved, is_outside_usable v file request)
+    ∷ (cause.Overlap, overlaps v file request)
+    ∷ (cause.Full, has_no_room (v.areas_of file request.ioas) || lacks_choice v file request)
     ∷ (cause.Absent, lacks_mapped_page v file request)
     ∷ (cause.Account, passes_limit_mapped v file request)
     ∷ []

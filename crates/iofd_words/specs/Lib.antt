@@ -9,6 +9,7 @@ pub mod DeviceSet
 pub mod Fault
 pub mod Files
 pub mod FirstTrue
+pub mod Fits
 pub mod Frames
 pub mod Limits
 pub mod Look
@@ -16,12 +17,15 @@ pub mod Objects
 pub mod Pages
 pub mod Pins
 pub mod Policy
+pub mod Ranges
 pub mod Refusal
 pub mod Rights
+pub mod Room
 pub mod Run
 pub mod Settings
 pub mod Span
 pub mod Tables
+pub mod Usable
 pub mod View
 pub mod Width
 pub mod World

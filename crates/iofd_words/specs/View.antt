@@ -2,13 +2,14 @@
 -- no order in the subject (pins, users' pages, frames) is looked up, and never compared as a list.
 use Rattle.std.specs.Prelude.{ℕ, Bool, Option, List}
 use Rattle.iofd_words.specs.Areas as area
+use Rattle.iofd_words.specs.Bounds.{Bounds}
 use Rattle.iofd_words.specs.Files as file
 use Rattle.iofd_words.specs.Frames as frame
 use Rattle.iofd_words.specs.Objects as object
 use Rattle.iofd_words.specs.Pins as pin
 use Rattle.iofd_words.specs.Pins.{ObjectPage}
 use Rattle.iofd_words.specs.Settings.{Settings}
-use Rattle.iofd_words.specs.World.{World}
+use Rattle.iofd_words.specs.World.{World, allowed_of}
 use Rattle.iofd_words.specs.declared.numbers.DeviceNo.{DeviceNo}
 use Rattle.iofd_words.specs.declared.numbers.FileNo.{FileNo}
 use Rattle.iofd_words.specs.declared.numbers.FrameNo.{FrameNo}
@@ -29,6 +30,8 @@ pub record View : Type 0 where
   pub attachments : List Attachment
   -- the areas of an address space
   pub areas_of : FileNo → ObjId → List Area
+  -- the ranges that it allows to chosen addresses; none allows all
+  pub allowed_of : FileNo → ObjId → List Bounds
   pub memory : List MemoryObject
   -- the frame of a page in a user's memory
   pub frame_at : UserNo → ℕ → Option FrameNo
@@ -51,6 +54,7 @@ view w =
       binding_of = object.binding_of w.objects;
       attachments = w.attachments;
       areas_of = area.areas_of w.areas;
+      allowed_of = allowed_of w.allowed;
       memory = w.memory;
       frame_at = frame.frame_at w.user_pages;
       frame_now = pin.frame_now w.memory w.user_pages;

@@ -1,5 +1,5 @@
 -- The world: lists of rows, as the events have left them.
-use Rattle.std.specs.Prelude.{List, []}
+use Rattle.std.specs.Prelude.{◌==◌, ◌&&◌, Some, None, List, [], find}
 use Rattle.iofd_words.specs.Bounds.{Bounds}
 use Rattle.iofd_words.specs.Frames.{FrameWrite}
 use Rattle.iofd_words.specs.Settings.{Settings}
@@ -19,6 +19,11 @@ pub record AllowedRanges : Type 0 where
   pub file : FileNo
   pub ioas : ObjId
   pub spans : List Bounds
+
+-- those of an address space; none, where it allows all addresses
+abbrev pub allowed_of : List AllowedRanges → FileNo → ObjId → List Bounds
+allowed_of rows file ioas =
+    elim (find (λ ranges. ranges.file.0 == file.0 && ranges.ioas.0 == ioas.0) rows) [ Some ranges ↦ ranges.spans | None ↦ [] ]
 
 pub record World : Type 0 where
   -- what it was opened with

@@ -1,16 +1,18 @@
 //! What a server is opened with, and its limits.
 
-ghost use Rattle.std.specs.Prelude.{◌≡◌, ◌<◌, ◌≤◌, true, IfOk, OnErr, None, length};
+ghost use Rattle.std.specs.Prelude.{◌≡◌, ◌<◌, ◌≤◌, ◌&&◌, true, find, IfOk, OnErr, None, length};
 ghost use Rattle.std.specs.List.{list_all};
 ghost use Rattle.std.specs.Option.{option_copied};
 ghost use Rattle.iofd_words.specs.Files as of_number;
 ghost use Rattle.iofd_words.specs.Limits.{first_outside};
 ghost use Rattle.iofd_words.specs.Settings.{is_between, is_device_in_limits, is_reserved_span};
+ghost use Rattle.iofd_words.specs.Span.{holds, meets};
+ghost use Rattle.iofd_words.specs.Usable.{interrupt_range, reserved_by};
 
 use crate::lists::SpanList;
 use crate::numbers::{DeviceNo, FileNo, SourceId, UserNo};
 use crate::refusal::NoMemory;
-use crate::span::Span;
+use crate::span::{INTERRUPT_RANGE, Span};
 use crate::width::Width;
 use std::alloc::{Allocator, Global};
 use std::marker::Model;
@@ -85,6 +87,24 @@ impl<A: Allocator> DeviceConfig<A> {
         ensures { result.now ≡ self.now.reserved }
     {
         self.reserved.as_slice()
+    }
+
+    /// The first span that it keeps for itself and that meets this one: its interrupt range, where it is an x86 device,
+    /// or a reserved span. It takes no memory.
+    pub fn kept_meeting(&self, span: Span) -> Option<Span>
+        ensures { result ≡ find (λ one. meets one span) (reserved_by self.now) }
+    {
+        if self.x86 && INTERRUPT_RANGE.meets(span) {
+            return Some(INTERRUPT_RANGE);
+        }
+        first_meeting(self.reserved.as_slice(), span).copied()
+    }
+
+    /// Whether the address is one of its interrupt range, which an x86 device has.
+    pub fn is_interrupt(&self, address: u64) -> bool
+        ensures { result ≡ (self.now.x86 && holds interrupt_range address) }
+    {
+        self.x86 && INTERRUPT_RANGE.holds(address)
     }
 }
 
@@ -300,6 +320,13 @@ fn are_known(files: &[UserNo], users: usize) -> bool
     files
         .iter()
         .all(|user| user.0 >= 1 && usize::from(user.0) <= users)
+}
+
+// The first of the spans that meets this one.
+fn first_meeting(spans: &[Span], span: Span) -> Option<&Span>
+    ensures { option_copied result ≡ find (λ one. meets one span) spans.now }
+{
+    spans.iter().find(|one| one.meets(span))
 }
 
 // Whether each device's reserved spans are within their limits.

@@ -35,5 +35,5 @@ pub use reply::Reply;
 pub use rows::{
     AccessPin, Area, Attachment, MemoryObject, Object, ObjectKind, Phase, Pin, TableFrame, UserPage,
 };
-pub use span::Span;
+pub use span::{INTERRUPT_RANGE, Span};
 pub use width::Width;

@@ -6,6 +6,12 @@ ghost use Rattle.iofd_words.specs.Span.{meets, lies_in, holds, is_whole_pages};
 use crate::numbers::PAGE_SIZE;
 use std::marker::Model;
 
+/// The addresses at which the writes of an x86 device are interrupts (VT-d, "Interrupt Requests").
+pub const INTERRUPT_RANGE: Span = Span {
+    first: 0xfee0_0000,
+    last: 0xfeef_ffff,
+};
+
 /// The numbers from `first` to `last`, both included. It is never empty, and may end at 2^64 - 1.
 #[derive(Clone, Copy, PartialEq, Eq, Debug)]
 pub struct Span {

@@ -16,7 +16,7 @@ use Rattle.ioctl_codec.specs.Spelling.{Spells}
 use Rattle.ioctl_codec.specs.declared.command.Command.{Command}
 use Rattle.ioctl_codec.specs.declared.command.Command.TheVariants as command
 use Rattle.iommufd_cli.specs.Replies.{answer_text, ioctl_text, line, memory_text, refusal_text, reply_text}
-use Rattle.iommufd_core.specs.Choice.{IsChosen, IsLooked}
+use Rattle.server_state.specs.Choice.{IsChosen, IsLooked}
 use Rattle.iommufd_core.specs.History.{HasOneMore, world}
 use Rattle.iommufd_core.specs.Server.{MayWant, Server}
 use Rattle.iommufd_script.specs.declared.line.Step.{Step}

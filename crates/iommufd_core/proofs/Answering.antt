@@ -1,7 +1,7 @@
 -- The record of an event that is refused, and of one that is carried out.
 use Rattle.std.proofs.Common.{◌≡◌, ℕ, Some, None, Result, Ok, Err, refl, sym, subst, []}
-use Rattle.iommufd_core.specs.declared.state.State.{State}
-use Rattle.iommufd_core.specs.Shows.{Shows}
+use Rattle.server_state.specs.declared.state.State.{State}
+use Rattle.server_state.specs.Shows.{Shows}
 use Rattle.std.specs.Result.{IfOk, OnErr}
 use Rattle.iofd_words.specs.After.{changed}
 use Rattle.iofd_words.specs.Answers.{Answers}
@@ -14,7 +14,7 @@ use Rattle.iofd_words.specs.declared.numbers.PassNo.{PassNo}
 use Rattle.iofd_words.specs.declared.refusal.Cause.{Cause}
 use Rattle.iofd_words.specs.declared.reply.Reply.{Reply}
 use Rattle.iofd_words.specs.declared.reply.Reply.TheVariants as reply
-use Rattle.iommufd_core.specs.History.{recorded}
+use Rattle.server_state.specs.Step.{recorded}
 
 module _ (A : Type 0) (at : ℕ) (w : World) (pass : PassNo) (e : Event) where
   pub refused_lawful : (cause : Cause) → refusal w e ≡ Some cause → Lawful w (recorded {A = A} pass e (reply.Refused (record { cause = cause })))
@@ -42,17 +42,13 @@ pub on_err : {X E : Type 0} (r : Result X E) (P Q : Type 0) → (P → Q) → On
 on_err (Ok x) P Q weaker known = known
 on_err (Err e) P Q weaker known = weaker known
 
--- what holds anyway holds on an error
-pub on_err_same : {X E : Type 0} (r : Result X E) (P : Type 0) → P → OnErr r P
-on_err_same (Ok x) P known = tt
-on_err_same (Err e) P known = known
-
 -- no table is moved: what is shown is shown
 pub tabled_shown : {A : Type 0} (w : World) (s : State A) → Shows w s → Shows (with_tables [] [] w) s
 unfolding with_tables
 tabled_shown w s shows = record {
   settings = shows.settings;
   limits = shows.limits;
+  allowed = shows.allowed;
   objects = shows.objects;
   devices = shows.devices;
   users = shows.users;

@@ -28,12 +28,14 @@ use Rattle.iofd_words.specs.declared.rows.Object.{Object}
 use Rattle.iofd_words.specs.declared.rows.ObjectKind.{ObjectKind}
 use Rattle.iofd_words.specs.declared.rows.ObjectKind.TheVariants as kind
 use Rattle.iommufd_core.proofs.Histories.{run_more, tidy_run, world_more}
-use Rattle.iommufd_core.specs.Choice.{IsChosen, MayUse}
-use Rattle.iommufd_core.specs.History.{History, is_pass_at, may_apply, recorded, world}
+use Rattle.server_state.specs.Choice.{IsChosen, MayUse}
+use Rattle.iommufd_core.specs.History.{History, may_apply, world}
+use Rattle.server_state.specs.Choice.{is_pass_at}
+use Rattle.server_state.specs.Step.{recorded}
 use Rattle.iommufd_core.specs.Kept.{IsKept}
-use Rattle.iommufd_core.specs.Shows.{Shows}
-use Rattle.iommufd_core.specs.Step.{Answered, TidyShowsSame}
-use Rattle.iommufd_core.specs.declared.state.State.{State}
+use Rattle.server_state.specs.Shows.{Shows}
+use Rattle.server_state.specs.Step.{Answered, TidyShowsSame}
+use Rattle.server_state.specs.declared.state.State.{State}
 
 -- ---- no event changes what the core was opened with
 

@@ -1,17 +1,17 @@
 -- What one more record makes of a run.
 use Rattle.std.proofs.Common.{◌≡◌, ℕ, suc, ◌+◌, List, [], ◌∷◌, ◌++◌, length, refl, arith}
-use Rattle.iofd_runs.proofs.KeepsDebts.{IsSound, keeps_sound, tabled_sound}
 use Rattle.iofd_runs.proofs.KeepsFits.{keeps_fit, tabled_fit}
 use Rattle.iofd_runs.proofs.KeepsOwnMemory.{OwnPins, keeps_own_pins, later_own, tabled_own}
 use Rattle.iofd_runs.proofs.KeepsOwned.{OwnedPins, keeps_owned_pins, later_owned, opening_owned, tabled_owned}
 use Rattle.iofd_runs.proofs.KeepsPins.{opening_pinned}
+use Rattle.iofd_runs.proofs.KeepsUsable.{UsableSound, keeps_usable, opening_usable, tabled_usable}
 use Rattle.iofd_runs.proofs.Runs.{run_keeps, run_keeps_at}
 use Rattle.iofd_runs.specs.Fits.{RowsFit}
 use Rattle.iofd_words.specs.Run.{IsRun, IsRunFrom, Lawful, after, world_from, world_of}
 use Rattle.iofd_words.specs.Settings.{Settings}
 use Rattle.iofd_words.specs.World.{World, opening}
 use Rattle.iofd_words.specs.declared.record.Record.{Record}
-use Rattle.iommufd_core.specs.Step.{IsTidy}
+use Rattle.server_state.specs.Step.{IsTidy}
 
 module _ {A : Type 0} where
   run_from_more : (at : ℕ) (w : World) (records : List (Record A)) (r : Record A) → IsRunFrom at w records → Lawful (world_from at w records) r → IsRunFrom at w (records ++ r ∷ [])
@@ -33,7 +33,7 @@ module _ {A : Type 0} where
   pub tidy_run : (settings : Settings) (records : List (Record A)) → IsRun settings records → IsTidy (length records) (world_of settings records)
   unfolding IsRun world_of
   tidy_run settings records run =
-      let sound = run_keeps IsSound tabled_sound keeps_sound 0 (opening settings) records run (record { own_ids = refl; debts = record { once = refl; debtors = refl; tables = refl; spaces = refl; areas = refl } }) in
+      let usable = run_keeps UsableSound tabled_usable keeps_usable 0 (opening settings) records run (opening_usable settings) in
       let fit = run_keeps RowsFit tabled_fit keeps_fit 0 (opening settings) records run (record { pages = refl; starts = refl; rise = refl; user_frames = refl; pin_frames = refl; known = refl; attached = refl }) in
       let pins = run_keeps_at OwnPins tabled_own later_own keeps_own_pins 0 (length records) (opening settings) records (omega arith) run (record { pins = opening_pinned settings; own = refl }) in
       let owned = run_keeps_at OwnedPins tabled_owned later_owned keeps_owned_pins 0 (length records)
@@ -41,9 +41,9 @@ module _ {A : Type 0} where
       record {
         pins = pins.pins;
         own = pins.own;
-        debts = sound.debts;
-        ids = sound.own_ids;
+        debts = usable.sound.debts;
+        ids = usable.sound.own_ids;
         fit = fit;
-        owned =
-            owned.areas;
+        owned = owned.areas;
+        usable = usable.areas;
       }

@@ -9,12 +9,12 @@ use Rattle.iofd_words.specs.Settings.{Settings}
 use Rattle.iofd_words.specs.declared.numbers.FileNo.{FileNo}
 use Rattle.iofd_words.specs.declared.numbers.UserNo.{UserNo}
 use Rattle.iofd_words.specs.declared.rows.UserPage.{UserPage}
-use Rattle.iommufd_core.specs.declared.held.Held.{Held}
+use Rattle.server_state.specs.declared.held.Held.{Held}
 use Rattle.memory_rows.specs.Shown.{FramesShown, PinsShown}
 use Rattle.object_table.specs.Table.{fresh_table, is_open}
-use Rattle.pinned_pages.specs.Invariant.{MemoryInvariant}
-use Rattle.pinned_pages.specs.Objects as entries
-use Rattle.pinned_pages.specs.Objects.{MemoryEntry, pins_on}
+use Rattle.memory_objects.specs.Invariant.{MemoryInvariant}
+use Rattle.memory_objects.specs.Objects as entries
+use Rattle.memory_objects.specs.Objects.{MemoryEntry, pins_on}
 use Rattle.user_memory.specs.Memory.{Memory, areas_in, pins_in, reached}
 
 -- ---- the files

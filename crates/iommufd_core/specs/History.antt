@@ -1,9 +1,9 @@
 -- What a core is seen as: what it was opened with, and its records.
-use Rattle.std.specs.Prelude.{◌≡◌, ℕ, Bool, true, false, ◌&&◌, ◌==◌, Option, Some, None, is_none, List, [], ◌∷◌, ◌++◌, length}
+use Rattle.std.specs.Prelude.{◌≡◌, ℕ, Bool, true, false, ◌&&◌, Option, Some, None, is_none, List, [], ◌∷◌, ◌++◌, length}
 use Rattle.std.specs.List.{list_any}
 use Rattle.iofd_words.specs.FirstTrue.{first_true}
 use Rattle.iofd_words.specs.Look.{query_checks}
-use Rattle.iofd_words.specs.Policy.{Outcome, Passes, Denied, outcomes}
+use Rattle.iofd_words.specs.Policy.{outcomes}
 use Rattle.iofd_words.specs.Run.{world_of}
 use Rattle.iofd_words.specs.Settings.{Settings}
 use Rattle.iofd_words.specs.View.{view}
@@ -19,16 +19,13 @@ use Rattle.iofd_words.specs.declared.query.Query.TheVariants.{DeviceRead}
 use Rattle.iofd_words.specs.declared.numbers.Iova.{Iova}
 use Rattle.iofd_words.specs.declared.record.Record.{Record}
 use Rattle.iofd_words.specs.declared.reply.Reply.{Reply}
+use Rattle.server_state.specs.Choice.{is_pass_at}
 
 pub record History (A : Type 0) : Type 0 where
   pub settings : Settings
   pub records : List (Record A)
 
 -- what may_pass asks: nothing refuses the access, and the policy lets it pass at this frame
-abbrev pub is_pass_at : FrameNo → Outcome → Bool
-is_pass_at frame (Passes at) = at.0 == frame.0
-is_pass_at frame (Denied reason) = false
-
 abbrev pub passes_in : World → DeviceNo → Iova → ℕ → AccessKind → FrameNo → Bool
 passes_in w device iova len kind frame =
     is_none (first_true (query_checks (view w) (DeviceRead device iova len))) && list_any (is_pass_at frame) (outcomes w device iova.0 kind)
@@ -45,10 +42,6 @@ module _ {A : Type 0} where
     pub pass : made.pass ≡ caller
     pub event : made.event ≡ e
     pub reply : made.reply ≡ answer
-
-  -- a record that took and gave back no table frames
-  abbrev pub recorded : PassNo → Event → Reply → Record A
-  recorded pass event reply = record { pass = pass; event = event; reply = reply; taken = []; given = [] }
 
   -- an act may be applied: it has no cached frame, or is a device's write that may pass at that frame
   abbrev pub may_apply : History A → Event → Option FrameNo → Bool

@@ -2,8 +2,8 @@
 use Rattle.std.specs.Prelude.{List}
 use Rattle.iofd_words.specs.Run.{IsRun, world_of}
 use Rattle.iofd_words.specs.declared.record.Record.{Record}
-use Rattle.iommufd_core.specs.Shows.{Shows}
-use Rattle.iommufd_core.specs.declared.state.State.{State}
+use Rattle.server_state.specs.Shows.{Shows}
+use Rattle.server_state.specs.declared.state.State.{State}
 
 pub record IsKept {A : Type 0} (state : State A) (records : List (Record A)) : Type 0 where
   pub run : IsRun state.config records

@@ -1,15 +1,3 @@
-pub mod Choice
-pub mod Held
 pub mod History
 pub mod Kept
-pub mod Mapping
-pub mod Outcomes
-pub mod Pages
-pub mod PinLists
-pub mod Pinning
-pub mod Release
-pub mod Seen
 pub mod Server
-pub mod Shows
-pub mod Spaces
-pub mod Step

@@ -4,16 +4,17 @@ ghost use Rattle.std.specs.Prelude.{◌≡◌, [], IfOk, IsTrue, OnErr, length, 
 ghost use Rattle.iofd_words.specs.Checks as checks;
 ghost use Rattle.iofd_words.specs.Look.{answers_to};
 ghost use Rattle.iofd_words.specs.Run.{IsRun};
-ghost use Rattle.iommufd_core.specs.Choice.{IsChosen, IsLooked};
+ghost use Rattle.server_state.specs.Choice.{IsChosen, IsLooked};
 ghost use Rattle.iommufd_core.specs.History.{HasOneMore, may_apply, passes_in, world};
 ghost use Rattle.iommufd_core.specs.Server.{MayWant};
 
-use crate::state::State;
-use crate::{access, events, look, opening};
+use crate::{events, look, opening};
+use device_events::access;
 use iofd_words::{
     AccessKind, Act, Answer, Config, DeviceNo, FrameList, FrameNo, Iova, NoMemory, PassNo, Query,
     Record, Reply,
 };
+use server_state::State;
 use std::alloc::{Allocator, Global};
 use std::marker::Model;
 

@@ -3,16 +3,15 @@
 ghost use Rattle.std.specs.Prelude.{◌≡◌, None, IfOk, IsTrue, OnErr};
 ghost use Rattle.iofd_words.specs.Checks.{checks};
 ghost use Rattle.iofd_words.specs.FirstTrue.{first_true};
-ghost use Rattle.iommufd_core.specs.Seen.{seen};
+ghost use Rattle.server_state.specs.Seen.{seen};
 ghost use Rattle.iommufd_core.specs.Server.{takes_memory};
-ghost use Rattle.iommufd_core.specs.Step.{Answered, ChosenSteps, IsCalled, IsGrantedFor, IsKnown, TidyShowsSame};
+ghost use Rattle.server_state.specs.Step.{Answered, ChosenSteps, IsCalled, IsGrantedFor, IsKnown, TidyShowsSame};
 
-use crate::state::State;
-use crate::{
-    attach, bind, close, destroy, detach, device_write, flush, ioas_alloc, map, unmap, user_map,
-    user_unmap, user_write,
-};
+use device_events::{attach, bind, detach, device_write, flush};
+use file_events::{close, destroy, ioas_alloc};
 use iofd_words::{Act, Cause, Event, NoMemory, Refusal, Reply};
+use memory_events::{map, unmap, user_map, user_unmap, user_write};
+use server_state::State;
 use std::alloc::Allocator;
 
 /// Answers the event, at this position, and carries it out if nothing refuses it. An error leaves the world

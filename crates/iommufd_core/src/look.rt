@@ -7,14 +7,15 @@ ghost use Rattle.iofd_words.specs.View.{view};
 ghost use Rattle.iofd_words.specs.World.{World};
 ghost use Rattle.iofd_words.specs.declared.query.Query.TheVariants as queries;
 ghost use Rattle.iofd_words.specs.declared.record.Record.{Record};
-ghost use Rattle.iommufd_core.specs.Choice.{IsLooked};
-ghost use Rattle.iommufd_core.specs.Seen.{seen};
-ghost use Rattle.iommufd_core.specs.Shows.{Shows};
-ghost use Rattle.iommufd_core.specs.Step.{IsAsked, IsKnown, IsTidy};
+ghost use Rattle.server_state.specs.Choice.{IsLooked};
+ghost use Rattle.server_state.specs.Seen.{seen};
+ghost use Rattle.server_state.specs.Shows.{Shows};
+ghost use Rattle.server_state.specs.Step.{IsAsked, IsKnown, IsTidy};
 
-use crate::state::State;
-use crate::{access, device_read, user_access, user_read};
+use device_events::{access, device_read};
 use iofd_words::{Answer, Cause, Query, Refusal, UserNo};
+use memory_events::{user_access, user_read};
+use server_state::State;
 use std::alloc::Allocator;
 
 /// What is answered. A device that owes the area a flush is denied.

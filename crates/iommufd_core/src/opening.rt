@@ -2,12 +2,12 @@
 
 ghost use Rattle.std.specs.Prelude.{◌≡◌, IfOk};
 ghost use Rattle.iofd_words.specs.World.{opening};
-ghost use Rattle.iommufd_core.specs.Shows.{Shows};
+ghost use Rattle.server_state.specs.Shows.{Shows};
 
-use crate::state::State;
 use frame_memory::Pool;
 use iofd_words::{Config, NoMemory};
 use object_table::ObjectTable;
+use server_state::State;
 use std::alloc::Allocator;
 use user_memory::UserMemory;
 

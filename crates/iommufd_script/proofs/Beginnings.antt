@@ -2,6 +2,7 @@
 use Rattle.std.proofs.Common.{◌≡◌, ℕ, zero, suc, ◌+◌, ◌-◌, ◌<◌, ◌≤◌, Bool, true, false, ◌&&◌, not, cond, eqb, ltb, leb, List, [], ◌∷◌, ◌++◌, length, take, codes, Option, Some, None, refl, ap, subst, ◌∙◌, arith}
 use Rattle.std.proofs.lemmas.Bool.{lt-ltb, ltb-true, le-leb}
 use Rattle.std.specs.List.{fold}
+use Rattle.iofd_words.specs.Settings.{DeviceSettings, is_device_in_limits}
 use Rattle.iommufd_script.specs.Digits.{number_of}
 use Rattle.iommufd_script.specs.Fields.{next}
 use Rattle.iommufd_script.specs.Grammar.{head_of}
@@ -113,7 +114,11 @@ placed_behind : (p : Place) (h : HeadLine) → IsPlaced p → allows p h ≡ tru
 placed_behind p (heading.Pool frames) placed ok = placed
 placed_behind p (heading.User limit) placed ok = placed
 placed_behind p (heading.File user) placed ok = λ some. omega arith
-placed_behind p (heading.Device source width) placed ok = λ some. let parts = and-parts (ltb 0 p.files) (eqb p.devices 0) ok in ltb-true 0 p.files parts.0
+placed_behind p (heading.Device source width x86 reserved) placed ok = λ some.
+    let device : DeviceSettings = record { source = source; width = width; x86 = x86; reserved = reserved } in
+    let limits = and-parts (ltb 0 p.files && eqb p.devices 0) (is_device_in_limits device) ok in
+    let parts = and-parts (ltb 0 p.files) (eqb p.devices 0) limits.0 in
+    ltb-true 0 p.files parts.0
 placed_behind p heading.Begin placed ok = placed
 
 placed_after : (p q : Place) (l : Option Line) → IsPlaced p → after p l ≡ Some q → IsPlaced q

@@ -5,3 +5,4 @@ pub mod Within
 pub mod Orders
 pub mod Beginnings
 pub mod Bools
+pub mod Spans

@@ -4,7 +4,6 @@ use Rattle.std.proofs.lemmas.Bool.{lt-ltb, leb-true}
 use Rattle.std.proofs.lemmas.List.{append-nil}
 use Rattle.std.specs.List.{fold, list_all}
 use Rattle.std.specs.Option.{option_and_then}
-use Rattle.iofd_words.specs.Bounds.{Bounds}
 use Rattle.iofd_words.specs.Limits.{first_outside}
 use Rattle.iofd_words.specs.Settings.{Settings, DeviceSettings, is_between, is_device_in_limits}
 use Rattle.iofd_words.specs.declared.config.ConfigError.TheVariants as field
@@ -12,7 +11,7 @@ use Rattle.iofd_words.specs.declared.numbers.UserNo.{UserNo}
 use Rattle.iommufd_script.specs.Lines.{lines, line_of}
 use Rattle.iommufd_script.specs.Script.{start, after, bad_or, first_bad, first_bad_line, step_before, steps_in, steps_of}
 use Rattle.iommufd_script.specs.Opening.{set_by, nothing_set, headings, heading_before, settings_of, script_or, script_of}
-use Rattle.iommufd_script.specs.Shape.{unless_skipped, said, user_line, file_line, device_line, in_order, ArePlain, IsScript}
+use Rattle.iommufd_script.specs.Shape.{unless_skipped, said, user_line, file_line, device_line, in_order, IsScript}
 use Rattle.iommufd_script.specs.declared.line.HeadLine.{HeadLine}
 use Rattle.iommufd_script.specs.declared.line.HeadLine.TheVariants as heading
 use Rattle.iommufd_script.specs.declared.line.Line.{Line}
@@ -123,11 +122,14 @@ files_run u f (user ∷ files) more h e =
     let count : f + 1 + length files ≡ f + length (user ∷ files) = omega arith in
     rw (parts.0, room) (next ∙ ap (λ (k : ℕ). run (at u k 0) more) count)
 
-devices_run : (u f : ℕ) (devices : List DeviceSettings) (more : List Line) → 0 < f → length devices ≤ 1
+devices_run : (u f : ℕ) (devices : List DeviceSettings) (more : List Line) → 0 < f → length devices ≤ 1 → list_all is_device_in_limits devices ≡ true
     → run (at u f 0) (map device_line devices ++ more) ≡ run (at u f (length devices)) more
-devices_run u f [] more h few = refl
-devices_run u f (device ∷ []) more h few = let some : ltb 0 f ≡ true = lt-ltb 0 f h in rw some refl
-devices_run u f (device ∷ other ∷ devices) more h few = absurd (omega arith)
+devices_run u f [] more h few ok = refl
+devices_run u f (device ∷ []) more h few ok =
+    let some : ltb 0 f ≡ true = lt-ltb 0 f h in
+    let limits = and-parts (is_device_in_limits device) true ok in
+    rw (some, limits.0) refl
+devices_run u f (device ∷ other ∷ devices) more h few ok = absurd (omega arith)
 
 stays : (b : Bool) (p : Place) (goes : Place → Bool) → b ≡ true → if_some (cond b (Some p) None) goes ≡ goes p
 stays true p goes e = refl
@@ -163,17 +165,12 @@ files_set s [] more = ap (λ (files : List UserNo). fold set_by (record s { file
 files_set s (user ∷ files) more =
     files_set (set_by s (heading.File user)) files more ∙ ap (λ (all : List UserNo). fold set_by (record s { files = all }) (heads more)) (append_assoc s.files (user ∷ []) files)
 
-devices_set : (s : Settings) (devices : List DeviceSettings) (more : List Line) → ArePlain devices
+devices_set : (s : Settings) (devices : List DeviceSettings) (more : List Line)
     → fold set_by s (heads (map device_line devices ++ more)) ≡ fold set_by (record s { devices = s.devices ++ devices }) (heads more)
-devices_set s [] more plain = ap (λ (devices : List DeviceSettings). fold set_by (record s { devices = devices }) (heads more)) (sym (append-nil s.devices))
-devices_set s (device ∷ devices) more plain =
-    let shown : DeviceSettings = record { source = device.source; width = device.width; x86 = false; reserved = [] } in
-    let with_mark = λ (x86 : Bool). let d : DeviceSettings = record { source = device.source; width = device.width; x86 = x86; reserved = [] } in d in
-    let with_spans = λ (spans : List Bounds). let d : DeviceSettings = record { source = device.source; width = device.width; x86 = device.x86; reserved = spans } in d in
-    let same : shown ≡ device = ap with_mark (sym plain.0) ∙ ap with_spans (sym plain.1) in
-    devices_set (set_by s (heading.Device device.source device.width)) devices more plain.2
-    ∙ (ap (λ (all : List DeviceSettings). fold set_by (record s { devices = all }) (heads more)) (append_assoc s.devices (shown ∷ []) devices)
-    ∙ ap (λ (one : DeviceSettings). fold set_by (record s { devices = s.devices ++ one ∷ devices }) (heads more)) same)
+devices_set s [] more = ap (λ (devices : List DeviceSettings). fold set_by (record s { devices = devices }) (heads more)) (sym (append-nil s.devices))
+devices_set s (device ∷ devices) more =
+    devices_set (set_by s (heading.Device device.source device.width device.x86 device.reserved)) devices more
+    ∙ ap (λ (all : List DeviceSettings). fold set_by (record s { devices = all }) (heads more)) (append_assoc s.devices (device ∷ []) devices)
 
 -- ---- the whole script
 
@@ -182,9 +179,9 @@ ends steps = line.Head heading.Begin ∷ map (λ step. line.Step step) steps
 
 head_run : (pool : ℕ) (users : List ℕ) (files : List UserNo) (devices : List DeviceSettings) (steps : List Step)
     → is_between 1 4096 pool ≡ true → length users ≤ 255 → 0 < length files → length files ≤ 1024
-    → list_all (λ user. is_between 1 (length users) user.0) files ≡ true → length devices ≤ 1
+    → list_all (λ user. is_between 1 (length users) user.0) files ≡ true → length devices ≤ 1 → list_all is_device_in_limits devices ≡ true
     → run start (line.Head (heading.Pool pool) ∷ (map user_line users ++ (map file_line files ++ (map device_line devices ++ ends steps)))) ≡ true
-head_run pool users files devices steps pool_ok few_users some few_files owned few_devices =
+head_run pool users files devices steps pool_ok few_users some few_files owned few_devices limits =
     let some_file : ltb 0 (length files) ≡ true = lt-ltb 0 (length files) some in
     let rest = map device_line devices ++ ends steps in
     let begun : Place = record { pool = true; users = length users; files = length files; devices = length devices; begun = true } in
@@ -192,7 +189,7 @@ head_run pool users files devices steps pool_ok few_users some few_files owned f
     let nor_more : 0 + length files ≡ length files = omega arith in
     let first = users_run 0 users (map file_line files ++ rest) (omega (arith, few_users)) ∙ ap (λ (k : ℕ). run (at k 0 0) (map file_line files ++ rest)) no_more in
     let second = files_run (length users) 0 files rest (omega (arith, few_files)) owned ∙ ap (λ (k : ℕ). run (at (length users) k 0) rest) nor_more in
-    let third = devices_run (length users) (length files) devices (ends steps) some few_devices in
+    let third = devices_run (length users) (length files) devices (ends steps) some few_devices limits in
     let last : run (at (length users) (length files) (length devices)) (ends steps) ≡ true = rw some_file (steps_run begun steps refl) in
     rw pool_ok (first ∙ (second ∙ (third ∙ last)))
 
@@ -202,15 +199,15 @@ head_steps pool users files devices steps =
     let rest = map device_line devices ++ ends steps in
     no_steps_in_users users (map file_line files ++ rest) ∙ (no_steps_in_files files rest ∙ (no_steps_in_devices devices (ends steps) ∙ steps_back steps))
 
-head_set : (settings : Settings) (steps : List Step) → ArePlain settings.devices → settings.passes ≡ 1
+head_set : (settings : Settings) (steps : List Step) → settings.passes ≡ 1
     → fold set_by nothing_set (heads (in_order settings steps)) ≡ settings
-head_set s steps plain one =
+head_set s steps one =
     let rest = map device_line s.devices ++ ends steps in
     let zero_ : Settings = record { pool = s.pool; users = []; files = []; devices = []; passes = 1 } in
     let users_ : Settings = record { pool = s.pool; users = s.users; files = []; devices = []; passes = 1 } in
     let files_ : Settings = record { pool = s.pool; users = s.users; files = s.files; devices = []; passes = 1 } in
     let with_passes = λ (n : ℕ). let t : Settings = record { pool = s.pool; users = s.users; files = s.files; devices = s.devices; passes = n } in t in
-    users_set zero_ s.users (map file_line s.files ++ rest) ∙ (files_set users_ s.files rest ∙ (devices_set files_ s.devices (ends steps) plain ∙ ap with_passes (sym one)))
+    users_set zero_ s.users (map file_line s.files ++ rest) ∙ (files_set users_ s.files rest ∙ (devices_set files_ s.devices (ends steps) ∙ ap with_passes (sym one)))
 
 -- within the limits, part by part
 record IsWithin (s : Settings) : Type 0 where
@@ -218,6 +215,7 @@ record IsWithin (s : Settings) : Type 0 where
   users : is_between 1 255 (length s.users) ≡ true
   files : is_between 1 1024 (length s.files) ≡ true
   owned : list_all (λ user. is_between 1 (length s.users) user.0) s.files ≡ true
+  devices : list_all is_device_in_limits s.devices ≡ true
 
 pass : {A : Type 0} (k : A) (b : Bool) (others : Option A) → cond (not b) (Some k) others ≡ None → (b ≡ true) × (others ≡ None)
 pass k true others e = (refl, e)
@@ -235,7 +233,9 @@ is_within s e =
     let users = pass field.Users (is_between 1 255 (length s.users)) after_users pool.1 in
     let files = pass field.Files (is_between 1 1024 (length s.files) && owned) after_files users.1 in
     let both = and-parts (is_between 1 1024 (length s.files)) owned files.0 in
-    record { pool = pool.0; users = users.0; files = both.0; owned = both.1 }
+    let limits = pass field.Devices devices last files.1 in
+    let each = and-parts (nat_le (length s.devices) 256) (list_all is_device_in_limits s.devices) limits.0 in
+    record { pool = pool.0; users = users.0; files = both.0; owned = both.1; devices = each.1 }
 
 -- what a script of these settings and steps is read as
 record IsReadAs (texts : List (List ℕ)) (s : Settings) (steps : List Step) : Type 0 where
@@ -250,10 +250,10 @@ read_as texts s steps shape =
     let users = and-parts (leb 1 (length s.users)) (leb (length s.users) 255) inside.users in
     let files = and-parts (leb 1 (length s.files)) (leb (length s.files) 1024) inside.files in
     let some : 1 ≤ length s.files = leb-true 1 (length s.files) files.0 in
-    let goes = head_run s.pool s.users s.files s.devices steps inside.pool (leb-true (length s.users) 255 users.1) (omega (arith, some)) (leb-true (length s.files) 1024 files.1) inside.owned shape.one_device in
+    let goes = head_run s.pool s.users s.files s.devices steps inside.pool (leb-true (length s.users) 255 users.1) (omega (arith, some)) (leb-true (length s.files) 1024 files.1) inside.owned shape.one_device inside.devices in
     record {
       good = read.bad_is goes;
-      set = ap (fold set_by nothing_set) read.heads_are ∙ head_set s steps shape.plain shape.one_pass;
+      set = ap (fold set_by nothing_set) read.heads_are ∙ head_set s steps shape.one_pass;
       taken = read.steps_are ∙ head_steps s.pool s.users s.files s.devices steps;
     }
 

@@ -8,11 +8,9 @@ use Rattle.std.specs.Option.{option_and_then}
 use Rattle.iofd_words.specs.Limits.{first_outside}
 use Rattle.iofd_words.specs.Settings.{Settings, DeviceSettings, is_between, is_device_in_limits}
 use Rattle.iofd_words.specs.declared.numbers.UserNo.{UserNo}
-use Rattle.iofd_words.specs.declared.numbers.SourceId.{SourceId}
-use Rattle.iofd_words.specs.declared.width.Width.{Width}
 use Rattle.iommufd_script.specs.Lines.{lines, line_of}
 use Rattle.iommufd_script.specs.Script.{start, allows, behind, after, bad_or, first_bad, first_bad_line, step_before, steps_in, steps_of}
-use Rattle.iommufd_script.specs.Shape.{unless_skipped, said, user_line, file_line, device_line, in_order, ArePlain, IsScript}
+use Rattle.iommufd_script.specs.Shape.{unless_skipped, said, user_line, file_line, device_line, in_order, IsScript}
 use Rattle.iommufd_script.specs.Opening.{set_by, nothing_set, headings, heading_before, settings_of, script_or, script_of}
 use Rattle.iommufd_script.specs.declared.line.HeadLine.{HeadLine}
 use Rattle.iommufd_script.specs.declared.line.HeadLine.TheVariants as heading
@@ -40,7 +38,6 @@ record IsSet (p : Place) (s : Settings) : Type 0 where
   devices : list_all is_device_in_limits s.devices ≡ true
   passes : s.passes ≡ 1
   devices_after : 0 < p.devices → 0 < p.files
-  plain : ArePlain s.devices
 
 between : (low high n : ℕ) → low ≤ n → n ≤ high → is_between low high n ≡ true
 between low high n above below = and-both (leb low n) (leb n high) (le-leb low n above) (le-leb n high below)
@@ -66,10 +63,6 @@ one_more xs x n e = omega (arith, length-append xs (x ∷ []), e)
 all_more : {A : Type 0} (test : A → Bool) (xs : List A) (x : A) → list_all test xs ≡ true → test x ≡ true → list_all test (xs ++ x ∷ []) ≡ true
 all_more test xs x e f = list_all-append test xs (x ∷ []) ∙ and-both (list_all test xs) (test x && true) e (and-both (test x) true f refl)
 
-plain_more : (devices : List DeviceSettings) (source : SourceId) (width : Width) → ArePlain devices → ArePlain (devices ++ record { source = source; width = width; x86 = false; reserved = [] } ∷ [])
-plain_more [] source width plain = (refl, refl, tt)
-plain_more (device ∷ devices) source width plain = (plain.0, plain.1, plain_more devices source width plain.2)
-
 kept_pool : (p : Place) (s : Settings) (frames : ℕ) → IsSet p s → allows p (heading.Pool frames) ≡ true → IsSet (behind p (heading.Pool frames)) (set_by s (heading.Pool frames))
 kept_pool p s frames set ok =
     let parts = and-parts (not p.pool) (is_between 1 4096 frames) ok in
@@ -87,7 +80,6 @@ kept_pool p s frames set ok =
       devices = set.devices;
       passes = set.passes;
       devices_after = set.devices_after;
-      plain = set.plain;
     }
 
 kept_user : (p : Place) (s : Settings) (limit : ℕ) → IsSet p s → allows p (heading.User limit) ≡ true → IsSet (behind p (heading.User limit)) (set_by s (heading.User limit))
@@ -110,7 +102,6 @@ kept_user p s limit set ok =
       devices = set.devices;
       passes = set.passes;
       devices_after = set.devices_after;
-      plain = set.plain;
     }
 
 kept_file : (p : Place) (s : Settings) (user : UserNo) → IsSet p s → allows p (heading.File user) ≡ true → IsSet (behind p (heading.File user)) (set_by s (heading.File user))
@@ -135,15 +126,18 @@ kept_file p s user set ok =
       devices = set.devices;
       passes = set.passes;
       devices_after = λ h. omega arith;
-      plain = set.plain;
     }
 
-kept_device : (p : Place) (s : Settings) (source : SourceId) (width : Width) → IsSet p s → allows p (heading.Device source width) ≡ true
-    → IsSet (behind p (heading.Device source width)) (set_by s (heading.Device source width))
-kept_device p s source width set ok =
-    let parts = and-parts (ltb 0 p.files) (eqb p.devices 0) ok in
+-- the line of a device
+abbrev device_heading : DeviceSettings → HeadLine
+device_heading device = heading.Device device.source device.width device.x86 device.reserved
+
+kept_device : (p : Place) (s : Settings) (device : DeviceSettings) → IsSet p s → allows p (device_heading device) ≡ true
+    → IsSet (behind p (device_heading device)) (set_by s (device_heading device))
+kept_device p s device set ok =
+    let limits = and-parts (ltb 0 p.files && eqb p.devices 0) (is_device_in_limits device) ok in
+    let parts = and-parts (ltb 0 p.files) (eqb p.devices 0) limits.0 in
     let none : p.devices ≡ 0 = eqb-true p.devices 0 parts.1 in
-    let device : DeviceSettings = record { source = source; width = width; x86 = false; reserved = [] } in
     record {
       pool = set.pool;
       users_are = set.users_are;
@@ -155,10 +149,9 @@ kept_device p s source width set ok =
       owned = set.owned;
       devices_are = one_more s.devices device p.devices set.devices_are;
       few_devices = omega arith;
-      devices = all_more is_device_in_limits s.devices device set.devices refl;
+      devices = all_more is_device_in_limits s.devices device set.devices limits.1;
       passes = set.passes;
       devices_after = λ h. ltb-true 0 p.files parts.0;
-      plain = plain_more s.devices source width set.plain;
     }
 
 abbrev said_then : Option Line → Option (List Line) → Option (List Line)
@@ -229,15 +222,14 @@ grown_file p s user set ok =
     let devices = empty s.devices (set.devices_are ∙ eqb-true p.devices 0 early.1) in
     rw devices (simp (map-append, append-nil, append_assoc))
 
-grown_device : (p : Place) (s : Settings) (source : SourceId) (width : Width)
-    → so_far (behind p (heading.Device source width)) (set_by s (heading.Device source width)) ≡ so_far p s ++ line.Head (heading.Device source width) ∷ []
-grown_device p s source width = simp (map-append, append_assoc)
+grown_device : (p : Place) (s : Settings) (device : DeviceSettings)
+    → so_far (behind p (device_heading device)) (set_by s (device_heading device)) ≡ so_far p s ++ line.Head (device_heading device) ∷ []
+grown_device p s device = simp (map-append, append_assoc)
 
 -- what reading the lines behind a place of the head comes to
 record IsRead (p : Place) (s : Settings) (l : Option Line) (texts : List (List ℕ)) (more : Option (List Line)) : Type 0 where
   outside : first_outside (fold set_by s (heading_before l (headings texts))) ≡ None
   one_device : length (fold set_by s (heading_before l (headings texts))).devices ≤ 1
-  plain : ArePlain (fold set_by s (heading_before l (headings texts))).devices
   one_pass : (fold set_by s (heading_before l (headings texts))).passes ≡ 1
   rest : List Line
   rest_is : more ≡ Some rest
@@ -283,7 +275,6 @@ read_more p s h texts grown read heads =
     record {
       outside = ap first_outside same ∙ read.outside;
       one_device = subst (λ (t : Settings). length t.devices ≤ 1) (sym same) read.one_device;
-      plain = subst (λ (t : Settings). ArePlain t.devices) (sym same) read.plain;
       one_pass = ap (λ (t : Settings). t.passes) same ∙ read.one_pass;
       rest = line.Head h ∷ read.rest;
       rest_is = ap (option_map (λ others. line.Head h ∷ others)) read.rest_is;
@@ -301,8 +292,10 @@ by_heading n texts others p s (heading.User limit) head set ok good =
     let h = heading.User limit in read_more p s h texts (grown_user p s limit set ok) (others (behind p h) (set_by s h) head (kept_user p s limit set ok) good) refl
 by_heading n texts others p s (heading.File user) head set ok good =
     let h = heading.File user in read_more p s h texts (grown_file p s user set ok) (others (behind p h) (set_by s h) head (kept_file p s user set ok) good) refl
-by_heading n texts others p s (heading.Device source width) head set ok good =
-    let h = heading.Device source width in read_more p s h texts (grown_device p s source width) (others (behind p h) (set_by s h) head (kept_device p s source width set ok) good) refl
+by_heading n texts others p s (heading.Device source width x86 reserved) head set ok good =
+    let device : DeviceSettings = record { source = source; width = width; x86 = x86; reserved = reserved } in
+    let h = heading.Device source width x86 reserved in
+    read_more p s h texts (grown_device p s device) (others (behind p h) (set_by s h) head (kept_device p s device set ok) good) refl
 by_heading n texts others p s heading.Begin head set ok good =
     let some : 0 < p.files = ltb-true 0 p.files ok in
     let pool = set.users_after (set.files_after some) in
@@ -310,7 +303,6 @@ by_heading n texts others p s heading.Begin head set ok good =
     record {
       outside = within p s set some;
       one_device = omega (arith, set.devices_are, set.few_devices);
-      plain = set.plain;
       one_pass = set.passes;
       rest = line.Head heading.Begin ∷ steps;
       rest_is = ap (option_map (λ others. line.Head heading.Begin ∷ others)) (steps_alone n texts (behind p heading.Begin) refl good);
@@ -325,7 +317,6 @@ by_line n texts others p s (Some line.Skipped) head set good =
     record {
       outside = read.outside;
       one_device = read.one_device;
-      plain = read.plain;
       one_pass = read.one_pass;
       rest = read.rest;
       rest_is = ap (option_map (λ others. others)) read.rest_is;
@@ -344,7 +335,6 @@ good_lines n (text ∷ texts) p s head set good =
     record {
       outside = read.outside;
       one_device = read.one_device;
-      plain = read.plain;
       one_pass = read.one_pass;
       rest = read.rest;
       rest_is = read.rest_is;
@@ -366,7 +356,6 @@ none_set = record {
   devices = refl;
   passes = refl;
   devices_after = λ h. absurd (omega arith);
-  plain = tt;
 }
 
 good_read : (texts : List (List ℕ)) → first_bad 0 start texts ≡ None → IsReadAll start nothing_set texts
@@ -383,7 +372,6 @@ good_shape texts good =
       said_so = read.rest_is ∙ ap Some read.whole;
       within = read.outside;
       one_device = read.one_device;
-      plain = read.plain;
       one_pass = read.one_pass;
     }
 

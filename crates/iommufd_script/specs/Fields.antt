@@ -1,9 +1,10 @@
 -- The fields of a line, parted by single spaces, and what each kind of field may be.
-use Rattle.std.specs.Prelude.{ℕ, ◌==◌, Bool, if◌then◌else◌, List, [], ◌∷◌, length, codes, Option, Some, None, option_map}
-use Rattle.std.specs.List.{slice_split}
+use Rattle.std.specs.Prelude.{ℕ, ◌==◌, Bool, true, false, if◌then◌else◌, List, [], ◌∷◌, length, codes, Option, Some, None, option_map, is_some, nat_le}
+use Rattle.std.specs.List.{slice_split, list_all}
 use Rattle.std.specs.Option.{option_and_then}
 use Rattle.std.specs.Str.{bytes_eq}
 use denote.Ref.{Bor}
+use Rattle.iofd_words.specs.Bounds.{Bounds}
 use Rattle.iofd_words.specs.Settings.{is_between}
 use Rattle.iofd_words.specs.declared.width.Width.{Width}
 use Rattle.iofd_words.specs.declared.width.Width.TheVariants.{Bits39}
@@ -33,6 +34,10 @@ pub data Kind : Type 0 where
   Bytes : Kind
   -- the same, of 1 to 64 bytes
   Access : Kind
+  -- the mark `x86`, or nothing: then no field is taken
+  Mark : Kind
+  -- all fields that are left, each a span
+  Spans : Kind
 
 -- what such a field stands for
 abbrev pub ValueOf : Kind → Type 0
@@ -43,25 +48,65 @@ ValueOf Source = ℕ
 ValueOf AddressWidth = Width
 ValueOf Bytes = List ℕ
 ValueOf Access = List ℕ
+ValueOf Mark = Bool
+ValueOf Spans = List Bounds
 
 -- the value, if there is one and it passes
 abbrev pub kept_if : {A : Type 0} → (A → Bool) → Option A → Option A
 kept_if test None = None
 kept_if test (Some x) = if test x then Some x else None
 
-abbrev pub value_of : (kind : Kind) → List ℕ → Option (ValueOf kind)
-value_of (Decimal bits) text = decimal bits text
-value_of (Hex bits) text = hexadecimal bits text
-value_of Length text = kept_if (is_between 1 64) (decimal 64 text)
-value_of Source text = if length text == 4 then hexadecimal 16 text else None
-value_of AddressWidth text = if bytes_eq text (codes "39") then Some Bits39 else None
-value_of Bytes text = bytes_of text
-value_of Access text = kept_if (λ bytes. is_between 1 64 (length bytes)) (bytes_of text)
+-- ---- spans
+
+-- they are in order
+abbrev pub span_from_to : ℕ → ℕ → Option Bounds
+span_from_to first last = if nat_le first last then Some (record { first = first; last = last }) else None
+
+abbrev pub span_of_parts : List (List ℕ) → Option Bounds
+span_of_parts [] = None
+span_of_parts (first ∷ []) = None
+span_of_parts (first ∷ last ∷ []) = option_and_then (λ low. option_and_then (span_from_to low) (hexadecimal 64 last)) (hexadecimal 64 first)
+span_of_parts (first ∷ last ∷ more ∷ others) = None
+
+-- its first and its last number in hexadecimal, as `1000-1fff`; the last isn't below the first
+unfoldable pub span_of : List ℕ → Option Bounds
+span_of text = span_of_parts (slice_split (λ c. c == 45) text)
+
+abbrev pub are_spans : List (List ℕ) → Bool
+are_spans texts = list_all (λ text. is_some (span_of text)) texts
+
+abbrev pub span_before : Option Bounds → List Bounds → List Bounds
+span_before None others = others
+span_before (Some span) others = span ∷ others
+
+-- those of the fields that are spans
+abbrev pub spans_in : List (List ℕ) → List Bounds
+spans_in [] = []
+spans_in (text ∷ texts) = span_before (span_of text) (spans_in texts)
+
+-- ---- the fields of each kind
 
 -- the value of the first field, and the fields behind it
+abbrev pub first_value : {A : Type 0} → (List ℕ → Option A) → List (List ℕ) → Option (A × List (List ℕ))
+first_value value [] = None
+first_value value (field ∷ others) = option_map (λ x. (x, others)) (value field)
+
+-- whether the mark is there, and the fields behind it
+abbrev pub marked : List (List ℕ) → Bool × List (List ℕ)
+marked [] = (false, [])
+marked (field ∷ others) = if bytes_eq field (codes "x86") then (true, others) else (false, field ∷ others)
+
+-- the value of the fields of this kind that come first, and the fields behind them
 unfoldable pub next : (kind : Kind) → List (List ℕ) → Option (ValueOf kind × List (List ℕ))
-next kind [] = None
-next kind (field ∷ others) = option_map (λ value. (value, others)) (value_of kind field)
+next (Decimal bits) texts = first_value (decimal bits) texts
+next (Hex bits) texts = first_value (hexadecimal bits) texts
+next Length texts = first_value (λ text. kept_if (is_between 1 64) (decimal 64 text)) texts
+next Source texts = first_value (λ text. if length text == 4 then hexadecimal 16 text else None) texts
+next AddressWidth texts = first_value (λ text. if bytes_eq text (codes "39") then Some Bits39 else None) texts
+next Bytes texts = first_value bytes_of texts
+next Access texts = first_value (λ text. kept_if (λ bytes. is_between 1 64 (length bytes)) (bytes_of text)) texts
+next Mark texts = Some (marked texts)
+next Spans texts = if are_spans texts then Some (spans_in texts, []) else None
 
 -- what is made of the values of fields of these kinds
 abbrev pub Makes : List Kind → Type 0 → Type 0

@@ -2,7 +2,7 @@
 use Rattle.std.specs.Prelude.{ℕ, List, [], ◌∷◌, codes, Option}
 use Rattle.std.specs.Str.{bytes_eq}
 use Rattle.iofd_words.specs.FirstTrue.{first_true}
-use Rattle.iommufd_script.specs.Fields.{Kind, Decimal, Hex, Length, Source, AddressWidth, Bytes, Access, Makes, read}
+use Rattle.iommufd_script.specs.Fields.{Kind, Decimal, Hex, Length, Source, AddressWidth, Bytes, Access, Mark, Spans, Makes, read}
 use Rattle.iommufd_script.specs.declared.keyword.HeadKeyword.{HeadKeyword}
 use Rattle.iommufd_script.specs.declared.keyword.HeadKeyword.TheVariants as head
 use Rattle.iommufd_script.specs.declared.keyword.StepKeyword.{StepKeyword}
@@ -35,8 +35,11 @@ head_row head.Pool = record { kinds = Decimal 32 ∷ []; makes = λ frames. head
 head_row head.User = record { kinds = Decimal 64 ∷ []; makes = λ limit. heading.User limit }
 -- its user
 head_row head.File = record { kinds = Decimal 16 ∷ []; makes = λ user. heading.File (record { 0 = user }) }
--- source, width
-head_row head.Device = record { kinds = Source ∷ AddressWidth ∷ []; makes = λ source width. heading.Device (record { 0 = source }) width }
+-- source, width, the x86 mark, reserved spans
+head_row head.Device = record {
+  kinds = Source ∷ AddressWidth ∷ Mark ∷ Spans ∷ [];
+  makes = λ source width x86 reserved. heading.Device (record { 0 = source }) width x86 reserved;
+}
 head_row head.Begin = record { kinds = []; makes = heading.Begin }
 
 -- ---- the steps

@@ -1,5 +1,5 @@
 -- What a script opens a server with, and the whole of what it says.
-use Rattle.std.specs.Prelude.{◌≡◌, ℕ, List, [], ◌∷◌, ◌++◌, Option, Some, None, Result, Ok, Err, false}
+use Rattle.std.specs.Prelude.{◌≡◌, ℕ, List, [], ◌∷◌, ◌++◌, Option, Some, None, Result, Ok, Err}
 use Rattle.std.specs.List.{fold}
 use Rattle.iofd_words.specs.Settings.{Settings}
 use Rattle.iommufd_script.specs.Lines.{lines, line_of}
@@ -17,7 +17,9 @@ abbrev pub set_by : Settings → HeadLine → Settings
 set_by settings (heading.Pool frames) = record settings { pool = frames }
 set_by settings (heading.User limit) = record settings { users = settings.users ++ limit ∷ [] }
 set_by settings (heading.File user) = record settings { files = settings.files ++ user ∷ [] }
-set_by settings (heading.Device source width) = record settings { devices = settings.devices ++ record { source = source; width = width; x86 = false; reserved = [] } ∷ [] }
+set_by settings (heading.Device source width x86 reserved) = record settings {
+  devices = settings.devices ++ record { source = source; width = width; x86 = x86; reserved = reserved } ∷ [];
+}
 set_by settings heading.Begin = settings
 
 -- a script is of one pass
@@ -29,7 +31,7 @@ abbrev pub before : HeadLine → List HeadLine → List HeadLine
 before (heading.Pool frames) others = heading.Pool frames ∷ others
 before (heading.User limit) others = heading.User limit ∷ others
 before (heading.File user) others = heading.File user ∷ others
-before (heading.Device source width) others = heading.Device source width ∷ others
+before (heading.Device source width x86 reserved) others = heading.Device source width x86 reserved ∷ others
 before heading.Begin others = []
 
 abbrev pub heading_before : Option Line → List HeadLine → List HeadLine

@@ -1,6 +1,6 @@
 -- A whole script: the order of its lines, its first bad line, and what a script with no bad line says.
 use Rattle.std.specs.Prelude.{ℕ, ◌+◌, ◌==◌, ◌&&◌, Bool, true, false, not, nat_lt, if◌then◌else◌, List, [], ◌∷◌, Option, Some, None}
-use Rattle.iofd_words.specs.Settings.{is_between}
+use Rattle.iofd_words.specs.Settings.{is_between, is_device_in_limits}
 use Rattle.iommufd_script.specs.Lines.{lines, line_of}
 use Rattle.iommufd_script.specs.declared.line.HeadLine.{HeadLine}
 use Rattle.iommufd_script.specs.declared.line.HeadLine.TheVariants as heading
@@ -16,12 +16,15 @@ abbrev pub start : Place
 start = record { pool = false; users = 0; files = 0; devices = 0; begun = false }
 
 -- whether such a line of the head may come here. One pool is first; then come 1 to 255 users, 1 to 1024 files
--- of these users, and at most one device.
+-- of these users, and at most one device, whose reserved spans are within their limits.
 abbrev pub allows : Place → HeadLine → Bool
 allows place (heading.Pool frames) = not place.pool && is_between 1 4096 frames
 allows place (heading.User limit) = place.pool && (place.files == 0) && nat_lt place.users 255
 allows place (heading.File user) = is_between 1 place.users user.0 && (place.devices == 0) && nat_lt place.files 1024
-allows place (heading.Device source width) = nat_lt 0 place.files && (place.devices == 0)
+allows place (heading.Device source width x86 reserved) =
+    nat_lt 0 place.files
+    && (place.devices == 0)
+    && is_device_in_limits (record { source = source; width = width; x86 = x86; reserved = reserved })
 allows place heading.Begin = nat_lt 0 place.files
 
 -- the place behind it
@@ -29,7 +32,7 @@ abbrev pub behind : Place → HeadLine → Place
 behind place (heading.Pool frames) = record place { pool = true }
 behind place (heading.User limit) = record place { users = place.users + 1 }
 behind place (heading.File user) = record place { files = place.files + 1 }
-behind place (heading.Device source width) = record place { devices = place.devices + 1 }
+behind place (heading.Device source width x86 reserved) = record place { devices = place.devices + 1 }
 behind place heading.Begin = record place { begun = true }
 
 -- the place behind a line, if it may come here: lines of the head before `begin`, and steps behind it

@@ -1,5 +1,5 @@
 -- A good script, apart from how it's read: the head's lines in their order, and then the steps.
-use Rattle.std.specs.Prelude.{◌≡◌, ℕ, ◌+◌, ◌-◌, ◌≤◌, take, false, List, [], ◌∷◌, ◌++◌, length, map, Option, Some, None, option_map}
+use Rattle.std.specs.Prelude.{◌≡◌, ℕ, ◌+◌, ◌-◌, ◌≤◌, take, List, [], ◌∷◌, ◌++◌, length, map, Option, Some, None, option_map}
 use Rattle.std.specs.Option.{option_and_then}
 use Rattle.iofd_words.specs.Limits.{first_outside}
 use Rattle.iofd_words.specs.Settings.{Settings, DeviceSettings}
@@ -27,7 +27,7 @@ abbrev pub file_line : UserNo → Line
 file_line user = line.Head (heading.File user)
 
 abbrev pub device_line : DeviceSettings → Line
-device_line device = line.Head (heading.Device device.source device.width)
+device_line device = line.Head (heading.Device device.source device.width device.x86 device.reserved)
 
 -- the pool; the users, the files and the devices in their order; `begin`; the steps
 abbrev pub in_order : Settings → List Step → List Line
@@ -38,17 +38,11 @@ in_order settings steps =
     ++ (map device_line settings.devices
     ++ (line.Head heading.Begin ∷ map (λ step. line.Step step) steps))))
 
--- a device has neither the x86 mark nor reserved spans
-abbrev pub ArePlain : List DeviceSettings → Type 0
-ArePlain [] = Unit {0}
-ArePlain (device ∷ devices) = (device.x86 ≡ false) × (device.reserved ≡ []) × ArePlain devices
-
 -- THE GOOD SCRIPTS: the lines are a script of these settings and these steps
 pub record IsScript (texts : List (List ℕ)) (settings : Settings) (steps : List Step) : Type 0 where
   pub said_so : said texts ≡ Some (in_order settings steps)
   pub within : first_outside settings ≡ None
   pub one_device : length settings.devices ≤ 1
-  pub plain : ArePlain settings.devices
   pub one_pass : settings.passes ≡ 1
 
 -- the lines may still become a good script

@@ -1,11 +1,12 @@
 //! The fields of a line, taken from its front.
 
 ghost use Rattle.std.specs.Prelude.{◌≡◌, ◌==◌, [], ◌∷◌, MatchOption, if◌then◌else◌, Some, None, length};
-ghost use Rattle.iommufd_script.specs.Fields.{fields, next, Decimal, Hex, Length, Source, AddressWidth, Bytes, Access};
+ghost use Rattle.iommufd_script.specs.Fields.{fields, fields_left, next, Decimal, Hex, Length, Source, AddressWidth, Bytes, Access, Mark, Spans};
 
 use crate::digits;
 use crate::hex_bytes::HexBytes;
-use crate::split::first_place;
+use crate::span_texts::SpanTexts;
+use crate::split::split_at_byte;
 use iofd_words::{Burst, Width};
 use std::marker::Model;
 
@@ -32,22 +33,29 @@ impl<'a> Fields<'a> {
         Fields { rest: Some(line) }
     }
 
+    // What is left of a line, which may be nothing.
+    pub fn left(rest: Option<&'a [u8]>) -> Fields<'a>
+        ensures { result ≡ fields_left rest.entry }
+    {
+        Fields { rest }
+    }
+
+    // The text that they stand in, as it was given to `left`.
+    pub fn text(self) -> Option<&'a [u8]>
+        ensures { fields_left result ≡ self.entry }
+    {
+        self.rest
+    }
+
     // The first field and those behind it.
     pub fn split(self) -> Option<(&'a [u8], Fields<'a>)>
         ensures { MatchOption result (self.entry ≡ []) (λ parts. self.entry ≡ parts.0.now ∷ parts.1) }
     {
         let line = self.rest?;
-        let end = first_place(line, b' ');
-        if end == line.len() {
-            return Some((line, Fields { rest: None }));
+        match split_at_byte(line, b' ') {
+            None => Some((line, Fields { rest: None })),
+            Some((field, others)) => Some((field, Fields { rest: Some(others) })),
         }
-        let (field, others) = line.split_at(end);
-        Some((
-            field,
-            Fields {
-                rest: Some(&others[1..]),
-            },
-        ))
     }
 
     // Whether no field is left.
@@ -166,5 +174,24 @@ impl<'a> Fields<'a> {
     {
         let (field, others) = self.split()?;
         Some((HexBytes::of(field)?.to_burst()?, others))
+    }
+    // Whether the mark `x86` is the first field, which is taken then.
+    #[tactic(auto, unfolding(crate::specs::Fields::next))]
+    pub fn mark(self) -> (bool, Fields<'a>)
+        ensures { Some result ≡ next Mark self.entry }
+    {
+        let rest = self.rest;
+        match self.split() {
+            Some((field, others)) if field == b"x86".as_slice() => (true, others),
+            _ => (false, Fields { rest }),
+        }
+    }
+
+    // All that are left, each a span.
+    #[tactic(auto, unfolding(crate::specs::Fields::next))]
+    pub fn spans(self) -> Option<(SpanTexts<'a>, Fields<'a>)>
+        ensures { result ≡ next Spans self.entry }
+    {
+        Some((SpanTexts::of(self)?, Fields { rest: None }))
     }
 }

@@ -12,6 +12,7 @@ mod opening;
 mod parsing;
 mod place;
 mod script;
+mod span_texts;
 mod split;
 
 pub use error::ScriptError;
@@ -20,3 +21,4 @@ pub use line::{HeadLine, Line, Step};
 pub use opening::read_script;
 pub use parsing::parse_line;
 pub use script::{Steps, first_bad_line};
+pub use span_texts::SpanTexts;

@@ -1,19 +1,20 @@
 //! What the lines of a script say.
 
 use crate::hex_bytes::HexBytes;
+use crate::span_texts::SpanTexts;
 use iofd_words::{Burst, DeviceNo, FileNo, Iova, ObjId, SourceId, UserNo, Width};
 
 /// A line of the head.
-#[derive(Clone, Copy, PartialEq, Eq, Debug)]
-pub enum HeadLine {
+#[derive(Debug, Drop)]
+pub enum HeadLine<'a> {
     /// The pool has so many frames.
     Pool(u32),
     /// The next user may pin so many pages.
     User(u64),
     /// The next file is this user's.
     File(UserNo),
-    /// The next device has this source id and address width.
-    Device(SourceId, Width),
+    /// The next device has this source id, this address width, the x86 mark or not, and these reserved spans.
+    Device(SourceId, Width, bool, SpanTexts<'a>),
     /// The steps begin.
     Begin,
 }
@@ -57,7 +58,7 @@ pub enum Line<'a> {
     /// An empty line, or one that begins with `#`: it says nothing.
     Skipped,
     /// A line of the head.
-    Head(HeadLine),
+    Head(HeadLine<'a>),
     /// A step.
     Step(Step<'a>),
 }

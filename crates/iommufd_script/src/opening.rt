@@ -10,7 +10,7 @@ use crate::line::{HeadLine, Line};
 use crate::parsing::parse_line;
 use crate::script::{Steps, first_bad_line};
 use crate::split::split_line;
-use iofd_words::{Config, DeviceConfig, NoMemory, SpanList, UserNo};
+use iofd_words::{Config, DeviceConfig, NoMemory, UserNo};
 use std::alloc::Allocator;
 use std::marker::Model;
 
@@ -45,17 +45,17 @@ impl<A: Allocator + Copy> Head<A> {
     }
 
     // Adds what a line says.
-    fn add(&mut self, alloc: A, line: HeadLine) -> Result<(), NoMemory>
-        ensures { OnOk result (self.new ≡ set_by self.old line) }
+    fn add(&mut self, alloc: A, line: HeadLine<'_>) -> Result<(), NoMemory>
+        ensures { OnOk result (self.new ≡ set_by self.old line.entry) }
     {
         match line {
             HeadLine::Pool(frames) => self.pool = frames,
             HeadLine::User(limit) => self.users.push(limit)?,
             HeadLine::File(user) => self.files.push(user)?,
-            HeadLine::Device(source, width) => {
-                let reserved = SpanList::new(Vec::new(alloc));
+            HeadLine::Device(source, width, x86, spans) => {
+                let reserved = spans.to_list(alloc)?;
                 self.devices
-                    .push(DeviceConfig::new(source, width, false, reserved))?;
+                    .push(DeviceConfig::new(source, width, x86, reserved))?;
             }
             HeadLine::Begin => {}
         }
@@ -74,7 +74,7 @@ fn read_head<A: Allocator + Copy>(alloc: A, text: &[u8]) -> Result<Head<A>, NoMe
         let (line, others) = split_line(rest);
         rest = others;
         if let Some(Line::Head(heading)) = parse_line(line) {
-            if heading == HeadLine::Begin {
+            if matches!(heading, HeadLine::Begin) {
                 return Ok(head);
             }
             head.add(alloc, heading)?;

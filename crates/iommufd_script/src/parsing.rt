@@ -15,7 +15,7 @@ use crate::line::{HeadLine, Line, Step};
 use iofd_words::{DeviceNo, FileNo, Iova, ObjId, SourceId, UserNo};
 
 // `pool <n>`
-fn pool(fields: Fields<'_>) -> Option<HeadLine>
+fn pool(fields: Fields<'_>) -> Option<HeadLine<'_>>
     ensures { result ≡ head_of head.Pool fields.entry }
 {
     let (frames, fields) = fields.decimal_u32()?;
@@ -23,7 +23,7 @@ fn pool(fields: Fields<'_>) -> Option<HeadLine>
 }
 
 // `user <n>`
-fn user(fields: Fields<'_>) -> Option<HeadLine>
+fn user(fields: Fields<'_>) -> Option<HeadLine<'_>>
     ensures { result ≡ head_of head.User fields.entry }
 {
     let (limit, fields) = fields.decimal_u64()?;
@@ -31,24 +31,26 @@ fn user(fields: Fields<'_>) -> Option<HeadLine>
 }
 
 // `file <n>`
-fn file(fields: Fields<'_>) -> Option<HeadLine>
+fn file(fields: Fields<'_>) -> Option<HeadLine<'_>>
     ensures { result ≡ head_of head.File fields.entry }
 {
     let (user, fields) = fields.decimal_u16()?;
     fields.end(HeadLine::File(UserNo(user)))
 }
 
-// `device <4 hex digits> 39`
-fn device(fields: Fields<'_>) -> Option<HeadLine>
+// `device <4 hex digits> 39 [x86] [<x>-<x> ..]`
+fn device(fields: Fields<'_>) -> Option<HeadLine<'_>>
     ensures { result ≡ head_of head.Device fields.entry }
 {
     let (source, fields) = fields.source()?;
     let (width, fields) = fields.width()?;
-    fields.end(HeadLine::Device(SourceId(source), width))
+    let (x86, fields) = fields.mark();
+    let (reserved, fields) = fields.spans()?;
+    fields.end(HeadLine::Device(SourceId(source), width, x86, reserved))
 }
 
 // `begin`
-fn begin(fields: Fields<'_>) -> Option<HeadLine>
+fn begin(fields: Fields<'_>) -> Option<HeadLine<'_>>
     ensures { result ≡ head_of head.Begin fields.entry }
 {
     fields.end(HeadLine::Begin)
@@ -56,7 +58,7 @@ fn begin(fields: Fields<'_>) -> Option<HeadLine>
 
 // A line of the head, by its word and the fields behind it.
 #[tactic(auto)]
-fn head_line(keyword: HeadKeyword, fields: Fields<'_>) -> Option<HeadLine>
+fn head_line(keyword: HeadKeyword, fields: Fields<'_>) -> Option<HeadLine<'_>>
     ensures { result ≡ head_of keyword fields.entry }
 {
     match keyword {

@@ -31,24 +31,26 @@ impl Place {
     }
 
     // Whether such a line of the head may come here.
-    fn allows(self, line: HeadLine) -> bool
-        ensures { result ≡ allows self line }
+    fn allows(self, line: &HeadLine<'_>) -> bool
+        ensures { result ≡ allows self line.now }
     {
         match line {
-            HeadLine::Pool(frames) => !self.pool && frames >= 1 && frames <= 4096,
+            HeadLine::Pool(frames) => !self.pool && *frames >= 1 && *frames <= 4096,
             HeadLine::User(_) => self.pool && self.files == 0 && self.users < 255,
             HeadLine::File(user) => {
                 user.0 >= 1 && user.0 <= self.users && self.devices == 0 && self.files < 1024
             }
-            HeadLine::Device(_, _) => self.files > 0 && self.devices == 0,
+            HeadLine::Device(_, _, _, reserved) => {
+                self.files > 0 && self.devices == 0 && reserved.are_in_limits()
+            }
             HeadLine::Begin => self.files > 0,
         }
     }
 
     // The place behind it.
-    fn behind(self, line: HeadLine) -> Place
-        requires { IsTrue (allows self line) }
-        ensures { result ≡ behind self line }
+    fn behind(self, line: &HeadLine<'_>) -> Place
+        requires { IsTrue (allows self line.now) }
+        ensures { result ≡ behind self line.now }
     {
         match line {
             HeadLine::Pool(_) => Place { pool: true, ..self },
@@ -60,7 +62,7 @@ impl Place {
                 files: self.files + 1,
                 ..self
             },
-            HeadLine::Device(_, _) => Place {
+            HeadLine::Device(_, _, _, _) => Place {
                 devices: self.devices + 1,
                 ..self
             },
@@ -78,10 +80,10 @@ impl Place {
         match line? {
             Line::Skipped => Some(self),
             Line::Head(heading) => {
-                if self.begun || !self.allows(heading) {
+                if self.begun || !self.allows(&heading) {
                     return None;
                 }
-                Some(self.behind(heading))
+                Some(self.behind(&heading))
             }
             Line::Step(_) => { if self.begun { Some(self) } else { None } }
         }

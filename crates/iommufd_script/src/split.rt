@@ -1,7 +1,7 @@
 //! Text, split at single bytes.
 
-ghost use Rattle.std.specs.Prelude.{◌≡◌, ◌==◌, ◌≤◌, ◌<◌, ◌∷◌, length};
-ghost use Rattle.std.specs.List.{position_or_len};
+ghost use Rattle.std.specs.Prelude.{◌≡◌, ◌==◌, ◌≤◌, ◌<◌, [], ◌∷◌, MatchOption, length};
+ghost use Rattle.std.specs.List.{position_or_len, slice_split};
 ghost use Rattle.iommufd_script.specs.Lines.{lines};
 
 // Where the first such byte is, or the text's length.
@@ -15,6 +15,19 @@ pub fn first_place(text: &[u8], byte: u8) -> usize
         }
     }
     text.len()
+}
+
+// The part before the first such byte, and the text behind it; None where there is no such byte.
+pub fn split_at_byte(text: &[u8], byte: u8) -> Option<(&[u8], &[u8])>
+    ensures { MatchOption result (slice_split (λ c. c == byte) text.now ≡ text.now ∷ [])
+        (λ parts. slice_split (λ c. c == byte) text.now ≡ parts.0.now ∷ slice_split (λ c. c == byte) parts.1.now) }
+{
+    let end = first_place(text, byte);
+    if end == text.len() {
+        return None;
+    }
+    let (part, others) = text.split_at(end);
+    Some((part, &others[1..]))
 }
 
 // The first line, without its line feed, and the text behind it.

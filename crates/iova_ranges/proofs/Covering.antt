@@ -5,8 +5,9 @@ use Rattle.std.proofs.lemmas.Bool.{cases_Bool, cases_lt}
 use Rattle.std.proofs.lemmas.Bool.Decides.{nat_tests}
 use Rattle.iofd_words.specs.Bounds.{Bounds}
 use Rattle.iofd_words.specs.Span.{holds}
-use Rattle.iova_ranges.specs.Ranges.{AllIn, in_spans}
-use Rattle.iova_ranges.specs.Room.{is_covered_by}
+use Rattle.iova_ranges.specs.Ranges.{AllIn}
+use Rattle.iofd_words.specs.Ranges.{in_spans}
+use Rattle.iofd_words.specs.Room.{is_covered_by}
 
 -- what the test asks of each span
 abbrev pub goes_on : List Bounds → Bounds → Bounds → Bool

@@ -1,7 +1,8 @@
 -- The ranges to which the addresses of an address space are bounded.
 use Rattle.std.specs.Prelude.{ℕ, ◌^◌, Bool, ◌||◌, ◌==◌, nat_lt, List, [], ◌∷◌, length}
 use Rattle.iofd_words.specs.Bounds.{Bounds}
-use Rattle.iova_ranges.specs.Ranges.{AllIn, in_spans, lies_in_one}
+use Rattle.iova_ranges.specs.Ranges.{AllIn, lies_in_one}
+use Rattle.iofd_words.specs.Ranges.{in_spans}
 
 -- with no range each span is allowed, and else one of which each number lies in a range
 abbrev pub IsAllowed : List Bounds → Bounds → Type 0

@@ -1,9 +1,7 @@
 pub mod Adding
 pub mod Allowed
-pub mod Fits
 pub mod Ranges
 pub mod RangeTable
 pub mod Removing
 pub mod Reserved
-pub mod Room
 pub mod Search

@@ -2,11 +2,8 @@
 use Rattle.std.specs.Prelude.{ℕ, ◌+◌, ◌≤◌, ◌≡◌, Bool, true, ◌&&◌, nat_le, nat_lt, List, [], ◌∷◌}
 use Rattle.std.specs.List.{list_any}
 use Rattle.iofd_words.specs.Bounds.{Bounds}
-use Rattle.iofd_words.specs.Span.{holds, lies_in}
-
--- the number is in the set: some span holds it
-abbrev pub in_spans : List Bounds → ℕ → Bool
-in_spans spans n = list_any (λ span. holds span n) spans
+use Rattle.iofd_words.specs.Ranges.{in_spans}
+use Rattle.iofd_words.specs.Span.{lies_in}
 
 -- no span begins below this number, and between each span and the next one a number is left out
 abbrev pub AreMergedFrom : ℕ → List Bounds → Type 0

@@ -1,7 +1,7 @@
 -- The steps of the search for a fit, which no public clause names.
 use Rattle.std.specs.Prelude.{ℕ, ◌+◌, max, nat_lt, nat_le, Option, Some, None, List, [], ◌∷◌, if◌then◌else◌}
 use Rattle.iofd_words.specs.Bounds.{Bounds}
-use Rattle.iova_ranges.specs.Fits.{whole_from}
+use Rattle.iofd_words.specs.Fits.{whole_from}
 
 -- where in a span this many numbers fit first, from the number on, if they do
 abbrev pub room_in : Bounds → ℕ → ℕ → Option ℕ

@@ -2,7 +2,8 @@
 
 ghost use Rattle.std.specs.Prelude.{◌≡◌, ◌==◌, ◌<◌, ◌↔◌, ℕ, [], length, not, IsTrue, IfOk, OnOk, OnErr};
 ghost use Rattle.iova_ranges.specs.Allowed.{IsAllowed, is_allowed, is_allowed_number};
-ghost use Rattle.iova_ranges.specs.Ranges.{AreMerged, in_spans};
+ghost use Rattle.iova_ranges.specs.Ranges.{AreMerged};
+ghost use Rattle.iofd_words.specs.Ranges.{in_spans};
 
 use crate::RangeSet;
 use crate::between::between;

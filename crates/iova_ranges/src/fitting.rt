@@ -1,7 +1,7 @@
 //! The least place where a length of addresses fits.
 
 ghost use Rattle.std.specs.Prelude.{◌≡◌, ◌↔◌, ℕ, ◌+◌, ◌≤◌, ◌^◌, drop, length, IsTrue, IfSome, IfNone};
-ghost use Rattle.iova_ranges.specs.Fits.{StartsRise, IsFit, whole_from};
+ghost use Rattle.iofd_words.specs.Fits.{StartsRise, IsFit, whole_from};
 ghost use Rattle.iova_ranges.specs.Ranges.{AreMerged};
 ghost use Rattle.iova_ranges.specs.Search.{first_below, room_in};
 

@@ -2,9 +2,10 @@
 
 ghost use Rattle.std.specs.Prelude.{◌≡◌, ◌↔◌, ℕ, ◌&&◌, true, false, not, IsTrue, List, [], ◌∷◌};
 ghost use Rattle.iofd_words.specs.Bounds.{Bounds};
-ghost use Rattle.iova_ranges.specs.Fits.{IsFit};
-ghost use Rattle.iova_ranges.specs.Ranges.{AreMerged, in_spans};
-ghost use Rattle.iova_ranges.specs.Room.{AreOrdered, fits, has_fit};
+ghost use Rattle.iofd_words.specs.Fits.{IsFit};
+ghost use Rattle.iova_ranges.specs.Ranges.{AreMerged};
+ghost use Rattle.iofd_words.specs.Ranges.{in_spans};
+ghost use Rattle.iofd_words.specs.Room.{AreOrdered, fits, has_fit};
 
 /// Sets of the same numbers are made up of the same spans.
 pub fn equal_sets_have_equal_spans()

@@ -3,7 +3,8 @@
 ghost use Rattle.std.specs.Prelude.{◌≡◌, ◌↔◌, IsTrue, ◌≤◌, find, nat_lt, nat_le, length};
 ghost use Rattle.std.specs.List.{prefix_len};
 ghost use Rattle.std.specs.Option.{option_copied};
-ghost use Rattle.iova_ranges.specs.Ranges.{AreMerged, AllIn, in_spans, lies_in_one};
+ghost use Rattle.iova_ranges.specs.Ranges.{AreMerged, AllIn, lies_in_one};
+ghost use Rattle.iofd_words.specs.Ranges.{in_spans};
 
 use iofd_words::Span;
 

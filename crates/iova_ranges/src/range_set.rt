@@ -2,8 +2,9 @@
 
 ghost use Rattle.std.specs.Prelude.{◌≡◌, ◌==◌, ◌↔◌, ◌||◌, ◌&&◌, not, ℕ, ◌+◌, ◌<◌, ◌≤◌, [], length, IsTrue, IfOk, IfSome, IfNone, OnOk, OnErr};
 ghost use Rattle.iofd_words.specs.Span.{holds};
-ghost use Rattle.iova_ranges.specs.Fits.{StartsRise, IsFit};
-ghost use Rattle.iova_ranges.specs.Ranges.{AreMerged, AllIn, in_spans, lies_in_one, splits_one, touches_one};
+ghost use Rattle.iofd_words.specs.Fits.{StartsRise, IsFit};
+ghost use Rattle.iova_ranges.specs.Ranges.{AreMerged, AllIn, lies_in_one, splits_one, touches_one};
+ghost use Rattle.iofd_words.specs.Ranges.{in_spans};
 
 use crate::{adding, fitting, lookups, removing};
 use iofd_words::{Iova, NoMemory, Span};

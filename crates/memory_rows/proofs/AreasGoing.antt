@@ -1,5 +1,5 @@
 -- A loop over areas that let go of their memory objects, one after another.
-use Rattle.std.proofs.Common.{◌≡◌, ℕ, ◌+◌, ◌≤◌, ◌<◌, Bool, true, false, cond, eqb, List, [], ◌∷◌, refl, ap, sym, ◌∙◌, subst, arith}
+use Rattle.std.proofs.Common.{◌≡◌, ℕ, ◌+◌, ◌≤◌, Bool, true, false, cond, eqb, List, [], ◌∷◌, refl, arith}
 use Rattle.std.proofs.lemmas.Bool.Decides.{nat_tests}
 use Rattle.frame_memory.specs.Pool.{FramePool}
 use Rattle.iofd_words.specs.declared.rows.Area.{Area}
@@ -85,23 +85,6 @@ may_unpin gone all left rest area first now before between is going =
     let some = one_left left rest area is in
     let most = going.may.pins area.memory in
     omega (arith, some, most)
-
--- it may go, where it isn't translated
-pub may_go : (all left rest : List Area) (area : Area) (first now : Memory) (before between : FramePool) → left ≡ area ∷ rest → AreGoing over (if_translated false) all left first now before between → table_pins now area.memory + 1 ≤ areas_over now area.memory
-may_go all left rest area first now before between is going =
-    let some = one_left left rest area is in
-    let most : table_pins now area.memory + over left area.memory ≤ areas_over now area.memory + 0 = going.may.areas area.memory in
-    omega (arith, some, most)
-
--- or where its pin has gone
-pub may_go_unpinned : (all left rest : List Area) (area : Area) (first now next : Memory) (before between after : FramePool) → left ≡ area ∷ rest → AreGoing over (if_translated true) all left first now before between → HasLess never (once area.memory) now next → table_pins next area.memory + 1 ≤ areas_over next area.memory
-may_go_unpinned all left rest area first now next before between after is going less =
-    let some = one_left left rest area is in
-    let most : table_pins now area.memory + over left area.memory ≤ areas_over now area.memory + over left area.memory = going.may.areas area.memory in
-    let pins : table_pins next area.memory + once area.memory area.memory ≡ table_pins now area.memory = less.pins area.memory in
-    let areas : areas_over next area.memory + 0 ≡ areas_over now area.memory = less.areas area.memory in
-    let own = once_own area.memory in
-    omega (arith, some, most, pins, areas, own)
 
 -- ---- one area
 

@@ -62,10 +62,6 @@ module _ {X : Type 0} where
       by_tests false true is = omega arith
       by_tests false false is = omega arith
 
-  pub count_none : (p : X → Bool) (xs : List X) → ((x : X) → p x ≡ false) → count_by p xs ≡ 0
-  count_none p [] none = refl
-  count_none p (x ∷ xs) none = count-cons p x xs ∙ rw (none x, count_none p xs none) refl
-
   -- of the rows that pass a test
   pub count_within : (p goes : X → Bool) (xs : List X) → count_by p (filter goes xs) ≡ count_by (λ x. goes x && p x) xs
   count_within p goes [] = refl

@@ -26,7 +26,7 @@ use Rattle.iofd_words.specs.declared.rows.TableFrame.{TableFrame}
 use Rattle.iofd_words.specs.declared.rows.UserPage.{UserPage}
 use Rattle.memory_rows.proofs.PinsFollow.{any_count, count-cons}
 use Rattle.memory_rows.specs.Shown.{FramesShown, PinsShown, UsersShown, over, translated}
-use Rattle.pinned_pages.specs.Objects.{pins_on}
+use Rattle.memory_objects.specs.Objects.{pins_on}
 use Rattle.user_memory.specs.Changes.{HoldsFollow, SameObjects}
 use Rattle.user_memory.specs.Memory.{IsBacked, Memory, reached}
 

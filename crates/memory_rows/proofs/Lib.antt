@@ -4,3 +4,4 @@ pub mod FramesFollow
 pub mod Gone
 pub mod PinsFollow
 pub mod Released
+pub mod UserAccess

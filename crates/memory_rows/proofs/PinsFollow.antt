@@ -1,7 +1,7 @@
 -- The pins of the world follow those that are kept.
-use Rattle.std.proofs.Common.{◌≡◌, ℕ, ◌+◌, ◌<◌, zero, suc, Bool, true, false, cond, ◌&&◌, ◌||◌, ◌⊎◌, inl, inr, not, eqb, ltb, Option, Some, None, is_some, List, [], ◌∷◌, map, refl, ap, sym, ◌∙◌, subst, arith}
+use Rattle.std.proofs.Common.{◌≡◌, ℕ, ◌+◌, Bool, true, false, cond, ◌&&◌, ◌||◌, ◌⊎◌, inl, inr, not, eqb, ltb, Option, Some, None, is_some, List, [], ◌∷◌, map, refl, ap, sym, ◌∙◌, arith}
 use Rattle.std.specs.Prelude.{if◌then◌else◌}
-use Rattle.std.specs.List.{count_by, filter, find, list_all, list_any}
+use Rattle.std.specs.List.{count_by, find, list_any}
 use Rattle.std.proofs.Math.Path.{fun_ext}
 use Rattle.std.proofs.lemmas.Bool.Decides.{nat_tests}
 use Rattle.std.proofs.lemmas.List.Sums.{sum_by-cons}
@@ -15,7 +15,6 @@ use Rattle.iofd_words.specs.declared.numbers.FrameNo.{FrameNo}
 use Rattle.iofd_words.specs.declared.numbers.UserNo.{UserNo}
 use Rattle.iofd_words.specs.declared.rows.Area.{Area}
 use Rattle.iofd_words.specs.declared.rows.MemoryObject.{MemoryObject}
-use Rattle.iofd_words.specs.declared.rows.Object.{Object}
 use Rattle.iofd_words.specs.declared.rows.Pin.{Pin}
 use Rattle.iofd_rows.specs.Pinned.{ArePinned, differ}
 use Rattle.iofd_rows.proofs.Bools.{and_true, clash, not_true}
@@ -24,7 +23,7 @@ use Rattle.iofd_rows.proofs.ListTests.{alike}
 use Rattle.iofd_rows.proofs.ObjectPages.{in_pinned, listed_is}
 use Rattle.iofd_rows.proofs.PageLists.{page_itself, same_page}
 use Rattle.iofd_rows.proofs.PinsFollow.{pin_is_of, settled_at, settled_frame}
-use Rattle.pinned_pages.specs.Objects.{are_rising, pins_on}
+use Rattle.memory_objects.specs.Objects.{are_rising, pins_on}
 use Rattle.user_memory.proofs.PinsNamed.{named_counts, some_named}
 use Rattle.user_memory.specs.Changes.{Settles}
 use Rattle.user_memory.specs.Memory as memory

@@ -1,20 +1,19 @@
 -- One step after another lets go of memory objects.
-use Rattle.std.proofs.Common.{◌≡◌, ℕ, ◌+◌, ◌≤◌, ◌<◌, Bool, true, false, cond, ◌&&◌, ◌||◌, not, eqb, ltb, leb, Option, None, List, [], ◌∷◌, refl, ap, sym, ◌∙◌, arith}
+use Rattle.std.proofs.Common.{◌≡◌, ℕ, ◌+◌, ◌≤◌, Bool, true, false, cond, ◌&&◌, not, eqb, ltb, leb, Option, None, List, [], ◌∷◌, refl, ap, sym, ◌∙◌, arith}
 use Rattle.std.specs.Prelude.{if◌then◌else◌}
 use Rattle.std.specs.List.{filter, list_all, list_any}
 use Rattle.std.proofs.lemmas.Bool.Decides.{nat_tests}
 use Rattle.frame_memory.specs.Pool.{FramePool}
-use Rattle.iofd_rows.proofs.Bools.{and_true, both_true, clash}
-use Rattle.iofd_rows.proofs.ListTests.{any-filter, any_weaker, filter_alike_on, filter_all}
+use Rattle.iofd_rows.proofs.Bools.{and_true, both_true}
+use Rattle.iofd_rows.proofs.ListTests.{any-filter, any_weaker, filter_all}
 use Rattle.iofd_words.specs.Pins.{ObjectPage}
-use Rattle.iofd_words.specs.declared.numbers.FrameNo.{FrameNo}
 use Rattle.iofd_words.specs.declared.rows.MemoryObject.{MemoryObject}
 use Rattle.memory_rows.specs.Moves.{IsReleased, MayRelease}
-use Rattle.pinned_pages.specs.Invariant.{MemoryInvariant}
-use Rattle.pinned_pages.specs.Objects as objects
-use Rattle.pinned_pages.specs.Objects.{MemoryEntry, are_rising, object_at, row_of}
+use Rattle.memory_objects.specs.Invariant.{MemoryInvariant}
+use Rattle.memory_objects.specs.Objects as objects
+use Rattle.memory_objects.specs.Objects.{MemoryEntry, are_rising, object_at, row_of}
 use Rattle.user_memory.specs.Changes.{HasLess, HoldsFollow, Settles, never}
-use Rattle.user_memory.specs.Memory.{Memory, IsBacked, areas_in, areas_over, frame_now, is_pinned, pinned_frame, reached, rows_of, table_pins}
+use Rattle.user_memory.specs.Memory.{Memory, areas_in, areas_over, frame_now, is_pinned, pinned_frame, rows_of, table_pins}
 
 -- ---- nothing happens
 

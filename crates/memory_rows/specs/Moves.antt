@@ -6,7 +6,7 @@ use Rattle.iofd_words.specs.Pins.{ObjectPage, unpinned_pages}
 use Rattle.iofd_words.specs.declared.numbers.UserNo.{UserNo}
 use Rattle.iofd_words.specs.declared.rows.Area.{Area}
 use Rattle.memory_rows.specs.Shown.{over}
-use Rattle.pinned_pages.specs.Invariant.{MemoryInvariant}
+use Rattle.memory_objects.specs.Invariant.{MemoryInvariant}
 use Rattle.user_memory.specs.Changes.{HasLess, HasPins, Settles, never}
 use Rattle.user_memory.specs.Memory.{IsBacked, Memory, are_of, areas_over, frame_now, has_room, is_pinned, newly_pinned, pinned_frame, rows_at, table_pins}
 

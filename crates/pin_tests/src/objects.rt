@@ -7,13 +7,14 @@ use frame_memory::{Pool, UserMap};
 use iofd_words::UserNo;
 use linked_list_allocator::LocalHeap;
 use mem_account::Accounts;
-use pinned_pages::{MemoryObjects, Pages};
+use memory_objects::MemoryObjects;
+use pinned_pages::Pages;
 use std::alloc::Allocator;
 use std::test::Fail;
 
 /// A call on the objects, on the users' pages, or a question about them. Users are 1 and 2.
 #[derive(Clone, Copy)]
-enum Call {
+pub(crate) enum Call {
     /// Gives the user the page at this address, and takes it away.
     Map(u16, u64),
     Unmap(u16, u64),
@@ -38,7 +39,7 @@ enum Call {
 
 /// What a call answers.
 #[derive(Clone, Copy, PartialEq, Eq, Debug)]
-enum Answer {
+pub(crate) enum Answer {
     Done,
     Nothing,
     Is(bool),
@@ -50,10 +51,10 @@ enum Answer {
 
 /// What the objects are pinned in.
 #[derive(Drop)]
-struct Memory {
-    pool: Pool,
-    users: UserMap,
-    accounts: Accounts,
+pub(crate) struct Memory {
+    pub(crate) pool: Pool,
+    pub(crate) users: UserMap,
+    pub(crate) accounts: Accounts,
 }
 
 /// Whether the numbers rise or stay.
@@ -110,11 +111,15 @@ fn area_added<A: Allocator>(objects: &mut MemoryObjects<A>, number: u64) -> Answ
     }
 }
 
-fn removed<A: Allocator>(objects: &mut MemoryObjects<A>, numbers: &[u64]) -> Answer {
+pub(crate) fn removed<A: Allocator>(objects: &mut MemoryObjects<A>, numbers: &[u64]) -> Answer {
     if !objects.have_areas(numbers) {
         return Answer::Barred;
     }
-    objects.remove_areas(numbers);
+    for number in numbers {
+        if objects.have_areas(&[*number]) {
+            objects.remove_area(*number);
+        }
+    }
     Answer::Done
 }
 
@@ -137,7 +142,7 @@ fn fitting<A: Allocator>(
     Answer::Is(objects.fit(numbers, UserNo(user), &memory.accounts))
 }
 
-fn unpinned<A: Allocator>(
+pub(crate) fn unpinned<A: Allocator>(
     objects: &mut MemoryObjects<A>,
     memory: &mut Memory,
     numbers: &[u64],
@@ -174,7 +179,7 @@ fn owner<A: Allocator>(objects: &MemoryObjects<A>, numbers: &[u64]) -> UserNo {
     }
 }
 
-fn pinned<A: Allocator>(
+pub(crate) fn pinned<A: Allocator>(
     objects: &mut MemoryObjects<A>,
     memory: &mut Memory,
     numbers: &[u64],
@@ -207,7 +212,7 @@ fn pinned<A: Allocator>(
     Answer::Done
 }
 
-fn asked<A: Allocator + Copy>(
+pub(crate) fn asked<A: Allocator + Copy>(
     objects: &mut MemoryObjects<A>,
     memory: &mut Memory,
     alloc: A,
@@ -234,7 +239,7 @@ fn asked<A: Allocator + Copy>(
 }
 
 /// The first call that isn't answered so: its place, and its answer.
-fn first_wrong<A: Allocator + Copy>(
+pub(crate) fn first_wrong<A: Allocator + Copy>(
     objects: &mut MemoryObjects<A>,
     memory: &mut Memory,
     alloc: A,

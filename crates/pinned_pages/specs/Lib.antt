@@ -1,6 +1,3 @@
-pub mod Backed
 pub mod Holds
-pub mod Invariant
 pub mod Kept
-pub mod Objects
 pub mod Pages

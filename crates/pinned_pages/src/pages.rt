@@ -107,14 +107,14 @@ impl<A: Allocator> Pages<A> {
     }
 
     /// The frames of the pages that are pinned.
-    pub(crate) fn frames(&self) -> &[FrameNo]
+    pub fn frames(&self) -> &[FrameNo]
         ensures { result.now ≡ held_frames self.now.pages }
     {
         &self.frames
     }
 
     /// How many of the pinned pages have this frame.
-    pub(crate) fn times(&self, frame: FrameNo) -> usize
+    pub fn times(&self, frame: FrameNo) -> usize
         ensures { result ≡ times frame.0 (held_frames self.now.pages) }
     {
         frames::count_of(&self.frames, frame)
@@ -157,6 +157,15 @@ impl<A: Allocator> Pages<A> {
             self.frames.reserve(self.count as usize)?;
         }
         Ok(())
+    }
+
+    /// Gives the memory for frames back, where no page is pinned. It takes none.
+    pub fn free_frames(&mut self)
+        ensures pages { self.new.pages ≡ self.old.pages }
+        ensures capacity { self.new.capacity ≤ self.old.capacity }
+        ensures none { self.old.pages.table_pins ≡ 0 → self.new.capacity ≡ 0 }
+    {
+        self.frames.shrink_to_fit();
     }
 
     /// Puts one more pin on the pages, for an area in an address space that has a page table. By the first each page

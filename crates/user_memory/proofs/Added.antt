@@ -13,13 +13,13 @@ use Rattle.frame_memory.specs.Pool.{FramePool}
 use Rattle.mem_account.specs.Accounts.{held_by, is_user, limit_of}
 use Rattle.mem_account.specs.declared.Account.{Account}
 use Rattle.pinned_pages.specs.Holds.{HasMoreHolds}
-use Rattle.pinned_pages.specs.Invariant.{MemoryInvariant}
-use Rattle.pinned_pages.specs.Objects.{MemoryEntry, are_below, object_at, row_of, rows_of}
+use Rattle.memory_objects.specs.Invariant.{MemoryInvariant}
+use Rattle.memory_objects.specs.Objects.{MemoryEntry, are_below, object_at, row_of, rows_of}
 use Rattle.pinned_pages.specs.Pages.{MemoryPages, ObjectPages}
-use Rattle.pinned_pages.proofs.FramesSeen.{frame_there}
-use Rattle.pinned_pages.proofs.Ledger.{charged_held, length-held, same_limits}
-use Rattle.pinned_pages.proofs.Moved.{same_users}
-use Rattle.pinned_pages.proofs.PinsStay.{object_appended, pinned_appended, pins_appended}
+use Rattle.memory_objects.proofs.FramesSeen.{frame_there}
+use Rattle.memory_objects.proofs.Ledger.{charged_held, length-held, same_limits}
+use Rattle.memory_objects.proofs.Moved.{same_users}
+use Rattle.memory_objects.proofs.PinsStay.{object_appended, pinned_appended, pins_appended}
 use Rattle.pinned_pages.proofs.UsersPages.{all_framed}
 use Rattle.user_memory.specs.Adding.{MayPin, charged_for, frames_of, pages_for}
 use Rattle.user_memory.specs.Changes.{HasObject, Settles}

@@ -13,7 +13,7 @@ use Rattle.iofd_words.specs.declared.rows.UserPage.{UserPage}
 use Rattle.frame_memory.specs.Pool.{FramePool, given, least_free, may_hold, with_holds}
 use Rattle.frame_memory.specs.UserPages.{HasOneMore, are_within, user_page}
 use Rattle.pinned_pages.specs.Holds.{times}
-use Rattle.pinned_pages.specs.Objects.{MemoryEntry, new_pages, pins_on}
+use Rattle.memory_objects.specs.Objects.{MemoryEntry, new_pages, pins_on}
 use Rattle.pinned_pages.proofs.HoldsMove.{held_within, times_few}
 use Rattle.user_memory.specs.Changes.{HoldsFollow}
 use Rattle.user_memory.specs.Invariant.{is_kept}

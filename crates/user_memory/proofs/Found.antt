@@ -9,9 +9,9 @@ use Rattle.iofd_words.specs.Pins as pin
 use Rattle.iofd_words.specs.declared.numbers.FrameNo.{FrameNo}
 use Rattle.iofd_words.specs.declared.rows.MemoryObject.{MemoryObject}
 use Rattle.iofd_words.specs.declared.rows.UserPage.{UserPage}
-use Rattle.pinned_pages.specs.Objects.{MemoryEntry, are_rising, object_at, rows_of}
-use Rattle.pinned_pages.proofs.Invariants.{row_found, rows_found}
-use Rattle.pinned_pages.proofs.Numbered.{rising_parts}
+use Rattle.memory_objects.specs.Objects.{MemoryEntry, are_rising, object_at, rows_of}
+use Rattle.memory_objects.proofs.Invariants.{row_found, rows_found}
+use Rattle.memory_objects.proofs.Numbered.{rising_parts}
 use Rattle.user_memory.specs.Invariant.{is_kept}
 use Rattle.user_memory.specs.Memory.{pins_in}
 

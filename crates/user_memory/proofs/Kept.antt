@@ -3,7 +3,7 @@ use Rattle.std.proofs.Common.{◌≡◌, ℕ, ◌+◌, ◌-◌, ◌^◌, ◌≤�
 use Rattle.std.proofs.lemmas.Bool.{and_from, and_parts, eq-eqb, eqb-true, eqb-false, leb-true, leb-false, ne_eqb}
 use Rattle.iofd_words.specs.Pages.{page_of}
 use Rattle.iofd_words.specs.declared.rows.UserPage.{UserPage}
-use Rattle.pinned_pages.specs.Objects.{MemoryEntry, can_pin, pinned_less, pinned_more, with_pages}
+use Rattle.memory_objects.specs.Objects.{MemoryEntry, can_pin, pinned_less, pinned_more, with_pages}
 use Rattle.pinned_pages.specs.Pages.{are_present, own_frames_now}
 use Rattle.pinned_pages.proofs.UsersPages.{all_framed}
 use Rattle.user_memory.specs.Invariant.{is_kept}

@@ -4,12 +4,12 @@ use Rattle.std.specs.List.{filter, list_all}
 use Rattle.std.proofs.lemmas.Bool.{and_parts, cases_Bool, eqb-true, leb-true, le-leb, ne_eqb}
 use Rattle.mem_account.specs.Accounts.{is_user}
 use Rattle.mem_account.specs.declared.Account.{Account}
-use Rattle.pinned_pages.specs.Backed.{AccountsMove}
-use Rattle.pinned_pages.specs.Objects.{MemoryEntry, all_unpinned, have_areas, have_pins, object_at, pinned_by, pinned_less, row_of, rows_of, times_of, with_pages}
-use Rattle.pinned_pages.proofs.FramesSeen.{rows_unpinned}
-use Rattle.pinned_pages.proofs.Moved.{same_users}
-use Rattle.pinned_pages.proofs.OneObject.{times_one}
-use Rattle.pinned_pages.proofs.PinOne.{found_number}
+use Rattle.memory_objects.specs.Backed.{AccountsMove}
+use Rattle.memory_objects.specs.Objects.{MemoryEntry, all_unpinned, have_areas, have_pins, object_at, pinned_by, pinned_less, row_of, rows_of, times_of, with_pages}
+use Rattle.memory_objects.proofs.FramesSeen.{rows_unpinned}
+use Rattle.memory_objects.proofs.Moved.{same_users}
+use Rattle.memory_objects.proofs.OneObject.{times_one}
+use Rattle.memory_objects.proofs.PinOne.{found_number}
 use Rattle.user_memory.specs.Changes.{HasLess, never, once}
 use Rattle.user_memory.specs.Invariant.{AccountsTell, ObjectsTell, is_kept}
 use Rattle.user_memory.specs.Memory.{areas_in, pins_in}

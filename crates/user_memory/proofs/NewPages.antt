@@ -13,11 +13,11 @@ use Rattle.iofd_words.specs.Pins.{ObjectPage, pages_of, unpinned_pages}
 use Rattle.iofd_words.specs.declared.numbers.FrameNo.{FrameNo}
 use Rattle.iofd_words.specs.declared.rows.MemoryObject.{MemoryObject}
 use Rattle.iofd_words.specs.declared.rows.UserPage.{UserPage}
-use Rattle.pinned_pages.specs.Objects as objects
-use Rattle.pinned_pages.specs.Objects.{MemoryEntry, are_rising, can_pin, frame_in, new_count_in, object_at, passes, row_of, rows_of}
+use Rattle.memory_objects.specs.Objects as objects
+use Rattle.memory_objects.specs.Objects.{MemoryEntry, are_rising, can_pin, frame_in, new_count_in, object_at, passes, row_of, rows_of}
 use Rattle.pinned_pages.specs.Pages.{are_present, new_count}
-use Rattle.pinned_pages.proofs.Counted.{no_numbers, one_number_more}
-use Rattle.pinned_pages.proofs.Numbered.{rising_parts}
+use Rattle.memory_objects.proofs.Counted.{no_numbers, one_number_more}
+use Rattle.memory_objects.proofs.Numbered.{rising_parts}
 use Rattle.user_memory.specs.Invariant.{ObjectsTell, is_kept}
 use Rattle.user_memory.specs.Memory.{Memory, are_different, frame_now, lacks_page, new_pages, newly_pinned, pinned_frame, rows_at}
 use Rattle.user_memory.proofs.Counts.{newly_told, none_from_some, some_within}

@@ -8,13 +8,13 @@ use Rattle.iofd_words.specs.declared.rows.UserPage.{UserPage}
 use Rattle.frame_memory.specs.Pool.{FramePool}
 use Rattle.mem_account.specs.Accounts.{held_by, is_user, limit_of}
 use Rattle.mem_account.specs.declared.Account.{Account}
-use Rattle.pinned_pages.specs.Backed.{CanPin, HoldsMove}
-use Rattle.pinned_pages.specs.Invariant.{MemoryInvariant}
-use Rattle.pinned_pages.specs.Objects.{MemoryEntry, MemoryGrows, SamePins, all_pass, all_pinned, can_pin, has_memory, have_areas, is_of, new_pages, object_at, passes, pinned_more, row_of, rows_of, times_of, with_capacity, with_pages}
+use Rattle.memory_objects.specs.Backed.{CanPin, HoldsMove}
+use Rattle.memory_objects.specs.Invariant.{MemoryInvariant}
+use Rattle.memory_objects.specs.Objects.{MemoryEntry, MemoryGrows, SamePins, all_pass, all_pinned, can_pin, has_memory, have_areas, is_of, new_pages, object_at, passes, pinned_more, row_of, rows_of, times_of, with_capacity, with_pages}
 use Rattle.pinned_pages.specs.Pages.{new_count}
-use Rattle.pinned_pages.proofs.FramesSeen.{rows_pinned}
-use Rattle.pinned_pages.proofs.OneObject.{all_changed, sum_by-map, times_more}
-use Rattle.pinned_pages.proofs.PinOne.{found_number}
+use Rattle.memory_objects.proofs.FramesSeen.{rows_pinned}
+use Rattle.memory_objects.proofs.OneObject.{all_changed, sum_by-map, times_more}
+use Rattle.memory_objects.proofs.PinOne.{found_number}
 use Rattle.user_memory.specs.Changes.{HasPins, SameObjects, Settles}
 use Rattle.user_memory.specs.Invariant.{AccountsTell, ObjectsTell, is_kept}
 use Rattle.user_memory.specs.Memory as memory

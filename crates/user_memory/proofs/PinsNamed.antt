@@ -1,12 +1,12 @@
 -- Some pin names a frame just where some page is pinned at it.
-use Rattle.std.proofs.Common.{◌≡◌, ℕ, zero, suc, ◌+◌, ◌<◌, Bool, true, false, cond, ◌&&◌, ◌||◌, not, eqb, ltb, Option, Some, None, List, [], ◌∷◌, refl, sym, ap, ◌∙◌, arith}
-use Rattle.std.specs.List.{count_by, find, list_all, slice_get, sum_by}
+use Rattle.std.proofs.Common.{◌≡◌, ℕ, zero, suc, ◌+◌, ◌<◌, Bool, true, false, cond, eqb, ltb, Some, List, [], ◌∷◌, refl, ap, ◌∙◌, arith}
+use Rattle.std.specs.List.{list_all, slice_get}
 use Rattle.std.proofs.lemmas.Bool.{and_parts}
 use Rattle.std.proofs.lemmas.Bool.Decides.{nat_tests}
 use Rattle.std.proofs.lemmas.List.Sums.{sum_by-cons}
 use Rattle.iofd_words.specs.declared.numbers.FrameNo.{FrameNo}
 use Rattle.pinned_pages.specs.Holds.{times}
-use Rattle.pinned_pages.specs.Objects.{MemoryEntry, are_rising, frame_in, is_numbered, object_at, pinned_frame, pins_on}
+use Rattle.memory_objects.specs.Objects.{MemoryEntry, are_rising, pinned_frame, pins_on}
 use Rattle.pinned_pages.specs.Pages.{held_frames}
 
 -- ---- the frames of one object

@@ -3,9 +3,9 @@ use Rattle.std.proofs.Common.{◌≡◌, ℕ, ◌+◌, ◌-◌, ◌≤◌, Bool,
 use Rattle.std.specs.List.{filter, list_all}
 use Rattle.std.proofs.lemmas.Bool.{and_parts, eqb-true, leb-true, ne_eqb}
 use Rattle.iofd_words.specs.declared.rows.UserPage.{UserPage}
-use Rattle.pinned_pages.specs.Objects.{MemoryEntry, object_at, row_of, rows_of, times_of, with_areas, without_areas}
-use Rattle.pinned_pages.proofs.OneObject.{times_one}
-use Rattle.pinned_pages.proofs.PinOne.{found_number}
+use Rattle.memory_objects.specs.Objects.{MemoryEntry, object_at, row_of, rows_of, times_of, with_areas, without_areas}
+use Rattle.memory_objects.proofs.OneObject.{times_one}
+use Rattle.memory_objects.proofs.PinOne.{found_number}
 use Rattle.user_memory.specs.Changes.{HasLess, never, once}
 use Rattle.user_memory.specs.Invariant.{ObjectsTell, is_kept}
 use Rattle.user_memory.specs.Memory.{areas_in, pins_in}

@@ -7,12 +7,12 @@ use Rattle.iofd_words.specs.Pages.{page_of}
 use Rattle.iofd_words.specs.declared.numbers.FrameNo.{FrameNo}
 use Rattle.iofd_words.specs.declared.rows.UserPage.{UserPage}
 use Rattle.frame_memory.specs.Pool.{FramePool}
-use Rattle.pinned_pages.specs.Invariant.{MemoryInvariant}
-use Rattle.pinned_pages.specs.Objects.{MemoryEntry, are_rising, can_pin, frame_in, object_at, pinned_less, pinned_more, pins_on, times_of, with_areas, without_areas}
+use Rattle.memory_objects.specs.Invariant.{MemoryInvariant}
+use Rattle.memory_objects.specs.Objects.{MemoryEntry, are_rising, can_pin, frame_in, object_at, pinned_less, pinned_more, pins_on, times_of, with_areas, without_areas}
 use Rattle.pinned_pages.specs.Pages.{are_present, own_frames_now}
-use Rattle.pinned_pages.proofs.FramesSeen.{frame_there, not_found_mapped}
-use Rattle.pinned_pages.proofs.Numbered.{none_after, rising_parts}
-use Rattle.pinned_pages.proofs.Reserved.{found_mapped}
+use Rattle.memory_objects.proofs.FramesSeen.{frame_there, not_found_mapped}
+use Rattle.memory_objects.proofs.Numbered.{none_after, rising_parts}
+use Rattle.memory_objects.proofs.Reserved.{found_mapped}
 use Rattle.user_memory.specs.Changes.{Settles}
 use Rattle.user_memory.specs.Invariant.{is_kept}
 use Rattle.user_memory.specs.Memory.{Memory, is_pinned, frame_now}

@@ -9,7 +9,7 @@ use Rattle.iofd_words.specs.declared.numbers.UserNo.{UserNo}
 use Rattle.iofd_words.specs.declared.rows.UserPage.{UserPage}
 use Rattle.mem_account.specs.Accounts.{fresh, held_by, is_user, limit_of}
 use Rattle.mem_account.specs.declared.Account.{Account}
-use Rattle.pinned_pages.specs.Objects.{MemoryEntry}
+use Rattle.memory_objects.specs.Objects.{MemoryEntry}
 use Rattle.user_memory.specs.Invariant.{AccountsTell}
 use Rattle.user_memory.specs.Memory as memory
 use Rattle.user_memory.specs.Memory.{Memory}

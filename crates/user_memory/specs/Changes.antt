@@ -3,8 +3,8 @@ use Rattle.std.specs.Prelude.{ℕ, ◌≡◌, ◌+◌, ◌==◌, not, None, ◌�
 use Rattle.iofd_words.specs.Pins.{ObjectPage}
 use Rattle.iofd_words.specs.declared.rows.MemoryObject.{MemoryObject}
 use Rattle.frame_memory.specs.Pool.{FramePool}
-use Rattle.pinned_pages.specs.Invariant.{MemoryInvariant}
-use Rattle.pinned_pages.specs.Objects.{pins_on}
+use Rattle.memory_objects.specs.Invariant.{MemoryInvariant}
+use Rattle.memory_objects.specs.Objects.{pins_on}
 use Rattle.user_memory.specs.Memory.{IsBacked, Memory, areas_over, frame_now, is_pinned, pinned_frame, reached, rows_of, table_pins}
 
 -- a frame has as many holds more as pages and pins more name it, or less

@@ -3,8 +3,8 @@ use Rattle.std.specs.Prelude.{ℕ, ◌≡◌, ◌^◌, ◌==◌, ◌&&◌, nat_l
 use Rattle.std.specs.List.{list_all}
 use Rattle.mem_account.specs.Accounts.{held_by, is_user}
 use Rattle.mem_account.specs.declared.Account.{Account}
-use Rattle.pinned_pages.specs.Invariant.{MemoryInvariant}
-use Rattle.pinned_pages.specs.Objects.{MemoryEntry, pinned_by}
+use Rattle.memory_objects.specs.Invariant.{MemoryInvariant}
+use Rattle.memory_objects.specs.Objects.{MemoryEntry, pinned_by}
 use Rattle.pinned_pages.specs.Pages.{pinned_count}
 
 -- the object has at most 2^36 pages, and all of them are pinned or none

@@ -8,8 +8,8 @@ use Rattle.iofd_words.specs.declared.numbers.FrameNo.{FrameNo}
 use Rattle.iofd_words.specs.declared.numbers.UserNo.{UserNo}
 use Rattle.iofd_words.specs.declared.rows.MemoryObject.{MemoryObject}
 use Rattle.iofd_words.specs.declared.rows.UserPage.{UserPage}
-use Rattle.pinned_pages.specs.Objects as objects
-use Rattle.pinned_pages.specs.Objects.{MemoryEntry}
+use Rattle.memory_objects.specs.Objects as objects
+use Rattle.memory_objects.specs.Objects.{MemoryEntry}
 
 -- the users' pages; how many pages each user may have pinned, from user 1 on; the memory objects by rising number
 pub record Memory : Type 0 where

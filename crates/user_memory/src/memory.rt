@@ -8,7 +8,7 @@ ghost use Rattle.iofd_words.specs.Frames as frames;
 ghost use Rattle.iofd_words.specs.Pages.{is_whole, page_of};
 ghost use Rattle.frame_memory.specs.Pool.{FramePool, given, least_free};
 ghost use Rattle.frame_memory.specs.UserPages.{HasOneMore, user_page};
-ghost use Rattle.pinned_pages.specs.Objects.{times_of};
+ghost use Rattle.memory_objects.specs.Objects.{times_of};
 ghost use Rattle.user_memory.specs.Changes.{HasLess, HasObject, HasPins, HoldsFollow, SameObjects, Settles, never, once};
 ghost use Rattle.user_memory.specs.Invariant.{ObjectsTell};
 ghost use Rattle.user_memory.specs.Memory.{IsBacked, are_of, areas_over, has_room, held_by, lacks_page, new_pages, newly_pinned, pinned_frame, rows_at, rows_of, table_pins};
@@ -17,7 +17,7 @@ use crate::adding;
 use frame_memory::{Pool, UserMap};
 use iofd_words::{FrameNo, MemoryObject, NoMemory, PAGE_SIZE, UserNo};
 use mem_account::Accounts;
-use pinned_pages::MemoryObjects;
+use memory_objects::MemoryObjects;
 use std::alloc::{Allocator, Global};
 use std::marker::Model;
 
@@ -253,6 +253,6 @@ impl<A: Allocator> UserMemory<A> {
         ensures less { HasLess (once number) never self.old self.new }
         ensures settles { (pool : FramePool) → Settles self.old self.new pool pool }
     {
-        self.objects.remove_areas(&[number]);
+        self.objects.remove_area(number);
     }
 }

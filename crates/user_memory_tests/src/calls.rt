@@ -6,7 +6,7 @@ ghost use Rattle.user_memory_tests.specs.Told.{Told};
 use frame_memory::Pool;
 use iofd_words::{MemoryObject, UserNo};
 use linked_list_allocator::LocalHeap;
-use std::alloc::{Allocator, Global};
+use std::alloc::{AllocError, Allocator, Global};
 use std::test::Fail;
 use user_memory::UserMemory;
 
@@ -315,5 +315,94 @@ fn want_of_memory_changes_nothing(rt: HostRuntime) -> Result<(), Fail> {
         let _block = Vec::<u8, &LocalHeap>::with_capacity(&heap, size)?;
         assert_eq!(rt; first_wrong(&mut bench, rows), None);
     }
+    Ok(())
+}
+
+/// What is asked before and after a refused growth.
+static QUESTIONS: [Call; 12] = [
+    Call::FrameAt(0x10000),
+    Call::FrameAt(0x11000),
+    Call::HasPages(0x10000, 2),
+    Call::Frame(0, 0),
+    Call::Frame(0, 1),
+    Call::Frame(1, 0),
+    Call::LacksPage(0),
+    Call::NewPages(0),
+    Call::NewPages(1),
+    Call::HasRoom(2),
+    Call::Held,
+    Call::FreeFrames,
+];
+
+/// The answers to all questions.
+fn answers<'a>(alloc: Global, bench: &mut Bench<&'a LocalHeap>) -> Result<Vec<Answer>, AllocError> {
+    let mut told = Vec::new(alloc);
+    for question in &QUESTIONS {
+        told.push(asked(bench, *question))?;
+    }
+    Ok(told)
+}
+
+/// Takes all that the heap has left, in blocks of its least size.
+fn fill(alloc: Global, heap: &LocalHeap) -> Result<Vec<Vec<u8, &LocalHeap>>, AllocError> {
+    let mut blocks = Vec::new(alloc);
+    for _ in 0..2048 {
+        let Ok(block) = Vec::with_capacity(heap, 1) else {
+            break;
+        };
+        blocks.push(block)?;
+    }
+    Ok(blocks)
+}
+
+/// What the call answers with so much memory left, in blocks of the least size.
+fn asked_with<'a>(
+    alloc: Global,
+    heap: &'a LocalHeap,
+    bench: &mut Bench<&'a LocalHeap>,
+    call: Call,
+    left: u64,
+) -> Result<Answer, AllocError> {
+    let mut blocks = fill(alloc, heap)?;
+    for _ in 0..left {
+        blocks.pop();
+    }
+    Ok(asked(bench, call))
+}
+
+/// The call with ever more memory left, until it finds enough: its answer, and how often it found too little. None
+/// where that changed an answer.
+fn asked_at_last<'a>(
+    alloc: Global,
+    heap: &'a LocalHeap,
+    bench: &mut Bench<&'a LocalHeap>,
+    call: Call,
+) -> Result<Option<(Answer, u64)>, AllocError> {
+    let before = answers(alloc, bench)?;
+    for left in 0..2048u64 {
+        let answer = asked_with(alloc, heap, bench, call, left)?;
+        if answer != Answer::NoMemory {
+            return Ok(Some((answer, left)));
+        }
+        if answers(alloc, bench)? != before {
+            return Ok(None);
+        }
+    }
+    Ok(None)
+}
+
+/// The rows of ample memory again, each with every growth refused in turn before it finds its memory.
+#[test]
+fn each_call_answers_so_after_refused_growths(rt: HostRuntime) -> Result<(), Fail> {
+    let heap = LocalHeap::new(rt.alloc(), 1 << 13)?;
+    let mut bench = opened(&heap, rt.alloc(), 5)?;
+    let mut refused_calls = 0_u32;
+    for (call, wanted) in &ROWS {
+        let given = asked_at_last(rt.alloc(), &heap, &mut bench, *call)?;
+        let (answer, refusals) = given.ok_or("want of memory changed an answer")?;
+        assert_eq!(rt; answer, *wanted);
+        refused_calls = refused_calls.saturating_add(u32::from(refusals > 0));
+    }
+    assert!(rt; refused_calls >= 4, "calls that grow: {refused_calls}");
     Ok(())
 }

@@ -1,14 +1,13 @@
 use Rattle.std.proofs.Common.{◌≤◌, arith, refl}
-use Rattle.std.proofs.lemmas.List.{take_rest}
-use Rattle.area_map.proofs.Covers.{reaching_rest, is_covered-tells}
+use Rattle.area_map.specs.Rows.{in_rows}
+use Rattle.area_map.proofs.Covers.{is_covered-tells}
 use Rattle.area_map.proofs.lookups.covers.Goals as goal
 
 pub returns-clause-value : goal.returns-clause-value
-returns-clause-value c =
-    let rest = reaching_rest c.args.span.first c.args.areas.now c.requires in
-    rw (c.runs_on.ensures, take_rest c.args.areas.now c.count_below-from.result, c.first-2.ensures.value, c.last.ensures.value, c.count_below-from.ensures.value, c.first.ensures.value, rest) refl
+returns-clause-value g c =
+    rw (c.runs_on.ensures, c.reaching.ensures, c.first-2.ensures.value, c.last.ensures.value, c.first.ensures.value) refl
 
 pub returns-clause-tells : goal.returns-clause-tells
-returns-clause-tells c =
+returns-clause-tells g c =
     let ordered : c.args.span.first ≤ c.args.span.last = omega arith in
-    rw (returns-clause-value c) (is_covered-tells c.args.span c.args.areas.now c.requires ordered)
+    rw (returns-clause-value g c) (is_covered-tells c.args.span (in_rows c.args.rows.now) c.requires.apart ordered)

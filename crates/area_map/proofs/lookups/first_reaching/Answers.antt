@@ -1,9 +1,25 @@
-use Rattle.std.proofs.Common.{◌∙◌}
-use Rattle.area_map.proofs.Found.{find_reaching, copied-from_get}
+use Rattle.std.proofs.Common.{◌∙◌, ◌∷◌, sym}
+use Rattle.std.proofs.lemmas.List.{nil_from_length}
+use Rattle.area_map.specs.Rows.{in_rows, AreRows}
+use Rattle.area_map.proofs.Rows.{apart_left}
+use Rattle.area_map.proofs.RowsFound.{found_in_row, found_nowhere}
 use Rattle.area_map.proofs.lookups.first_reaching.Goals as goal
 
+pub returns-in_err-row : goal.returns-in_err-row
+returns-in_err-row g c =
+    let none = nil_from_length c.rows_from.result.now c.in_err-row.ensures.cases in
+    rw c.from_residual.ensures (found_nowhere c.args.address c.args.rows.now c.requires.rows c.requires.apart (sym c.rows_from.ensures.value ∙ none))
+
+pub reaching_in-requires : goal.reaching_in-requires
+reaching_in-requires g c =
+    let row = c.in_ok-row.row.now in
+    let others = c.in_ok-row.field-0-1.now in
+    rw c.areas.ensures (apart_left 0 row (in_rows others) (rw c.in_ok-row.ensures.cases.0 at c.rows_from.ensures.apart))
+
 pub returns : goal.returns
-returns c =
-    let got = copied-from_get c.args.areas.now c.count_below.result c.get.result c.get.ensures.lookup.0 c.get.ensures.lookup.1 in
-    let found = find_reaching c.args.address c.args.areas.now in
-    rw c.count_below.ensures.value at got ∙ found
+returns g c =
+    let row = c.in_ok-row.row.now in
+    let others = c.in_ok-row.field-0-1.now in
+    let is = c.in_ok-row.ensures.cases.0 in
+    let rest : AreRows (row ∷ others) = rw is at c.rows_from.ensures.rows in
+    c.reaching_in.ensures ∙ rw c.areas.ensures (found_in_row c.args.address c.args.rows.now others row c.requires.rows c.requires.apart rest (sym c.rows_from.ensures.value ∙ is))

@@ -1,9 +1,9 @@
 use Rattle.std.proofs.Common.{◌≡◌, Some, None, sym, ◌∙◌, subst}
-use Rattle.iommufd_core.proofs.ViewShown.{same_refusal}
+use Rattle.server_state.proofs.ViewShown.{same_refusal}
 use Rattle.iommufd_core.proofs.Answering.{refused_lawful, refused_after, answered_lawful, answered_after, tabled_shown, if_ok, on_err}
 use Rattle.iofd_words.specs.Checks.{refusal}
 use Rattle.iofd_words.specs.declared.refusal.Cause.{Cause}
-use Rattle.iommufd_core.specs.Shows.{Shows}
+use Rattle.server_state.specs.Shows.{Shows}
 use Rattle.iommufd_core.proofs.events.answer.Goals as goal
 
 never : (cause : Cause) → Some cause ≡ None → ⊥

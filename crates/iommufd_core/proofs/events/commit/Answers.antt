@@ -1,7 +1,7 @@
 use Rattle.std.proofs.Common.{sym, subst}
 use Rattle.iofd_words.specs.declared.event.Event.{Event}
 use Rattle.iommufd_core.proofs.Answering.{if_ok, on_err}
-use Rattle.iommufd_core.specs.Step.{ChosenSteps}
+use Rattle.server_state.specs.Step.{ChosenSteps}
 use Rattle.iommufd_core.proofs.events.commit.Goals as goal
 
 pub returns-in-IoasAlloc-clause-err : goal.returns-in-IoasAlloc-clause-err
@@ -18,3 +18,9 @@ returns-in-Bind-clause-err g c = on_err c.commit-in-Bind.result _ _ (λ same w t
 
 pub returns-in-Attach-clause-err : goal.returns-in-Attach-clause-err
 returns-in-Attach-clause-err g c = on_err c.commit-in-Attach.result _ _ (λ same w tidy shows. same w shows) c.commit-in-Attach.ensures.err
+
+pub returns-in-Map-clause-ok : goal.returns-in-Map-clause-ok
+returns-in-Map-clause-ok g c =
+    if_ok c.commit-in-Map.result _ _
+    (λ reply steps. subst (λ (e : Event). ChosenSteps c.args.at e c.args.act.now.via c.args.state.now reply c.commit-in-Map.new.state) (sym c.in-Map.is) (λ w tidy shows none may. steps w tidy shows none))
+    c.commit-in-Map.ensures.ok

@@ -1,8 +1,8 @@
 use Rattle.std.proofs.Common.{◌≡◌, ℕ, [], ◌∷◌, sym, ◌∙◌, ap, arith}
 use Rattle.iofd_words.specs.View.{View}
 use Rattle.iofd_words.specs.declared.query.Answer.TheVariants as answer
-use Rattle.iommufd_core.specs.Choice.{IsLooked}
-use Rattle.iommufd_core.proofs.ViewShown.{same_count, same_view}
+use Rattle.server_state.specs.Choice.{IsLooked}
+use Rattle.server_state.proofs.ViewShown.{same_count, same_view}
 use Rattle.iommufd_core.proofs.look.answer.Goals as goal
 
 pub returns-in-DeviceRead : goal.returns-in-DeviceRead

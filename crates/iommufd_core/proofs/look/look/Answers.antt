@@ -1,7 +1,7 @@
 use Rattle.std.proofs.Common.{sym, ◌∙◌, subst}
-use Rattle.iommufd_core.specs.Choice.{IsLooked}
-use Rattle.iommufd_core.proofs.DeviceReads.{answered_read, refused_read}
-use Rattle.iommufd_core.proofs.ViewShown.{same_query_refusal}
+use Rattle.server_state.specs.Choice.{IsLooked}
+use Rattle.device_events.proofs.DeviceReads.{answered_read, refused_read}
+use Rattle.server_state.proofs.ViewShown.{same_query_refusal}
 use Rattle.iommufd_core.proofs.look.look.Goals as goal
 
 pub returns-in-Some : goal.returns-in-Some

@@ -20,6 +20,7 @@ returns-clause-shows g c =
         attached = sym c.new-3.ensures.items;
       };
       limits = c.in_ok-new-2.ensures.limits ∙ c.users.ensures;
+      allowed = refl;
       users = rw c.in_ok-new-2.ensures.pages (record { pages = λ user page. refl; counts = λ test. refl });
       pins = pins_opened c.in_ok-new-2.field-0 c.in_ok-new-2.ensures.objects;
       frames = rw (c.in_ok-new-3.ensures, c.pool-pool.ensures.value)

@@ -1,6 +1,6 @@
 use Rattle.std.proofs.Common.{drop}
 use Rattle.std.specs.Prelude.{◌↔◌}
-use Rattle.iova_ranges.specs.Fits.{StartsRise, StartsRiseFrom}
+use Rattle.iofd_words.specs.Fits.{StartsRise, StartsRiseFrom}
 use Rattle.iova_ranges.proofs.fitting.starts_rise.Given as goal
 
 abbrev pub invariant-loop-span : goal.invariant-loop-span

@@ -2,11 +2,12 @@ use Rattle.std.proofs.Common.{◌≡◌, length, inr, refl, ◌∙◌, ap, subst
 use Rattle.iofd_words.specs.Run.{world_of}
 use Rattle.iommufd_core.proofs.Applied.{may_use, unchanged_config, unchanged_kept, applied_config, applied_kept, applied_chosen}
 use Rattle.iommufd_core.proofs.Histories.{tidy_run}
-use Rattle.iommufd_core.specs.Choice.{MayUse}
-use Rattle.iommufd_core.specs.History.{HasOneMore, recorded}
+use Rattle.server_state.specs.Choice.{MayUse}
+use Rattle.iommufd_core.specs.History.{HasOneMore}
+use Rattle.server_state.specs.Step.{recorded}
 use Rattle.iommufd_core.specs.Server.{Server}
-use Rattle.iommufd_core.proofs.ViewShown.{same_refusal}
-use Rattle.iommufd_core.specs.Step.{Answered, IsCalled, TidyShowsSame}
+use Rattle.server_state.proofs.ViewShown.{same_refusal}
+use Rattle.server_state.specs.Step.{Answered, IsCalled, TidyShowsSame}
 use Rattle.iommufd_core.proofs.apply.Core.apply.Goals as goal
 
 pub invariant_of-self-in_default : goal.invariant_of-self-in_default

@@ -5,8 +5,8 @@ use Rattle.iofd_words.specs.Look.{query_checks}
 use Rattle.iofd_words.specs.Run.{world_of}
 use Rattle.iofd_words.specs.View.{view}
 use Rattle.iofd_words.specs.declared.query.Query.TheVariants.{DeviceRead}
-use Rattle.iommufd_core.proofs.ViewShown.{same_outcomes, same_query_refusal}
-use Rattle.iommufd_core.specs.History.{is_pass_at}
+use Rattle.server_state.proofs.ViewShown.{same_outcomes, same_query_refusal}
+use Rattle.server_state.specs.Choice.{is_pass_at}
 use Rattle.iommufd_core.proofs.apply.Core.may_pass.Goals as goal
 
 none_if : {X : Type 0} (o : Option X) → is_some o ≡ false → is_none o ≡ true

@@ -1,7 +1,7 @@
 use Rattle.std.proofs.Common.{sym, subst}
 use Rattle.iofd_words.specs.Run.{IsRun, world_of}
 use Rattle.iofd_words.specs.World.{opening}
-use Rattle.iommufd_core.specs.Shows.{Shows}
+use Rattle.server_state.specs.Shows.{Shows}
 use Rattle.iommufd_core.proofs.apply.Core.new.Goals as goal
 
 pub invariant_of-result : goal.invariant_of-result

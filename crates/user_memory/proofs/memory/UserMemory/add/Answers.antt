@@ -6,8 +6,8 @@ use Rattle.iofd_words.specs.Files.{numbered}
 use Rattle.iofd_words.specs.Frames.{frame_at}
 use Rattle.iofd_words.specs.Pages.{page_of}
 use Rattle.mem_account.specs.declared.Account.{Account}
-use Rattle.pinned_pages.specs.Invariant.{MemoryInvariant}
-use Rattle.pinned_pages.specs.Objects.{MemoryEntry, are_below}
+use Rattle.memory_objects.specs.Invariant.{MemoryInvariant}
+use Rattle.memory_objects.specs.Objects.{MemoryEntry, are_below}
 use Rattle.user_memory.specs.Adding.{charged_for}
 use Rattle.user_memory.specs.Changes.{HasObject, Settles}
 use Rattle.user_memory.specs.Invariant.{AccountsTell}

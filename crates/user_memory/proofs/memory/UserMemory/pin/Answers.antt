@@ -1,9 +1,9 @@
 use Rattle.std.proofs.Common.{◌≡◌, ◌≤◌, ◌+◌, ℕ, List, true, false, subst, sym, arith}
 use Rattle.std.specs.List.{list_all, list_any}
-use Rattle.pinned_pages.specs.Backed.{HoldsMove}
-use Rattle.pinned_pages.specs.Invariant.{MemoryInvariant}
-use Rattle.pinned_pages.specs.Objects.{MemoryEntry, can_pin, times_of}
-use Rattle.pinned_pages.proofs.Reserved.{after_error}
+use Rattle.memory_objects.specs.Backed.{HoldsMove}
+use Rattle.memory_objects.specs.Invariant.{MemoryInvariant}
+use Rattle.memory_objects.specs.Objects.{MemoryEntry, can_pin, times_of}
+use Rattle.memory_objects.proofs.Reserved.{after_error}
 use Rattle.user_memory.specs.Changes.{HasPins, SameObjects, Settles}
 use Rattle.user_memory.specs.Invariant.{is_kept}
 use Rattle.user_memory.specs.Memory as memory

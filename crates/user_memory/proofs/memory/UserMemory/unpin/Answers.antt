@@ -1,6 +1,6 @@
 use Rattle.std.proofs.Common.{◌≡◌, ◌≤◌, ℕ, List, true, subst, sym}
 use Rattle.std.specs.List.{list_all}
-use Rattle.pinned_pages.specs.Objects.{MemoryEntry, object_at}
+use Rattle.memory_objects.specs.Objects.{MemoryEntry, object_at}
 use Rattle.user_memory.specs.Changes.{HasLess, Settles, never, once}
 use Rattle.user_memory.specs.Invariant.{is_kept}
 use Rattle.user_memory.specs.Memory.{Memory, table_pins}

@@ -1,0 +1,202 @@
+//! As many areas as may be, added in one order and removed in another, beside a plain list of which are there.
+
+use crate::spans::TOP;
+use area_map::Areas;
+use iofd_words::{Area, FileNo, ObjId, Phase, Rights, Span};
+use std::alloc::{AllocError, Global};
+use std::test::Fail;
+
+const COUNT: usize = 65_535;
+
+/// An order of the areas' numbers: the place times a factor without a divisor in common with their count.
+#[derive(Clone, Copy)]
+struct Order(usize);
+
+const RISING: Order = Order(1);
+
+const FALLING: Order = Order(COUNT - 1);
+
+const MIXED: Order = Order(28_657);
+
+const OTHER: Order = Order(40_009);
+
+impl Order {
+    fn number(self, place: usize) -> usize {
+        (place % COUNT) * (self.0 % COUNT) % COUNT
+    }
+}
+
+// The page of an area. A free page lies behind it.
+fn page(number: usize) -> Option<Span> {
+    Span::of_length(0x2000 * (number % COUNT) as u64, 0x1000)
+}
+
+fn area(number: usize) -> Option<Area> {
+    Some(Area {
+        file: FileNo(1),
+        ioas: ObjId(1),
+        span: page(number)?,
+        memory: number as u64,
+        rights: Rights(3),
+        phase: Phase::Live,
+    })
+}
+
+/// The areas, and for each number whether its area should be among them.
+#[derive(Drop)]
+struct Pair {
+    areas: Areas,
+    there: Vec<bool>,
+}
+
+impl Pair {
+    fn new(alloc: Global) -> Result<Pair, AllocError> {
+        let mut there = Vec::new(alloc);
+        for _number in 0..COUNT {
+            there.push(false)?;
+        }
+        Ok(Pair {
+            areas: Areas::new(alloc),
+            there,
+        })
+    }
+
+    fn has(&self, number: usize) -> bool {
+        matches!(self.there.get(number), Some(true))
+    }
+
+    fn note(&mut self, number: usize, is_there: bool) {
+        if let Some(entry) = self.there.get_mut(number) {
+            *entry = is_there;
+        }
+    }
+
+    // Adds the areas at these places of the order. Whether all came in.
+    fn adds(&mut self, order: Order, from: usize, to: usize) -> bool {
+        for place in from..to {
+            let number = order.number(place);
+            let Some(area) = area(number) else {
+                return false;
+            };
+            if self.areas.insert(area).is_err() {
+                return false;
+            }
+            self.note(number, true);
+        }
+        true
+    }
+
+    // Removes those at these places of the order.
+    fn removes(&mut self, order: Order, from: usize, to: usize) {
+        for place in from..to {
+            let number = order.number(place);
+            if let Some(span) = page(number) {
+                self.areas.remove(span);
+                self.note(number, false);
+            }
+        }
+    }
+
+    // Whether each look-up at this number's page answers as the list does.
+    fn agrees_at(&self, number: usize, span: Span) -> bool {
+        let is_there = self.has(number);
+        let is_found = |found: Option<&Area>| found.is_some_and(|area| area.memory
+            == number as u64);
+        is_found(self.areas.at(span.first())) == is_there
+            && is_found(self.areas.at(span.last())) == is_there
+            && is_found(self.areas.exact(span)) == is_there
+            && self.areas.meets(span) == is_there
+            && self.areas.covered(span).is_ok() == is_there
+            && self.areas.at(span.last().saturating_add(1)).is_none()
+    }
+
+    // The same of a span of three pages, of which the last is this number's.
+    fn agrees_around(&self, number: usize, span: Span) -> bool {
+        let Some(wide) = Span::new(span.first().saturating_sub(0x2000), span.last()) else {
+            return false;
+        };
+        let before = number > 0 && self.has(number.saturating_sub(1));
+        let (count, bytes) = match (before, self.has(number)) {
+            (false, false) => (0, 0),
+            (true, true) => (2, 0x2000),
+            _ => (1, 0x1000),
+        };
+        self.areas.count_within(wide) == count
+            && self.areas.bytes_within(wide) == bytes
+            && self.areas.meets(wide) == (count > 0)
+            && !self.areas.cuts(wide)
+    }
+
+    // Whether each look-up answers as the list does, at every fifth number.
+    fn agrees(&self) -> bool {
+        for fifth in 0..COUNT / 5 {
+            let number = 5 * fifth;
+            match page(number) {
+                Some(span) if self.agrees_at(number, span) && self.agrees_around(number, span) => {}
+                _ => return false,
+            }
+        }
+        self.is_in_order()
+    }
+
+    // Whether going over the areas gives those of the list by rising number.
+    fn is_in_order(&self) -> bool {
+        let mut next = 0;
+        for area in self.areas.iter() {
+            let number = area.memory as usize;
+            for missing in next..number {
+                if self.has(missing) {
+                    return false;
+                }
+            }
+            if !self.has(number) {
+                return false;
+            }
+            next = number.saturating_add(1);
+        }
+        (next..COUNT).all(|number| !self.has(number))
+    }
+}
+
+// Whether the look-ups agree while the areas come in the one order and go in the other.
+fn agree(alloc: Global, order: Order, other: Order) -> Result<bool, AllocError> {
+    let mut pair = Pair::new(alloc)?;
+    if !pair.adds(order, 0, COUNT) || !pair.agrees() || !pair.areas.is_full() {
+        return Ok(false);
+    }
+    pair.removes(other, 0, COUNT / 2);
+    if !pair.agrees() {
+        return Ok(false);
+    }
+    pair.removes(other, COUNT / 2, COUNT);
+    Ok(pair.is_in_order() && pair.areas.is_empty())
+}
+
+#[test]
+fn areas_come_by_rising_start(rt: HostRuntime) -> Result<(), Fail> {
+    assert!(rt; agree(rt.alloc(), RISING, MIXED)?);
+    Ok(())
+}
+
+#[test]
+fn areas_come_by_falling_start(rt: HostRuntime) -> Result<(), Fail> {
+    assert!(rt; agree(rt.alloc(), FALLING, OTHER)?);
+    Ok(())
+}
+
+#[test]
+fn areas_come_in_no_order(rt: HostRuntime) -> Result<(), Fail> {
+    assert!(rt; agree(rt.alloc(), MIXED, OTHER)?);
+    Ok(())
+}
+
+#[test]
+fn all_areas_go_at_once(rt: HostRuntime) -> Result<(), Fail> {
+    let mut pair = Pair::new(rt.alloc())?;
+    assert!(rt; pair.adds(OTHER, 0, COUNT));
+    let all = Span::new(0, TOP).ok_or("no span")?;
+    assert_eq!(rt; pair.areas.count_within(all), COUNT);
+    pair.areas.remove(all);
+    assert!(rt; pair.areas.is_empty() && !pair.areas.meets(all));
+    Ok(())
+}

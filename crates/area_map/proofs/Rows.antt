@@ -1,0 +1,135 @@
+-- Areas in rows: where a row begins and ends, and what stands before and behind it.
+use Rattle.std.proofs.Common.{◌≡◌, ℕ, suc, zero, ◌+◌, ◌<◌, ◌≤◌, Bool, true, false, List, [], ◌∷◌, ◌++◌, length, get_or, take, drop, map, refl, sym, ap, ◌∙◌, append_assoc, arith, ⊎_elim}
+use Rattle.std.specs.List.{filter, prefix_len}
+use Rattle.std.specs.List.Sorted.{IsNonDecreasingBy}
+use Rattle.std.proofs.lemmas.Bool.{cases_Bool}
+use Rattle.std.proofs.lemmas.Bool.Decides.{nat_tests}
+use Rattle.std.proofs.lemmas.List.{map-append, take_at}
+use Rattle.iofd_words.specs.declared.rows.Area.{Area}
+use Rattle.area_map.specs.Areas.{AreApartFrom}
+use Rattle.area_map.specs.Rows.{in_rows, AreRows, start_of, end_of}
+use Rattle.area_map.proofs.Kept.{apart-lower}
+
+-- ---- lists of areas
+
+pub apart_left : (low : ℕ) (xs ys : List Area) → AreApartFrom low (xs ++ ys) → AreApartFrom low xs
+apart_left low [] ys apart = tt
+apart_left low (x ∷ xs) ys apart = (apart.0, apart.1, apart_left (x.span.last + 1) xs ys apart.2)
+
+-- what follows begins above their end
+pub apart_right : (low : ℕ) (xs ys : List Area) → 0 < length xs → AreApartFrom low (xs ++ ys) → AreApartFrom (end_of xs + 1) ys
+apart_right low [] ys some apart = absurd (omega arith)
+apart_right low (x ∷ []) ys some apart = apart.2
+apart_right low (x ∷ y ∷ xs) ys some apart = apart_right (x.span.last + 1) (y ∷ xs) ys (omega arith) apart.2
+
+pub end-above : (low : ℕ) (xs : List Area) → 0 < length xs → AreApartFrom low xs → low ≤ end_of xs
+end-above low [] some apart = absurd (omega arith)
+end-above low (x ∷ []) some apart = omega (arith, apart.0, apart.1)
+end-above low (x ∷ y ∷ xs) some apart =
+    let rest = end-above (x.span.last + 1) (y ∷ xs) (omega arith) apart.2 in
+    omega (arith, apart.0, apart.1, rest)
+
+pub start-below_end : (low : ℕ) (xs : List Area) → 0 < length xs → AreApartFrom low xs → start_of xs ≤ end_of xs
+start-below_end low [] some apart = absurd (omega arith)
+start-below_end low (x ∷ []) some apart = apart.1
+start-below_end low (x ∷ y ∷ xs) some apart =
+    let rest = end-above (x.span.last + 1) (y ∷ xs) (omega arith) apart.2 in
+    omega (arith, apart.1, rest)
+
+pub start-above : (low : ℕ) (xs : List Area) → 0 < length xs → AreApartFrom low xs → low ≤ start_of xs
+start-above low [] some apart = absurd (omega arith)
+start-above low (x ∷ xs) some apart = apart.0
+
+-- ---- rows
+
+pub in_rows-append : (xs ys : List (List Area)) → in_rows (xs ++ ys) ≡ in_rows xs ++ in_rows ys
+in_rows-append [] ys = refl
+in_rows-append (x ∷ xs) ys = ap (λ zs. x ++ zs) (in_rows-append xs ys) ∙ sym (append_assoc x (in_rows xs) (in_rows ys))
+
+-- what is done to each row is done to all areas
+pub in_rows-map : (h : List Area → List Area) → h [] ≡ [] → ((xs ys : List Area) → h (xs ++ ys) ≡ h xs ++ h ys) → (rows : List (List Area)) → in_rows (map h rows) ≡ h (in_rows rows)
+in_rows-map h none both [] = sym none
+in_rows-map h none both (row ∷ rows) = ap (λ zs. h row ++ zs) (in_rows-map h none both rows) ∙ sym (both row (in_rows rows))
+
+pub in_rows-map_map : (f : Area → Area) (rows : List (List Area)) → in_rows (map (map f) rows) ≡ map f (in_rows rows)
+in_rows-map_map f rows = in_rows-map (map f) refl (λ xs ys. map-append f xs ys) rows
+
+pub filter-append : (p : Area → Bool) (xs ys : List Area) → filter p (xs ++ ys) ≡ filter p xs ++ filter p ys
+filter-append p [] ys = refl
+filter-append p (x ∷ xs) ys =
+    let rest = filter-append p xs ys in
+    ⊎_elim (λ (passes : p x ≡ true). rw passes (ap (λ zs. x ∷ zs) rest)) (λ (fails : p x ≡ false). rw fails rest) (cases_Bool (p x))
+
+pub AreRows-drop : (rows : List (List Area)) (k : ℕ) → AreRows rows → AreRows (drop k rows)
+AreRows-drop rows zero each = each
+AreRows-drop [] (suc k) each = tt
+AreRows-drop (row ∷ rows) (suc k) each = AreRows-drop rows k each.2
+
+pub AreRows-take : (rows : List (List Area)) (k : ℕ) → AreRows rows → AreRows (take k rows)
+AreRows-take rows zero each = tt
+AreRows-take [] (suc k) each = tt
+AreRows-take (row ∷ rows) (suc k) each = (each.0, each.1, AreRows-take rows k each.2)
+
+pub AreRows-append : (xs ys : List (List Area)) → AreRows xs → AreRows ys → AreRows (xs ++ ys)
+AreRows-append [] ys first second = second
+AreRows-append (x ∷ xs) ys first second = (first.0, first.1, AreRows-append xs ys first.2 second)
+
+-- rows whose areas are apart, from the k-th on
+pub apart-drop : (low : ℕ) (rows : List (List Area)) (k : ℕ) → AreRows rows → AreApartFrom low (in_rows rows) → AreApartFrom low (in_rows (drop k rows))
+apart-drop low rows zero each apart = apart
+apart-drop low [] (suc k) each apart = apart
+apart-drop low (row ∷ rows) (suc k) each apart =
+    let above = end-above low row each.0 (apart_left low row (in_rows rows) apart) in
+    apart-lower (end_of row + 1) low (in_rows (drop k rows)) (omega (arith, above)) (apart-drop (end_of row + 1) rows k each.2 (apart_right low row (in_rows rows) each.0 apart))
+
+row_above : (low : ℕ) (rows : List (List Area)) → AreRows rows → AreApartFrom low (in_rows rows) → (j : ℕ) (d : List Area) → j < length rows
+    → (low ≤ start_of (get_or rows j d)) × (low ≤ end_of (get_or rows j d))
+row_above low [] each apart j d within = absurd (omega arith)
+row_above low (row ∷ rows) each apart zero d within =
+    let own = apart_left low row (in_rows rows) apart in
+    (start-above low row each.0 own, end-above low row each.0 own)
+row_above low (row ∷ rows) each apart (suc j) d within =
+    let above = end-above low row each.0 (apart_left low row (in_rows rows) apart) in
+    let later = row_above (end_of row + 1) rows each.2 (apart_right low row (in_rows rows) each.0 apart) j d (omega arith) in
+    (omega (arith, above, later.0), omega (arith, above, later.1))
+
+-- the rows' ends rise
+pub row_ends_rise : (low : ℕ) (rows : List (List Area)) → AreRows rows → AreApartFrom low (in_rows rows) → IsNonDecreasingBy end_of rows
+row_ends_rise low [] each apart i j d up within = absurd (omega arith)
+row_ends_rise low (row ∷ rows) each apart zero zero d up within = omega arith
+row_ends_rise low (row ∷ rows) each apart zero (suc j) d up within =
+    let later = row_above (end_of row + 1) rows each.2 (apart_right low row (in_rows rows) each.0 apart) j d (omega arith) in
+    omega (arith, later.1)
+row_ends_rise low (row ∷ rows) each apart (suc i) zero d up within = absurd (omega arith)
+row_ends_rise low (row ∷ rows) each apart (suc i) (suc j) d up within =
+    row_ends_rise (end_of row + 1) rows each.2 (apart_right low row (in_rows rows) each.0 apart) i j d (omega arith) (omega arith)
+
+-- the rows' beginnings rise
+pub row_starts_rise : (low : ℕ) (rows : List (List Area)) → AreRows rows → AreApartFrom low (in_rows rows) → IsNonDecreasingBy start_of rows
+row_starts_rise low [] each apart i j d up within = absurd (omega arith)
+row_starts_rise low (row ∷ rows) each apart zero zero d up within = omega arith
+row_starts_rise low (row ∷ rows) each apart zero (suc j) d up within =
+    let own = start-below_end low row each.0 (apart_left low row (in_rows rows) apart) in
+    let later = row_above (end_of row + 1) rows each.2 (apart_right low row (in_rows rows) each.0 apart) j d (omega arith) in
+    omega (arith, own, later.0)
+row_starts_rise low (row ∷ rows) each apart (suc i) zero d up within = absurd (omega arith)
+row_starts_rise low (row ∷ rows) each apart (suc i) (suc j) d up within =
+    row_starts_rise (end_of row + 1) rows each.2 (apart_right low row (in_rows rows) each.0 apart) i j d (omega arith) (omega arith)
+
+-- behind those that pass, the first fails
+pub prefix_len_stops : {X : Type 0} (p : X → Bool) (xs others : List X) (x : X) → drop (prefix_len p xs) xs ≡ x ∷ others → p x ≡ false
+prefix_len_stops p [] others x is = cc
+prefix_len_stops p (y ∷ xs) others x is =
+    ⊎_elim
+    (λ (passes : p y ≡ true).
+    let next : prefix_len p (y ∷ xs) ≡ suc (prefix_len p xs) = grind (arith, nat_tests) in
+    prefix_len_stops p xs others x (rw next at is))
+    (λ (fails : p y ≡ false).
+    let here : prefix_len p (y ∷ xs) ≡ 0 = grind (arith, nat_tests) in
+    let same : y ∷ xs ≡ x ∷ others = rw here at is in
+    cc)
+    (cases_Bool (p y))
+
+-- what stands in a vector of rows after they were written as a slice
+pub written_back : (rows new is : List (List Area)) (n : ℕ) → new ≡ is → length is ≡ n → take n (new ++ drop (length new) rows) ≡ is
+written_back rows new is n same long = take_at new (drop (length new) rows) n (ap length same ∙ long) ∙ same

@@ -1,0 +1,13 @@
+use Rattle.std.proofs.Common.{◌≡◌, ◌∙◌, List, ap, sym, set, map, arith}
+use Rattle.std.proofs.lemmas.List.Edits.{map_over_more}
+use Rattle.iofd_words.specs.declared.rows.Area.{Area}
+use Rattle.area_map.specs.Areas.{marked}
+use Rattle.area_map.proofs.changes.mark_each.Goals as goal
+
+pub loop-row-preserved : goal.loop-row-preserved
+loop-row-preserved g c =
+    let f = map (marked c.args.span c.args.owed.now) in
+    let rows = c.loop-row.rows in
+    let step = map_over_more f c.args.rows.now rows c.loop-row.row-index c.row-item.result (omega arith) c.loop-row.invariant c.row-item.is in
+    let new : c.mark_leaving.new.self ≡ f c.row-item.result = c.mark_leaving.ensures ∙ ap f (sym c.row-item.is) in
+    ap (λ (row : List Area). set rows c.loop-row.row-index row) new ∙ step

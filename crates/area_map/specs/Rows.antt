@@ -1,0 +1,75 @@
+-- Areas in rows, one row behind the other.
+use Rattle.std.specs.Prelude.{ℕ, ◌<◌, ◌≡◌, Bool, true, false, ◌||◌, get_or, nat_le, min, max, Option, Some, None, IfSome, List, [], ◌∷◌, ◌++◌, length, if◌then◌else◌}
+use Rattle.iofd_words.specs.Bounds.{Bounds}
+use Rattle.iofd_words.specs.Span.{lies_in}
+use Rattle.iofd_words.specs.declared.rows.Area.{Area}
+use Rattle.iofd_words.specs.declared.rows.Phase.{Phase}
+use Rattle.iofd_words.specs.declared.rows.Phase.TheVariants.{Live, Leaving}
+use Rattle.area_map.specs.Areas.{AreKept}
+
+-- the areas of all rows
+abbrev pub in_rows : List (List Area) → List Area
+in_rows [] = []
+in_rows (row ∷ rows) = row ++ in_rows rows
+
+-- each row has areas, and place for one more
+abbrev pub AreRows : List (List Area) → Type 0
+AreRows [] = Unit {0}
+AreRows (row ∷ rows) = (0 < length row) × (length row < 32) × AreRows rows
+
+-- where the first area begins
+abbrev pub start_of : List Area → ℕ
+start_of [] = 0
+start_of (area ∷ areas) = area.span.first
+
+-- where the last area ends
+abbrev pub end_of : List Area → ℕ
+end_of [] = 0
+end_of (area ∷ []) = area.span.last
+end_of (area ∷ next ∷ areas) = end_of (next ∷ areas)
+
+-- those before the first that ends above this number, if there is one
+abbrev pub up_to : Option ℕ → List Area → List Area
+up_to None areas = areas
+up_to (Some last) [] = []
+up_to (Some last) (area ∷ areas) = if nat_le area.span.last last then area ∷ up_to (Some last) areas else []
+
+-- an UNMAP was called
+abbrev pub is_leaving : Phase → Bool
+is_leaving Live = false
+is_leaving (Leaving owed tries) = true
+
+-- the area isn't leaving, or it lies in the span, if there is one
+abbrev pub LeavesIn : Option Bounds → Area → Type 0
+LeavesIn None area = is_leaving area.phase ≡ false
+LeavesIn (Some span) area = is_leaving area.phase ≡ true → lies_in area.span span ≡ true
+
+-- each leaving area lies in the span; without a span none is leaving
+abbrev pub LeaveIn : Option Bounds → List Area → Type 0
+LeaveIn span [] = Unit {0}
+LeaveIn span (area ∷ areas) = LeavesIn span area × LeaveIn span areas
+
+-- for how many more areas there is memory, whichever row they go to
+abbrev pub room_of : Option (List Area) → ℕ
+room_of None = 0
+room_of (Some row) = 1
+
+-- a spare row has no areas, and there is place for it among the others
+abbrev pub IsSpare : Option (List Area) → ℕ → ℕ → Type 0
+IsSpare spare count capacity = IfSome spare (λ row. (row ≡ []) × (count < capacity))
+
+-- the areas of an address space, as their rows are kept
+pub record AreInRows (rows : List (List Area)) (count : ℕ) (leaving : Option Bounds) : Type 0 where
+  pub kept : AreKept (in_rows rows)
+  pub each : AreRows rows
+  pub counted : count ≡ length (in_rows rows)
+  pub leave : LeaveIn leaving (in_rows rows)
+
+-- the least span that holds both
+abbrev pub joined : Option Bounds → Bounds → Option Bounds
+joined None span = Some span
+joined (Some hull) span = Some (record { first = min hull.first span.first; last = max hull.last span.last })
+
+-- one more area in this row takes a row more
+abbrev pub takes_row : List (List Area) → ℕ → Bool
+takes_row rows index = nat_le 31 (length (get_or rows index [])) || nat_le (length rows) index

@@ -1,0 +1,65 @@
+//! Rows of few areas become one, so that rows take little more memory than their areas.
+
+ghost use Rattle.std.specs.Prelude.{◌≡◌, ◌+◌, ◌<◌, ◌≤◌, ◌++◌, [], IsTrue, get_or, length, set, vec_len, vec_capacity};
+ghost use Rattle.area_map.specs.Rows.{in_rows, AreRows};
+
+use crate::row::{ROW, Row};
+use std::alloc::Allocator;
+
+/// Joins the row at this place with those beside it where they have few areas, and so the row behind it with the next.
+pub fn join_around<A: Allocator>(rows: &mut Vec<Row<A>, A>, index: usize)
+    requires { AreRows rows.old.items }
+    ensures areas { in_rows rows.new.items ≡ in_rows rows.old.items }
+    ensures rows { AreRows rows.new.items }
+    ensures len { vec_len rows.new ≤ vec_len rows.old }
+    ensures capacity { vec_capacity rows.new ≡ vec_capacity rows.old }
+{
+    join(rows, index.saturating_add(1));
+    join(rows, index);
+    join(rows, index.saturating_sub(1));
+}
+
+// Joins the row at this place with the one behind it where both together fill half a row at most.
+fn join<A: Allocator>(rows: &mut Vec<Row<A>, A>, index: usize)
+    requires { AreRows rows.old.items }
+    ensures areas { in_rows rows.new.items ≡ in_rows rows.old.items }
+    ensures rows { AreRows rows.new.items }
+    ensures len { vec_len rows.new ≤ vec_len rows.old }
+    ensures capacity { vec_capacity rows.new ≡ vec_capacity rows.old }
+{
+    if !are_few(rows, index) {
+        return;
+    }
+    let next = rows.remove(index + 1);
+    take_over(rows, index, next);
+}
+
+// Whether the row at this place and the one behind it together fill half a row at most.
+fn are_few<A: Allocator>(rows: &[Row<A>], index: usize) -> bool
+    ensures two { IsTrue result → index + 1 < length rows.now }
+    ensures few { IsTrue result → length (get_or rows.now index []) + length (get_or rows.now (index + 1) []) ≤ 16 }
+{
+    let count = rows.len();
+    if count < 2 || index > count - 2 {
+        return false;
+    }
+    fill_half(&rows[index], &rows[index + 1])
+}
+
+// Whether the two fill half a row at most.
+fn fill_half<A: Allocator>(row: &Row<A>, next: &Row<A>) -> bool
+    ensures { IsTrue result → length row.now + length next.now ≤ 16 }
+{
+    let (first, second) = (row.len(), next.len());
+    first <= ROW / 2 && second <= ROW / 2 - first
+}
+
+// The areas of the other row come behind those of the row at this place.
+fn take_over<A: Allocator>(rows: &mut [Row<A>], index: usize, next: Row<A>)
+    requires bound { index < length rows.old }
+    requires few { length (get_or rows.old index []) + length next ≤ 32 }
+    ensures { rows.new ≡ set rows.old index (get_or rows.old index [] ++ next) }
+{
+    let row = &mut rows[index];
+    row.join(next);
+}

@@ -1,0 +1,160 @@
+//! A row of areas: so many as one insertion or removal moves at most.
+
+ghost use Rattle.std.specs.Prelude.{◌≡◌, ◌==◌, ◌+◌, ◌<◌, ◌≤◌, ◌++◌, false, [], IfOk, length, map, take, drop, vec_capacity};
+ghost use Rattle.area_map.specs.Areas.{AreApart, with_area, marked, without_debt, tried, areas_outside};
+ghost use Rattle.area_map.specs.Rows.{start_of, end_of};
+ghost use Rattle.iofd_words.specs.Areas.{areas_meet};
+
+use crate::{lookups, marking};
+use iofd_words::{Area, DeviceNo, DeviceSet, NoMemory, Span};
+use std::alloc::{Allocator, Global};
+use std::marker::Model;
+
+/// For how many areas a row has memory from the beginning on. Between two calls it has fewer.
+pub(crate) const ROW: usize = 32;
+
+/// Areas by rising start. A contract sees their list.
+#[derive(Debug, Drop)]
+pub(crate) struct Row<A: Allocator = Global> {
+    areas: Vec<Area, A>,
+}
+
+impl<A: Allocator> Model for Row<A> {
+    ghost use Rattle.std.specs.Prelude.{List, ◌≤◌};
+    ghost use Rattle.std.specs.Vec.{vec_capacity};
+    ghost use Rattle.iofd_words.specs.declared.rows.Area.{Area};
+
+    ghost Value = { List Area };
+
+    ghost view = { λ row. row.areas.items };
+
+    ghost invariant = { λ row. 32 ≤ vec_capacity row.areas };
+}
+
+impl<A: Allocator> Row<A> {
+    /// A row without areas. Its only error is want of memory.
+    pub(crate) fn new(alloc: A) -> Result<Row<A>, NoMemory>
+        ensures { IfOk result (λ row. row ≡ []) }
+    {
+        let areas = Vec::with_capacity(alloc, ROW)?;
+        Ok(Row { areas })
+    }
+
+    /// Its areas.
+    pub(crate) fn areas(&self) -> &[Area]
+        ensures { result.now ≡ self.now }
+    {
+        &self.areas
+    }
+
+    /// How many areas it has.
+    pub(crate) fn len(&self) -> usize
+        ensures { result ≡ length self.now }
+    {
+        self.areas.len()
+    }
+
+    /// Whether it has none.
+    pub(crate) fn is_empty(&self) -> bool
+        ensures { result ≡ (length self.now == 0) }
+    {
+        self.areas.is_empty()
+    }
+
+    /// Where its first area begins.
+    pub(crate) fn start(&self) -> u64
+        ensures { result ≡ start_of self.now }
+    {
+        match self.areas.first() {
+            Some(area) => area.span.first(),
+            None => 0,
+        }
+    }
+
+    /// Where its last area ends.
+    pub(crate) fn end(&self) -> u64
+        ensures { result ≡ end_of self.now }
+    {
+        match self.areas.last() {
+            Some(area) => area.span.last(),
+            None => 0,
+        }
+    }
+
+    /// Adds an area that meets none of them, before the first that begins after it.
+    pub(crate) fn add(&mut self, area: Area)
+        requires apart { AreApart self.old }
+        requires alone { areas_meet area.span self.old ≡ false }
+        requires few { length self.old < 32 }
+        ensures { self.new ≡ with_area area self.old }
+    {
+        let place = lookups::count_below(&self.areas, area.span.first());
+        self.areas.insert(place, area).unwrap();
+    }
+
+    /// The areas from this place on go to the other row.
+    pub(crate) fn split(&mut self, at: usize, upper: &mut Row<A>)
+        requires at { at ≤ length self.old }
+        requires few { length self.old ≤ 32 }
+        requires upper { upper.old ≡ [] }
+        ensures lower { self.new ≡ take at self.old }
+        ensures upper { upper.new ≡ drop at self.old }
+    {
+        move_rest(&mut self.areas, at, &mut upper.areas);
+    }
+
+    /// The areas of the next row come behind its own.
+    pub(crate) fn join(&mut self, mut next: Row<A>)
+        requires { length self.old + length next ≤ 32 }
+        ensures { self.new ≡ self.old ++ next }
+    {
+        self.areas.append(&mut next.areas).unwrap();
+    }
+
+    /// Makes each live area that lies in the span leaving, with this debt.
+    pub(crate) fn mark_leaving(&mut self, span: Span, owed: &DeviceSet)
+        ensures { self.new ≡ map (marked span owed.now) self.old }
+    {
+        marking::mark_leaving(&mut self.areas, span, owed);
+    }
+
+    /// Takes the device out of the debt of each leaving area.
+    pub(crate) fn pay(&mut self, device: DeviceNo)
+        ensures { self.new ≡ map (without_debt device) self.old }
+    {
+        marking::pay(&mut self.areas, device);
+    }
+
+    /// Gives each leaving area that lies in the span this number of further calls.
+    pub(crate) fn set_tries(&mut self, span: Span, tries: u8)
+        ensures { self.new ≡ map (tried span tries) self.old }
+    {
+        marking::set_tries(&mut self.areas, span, tries);
+    }
+
+    /// Takes away the areas that lie in the span, and says how many they were.
+    pub(crate) fn remove(&mut self, span: Span) -> usize
+        ensures areas { self.new ≡ areas_outside span self.old }
+        ensures count { result + length self.new ≡ length self.old }
+    {
+        let before = self.areas.len();
+        self.areas.retain(|area| !area.span.lies_in(span));
+        before - self.areas.len()
+    }
+}
+
+// The areas from this place on go to the end of the others, where there is room for them.
+fn move_rest<A: Allocator>(areas: &mut Vec<Area, A>, at: usize, others: &mut Vec<Area, A>)
+    requires at { at ≤ length areas.old.items }
+    requires none { others.old.items ≡ [] }
+    requires room { length areas.old.items ≤ vec_capacity others.old }
+    ensures lower { areas.new.items ≡ take at areas.old.items }
+    ensures upper { others.new.items ≡ drop at areas.old.items }
+    ensures capacity { vec_capacity areas.new ≡ vec_capacity areas.old }
+    ensures others_capacity { vec_capacity others.old ≤ vec_capacity others.new }
+{
+    while at < areas.len() {
+        let area = areas.remove(at);
+        others.push(area).unwrap();
+    }
+}

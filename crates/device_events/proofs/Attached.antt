@@ -1,0 +1,81 @@
+-- An attachment that comes: what its page table pins.
+use Rattle.std.proofs.Common.{◌≡◌, ℕ, ◌+◌, Bool, true, false, ◌&&◌, ◌||◌, eqb, Option, Some, None, List, refl, sym, ◌∙◌, arith}
+use Rattle.iofd_runs.proofs.NotRefused.{attach_passed, passes}
+use Rattle.std.specs.Prelude.{is_some}
+use Rattle.std.proofs.lemmas.Bool.Decides.{nat_tests}
+use Rattle.iofd_words.specs.Areas.{areas_of}
+use Rattle.iofd_words.specs.Attachments.{attachment_of}
+use Rattle.iofd_words.specs.Checks.{checks, refusal}
+use Rattle.iofd_words.specs.Objects.{binding_of, has_hwpt, with_object}
+use Rattle.iofd_words.specs.View.{view}
+use Rattle.iofd_words.specs.World.{World}
+use Rattle.memory_rows.proofs.Gone.{table_lost}
+use Rattle.memory_rows.specs.Shown.{over, translated}
+use Rattle.iofd_words.specs.declared.event.Event.TheVariants as event
+use Rattle.iofd_words.specs.declared.numbers.DeviceNo.{DeviceNo}
+use Rattle.iofd_words.specs.declared.numbers.FileNo.{FileNo}
+use Rattle.iofd_words.specs.declared.numbers.ObjId.{ObjId}
+use Rattle.iofd_words.specs.declared.rows.Area.{Area}
+use Rattle.iofd_words.specs.declared.rows.Attachment.{Attachment}
+use Rattle.iofd_words.specs.declared.rows.Object.{Object}
+use Rattle.iofd_words.specs.declared.rows.ObjectKind.TheVariants as kind
+use Rattle.iofd_words.specs.declared.width.Width.{Width}
+use Rattle.iofd_rows.proofs.Bools.{and_true, both_true}
+use Rattle.iofd_rows.proofs.PageTables.{hwpt-with_object, hwpt_alike}
+
+-- ---- what was refused
+
+-- a device that isn't bound
+pub never_unbound : {X : Type 0} (w : World) (device : DeviceNo) (pt_id : ObjId) → refusal w (event.Attach device pt_id) ≡ None → binding_of w.objects device ≡ None → X
+unfolding refusal checks
+never_unbound w device pt_id none is = let refused = rw (is, checks) at none in absurd (some_none refused)
+  where
+    some_none : {Y : Type 0} {y : Y} → Some y ≡ None → ⊥
+    some_none is = cc
+
+-- one that is attached
+pub was_unattached : (w : World) (device : DeviceNo) (pt_id : ObjId) (bound : Object) → refusal w (event.Attach device pt_id) ≡ None → binding_of w.objects device ≡ Some bound → attachment_of w.attachments device ≡ None
+was_unattached w device pt_id bound none is = absent (attachment_of w.attachments device) (attach_passed (view w) device pt_id bound is (passes w (event.Attach device pt_id) none)).unattached
+  where
+    absent : (o : Option Attachment) → is_some o ≡ false → o ≡ None
+    absent None is = refl
+    absent (Some a) is = cc
+
+-- ---- the pages that a new page table pins
+
+abbrev pub hwpt_object : FileNo → ObjId → ObjId → Width → Object
+hwpt_object file ioas id width = record { file = file; id = id; kind = kind.Hwpt ioas width true }
+
+module _ (objects : List Object) (areas : List Area) (file : FileNo) (ioas id : ObjId) (width : Width) where
+  abbrev left : List Object
+  left = with_object (hwpt_object file ioas id width) objects
+
+  -- a second page table pins nothing anew
+  pub same_tables : has_hwpt objects file ioas ≡ true → (f : FileNo) (i : ObjId) → has_hwpt left f i ≡ has_hwpt objects f i
+  same_tables had f i = hwpt-with_object (hwpt_object file ioas id width) objects f i ∙ by_test (eqb file.0 f.0 && eqb ioas.0 i.0) refl
+    where
+      by_test : (b : Bool) → (eqb file.0 f.0 && eqb ioas.0 i.0) ≡ b → (b || has_hwpt objects f i) ≡ has_hwpt objects f i
+      by_test true is = let parts = and_true (eqb file.0 f.0) (eqb ioas.0 i.0) is in sym (hwpt_alike objects file f ioas i parts.0 parts.1 ∙ had)
+      by_test false is = refl
+
+  -- the first page table translates the areas of its address space, and no others anew
+  pub table_gained : has_hwpt objects file ioas ≡ false → (n : ℕ) → translated left areas n ≡ translated objects areas n + over (areas_of areas file ioas) n
+  table_gained none n =
+      let lost = table_lost left objects areas file ioas here none elsewhere n in
+      sym lost
+    where
+      here : has_hwpt left file ioas ≡ true
+      here = hwpt-with_object (hwpt_object file ioas id width) objects file ioas ∙ first (eqb file.0 file.0 && eqb ioas.0 ioas.0) (has_hwpt objects file ioas) (both_true _ _ (own file.0) (own ioas.0))
+        where
+          own : (m : ℕ) → eqb m m ≡ true
+          own m = grind (arith, nat_tests)
+
+          first : (b c : Bool) → b ≡ true → (b || c) ≡ true
+          first true c is = refl
+          first false c is = cc
+
+      elsewhere : (f : FileNo) (i : ObjId) → (eqb f.0 file.0 && eqb i.0 ioas.0) ≡ false → has_hwpt objects f i ≡ has_hwpt left f i
+      elsewhere f i other = sym (hwpt-with_object (hwpt_object file ioas id width) objects f i ∙ by_names f.0 file.0 i.0 ioas.0 (has_hwpt objects f i) other)
+        where
+          by_names : (f g i j : ℕ) (had : Bool) → (eqb f g && eqb i j) ≡ false → ((eqb g f && eqb j i) || had) ≡ had
+          by_names f g i j had is = grind (arith, nat_tests)

@@ -1,0 +1,71 @@
+-- Areas lie in addresses that can be used: so a device narrows just those that it leaves out itself.
+use Rattle.std.proofs.Common.{◌≡◌, ℕ, Bool, true, false, ◌&&◌, ◌||◌, not, eqb, Option, Some, None, List, [], ◌∷◌, ◌++◌, map, refl, ap, sym, subst, ◌∙◌, inl, inr}
+use Rattle.std.specs.List.{filter, list_any}
+use Rattle.std.proofs.lemmas.List.Folds.{list_any-append}
+use Rattle.device_events.specs.Narrow.{is_narrowed}
+use Rattle.iofd_rows.proofs.Bools.{and_true, not_true, or_none}
+use Rattle.iofd_rows.proofs.Each.{IsIn, in_filter, of_each}
+use Rattle.iofd_rows.proofs.Named.{file_is, id_is}
+use Rattle.iofd_runs.specs.InUsable.{AreasUsable, is_in_usable}
+use Rattle.iofd_words.specs.Areas.{areas_of, is_of}
+use Rattle.iofd_words.specs.Bounds.{Bounds}
+use Rattle.iofd_words.specs.Checks.{narrows, unusable_in}
+use Rattle.iofd_words.specs.Ranges.{meets_some}
+use Rattle.iofd_words.specs.Settings.{DeviceSettings}
+use Rattle.iofd_words.specs.Span.{meets}
+use Rattle.iofd_words.specs.Usable.{beyond, reserved_by, unusable}
+use Rattle.iofd_words.specs.View.{View, view}
+use Rattle.iofd_words.specs.World.{World}
+use Rattle.iofd_words.specs.declared.numbers.FileNo.{FileNo}
+use Rattle.iofd_words.specs.declared.numbers.ObjId.{ObjId}
+use Rattle.iofd_words.specs.declared.rows.Area.{Area}
+use Rattle.server_state.proofs.ViewShown.{same_view}
+use Rattle.server_state.specs.Held.{areas_at}
+use Rattle.server_state.specs.Seen.{seen}
+use Rattle.server_state.specs.Step.{IsKnown}
+use Rattle.server_state.specs.declared.state.State.{State}
+
+any_alike : {X : Type 0} (p q : X → Bool) (xs : List X) → ((x : X) → IsIn xs x → p x ≡ q x) → list_any p xs ≡ list_any q xs
+any_alike p q [] same = refl
+any_alike p q (x ∷ xs) same = rw (same x (inl refl), any_alike p q xs (λ y later. same y (inr later))) refl
+
+any-spans : (test : Bounds → Bool) (areas : List Area) → list_any test (map (λ (a : Area). a.span) areas) ≡ list_any (λ (a : Area). test a.span) areas
+any-spans test [] = refl
+any-spans test (a ∷ areas) = ap (λ b. test a.span || b) (any-spans test areas)
+
+-- what can be used already meets nothing but what the device leaves out
+one_alike : (device : DeviceSettings) (bars : List Bounds) (span : Bounds) → meets_some bars span ≡ false → meets_some (beyond device.width ∷ reserved_by device ++ bars) span ≡ is_narrowed device span
+one_alike device bars span clear =
+    ap (λ b. meets (beyond device.width) span || b)
+    (list_any-append (λ (one : Bounds). meets one span) (reserved_by device) bars ∙ rw clear (or_none (meets_some (reserved_by device) span)))
+
+in_space : (w : World) (file : FileNo) (ioas : ObjId) (area : Area) → AreasUsable w → IsIn (areas_of w.areas file ioas) area → meets_some (unusable_in (view w) file ioas) area.span ≡ false
+in_space w file ioas area usable within =
+    let own = in_filter (is_of file ioas) w.areas area within in
+    let numbers = and_true (eqb area.file.0 file.0) (eqb area.ioas.0 ioas.0) own.1 in
+    let clear : meets_some (unusable w.settings w.objects w.attachments area.file area.ioas) area.span ≡ false = not_true _ (of_each (is_in_usable w) w.areas area usable.usable own.0) in
+    rw (file_is area.file file numbers.0, id_is area.ioas ioas numbers.1) at clear
+
+world_narrows : (w : World) (file : FileNo) (ioas : ObjId) (device : DeviceSettings) → AreasUsable w → (view w).allowed_of file ioas ≡ []
+    → narrows (view w) file ioas (Some device) ≡ list_any (λ (a : Area). is_narrowed device a.span) (areas_of w.areas file ioas)
+world_narrows w file ioas device usable unbounded =
+    let bars : List Bounds = beyond device.width ∷ reserved_by device ++ unusable_in (view w) file ioas in
+    list_any-append (meets_some bars) (map (λ (a : Area). a.span) (areas_of w.areas file ioas)) ((view w).allowed_of file ioas)
+    ∙ rw unbounded (or_none _)
+    ∙ any-spans (meets_some bars) (areas_of w.areas file ioas)
+    ∙ any_alike (λ (a : Area). meets_some bars a.span) (λ (a : Area). is_narrowed device a.span) (areas_of w.areas file ioas)
+    (λ area within. one_alike device (unusable_in (view w) file ioas) area.span (in_space w file ioas area usable within))
+
+module _ {A : Type 0} (s : State A) (file : FileNo) (ioas : ObjId) where
+  pub known_narrows : (device : DeviceSettings) → IsKnown s → narrows (seen s) file ioas (Some device) ≡ list_any (λ (a : Area). is_narrowed device a.span) (areas_at s.objects.rows file ioas)
+  known_narrows device known =
+      let w = known.world in
+      let same : seen s ≡ view w = same_view w s known.shows in
+      let unbounded : (view w).allowed_of file ioas ≡ [] = sym (ap (λ (v : View). v.allowed_of file ioas) same) in
+      ap (λ (v : View). narrows v file ioas (Some device)) same
+      ∙ world_narrows w file ioas device known.tidy.usable unbounded
+      ∙ ap (list_any (λ (a : Area). is_narrowed device a.span)) (known.shows.objects.spaces file ioas)
+
+  -- where there are no areas it narrows none
+  pub no_narrows : (device : DeviceSettings) → areas_at s.objects.rows file ioas ≡ [] → narrows (seen s) file ioas (Some device) ≡ false
+  no_narrows device none = rw none refl

@@ -1,0 +1,77 @@
+use Rattle.std.proofs.Common.{◌≡◌, ◌%◌, length, ◌∙◌, ap, sym, arith}
+use Rattle.iofd_runs.proofs.NotRefused.{passes, write_passed}
+use Rattle.iofd_words.specs.After.{changed}
+use Rattle.iofd_words.specs.Policy.{Passes, fault_of, outcomes}
+use Rattle.iofd_words.specs.View.{view}
+use Rattle.iofd_words.specs.declared.event.Event.TheVariants as event
+use Rattle.iofd_words.specs.declared.fault.AccessKind.TheVariants.{Write}
+use Rattle.device_events.proofs.DeviceWrites.{chosen_answer, pass_in_pool}
+use Rattle.memory_rows.proofs.UserAccess.{short}
+use Rattle.server_state.proofs.ViewShown.{same_outcomes}
+use Rattle.frame_memory.specs.Pool.{written}
+use Rattle.memory_rows.proofs.FramesFollow.{written_shown}
+use Rattle.device_events.specs.Outcomes.{given_outcome}
+use Rattle.device_events.proofs.device_write.commit.Goals as goal
+
+pub write-requires-clause-frame : goal.write-requires-clause-frame
+write-requires-clause-frame g c =
+    let known = c.requires.granted.granted in
+    let w = known.world in
+    let frame = c.in-Ok.frame in
+    let iova = c.args.iova in
+    let told : Passes c.in-Ok.frame ≡ given_outcome c.args.via (outcomes w c.args.device c.args.iova.0 Write) =
+    c.in-Ok.ensures ∙ ap (given_outcome c.args.via) (same_outcomes w c.args.state.now known.shows c.args.device
+    c.args.iova.0 Write)
+    in
+    let answer = chosen_answer c.requires.at w c.args.device iova c.args.bytes.now c.args.via (Passes frame)
+    known.tidy told c.requires.granted.may in
+    let within = pass_in_pool w known.tidy.fit.pin_frames c.args.device iova.0 Write frame answer.0 in
+    let size = known.shows.frames.size in
+    omega (arith, within, size)
+
+pub write-requires-clause-within : goal.write-requires-clause-within
+write-requires-clause-within g c =
+    let known = c.requires.granted.granted in
+    let w = known.world in
+    let iova = c.args.iova in
+    let bytes = c.args.bytes.now in
+    let passed = write_passed (view w) c.args.device iova bytes
+    (passes w (event.DeviceWrite c.args.device iova bytes) known.none) in
+    rw c.as_slice.ensures.value (short iova.0 (length bytes) passed.short).within
+
+pub returns-in-Ok : goal.returns-in-Ok
+unfolding changed
+returns-in-Ok g c = λ at w tidy shows none may.
+    let frame = c.in-Ok.frame in
+    let iova = c.args.iova in
+    let bytes = c.args.bytes.now in
+    let told : Passes frame ≡ given_outcome c.args.via (outcomes w c.args.device iova.0 Write) = c.in-Ok.ensures ∙ ap (given_outcome c.args.via) (same_outcomes w c.args.state.now shows c.args.device iova.0 Write) in
+    let answer = chosen_answer at w c.args.device iova bytes c.args.via (Passes frame) tidy told may in
+    let within = pass_in_pool w tidy.fit.pin_frames c.args.device iova.0 Write frame answer.0 in
+    let within_page = (short iova.0 (length bytes) (write_passed (view w) c.args.device iova bytes (passes w (event.DeviceWrite c.args.device iova bytes) none)).short).within in
+    let old = c.args.state.now in
+    let put : c.write.new.self ≡ written old.pool frame.0 (iova.0 % 4096) bytes =
+    rw c.as_slice.ensures.value at c.write.ensures.new in (
+      answer.1,
+      answer.2,
+      record {
+        settings = shows.settings;
+        limits = shows.limits;
+        allowed = shows.allowed;
+        objects = shows.objects;
+        devices = shows.devices;
+        users = shows.users;
+        pins = shows.pins;
+        frames = rw put (written_shown w.settings.pool w.writes w.table_frames old.memory old.pool frame.0
+            (iova.0 % 4096) bytes shows.frames within within_page);
+      },
+    )
+
+pub returns-in-Err : goal.returns-in-Err
+unfolding changed
+returns-in-Err g c = λ at w tidy shows none may.
+    let iova = c.args.iova in
+    let told = c.in-Err.ensures ∙ ap (given_outcome c.args.via) (same_outcomes w c.args.state.now shows c.args.device iova.0 Write) in
+    let answer = chosen_answer at w c.args.device iova c.args.bytes.now c.args.via _ tidy told may in
+    let fault = c.fault_of.ensures ∙ ap (λ settings. fault_of settings c.args.device iova.0 Write c.in-Err.reason) (sym shows.settings) in
+    (rw fault answer.1, rw fault answer.2, shows)

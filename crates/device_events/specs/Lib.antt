@@ -1,0 +1,4 @@
+pub mod Attaching
+pub mod Narrow
+pub mod Outcomes
+pub mod Pinning

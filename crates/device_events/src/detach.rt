@@ -1,0 +1,94 @@
+//! Detach: a device translates no more.
+
+ghost use Rattle.std.specs.Prelude.{◌≡◌, ℕ, Some, None, false};
+ghost use Rattle.iofd_words.specs.Checks.{checks};
+ghost use Rattle.iofd_words.specs.FirstTrue.{first_true};
+ghost use Rattle.iofd_words.specs.Objects as objects;
+ghost use Rattle.iofd_words.specs.declared.event.Event.TheVariants as event;
+ghost use Rattle.server_state.specs.Held.{objects_in};
+ghost use Rattle.device_events.specs.Attaching.{is_idle};
+ghost use Rattle.server_state.specs.Seen.{seen};
+ghost use Rattle.server_state.specs.Step.{IsGranted, Steps};
+ghost use Rattle.object_table.specs.Table.{destroy_refusal, removed};
+ghost use Rattle.object_table.specs.declared.kind.Kind.TheVariants as of_kind;
+
+use crate::{attachments, spaces};
+use iofd_words::{Attachment, Cause, DeviceNo, FileNo, ObjId, ObjectKind, Reply};
+use object_table::{Kind, ObjectTable};
+use server_state::{Held, State, lookups, release};
+use std::alloc::Allocator;
+
+/// Why it is refused, by the first row of the definitions that holds. None where nothing refuses it.
+#[tactic(auto, unfolding(iofd_words::specs::Checks::checks))]
+pub fn refusal<A: Allocator>(state: &State<A>, device: DeviceNo) -> Option<Cause>
+    ensures { result ≡ first_true (checks (seen state.now) (event.Detach device)) }
+{
+    if state.binding_of(device).is_none() {
+        return Some(Cause::Id);
+    }
+    if state.attachment_of(device).is_none() {
+        return Some(Cause::Unattached);
+    }
+    None
+}
+
+/// What it does where nothing refuses it: the device owes no area a flush any more, and an automatic page
+/// table goes with its last device. It takes no memory.
+pub fn commit<A: Allocator>(state: &mut State<A>, device: DeviceNo) -> Reply
+    requires { IsGranted (event.Detach device) state.old }
+    ensures { (at : ℕ) → Steps at (event.Detach device) state.old result state.new }
+{
+    let Some(attachment) = state.attachment_of(device) else {
+        return Reply::Done;
+    };
+    let Attachment { file, hwpt, .. } = *attachment;
+    let Some((_, ioas)) = state.space_of(device) else {
+        return Reply::Done;
+    };
+    spaces::pay(&mut state.objects, file, ioas, device);
+    attachments::remove(&mut state.attachments, device);
+    if is_idle(&state.objects, &state.attachments, file, hwpt) {
+        drop_table(&mut state.objects, file, hwpt);
+        if !lookups::has_hwpt(&state.objects, file, ioas) {
+            release::unpin_space(
+                &state.objects,
+                file,
+                ioas,
+                &mut state.memory,
+                &mut state.pool,
+            );
+        }
+    }
+    Reply::Done
+}
+
+/// Whether the page table is an automatic one that no device is on.
+fn is_idle<A: Allocator>(
+    table: &ObjectTable<Held<A>, A>,
+    attachments: &[Attachment],
+    file: FileNo,
+    hwpt: ObjId,
+) -> bool
+    ensures { result ≡ is_idle (objects_in table.now) attachments.now file hwpt }
+{
+    is_automatic(table, file, hwpt) && !attachments::has_device_on(attachments, file, hwpt)
+}
+
+/// Whether the object is an automatic page table.
+fn is_automatic<A: Allocator>(table: &ObjectTable<Held<A>, A>, file: FileNo, id: ObjId) -> bool
+    ensures { result ≡ elim (objects.kind_of (objects_in table.now) file id) [ Some kind ↦ objects.is_automatic kind | None ↦ false ] }
+{
+    match lookups::kind_of(table, file, id) {
+        Some(ObjectKind::Hwpt { automatic, .. }) => automatic,
+        _ => false,
+    }
+}
+
+/// The page table goes. All other objects and all areas stay.
+fn drop_table<A: Allocator>(table: &mut ObjectTable<Held<A>, A>, file: FileNo, hwpt: ObjId)
+    ensures rows { destroy_refusal table.old file of_kind.Hwpt hwpt ≡ None
+        → table.new.rows ≡ removed file hwpt table.old.rows }
+    ensures files { table.new.files ≡ table.old.files }
+{
+    let _ = table.destroy(file, Kind::Hwpt, hwpt);
+}

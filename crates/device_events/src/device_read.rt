@@ -1,0 +1,50 @@
+//! A device reads memory.
+
+ghost use Rattle.std.specs.Prelude.{◌≡◌, ℕ, List, None};
+ghost use Rattle.iofd_words.specs.FirstTrue.{first_true};
+ghost use Rattle.iofd_words.specs.Look.{lawful_answers, query_checks};
+ghost use Rattle.iofd_words.specs.Policy.{fault_of};
+ghost use Rattle.iofd_words.specs.View.{view};
+ghost use Rattle.iofd_words.specs.World.{World};
+ghost use Rattle.iofd_words.specs.declared.query.Answer.TheVariants as answer;
+ghost use Rattle.iofd_words.specs.declared.query.Query.TheVariants as queries;
+ghost use Rattle.iofd_words.specs.declared.record.Record.{Record};
+ghost use Rattle.server_state.specs.Choice.{IsLooked};
+ghost use Rattle.server_state.specs.Shows.{Shows};
+ghost use Rattle.server_state.specs.Step.{IsAsked, IsTidy};
+
+use crate::access;
+use crate::device_write::fault_of;
+use iofd_words::{AccessKind, Answer, Burst, DeviceNo, FaultReason, Iova, PAGE_SIZE};
+use server_state::State;
+use std::alloc::Allocator;
+
+/// What the device is answered where nothing refuses it. Where it owes the area a flush, its access is denied.
+pub fn read<A: Allocator>(state: &State<A>, device: DeviceNo, iova: Iova, len: u8) -> Answer
+    requires { IsAsked (queries.DeviceRead device iova len) state.now }
+    ensures { (at : ℕ) (w : World) (records : List (Record A)) → IsTidy at w → Shows w state.now
+        → first_true (query_checks (view w) (queries.DeviceRead device iova len)) ≡ None
+        → IsLooked (lawful_answers w records (queries.DeviceRead device iova len)) result }
+{
+    match access::given(state, device, iova.0, AccessKind::Read, None) {
+        Ok(frame) => {
+            let offset = (iova.0 % PAGE_SIZE) as usize;
+            match Burst::new(state.pool.read(frame, offset, usize::from(len))) {
+                Some(bytes) => Answer::Read(bytes),
+                None => denied(state, device, iova, FaultReason::ReadDenied),
+            }
+        }
+        Err(reason) => denied(state, device, iova, reason),
+    }
+}
+
+fn denied<A: Allocator>(
+    state: &State<A>,
+    device: DeviceNo,
+    iova: Iova,
+    reason: FaultReason,
+) -> Answer
+    ensures { result ≡ answer.Fault (fault_of state.now.config device iova.0 AccessKind.Read reason) }
+{
+    Answer::Fault(fault_of(&state.config, device, iova, AccessKind::Read, reason))
+}

@@ -1,0 +1,87 @@
+//! DeviceWrite: a device writes memory.
+
+ghost use Rattle.std.specs.Prelude.{◌≡◌, ℕ};
+ghost use Rattle.std.specs.Option.{option_map_or};
+ghost use Rattle.iofd_words.specs.Files as files;
+ghost use Rattle.iofd_words.specs.Checks.{checks};
+ghost use Rattle.iofd_words.specs.FirstTrue.{first_true};
+ghost use Rattle.iofd_words.specs.Policy as policy;
+ghost use Rattle.iofd_words.specs.declared.event.Event.TheVariants as event;
+ghost use Rattle.server_state.specs.Seen.{seen};
+ghost use Rattle.server_state.specs.Step.{ChosenSteps, IsGrantedVia};
+
+use crate::access;
+use iofd_words::{
+    AccessKind, Burst, Cause, Config, DeviceNo, Fault, FaultReason, FrameNo, Iova, PAGE_SIZE,
+    Reply, SourceId,
+};
+use server_state::State;
+use std::alloc::Allocator;
+
+/// Why it is refused, by the first row of the definitions that holds. None where nothing refuses it.
+#[tactic(auto, unfolding(iofd_words::specs::Checks::checks))]
+pub fn refusal<A: Allocator>(
+    state: &State<A>,
+    device: DeviceNo,
+    iova: Iova,
+    bytes: &Burst,
+) -> Option<Cause>
+    ensures { result ≡ first_true (checks (seen state.now) (event.DeviceWrite device iova bytes.now)) }
+{
+    access::refusal(state, device, iova, bytes.as_slice().len())
+}
+
+/// How a denial is told.
+pub(crate) fn fault_of<A: Allocator>(
+    config: &Config<A>,
+    device: DeviceNo,
+    iova: Iova,
+    kind: AccessKind,
+    reason: FaultReason,
+) -> Fault
+    ensures { result ≡ policy.fault_of config.now device iova.0 kind reason }
+{
+    Fault {
+        source: source_of(config, device),
+        page: iova.0 / PAGE_SIZE,
+        kind,
+        reason,
+    }
+}
+
+fn source_of<A: Allocator>(config: &Config<A>, device: DeviceNo) -> SourceId
+    ensures { result ≡ option_map_or (λ d. d.source) (files.device_of config.now device) (record { 0 = 0 }) }
+{
+    match config.device(device) {
+        Some(settings) => settings.source(),
+        None => SourceId(0),
+    }
+}
+
+/// What it does where nothing refuses it. With a cached frame the write passes there; without one it passes
+/// where the policy lets it, and is denied while the device owes the area a flush.
+pub fn commit<A: Allocator>(
+    state: &mut State<A>,
+    device: DeviceNo,
+    iova: Iova,
+    bytes: &Burst,
+    via: Option<FrameNo>,
+) -> Reply
+    requires { IsGrantedVia (event.DeviceWrite device iova bytes.now) via state.old }
+    ensures { (at : ℕ) → ChosenSteps at (event.DeviceWrite device iova bytes.now) via state.old result state.new }
+{
+    match access::given(state, device, iova.0, AccessKind::Write, via) {
+        Ok(frame) => {
+            let offset = (iova.0 % PAGE_SIZE) as usize;
+            state.pool.write(frame, offset, bytes.as_slice());
+            Reply::Passed(frame)
+        }
+        Err(reason) => Reply::Fault(fault_of(
+            &state.config,
+            device,
+            iova,
+            AccessKind::Write,
+            reason,
+        )),
+    }
+}

@@ -1,0 +1,14 @@
+//! The events of devices: each with the test that refuses it, and what it does.
+#![tactic(auto)]
+
+pub mod access;
+pub mod attach;
+mod attachments;
+pub mod bind;
+pub mod detach;
+pub mod device_read;
+pub mod device_write;
+pub mod flush;
+mod narrow;
+mod pins;
+mod spaces;

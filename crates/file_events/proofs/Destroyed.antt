@@ -1,0 +1,288 @@
+-- An object that was destroyed: an address space with its areas, or a page table with pins.
+use Rattle.std.proofs.Common.{◌≡◌, ℕ, Bool, true, false, cond, ◌&&◌, ◌||◌, not, eqb, is_none, Option, Some, None, List, [], ◌∷◌, map, refl, sym, ◌∙◌, ap, arith, ◌+◌}
+use Rattle.iofd_words.specs.Answers.{Answers}
+use Rattle.iofd_runs.proofs.KeepsPins.{keeps_pins}
+use Rattle.iofd_runs.proofs.NotRefused.{destroy_passed, passes}
+use Rattle.iofd_runs.proofs.OwnIds.{own_ids-filter}
+use Rattle.frame_memory.specs.Pool.{FramePool}
+use Rattle.memory_rows.proofs.FramesFollow.{translated_same}
+use Rattle.memory_rows.proofs.Gone.{objects_left, over_parts, table_lost, translated_parts, translated_space}
+use Rattle.memory_rows.specs.Moves.{IsReleased, MayRelease, if_translated}
+use Rattle.memory_rows.specs.Shown.{over, translated}
+use Rattle.user_memory.specs.Changes.{never}
+use Rattle.user_memory.specs.Memory.{Memory}
+use Rattle.iofd_rows.specs.Pinned.{ArePinned}
+use Rattle.std.specs.List.{filter, list_all, list_any}
+use Rattle.std.proofs.lemmas.Bool.Decides.{nat_tests}
+use Rattle.iofd_words.specs.After.{settle, without_areas, changed}
+use Rattle.iofd_words.specs.Areas.{areas_of, is_of}
+use Rattle.iofd_words.specs.Checks.{is_device_object, is_used, refusal}
+use Rattle.iofd_rows.specs.Ids.{have_own_ids}
+use Rattle.iofd_words.specs.Objects.{has_hwpt, is_bound_as, is_bound_device, is_hwpt_over, kind_of, without_object}
+use Rattle.iofd_words.specs.View.{view}
+use Rattle.iofd_words.specs.World.{World}
+use Rattle.iofd_words.specs.declared.event.Event.TheVariants as event
+use Rattle.iofd_words.specs.declared.reply.Reply.TheVariants as reply
+use Rattle.iofd_words.specs.declared.numbers.DeviceNo.{DeviceNo}
+use Rattle.iofd_words.specs.declared.numbers.FileNo.{FileNo}
+use Rattle.iofd_words.specs.declared.numbers.ObjId.{ObjId}
+use Rattle.iofd_words.specs.declared.rows.Area.{Area}
+use Rattle.iofd_words.specs.declared.rows.Object.{Object}
+use Rattle.iofd_words.specs.declared.rows.ObjectKind.{ObjectKind}
+use Rattle.iofd_words.specs.declared.rows.ObjectKind.TheVariants as kind
+use Rattle.iofd_words.specs.declared.width.Width.{Width}
+use Rattle.iofd_rows.proofs.Bools.{and_true, clash}
+use Rattle.iofd_rows.proofs.Found.{all_filter}
+use Rattle.iofd_rows.proofs.ListTests.{filter_all}
+use Rattle.iofd_rows.proofs.PageTables.{hwpt_alike}
+use Rattle.server_state.proofs.AreasBecome.{own_at}
+use Rattle.server_state.proofs.Objects.{has_table}
+use Rattle.server_state.proofs.Orderly.{orderly}
+use Rattle.server_state.proofs.MemoryReleased.{AreFewer, may_release, nothing_released, shown_after}
+use Rattle.server_state.proofs.Objects.{areas_at_rows, areas_of_held, kind_at, kind_of_rows, value_at}
+use Rattle.file_events.proofs.SpacesGone.{any_without, areas-removed, found_without}
+use Rattle.server_state.proofs.ObjectsGone.{may_go, objects-removed}
+use Rattle.server_state.specs.Held.{is_proper, areas_at, object_of, objects_in}
+use Rattle.server_state.specs.Mapping.{own_areas}
+use Rattle.server_state.specs.Shows.{Shows}
+use Rattle.server_state.specs.Step.{IsTidy}
+use Rattle.server_state.specs.declared.held.Held.{Held}
+use Rattle.server_state.specs.declared.held.Held.TheVariants as held
+use Rattle.server_state.specs.declared.state.State.{State}
+use Rattle.object_table.specs.Table.{Table, destroy_refusal, is_at, removed}
+use Rattle.object_table.specs.declared.kind.Kind.TheVariants as tablekind
+
+-- ---- lists
+
+none_left : {X : Type 0} (p : X → Bool) (xs : List X) → filter p xs ≡ [] → list_any p xs ≡ false
+none_left p [] none = refl
+none_left p (x ∷ xs) none = by_test (p x) none (λ later. none_left p xs later)
+  where
+    by_test : (b : Bool) → cond b (x ∷ filter p xs) (filter p xs) ≡ [] → (filter p xs ≡ [] → list_any p xs ≡ false) → (b || list_any p xs) ≡ false
+    by_test true none later = cc
+    by_test false none later = later none
+
+none_pass : {X : Type 0} (p : X → Bool) (xs : List X) → list_any p xs ≡ false → list_all (λ x. not (p x)) xs ≡ true
+none_pass p [] none = refl
+none_pass p (x ∷ xs) none = by_test (p x) none (λ later. none_pass p xs later)
+  where
+    by_test : (b : Bool) → (b || list_any p xs) ≡ false → (list_any p xs ≡ false → list_all (λ x. not (p x)) xs ≡ true) → (not b && list_all (λ x. not (p x)) xs) ≡ true
+    by_test true none later = cc
+    by_test false none later = later none
+
+-- ---- what goes of the counts
+
+module _ (w : World) (file : FileNo) (id : ObjId) (ids : have_own_ids w.objects ≡ true) where
+  abbrev left : List Object
+  left = without_object file id w.objects
+
+  abbrev stay : List Area
+  stay = filter (λ (area : Area). not (is_of file id area)) w.areas
+
+  -- an address space without page tables
+  module _ (is_kind : kind_of w.objects file id ≡ Some kind.Ioas) (unused : has_hwpt w.objects file id ≡ false) (own : List Area) (own_is : own ≡ areas_of w.areas file id) where
+    same_tables : (f : FileNo) (i : ObjId) → has_hwpt left f i ≡ has_hwpt w.objects f i
+    same_tables f i = any_without (λ (o : Object). eqb o.file.0 f.0 && is_hwpt_over i o.kind) w.objects file id kind.Ioas ids is_kind (λ object of_file of_kind. rw of_kind (fails (eqb object.file.0 f.0)))
+      where
+        fails : (b : Bool) → (b && false) ≡ false
+        fails true = refl
+        fails false = refl
+
+    no_pins : (n : ℕ) → translated w.objects (areas_of w.areas file id) n ≡ 0
+    no_pins n = translated_space w.objects file id (is_of file id) w.areas (λ area is. is) n ∙ ap (λ (b : Bool). if_translated b (areas_of w.areas file id) n) unused
+
+    space_fewer : AreFewer (over own) never w left stay
+    space_fewer = record {
+      over_left = λ n. ap (λ (l : List Area). over stay n + over l n) own_is ∙ over_parts (is_of file id) w.areas n;
+      translated_left =
+          λ n. let same = translated_same w.objects left stay same_tables n in
+          let parts = translated_parts w.objects (is_of file id) w.areas n in
+          let none = no_pins n in
+          omega (arith, same, parts, none);
+    }
+
+  -- a page table, under whose id no area is
+  module _ (ioas : ObjId) (width : Width) (automatic : Bool) (is_kind : kind_of w.objects file id ≡ Some (kind.Hwpt ioas width automatic)) (empty : areas_of w.areas file id ≡ []) where
+    all_stay : stay ≡ w.areas
+    all_stay = filter_all (λ (area : Area). not (is_of file id area)) w.areas (none_pass (is_of file id) w.areas (none_left (is_of file id) w.areas empty))
+
+    -- other address spaces keep their page tables
+    other_table : (f : FileNo) (i : ObjId) → (eqb f.0 file.0 && eqb i.0 ioas.0) ≡ false → has_hwpt left f i ≡ has_hwpt w.objects f i
+    other_table f i other = any_without (λ (o : Object). eqb o.file.0 f.0 && is_hwpt_over i o.kind) w.objects file id (kind.Hwpt ioas width automatic) ids is_kind (λ object of_file of_kind. rw (of_file, of_kind) (grind (arith, nat_tests)))
+
+    had : has_hwpt w.objects file ioas ≡ true
+    had = has_table w.objects file id ioas width automatic is_kind
+
+    -- the last one over its address space
+    last_fewer : (own : List Area) → own ≡ areas_of w.areas file ioas → has_hwpt left file ioas ≡ false → AreFewer never (over own) w left stay
+    last_fewer own own_is last = record {
+      over_left = λ n. let same = ap (λ (l : List Area). over l n) all_stay in omega (arith, same);
+      translated_left =
+          λ n. ap (λ (l : List Area). translated left l n + over own n) all_stay
+          ∙ ap (λ (l : List Area). translated left w.areas n + over l n) own_is
+          ∙ table_lost w.objects left w.areas file ioas had last other_table n;
+    }
+
+    -- where another is over it, its areas stay translated
+    other_fewer : has_hwpt left file ioas ≡ true → AreFewer never never w left stay
+    other_fewer more = record {
+      over_left = λ n. let same = ap (λ (l : List Area). over l n) all_stay in omega (arith, same);
+      translated_left = λ n. let same = ap (λ (l : List Area). translated left l n) all_stay ∙ translated_same w.objects left w.areas tables n in omega (arith, same);
+    }
+      where
+        tables : (f : FileNo) (i : ObjId) → has_hwpt left f i ≡ has_hwpt w.objects f i
+        tables f i = by_space (eqb f.0 file.0 && eqb i.0 ioas.0) refl
+          where
+            by_space : (b : Bool) → (eqb f.0 file.0 && eqb i.0 ioas.0) ≡ b → has_hwpt left f i ≡ has_hwpt w.objects f i
+            by_space true is =
+                let names = and_true (eqb f.0 file.0) (eqb i.0 ioas.0) is in
+                sym (hwpt_alike left f file i ioas names.0 names.1) ∙ more ∙ sym had ∙ hwpt_alike w.objects f file i ioas names.0 names.1
+            by_space false is = other_table f i is
+
+-- ---- what is kept
+
+-- the world after it
+abbrev pub gone : World → FileNo → ObjId → World
+gone w file id =
+    settle w (record (without_areas (is_of file id) w) {
+      objects = without_object file id w.objects;
+      allowed = filter (λ ranges. not (eqb ranges.file.0 file.0 && eqb ranges.ioas.0 id.0)) w.allowed;
+    })
+
+-- nothing stands on it
+unused : (w : World) (file : FileNo) (id : ObjId) (k : ObjectKind) → refusal w (event.Destroy file id) ≡ None → kind_of w.objects file id ≡ Some k → is_used (view w) file id (Some k) ≡ false
+unused w file id k none is_kind = ap (is_used (view w) file id) (sym is_kind) ∙ (destroy_passed (view w) file id (passes w (event.Destroy file id) none)).unused
+
+module _ {A : Type 0} where
+  no_areas_in : (o : Option (Held A)) (ioas : ObjId) (width : Width) (automatic : Bool) → kind_at o ≡ Some (kind.Hwpt ioas width automatic) → areas_of_held o ≡ []
+  no_areas_in None ioas width automatic is = cc
+  no_areas_in (Some (held.Ioas areas)) ioas width automatic is = absurd (never (kind_inside is))
+    where
+      kind_inside : Some kind.Ioas ≡ Some (kind.Hwpt ioas width automatic) → kind.Ioas ≡ kind.Hwpt ioas width automatic
+      kind_inside is = cc
+
+      never : kind.Ioas ≡ kind.Hwpt ioas width automatic → ⊥
+      never is = cc
+  no_areas_in (Some (held.Hwpt over of by)) ioas width automatic is = refl
+  no_areas_in (Some (held.Device device)) ioas width automatic is = refl
+
+  -- a page table has no areas
+  pub no_areas : (w : World) (s : State A) (file : FileNo) (id ioas : ObjId) (width : Width) (automatic : Bool) → Shows w s → kind_of w.objects file id ≡ Some (kind.Hwpt ioas width automatic) → areas_of w.areas file id ≡ []
+  no_areas w s file id ioas width automatic shows is_kind =
+      shows.objects.spaces file id ∙ areas_at_rows s.objects.rows file id
+      ∙ no_areas_in (value_at s.objects.rows file id) ioas width automatic (sym (kind_of_rows s.objects.rows file id) ∙ ap (λ (l : List Object). kind_of l file id) (sym shows.objects.rows) ∙ is_kind)
+
+  pub shows_destroyed : (at : ℕ) (w : World) (s : State A) (file : FileNo) (id : ObjId) (k : ObjectKind) (table : Table (Held A)) (areas pins : ℕ → ℕ) (memory : Memory) (pool : FramePool) → IsTidy at w → Shows w s → refusal w (event.Destroy file id) ≡ None
+      → kind_of w.objects file id ≡ Some k → is_bound_device k ≡ false → table.rows ≡ removed file id s.objects.rows → table.files ≡ s.objects.files
+      → AreFewer areas pins w (without_object file id w.objects) (filter (λ (area : Area). not (is_of file id area)) w.areas)
+      → IsReleased areas pins s.memory memory s.pool pool
+      → Shows (gone w file id) (record s { objects = table; memory = memory; pool = pool })
+  unfolding settle without_areas changed Answers
+  shows_destroyed at w s file id k table areas pins memory pool tidy shows none is_kind no_device rows files fewer released =
+      let next : ArePinned (at + 1) (gone w file id) = keeps_pins at w (event.Destroy file id) reply.Done none tt tidy.pins in
+      let after = shown_after at w s tidy shows areas pins (without_object file id w.objects) (filter (λ (area : Area). not (is_of file id area)) w.areas) fewer (at + 1) (gone w file id) memory pool next refl refl (objects_left (is_of file id) w.areas w.memory) refl refl released in
+      record {
+        settings = shows.settings;
+        objects = record {
+          rows = ap (without_object file id) shows.objects.rows ∙ sym (objects-removed s.objects.rows file id) ∙ ap (map object_of) (sym rows);
+          proper = rw rows (all_filter is_proper (λ row. not (is_at file id row)) s.objects.rows shows.objects.proper);
+          spaces = λ f i. areas-removed w.areas s.objects.rows file id shows.objects.spaces f i ∙ ap (λ l. areas_at l f i) (sym rows);
+          files = λ number. rw files (shows.objects.files number);
+        };
+        devices = record {
+          bindings = λ device. found_without (λ (o : Object). is_bound_as device o.kind) w.objects file id k tidy.ids is_kind (λ object of_file of_kind. rw of_kind (unbound k device no_device)) ∙ shows.devices.bindings device;
+          attached = shows.devices.attached;
+        };
+        limits = after.limits;
+        allowed = ap (filter _) shows.allowed;
+        users = after.users;
+        pins = after.pins;
+        frames = after.frames;
+      }
+    where
+      unbound : (k : ObjectKind) (device : DeviceNo) → is_bound_device k ≡ false → is_bound_as device k ≡ false
+      unbound kind.Ioas device other = refl
+      unbound (kind.Hwpt ioas width automatic) device other = refl
+      unbound (kind.Device bound) device other = cc
+
+  -- ---- the three ways
+
+  -- the object's kind, in the world that is shown
+  kind_shown : (w : World) (s : State A) (file : FileNo) (id : ObjId) (k : ObjectKind) → Shows w s → kind_of (objects_in s.objects) file id ≡ Some k → kind_of w.objects file id ≡ Some k
+  kind_shown w s file id k shows is_kind = ap (λ (l : List Object). kind_of l file id) shows.objects.rows ∙ is_kind
+
+  -- an address space
+  module _ (at : ℕ) (w : World) (s : State A) (file : FileNo) (id : ObjId) (tidy : IsTidy at w) (shows : Shows w s) (none : refusal w (event.Destroy file id) ≡ None) (is_kind : kind_of (objects_in s.objects) file id ≡ Some kind.Ioas) where
+    space_kind : kind_of w.objects file id ≡ Some kind.Ioas
+    space_kind = kind_shown w s file id kind.Ioas shows is_kind
+
+    goes : AreFewer (over (own_areas s.objects file id)) never w (without_object file id w.objects) (filter (λ (area : Area). not (is_of file id area)) w.areas)
+    goes =
+        space_fewer w file id tidy.ids space_kind (unused w file id kind.Ioas none space_kind) (own_areas s.objects file id)
+        (own_at s.objects file id (orderly at w s tidy shows) ∙ sym (shows.objects.spaces file id))
+
+    pub space_may : MayRelease (over (own_areas s.objects file id)) never s.memory s.pool.holds
+    space_may = may_release at w s tidy shows (over (own_areas s.objects file id)) never (without_object file id w.objects) (filter (λ (area : Area). not (is_of file id area)) w.areas) goes
+
+    pub space_destroyed : (table : Table (Held A)) (memory : Memory) (pool : FramePool) → (destroy_refusal s.objects file tablekind.Ioas id ≡ None → table.rows ≡ removed file id s.objects.rows) → table.files ≡ s.objects.files
+        → IsReleased (over (own_areas s.objects file id)) never s.memory memory s.pool pool
+        → Shows (gone w file id) (record s { objects = table; memory = memory; pool = pool })
+    space_destroyed table memory pool rows files released =
+        shows_destroyed at w s file id kind.Ioas table (over (own_areas s.objects file id)) never memory pool tidy shows none space_kind refl (rows (may_go s.objects file id kind.Ioas shows.objects.proper is_kind)) files goes released
+
+  -- a page table
+  module _ (at : ℕ) (w : World) (s : State A) (file : FileNo) (id ioas : ObjId) (width : Width) (automatic : Bool) (table : Table (Held A)) (tidy : IsTidy at w) (shows : Shows w s) (none : refusal w (event.Destroy file id) ≡ None)
+      (is_kind : kind_of (objects_in s.objects) file id ≡ Some (kind.Hwpt ioas width automatic)) (may : destroy_refusal s.objects file tablekind.Hwpt id ≡ None → table.rows ≡ removed file id s.objects.rows) (files : table.files ≡ s.objects.files) where
+    of_world : kind_of w.objects file id ≡ Some (kind.Hwpt ioas width automatic)
+    of_world = kind_shown w s file id (kind.Hwpt ioas width automatic) shows is_kind
+
+    empty : areas_of w.areas file id ≡ []
+    empty = no_areas w s file id ioas width automatic shows of_world
+
+    rows : table.rows ≡ removed file id s.objects.rows
+    rows = may (may_go s.objects file id (kind.Hwpt ioas width automatic) shows.objects.proper is_kind)
+
+    objects_kept : objects_in table ≡ without_object file id w.objects
+    objects_kept = ap (map object_of) rows ∙ objects-removed s.objects.rows file id ∙ ap (without_object file id) (sym shows.objects.rows)
+
+    proper_kept : list_all is_proper table.rows ≡ true
+    proper_kept = ap (list_all is_proper) rows ∙ all_filter is_proper (λ row. not (is_at file id row)) s.objects.rows shows.objects.proper
+
+    -- the areas of its address space
+    own_kept : own_areas table file ioas ≡ areas_of w.areas file ioas
+    own_kept =
+        own_at table file ioas (record { proper = proper_kept; ids = ap have_own_ids objects_kept ∙ own_ids-filter _ w.objects tidy.ids })
+        ∙ ap (λ l. areas_at l file ioas) rows
+        ∙ sym (areas-removed w.areas s.objects.rows file id shows.objects.spaces file ioas)
+        ∙ ap (λ (l : List Area). areas_of l file ioas) (all_stay w file id tidy.ids ioas width automatic of_world empty)
+
+    loses : has_hwpt (objects_in table) file ioas ≡ false → AreFewer never (over (own_areas table file ioas)) w (without_object file id w.objects) (filter (λ (area : Area). not (is_of file id area)) w.areas)
+    loses last = last_fewer w file id tidy.ids ioas width automatic of_world empty (own_areas table file ioas) own_kept (ap (λ (l : List Object). has_hwpt l file ioas) (sym objects_kept) ∙ last)
+
+    pub last_may : has_hwpt (objects_in table) file ioas ≡ false → MayRelease never (over (own_areas table file ioas)) s.memory s.pool.holds
+    last_may last = may_release at w s tidy shows never (over (own_areas table file ioas)) (without_object file id w.objects) (filter (λ (area : Area). not (is_of file id area)) w.areas) (loses last)
+
+    -- the pins of the space's areas went with its last page table
+    pub last_destroyed : (memory : Memory) (pool : FramePool) → has_hwpt (objects_in table) file ioas ≡ false → IsReleased never (over (own_areas table file ioas)) s.memory memory s.pool pool
+        → Shows (gone w file id) (record s { objects = table; memory = memory; pool = pool })
+    last_destroyed memory pool last released =
+        shows_destroyed at w s file id (kind.Hwpt ioas width automatic) table never (over (own_areas table file ioas)) memory pool tidy shows none of_world refl rows files (loses last) released
+
+    pub other_destroyed : has_hwpt (objects_in table) file ioas ≡ true
+        → Shows (gone w file id) (record s { objects = table })
+    other_destroyed more =
+        let fewer = other_fewer w file id tidy.ids ioas width automatic of_world empty (ap (λ (l : List Object). has_hwpt l file ioas) (sym objects_kept) ∙ more) in
+        shows_destroyed at w s file id (kind.Hwpt ioas width automatic) table never never s.memory s.pool tidy shows none of_world refl rows files fewer
+        (nothing_released at w s tidy shows (without_object file id w.objects) (filter (λ (area : Area). not (is_of file id area)) w.areas) fewer)
+
+  -- ---- what was refused
+
+  pub never_device : (w : World) (s : State A) (file : FileNo) (id : ObjId) (device : DeviceNo) → Shows w s → refusal w (event.Destroy file id) ≡ None → kind_of (objects_in s.objects) file id ≡ Some (kind.Device device) → ⊥
+  never_device w s file id device shows none is_kind =
+      let of_world = kind_shown w s file id (kind.Device device) shows is_kind in
+      clash true (ap is_device_object (sym of_world) ∙ (destroy_passed (view w) file id (passes w (event.Destroy file id) none)).no_device) refl
+
+  pub never_none : (w : World) (s : State A) (file : FileNo) (id : ObjId) → Shows w s → refusal w (event.Destroy file id) ≡ None → kind_of (objects_in s.objects) file id ≡ None → ⊥
+  never_none w s file id shows none is_kind =
+      let of_world = ap (λ (l : List Object). kind_of l file id) shows.objects.rows ∙ is_kind in
+      clash true (ap (λ (o : Option ObjectKind). is_none o) (sym of_world) ∙ (destroy_passed (view w) file id (passes w (event.Destroy file id) none)).there) refl

@@ -1,0 +1,5 @@
+pub mod Allocated
+pub mod Destroyed
+pub mod FileGone
+pub mod RowsCounted
+pub mod SpacesGone

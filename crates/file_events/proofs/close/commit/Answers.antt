@@ -1,0 +1,14 @@
+use Rattle.iofd_words.specs.After.{changed}
+use Rattle.iofd_words.specs.Answers.{Answers}
+use Rattle.file_events.proofs.FileGone.{areas_may, shows_closed}
+use Rattle.file_events.proofs.close.commit.Goals as goal
+
+pub remove_areas-requires : goal.remove_areas-requires
+remove_areas-requires g c =
+    let known = c.requires.granted in
+    areas_may c.requires.at known.world c.args.state.now c.args.file known.tidy known.shows known.none
+
+pub returns : goal.returns
+unfolding changed Answers
+returns g c = λ at w tidy shows none.
+    (tt, shows_closed at w c.args.state.now c.args.file tidy shows none c.close_table.new.table c.detach_all.new.attachments c.remove_areas.new.memory c.remove_areas.new.pool c.close_table.ensures c.detach_all.ensures c.remove_areas.ensures)

@@ -1,0 +1,98 @@
+//! Close: a file goes, with all that it has.
+
+ghost use Rattle.std.specs.Prelude.{◌≡◌, ℕ, not, ◌==◌, filter, None};
+ghost use Rattle.std.specs.List.{list_any};
+ghost use Rattle.iofd_words.specs.Checks.{checks};
+ghost use Rattle.iofd_words.specs.FirstTrue.{first_true};
+ghost use Rattle.iofd_words.specs.Objects.{objects_of, is_bound_device};
+ghost use Rattle.iofd_words.specs.declared.event.Event.TheVariants as event;
+ghost use Rattle.object_table.specs.Table.{close_refusal, closed, rows_of};
+ghost use Rattle.server_state.specs.Held.{kind_in, objects_in};
+ghost use Rattle.file_events.specs.FileAreas.{areas_of_rows, translated_of};
+ghost use Rattle.memory_rows.specs.Moves.{IsReleased, MayRelease};
+ghost use Rattle.memory_rows.specs.Shown.{over};
+ghost use Rattle.server_state.specs.Seen.{seen};
+ghost use Rattle.server_state.specs.Step.{IsGranted, Steps};
+
+use frame_memory::Pool;
+use iofd_words::{Attachment, Cause, FileNo, Reply};
+use object_table::ObjectTable;
+use server_state::{Held, State, lookups, release};
+use std::alloc::Allocator;
+use user_memory::UserMemory;
+
+/// Why it is refused, by the first row of the definitions that holds. None where nothing refuses it.
+#[tactic(auto, unfolding(iofd_words::specs::Checks::checks))]
+pub fn refusal<A: Allocator>(state: &State<A>, file: FileNo) -> Option<Cause>
+    ensures { result ≡ first_true (checks (seen state.now) (event.Close file)) }
+{
+    if !state.objects.is_open(file) {
+        return Some(Cause::Id);
+    }
+    if has_device(&state.objects, file) {
+        return Some(Cause::InUse);
+    }
+    None
+}
+
+/// Whether a device is bound to the file.
+fn has_device<A: Allocator>(table: &ObjectTable<Held<A>, A>, file: FileNo) -> bool
+    ensures { result ≡ list_any (λ object. is_bound_device object.kind) (objects_of (objects_in table.now) file) }
+{
+    table.iter(file).any(|object| is_device(object.value))
+}
+
+fn is_device<A: Allocator>(held: &Held<A>) -> bool
+    ensures { result ≡ is_bound_device (kind_in held.now) }
+{
+    matches!(held, Held::Device(_))
+}
+
+/// What it does where nothing refuses it: the file's objects and attachments go, and its areas with their memory
+/// objects and the pins of their pages.
+pub fn commit<A: Allocator>(state: &mut State<A>, file: FileNo) -> Reply
+    requires { IsGranted (event.Close file) state.old }
+    ensures { (at : ℕ) → Steps at (event.Close file) state.old result state.new }
+{
+    remove_areas(&state.objects, file, &mut state.memory, &mut state.pool);
+    detach_all(&mut state.attachments, file);
+    close_table(&mut state.objects, file);
+    Reply::Done
+}
+
+/// The areas of all address spaces of the file go.
+fn remove_areas<A: Allocator>(
+    table: &ObjectTable<Held<A>, A>,
+    file: FileNo,
+    memory: &mut UserMemory<A>,
+    pool: &mut Pool<A>,
+)
+    requires { MayRelease (over (areas_of_rows (rows_of table.now file))) (over (translated_of (objects_in table.now) (rows_of table.now file)))
+        memory.old pool.old.holds }
+    ensures { IsReleased (over (areas_of_rows (rows_of table.now file))) (over (translated_of (objects_in table.now) (rows_of table.now file)))
+        memory.old memory.new pool.old pool.new }
+{
+    for object in table.iter(file) {
+        if let Held::Ioas(areas) = object.value {
+            let translated = lookups::has_hwpt(table, file, object.id);
+            release::remove(areas.iter(), translated, memory, pool);
+        }
+    }
+}
+
+/// Drops the attachments of the file's devices.
+fn detach_all<A: Allocator>(attachments: &mut Vec<Attachment, A>, file: FileNo)
+    ensures { attachments.new.items ≡ filter (λ a. not (a.file.0 == file.0)) attachments.old.items }
+{
+    attachments.retain(|a| a.file != file);
+}
+
+/// Closes the file's table, if nothing there refuses it.
+fn close_table<A: Allocator>(table: &mut ObjectTable<Held<A>, A>, file: FileNo)
+    ensures { close_refusal table.old file ≡ None → table.new ≡ closed table.old file }
+{
+    match table.close_file(file) {
+        Ok(()) => (),
+        Err(_) => (),
+    }
+}

@@ -1,0 +1,108 @@
+//! Destroy: an object of a file goes.
+
+ghost use Rattle.std.specs.Prelude.{◌≡◌, ℕ, Some, None};
+ghost use Rattle.iofd_words.specs.Attachments.{has_device_on};
+ghost use Rattle.iofd_words.specs.Checks.{checks, is_device_object, is_used};
+ghost use Rattle.iofd_words.specs.FirstTrue.{first_true};
+ghost use Rattle.iofd_words.specs.declared.event.Event.TheVariants as event;
+ghost use Rattle.object_table.specs.Table.{destroy_refusal, removed};
+ghost use Rattle.server_state.specs.Seen.{seen};
+ghost use Rattle.server_state.specs.Step.{IsGranted, Steps};
+
+use iofd_words::{Attachment, Cause, FileNo, ObjId, ObjectKind, Reply};
+use object_table::{Kind, ObjectTable};
+use server_state::{Held, State, lookups, release};
+use std::alloc::Allocator;
+
+/// Why it is refused, by the first row of the definitions that holds. None where nothing refuses it.
+#[tactic(auto, unfolding(iofd_words::specs::Checks::checks))]
+pub fn refusal<A: Allocator>(state: &State<A>, file: FileNo, id: ObjId) -> Option<Cause>
+    ensures { result ≡ first_true (checks (seen state.now) (event.Destroy file id)) }
+{
+    if !state.objects.is_open(file) {
+        return Some(Cause::Id);
+    }
+    let Some(kind) = lookups::kind_of(&state.objects, file, id) else {
+        return Some(Cause::Id);
+    };
+    if is_used(state, file, id, kind) {
+        return Some(Cause::InUse);
+    }
+    if is_device(kind) {
+        return Some(Cause::Bound);
+    }
+    None
+}
+
+/// Whether others stand on the file's object of this id and kind: page tables on an address space, devices on a page table.
+fn is_used<A: Allocator>(state: &State<A>, file: FileNo, id: ObjId, kind: ObjectKind) -> bool
+    ensures { result ≡ is_used (seen state.now) file id (Some kind) }
+{
+    match kind {
+        ObjectKind::Ioas => lookups::has_hwpt(&state.objects, file, id),
+        ObjectKind::Hwpt { .. } => has_device_on(&state.attachments, file, id),
+        ObjectKind::Device(_) => false,
+    }
+}
+
+/// Whether some device translates by this page table.
+fn has_device_on(attachments: &[Attachment], file: FileNo, hwpt: ObjId) -> bool
+    ensures { result ≡ has_device_on attachments.now file hwpt }
+{
+    attachments.iter().any(|a| a.file == file && a.hwpt == hwpt)
+}
+
+fn is_device(kind: ObjectKind) -> bool
+    ensures { result ≡ is_device_object (Some kind) }
+{
+    matches!(kind, ObjectKind::Device(_))
+}
+
+/// What it does where nothing refuses it. An address space goes with its areas and their memory objects, of which no
+/// page is pinned; a page table goes, and with the last one over an address space the pins of its areas' pages.
+pub fn commit<A: Allocator>(state: &mut State<A>, file: FileNo, id: ObjId) -> Reply
+    requires { IsGranted (event.Destroy file id) state.old }
+    ensures { (at : ℕ) → Steps at (event.Destroy file id) state.old result state.new }
+{
+    match lookups::kind_of(&state.objects, file, id) {
+        Some(ObjectKind::Ioas) => {
+            // It was refused while it had a page table: so no page of its areas is pinned for it.
+            release::remove_space(
+                &state.objects,
+                file,
+                id,
+                false,
+                &mut state.memory,
+                &mut state.pool,
+            );
+            remove(&mut state.objects, file, Kind::Ioas, id);
+        }
+        Some(ObjectKind::Hwpt { ioas, .. }) => {
+            remove(&mut state.objects, file, Kind::Hwpt, id);
+            if !lookups::has_hwpt(&state.objects, file, ioas) {
+                release::unpin_space(
+                    &state.objects,
+                    file,
+                    ioas,
+                    &mut state.memory,
+                    &mut state.pool,
+                );
+            }
+        }
+        // It was refused.
+        Some(ObjectKind::Device(_)) => (),
+        None => (),
+    }
+    Reply::Done
+}
+
+/// Takes the object out of the table, if nothing there refuses it.
+fn remove<A: Allocator>(table: &mut ObjectTable<Held<A>, A>, file: FileNo, kind: Kind, id: ObjId)
+    ensures rows { destroy_refusal table.old file kind id ≡ None → table.new.rows ≡ removed file id table.old.rows }
+    ensures files { table.new.files ≡ table.old.files }
+{
+    match table.destroy(file, kind, id) {
+        Ok(_) => (),
+        Err(_) => (),
+    }
+}

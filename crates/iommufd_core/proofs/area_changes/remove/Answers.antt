@@ -1,6 +1,0 @@
-use Rattle.area_map.specs.Areas.{areas_outside}
-use Rattle.iommufd_core.proofs.AreasHeld.{rewritten}
-use Rattle.iommufd_core.proofs.area_changes.remove.Goals as goal
-
-pub returns-in-Ok : goal.returns-in-Ok
-returns-in-Ok g c = rewritten (areas_outside c.args.span) c.args.table.now c.args.file _ c.args.ioas c.in-Ok.held.now c.remove_held.new.held c.in-Ok.ensures.ok c.remove_held.ensures

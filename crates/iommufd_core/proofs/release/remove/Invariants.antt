@@ -1,8 +1,0 @@
-use Rattle.memory_rows.proofs.AreasGoing.{AreGoing}
-use Rattle.memory_rows.specs.Moves.{if_translated}
-use Rattle.memory_rows.specs.Shown.{over}
-use Rattle.iommufd_core.proofs.release.remove.Given as goal
-
--- some of the areas have let go of their memory objects, and the others may
-abbrev pub invariant-loop-area : goal.invariant-loop-area
-invariant-loop-area g l = AreGoing over (if_translated l.fn.translated) l.fn.areas l.area-iterator l.initial.memory l.memory l.initial.pool l.pool

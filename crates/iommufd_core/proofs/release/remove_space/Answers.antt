@@ -1,7 +1,0 @@
-use Rattle.memory_rows.proofs.Gone.{no_areas_released}
-use Rattle.iommufd_core.specs.Mapping.{own_areas}
-use Rattle.iommufd_core.proofs.release.remove_space.Goals as goal
-
-pub returns-in_default : goal.returns-in_default
-returns-in_default g c =
-    no_areas_released c.args.translated (own_areas c.args.table.now c.args.file c.args.ioas) c.args.memory.now c.args.pool.now c.in_default.ensures c.requires

@@ -1,0 +1,50 @@
+-- Where a MAP puts its area.
+use Rattle.std.specs.Prelude.{◌≡◌, ℕ, ◌≤◌, Bool, true, false, None}
+use Rattle.iofd_words.specs.After.{changed}
+use Rattle.iofd_words.specs.Answers.{Answers}
+use Rattle.iofd_words.specs.Bounds.{Bounds}
+use Rattle.iofd_words.specs.Checks.{has_choice, may_choose, refusal}
+use Rattle.iofd_words.specs.Objects.{has_ioas}
+use Rattle.iofd_words.specs.Pages.{is_above_sum}
+use Rattle.iofd_words.specs.Rights.{is_fixed}
+use Rattle.iofd_words.specs.Span.{span_from}
+use Rattle.iofd_words.specs.View.{View}
+use Rattle.iofd_words.specs.World.{World}
+use Rattle.iofd_words.specs.declared.event.Event.TheVariants as event
+use Rattle.iofd_words.specs.declared.event.MapRequest.{MapRequest}
+use Rattle.iofd_words.specs.declared.numbers.FileNo.{FileNo}
+use Rattle.iofd_words.specs.declared.reply.Reply.{Reply}
+use Rattle.server_state.specs.Choice.{IsLeastMapped}
+use Rattle.server_state.specs.Shows.{Shows}
+use Rattle.server_state.specs.Step.{IsTidy}
+use Rattle.server_state.specs.declared.state.State.{State}
+
+-- the span from the least address that may be chosen
+pub record IsLeastSpan (v : View) (file : FileNo) (request : MapRequest) (span : Bounds) : Type 0 where
+  pub is : span ≡ span_from span.first request.length
+  pub may : may_choose v file request span.first ≡ true
+  pub least : (x : ℕ) → may_choose v file request x ≡ true → span.first ≤ x
+  pub there : has_choice v file request ≡ true
+
+-- the span that is mapped: from the fixed address, or from the least that may be chosen
+abbrev pub IsPlaceBy : View → FileNo → MapRequest → Bool → Bounds → Type 0
+IsPlaceBy v file request true span = span ≡ span_from request.iova.0 request.length
+IsPlaceBy v file request false span = IsLeastSpan v file request span
+
+abbrev pub IsPlace : View → FileNo → MapRequest → Bounds → Type 0
+IsPlace v file request span = IsPlaceBy v file request (is_fixed request.flags) span
+
+-- there is no such span
+abbrev pub HasNoPlaceBy : View → FileNo → MapRequest → Bool → Type 0
+HasNoPlaceBy v file request true = is_above_sum request.iova.0 request.length ≡ true
+HasNoPlaceBy v file request false = has_ioas v.objects file request.ioas ≡ true → (x : ℕ) → may_choose v file request x ≡ false
+
+abbrev pub HasNoPlace : View → FileNo → MapRequest → Type 0
+HasNoPlace v file request = HasNoPlaceBy v file request (is_fixed request.flags)
+
+-- the step is one of the definitions, with the least address where one is chosen
+abbrev pub LeastSteps : {A : Type 0} → ℕ → FileNo → MapRequest → State A → Reply → State A → Type 0
+LeastSteps at file request old reply new =
+    (w : World) → IsTidy at w → Shows w old → refusal w (event.Map file request) ≡ None
+    → Answers w (event.Map file request) reply × IsLeastMapped w file request (is_fixed request.flags) reply
+    × Shows (changed at w (event.Map file request) reply) new

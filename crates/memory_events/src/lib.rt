@@ -1,0 +1,12 @@
+//! The events of users' memory and of mappings: each with the test that refuses it, and what it does.
+#![tactic(auto)]
+
+mod choice;
+mod devices;
+pub mod map;
+pub mod unmap;
+pub mod user_access;
+pub mod user_map;
+pub mod user_read;
+pub mod user_unmap;
+pub mod user_write;

@@ -1,0 +1,304 @@
+//! MAP: pages of a user's memory at a fixed address, or at one that the server chooses.
+
+ghost use Rattle.std.specs.Prelude.{◌≡◌, ◌==◌, ◌&&◌, ◌||◌, not, true, false, IfOk, OnErr, MatchOption, [], ◌∷◌, ◌/◌, ◌≤◌, ◌^◌, if◌then◌else◌};
+ghost use Rattle.iofd_words.specs.After.{mapped_area, memory_object};
+ghost use Rattle.iofd_words.specs.Areas.{areas_meet, has_no_room};
+ghost use Rattle.iofd_words.specs.Checks.{checks, is_outside_usable, lacks_choice, lacks_mapped_page, mapped_span, passes_limit_mapped, unusable_in};
+ghost use Rattle.iofd_words.specs.FirstTrue.{first_true};
+ghost use Rattle.iofd_words.specs.Pages.{is_above_sum, is_above_user, is_whole};
+ghost use Rattle.iofd_words.specs.Ranges.{meets_some};
+ghost use Rattle.iofd_words.specs.Rights.{is_fixed};
+ghost use Rattle.iofd_words.specs.Span.{span_from};
+ghost use Rattle.iofd_words.specs.declared.event.Event.TheVariants as event;
+ghost use Rattle.memory_events.specs.Place.{HasNoPlace, IsPlace, LeastSteps};
+ghost use Rattle.server_state.specs.Held.{areas_at};
+ghost use Rattle.server_state.specs.Seen.{seen};
+ghost use Rattle.server_state.specs.Step.{IsGrantedAt, IsKnown, TidyShowsSame};
+
+use crate::choice;
+use area_map::Areas;
+use iofd_words::{
+    Area, Cause, FileNo, Iova, MapRequest, MemoryObject, NoMemory, PAGE_SIZE, Phase, Reply, Span,
+    USER_END, UserNo,
+};
+use server_state::{State, accounts, area_changes, lookups, usable};
+use std::alloc::Allocator;
+
+/// Why it is refused, by the first row of the definitions that holds. None where nothing refuses it.
+#[tactic(auto, unfolding(iofd_words::specs::Checks::checks))]
+pub fn refusal<A: Allocator>(state: &State<A>, file: FileNo, request: MapRequest) -> Option<Cause>
+    requires { IsKnown state.now }
+    ensures { result ≡ first_true (checks (seen state.now) (event.Map file request)) }
+{
+    if !state.objects.is_open(file) {
+        return Some(Cause::Id);
+    }
+    if !(request.flags.is_readable() || request.flags.is_writeable()) {
+        return Some(Cause::NoRight);
+    }
+    if is_above_sum(request.user_va, request.length) || has_fixed_sum_above(request) {
+        return Some(Cause::Sum);
+    }
+    if request.length == 0 || !are_pages_of_user(request) {
+        return Some(Cause::Align);
+    }
+    if is_fixed_in_page(request) {
+        return Some(Cause::Align);
+    }
+    if is_above_user(request.user_va, request.length) {
+        return Some(Cause::Absent);
+    }
+    let Some(areas) = lookups::areas_of(&state.objects, file, request.ioas) else {
+        return Some(Cause::Id);
+    };
+    refusal_by_areas(state, file, request, areas)
+}
+
+/// What it does where nothing refuses it: the area comes, with a memory object whose number is `at`, the position
+/// of the record, and where a page table translates the area its pages are pinned. An address that isn't fixed is the
+/// least that may be chosen.
+///
+/// The only error is want of memory. It leaves the world as it was.
+pub fn commit<A: Allocator + Copy>(
+    state: &mut State<A>,
+    at: u64,
+    file: FileNo,
+    request: MapRequest,
+) -> Result<Reply, NoMemory>
+    requires { IsGrantedAt at (event.Map file request) state.old }
+    ensures ok { IfOk result (λ reply. LeastSteps at file request state.old reply state.new) }
+    ensures err { OnErr result (TidyShowsSame at state.old state.new) }
+{
+    // Nothing refuses it: so the file has a user, and there is a place.
+    let Some(user) = accounts::user_of(&state.config, file) else {
+        return Ok(Reply::Done);
+    };
+    let Some(span) = place_of(state, file, request) else {
+        return Ok(Reply::Done);
+    };
+    let area = mapped_area(at, file, request, span);
+    let object = memory_object(at, user, request);
+    let pinned = lookups::has_hwpt(&state.objects, file, request.ioas);
+    area_changes::reserve(&mut state.objects, file, request.ioas)?;
+    state.memory.add(&mut state.pool, object, pinned)?;
+    area_changes::insert(&mut state.objects, file, request.ioas, area);
+    Ok(Reply::Iova(Iova(span.first())))
+}
+
+/// The span that is mapped.
+fn place_of<A: Allocator>(state: &State<A>, file: FileNo, request: MapRequest) -> Option<Span>
+    requires { (request.length == 0) ≡ false }
+    ensures { MatchOption result (HasNoPlace (seen state.now) file request) (IsPlace (seen state.now) file request) }
+{
+    if request.flags.is_fixed() {
+        return fixed_span(request);
+    }
+    match lookups::areas_of(&state.objects, file, request.ioas) {
+        Some(areas) => choice::least_span(state, file, request, areas),
+        None => None,
+    }
+}
+
+/// The span from the address of the request. None where it ends above 2^64 - 1.
+fn fixed_span(request: MapRequest) -> Option<Span>
+    requires { (request.length == 0) ≡ false }
+    ensures { MatchOption result
+        (is_above_sum request.iova.0 request.length ≡ true)
+        (λ span. span ≡ span_from request.iova.0 request.length) }
+{
+    Span::of_length(request.iova.0, request.length)
+}
+
+fn mapped_area(at: u64, file: FileNo, request: MapRequest, span: Span) -> Area
+    requires { span ≡ span_from span.first request.length }
+    ensures { result ≡ mapped_area at file request (record { 0 = span.first }) }
+{
+    Area {
+        file,
+        ioas: request.ioas,
+        span,
+        memory: at,
+        rights: request.flags.rights(),
+        phase: Phase::Live,
+    }
+}
+
+fn memory_object(at: u64, user: UserNo, request: MapRequest) -> MemoryObject
+    ensures { result ≡ memory_object at user request }
+{
+    MemoryObject {
+        number: at,
+        user,
+        va: request.user_va,
+        count: request.length / PAGE_SIZE,
+        writable: request.flags.is_writeable(),
+    }
+}
+
+/// Why the address space with these areas refuses it.
+fn refusal_by_areas<A: Allocator>(
+    state: &State<A>,
+    file: FileNo,
+    request: MapRequest,
+    areas: &Areas<A>,
+) -> Option<Cause>
+    requires known { IsKnown state.now }
+    requires some { (request.length == 0) ≡ false }
+    requires sum { (is_fixed request.flags && is_above_sum request.iova.0 request.length) ≡ false }
+    requires here { areas_at state.now.objects.rows file request.ioas ≡ areas.now.areas }
+    ensures { result ≡ first_true (
+        (Cause.Reserved, is_outside_usable (seen state.now) file request)
+        ∷ (Cause.Overlap, is_fixed request.flags && areas_meet (mapped_span request) areas.now.areas)
+        ∷ (Cause.Full, has_no_room areas.now.areas || lacks_choice (seen state.now) file request)
+        ∷ (Cause.Absent, lacks_mapped_page (seen state.now) file request)
+        ∷ (Cause.Account, passes_limit_mapped (seen state.now) file request)
+        ∷ []) }
+{
+    if is_outside_usable(state, file, request) {
+        return Some(Cause::Reserved);
+    }
+    if overlaps(request, areas) {
+        return Some(Cause::Overlap);
+    }
+    if areas.is_full() || lacks_choice(state, file, request, areas) {
+        return Some(Cause::Full);
+    }
+    if lacks_page(state, file, request) {
+        return Some(Cause::Absent);
+    }
+    if passes_limit(state, file, request) {
+        return Some(Cause::Account);
+    }
+    None
+}
+
+/// Whether the address is fixed, and some of the span can't be used.
+fn is_outside_usable<A: Allocator>(state: &State<A>, file: FileNo, request: MapRequest) -> bool
+    requires some { (request.length == 0) ≡ false }
+    requires sum { (is_fixed request.flags && is_above_sum request.iova.0 request.length) ≡ false }
+    ensures { result ≡ is_outside_usable (seen state.now) file request }
+{
+    if !request.flags.is_fixed() {
+        return false;
+    }
+    match fixed_span(request) {
+        Some(span) => is_unusable(state, file, request, span),
+        None => false,
+    }
+}
+
+/// Whether some of the span can't be used.
+fn is_unusable<A: Allocator>(
+    state: &State<A>,
+    file: FileNo,
+    request: MapRequest,
+    span: Span,
+) -> bool
+    ensures { result ≡ meets_some (unusable_in (seen state.now) file request.ioas) span }
+{
+    let met = usable::unusable_meeting(
+        &state.config,
+        &state.objects,
+        &state.attachments,
+        file,
+        request.ioas,
+        span,
+    );
+    met.is_some()
+}
+
+/// Whether the address is fixed, and the span meets an area.
+fn overlaps<A: Allocator>(request: MapRequest, areas: &Areas<A>) -> bool
+    requires some { (request.length == 0) ≡ false }
+    requires sum { (is_fixed request.flags && is_above_sum request.iova.0 request.length) ≡ false }
+    ensures { result ≡ (is_fixed request.flags && areas_meet (mapped_span request) areas.now.areas) }
+{
+    if !request.flags.is_fixed() {
+        return false;
+    }
+    match fixed_span(request) {
+        Some(span) => areas.meets(span),
+        None => false,
+    }
+}
+
+/// Whether an address is to be chosen, and there is none that may be.
+fn lacks_choice<A: Allocator>(
+    state: &State<A>,
+    file: FileNo,
+    request: MapRequest,
+    areas: &Areas<A>,
+) -> bool
+    requires some { (request.length == 0) ≡ false }
+    requires here { areas_at state.now.objects.rows file request.ioas ≡ areas.now.areas }
+    ensures { result ≡ lacks_choice (seen state.now) file request }
+{
+    if request.flags.is_fixed() {
+        return false;
+    }
+    choice::least_span(state, file, request, areas).is_none()
+}
+
+/// Whether the length and the user's address are of whole pages.
+fn are_pages_of_user(request: MapRequest) -> bool
+    ensures { result ≡ (is_whole request.length && is_whole request.user_va) }
+{
+    request.length % PAGE_SIZE == 0 && request.user_va % PAGE_SIZE == 0
+}
+
+/// Whether the address is fixed, and isn't the first of a page.
+fn is_fixed_in_page(request: MapRequest) -> bool
+    ensures { result ≡ (is_fixed request.flags && not (is_whole request.iova.0)) }
+{
+    request.flags.is_fixed() && request.iova.0 % PAGE_SIZE != 0
+}
+
+/// Whether the address is fixed, and with the length above 2^64.
+fn has_fixed_sum_above(request: MapRequest) -> bool
+    ensures { result ≡ (is_fixed request.flags && is_above_sum request.iova.0 request.length) }
+{
+    request.flags.is_fixed() && is_above_sum(request.iova.0, request.length)
+}
+
+/// Whether start plus length is above 2^64.
+pub(crate) fn is_above_sum(start: u64, length: u64) -> bool
+    ensures { result ≡ is_above_sum start length }
+{
+    u128::from(start) + u128::from(length) > 1 << 64
+}
+
+/// Whether start plus length is above 2^48, where user addresses end.
+fn is_above_user(start: u64, length: u64) -> bool
+    ensures { result ≡ is_above_user start length }
+{
+    u128::from(start) + u128::from(length) > u128::from(USER_END)
+}
+
+/// Whether the address space has a page table, and a page is not in the memory of the file's user.
+fn lacks_page<A: Allocator>(state: &State<A>, file: FileNo, request: MapRequest) -> bool
+    ensures { result ≡ lacks_mapped_page (seen state.now) file request }
+{
+    if !lookups::has_hwpt(&state.objects, file, request.ioas) {
+        return false;
+    }
+    match state.config.user_of(file) {
+        Some(user) => {
+            let count = request.length / PAGE_SIZE;
+            !state.memory.has_pages(user, request.user_va, count)
+        }
+        None => true,
+    }
+}
+
+/// Whether the address space has a page table, and with its pages the file's user would have more pinned pages than the
+/// limit allows.
+fn passes_limit<A: Allocator>(state: &State<A>, file: FileNo, request: MapRequest) -> bool
+    requires { IsKnown state.now }
+    ensures { result ≡ passes_limit_mapped (seen state.now) file request }
+{
+    if !lookups::has_hwpt(&state.objects, file, request.ioas) {
+        return false;
+    }
+    let count = u128::from(request.length / PAGE_SIZE);
+    accounts::passes_limit(state, file, count)
+}

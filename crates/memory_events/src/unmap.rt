@@ -1,0 +1,121 @@
+//! UNMAP: areas go, or are on their way out until devices have flushed.
+
+ghost use Rattle.std.specs.Prelude.{◌≡◌, ◌<◌, ◌&&◌, ◌∷◌, [], ℕ, false, not, IfSome, IsSome};
+ghost use Rattle.iofd_words.specs.Areas.{areas_meet, is_cut, is_everything, unmapped_span};
+ghost use Rattle.iofd_words.specs.Checks.{checks};
+ghost use Rattle.iofd_words.specs.FirstTrue.{first_true};
+ghost use Rattle.iofd_words.specs.Pages.{is_above_sum};
+ghost use Rattle.iofd_words.specs.declared.event.Event.TheVariants as event;
+ghost use Rattle.server_state.specs.Seen.{seen};
+ghost use Rattle.server_state.specs.Step.{IsGranted, Steps};
+
+use crate::devices;
+use crate::map::is_above_sum;
+use area_map::Areas;
+use iofd_words::{Cause, Errno, FileNo, Reply, Span, UnmapRequest};
+use server_state::{State, area_changes, lookups, release};
+use std::alloc::Allocator;
+
+/// Why it is refused, by the first row of the definitions that holds. None where nothing refuses it.
+#[tactic(auto, unfolding(iofd_words::specs::Checks::checks))]
+pub fn refusal<A: Allocator>(state: &State<A>, file: FileNo, request: UnmapRequest) -> Option<Cause>
+    ensures { result ≡ first_true (checks (seen state.now) (event.Unmap file request)) }
+{
+    if !state.objects.is_open(file) {
+        return Some(Cause::Id);
+    }
+    if is_above_sum(request.iova.0, request.length) {
+        return Some(Cause::Sum);
+    }
+    let Some(span) = unmapped_span(request) else {
+        return Some(Cause::Align);
+    };
+    let Some(areas) = lookups::areas_of(&state.objects, file, request.ioas) else {
+        return Some(Cause::Id);
+    };
+    refusal_by_areas(request, span, areas)
+}
+
+/// Why the address space with these areas refuses it.
+fn refusal_by_areas<A: Allocator>(
+    request: UnmapRequest,
+    span: Span,
+    areas: &Areas<A>,
+) -> Option<Cause>
+    ensures { result ≡ first_true (
+        (Cause.Span, not (is_everything request) && not (areas_meet span areas.now.areas))
+        ∷ (Cause.Span, is_cut span areas.now.areas)
+        ∷ []) }
+{
+    if !is_everything(request) && !areas.meets(span) {
+        return Some(Cause::Span);
+    }
+    if areas.cuts(span) {
+        return Some(Cause::Span);
+    }
+    None
+}
+
+/// What it does where nothing refuses it. Where a device still has to flush before all areas that it names may go,
+/// they are on their way out, and the reply is EAGAIN. Else they go, with their memory objects and pins, and the reply is
+/// how many bytes they had. It takes no memory.
+pub fn commit<A: Allocator>(state: &mut State<A>, file: FileNo, request: UnmapRequest) -> Reply
+    requires { IsGranted (event.Unmap file request) state.old }
+    ensures { (at : ℕ) → Steps at (event.Unmap file request) state.old result state.new }
+{
+    // Nothing refuses it: so it names a span.
+    let Some(span) = unmapped_span(request) else {
+        return Reply::Done;
+    };
+    let ioas = request.ioas;
+    let Some(attached) = devices::attached_to(
+        &state.config,
+        &state.objects,
+        &state.attachments,
+        file,
+        ioas,
+    ) else {
+        // Never: each attached device is one of the configuration.
+        return Reply::Done;
+    };
+    if area_changes::some_waits(&state.objects, file, ioas, span, &attached) {
+        area_changes::mark_leaving(&mut state.objects, file, ioas, span, &attached);
+        return Reply::Pending(Errno::EAGAIN);
+    }
+    let Ok(bytes) = u64::try_from(area_changes::bytes_within(&state.objects, file, ioas, span))
+    else {
+        // Never: 65,535 areas of at most 2^48 bytes have fewer than 2^64.
+        return Reply::Done;
+    };
+    let translated = lookups::has_hwpt(&state.objects, file, ioas);
+    release::remove_within(
+        &state.objects,
+        file,
+        ioas,
+        span,
+        translated,
+        &mut state.memory,
+        &mut state.pool,
+    );
+    area_changes::remove(&mut state.objects, file, ioas, span);
+    Reply::Bytes(bytes)
+}
+
+/// Whether it names every address, the last one too.
+fn is_everything(request: UnmapRequest) -> bool
+    ensures { result ≡ is_everything request }
+{
+    request.iova.0 == 0 && request.length == u64::MAX
+}
+
+/// The span that it names. None where it names no address, or one above 2^64 - 1.
+fn unmapped_span(request: UnmapRequest) -> Option<Span>
+    ensures value { IfSome result (λ span. span ≡ unmapped_span request) }
+    ensures some { 0 < request.length → is_above_sum request.iova.0 request.length ≡ false → IsSome result }
+    ensures none { IsSome result → 0 < request.length }
+{
+    if is_everything(request) {
+        return Span::new(0, u64::MAX);
+    }
+    Span::of_length(request.iova.0, request.length)
+}

@@ -1,0 +1,15 @@
+pub mod AreaCounts
+pub mod BackedTest
+pub mod Counted
+pub mod FramesSeen
+pub mod Invariants
+pub mod Ledger
+pub mod Moved
+pub mod Numbered
+pub mod OneObject
+pub mod PinAll
+pub mod PinOne
+pub mod PinsStay
+pub mod Reserved
+pub mod Standing
+pub mod Unpinned

@@ -1,0 +1,3 @@
+pub mod Backed
+pub mod Invariant
+pub mod Objects

@@ -1,0 +1,15 @@
+//! All memory objects, by number: each with its pages and their pins, and how many areas lie over it. Several are
+//! pinned by one call, all of them or none.
+#![tactic(auto)]
+
+mod conditions;
+mod entry;
+mod lookups;
+mod objects;
+mod pinning;
+mod questions;
+mod removal;
+mod reserving;
+
+pub use entry::Entry;
+pub use objects::MemoryObjects;

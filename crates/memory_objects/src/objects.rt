@@ -1,0 +1,328 @@
+//! All memory objects, by number.
+
+ghost use Rattle.std.specs.Prelude.{ℕ, ◌≡◌, ◌==◌, ◌+◌, ◌<◌, ◌≤◌, ◌^◌, ◌&&◌, ◌++◌, ◌∷◌, [], false, None, find, length, if◌then◌else◌, IsTrue, IfSome, OnOk, OnErr};
+ghost use Rattle.std.specs.List.{list_all};
+ghost use Rattle.std.specs.List.Sorted.{IsNonDecreasing};
+ghost use Rattle.std.specs.Option.{option_map};
+ghost use Rattle.mem_account.specs.Accounts.{has_room, is_user};
+ghost use Rattle.memory_objects.specs.Backed.{AccountsMove, AreBacked, CanPin, Fits, HoldsMove, is_backed};
+ghost use Rattle.pinned_pages.specs.Holds.{times};
+ghost use Rattle.memory_objects.specs.Invariant.{MemoryInvariant};
+ghost use Rattle.memory_objects.specs.Objects.{MemoryGrows, SamePins, all_pass, all_pinned, all_unpinned, are_below, can_pin, frame_now_in, has_memory, have_areas, have_pins, is_of, is_pinned_anew, is_unpinned, new_count_in, new_pages, object_at, pinned_by, pinned_frame, pins_on, rows_of, with_area, without_areas};
+ghost use Rattle.pinned_pages.specs.Pages.{frame_of, held_frames, pinned_count};
+
+use crate::entry::Entry;
+use crate::{conditions, lookups, pinning, questions, removal, reserving};
+use frame_memory::{Pool, UserMap};
+use iofd_words::{FrameNo, MemoryObject, NoMemory, UserNo};
+use mem_account::Accounts;
+use pinned_pages::Pages;
+use std::alloc::{Allocator, Global};
+use std::marker::Model;
+
+/// The memory objects of all users, each with its pages, their pins, and how many areas lie over it. A contract sees
+/// them by rising number, and for how many more there is room.
+///
+/// Several calls take a list of numbers, as those of the areas of one address space: an object's number stands there
+/// once for each area meant that lies over it, and a number of no object says nothing. An object is found by binary
+/// search.
+#[derive(Debug, Drop)]
+pub struct MemoryObjects<A: Allocator = Global> {
+    // By rising number. Over some no area lies any more: they are gone, and their entries go later.
+    entries: Vec<Entry<Pages<A>>, A>,
+    // How many of them are.
+    gone: usize,
+}
+
+impl<A: Allocator> Model for MemoryObjects<A> {
+    ghost use Rattle.std.specs.Prelude.{◌-◌, length, vec_capacity, vec_len};
+    ghost use Rattle.memory_objects.specs.Invariant.{AreEntries};
+    ghost use Rattle.memory_objects.specs.Objects.{ObjectTable, standing};
+
+    ghost Value = { ObjectTable };
+
+    ghost view = { λ m. record {
+      objects = standing m.entries.items;
+      room = vec_capacity m.entries - length (standing m.entries.items);
+    } };
+
+    ghost invariant = { λ m. AreEntries m.entries.items (vec_len m.entries) m.gone };
+}
+
+impl<A: Allocator> MemoryObjects<A> {
+    /// No objects. It takes no memory.
+    pub fn new(alloc: A) -> MemoryObjects<A>
+        ensures { result.objects ≡ [] }
+    {
+        MemoryObjects {
+            entries: Vec::new(alloc),
+            gone: 0,
+        }
+    }
+
+    /// How many objects there are.
+    pub fn len(&self) -> usize
+        ensures { result ≡ length self.now.objects }
+    {
+        self.entries.len() - self.gone
+    }
+
+    /// The row of the object of this number. It takes no memory.
+    pub fn get(&self, number: u64) -> Option<MemoryObject>
+        ensures row { result ≡ find (λ row. row.number == number) (rows_of self.now.objects) }
+        ensures invariant { MemoryInvariant self.now.objects }
+    {
+        let entry = lookups::object_at(&self.entries, number)?;
+        Some(MemoryObject {
+            number: entry.number,
+            user: entry.pages.user(),
+            va: entry.pages.va(),
+            count: entry.pages.count(),
+            writable: entry.pages.is_writable(),
+        })
+    }
+
+    /// How many areas lie over the object of this number. It takes no memory.
+    pub fn areas(&self, number: u64) -> Option<u64>
+        ensures { result ≡ option_map (λ object. object.areas) (object_at self.now.objects number) }
+    {
+        match lookups::object_at(&self.entries, number) {
+            Some(entry) => Some(entry.areas),
+            None => None,
+        }
+    }
+
+    /// How many pins by page tables stand on the object of this number. It takes no memory.
+    pub fn table_pins(&self, number: u64) -> Option<u64>
+        ensures { result ≡ option_map (λ object. object.pages.pages.table_pins) (object_at self.now.objects number) }
+    {
+        match lookups::object_at(&self.entries, number) {
+            Some(entry) => Some(entry.pages.table_pins()),
+            None => None,
+        }
+    }
+
+    /// The frame at which page `index`, counted from 0, of the object of this number is pinned. It takes no memory.
+    pub fn frame(&self, number: u64, index: u64) -> Option<FrameNo>
+        ensures { result ≡ pinned_frame self.now.objects number index }
+    {
+        match lookups::object_at(&self.entries, number) {
+            Some(entry) => entry.pages.frame(index),
+            None => None,
+        }
+    }
+
+    /// Takes memory for one more object, if there is no room. After an Ok the next `insert` doesn't want for memory;
+    /// an error changes nothing.
+    pub fn reserve(&mut self) -> Result<(), NoMemory>
+        ensures objects { self.new.objects ≡ self.old.objects }
+        ensures ok { OnOk result (0 < self.new.room) }
+        ensures full { OnErr result (self.old.room ≡ 0) }
+        ensures room { self.old.room ≤ self.new.room }
+        ensures unchanged { OnErr result (self.new ≡ self.old) }
+    {
+        if self.entries.reserve(1).is_ok() {
+            return Ok(());
+        }
+        if self.gone == 0 {
+            return Err(NoMemory);
+        }
+        removal::sweep(&mut self.entries);
+        self.gone = 0;
+        Ok(())
+    }
+
+    /// Adds an object with one area over it. Its number is above all others, and at most one pin stands on its pages:
+    /// that of its area. There is room (`reserve`). It takes no memory.
+    pub fn insert(&mut self, number: u64, pages: Pages<A>)
+        requires room { 0 < self.old.room }
+        requires rises { IsTrue (are_below self.old.objects number) }
+        requires pins { pages.pages.table_pins ≤ 1 }
+        requires unpinned { pages.pages.table_pins ≡ 0 → pinned_count pages.pages ≡ 0 }
+        ensures objects { self.new.objects
+            ≡ self.old.objects ++ record { number = number; areas = 1; pages = pages } ∷ [] }
+        ensures frames { (n index : ℕ) → pinned_frame self.new.objects n index
+            ≡ (if number == n then frame_of pages.pages index else pinned_frame self.old.objects n index) }
+        ensures pins { (frame : ℕ) → pins_on self.new.objects frame
+            ≡ pins_on self.old.objects frame + times frame (held_frames pages.pages) }
+        ensures pinned { (user : ℕ) → pinned_by self.new.objects user
+            ≡ pinned_by self.old.objects user + (if pages.pages.user.0 == user then pinned_count pages.pages else 0) }
+        ensures room { self.old.room ≡ self.new.room + 1 }
+        ensures invariant { MemoryInvariant self.new.objects }
+    {
+        self.gone = removal::make_way(&mut self.entries, self.gone, number);
+        self.entries.push_reserved(Entry {
+            number,
+            areas: 1,
+            pages,
+        });
+    }
+
+    /// One area more lies over the object of this number. It takes no memory.
+    pub fn add_area(&mut self, number: u64)
+        requires { IfSome (object_at self.old.objects number) (λ object. object.areas + 1 < 2 ^ 64) }
+        ensures objects { self.new.objects ≡ with_area number self.old.objects }
+        ensures rows { rows_of self.new.objects ≡ rows_of self.old.objects }
+        ensures pins { SamePins self.old.objects self.new.objects }
+        ensures room { self.new.room ≡ self.old.room }
+        ensures invariant { MemoryInvariant self.new.objects }
+    {
+        removal::add_area(&mut self.entries, number);
+    }
+
+    /// An area less lies over the object of this number. With its last area it goes. The area's pin is off. It takes
+    /// no memory.
+    pub fn remove_area(&mut self, number: u64)
+        requires { IsTrue (have_areas (number ∷ []) self.old.objects) }
+        ensures objects { self.new.objects ≡ without_areas (number ∷ []) self.old.objects }
+        ensures pins { SamePins self.old.objects self.new.objects }
+        ensures room { self.old.room ≤ self.new.room }
+        ensures invariant { MemoryInvariant self.new.objects }
+    {
+        self.gone = removal::remove_area(&mut self.entries, self.gone, number);
+    }
+
+    /// Whether all pages of these objects are in their users' memory, but for those of objects that a page table pins
+    /// already. It takes no memory. Where one isn't, a pin of them all is refused by Absent (8, EFAULT).
+    pub fn are_present<B: Allocator>(&self, numbers: &[u64], users: &UserMap<B>) -> bool
+        ensures { result ≡ all_pass (can_pin users.now.pages) self.now.objects numbers.now }
+    {
+        questions::can_pin(&self.entries, numbers, users)
+    }
+
+    /// How many pages pinning the object of this number pins anew. It takes no memory.
+    pub fn new_count(&self, number: u64) -> u64
+        ensures value { result ≡ new_count_in (object_at self.now.objects number) }
+        ensures few { result ≤ 2 ^ 36 }
+    {
+        questions::new_count(&self.entries, number)
+    }
+
+    /// How many pages pinning these objects pins anew, each page once. The numbers rise or stay. It takes no memory.
+    pub fn new_pages(&self, numbers: &[u64]) -> u128
+        requires { IsNonDecreasing numbers.now }
+        ensures { result ≡ new_pages self.now.objects numbers.now }
+    {
+        questions::new_pages(&self.entries, numbers)
+    }
+
+    /// Whether these objects, whose numbers rise or stay, are the user's, and the user may hold all of their pages
+    /// that aren't pinned yet, as one sum. It takes no memory. Where the user may not, a pin of them all is refused
+    /// by Account (7, ENOMEM).
+    pub fn fit<B: Allocator>(&self, numbers: &[u64], user: UserNo, accounts: &Accounts<B>) -> bool
+        requires sorted { IsNonDecreasing numbers.now }
+        requires user { IsTrue (is_user accounts.now user.0) }
+        ensures value { result ≡ (all_pass (is_of user.0) self.now.objects numbers.now
+            && has_room accounts.now user.0 (new_pages self.now.objects numbers.now)) }
+        ensures fits { IsTrue result → Fits self.now.objects numbers.now accounts.now }
+    {
+        questions::fit(&self.entries, numbers, user, accounts)
+    }
+
+    /// Whether all objects have lower numbers. It goes over all of them; it takes no memory.
+    pub fn are_below(&self, number: u64) -> bool
+        ensures { result ≡ are_below self.now.objects number }
+    {
+        conditions::are_below(&self.entries, number)
+    }
+
+    /// Whether no object would have more pins than areas, were one pin more put on it for each time that its number
+    /// is there. It goes over all objects, each time over the list; it takes no memory.
+    pub fn have_areas(&self, numbers: &[u64]) -> bool
+        ensures { result ≡ have_areas numbers.now self.now.objects }
+    {
+        conditions::have_areas(&self.entries, numbers)
+    }
+
+    /// Whether each object has as many pins as its number is there. It goes over all objects, as `have_areas`.
+    pub fn have_pins(&self, numbers: &[u64]) -> bool
+        ensures { result ≡ have_pins numbers.now self.now.objects }
+    {
+        conditions::have_pins(&self.entries, numbers)
+    }
+
+    /// Whether each frame has a hold for each pin that names it, and each user holds all pinned pages of the user's
+    /// objects. For each pinned page it goes over all others; it takes no memory.
+    pub fn are_backed<B: Allocator, C: Allocator>(
+        &self,
+        pool: &Pool<B>,
+        accounts: &Accounts<C>,
+    ) -> bool
+        ensures value { result ≡ list_all (is_backed self.now.objects pool.now.holds accounts.now) self.now.objects }
+        ensures backed { IsTrue result → AreBacked self.now.objects pool.now.holds accounts.now }
+    {
+        conditions::are_backed(&self.entries, pool, accounts)
+    }
+
+    /// Takes memory for the frames of these objects, where pinning them needs some and there is none. After an Ok
+    /// pinning them doesn't want for memory; an error comes only where memory was lacking. The objects stay either
+    /// way.
+    pub fn reserve_frames(&mut self, numbers: &[u64]) -> Result<(), NoMemory>
+        ensures objects { MemoryGrows self.old.objects self.new.objects }
+        ensures ok { OnOk result (IsTrue (all_pass has_memory self.new.objects numbers.now)) }
+        ensures err { OnErr result (all_pass has_memory self.old.objects numbers.now ≡ false) }
+        ensures rows { rows_of self.new.objects ≡ rows_of self.old.objects }
+        ensures pins { SamePins self.old.objects self.new.objects }
+        ensures room { self.new.room ≡ self.old.room }
+        ensures invariant { MemoryInvariant self.new.objects }
+    {
+        reserving::reserve_all(&mut self.entries, numbers)
+    }
+
+    /// Puts a pin on the pages of each of these objects for each time that its number is there, as areas over it come
+    /// into an address space with a page table. By an object's first pin each of its pages is pinned at the frame
+    /// that it is in its user's memory now, which gets a hold, and the user is charged for it; by later ones nothing
+    /// else changes. It takes no memory.
+    ///
+    /// What refuses it was asked before (`are_present`, then `fit`), the memory was taken (`reserve_frames`), and
+    /// each frame may have as many holds more as pages are pinned anew (`Pool::may_hold`).
+    pub fn pin_by_table<B: Allocator, C: Allocator, D: Allocator>(
+        &mut self,
+        numbers: &[u64],
+        users: &UserMap<B>,
+        pool: &mut Pool<C>,
+        accounts: &mut Accounts<D>,
+    )
+        requires { CanPin self.old.objects numbers.now users.now.pages pool.old.holds accounts.old }
+        ensures objects { self.new.objects ≡ all_pinned users.now.pages numbers.now self.old.objects }
+        ensures rows { rows_of self.new.objects ≡ rows_of self.old.objects }
+        ensures frames { (number index : ℕ) → pinned_frame self.new.objects number index
+            ≡ (if is_pinned_anew self.old.objects numbers.now number
+            then frame_now_in users.now.pages (object_at self.old.objects number) index
+            else pinned_frame self.old.objects number index) }
+        ensures room { self.new.room ≡ self.old.room }
+        ensures pool { HoldsMove self.old.objects self.new.objects pool.old pool.new }
+        ensures accounts { AccountsMove self.old.objects self.new.objects accounts.old accounts.new }
+        ensures backed { AreBacked self.old.objects pool.old.holds accounts.old
+            → AreBacked self.new.objects pool.new.holds accounts.new }
+        ensures invariant { MemoryInvariant self.new.objects }
+    {
+        pinning::pin_all(&mut self.entries, numbers, users, pool, accounts);
+    }
+
+    /// Takes a pin off the pages of each of these objects for each time that its number is there. With an object's
+    /// last pin no page of it is pinned any more: a hold goes off each frame, and the user gets the pages back. It
+    /// takes no memory.
+    pub fn unpin_by_table<B: Allocator, C: Allocator>(
+        &mut self,
+        numbers: &[u64],
+        pool: &mut Pool<B>,
+        accounts: &mut Accounts<C>,
+    )
+        requires pins { IsTrue (have_pins numbers.now self.old.objects) }
+        requires backed { AreBacked self.old.objects pool.old.holds accounts.old }
+        ensures objects { self.new.objects ≡ all_unpinned numbers.now self.old.objects }
+        ensures rows { rows_of self.new.objects ≡ rows_of self.old.objects }
+        ensures frames { (number index : ℕ) → pinned_frame self.new.objects number index
+            ≡ (if is_unpinned self.old.objects numbers.now number
+            then None
+            else pinned_frame self.old.objects number index) }
+        ensures room { self.new.room ≡ self.old.room }
+        ensures pool { HoldsMove self.old.objects self.new.objects pool.old pool.new }
+        ensures accounts { AccountsMove self.old.objects self.new.objects accounts.old accounts.new }
+        ensures backed { AreBacked self.new.objects pool.new.holds accounts.new }
+        ensures invariant { MemoryInvariant self.new.objects }
+    {
+        pinning::unpin_all(&mut self.entries, numbers, pool, accounts);
+    }
+}

@@ -1,8 +1,0 @@
-use Rattle.std.proofs.Common.{◌≡◌, ◌&&◌, true, take, length, leb, ltb, get_or}
-use Rattle.std.specs.List.{list_all}
-use Rattle.pinned_pages.specs.Objects.{pins_on}
-use Rattle.pinned_pages.proofs.conditions.are_held.Given as goal
-
--- so far
-abbrev pub invariant-loop-frame : goal.invariant-loop-frame
-invariant-loop-frame g l = list_all (λ f. ltb f.0 (length l.pool.holds) && leb (pins_on l.entries f.0) (get_or l.pool.holds f.0 0)) (take l.frame-index l.frames) ≡ true

@@ -1,0 +1,14 @@
+pub mod AreasBecome
+pub mod AreasHeld
+pub mod Errors
+pub mod Kept
+pub mod Limits
+pub mod MemoryReleased
+pub mod NeverFull
+pub mod Objects
+pub mod ObjectsGone
+pub mod ObjectsMoved
+pub mod Orderly
+pub mod RoomHeld
+pub mod Users
+pub mod ViewShown

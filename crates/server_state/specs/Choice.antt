@@ -1,0 +1,86 @@
+-- Which of the lawful answers is given: where a flush is owed the fault, to a user's new page the least free frame, and to a MAP without a
+-- fixed address the least that may be chosen.
+use Rattle.std.specs.Prelude.{◌≡◌, ℕ, ◌≤◌, ◌==◌, Bool, true, false, Option, Some, None, List, [], ◌∷◌, find, Contains}
+use Rattle.std.specs.List.{list_any}
+use Rattle.std.specs.Option.{option_map}
+use Rattle.iofd_words.specs.Answers.{write_reply}
+use Rattle.iofd_words.specs.Checks.{may_choose}
+use Rattle.iofd_words.specs.Policy.{Outcome, Passes, Denied, outcomes}
+use Rattle.iofd_words.specs.Rights.{is_fixed}
+use Rattle.iofd_words.specs.View.{view}
+use Rattle.iofd_words.specs.World.{World}
+use Rattle.iofd_words.specs.declared.event.MapRequest.{MapRequest}
+use Rattle.iofd_words.specs.declared.numbers.FileNo.{FileNo}
+use Rattle.iofd_words.specs.declared.event.Event.{Event}
+use Rattle.iofd_words.specs.declared.event.Event.TheVariants as event
+use Rattle.iofd_words.specs.declared.fault.AccessKind.TheVariants.{Write}
+use Rattle.iofd_words.specs.declared.numbers.FrameNo.{FrameNo}
+use Rattle.iofd_words.specs.declared.query.Answer.{Answer}
+use Rattle.iofd_words.specs.declared.query.Answer.TheVariants as answer
+use Rattle.iofd_words.specs.declared.reply.Reply.{Reply}
+use Rattle.iofd_words.specs.declared.reply.Reply.TheVariants as reply
+use Rattle.server_state.specs.Pages.{free_frame}
+
+-- of what may come of an access, what comes of it without a cached frame: the denial where one is lawful, else the pass
+abbrev pub is_denial : Outcome → Bool
+is_denial (Passes frame) = false
+is_denial (Denied reason) = true
+
+abbrev pub first_of : {X : Type 0} → List X → Option X
+first_of [] = None
+first_of (x ∷ xs) = Some x
+
+abbrev pub without_cache : List Outcome → Option Outcome
+without_cache outcomes = elim (find is_denial outcomes) [ Some denial ↦ Some denial | None ↦ first_of outcomes ]
+
+-- the same of the answers to a question
+abbrev pub is_fault : Answer → Bool
+is_fault (answer.Read bytes) = false
+is_fault (answer.Count count) = false
+is_fault (answer.Fault fault) = true
+is_fault (answer.Refused refusal) = false
+
+-- the answer that is given to a question: one of the lawful ones, the fault where it is among them
+pub record IsLooked (lawful : List Answer) (given : Answer) : Type 0 where
+  pub is_lawful : Contains lawful given
+  pub is_fault_else : list_any is_fault lawful ≡ true → is_fault given ≡ true
+
+-- it passes at this frame
+abbrev pub is_pass_at : FrameNo → Outcome → Bool
+is_pass_at frame (Passes at) = at.0 == frame.0
+is_pass_at frame (Denied reason) = false
+
+-- the cached frame is one at which the policy lets the write pass now; only a device's write may have one
+abbrev pub MayUse : World → Event → Option FrameNo → Type 0
+MayUse w e None = Unit {0}
+MayUse w (event.DeviceWrite device iova bytes) (Some frame) = Contains (outcomes w device iova.0 Write) (Passes frame)
+MayUse w e (Some frame) = ⊥
+
+-- what a device's write is answered: it passes at the cached frame, if there is one
+abbrev pub WriteChosen : Option Outcome → Option FrameNo → (Outcome → Reply) → Reply → Type 0
+WriteChosen uncached None told answer = option_map told uncached ≡ Some answer
+WriteChosen uncached (Some frame) told answer = answer ≡ told (Passes frame)
+
+-- of the addresses that may be chosen for a MAP the least is; a fixed one is no choice
+abbrev pub IsLeastMapped : World → FileNo → MapRequest → Bool → Reply → Type 0
+IsLeastMapped w file request true answer = Unit {0}
+IsLeastMapped w file request false (reply.Iova iova) = (x : ℕ) → may_choose (view w) file request x ≡ true → iova.0 ≤ x
+IsLeastMapped w file request false answer = ⊥
+
+-- a user's new page gets the least frame that nobody reaches; which id an object gets is the server's
+abbrev pub IsChosen : World → Event → Option FrameNo → Reply → Type 0
+IsChosen w (event.IoasAlloc file) via answer = Unit {0}
+IsChosen w (event.Map file request) via answer = IsLeastMapped w file request (is_fixed request.flags) answer
+IsChosen w (event.Unmap file request) via answer = Unit {0}
+IsChosen w (event.Destroy file id) via answer = Unit {0}
+IsChosen w (event.Close file) via answer = Unit {0}
+IsChosen w (event.UserMap user va) via answer =
+    option_map reply.Frame (free_frame w.settings.pool w.user_pages w.pins w.table_frames) ≡ Some answer
+IsChosen w (event.UserUnmap user va) via answer = Unit {0}
+IsChosen w (event.UserWrite user va bytes) via answer = Unit {0}
+IsChosen w (event.Bind file device) via answer = Unit {0}
+IsChosen w (event.Attach device pt_id) via answer = Unit {0}
+IsChosen w (event.Detach device) via answer = Unit {0}
+IsChosen w (event.Flush device) via answer = Unit {0}
+IsChosen w (event.DeviceWrite device iova bytes) via answer =
+    WriteChosen (without_cache (outcomes w device iova.0 Write)) via (write_reply w device iova.0) answer

@@ -1,0 +1,63 @@
+-- What the objects of a table are in the world.
+use Rattle.std.specs.Prelude.{ℕ, Bool, ◌==◌, ◌&&◌, Option, Some, None, List, [], find, map}
+use Rattle.iofd_words.specs.Attachments.{ioas_of_attachment}
+use Rattle.iofd_words.specs.declared.numbers.FileNo.{FileNo}
+use Rattle.iofd_words.specs.declared.numbers.ObjId.{ObjId}
+use Rattle.iofd_words.specs.declared.rows.Area.{Area}
+use Rattle.iofd_words.specs.declared.rows.Attachment.{Attachment}
+use Rattle.iofd_words.specs.declared.rows.Object.{Object}
+use Rattle.iofd_words.specs.declared.rows.ObjectKind.{ObjectKind}
+use Rattle.iofd_words.specs.declared.rows.ObjectKind.TheVariants as kind
+use Rattle.server_state.specs.declared.held.Held.{Held}
+use Rattle.server_state.specs.declared.held.Held.TheVariants as held
+use Rattle.object_table.specs.Table.{Row, Table, is_at, is_same_kind}
+use Rattle.object_table.specs.declared.kind.Kind.{Kind}
+use Rattle.object_table.specs.declared.kind.Kind.TheVariants as table
+
+-- under which kind an object stands in the table
+abbrev pub table_kind : ObjectKind → Kind
+table_kind kind.Ioas = table.Ioas
+table_kind (kind.Hwpt ioas width automatic) = table.Hwpt
+table_kind (kind.Device device) = table.Device
+
+module _ {A : Type 0} where
+  -- what the object is
+  abbrev pub kind_in : Held A → ObjectKind
+  kind_in (held.Ioas areas) = kind.Ioas
+  kind_in (held.Hwpt ioas width automatic) = kind.Hwpt ioas width automatic
+  kind_in (held.Device device) = kind.Device device
+
+  -- the areas of an address space; no other object has any
+  abbrev pub areas_in : Held A → List Area
+  areas_in (held.Ioas areas) = areas.areas
+  areas_in (held.Hwpt ioas width automatic) = []
+  areas_in (held.Device device) = []
+
+  -- for how many more areas it has room
+  abbrev pub room_in : Held A → ℕ
+  room_in (held.Ioas areas) = areas.room
+  room_in (held.Hwpt ioas width automatic) = 0
+  room_in (held.Device device) = 0
+
+  abbrev pub object_of : Row (Held A) → Object
+  object_of row = record { file = row.file; id = row.id; kind = kind_in row.value }
+
+  -- it stands under its kind; nobody counts its users
+  abbrev pub is_proper : Row (Held A) → Bool
+  is_proper row = is_same_kind row.kind (table_kind (kind_in row.value)) && row.users == 0
+
+  -- the areas of the address space of this id; of another object none
+  abbrev pub areas_at : List (Row (Held A)) → FileNo → ObjId → List Area
+  areas_at rows file id = elim (find (is_at file id) rows) [ Some row ↦ areas_in row.value | None ↦ [] ]
+
+  abbrev pub room_at : List (Row (Held A)) → FileNo → ObjId → ℕ
+  room_at rows file id = elim (find (is_at file id) rows) [ Some row ↦ room_in row.value | None ↦ 0 ]
+
+  -- the objects of the world that the table has
+  abbrev pub objects_in : Table (Held A) → List Object
+  objects_in table = map object_of table.rows
+
+-- the address space of an attachment's page table, with its file
+abbrev pub space_of : List Object → Option Attachment → Option (FileNo × ObjId)
+space_of objects None = None
+space_of objects (Some a) = elim (ioas_of_attachment objects a) [ Some ioas ↦ Some (a.file, ioas) | None ↦ None ]

@@ -1,0 +1,9 @@
+pub mod Choice
+pub mod Held
+pub mod Mapping
+pub mod Pages
+pub mod Reach
+pub mod Seen
+pub mod Shows
+pub mod Spaces
+pub mod Step

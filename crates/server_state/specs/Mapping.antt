@@ -1,0 +1,30 @@
+-- Words for MAP and UNMAP: the pins that come, and the areas of one address space.
+use Rattle.std.specs.Prelude.{ℕ, Bool, false, ◌==◌, ◌&&◌, not, Some, None, List, [], length}
+use Rattle.std.specs.List.{list_any}
+use Rattle.iofd_words.specs.Areas.{owed_by}
+use Rattle.iofd_words.specs.Bounds.{Bounds}
+use Rattle.iofd_words.specs.Objects.{kind_of, is_hwpt_over}
+use Rattle.iofd_words.specs.Span.{meets}
+use Rattle.iofd_words.specs.declared.numbers.FileNo.{FileNo}
+use Rattle.iofd_words.specs.declared.numbers.ObjId.{ObjId}
+use Rattle.iofd_words.specs.declared.rows.Area.{Area}
+use Rattle.iofd_words.specs.declared.rows.Attachment.{Attachment}
+use Rattle.iofd_words.specs.declared.rows.Object.{Object}
+use Rattle.server_state.specs.Held.{areas_in}
+use Rattle.server_state.specs.declared.held.Held.{Held}
+use Rattle.object_table.specs.Table.{Table, own}
+use Rattle.object_table.specs.declared.kind.Kind.TheVariants.{Ioas}
+
+-- ---- one address space
+
+-- the attachment is by a page table over this address space
+abbrev pub is_over : List Object → ObjId → Attachment → Bool
+is_over objects ioas a = elim (kind_of objects a.file a.hwpt) [ Some kind ↦ is_hwpt_over ioas kind | None ↦ false ]
+
+-- the areas of the object that is an address space and has this id
+abbrev pub own_areas : {A : Type 0} → Table (Held A) → FileNo → ObjId → List Area
+own_areas table file ioas = elim (own table file Ioas ioas) [ Some row ↦ areas_in row.value | None ↦ [] ]
+
+-- some area that meets the span waits for a device, where those attached are given
+abbrev pub some_waits : Bounds → List ℕ → List Area → Bool
+some_waits span attached areas = list_any (λ area. meets area.span span && not (length (owed_by attached area.phase) == 0)) areas

@@ -1,0 +1,29 @@
+-- What is kept, as the view that the refusals and the policy read. It is that of the world that is shown.
+use Rattle.std.specs.Prelude.{[]}
+use Rattle.frame_memory.specs.Pool.{free_count}
+use Rattle.iofd_words.specs.Frames.{frame_at}
+use Rattle.iofd_words.specs.Objects as object
+use Rattle.iofd_words.specs.View.{View}
+use Rattle.server_state.specs.Held.{areas_at, objects_in}
+use Rattle.server_state.specs.declared.state.State.{State}
+use Rattle.object_table.specs.Table as table
+use Rattle.user_memory.specs.Memory.{frame_now, held_by, pinned_frame, rows_of}
+
+abbrev pub seen : {A : Type 0} → State A → View
+seen s =
+    record {
+      settings = s.config;
+      is_open = table.is_open s.objects;
+      objects = objects_in s.objects;
+      binding_of = object.binding_of s.bindings.items;
+      attachments = s.attachments.items;
+      areas_of = areas_at s.objects.rows;
+      -- no list of allowed ranges is served yet
+      allowed_of = λ file ioas. [];
+      memory = rows_of s.memory;
+      frame_at = frame_at s.memory.pages;
+      frame_now = frame_now s.memory;
+      pinned_frame = pinned_frame s.memory;
+      held_by = held_by s.memory;
+      free_count = free_count s.pool.holds;
+    }

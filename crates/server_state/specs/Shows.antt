@@ -1,0 +1,43 @@
+-- When what is kept shows a world: each question of the world has its answer there. Eight groups: the settings, the limits of users, and the lists of rows.
+use Rattle.std.specs.Prelude.{◌≡◌, true, List, [], map}
+use Rattle.std.specs.List.{list_all}
+use Rattle.iofd_words.specs.Areas.{areas_of}
+use Rattle.iofd_words.specs.Files as file
+use Rattle.iofd_words.specs.Objects.{binding_of}
+use Rattle.iofd_words.specs.Settings.{Settings}
+use Rattle.iofd_words.specs.World.{World}
+use Rattle.iofd_words.specs.declared.numbers.DeviceNo.{DeviceNo}
+use Rattle.iofd_words.specs.declared.numbers.FileNo.{FileNo}
+use Rattle.iofd_words.specs.declared.numbers.ObjId.{ObjId}
+use Rattle.iofd_words.specs.declared.rows.Area.{Area}
+use Rattle.iofd_words.specs.declared.rows.Attachment.{Attachment}
+use Rattle.iofd_words.specs.declared.rows.Object.{Object}
+use Rattle.server_state.specs.Held.{object_of, is_proper, areas_at}
+use Rattle.server_state.specs.declared.held.Held.{Held}
+use Rattle.server_state.specs.declared.state.State.{State}
+use Rattle.memory_rows.specs.Shown.{FramesShown, PinsShown, UsersShown}
+use Rattle.object_table.specs.Table.{Table, is_open}
+
+-- the files, and the objects of each with the areas of its address spaces
+pub record ObjectsShown {A : Type 0} (settings : Settings) (closed : List FileNo) (objects : List Object) (areas : List Area) (table : Table (Held A)) : Type 0 where
+  pub rows : objects ≡ map object_of table.rows
+  pub proper : list_all is_proper table.rows ≡ true
+  -- each address space has its areas; no other object has any
+  pub spaces : (f : FileNo) (ioas : ObjId) → areas_of areas f ioas ≡ areas_at table.rows f ioas
+  pub files : (number : FileNo) → is_open table number ≡ file.is_open settings closed number
+
+-- by which object a device is bound, and by which page table it translates
+pub record DevicesShown (objects : List Object) (attachments : List Attachment) (kept_bindings : List Object) (kept_attachments : List Attachment) : Type 0 where
+  pub bindings : (device : DeviceNo) → binding_of objects device ≡ binding_of kept_bindings device
+  pub attached : attachments ≡ kept_attachments
+
+pub record Shows {A : Type 0} (w : World) (s : State A) : Type 0 where
+  pub settings : w.settings ≡ s.config
+  pub limits : s.memory.limits ≡ w.settings.users
+  -- no list of allowed ranges is served yet
+  pub allowed : w.allowed ≡ []
+  pub objects : ObjectsShown w.settings w.closed w.objects w.areas s.objects
+  pub devices : DevicesShown w.objects w.attachments s.bindings.items s.attachments.items
+  pub users : UsersShown w.user_pages s.memory.pages
+  pub pins : PinsShown w.objects w.areas w.memory w.pins s.memory
+  pub frames : FramesShown w.settings.pool w.writes w.table_frames s.memory s.pool

@@ -1,0 +1,110 @@
+-- What one step does to what is kept.
+use Rattle.std.specs.Prelude.{[], ◌≡◌, ℕ, true, Option, None}
+use Rattle.iofd_words.specs.After.{changed}
+use Rattle.iofd_words.specs.Answers.{Answers}
+use Rattle.iofd_words.specs.Checks.{refusal}
+use Rattle.iofd_rows.specs.Debts.{DebtsAttached}
+use Rattle.iofd_runs.specs.Fits.{RowsFit}
+use Rattle.iofd_runs.specs.InUsable.{AreasUsable}
+use Rattle.iofd_runs.specs.Owned.{AreasOwned}
+use Rattle.iofd_rows.specs.Ids.{have_own_ids}
+use Rattle.iofd_rows.specs.Pinned.{ArePinned, have_own_memory}
+use Rattle.iofd_words.specs.World.{World}
+use Rattle.iofd_words.specs.FirstTrue.{first_true}
+use Rattle.iofd_words.specs.Look.{query_checks}
+use Rattle.iofd_words.specs.View.{view}
+use Rattle.iofd_words.specs.declared.event.Event.{Event}
+use Rattle.iofd_words.specs.declared.query.Query.{Query}
+use Rattle.iofd_words.specs.declared.numbers.FrameNo.{FrameNo}
+use Rattle.iofd_words.specs.declared.record.Record.{Record}
+use Rattle.iofd_words.specs.declared.reply.Reply.{Reply}
+use Rattle.iofd_words.specs.Run.{Lawful, after}
+use Rattle.iofd_words.specs.declared.numbers.PassNo.{PassNo}
+use Rattle.server_state.specs.Choice.{IsChosen, MayUse}
+use Rattle.server_state.specs.Shows.{Shows}
+use Rattle.server_state.specs.declared.state.State.{State}
+
+-- the world of a run: what laws say of it, at the position of the next record
+pub record IsTidy (at : ℕ) (w : World) : Type 0 where
+  pub pins : ArePinned at w
+  -- no area is a copy yet
+  pub own : have_own_memory w.areas ≡ true
+  pub debts : DebtsAttached w
+  pub ids : have_own_ids w.objects ≡ true
+  pub fit : RowsFit w
+  -- memory is of the users of its areas' files
+  pub owned : AreasOwned w
+  -- areas lie in addresses that can be used
+  pub usable : AreasUsable w
+
+-- a record that took and gave back no table frames
+abbrev pub recorded : {A : Type 0} → PassNo → Event → Reply → Record A
+recorded pass event reply = record { pass = pass; event = event; reply = reply; taken = []; given = [] }
+
+module _ {A : Type 0} where
+  -- a world of a run is shown
+  pub record IsKnown (s : State A) : Type 0 where
+    pub at : ℕ
+    pub world : World
+    pub tidy : IsTidy at world
+    pub shows : Shows world s
+
+  -- and nothing refuses the event there, at this position
+  pub record IsGrantedAt (at : ℕ) (event : Event) (s : State A) : Type 0 where
+    pub world : World
+    pub tidy : IsTidy at world
+    pub shows : Shows world s
+    pub none : refusal world event ≡ None
+
+  -- at some position
+  pub record IsGranted (event : Event) (s : State A) : Type 0 where
+    pub at : ℕ
+    pub granted : IsGrantedAt at event s
+
+  -- and a cached frame is one at which the policy lets the event pass
+  pub record IsGrantedFor (at : ℕ) (event : Event) (via : Option FrameNo) (s : State A) : Type 0 where
+    pub granted : IsGrantedAt at event s
+    pub may : MayUse granted.world event via
+
+  pub record IsGrantedVia (event : Event) (via : Option FrameNo) (s : State A) : Type 0 where
+    pub at : ℕ
+    pub granted : IsGrantedFor at event via s
+
+  -- the event is asked for at this position, with such a frame if nothing refuses it
+  pub record IsCalled (at : ℕ) (event : Event) (via : Option FrameNo) (s : State A) : Type 0 where
+    pub world : World
+    pub tidy : IsTidy at world
+    pub shows : Shows world s
+    pub may : refusal world event ≡ None → MayUse world event via
+
+  -- nothing refuses the question there
+  pub record IsAsked (query : Query) (s : State A) : Type 0 where
+    pub known : IsKnown s
+    pub none : first_true (query_checks (view known.world) query) ≡ None
+
+  -- an event that nothing refuses is answered so, and the world after it is shown
+  abbrev pub Steps : ℕ → Event → State A → Reply → State A → Type 0
+  Steps at event old reply new =
+      (w : World) → IsTidy at w → Shows w old → refusal w event ≡ None → Answers w event reply × Shows (changed at w event reply) new
+
+  -- the same world is shown
+  abbrev pub ShowsSame : State A → State A → Type 0
+  ShowsSame old new = (w : World) → Shows w old → Shows w new
+
+  -- the same world of a run is shown
+  abbrev pub TidyShowsSame : ℕ → State A → State A → Type 0
+  TidyShowsSame at old new = (w : World) → IsTidy at w → Shows w old → Shows w new
+
+  -- the same of an event that may have a cached frame, and the reply is the one that is chosen
+  abbrev pub ChosenSteps : ℕ → Event → Option FrameNo → State A → Reply → State A → Type 0
+  ChosenSteps at event via old reply new =
+      (w : World) → IsTidy at w → Shows w old → refusal w event ≡ None → MayUse w event via
+      → Answers w event reply × IsChosen w event via reply × Shows (changed at w event reply) new
+
+  -- whatever the event: its record is one that may be made, its reply is the one that is chosen, and the world
+  -- after it is shown
+  abbrev pub Answered : ℕ → Event → Option FrameNo → State A → Reply → State A → Type 0
+  Answered at event via old reply new =
+      (pass : PassNo) (w : World) → IsTidy at w → Shows w old → (refusal w event ≡ None → MayUse w event via)
+      → Lawful w (recorded {A = A} pass event reply) × (refusal w event ≡ None → IsChosen w event via reply)
+      × Shows (after at w (recorded {A = A} pass event reply)) new

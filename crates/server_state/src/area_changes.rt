@@ -1,0 +1,185 @@
+//! Changes of one address space's areas: one comes, or some go.
+
+ghost use Rattle.std.specs.Prelude.{◌≡◌, ◌<◌, ◌==◌, not, true, None, [], length, map, OnOk, MatchOption};
+ghost use Rattle.area_map.specs.Areas.{AreKept, areas_outside, areas_within, bytes_of, marked, with_area};
+ghost use Rattle.area_map.specs.Insertion.{insert_refusal};
+ghost use Rattle.iofd_words.specs.Areas.{owed_by};
+ghost use Rattle.iofd_words.specs.Objects.{has_ioas, is_ioas};
+ghost use Rattle.server_state.specs.Held.{areas_at, areas_in, kind_in, objects_in, room_at, room_in};
+ghost use Rattle.server_state.specs.Spaces.{IsOrderly, IsWith, HasAreas};
+ghost use Rattle.server_state.specs.Mapping.{own_areas, some_waits};
+
+use crate::held::Held;
+use area_map::Areas;
+use iofd_words::{Area, DeviceSet, FileNo, NoMemory, ObjId, Phase, Span};
+use object_table::{Kind, ObjectTable};
+use std::alloc::Allocator;
+
+/// Takes memory for one more area of this address space, if there is no room. No area changes, on an error neither: it is
+/// want of memory.
+#[tactic(auto, using(crate::proofs::AreasHeld::areas_absent))]
+pub fn reserve<A: Allocator + Copy>(
+    table: &mut ObjectTable<Held<A>, A>,
+    file: FileNo,
+    ioas: ObjId,
+) -> Result<(), NoMemory>
+    ensures areas { IsOrderly table.old
+        → HasAreas file ioas (areas_at table.old.rows file ioas) table.old table.new }
+    ensures ok { OnOk result (IsOrderly table.old → has_ioas (objects_in table.old) file ioas ≡ true
+        → 0 < room_at table.new.rows file ioas) }
+{
+    match table.get_mut(file, Kind::Ioas, ioas) {
+        Ok(held) => reserve_held(held),
+        Err(_) => Ok(()),
+    }
+}
+
+fn reserve_held<A: Allocator + Copy>(held: &mut Held<A>) -> Result<(), NoMemory>
+    ensures areas { IsWith (areas_in held.old) held.old held.new }
+    ensures ok { OnOk result (is_ioas (kind_in held.old) ≡ true → 0 < room_in held.new) }
+{
+    match held {
+        Held::Ioas(areas) => areas.reserve(),
+        _ => Ok(()),
+    }
+}
+
+/// Adds the area to those of this address space, which has room for it (`reserve`), where it meets no other and there
+/// may be one more. Elsewhere, or where there is no such address space, it changes nothing.
+#[tactic(auto, using(crate::proofs::AreasHeld::rewritten, crate::proofs::AreasHeld::unwritten, crate::proofs::AreasHeld::areas_absent))]
+pub fn insert<A: Allocator + Copy>(
+    table: &mut ObjectTable<Held<A>, A>,
+    file: FileNo,
+    ioas: ObjId,
+    area: Area,
+)
+    ensures { IsOrderly table.old → has_ioas (objects_in table.old) file ioas ≡ true
+        → insert_refusal area.span (areas_at table.old.rows file ioas) ≡ None
+        → 0 < room_at table.old.rows file ioas
+        → HasAreas file ioas (with_area area (areas_at table.old.rows file ioas)) table.old table.new }
+{
+    match table.get_mut(file, Kind::Ioas, ioas) {
+        Ok(held) => insert_held(held, area),
+        Err(_) => (),
+    }
+}
+
+fn insert_held<A: Allocator + Copy>(held: &mut Held<A>, area: Area)
+    ensures { is_ioas (kind_in held.old) ≡ true → insert_refusal area.span (areas_in held.old) ≡ None
+        → 0 < room_in held.old
+        → IsWith (with_area area (areas_in held.old)) held.old held.new }
+{
+    if let Held::Ioas(areas) = held {
+        let _ = areas.insert(area);
+    }
+}
+
+/// The areas in this address space. None where there is no such address space.
+pub fn own_areas<A: Allocator>(
+    table: &ObjectTable<Held<A>, A>,
+    file: FileNo,
+    ioas: ObjId,
+) -> Option<&Areas<A>>
+    ensures { MatchOption result (own_areas table.now file ioas ≡ []) (λ areas. own_areas table.now file ioas
+        ≡ areas.now.areas) }
+{
+    match table.get(file, Kind::Ioas, ioas) {
+        Ok(Held::Ioas(areas)) => Some(areas),
+        _ => None,
+    }
+}
+
+/// Whether a device still has to flush before the areas that meet the span may go: one of those attached for a live
+/// area, one of those that it waits for for a leaving area.
+pub fn some_waits<A: Allocator>(
+    table: &ObjectTable<Held<A>, A>,
+    file: FileNo,
+    ioas: ObjId,
+    span: Span,
+    attached: &DeviceSet,
+) -> bool
+    ensures value { result ≡ some_waits span attached.now (own_areas table.now file ioas) }
+    ensures kept { AreKept (own_areas table.now file ioas) }
+{
+    match own_areas(table, file, ioas) {
+        Some(areas) => areas.iter().any(|area| area.span.meets(span)
+            && waits(&area.phase, attached)),
+        None => false,
+    }
+}
+
+/// Whether some device still has to flush, where these are attached.
+fn waits(phase: &Phase, attached: &DeviceSet) -> bool
+    ensures { result ≡ not (length (owed_by attached.now phase.now) == 0) }
+{
+    match phase {
+        Phase::Live => !attached.is_empty(),
+        Phase::Leaving { owed, .. } => !owed.is_empty(),
+    }
+}
+
+/// How many addresses the areas of the address space that lie in the span have together.
+pub fn bytes_within<A: Allocator>(
+    table: &ObjectTable<Held<A>, A>,
+    file: FileNo,
+    ioas: ObjId,
+    span: Span,
+) -> u128
+    ensures { result ≡ bytes_of (areas_within span (own_areas table.now file ioas)) }
+{
+    match own_areas(table, file, ioas) {
+        Some(areas) => areas.bytes_within(span),
+        None => 0,
+    }
+}
+
+/// The live areas of the address space that lie in the span are leaving now, and wait for these devices.
+#[tactic(auto, using(crate::proofs::AreasHeld::areas_absent))]
+pub fn mark_leaving<A: Allocator>(
+    table: &mut ObjectTable<Held<A>, A>,
+    file: FileNo,
+    ioas: ObjId,
+    span: Span,
+    owed: &DeviceSet,
+)
+    ensures { IsOrderly table.old
+        → HasAreas file ioas (map (marked span owed.now) (areas_at table.old.rows file ioas)) table.old table.new }
+{
+    match table.get_mut(file, Kind::Ioas, ioas) {
+        Ok(held) => mark_held(held, span, owed),
+        Err(_) => (),
+    }
+}
+
+fn mark_held<A: Allocator>(held: &mut Held<A>, span: Span, owed: &DeviceSet)
+    ensures { IsWith (map (marked span owed.now) (areas_in held.old)) held.old held.new }
+{
+    if let Held::Ioas(areas) = held {
+        areas.mark_leaving(span, owed);
+    }
+}
+
+/// Takes away the areas of the address space that lie in the span.
+#[tactic(auto, using(crate::proofs::AreasHeld::areas_absent, crate::proofs::AreasHeld::unwritten))]
+pub fn remove<A: Allocator>(
+    table: &mut ObjectTable<Held<A>, A>,
+    file: FileNo,
+    ioas: ObjId,
+    span: Span,
+)
+    ensures { IsOrderly table.old
+        → HasAreas file ioas (areas_outside span (areas_at table.old.rows file ioas)) table.old table.new }
+{
+    match table.get_mut(file, Kind::Ioas, ioas) {
+        Ok(held) => remove_held(held, span),
+        Err(_) => (),
+    }
+}
+
+fn remove_held<A: Allocator>(held: &mut Held<A>, span: Span)
+    ensures { IsWith (areas_outside span (areas_in held.old)) held.old held.new }
+{
+    if let Held::Ioas(areas) = held {
+        areas.remove(span);
+    }
+}

@@ -1,0 +1,15 @@
+//! What the server keeps of the world: the state, look-ups in it, and the changes that several events have in common.
+//! The definitions say when a state shows a world, and what a step makes of it.
+#![tactic(auto)]
+
+pub mod accesses;
+pub mod accounts;
+pub mod area_changes;
+mod held;
+pub mod lookups;
+pub mod release;
+mod state;
+pub mod usable;
+
+pub use held::Held;
+pub use state::State;

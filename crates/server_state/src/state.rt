@@ -1,0 +1,28 @@
+//! What the server keeps of the world.
+
+use crate::held::Held;
+use frame_memory::Pool;
+use iofd_words::{Attachment, Config, Object};
+use object_table::ObjectTable;
+use std::alloc::{Allocator, Global};
+use user_memory::UserMemory;
+
+/// What shows the rows of the world: objects with the areas of address spaces, devices, the users' memory and the
+/// frames. The events change its fields; which worlds it shows is said by `specs/Shows.antt`.
+#[derive(Drop)]
+pub struct State<A: Allocator = Global> {
+    /// From where memory is taken.
+    pub alloc: A,
+    /// What the server was opened with.
+    pub config: Config<A>,
+    /// The files, and what each object of theirs holds.
+    pub objects: ObjectTable<Held<A>, A>,
+    /// The objects by which devices are bound.
+    pub bindings: Vec<Object, A>,
+    /// By which page table each device translates, by rising device.
+    pub attachments: Vec<Attachment, A>,
+    /// The users' pages and accounts, and the memory objects with their pins.
+    pub memory: UserMemory<A>,
+    /// The frames.
+    pub pool: Pool<A>,
+}
