@@ -1,4 +1,5 @@
 pub mod Holds
+pub mod Listed
 pub mod Named
 pub mod Rising
 pub mod Seen

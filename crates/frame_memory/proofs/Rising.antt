@@ -1,14 +1,10 @@
 -- Users' pages by rising user and page: where one of them stands, and what one more or one less makes of them.
-use Rattle.std.proofs.Common.{◌≡◌, ℕ, zero, suc, ◌+◌, ◌<◌, ◌≤◌, Bool, true, false, cond, eqb, ltb, not, Option, Some, None, List, [], ◌∷◌, length, get_or, refl, sym, ap, ◌∙◌, subst, arith, ⊎_elim}
-use Rattle.std.specs.Prelude.{is_some}
-use Rattle.std.specs.List.{AllWithin, filter, find, insert, list_all, prefix_len, remove, slice_get}
-use Rattle.std.specs.List.Sorted.{IsPartitionedBy}
-use Rattle.std.specs.Option.{option_copied, IfSome}
+use Rattle.std.proofs.Common.{◌≡◌, ℕ, zero, suc, ◌+◌, Bool, true, false, cond, eqb, not, Option, Some, None, List, [], ◌∷◌, refl, sym, ap, ◌∙◌, subst, arith, ⊎_elim}
+use Rattle.std.specs.List.{filter, find, insert, list_all, remove, slice_get}
+use Rattle.std.specs.Option.{IfSome}
 use Rattle.std.proofs.lemmas.Bool.{and_parts, cases_Bool}
 use Rattle.std.proofs.lemmas.Bool.Decides.{nat_tests}
-use Rattle.std.proofs.lemmas.List.Sums.{AllPass-from_list_all, sum_by-insert}
-use Rattle.std.proofs.lemmas.Option.{slice_get_past, slice_get_read, slice_get_within}
-use denote.Ref.{Bor}
+use Rattle.std.proofs.lemmas.List.Sums.{sum_by-insert}
 use Rattle.iofd_words.specs.Frames.{frame_at}
 use Rattle.iofd_words.specs.declared.numbers.FrameNo.{FrameNo}
 use Rattle.iofd_words.specs.declared.numbers.UserNo.{UserNo}
@@ -29,38 +25,10 @@ below-not_page user page a below = grind (arith, nat_tests)
 after-not_page : (user : UserNo) (page : ℕ) (a b : UserPage) → is_below b.user b.page a ≡ true → is_below user page a ≡ false → is_page user page b ≡ false
 after-not_page user page a b first reached = grind (arith, nat_tests)
 
--- ---- what a binary search finds
-
-pub partitioned : (user : UserNo) (page : ℕ) (rows : List UserPage) → are_rising rows ≡ true → IsPartitionedBy (is_below user page) rows
-partitioned user page [] rising i j d up within holds = absurd (omega (arith, within))
-partitioned user page (row ∷ rows) rising zero zero d up within holds = holds
-partitioned user page (row ∷ rows) rising zero (suc j) d up within holds =
-    let parts = and_parts (list_all (λ next. is_below next.user next.page row) rows) (are_rising rows) rising in
-    below-trans user page row (get_or rows j d) (AllPass-from_list_all (λ (next : UserPage). is_below next.user next.page row) rows parts.0 j d (omega (arith, within))) holds
-partitioned user page (row ∷ rows) rising (suc i) zero d up within holds = absurd (omega (arith, up))
-partitioned user page (row ∷ rows) rising (suc i) (suc j) d up within holds =
-    let parts = and_parts (list_all (λ next. is_below next.user next.page row) rows) (are_rising rows) rising in
-    partitioned user page rows parts.1 i j d (omega (arith, up)) (omega (arith, within)) holds
-
-pub prefix_len-from_within : (p : UserPage → Bool) (rows : List UserPage) (i : ℕ) → i ≤ length rows → AllWithin (λ y. p y ≡ true) rows 0 i → AllWithin (λ y. p y ≡ false) rows i (length rows) → i ≡ prefix_len p rows
-prefix_len-from_within p [] i within passing failing = omega arith
-prefix_len-from_within p (x ∷ rows) zero within passing failing =
-    let here : p x ≡ false = failing 0 x (omega arith) (omega arith) in
-    grind (arith, nat_tests)
-prefix_len-from_within p (x ∷ rows) (suc i) within passing failing =
-    let here : p x ≡ true = passing 0 x (omega arith) (omega arith) in
-    let rest = prefix_len-from_within p rows i (omega arith) (λ k d low high. passing (suc k) d (omega arith) (omega arith)) (λ k d low high. failing (suc k) d (omega arith) (omega arith)) in
-    grind (arith, nat_tests)
-
--- what `get` answers, as a value
-pub copied-from_get : (rows : List UserPage) (i : ℕ) (r : Option (Bor UserPage)) → is_some r ≡ ltb i (length rows) → IfSome r (λ x. x.now ≡ get_or rows i x.now) → option_copied r ≡ slice_get rows i
-copied-from_get rows i None variant item = sym (slice_get_past rows i (grind (arith, nat_tests)))
-copied-from_get rows i (Some x) variant item =
-    let within : i < length rows = grind (arith, nat_tests) in
-    sym (slice_get_read rows (length rows) i x.now refl within item)
+-- ---- where a page stands
 
 -- behind a row that doesn't stand before a page there is no row of that page
-none_after : (user : UserNo) (page : ℕ) (row : UserPage) (rows : List UserPage) → list_all (λ next. is_below next.user next.page row) rows ≡ true → is_below user page row ≡ false → find (is_page user page) rows ≡ None
+pub none_after : (user : UserNo) (page : ℕ) (row : UserPage) (rows : List UserPage) → list_all (λ next. is_below next.user next.page row) rows ≡ true → is_below user page row ≡ false → find (is_page user page) rows ≡ None
 none_after user page row [] after reached = refl
 none_after user page row (next ∷ rows) after reached =
     let parts = and_parts (is_below next.user next.page row) (list_all (λ other. is_below other.user other.page row) rows) after in
@@ -85,12 +53,6 @@ found_at_place user page (row ∷ rows) rising =
     let none = none_after user page row rows parts.0 reached in
     rw (reached, none) refl)
     (cases_Bool (is_below user page row))
-
-pub not_found : (user : UserNo) (page : ℕ) (rows : List UserPage) → are_rising rows ≡ true → slice_get rows (count_below rows user page) ≡ None → find (is_page user page) rows ≡ None
-not_found user page rows rising none = found_at_place user page rows rising ∙ ap (if_page user page) none
-
-pub found : (user : UserNo) (page : ℕ) (rows : List UserPage) (row : UserPage) → are_rising rows ≡ true → slice_get rows (count_below rows user page) ≡ Some row → find (is_page user page) rows ≡ cond (is_page user page row) (Some row) None
-found user page rows row rising some = found_at_place user page rows rising ∙ ap (if_page user page) some
 
 -- ---- one more
 
@@ -148,13 +110,13 @@ rising_more row (x ∷ rows) rising absent =
     (cases_Bool (is_below row.user row.page x))
 
 -- a row that fails a test is passed over, wherever it stands; one that passes is found where no other passes
-find_passed : (p : UserPage → Bool) (rows : List UserPage) (n : ℕ) (row : UserPage) → p row ≡ false → find p (insert rows n row) ≡ find p rows
+pub find_passed : (p : UserPage → Bool) (rows : List UserPage) (n : ℕ) (row : UserPage) → p row ≡ false → find p (insert rows n row) ≡ find p rows
 find_passed p [] zero row fails = rw fails refl
 find_passed p [] (suc n) row fails = rw fails refl
 find_passed p (x ∷ rows) zero row fails = rw fails refl
 find_passed p (x ∷ rows) (suc n) row fails = ap (λ found. cond (p x) (Some x) found) (find_passed p rows n row fails)
 
-find_inserted : (p : UserPage → Bool) (rows : List UserPage) (n : ℕ) (row : UserPage) → p row ≡ true → find p rows ≡ None → find p (insert rows n row) ≡ Some row
+pub find_inserted : (p : UserPage → Bool) (rows : List UserPage) (n : ℕ) (row : UserPage) → p row ≡ true → find p rows ≡ None → find p (insert rows n row) ≡ Some row
 find_inserted p [] zero row passes none = rw passes refl
 find_inserted p [] (suc n) row passes none = rw passes refl
 find_inserted p (x ∷ rows) zero row passes none = rw passes refl
@@ -175,7 +137,7 @@ frame_at-find rows user page = by_cases (find (is_page user page) rows)
     by_cases (Some row) = refl
 
 -- the page of the row
-same_page : (user : UserNo) (page : ℕ) (row : UserPage) (rows : List UserPage) → is_page user page row ≡ true → find (is_page row.user row.page) rows ≡ find (is_page user page) rows
+pub same_page : (user : UserNo) (page : ℕ) (row : UserPage) (rows : List UserPage) → is_page user page row ≡ true → find (is_page row.user row.page) rows ≡ find (is_page user page) rows
 same_page user page row rows is =
     let parts = and_parts (eqb row.user.0 user.0) (eqb row.page page) is in
     let users : row.user.0 ≡ user.0 = search (parts.0, arith, nat_tests) in
@@ -203,7 +165,7 @@ none_kept p (x ∷ rows) none =
     let parts = none_parts p x rows none in
     rw parts.0 (ap (λ rest. x ∷ rest) (none_kept p rows parts.1))
 
-none_left : (p : UserPage → Bool) (rows : List UserPage) → find p (filter (λ r. not (p r)) rows) ≡ None
+pub none_left : (p : UserPage → Bool) (rows : List UserPage) → find p (filter (λ r. not (p r)) rows) ≡ None
 none_left p [] = refl
 none_left p (x ∷ rows) =
     ⊎_elim (λ (yes : p x ≡ true). rw yes (none_left p rows)) (λ (no : p x ≡ false). rw (no, no) (none_left p rows)) (cases_Bool (p x))
@@ -267,27 +229,15 @@ rising_less q (x ∷ rows) rising =
     let after = all_kept (λ next. is_below next.user next.page x) q rows parts.0 in
     ⊎_elim (λ (yes : q x ≡ true). rw (yes, after, rest) refl) (λ (no : q x ≡ false). rw (no, rest) refl) (cases_Bool (q x))
 
--- a page that is there has a place within the rows
-pub place_within : (user : UserNo) (page : ℕ) (rows : List UserPage) → are_rising rows ≡ true → is_some (find (is_page user page) rows) ≡ true → count_below rows user page < length rows
-place_within user page rows rising some = by_cases (find (is_page user page) rows) refl some
+-- the pages without one that is there have its row less
+pub page_removed : (user : UserNo) (page : ℕ) (rows : List UserPage) → are_rising rows ≡ true → IfSome (find (is_page user page) rows) (λ row. HasOneMore (without_page rows user page) rows row)
+page_removed user page rows rising = by_cases (find (is_page user page) rows) refl
   where
-    by_cases : (o : Option UserPage) → find (is_page user page) rows ≡ o → is_some o ≡ true → count_below rows user page < length rows
-    by_cases None is there = cc
-    by_cases (Some row) is there = slice_get_within rows (count_below rows user page) row (row_there user page rows row rising is).0
-
-pub all_removed : (user : UserNo) (page : ℕ) (rows : List UserPage) → are_rising rows ≡ true → is_some (find (is_page user page) rows) ≡ true → remove rows (count_below rows user page) ≡ without_page rows user page
-all_removed user page rows rising some = by_cases (find (is_page user page) rows) refl some
-  where
-    by_cases : (o : Option UserPage) → find (is_page user page) rows ≡ o → is_some o ≡ true → remove rows (count_below rows user page) ≡ without_page rows user page
-    by_cases None is there = cc
-    by_cases (Some row) is there = removed user page rows row rising is
-
-pub row_removed : (user : UserNo) (page : ℕ) (rows : List UserPage) → are_rising rows ≡ true → IfSome (find (is_page user page) rows) (λ row. HasOneMore (remove rows (count_below rows user page)) rows row)
-row_removed user page rows rising = by_cases (find (is_page user page) rows) refl
-  where
-    by_cases : (o : Option UserPage) → find (is_page user page) rows ≡ o → IfSome o (λ row. HasOneMore (remove rows (count_below rows user page)) rows row)
+    by_cases : (o : Option UserPage) → find (is_page user page) rows ≡ o → IfSome o (λ row. HasOneMore (without_page rows user page) rows row)
     by_cases None is = tt
-    by_cases (Some row) is = one_less user page rows row rising is
+    by_cases (Some row) is =
+        let P : List UserPage → Type 0 = λ xs. HasOneMore xs rows row in
+        subst P (removed user page rows row rising is) (one_less user page rows row rising is)
 
 -- what is found passes
 find_passes : (p : UserPage → Bool) (rows : List UserPage) (row : UserPage) → find p rows ≡ Some row → p row ≡ true

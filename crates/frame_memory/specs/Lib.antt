@@ -1,4 +1,5 @@
 pub mod FreeMap
 pub mod Kept
+pub mod PageFrames
 pub mod Pool
 pub mod UserPages

@@ -5,9 +5,9 @@
 mod content;
 mod free_map;
 mod map_error;
+mod page_frames;
 mod pool;
 mod user_map;
-mod user_rows;
 
 pub use free_map::FreeMap;
 pub use map_error::MapError;

@@ -7,28 +7,28 @@ ghost use Rattle.frame_memory.specs.Pool.{given, least_free, with_holds};
 ghost use Rattle.frame_memory.specs.UserPages.{are_within, user_page, with_page, without_page, map_refusal, HasOneMore};
 
 use crate::map_error::MapError;
+use crate::page_frames::PageFrames;
 use crate::pool::Pool;
-use crate::user_rows;
-use iofd_words::{Cause, FrameNo, NoMemory, PAGE_SIZE, Refusal, UserNo, UserPage};
+use iofd_words::{Cause, FrameNo, NoMemory, PAGE_SIZE, Refusal, UserNo};
 use std::alloc::{Allocator, Global};
 use std::marker::Model;
 
 /// Which page of which user's memory is which frame. A contract sees the pages by rising user and page, and how many
-/// more there is room for. A page is found by binary search; one more or one less moves those that stand behind it.
+/// more there is room for. A page is found by its hash; one more or one less moves at most one of the others.
 #[derive(Debug, Drop)]
 pub struct UserMap<A: Allocator = Global> {
-    pages: Vec<UserPage, A>,
+    pages: PageFrames<A>,
 }
 
 impl<A: Allocator> Model for UserMap<A> {
-    ghost use Rattle.std.specs.Prelude.{◌-◌, IsTrue, vec_len, vec_capacity};
+    ghost use Rattle.std.specs.Prelude.{IsTrue};
     ghost use Rattle.frame_memory.specs.UserPages.{UserPages, are_rising};
 
     ghost Value = { UserPages };
 
-    ghost view = { λ map. record { pages = map.pages.items; room = vec_capacity map.pages - vec_len map.pages } };
+    ghost view = { λ map. map.pages };
 
-    ghost invariant = { λ map. IsTrue (are_rising map.pages.items) };
+    ghost invariant = { λ map. IsTrue (are_rising map.pages.pages) };
 }
 
 impl<A: Allocator> UserMap<A> {
@@ -37,7 +37,7 @@ impl<A: Allocator> UserMap<A> {
         ensures { result.pages ≡ [] }
     {
         UserMap {
-            pages: Vec::new(alloc),
+            pages: PageFrames::new(alloc),
         }
     }
 
@@ -59,17 +59,14 @@ impl<A: Allocator> UserMap<A> {
     pub fn frame_of_page(&self, user: UserNo, page: u64) -> Option<FrameNo>
         ensures { result ≡ frame_at self.now.pages user page }
     {
-        match user_rows::row_at(&self.pages, user, page) {
-            Some(row) => Some(row.frame),
-            None => None,
-        }
+        self.pages.get(user, page)
     }
 
     /// Whether each page's frame is one of the pool's.
     pub fn is_within<B: Allocator>(&self, pool: &Pool<B>) -> bool
         ensures { result ≡ are_within self.now.pages pool.now.holds }
     {
-        self.pages.iter().all(|row| pool.has(row.frame))
+        self.pages.are_within(pool)
     }
 
     /// Gives the user the page that holds this user address, in bytes: the least free frame, with one hold, which
@@ -84,6 +81,8 @@ impl<A: Allocator> UserMap<A> {
         user: UserNo,
         va: u64,
     ) -> Result<FrameNo, MapError>
+    where
+        A: Copy,
         ensures refused { IfSome (map_refusal self.old.pages pool.old.holds user (page_of va))
             (λ cause. result ≡ Err (MapError.Refused (record { cause = cause }))) }
         ensures taken { IfNone (map_refusal self.old.pages pool.old.holds user (page_of va))
@@ -106,12 +105,12 @@ impl<A: Allocator> UserMap<A> {
         if !pool.has_free() {
             return Err(refused(Cause::Frames));
         }
-        if self.pages.reserve(1).is_err() {
+        if self.pages.reserve().is_err() {
             return Err(MapError::Memory(NoMemory));
         }
         match pool.take() {
             Ok(frame) => {
-                user_rows::add(&mut self.pages, user, va / PAGE_SIZE, frame);
+                self.pages.add(user, va / PAGE_SIZE, frame);
                 Ok(frame)
             }
             Err(refusal) => Err(MapError::Refused(refusal)),
@@ -147,7 +146,7 @@ impl<A: Allocator> UserMap<A> {
                 cause: Cause::Absent,
             });
         };
-        user_rows::remove(&mut self.pages, user, va / PAGE_SIZE);
+        self.pages.remove(user, va / PAGE_SIZE);
         pool.release(frame);
         Ok(())
     }

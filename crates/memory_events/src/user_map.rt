@@ -35,7 +35,11 @@ pub fn refusal<A: Allocator>(state: &State<A>, user: UserNo, va: u64) -> Option<
 /// What it does where nothing refuses it: the page gets the least frame that nobody reaches, and reads zero.
 ///
 /// The only error is want of memory. It leaves the world as it was.
-pub fn commit<A: Allocator>(state: &mut State<A>, user: UserNo, va: u64) -> Result<Reply, NoMemory>
+pub fn commit<A: Allocator + Copy>(
+    state: &mut State<A>,
+    user: UserNo,
+    va: u64,
+) -> Result<Reply, NoMemory>
     requires { IsGranted (event.UserMap user va) state.old }
     ensures ok { IfOk result (λ reply. (at : ℕ) (via : Option FrameNo)
         → ChosenSteps at (event.UserMap user va) via state.old reply state.new) }

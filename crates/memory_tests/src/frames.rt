@@ -108,7 +108,12 @@ fn word_set(pool: &mut Pool, frame: FrameNo, index: usize, value: u64) -> Answer
     Answer::Done
 }
 
-fn mapped<A: Allocator>(map: &mut UserMap<A>, pool: &mut Pool, user: u16, address: u64) -> Answer {
+fn mapped<A: Allocator + Copy>(
+    map: &mut UserMap<A>,
+    pool: &mut Pool,
+    user: u16,
+    address: u64,
+) -> Answer {
     match map.map(pool, UserNo(user), address) {
         Ok(frame) => Answer::Gives(u64::from(frame.0)),
         Err(MapError::Refused(refusal)) => Answer::Refused(refusal.cause),

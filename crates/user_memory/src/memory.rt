@@ -174,6 +174,8 @@ impl<A: Allocator> UserMemory<A> {
         user: UserNo,
         va: u64,
     ) -> Result<FrameNo, NoMemory>
+    where
+        A: Copy,
         requires absent { frames.frame_at self.old.pages user (page_of va) ≡ None }
         requires free { IsSome (least_free pool.old.holds) }
         ensures least { IfOk result (λ frame. least_free pool.old.holds ≡ Some frame.0) }
