@@ -1,7 +1,7 @@
-//! Calls one after the other with what each answers, and what no clause says: that there is memory, and how long large maps take.
+//! Calls one after the other with what each answers, and what no clause says: that there is memory.
 
-use crate::heaps::block;
-use crate::spans::{TOP, are, span};
+use self::Answer::{Counts, Done, Gives, Is, Looks, Nothing};
+use crate::spans::{TOP, are, block, span};
 use area_map::{Areas, InsertError};
 use iofd_words::{Area, Cause, DeviceNo, DeviceSet, FileNo, ObjId, Phase, Rights, Span};
 use linked_list_allocator::LocalHeap;
@@ -36,7 +36,7 @@ enum Call {
 
 /// What a call answers.
 #[derive(Clone, Copy, PartialEq, Eq)]
-enum Answer {
+pub(crate) enum Answer {
     Done,
     Is(bool),
     Gives(u64),
@@ -49,7 +49,8 @@ enum Answer {
 
 const OVERLAP: Answer = Answer::Refused(Cause::Overlap);
 
-fn added<A: Allocator + Copy>(areas: &mut Areas<A>, span: Span, memory: u64) -> Answer {
+// Adds an area of the span, with this memory object.
+pub(crate) fn added<A: Allocator + Copy>(areas: &mut Areas<A>, span: Span, memory: u64) -> Answer {
     let area = Area {
         file: FileNo(1),
         ioas: ObjId(1),
@@ -59,28 +60,22 @@ fn added<A: Allocator + Copy>(areas: &mut Areas<A>, span: Span, memory: u64) -> 
         phase: Phase::Live,
     };
     match areas.insert(area) {
-        Ok(()) => Answer::Done,
+        Ok(()) => Done,
         Err(InsertError::Refused(refusal)) => Answer::Refused(refusal.cause),
         Err(InsertError::Memory(_)) => Answer::NoMemory,
     }
 }
 
 fn found(area: Option<&Area>) -> Answer {
-    match area {
-        Some(area) => Answer::Gives(area.memory),
-        None => Answer::Nothing,
-    }
+    area.map_or(Nothing, |area| Gives(area.memory))
 }
 
-// A span that isn't covered is refused for its span.
 fn looked(areas: &Areas, span: Span) -> Answer {
-    match areas.covered(span) {
-        Ok(()) => Answer::Looks(areas.meets(span), areas.cuts(span), true),
-        Err(refusal) if refusal.cause == Cause::Span => {
-            Answer::Looks(areas.meets(span), areas.cuts(span), false)
-        }
-        Err(refusal) => Answer::Refused(refusal.cause),
-    }
+    Looks(
+        areas.meets(span),
+        areas.cuts(span),
+        areas.covered(span).is_ok(),
+    )
 }
 
 fn left(areas: &mut Areas, span: Span, devices: &[u16]) -> Answer {
@@ -91,29 +86,27 @@ fn left(areas: &mut Areas, span: Span, devices: &[u16]) -> Answer {
         }
     }
     areas.mark_leaving(span, &owed);
-    Answer::Done
+    Done
 }
 
 fn taken(areas: &mut Areas, span: Span, memories: &[u64]) -> Answer {
-    if areas.count_within(span) != memories.len() {
-        return Answer::Is(false);
-    }
-    for memory in memories {
-        if !areas.has_memory_within(span, *memory) {
-            return Answer::Is(false);
-        }
+    let are_there = memories
+        .iter()
+        .all(|memory| areas.has_memory_within(span, *memory));
+    if !are_there || areas.count_within(span) != memories.len() {
+        return Is(false);
     }
     areas.remove(span);
-    Answer::Done
+    Done
 }
 
 fn have(areas: &Areas, memories: &[u64]) -> bool {
-    for (area, memory) in areas.iter().zip(memories) {
-        if area.memory != *memory {
-            return false;
-        }
-    }
-    areas.len() == memories.len() && areas.is_empty() == memories.is_empty()
+    areas.len() == memories.len()
+        && areas.is_empty() == memories.is_empty()
+        && areas
+            .iter()
+            .zip(memories)
+            .all(|(area, memory)| area.memory == *memory)
 }
 
 fn asked(areas: &mut Areas, span: Span, call: Call) -> Answer {
@@ -123,15 +116,15 @@ fn asked(areas: &mut Areas, span: Span, call: Call) -> Answer {
         Call::Exact => return found(areas.exact(span)),
         Call::Look => return looked(areas, span),
         Call::Leave(devices) => return left(areas, span, devices),
-        Call::Owes => return Answer::Is(areas.owes(span)),
-        Call::MostTries => return Answer::Gives(u64::from(areas.most_tries(span))),
-        Call::Amount => return Answer::Counts(areas.count_within(span), areas.bytes_within(span)),
+        Call::Owes => return Is(areas.owes(span)),
+        Call::MostTries => return Gives(u64::from(areas.most_tries(span))),
+        Call::Amount => return Counts(areas.count_within(span), areas.bytes_within(span)),
         Call::Take(memories) => return taken(areas, span, memories),
-        Call::Have(memories) => return Answer::Is(have(areas, memories)),
+        Call::Have(memories) => return Is(have(areas, memories)),
         Call::Pay(device) => areas.pay(DeviceNo(device)),
         Call::SetTries(tries) => areas.set_tries(span, tries),
     }
-    Answer::Done
+    Done
 }
 
 /// A call for the span from a first to a last address, and what it answers.
@@ -150,123 +143,102 @@ fn first_wrong(areas: &mut Areas, rows: &[Row]) -> Option<usize> {
 
 // Two areas that touch, one behind a gap, and one that ends at the last address, added in no order.
 const FOUR: &[Row] = &[
-    (0, TOP, Call::Have(&[]), Answer::Is(true)),
-    (0x2000, 0x2fff, Call::Add(12), Answer::Done),
-    (TOP - 0xfff, TOP, Call::Add(14), Answer::Done),
-    (0x1000, 0x1fff, Call::Add(11), Answer::Done),
-    (0x5000, 0x7fff, Call::Add(13), Answer::Done),
-    (0, TOP, Call::Have(&[11, 12, 13, 14]), Answer::Is(true)),
+    (0, TOP, Call::Have(&[]), Is(true)),
+    (0x2000, 0x2fff, Call::Add(12), Done),
+    (TOP - 0xfff, TOP, Call::Add(14), Done),
+    (0x1000, 0x1fff, Call::Add(11), Done),
+    (0x5000, 0x7fff, Call::Add(13), Done),
+    (0, TOP, Call::Have(&[11, 12, 13, 14]), Is(true)),
 ];
 
-const BY_ADDRESS: &[Row] = &[
-    (0xfff, 0xfff, Call::At, Answer::Nothing),
-    (0x1000, 0x1000, Call::At, Answer::Gives(11)),
-    (0x1fff, 0x1fff, Call::At, Answer::Gives(11)),
-    (0x2000, 0x2000, Call::At, Answer::Gives(12)),
-    (0x2fff, 0x2fff, Call::At, Answer::Gives(12)),
-    (0x3000, 0x3000, Call::At, Answer::Nothing),
-    (0x7fff, 0x7fff, Call::At, Answer::Gives(13)),
-    (0x8000, 0x8000, Call::At, Answer::Nothing),
-    (TOP - 0x1000, TOP, Call::At, Answer::Nothing),
-    (TOP, TOP, Call::At, Answer::Gives(14)),
-];
-
-const BY_SPAN: &[Row] = &[
-    (0x5000, 0x7fff, Call::Exact, Answer::Gives(13)),
-    (0x5000, 0x7ffe, Call::Exact, Answer::Nothing),
-    (0x1000, 0x2fff, Call::Exact, Answer::Nothing),
-    (0x1000, 0x2fff, Call::Amount, Answer::Counts(2, 0x2000)),
-    (0, TOP, Call::Amount, Answer::Counts(4, 0x6000)),
-];
-
-const MET: &[Row] = &[
-    (0, 0xfff, Call::Look, Answer::Looks(false, false, false)),
-    (0, 0x1000, Call::Look, Answer::Looks(true, true, false)),
-    (0x1000, 0x2fff, Call::Look, Answer::Looks(true, false, true)),
-    (0x1800, 0x27ff, Call::Look, Answer::Looks(true, true, true)),
-    (
-        0x1000,
-        0x3000,
-        Call::Look,
-        Answer::Looks(true, false, false),
-    ),
-    (
-        0x3000,
-        0x4fff,
-        Call::Look,
-        Answer::Looks(false, false, false),
-    ),
-    (0x3000, 0x5000, Call::Look, Answer::Looks(true, true, false)),
-    (0x5000, TOP, Call::Look, Answer::Looks(true, false, false)),
-    (TOP, TOP, Call::Look, Answer::Looks(true, true, true)),
+const FOUND: &[Row] = &[
+    (0xfff, 0xfff, Call::At, Nothing),
+    (0x1000, 0x1000, Call::At, Gives(11)),
+    (0x1fff, 0x1fff, Call::At, Gives(11)),
+    (0x2000, 0x2000, Call::At, Gives(12)),
+    (0x2fff, 0x2fff, Call::At, Gives(12)),
+    (0x3000, 0x3000, Call::At, Nothing),
+    (0x7fff, 0x7fff, Call::At, Gives(13)),
+    (0x8000, 0x8000, Call::At, Nothing),
+    (TOP - 0x1000, TOP, Call::At, Nothing),
+    (TOP, TOP, Call::At, Gives(14)),
+    (0x5000, 0x7fff, Call::Exact, Gives(13)),
+    (0x5000, 0x7ffe, Call::Exact, Nothing),
+    (0x1000, 0x2fff, Call::Exact, Nothing),
+    (0x1000, 0x2fff, Call::Amount, Counts(2, 0x2000)),
+    (0, TOP, Call::Amount, Counts(4, 0x6000)),
+    (0, 0xfff, Call::Look, Looks(false, false, false)),
+    (0, 0x1000, Call::Look, Looks(true, true, false)),
+    (0x1000, 0x2fff, Call::Look, Looks(true, false, true)),
+    (0x1800, 0x27ff, Call::Look, Looks(true, true, true)),
+    (0x1000, 0x3000, Call::Look, Looks(true, false, false)),
+    (0x3000, 0x4fff, Call::Look, Looks(false, false, false)),
+    (0x3000, 0x5000, Call::Look, Looks(true, true, false)),
+    (0x5000, TOP, Call::Look, Looks(true, false, false)),
+    (TOP, TOP, Call::Look, Looks(true, true, true)),
 ];
 
 const REFUSED: &[Row] = &[
     // an area that is leaving is in the way, too
-    (0x5000, 0x7fff, Call::Leave(&[]), Answer::Done),
+    (0x5000, 0x7fff, Call::Leave(&[]), Done),
     (0, 0x1000, Call::Add(15), OVERLAP),
     (0x2fff, 0x3fff, Call::Add(15), OVERLAP),
     (0x6000, 0x6fff, Call::Add(15), OVERLAP),
     (0, TOP, Call::Add(15), OVERLAP),
-    (0, TOP, Call::Have(&[11, 12, 13, 14]), Answer::Is(true)),
-    (0x3000, 0x4fff, Call::Add(15), Answer::Done),
-    (0x4fff, 0x4fff, Call::At, Answer::Gives(15)),
+    (0, TOP, Call::Have(&[11, 12, 13, 14]), Is(true)),
+    (0x3000, 0x4fff, Call::Add(15), Done),
+    (0x4fff, 0x4fff, Call::At, Gives(15)),
 ];
 
-const OWED: &[Row] = &[
-    (0x1000, 0x2fff, Call::Leave(&[1, 256]), Answer::Done),
+const LEAVING: &[Row] = &[
+    (0x1000, 0x2fff, Call::Leave(&[1, 256]), Done),
     // a second leaving changes nothing
-    (0x1000, 0x2fff, Call::Leave(&[]), Answer::Done),
-    (0x5000, 0x7fff, Call::Owes, Answer::Is(false)),
-    (0, 0, Call::Pay(2), Answer::Done),
-    (0x1000, 0x2fff, Call::Owes, Answer::Is(true)),
-    (0, 0, Call::Pay(1), Answer::Done),
-    (0x1000, 0x2fff, Call::Owes, Answer::Is(true)),
-    (0, 0, Call::Pay(256), Answer::Done),
-    (0x1000, 0x2fff, Call::Owes, Answer::Is(false)),
-];
-
-const TRIED: &[Row] = &[
-    (0x1000, 0x2fff, Call::Leave(&[1]), Answer::Done),
-    (0x1000, 0x2fff, Call::MostTries, Answer::Gives(0)),
-    (0x2000, 0x7fff, Call::SetTries(7), Answer::Done),
-    (0x1000, 0x2fff, Call::MostTries, Answer::Gives(7)),
-    (0x1000, 0x1fff, Call::MostTries, Answer::Gives(0)),
-];
-
-const TAKEN: &[Row] = &[
-    (0x1000, 0x2fff, Call::Take(&[11, 12]), Answer::Done),
-    (0, TOP, Call::Have(&[13, 14]), Answer::Is(true)),
-    (0x5000, 0x5000, Call::At, Answer::Gives(13)),
+    (0x1000, 0x2fff, Call::Leave(&[]), Done),
+    (0x5000, 0x7fff, Call::Owes, Is(false)),
+    (0, 0, Call::Pay(2), Done),
+    (0x1000, 0x2fff, Call::Owes, Is(true)),
+    (0, 0, Call::Pay(1), Done),
+    (0x1000, 0x2fff, Call::Owes, Is(true)),
+    (0, 0, Call::Pay(256), Done),
+    (0x1000, 0x2fff, Call::Owes, Is(false)),
+    (0x1000, 0x2fff, Call::MostTries, Gives(0)),
+    (0x2000, 0x7fff, Call::SetTries(7), Done),
+    (0x1000, 0x2fff, Call::MostTries, Gives(7)),
+    (0x1000, 0x1fff, Call::MostTries, Gives(0)),
+    (0x1000, 0x2fff, Call::Take(&[11, 12]), Done),
+    (0, TOP, Call::Have(&[13, 14]), Is(true)),
+    (0x5000, 0x5000, Call::At, Gives(13)),
 ];
 
 // At the two ends of all addresses.
 const ENDS: &[Row] = &[
-    (0, 0xfff, Call::Add(10), Answer::Done),
-    (0, 0, Call::At, Answer::Gives(10)),
-    (0, 0xfff, Call::Exact, Answer::Gives(10)),
-    (0, 0x2fff, Call::Look, Answer::Looks(true, false, true)),
-    (TOP, TOP, Call::At, Answer::Gives(14)),
-    (TOP - 0xfff, TOP, Call::Exact, Answer::Gives(14)),
-    (0, TOP, Call::Amount, Answer::Counts(5, 0x7000)),
-    (0, TOP, Call::Leave(&[7]), Answer::Done),
-    (0, 0xfff, Call::Owes, Answer::Is(true)),
-    (TOP - 0xfff, TOP, Call::Owes, Answer::Is(true)),
-    (0, 0xfff, Call::Take(&[10]), Answer::Done),
-    (0, 0, Call::Pay(7), Answer::Done),
-    (0, TOP, Call::Owes, Answer::Is(false)),
-    (0, TOP, Call::Take(&[11, 12, 13, 14]), Answer::Done),
-    (0, TOP, Call::Have(&[]), Answer::Is(true)),
+    (0, 0xfff, Call::Add(10), Done),
+    (0, 0xfff, Call::Exact, Gives(10)),
+    (0, 0, Call::At, Gives(10)),
+    (0, 0x2fff, Call::Look, Looks(true, false, true)),
+    (TOP, TOP, Call::At, Gives(14)),
+    (TOP - 0xfff, TOP, Call::Exact, Gives(14)),
+    (0, TOP, Call::Amount, Counts(5, 0x7000)),
+    (0, TOP, Call::Leave(&[7]), Done),
+    (0, 0xfff, Call::Owes, Is(true)),
+    (TOP - 0xfff, TOP, Call::Owes, Is(true)),
+    (0, 0xfff, Call::Take(&[10]), Done),
+    (0, 0, Call::Pay(7), Done),
+    (0, TOP, Call::Owes, Is(false)),
+    (0, TOP, Call::Take(&[11, 12, 13, 14]), Done),
+    (0, TOP, Call::Have(&[]), Is(true)),
 ];
 
-static TABLES: [(&str, &[Row]); 8] = [
-    ("areas are found by address", BY_ADDRESS),
-    ("areas are found by their span, and counted", BY_SPAN),
-    ("spans meet, cut and are covered", MET),
+static TABLES: [(&str, &[Row]); 4] = [
+    (
+        "areas are found by address and span, and counted; spans meet, cut and are covered",
+        FOUND,
+    ),
     ("an area that meets another is refused", REFUSED),
-    ("leaving areas owe until all have paid", OWED),
-    ("leaving areas count their tries", TRIED),
-    ("areas are taken away", TAKEN),
+    (
+        "leaving areas owe until all have paid, count their tries, and are taken away",
+        LEAVING,
+    ),
     ("areas lie at the ends of all addresses", ENDS),
 ];
 
@@ -279,100 +251,53 @@ fn each_call_answers_as_its_row_says(rt: HostRuntime) {
     }
 }
 
-// So many areas of a page, each with a free page behind it. They have the memory objects from 0 on.
-fn pages(alloc: Global, count: u16) -> Result<Areas, Fail> {
+// So many areas of a page, from 0 on and so far apart. They have the memory objects from 0 on.
+fn pages(alloc: Global, count: u16, step: u64) -> Result<Areas, Fail> {
     let mut areas = Areas::new(alloc);
     for number in 0..u64::from(count) {
-        let page = span(0x2000 * number, 0x2000 * number + 0xfff)?;
-        if added(&mut areas, page, number) != Answer::Done {
+        let first = (step % 0x10000) * number;
+        if added(&mut areas, span(first, first + 0xfff)?, number) != Done {
             Err("a page that isn't added")?;
         }
     }
     Ok(areas)
 }
 
-// Whether each of these areas is found by its last address, and none by the next one.
-fn are_found(areas: &Areas, count: u16) -> bool {
-    for number in 0..u64::from(count) {
-        let last = 0x2000 * number + 0xfff;
-        if found(areas.at(last)) != Answer::Gives(number) || areas.at(last + 1).is_some() {
-            return false;
-        }
-    }
-    areas.len() == usize::from(count)
-}
-
-const FULL: &[Row] = &[
-    (0x1000, 0x1fff, Call::Add(1), Answer::Refused(Cause::Full)),
-    (0x1000, 0x2000, Call::Add(1), OVERLAP),
+// Pages side by side, of which one goes.
+const SIDE_BY_SIDE: &[Row] = &[
+    (0, 0xf9_ffff, Call::Look, Looks(true, false, true)),
+    (0xfff, 0xf9_f000, Call::Look, Looks(true, true, true)),
+    (0, 0xfa_0000, Call::Look, Looks(true, false, false)),
+    (0x80_0000, 0x80_0fff, Call::Take(&[0x800]), Done),
+    (0, 0xf9_ffff, Call::Look, Looks(true, false, false)),
 ];
 
 #[test]
-fn as_many_areas_as_may_be(rt: HostRuntime) -> Result<(), Fail> {
-    let mut areas = pages(rt.alloc(), 65_535)?;
-    assert!(rt; first_wrong(&mut areas, FULL).is_none());
-    assert!(rt; are_found(&areas, 65_535));
-    assert!(rt; areas.is_full());
+fn many_areas_cover_a_span(rt: HostRuntime) -> Result<(), Fail> {
+    let mut areas = pages(rt.alloc(), 4_000, 0x1000)?;
+    assert_eq!(rt; first_wrong(&mut areas, SIDE_BY_SIDE), None);
     Ok(())
 }
 
-// Adds 4,000 pages from the last one down to 0x1000. Whether all came in.
-fn adds_falling(areas: &mut Areas) -> bool {
-    for number in 0..4_000u64 {
-        let first = 0x1000 * (4_000 - number);
-        match Span::new(first, first + 0xfff) {
-            Some(page) if added(areas, page, number) == Answer::Done => {}
-            _ => return false,
-        }
-    }
-    true
-}
-
-const FALLING: &[Row] = &[
-    (0x1000, 0x1000, Call::At, Answer::Gives(3_999)),
-    (0xfa_0000, 0xfa_0fff, Call::Exact, Answer::Gives(0)),
-    (
-        0x1000,
-        0xfa_0fff,
-        Call::Look,
-        Answer::Looks(true, false, true),
-    ),
-];
-
-#[test]
-fn areas_from_the_top_down(rt: HostRuntime) {
-    let mut areas = Areas::new(rt.alloc());
-    assert!(rt; adds_falling(&mut areas));
-    assert!(rt; first_wrong(&mut areas, FALLING).is_none());
-}
-
-// Adds a page at the address.
-fn page_added(areas: &mut Areas<&LocalHeap>, first: u64) -> Answer {
-    match Span::of_length(first, 0x1000) {
-        Some(page) => added(areas, page, 1),
-        None => Answer::Nothing,
-    }
-}
-
 // Adds every second page while a block takes some of the heap, and says at which memory is refused.
-fn page_refused(areas: &mut Areas<&LocalHeap>, heap: &LocalHeap, size: usize) -> Option<u16> {
+fn page_refused(areas: &mut Areas<&LocalHeap>, heap: &LocalHeap, size: usize) -> Option<Span> {
     let _block = block(heap, size).ok()?;
-    for number in 0..1000u16 {
-        if page_added(areas, 0x2000 * u64::from(number)) == Answer::NoMemory {
-            return Some(number);
+    for number in 0..1000u64 {
+        let page = Span::of_length(0x2000 * number, 0x1000)?;
+        if added(areas, page, 1) == Answer::NoMemory {
+            return Some(page);
         }
     }
     None
 }
 
 // Whether the refused page changed nothing, and is added once there is memory.
-fn is_added_later(areas: &mut Areas<&LocalHeap>, number: u16) -> bool {
-    let first = 0x2000 * u64::from(number);
-    areas.len() == usize::from(number)
-        && areas.at(first).is_none()
+fn is_added_later(areas: &mut Areas<&LocalHeap>, page: Span) -> bool {
+    areas.len() as u64 == page.first() / 0x2000
+        && areas.at(page.first()).is_none()
         && areas.reserve().is_ok()
-        && page_added(areas, first) == Answer::Done
-        && areas.at(first + 0xfff).is_some()
+        && added(areas, page, 1) == Done
+        && areas.at(page.last()).is_some()
 }
 
 // Whether memory is refused beside a block of this size, and then nothing has changed.
@@ -380,7 +305,7 @@ fn keeps_its_areas(alloc: Global, size: usize) -> Result<bool, AllocError> {
     let heap = LocalHeap::new(alloc, 1 << 15)?;
     let mut areas: Areas<&LocalHeap> = Areas::new(&heap);
     match page_refused(&mut areas, &heap, size) {
-        Some(number) => Ok(is_added_later(&mut areas, number)),
+        Some(page) => Ok(is_added_later(&mut areas, page)),
         None => Ok(false),
     }
 }
@@ -396,7 +321,7 @@ fn a_refused_growth_changes_nothing(rt: HostRuntime) -> Result<(), Fail> {
 
 #[test]
 fn a_list_of_spans_needs_memory(rt: HostRuntime) -> Result<(), Fail> {
-    let areas = pages(rt.alloc(), 3)?;
+    let areas = pages(rt.alloc(), 3, 0x2000)?;
     let ends = [(0, 0xfff), (0x2000, 0x2fff), (0x4000, 0x4fff)];
     let spans = areas.spans(rt.alloc())?;
     assert!(rt; are(&spans, &ends));

@@ -4,8 +4,6 @@
 #[cfg(test)]
 mod areas;
 #[cfg(test)]
-mod heaps;
-#[cfg(test)]
 mod many_areas;
 #[cfg(test)]
 mod ranges;

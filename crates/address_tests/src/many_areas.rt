@@ -1,45 +1,22 @@
 //! As many areas as may be, added in one order and removed in another, beside a plain list of which are there.
 
+use crate::areas::{Answer, added};
 use crate::spans::TOP;
 use area_map::Areas;
-use iofd_words::{Area, FileNo, ObjId, Phase, Rights, Span};
+use iofd_words::{Area, Cause, Span};
 use std::alloc::{AllocError, Global};
 use std::test::Fail;
 
 const COUNT: usize = 65_535;
 
-/// An order of the areas' numbers: the place times a factor without a divisor in common with their count.
-#[derive(Clone, Copy)]
-struct Order(usize);
-
-const RISING: Order = Order(1);
-
-const FALLING: Order = Order(COUNT - 1);
-
-const MIXED: Order = Order(28_657);
-
-const OTHER: Order = Order(40_009);
-
-impl Order {
-    fn number(self, place: usize) -> usize {
-        (place % COUNT) * (self.0 % COUNT) % COUNT
-    }
+// An order is a factor for the areas' places, without a divisor in common with their count.
+fn number_at(place: usize, order: usize) -> usize {
+    (place % COUNT) * (order % COUNT) % COUNT
 }
 
 // The page of an area. A free page lies behind it.
 fn page(number: usize) -> Option<Span> {
     Span::of_length(0x2000 * (number % COUNT) as u64, 0x1000)
-}
-
-fn area(number: usize) -> Option<Area> {
-    Some(Area {
-        file: FileNo(1),
-        ioas: ObjId(1),
-        span: page(number)?,
-        memory: number as u64,
-        rights: Rights(3),
-        phase: Phase::Live,
-    })
 }
 
 /// The areas, and for each number whether its area should be among them.
@@ -55,10 +32,8 @@ impl Pair {
         for _number in 0..COUNT {
             there.push(false)?;
         }
-        Ok(Pair {
-            areas: Areas::new(alloc),
-            there,
-        })
+        let areas = Areas::new(alloc);
+        Ok(Pair { areas, there })
     }
 
     fn has(&self, number: usize) -> bool {
@@ -71,15 +46,13 @@ impl Pair {
         }
     }
 
-    // Adds the areas at these places of the order. Whether all came in.
-    fn adds(&mut self, order: Order, from: usize, to: usize) -> bool {
-        for place in from..to {
-            let number = order.number(place);
-            let Some(area) = area(number) else {
-                return false;
-            };
-            if self.areas.insert(area).is_err() {
-                return false;
+    // Adds all areas in this order. Whether all came in.
+    fn adds(&mut self, order: usize) -> bool {
+        for place in 0..COUNT {
+            let number = number_at(place, order);
+            match page(number) {
+                Some(span) if added(&mut self.areas, span, number as u64) == Answer::Done => {}
+                _ => return false,
             }
             self.note(number, true);
         }
@@ -87,9 +60,9 @@ impl Pair {
     }
 
     // Removes those at these places of the order.
-    fn removes(&mut self, order: Order, from: usize, to: usize) {
+    fn removes(&mut self, order: usize, from: usize, to: usize) {
         for place in from..to {
-            let number = order.number(place);
+            let number = number_at(place, order);
             if let Some(span) = page(number) {
                 self.areas.remove(span);
                 self.note(number, false);
@@ -144,56 +117,46 @@ impl Pair {
         let mut next = 0;
         for area in self.areas.iter() {
             let number = area.memory as usize;
-            for missing in next..number {
-                if self.has(missing) {
-                    return false;
-                }
-            }
-            if !self.has(number) {
+            if !self.has(number) || (next..number).any(|missing| self.has(missing)) {
                 return false;
             }
             next = number.saturating_add(1);
         }
-        (next..COUNT).all(|number| !self.has(number))
+        !(next..COUNT).any(|number| self.has(number))
+    }
+
+    // Whether an area of this length behind the first one is refused for this cause.
+    fn refuses(&mut self, length: u64, cause: Cause) -> bool {
+        match Span::of_length(0x1000, length) {
+            Some(span) => added(&mut self.areas, span, 1) == Answer::Refused(cause),
+            None => false,
+        }
     }
 }
 
 // Whether the look-ups agree while the areas come in the one order and go in the other.
-fn agree(alloc: Global, order: Order, other: Order) -> Result<bool, AllocError> {
+fn agree(alloc: Global, order: usize, other: usize) -> Result<bool, AllocError> {
     let mut pair = Pair::new(alloc)?;
-    if !pair.adds(order, 0, COUNT) || !pair.agrees() || !pair.areas.is_full() {
-        return Ok(false);
-    }
+    let all = pair.adds(order) && pair.agrees() && pair.areas.is_full();
+    let full = pair.refuses(0x1001, Cause::Overlap) && pair.refuses(0x1000, Cause::Full);
     pair.removes(other, 0, COUNT / 2);
-    if !pair.agrees() {
-        return Ok(false);
-    }
+    let half = pair.agrees();
     pair.removes(other, COUNT / 2, COUNT);
-    Ok(pair.is_in_order() && pair.areas.is_empty())
+    Ok(all && full && half && pair.is_in_order() && pair.areas.is_empty())
 }
 
 #[test]
-fn areas_come_by_rising_start(rt: HostRuntime) -> Result<(), Fail> {
-    assert!(rt; agree(rt.alloc(), RISING, MIXED)?);
-    Ok(())
-}
-
-#[test]
-fn areas_come_by_falling_start(rt: HostRuntime) -> Result<(), Fail> {
-    assert!(rt; agree(rt.alloc(), FALLING, OTHER)?);
-    Ok(())
-}
-
-#[test]
-fn areas_come_in_no_order(rt: HostRuntime) -> Result<(), Fail> {
-    assert!(rt; agree(rt.alloc(), MIXED, OTHER)?);
+fn areas_come_and_go_in_any_order(rt: HostRuntime) -> Result<(), Fail> {
+    for (order, other) in [(1, 28_657), (COUNT - 1, 40_009), (28_657, 40_009)] {
+        assert!(rt; agree(rt.alloc(), order, other)?);
+    }
     Ok(())
 }
 
 #[test]
 fn all_areas_go_at_once(rt: HostRuntime) -> Result<(), Fail> {
     let mut pair = Pair::new(rt.alloc())?;
-    assert!(rt; pair.adds(OTHER, 0, COUNT));
+    assert!(rt; pair.adds(40_009));
     let all = Span::new(0, TOP).ok_or("no span")?;
     assert_eq!(rt; pair.areas.count_within(all), COUNT);
     pair.areas.remove(all);

@@ -1,7 +1,8 @@
-//! Spans by their first and last numbers.
+//! Spans by their first and last numbers, and a heap of which a part is taken.
 
 use iofd_words::Span;
-use std::alloc::Global;
+use linked_list_allocator::LocalHeap;
+use std::alloc::{AllocError, Global};
 use std::test::Fail;
 
 pub(crate) const TOP: u64 = 0xffff_ffff_ffff_ffff;
@@ -27,4 +28,9 @@ pub(crate) fn are(spans: &[Span], ends: &[(u64, u64)]) -> bool {
         }
     }
     spans.len() == ends.len()
+}
+
+// So many bytes of the heap, which come back when the block is dropped.
+pub(crate) fn block(heap: &LocalHeap, size: usize) -> Result<Vec<u8, &LocalHeap>, AllocError> {
+    Vec::with_capacity(heap, size)
 }

@@ -1,10 +1,10 @@
 -- Areas in rows: where a row begins and ends, and what stands before and behind it.
-use Rattle.std.proofs.Common.{◌≡◌, ℕ, suc, zero, ◌+◌, ◌<◌, ◌≤◌, Bool, true, false, List, [], ◌∷◌, ◌++◌, length, get_or, take, drop, map, refl, sym, ap, ◌∙◌, append_assoc, arith, ⊎_elim}
+use Rattle.std.proofs.Common.{◌≡◌, ℕ, suc, zero, ◌+◌, ◌<◌, ◌≤◌, Bool, true, false, List, [], ◌∷◌, ◌++◌, length, get_or, take, drop, map, refl, sym, ap, ◌∙◌, append_assoc, append-nil, arith, ⊎_elim}
 use Rattle.std.specs.List.{filter, prefix_len}
 use Rattle.std.specs.List.Sorted.{IsNonDecreasingBy}
 use Rattle.std.proofs.lemmas.Bool.{cases_Bool}
 use Rattle.std.proofs.lemmas.Bool.Decides.{nat_tests}
-use Rattle.std.proofs.lemmas.List.{map-append, take_at}
+use Rattle.std.proofs.lemmas.List.{map-append, take_at, take_all, drop_all}
 use Rattle.iofd_words.specs.declared.rows.Area.{Area}
 use Rattle.area_map.specs.Areas.{AreApartFrom}
 use Rattle.area_map.specs.Rows.{in_rows, AreRows, start_of, end_of}
@@ -133,3 +133,7 @@ prefix_len_stops p (y ∷ xs) others x is =
 -- what stands in a vector of rows after they were written as a slice
 pub written_back : (rows new is : List (List Area)) (n : ℕ) → new ≡ is → length is ≡ n → take n (new ++ drop (length new) rows) ≡ is
 written_back rows new is n same long = take_at new (drop (length new) rows) n (ap length same ∙ long) ∙ same
+
+-- each row changed, once all have been passed
+pub map_over_all : (f : List Area → List Area) (xs ys : List (List Area)) (i : ℕ) → length xs ≤ i → ys ≡ map f (take i xs) ++ drop i xs → ys ≡ map f xs
+map_over_all f xs ys i long is = is ∙ rw (take_all i xs long, drop_all i xs long) (append-nil (map f xs))

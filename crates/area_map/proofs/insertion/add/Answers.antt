@@ -6,6 +6,11 @@ use Rattle.area_map.proofs.Rows.{written_back}
 use Rattle.area_map.proofs.RowsAdded.{added_in_row, row-apart, row-alone, row-few, full_row, added_row, rows-before, rows-behind}
 use Rattle.area_map.proofs.insertion.add.Goals as goal
 
+pub add_to-requires-clause-bound : goal.add_to-requires-clause-bound
+add_to-requires-clause-bound g c =
+    let within : c.args.index < length c.args.rows.now.items = grind (arith, nat_tests) in
+    rw c.deref_mut.ensures.value within
+
 pub add_to-requires-clause-apart : goal.add_to-requires-clause-apart
 add_to-requires-clause-apart g c =
     let within : c.args.index < length c.args.rows.now.items = grind (arith, nat_tests) in
@@ -20,6 +25,26 @@ pub add_to-requires-clause-alone : goal.add_to-requires-clause-alone
 add_to-requires-clause-alone g c =
     let within : c.args.index < length c.args.rows.now.items = grind (arith, nat_tests) in
     rw c.deref_mut.ensures.value (row-alone c.args.area.span c.args.rows.now.items c.args.index within c.requires.alone)
+
+pub split-requires-clause-bound : goal.split-requires-clause-bound
+split-requires-clause-bound g c =
+    let within : c.args.index < length c.args.rows.now.items = grind (arith, nat_tests) in
+    let is = rw c.deref_mut.ensures.value at c.add_to.ensures.rows in
+    let same = length-set c.args.rows.now.items c.args.index (with_area c.args.area (get_or c.args.rows.now.items c.args.index [])) in
+    let written = written_back c.args.rows.now.items c.add_to.new.rows (set c.args.rows.now.items c.args.index (with_area c.args.area (get_or c.args.rows.now.items c.args.index []))) c.args.rows.now.len is (same ∙ omega arith) in
+    rw (written, same) within
+
+pub split-requires-clause-spare : goal.split-requires-clause-spare
+split-requires-clause-spare g c = c.requires.spare
+
+pub returns-then-add_to-clause-rows : goal.returns-then-add_to-clause-rows
+returns-then-add_to-clause-rows g c = c.split.ensures.rows
+
+pub returns-else-add_to-clause-spare : goal.returns-else-add_to-clause-spare
+returns-else-add_to-clause-spare g c = c.requires.spare
+
+pub add_first-requires-clause-spare : goal.add_first-requires-clause-spare
+add_first-requires-clause-spare g c = c.requires.spare
 
 pub split-requires-clause-full : goal.split-requires-clause-full
 split-requires-clause-full g c =

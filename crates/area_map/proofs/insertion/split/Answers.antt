@@ -24,3 +24,13 @@ returns-in-Some-clause-areas g c =
 pub returns-in-Some-clause-rows : goal.returns-in-Some-clause-rows
 returns-in-Some-clause-rows g c =
     rw (parted g c) (parts_are_rows c.args.rows.now.items c.args.index c.split_place-at.result c.requires.bound c.requires.full c.split_place-at.ensures.some c.split_place-at.ensures.few c.requires.before c.requires.behind)
+
+pub cut-requires-clause-bound : goal.cut-requires-clause-bound
+cut-requires-clause-bound g c = rw c.deref_mut.ensures.value c.requires.bound
+
+pub cut-requires-clause-few : goal.cut-requires-clause-few
+cut-requires-clause-few g c = rw c.deref_mut.ensures.value (omega (arith, c.requires.full))
+
+pub cut-requires-clause-at : goal.cut-requires-clause-at
+cut-requires-clause-at g c =
+    rw c.deref_mut.ensures.value (omega (arith, c.requires.full, c.split_place-at.ensures.few))

@@ -7,6 +7,26 @@ use Rattle.area_map.proofs.Rows.{written_back}
 use Rattle.area_map.proofs.RowsAdded.{in_rows-join, AreRows-join}
 use Rattle.area_map.proofs.joining.join.Goals as goal
 
+pub remove-next-requires : goal.remove-next-requires
+remove-next-requires g c =
+    let within : c.args.index + 1 < length c.args.rows.now.items = rw c.deref.ensures.value at (c.if-not-are_few.ensures.two refl) in
+    omega arith
+
+pub take_over-requires-clause-bound : goal.take_over-requires-clause-bound
+take_over-requires-clause-bound g c =
+    let within : c.args.index + 1 < length c.args.rows.now.items = rw c.deref.ensures.value at (c.if-not-are_few.ensures.two refl) in
+    rw c.deref_mut.ensures.value (omega arith)
+
+pub take_over-requires-clause-few : goal.take_over-requires-clause-few
+take_over-requires-clause-few g c =
+    let items : List (List Area) = c.args.rows.now.items in
+    let i = c.args.index in
+    let within : i + 1 < length items = rw c.deref.ensures.value at (c.if-not-are_few.ensures.two refl) in
+    let few = rw c.deref.ensures.value at (c.if-not-are_few.ensures.few refl) in
+    let same = get_or-remove_below items (i + 1) [] i (omega arith) within in
+    let next = c.remove-next.ensures.value ∙ get_or_default items (i + 1) c.remove-next.result [] within in
+    rw (c.deref_mut.ensures.value, c.remove-next.ensures.items, same) (omega (arith, few, ap length next))
+
 pub returns-clause-areas : goal.returns-clause-areas
 returns-clause-areas g c =
     let items : List (List Area) = c.args.rows.now.items in

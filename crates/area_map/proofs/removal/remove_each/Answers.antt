@@ -3,6 +3,7 @@ use Rattle.std.proofs.lemmas.List.Edits.{map_over_more}
 use Rattle.iofd_words.specs.declared.rows.Area.{Area}
 use Rattle.area_map.specs.Areas.{areas_outside}
 use Rattle.area_map.proofs.RowsRemoved.{length-set_row}
+use Rattle.area_map.proofs.Rows.{map_over_all}
 use Rattle.area_map.proofs.removal.remove_each.Goals as goal
 
 pub overflow_add-removed : goal.overflow_add-removed
@@ -27,3 +28,6 @@ loop-row-preserved g c =
       rows = ap (λ (row : List Area). set rows c.loop-row.row-index row) new ∙ step;
       count = omega (arith, changed, all, own);
     }
+
+pub returns-clause-areas : goal.returns-clause-areas
+returns-clause-areas g c = map_over_all (areas_outside c.args.span) c.args.rows.now c.loop-row.rows c.loop-row.row-index (omega arith) c.loop-row.invariant.rows

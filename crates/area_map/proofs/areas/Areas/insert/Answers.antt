@@ -1,9 +1,43 @@
-use Rattle.std.proofs.Common.{◌≡◌, false, List, sym, arith}
+use Rattle.std.proofs.Common.{◌≡◌, false, List, refl, sym, arith}
 use Rattle.iofd_words.specs.declared.rows.Area.{Area}
 use Rattle.iofd_words.specs.Areas.{areas_meet}
 use Rattle.area_map.specs.Rows.{in_rows}
 use Rattle.area_map.proofs.RowsKept.{rows_with}
 use Rattle.area_map.proofs.areas.Areas.insert.Goals as goal
+
+pub meets-requires-clause-apart : goal.meets-requires-clause-apart
+meets-requires-clause-apart g c = rw c.deref.ensures.value c.self.invariant.0.kept.apart
+
+pub meets-requires-clause-rows : goal.meets-requires-clause-rows
+meets-requires-clause-rows g c = rw c.deref.ensures.value c.self.invariant.0.each
+
+pub row_for-index-requires-clause-apart : goal.row_for-index-requires-clause-apart
+row_for-index-requires-clause-apart g c = rw c.deref-2.ensures.value c.self.invariant.0.kept.apart
+
+pub row_for-index-requires-clause-rows : goal.row_for-index-requires-clause-rows
+row_for-index-requires-clause-rows g c = rw c.deref-2.ensures.value c.self.invariant.0.each
+
+pub prepare-requires : goal.prepare-requires
+prepare-requires g c = c.self.invariant.1
+
+pub invariant_of-self : goal.invariant_of-self
+invariant_of-self g c = (rw c.prepare.ensures.rows c.self.invariant.0, c.prepare.ensures.spare)
+
+pub returns-then-is_err-clause-err : goal.returns-then-is_err-clause-err
+returns-then-is_err-clause-err g c = rw (c.prepare.ensures.rows, ← c.self.view_is) refl
+
+pub add-requires-clause-apart : goal.add-requires-clause-apart
+add-requires-clause-apart g c = rw c.prepare.ensures.rows c.self.invariant.0.kept.apart
+
+pub add-requires-clause-rows : goal.add-requires-clause-rows
+add-requires-clause-rows g c = rw c.prepare.ensures.rows c.self.invariant.0.each
+
+pub add-requires-clause-spare : goal.add-requires-clause-spare
+add-requires-clause-spare g c = c.prepare.ensures.spare
+
+pub add-requires-clause-alone : goal.add-requires-clause-alone
+add-requires-clause-alone g c =
+    rw (c.prepare.ensures.rows, ← c.deref.ensures.value) (sym c.if-meets.ensures)
 
 pub invariant_of-self-2 : goal.invariant_of-self-2
 invariant_of-self-2 g c =
@@ -16,3 +50,16 @@ invariant_of-self-2 g c =
       rows_with a rows c.add.new.rows.items c.self.inside.count c.self.inside.leaving hull.result c.self.invariant.0 c.add.ensures.rows added (omega arith) alone (omega arith) hull.ensures.area (hull.ensures.others (in_rows rows) leave),
       c.add.ensures.spare,
     )
+
+pub returns-clause-ok : goal.returns-clause-ok
+returns-clause-ok g c = rw (← c.self.view_is) (rw c.prepare.ensures.rows at c.add.ensures.areas)
+
+pub returns-then-meets-clause-room : goal.returns-then-meets-clause-room
+returns-then-meets-clause-room g c = omega arith
+
+pub returns-then-self-ge-MOST_AREAS-clause-room : goal.returns-then-self-ge-MOST_AREAS-clause-room
+returns-then-self-ge-MOST_AREAS-clause-room g c = omega arith
+
+pub add-requires-clause-place : goal.add-requires-clause-place
+add-requires-clause-place g c =
+    rw c.prepare.ensures.rows (rw (c.deref-2.ensures.value, c.first.ensures.value) at c.row_for-index.ensures)
