@@ -6,3 +6,4 @@ pub mod Orders
 pub mod Beginnings
 pub mod Bools
 pub mod Spans
+pub mod Ascii

@@ -1,68 +1,56 @@
 //! Numbers in digits.
 
-ghost use Rattle.std.specs.Prelude.{◌≡◌, ◌≤◌, ◌<◌, ◌^◌, ◌*◌, ◌+◌, nat_lt, if◌then◌else◌, Some, None, IsTrue};
+ghost use Rattle.std.specs.Prelude.{◌≡◌, ◌≤◌, ◌^◌, ◌*◌, ◌+◌, ◌&&◌, nat_lt, if◌then◌else◌, Some, None};
 ghost use Rattle.std.specs.Char.{digit_value};
-ghost use Rattle.std.specs.Str.Parse.{digits_value};
-ghost use Rattle.iommufd_script.specs.Digits.{are_digits, number_of, decimal, hexadecimal};
+ghost use Rattle.iommufd_script.specs.Digits.{decimal, hexadecimal};
 
-// The value of a digit: 0 to 9, then the letters of either case from 10 on; 36 for any other byte.
+// The value of each byte as a digit: 0 to 9, then the letters of either case from 10 on; 36 for any other byte.
+static DIGIT_VALUES: [u8; 256] = [
+    36, 36, 36, 36, 36, 36, 36, 36, 36, 36, 36, 36, 36, 36, 36, 36, 36, 36, 36, 36, 36, 36, 36, 36,
+    36, 36, 36, 36, 36, 36, 36, 36, 36, 36, 36, 36, 36, 36, 36, 36, 36, 36, 36, 36, 36, 36, 36, 36,
+    0, 1, 2, 3, 4, 5, 6, 7, 8, 9, 36, 36, 36, 36, 36, 36, 36, 10, 11, 12, 13, 14, 15, 16, 17, 18,
+    19, 20, 21, 22, 23, 24, 25, 26, 27, 28, 29, 30, 31, 32, 33, 34, 35, 36, 36, 36, 36, 36, 36, 10,
+    11, 12, 13, 14, 15, 16, 17, 18, 19, 20, 21, 22, 23, 24, 25, 26, 27, 28, 29, 30, 31, 32, 33, 34,
+    35, 36, 36, 36, 36, 36, 36, 36, 36, 36, 36, 36, 36, 36, 36, 36, 36, 36, 36, 36, 36, 36, 36, 36,
+    36, 36, 36, 36, 36, 36, 36, 36, 36, 36, 36, 36, 36, 36, 36, 36, 36, 36, 36, 36, 36, 36, 36, 36,
+    36, 36, 36, 36, 36, 36, 36, 36, 36, 36, 36, 36, 36, 36, 36, 36, 36, 36, 36, 36, 36, 36, 36, 36,
+    36, 36, 36, 36, 36, 36, 36, 36, 36, 36, 36, 36, 36, 36, 36, 36, 36, 36, 36, 36, 36, 36, 36, 36,
+    36, 36, 36, 36, 36, 36, 36, 36, 36, 36, 36, 36, 36, 36, 36, 36, 36, 36, 36, 36, 36, 36, 36, 36,
+    36, 36, 36, 36, 36, 36, 36, 36, 36, 36, 36, 36, 36, 36,
+];
+
+// The value of a digit, and 36 for any other byte. The table spares branches, which each byte of a script would take.
 pub fn digit_of(c: u8) -> u8
     ensures value { result ≡ digit_value c }
     ensures within { result ≤ 36 }
 {
-    match c {
-        b'0'..=b'9' => c - b'0',
-        b'A'..=b'Z' => c - b'A' + 10,
-        b'a'..=b'z' => c - b'a' + 10,
-        _ => 36,
-    }
+    DIGIT_VALUES[c as usize]
 }
 
-// Whether each byte is a digit of this base.
-fn all_digits(text: &[u8], base: u8) -> bool
-    ensures { result ≡ are_digits base text.now }
+// The number with one more decimal digit; None where the byte is no such digit, or the number would be 2^64 or more.
+fn with_decimal(number: u64, c: u8) -> Option<u64>
+    ensures { let next = number * 10 + digit_value c in
+        result ≡ (if nat_lt (digit_value c) 10 && nat_lt next (2 ^ 64) then Some next else None) }
 {
-    text.iter().all(|c| digit_of(*c) < base)
-}
-
-// The number with one more digit; None where it's 2^64 or more.
-fn with_digit(number: u64, base: u8, c: u8) -> Option<u64>
-    ensures { let next = number * base + digit_value c in result ≡ (if nat_lt next (2 ^ 64) then Some next else None) }
-{
-    number
-        .checked_mul(u64::from(base))?
-        .checked_add(u64::from(digit_of(c)))
-}
-
-// The number that digits spell; None where it's 2^64 or more.
-fn value_of(text: &[u8], base: u8) -> Option<u64>
-    requires { 0 < base }
-    ensures { let value = digits_value base text.now in result ≡ (if nat_lt value (2 ^ 64) then Some value else None) }
-{
-    let mut number: u64 = 0;
-    for c in text {
-        number = with_digit(number, base, *c)?;
-    }
-    Some(number)
-}
-
-// The number below 2^64 that at least one digit spells, and nothing else.
-#[tactic(auto, unfolding(crate::specs::Digits::number_of))]
-fn number(text: &[u8], base: u8) -> Option<u64>
-    requires { 0 < base }
-    ensures { result ≡ number_of base 64 text.now }
-{
-    if text.is_empty() || !all_digits(text, base) {
+    let digit = digit_of(c);
+    if digit >= 10 {
         return None;
     }
-    value_of(text, base)
+    number.checked_mul(10)?.checked_add(u64::from(digit))
 }
 
 // The decimal number below 2^64.
 pub fn decimal_u64(text: &[u8]) -> Option<u64>
     ensures { result ≡ decimal 64 text.now }
 {
-    number(text, 10)
+    if text.is_empty() {
+        return None;
+    }
+    let mut number: u64 = 0;
+    for c in text {
+        number = with_decimal(number, *c)?;
+    }
+    Some(number)
 }
 
 // The decimal number below 2^32.
@@ -70,7 +58,7 @@ pub fn decimal_u64(text: &[u8]) -> Option<u64>
 pub fn decimal_u32(text: &[u8]) -> Option<u32>
     ensures { result ≡ decimal 32 text.now }
 {
-    u32::try_from(number(text, 10)?).ok()
+    u32::try_from(decimal_u64(text)?).ok()
 }
 
 // The decimal number below 2^16.
@@ -78,7 +66,7 @@ pub fn decimal_u32(text: &[u8]) -> Option<u32>
 pub fn decimal_u16(text: &[u8]) -> Option<u16>
     ensures { result ≡ decimal 16 text.now }
 {
-    u16::try_from(number(text, 10)?).ok()
+    u16::try_from(decimal_u64(text)?).ok()
 }
 
 // The number below 2^64 of at most 16 hexadecimal digits.
@@ -88,7 +76,18 @@ pub fn hexadecimal_u64(text: &[u8]) -> Option<u64>
     if text.len() > 16 {
         return None;
     }
-    number(text, 16)
+    if text.is_empty() {
+        return None;
+    }
+    let mut number: u64 = 0;
+    for c in text {
+        let digit = digit_of(*c);
+        if digit >= 16 {
+            return None;
+        }
+        number = number * 16 + u64::from(digit);
+    }
+    Some(number)
 }
 
 // The number below 2^32 of at most 16 hexadecimal digits.

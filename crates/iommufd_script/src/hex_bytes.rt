@@ -7,7 +7,6 @@ ghost use Rattle.iofd_words.specs.Settings.{is_between};
 ghost use Rattle.iommufd_script.specs.Digits.{bytes_of, is_lower_digit, pairs};
 ghost use Rattle.iommufd_script.specs.Fields.{kept_if};
 
-use crate::digits::digit_of;
 use iofd_words::{Burst, NoMemory};
 use std::alloc::Allocator;
 use std::marker::Model;
@@ -32,17 +31,31 @@ impl<'a> Model for HexBytes<'a> {
     ghost invariant = { λ bytes. list_all is_lower_digit bytes.digits.now ≡ true };
 }
 
-// Whether each character is a hexadecimal digit in lower case.
+// Whether each character is a hexadecimal digit in lower case. It goes on past one that isn't, so that the compiler
+// can test many at once.
 fn are_lower_digits(text: &[u8]) -> bool
     ensures { result ≡ list_all is_lower_digit text.now }
 {
-    text.iter().all(|c| is_lower_digit(*c))
+    let mut all = true;
+    for c in text {
+        all &= is_lower_digit(*c);
+    }
+    all
 }
 
 fn is_lower_digit(c: u8) -> bool
     ensures { result ≡ is_lower_digit c }
 {
-    digit_of(c) < 16 && !c.is_ascii_uppercase()
+    matches!(c, b'0'..=b'9' | b'a'..=b'f')
+}
+
+// The four bits of a hexadecimal digit. A letter's low bits count from 1, and bit 6 is set in letters alone; so no
+// digit needs a branch or a table, and the compiler can take many at once.
+fn bits_of(digit: u8) -> u8
+    requires { digit_value digit < 16 }
+    ensures { result ≡ digit_value digit }
+{
+    (digit & 15) + 9 * (digit >> 6)
 }
 
 // The byte of two digits, the high four bits first.
@@ -51,7 +64,7 @@ fn byte_of(high: u8, low: u8) -> u8
     requires low { digit_value low < 16 }
     ensures { result ≡ 16 * digit_value high + digit_value low }
 {
-    digit_of(high) * 16 + digit_of(low)
+    bits_of(high) * 16 + bits_of(low)
 }
 
 // The byte at a place of those that the digits are.
@@ -101,11 +114,15 @@ impl<'a> HexBytes<'a> {
         ensures ok { IfOk result (λ bytes. bytes.items ≡ self.now) }
         ensures memory { OnErr result (0 < length self.now) }
     {
-        let mut bytes = Vec::with_capacity(alloc, self.len())?;
-        for i in 0..self.len() {
-            bytes.push(self.byte_at(i))?;
+        let len = self.len();
+        if len == 0 {
+            return Ok(Vec::new(alloc));
         }
-        Ok(bytes)
+        let mut vec = vec![in alloc; 0; len]?;
+        for i in 0..len {
+            vec[i] = self.byte_at(i);
+        }
+        Ok(vec)
     }
 
     // They, as the bytes of one access; None where they aren't 1 to 64.

@@ -4,8 +4,9 @@
 ghost use Rattle.std.specs.Prelude.{◌≡◌};
 ghost use Rattle.std.specs.Char.{is_ascii};
 ghost use Rattle.std.specs.List.{list_all};
+ghost use Rattle.iommufd_script.specs.Fields.{fields};
 ghost use Rattle.iommufd_script.specs.Grammar.{head_of, step_at};
-ghost use Rattle.iommufd_script.specs.Lines.{is_skipped, line_of};
+ghost use Rattle.iommufd_script.specs.Lines.{is_skipped, line_of, worded};
 ghost use Rattle.iommufd_script.specs.declared.keyword.HeadKeyword.TheVariants as head;
 ghost use Rattle.iommufd_script.specs.declared.keyword.StepKeyword.TheVariants as step;
 
@@ -231,21 +232,30 @@ fn is_skipped(text: &[u8]) -> bool
     text.is_empty() || text[0] == b'#'
 }
 
-/// What a line says, given without its line feed; None where it isn't of the grammar. It takes no
-/// memory, and takes time by the line's length alone.
-#[tactic(auto, unfolding(crate::specs::Lines::line_of))]
-pub fn parse_line(text: &[u8]) -> Option<Line<'_>>
-    ensures { result ≡ line_of text.now }
+// What a line says by its first word and the fields behind it.
+fn worded_line(text: &[u8]) -> Option<Line<'_>>
+    ensures { result ≡ worded (fields text.now) }
 {
-    if !is_ascii_text(text) {
-        return None;
-    }
-    if is_skipped(text) {
-        return Some(Line::Skipped);
-    }
     let (word, fields) = Fields::of(text).split()?;
     if let Some(keyword) = head_keyword(word) {
         return Some(Line::Head(head_line(keyword, fields)?));
     }
     Some(Line::Step(step(step_keyword(word)?, fields)?))
+}
+
+/// What a line says, given without its line feed; None where it isn't of the grammar. It takes no
+/// memory, and takes time by the line's length alone.
+#[tactic(auto, using(crate::proofs::Ascii::line_is_worded), unfolding(crate::specs::Lines::line_of))]
+pub fn parse_line(text: &[u8]) -> Option<Line<'_>>
+    ensures { result ≡ line_of text.now }
+{
+    if !is_skipped(text) {
+        // The grammar's words and fields are of ASCII alone, so nothing has to test the line for it.
+        return worded_line(text);
+    }
+    if is_ascii_text(text) {
+        Some(Line::Skipped)
+    } else {
+        None
+    }
 }

@@ -1,20 +1,59 @@
 //! Text, split at single bytes.
 
-ghost use Rattle.std.specs.Prelude.{◌≡◌, ◌==◌, ◌≤◌, ◌<◌, [], ◌∷◌, MatchOption, length};
-ghost use Rattle.std.specs.List.{position_or_len, slice_split};
+ghost use Rattle.std.specs.Prelude.{◌≡◌, ◌≢◌, ◌==◌, ◌≤◌, ◌<◌, ◌+◌, ℕ, [], ◌∷◌, MatchOption, length, not, slice_index};
+ghost use Rattle.std.specs.List.{position_or_len, prefix_len, slice_split};
+ghost use Rattle.std.specs.Simd.Lanes.{chunk};
 ghost use Rattle.iommufd_script.specs.Lines.{lines};
+
+use std::simd::prelude::*;
+
+// How many bytes are looked at together.
+const STRIDE: usize = 16;
+
+// How many of the bytes of a stride from this place on come before the first such byte.
+fn count_before(text: &[u8], at: usize, byte: u8) -> usize
+    requires { at + 16 ≤ length text.now }
+    ensures { result ≡ prefix_len (λ c. not (c == byte)) (chunk at 16 text.now) }
+{
+    let hits = u8x16::from_slice(&text[at..])
+        .simd_eq(u8x16::splat(byte))
+        .to_bitmask();
+    if hits == 0 {
+        STRIDE
+    } else {
+        hits.trailing_zeros() as usize
+    }
+}
+
+// Where the first such byte is, or the text's length, if none comes before this place.
+fn first_place_from(text: &[u8], start: usize, byte: u8) -> usize
+    requires start { start ≤ length text.now }
+    requires before { (k : ℕ) → k < start → slice_index text.now k ≢ byte }
+    ensures place { result ≡ position_or_len (λ c. c == byte) text.now }
+    ensures within { result ≤ length text.now }
+{
+    for i in start..text.len() {
+        if text[i] == byte {
+            return i;
+        }
+    }
+    text.len()
+}
 
 // Where the first such byte is, or the text's length.
 pub fn first_place(text: &[u8], byte: u8) -> usize
     ensures place { result ≡ position_or_len (λ c. c == byte) text.now }
     ensures within { result ≤ length text.now }
 {
-    for (i, c) in text.iter().enumerate() {
-        if *c == byte {
-            return i;
+    let mut start = 0;
+    while text.len() - start >= STRIDE {
+        let before = count_before(text, start, byte);
+        if before < STRIDE {
+            return start + before;
         }
+        start += STRIDE;
     }
-    text.len()
+    first_place_from(text, start, byte)
 }
 
 // The part before the first such byte, and the text behind it; None where there is no such byte.
