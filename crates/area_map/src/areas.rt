@@ -125,7 +125,8 @@ impl<A: Allocator> Areas<A> {
 
     /// The areas that lie in the span, by rising start.
     pub fn within(&self, span: Span) -> Iter<'_, A>
-        ensures { result ≡ areas_within span self.now.areas }
+        ensures value { result ≡ areas_within span self.now.areas }
+        ensures kept { AreKept self.now.areas }
     {
         lookups::within(&self.rows, span)
     }

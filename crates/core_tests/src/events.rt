@@ -1,9 +1,10 @@
 //! The worked script, each call once, and a refused growth at each step.
 
+use iofd_words::Cause::{Absent, Cross, Frames, Id, InUse, Overlap};
 use iofd_words::{
-    AccessKind, Act, Answer, Burst, Cause, Config, DeviceConfig, DeviceNo, Errno, Event, Fault,
-    FaultReason, FileNo, FrameNo, Iova, MapFlags, MapRequest, NoMemory, ObjId, PassNo, Query,
-    Refusal, Reply, SourceId, SpanList, UnmapRequest, UserNo, Width,
+    AccessKind, Act, Answer, Burst, Config, DeviceConfig, DeviceNo, Errno, Event, Fault,
+    FaultReason, FileNo, FrameNo, Iova, IovaRange, MapFlags, MapRequest, NoMemory, ObjId, PassNo,
+    Query, RangeList, Refusal, Reply, SourceId, Span, SpanList, UnmapRequest, UserNo, Width,
 };
 use iommufd_core::{Core, Stamp};
 use linked_list_allocator::LocalHeap;
@@ -12,17 +13,17 @@ use std::test::Fail;
 
 const DEVICE: DeviceNo = DeviceNo(1);
 
-const FIRST: FileNo = FileNo(1);
+pub(crate) const FIRST: FileNo = FileNo(1);
 
 const SECOND: FileNo = FileNo(2);
 
-/// A pool of two frames, a user with two files, and a device of width 39.
-fn config(alloc: Global) -> Result<Config, Fail> {
+/// A pool of two frames, a user with two files, and a device of width 39 that keeps these spans for itself.
+pub(crate) fn config(alloc: Global, reserved: &[Span]) -> Result<Config, Fail> {
     let device = DeviceConfig::new(
         SourceId(0x18),
         Width::Bits39,
         false,
-        SpanList::new(Vec::new(alloc)),
+        SpanList::new(Vec::from_slice(alloc, reserved)?),
     );
     let users = vec![in alloc; 4]?;
     let files = vec![in alloc; UserNo(1), UserNo(1)]?;
@@ -33,8 +34,10 @@ fn config(alloc: Global) -> Result<Config, Fail> {
 
 /// An event of the script, with what stands in all of them left out.
 #[derive(Clone, Copy)]
-enum Step {
+pub(crate) enum Step {
     Alloc(FileNo),
+    /// An ALLOW_IOVAS of these ranges.
+    Allow(&'static [(u64, u64)]),
     /// The user's page at this address is mapped.
     Page(u64),
     /// The user gives up its page at this address.
@@ -43,6 +46,8 @@ enum Step {
     UserWrite,
     /// A MAP of the user's page at 0x10000 to this address.
     Map(u64),
+    /// A MAP of the user's two pages at 0x10000 to an address that the server chooses.
+    Choose,
     Bind,
     Attach,
     /// The device writes the last two bytes of the page at 0x1000.
@@ -63,6 +68,12 @@ const REQUEST: MapRequest = MapRequest {
     iova: Iova(0x1000),
 };
 
+const CHOOSE: MapRequest = MapRequest {
+    flags: MapFlags(6),
+    length: 0x2000,
+    ..REQUEST
+};
+
 const UNMAP: UnmapRequest = UnmapRequest {
     ioas: ObjId(1),
     iova: Iova(0x1000),
@@ -76,14 +87,28 @@ fn map(iova: u64) -> MapRequest {
     }
 }
 
-fn event(step: Step) -> Result<Event, Fail> {
+/// The ranges from these addresses to these.
+fn list<A: Allocator>(alloc: A, ranges: &[(u64, u64)]) -> Result<RangeList<A>, Fail> {
+    let mut list = Vec::new(alloc);
+    for (start, last) in ranges {
+        list.push(IovaRange {
+            start: *start,
+            last: *last,
+        })?;
+    }
+    Ok(RangeList::new(list))
+}
+
+pub(crate) fn event<A: Allocator>(alloc: A, step: Step) -> Result<Event<A>, Fail> {
     let bytes = Burst::new(&[0xbe, 0xef]).ok_or("two bytes")?;
     Ok(match step {
         Step::Alloc(file) => Event::IoasAlloc(file),
+        Step::Allow(ranges) => Event::AllowIovas(FIRST, ObjId(1), list(alloc, ranges)?),
         Step::Page(va) => Event::UserMap(UserNo(1), va),
         Step::GiveUp(va) => Event::UserUnmap(UserNo(1), va),
         Step::UserWrite => Event::UserWrite(UserNo(1), 0x10ffe, bytes),
         Step::Map(iova) => Event::Map(FIRST, map(iova)),
+        Step::Choose => Event::Map(FIRST, CHOOSE),
         Step::Bind => Event::Bind(FIRST, DEVICE),
         Step::Attach => Event::Attach(DEVICE, ObjId(1)),
         Step::Write => Event::DeviceWrite(DEVICE, Iova(0x1ffe), bytes),
@@ -95,23 +120,15 @@ fn event(step: Step) -> Result<Event, Fail> {
     })
 }
 
-const UNKNOWN: Reply = Reply::Refused(Refusal { cause: Cause::Id });
+pub(crate) const UNKNOWN: Reply = Reply::Refused(Refusal { cause: Id });
 
-const IN_USE: Reply = Reply::Refused(Refusal {
-    cause: Cause::InUse,
-});
+const IN_USE: Reply = Reply::Refused(Refusal { cause: InUse });
 
-const OVERLAP: Reply = Reply::Refused(Refusal {
-    cause: Cause::Overlap,
-});
+const OVERLAP: Reply = Reply::Refused(Refusal { cause: Overlap });
 
-const ABSENT: Reply = Reply::Refused(Refusal {
-    cause: Cause::Absent,
-});
+const ABSENT: Reply = Reply::Refused(Refusal { cause: Absent });
 
-const NO_FRAME: Reply = Reply::Refused(Refusal {
-    cause: Cause::Frames,
-});
+const NO_FRAME: Reply = Reply::Refused(Refusal { cause: Frames });
 
 /// A fault at the page 1.
 const DENIED: Fault = Fault {
@@ -160,13 +177,16 @@ fn read(iova: u64, len: u8) -> Query {
     }
 }
 
-fn apply<A: Allocator + Copy>(core: &mut Core<A>, event: Event) -> Result<Stamp, NoMemory> {
+pub(crate) fn apply<A: Allocator + Copy>(
+    core: &mut Core<A>,
+    event: Event<A>,
+) -> Result<Stamp, NoMemory> {
     core.apply(PassNo(0), &Act { event, via: None })
 }
 
 /// Whether the event is answered so, under the next number, and one record more is told.
-fn answers(core: &mut Core, step: Step, reply: Reply) -> Result<bool, Fail> {
-    let event = event(step)?;
+fn answers(alloc: Global, core: &mut Core, step: Step, reply: Reply) -> Result<bool, Fail> {
+    let event = event(alloc, step)?;
     let count = core.records().len();
     let stamp = apply(core, event)?;
     Ok(
@@ -178,20 +198,23 @@ fn answers(core: &mut Core, step: Step, reply: Reply) -> Result<bool, Fail> {
 
 #[test]
 fn worked_script_has_its_replies(rt: HostRuntime) -> Result<(), Fail> {
-    let config = config(rt.alloc())?;
+    let config = config(rt.alloc(), &[])?;
     let mut core = Core::new(rt.alloc(), &config)?;
     for (place, (step, reply)) in SCRIPT.iter().enumerate() {
-        assert!(rt; answers(&mut core, *step, *reply)?, "event {place}");
+        assert!(rt;
+            answers(rt.alloc(), &mut core, *step, *reply)?,
+            "event {place}"
+        );
     }
     Ok(())
 }
 
 /// A core that the first steps of the script have gone through.
 fn core_after(alloc: Global, steps: usize) -> Result<Core, Fail> {
-    let config = config(alloc)?;
+    let config = config(alloc, &[])?;
     let mut core = Core::new(alloc, &config)?;
     for (step, _) in SCRIPT.iter().take(steps) {
-        apply(&mut core, event(*step)?)?;
+        apply(&mut core, event(alloc, *step)?)?;
     }
     Ok(core)
 }
@@ -215,9 +238,7 @@ const UNMAPPED: Fault = Fault {
     ..BEYOND
 };
 
-const CROSSES: Reply = Reply::Refused(Refusal {
-    cause: Cause::Cross,
-});
+const CROSSES: Reply = Reply::Refused(Refusal { cause: Cross });
 
 /// How many steps have gone before a read, its address and length, and its refusal or fault.
 static READS: [(usize, u64, u8, Reply); 5] = [
@@ -288,8 +309,10 @@ fn a_cached_frame_may_be_used_until_the_flush(rt: HostRuntime) -> Result<(), Fai
     Ok(())
 }
 
-/// Takes all that the heap has left, in blocks of its least size.
-fn fill(alloc: Global, heap: &LocalHeap) -> Result<Vec<Vec<u8, &LocalHeap>>, AllocError> {
+type Blocks<'a> = Vec<Vec<u8, &'a LocalHeap>>;
+
+/// Takes all that the heap has but so many blocks of its least size.
+pub(crate) fn fill(alloc: Global, heap: &LocalHeap, left: u64) -> Result<Blocks<'_>, AllocError> {
     let mut blocks = Vec::new(alloc);
     for _ in 0..2048 {
         let Ok(block) = Vec::with_capacity(heap, 1) else {
@@ -297,67 +320,66 @@ fn fill(alloc: Global, heap: &LocalHeap) -> Result<Vec<Vec<u8, &LocalHeap>>, All
         };
         blocks.push(block)?;
     }
+    blocks.truncate(blocks.len().saturating_sub(left as usize));
     Ok(blocks)
 }
 
 /// Whether no core opens in a full heap.
 fn is_refused(alloc: Global, heap: &LocalHeap, config: &Config) -> Result<bool, AllocError> {
-    let _blocks = fill(alloc, heap)?;
+    let _blocks = fill(alloc, heap, 0)?;
     Ok(Core::new(heap, config).is_err())
 }
 
 /// What the event is answered with so much memory left in blocks of the least size; None where it wants for some.
-fn apply_with<'a>(
+pub(crate) fn apply_with<'a>(
     alloc: Global,
     heap: &'a LocalHeap,
     core: &mut Core<&'a LocalHeap>,
-    event: Event,
+    act: &Act<&'a LocalHeap>,
     left: u64,
 ) -> Result<Option<Reply>, AllocError> {
-    let mut blocks = fill(alloc, heap)?;
-    for _ in 0..left {
-        blocks.pop();
-    }
-    match apply(core, event) {
+    let _blocks = fill(alloc, heap, left)?;
+    match core.apply(PassNo(0), act) {
         Ok(stamp) => Ok(Some(stamp.reply)),
         Err(NoMemory) => Ok(None),
     }
 }
 
-fn same(holds: bool) -> Result<(), Fail> {
+pub(crate) fn same(holds: bool) -> Result<(), Fail> {
     let wanted = if holds { Some(()) } else { None };
     Ok(wanted.ok_or("want of memory changed something")?)
 }
 
-/// The event with ever more memory left, until it is taken: its reply, and how often it found none, which changed nothing.
+/// The event with ever more memory left, until it is taken: its reply, and how often it found none and changed nothing.
 fn apply_at_last<'a>(
     alloc: Global,
     heap: &'a LocalHeap,
     core: &mut Core<&'a LocalHeap>,
-    event: Event,
+    event: Event<&'a LocalHeap>,
 ) -> Result<(Reply, u64), Fail> {
+    let act = Act { event, via: None };
     let before = core.records().len();
     let seen = core.look(&read(0x1ffe, 2));
     for left in 0..2048u64 {
-        let answer = apply_with(alloc, heap, core, event, left)?;
+        let answer = apply_with(alloc, heap, core, &act, left)?;
         if let Some(reply) = answer {
             return Ok((reply, left));
         }
         same(core.records().len() == before)?;
         same(core.look(&read(0x1ffe, 2)) == seen)?;
     }
-    Ok((apply(core, event)?.reply, 2048))
+    Ok((core.apply(PassNo(0), &act)?.reply, 2048))
 }
 
 #[test]
 fn a_refused_growth_changes_nothing(rt: HostRuntime) -> Result<(), Fail> {
-    let config = config(rt.alloc())?;
+    let config = config(rt.alloc(), &[])?;
     let heap = LocalHeap::new(rt.alloc(), 30720)?;
     assert!(rt; is_refused(rt.alloc(), &heap, &config)?);
     let mut core = Core::new(&heap, &config)?;
     let mut refused_steps = 0u32;
     for (step, reply) in &SCRIPT {
-        let (answer, refusals) = apply_at_last(rt.alloc(), &heap, &mut core, event(*step)?)?;
+        let (answer, refusals) = apply_at_last(rt.alloc(), &heap, &mut core, event(&heap, *step)?)?;
         assert!(rt; answer == *reply);
         refused_steps = refused_steps.saturating_add(u32::from(refusals > 0));
     }

@@ -5,4 +5,6 @@
 #[cfg(test)]
 mod events;
 #[cfg(test)]
+mod growth;
+#[cfg(test)]
 mod refusal_order;

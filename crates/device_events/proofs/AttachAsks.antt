@@ -202,7 +202,7 @@ module _ {A : Type 0} where
       unused_w = ap (λ (rows : List Object). has_hwpt rows bound.file pt_id) shows.objects.rows ∙ unused
 
       passed : AttachPassed (seen s) device pt_id bound
-      passed = attach_passed (seen s) device pt_id bound binding (same_refusal w s shows (event.Attach device pt_id) ∙ granted.none)
+      passed = attach_passed (seen s) device pt_id bound binding (same_refusal w s shows {E = A} (event.Attach device pt_id) ∙ granted.none)
 
       rest : (b c : Bool) → b ≡ false → (not b && c) ≡ false → c ≡ false
       rest true c is both = cc

@@ -1,17 +1,17 @@
 -- An attachment that comes: what its page table pins.
 use Rattle.std.proofs.Common.{◌≡◌, ℕ, ◌+◌, Bool, true, false, ◌&&◌, ◌||◌, eqb, Option, Some, None, List, refl, sym, ◌∙◌, arith}
-use Rattle.iofd_runs.proofs.NotRefused.{attach_passed, passes}
+use Rattle.iofd_runs.proofs.NotRefused.{attach_passed}
 use Rattle.std.specs.Prelude.{is_some}
 use Rattle.std.proofs.lemmas.Bool.Decides.{nat_tests}
 use Rattle.iofd_words.specs.Areas.{areas_of}
 use Rattle.iofd_words.specs.Attachments.{attachment_of}
-use Rattle.iofd_words.specs.Checks.{checks, refusal}
+use Rattle.iofd_words.specs.Checks.{attach_checks}
+use Rattle.iofd_words.specs.FirstTrue.{first_true}
 use Rattle.iofd_words.specs.Objects.{binding_of, has_hwpt, with_object}
 use Rattle.iofd_words.specs.View.{view}
 use Rattle.iofd_words.specs.World.{World}
 use Rattle.memory_rows.proofs.Gone.{table_lost}
 use Rattle.memory_rows.specs.Shown.{over, translated}
-use Rattle.iofd_words.specs.declared.event.Event.TheVariants as event
 use Rattle.iofd_words.specs.declared.numbers.DeviceNo.{DeviceNo}
 use Rattle.iofd_words.specs.declared.numbers.FileNo.{FileNo}
 use Rattle.iofd_words.specs.declared.numbers.ObjId.{ObjId}
@@ -26,16 +26,16 @@ use Rattle.iofd_rows.proofs.PageTables.{hwpt-with_object, hwpt_alike}
 -- ---- what was refused
 
 -- a device that isn't bound
-pub never_unbound : {X : Type 0} (w : World) (device : DeviceNo) (pt_id : ObjId) → refusal w (event.Attach device pt_id) ≡ None → binding_of w.objects device ≡ None → X
-unfolding refusal checks
-never_unbound w device pt_id none is = let refused = rw (is, checks) at none in absurd (some_none refused)
+pub never_unbound : {X : Type 0} (w : World) (device : DeviceNo) (pt_id : ObjId) → first_true (attach_checks (view w) device pt_id) ≡ None → binding_of w.objects device ≡ None → X
+unfolding attach_checks
+never_unbound w device pt_id none is = let refused = rw (is, attach_checks) at none in absurd (some_none refused)
   where
     some_none : {Y : Type 0} {y : Y} → Some y ≡ None → ⊥
     some_none is = cc
 
 -- one that is attached
-pub was_unattached : (w : World) (device : DeviceNo) (pt_id : ObjId) (bound : Object) → refusal w (event.Attach device pt_id) ≡ None → binding_of w.objects device ≡ Some bound → attachment_of w.attachments device ≡ None
-was_unattached w device pt_id bound none is = absent (attachment_of w.attachments device) (attach_passed (view w) device pt_id bound is (passes w (event.Attach device pt_id) none)).unattached
+pub was_unattached : (w : World) (device : DeviceNo) (pt_id : ObjId) (bound : Object) → first_true (attach_checks (view w) device pt_id) ≡ None → binding_of w.objects device ≡ Some bound → attachment_of w.attachments device ≡ None
+was_unattached w device pt_id bound none is = absent (attachment_of w.attachments device) (attach_passed (view w) device pt_id bound is none).unattached
   where
     absent : (o : Option Attachment) → is_some o ≡ false → o ≡ None
     absent None is = refl

@@ -1,5 +1,7 @@
 -- What is kept after an attachment came shows the world after it.
 use Rattle.std.proofs.Common.{◌≡◌, ◌<◌, ◌^◌, ℕ, Bool, true, false, cond, eqb, not, Option, Some, None, List, [], map, refl, sym, ◌∙◌, ap, subst, arith, ◌+◌}
+use Rattle.iofd_words.specs.Checks.{attach_checks}
+use Rattle.iofd_words.specs.FirstTrue.{first_true}
 use Rattle.iofd_words.specs.View.{view}
 use Rattle.frame_memory.specs.Pool.{FramePool}
 use Rattle.iofd_rows.specs.Ids.{have_own_ids}
@@ -17,17 +19,16 @@ use Rattle.server_state.proofs.Orderly.{orderly}
 use Rattle.server_state.specs.Mapping.{own_areas}
 use Rattle.device_events.specs.Pinning.{Stays, newly_translated}
 use Rattle.server_state.specs.Spaces.{IsOrderly}
-use Rattle.iofd_runs.proofs.NotRefused.{attach_passed, passes}
+use Rattle.iofd_runs.proofs.NotRefused.{attach_passed}
 use Rattle.iofd_runs.proofs.KeepsOwnMemory.{OwnPins, keeps_own_pins}
 use Rattle.std.specs.Prelude.{is_some}
 use Rattle.std.specs.List.{count_by, find, list_all}
 use Rattle.std.specs.Option.{option_map}
 use Rattle.std.proofs.lemmas.Bool.Decides.{nat_tests}
-use Rattle.iofd_words.specs.After.{attach_changes, attached, changed, settle, with_hwpt, target_changes}
+use Rattle.iofd_words.specs.After.{attach_changes, attached, changed, device_attached, settle, with_hwpt, target_changes}
 use Rattle.iofd_words.specs.Answers.{Answers, IsHwptFor, IsHwptOf, IsTarget}
 use Rattle.iofd_words.specs.Areas.{all_paid, areas_of}
 use Rattle.iofd_words.specs.Attachments.{with_attachment}
-use Rattle.iofd_words.specs.Checks.{refusal}
 use Rattle.iofd_words.specs.Files.{device_of}
 use Rattle.iofd_words.specs.Objects.{automatic_hwpt, binding_of, has_hwpt, is_bound_as, is_fresh, kind_of, with_object}
 use Rattle.iofd_words.specs.Pins.{pinned_pages, settled}
@@ -90,10 +91,10 @@ none_found None is = refl
 none_found (Some object) is = cc
 
 -- the world after it, by what the id names
-module _ (at : ℕ) (w : World) (device : DeviceNo) (pt_id id : ObjId) (bound : Object) (width : Width) (o : Option Object) (tidy : IsTidy at w) (none : refusal w (event.Attach device pt_id) ≡ None)
+module _ (at : ℕ) (w : World) (device : DeviceNo) (pt_id id : ObjId) (bound : Object) (width : Width) (o : Option Object) (tidy : IsTidy at w) (none : first_true (attach_checks (view w) device pt_id) ≡ None)
     (binding : binding_of w.objects device ≡ Some bound) (wide : width_of w.settings device ≡ Some width) (automatic : automatic_hwpt w.objects bound.file pt_id width ≡ o) (fits : IsHwptFor w bound.file id o) where
   abbrev Both : World → Type 0
-  Both v = Answers w (event.Attach device pt_id) (reply.Id id) × (changed at w (event.Attach device pt_id) (reply.Id id) ≡ v)
+  Both v = IsHwptOf w pt_id id (binding_of w.objects device) (device_of w.settings device) × (device_attached w device pt_id (reply.Id id) ≡ v)
 
   abbrev Both_at : Option Object → Option DeviceSettings → Option ObjectKind → Type 0
   Both_at (Some b) (Some d) k = IsTarget w b.file pt_id id d.width k × (target_changes w device pt_id id b d k ≡ grown w device bound.file pt_id id width o)
@@ -103,10 +104,10 @@ module _ (at : ℕ) (w : World) (device : DeviceNo) (pt_id id : ObjId) (bound : 
   Both_of b d = IsHwptOf w pt_id id b d × (attach_changes w device pt_id id b d ≡ grown w device bound.file pt_id id width o)
 
   is_grown : Both (grown w device bound.file pt_id id width o)
-  unfolding changed Answers attached settle
+  unfolding attached settle
   is_grown =
       let (d, found, same) = width_found (device_of w.settings device) width wide in
-      let space = (attach_passed (view w) device pt_id bound binding (passes w (event.Attach device pt_id) none)).space in
+      let space = (attach_passed (view w) device pt_id bound binding none).space in
       let here : Both_at (Some bound) (Some d) (Some kind.Ioas) = (
         subst (IsHwptFor w bound.file id) (sym (of_width d same)) fits,
         ap (λ (h : Option Object). grown w device bound.file pt_id id d.width h) (of_width d same) ∙ ap (λ (v : Width). grown w device bound.file pt_id id v o) same,
@@ -129,26 +130,27 @@ gained objects areas file ioas id width n = by_table (has_hwpt objects file ioas
     by_table false none = table_gained objects areas file ioas id width none n
 
 module _ {A : Type 0} where
-  joined : (at : ℕ) (w : World) (s : State A) (device : DeviceNo) (pt_id id : ObjId) (bound : Object) (width : Width) (o : Option Object) → IsTidy at w → refusal w (event.Attach device pt_id) ≡ None
+  joined : (at : ℕ) (w : World) (s : State A) (device : DeviceNo) (pt_id id : ObjId) (bound : Object) (width : Width) (o : Option Object) → IsTidy at w → first_true (attach_checks (view w) device pt_id) ≡ None
       → binding_of w.objects device ≡ Some bound
       → width_of w.settings device ≡ Some width
       → automatic_hwpt w.objects bound.file pt_id width ≡ o
       → IsHwptFor w bound.file id o
       → (OwnPins (at + 1) (grown w device bound.file pt_id id width o) → Shows (grown w device bound.file pt_id id width o) s)
-      → Answers w (event.Attach device pt_id) (reply.Id id) × Shows (changed at w (event.Attach device pt_id) (reply.Id id)) s
+      → Answers {A = A} w (event.Attach device pt_id) (reply.Id id) × Shows (changed {A = A} at w (event.Attach device pt_id) (reply.Id id)) s
+  unfolding changed Answers
   joined at w s device pt_id id bound width o tidy none binding wide automatic fits shown =
       let (answers, is) = is_grown at w device pt_id id bound width o tidy none binding wide automatic fits in
-      let next = keeps_own_pins at w (event.Attach device pt_id) (reply.Id id) none answers (record { pins = tidy.pins; own = tidy.own }) in
+      let next = keeps_own_pins {A = A} at w (event.Attach device pt_id) (reply.Id id) none answers (record { pins = tidy.pins; own = tidy.own }) in
       (answers, subst (λ v. Shows v s) (sym is) (shown (subst (OwnPins (at + 1)) is next)))
 
   -- ---- by a page table that is there
 
-  pub shows_joined : (at : ℕ) (w : World) (s new : State A) (device : DeviceNo) (pt_id id : ObjId) (bound : Object) (width : Width) → IsTidy at w → Shows w s → refusal w (event.Attach device pt_id) ≡ None
+  pub shows_joined : (at : ℕ) (w : World) (s new : State A) (device : DeviceNo) (pt_id id : ObjId) (bound : Object) (width : Width) → IsTidy at w → Shows w s → first_true (attach_checks (view w) device pt_id) ≡ None
       → find (λ object. is_bound_as device object.kind) s.bindings.items ≡ Some bound
       → width_of s.config device ≡ Some width
       → option_map (λ (object : Object). object.id) (automatic_hwpt (objects_in s.objects) bound.file pt_id width) ≡ Some id
       → new.attachments.items ≡ with_attachment (record { device = device; file = bound.file; hwpt = id }) s.attachments.items
-      → Answers w (event.Attach device pt_id) (reply.Id id) × Shows (changed at w (event.Attach device pt_id) (reply.Id id)) (record s { attachments = new.attachments })
+      → Answers {A = A} w (event.Attach device pt_id) (reply.Id id) × Shows (changed {A = A} at w (event.Attach device pt_id) (reply.Id id)) (record s { attachments = new.attachments })
   shows_joined at w s new device pt_id id bound width tidy shows none binding wide automatic added =
       let binding_w : binding_of w.objects device ≡ Some bound = shows.devices.bindings device ∙ binding in
       let (object, found, named) = id_found (automatic_hwpt (objects_in s.objects) bound.file pt_id width) id automatic in
@@ -192,7 +194,7 @@ module _ {A : Type 0} where
   abbrev new_row : FileNo → ObjId → ObjId → Width → Row (Held A)
   new_row file ioas id width = record { file = file; id = id; kind = of_kind.Hwpt; users = 0; value = held.Hwpt ioas width true }
 
-  pub shows_grown : (at : ℕ) (w : World) (s new : State A) (device : DeviceNo) (pt_id id : ObjId) (bound : Object) (width : Width) (table : Table (Held A)) (after : Memory) (pool : FramePool) → IsTidy at w → Shows w s → refusal w (event.Attach device pt_id) ≡ None
+  pub shows_grown : (at : ℕ) (w : World) (s new : State A) (device : DeviceNo) (pt_id id : ObjId) (bound : Object) (width : Width) (table : Table (Held A)) (after : Memory) (pool : FramePool) → IsTidy at w → Shows w s → first_true (attach_checks (view w) device pt_id) ≡ None
       → find (λ object. is_bound_as device object.kind) s.bindings.items ≡ Some bound
       → width_of s.config device ≡ Some width
       → option_map (λ (object : Object). object.id) (automatic_hwpt (objects_in s.objects) bound.file pt_id width) ≡ None
@@ -201,7 +203,7 @@ module _ {A : Type 0} where
       → new.objects.rows ≡ inserted (new_row bound.file pt_id id width) table.rows → new.objects.files ≡ table.files
       → ArePinnedMore (newly_translated (objects_in table) bound.file pt_id (own_areas table bound.file pt_id)) s.memory after s.pool pool
       → new.attachments.items ≡ with_attachment (record { device = device; file = bound.file; hwpt = id }) s.attachments.items
-      → Answers w (event.Attach device pt_id) (reply.Id id) × Shows (changed at w (event.Attach device pt_id) (reply.Id id)) (record s { objects = new.objects; attachments = new.attachments; memory = after; pool = pool })
+      → Answers {A = A} w (event.Attach device pt_id) (reply.Id id) × Shows (changed {A = A} at w (event.Attach device pt_id) (reply.Id id)) (record s { objects = new.objects; attachments = new.attachments; memory = after; pool = pool })
   shows_grown at w s new device pt_id id bound width table after pool tidy shows none binding wide automatic same_rows same_files free above below rows files more added =
       let binding_w : binding_of w.objects device ≡ Some bound = shows.devices.bindings device ∙ binding in
       let absent : automatic_hwpt w.objects bound.file pt_id width ≡ None = ap (λ (objects : List Object). automatic_hwpt objects bound.file pt_id width) shows.objects.rows ∙ none_found (automatic_hwpt (objects_in s.objects) bound.file pt_id width) automatic in
@@ -276,5 +278,5 @@ module _ {A : Type 0} where
       })
 
   -- a device that isn't bound was refused
-  pub never_loose : {X : Type 0} (w : World) (s : State A) (device : DeviceNo) (pt_id : ObjId) → Shows w s → refusal w (event.Attach device pt_id) ≡ None → find (λ object. is_bound_as device object.kind) s.bindings.items ≡ None → X
+  pub never_loose : {X : Type 0} (w : World) (s : State A) (device : DeviceNo) (pt_id : ObjId) → Shows w s → first_true (attach_checks (view w) device pt_id) ≡ None → find (λ object. is_bound_as device object.kind) s.bindings.items ≡ None → X
   never_loose w s device pt_id shows none is = never_unbound w device pt_id none (shows.devices.bindings device ∙ is)

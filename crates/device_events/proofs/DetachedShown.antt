@@ -1,10 +1,12 @@
 -- What is kept after an attachment ended shows the world after it.
 use Rattle.std.proofs.Common.{◌≡◌, ℕ, Bool, true, false, not, Option, Some, None, List, map, refl, sym, ◌∙◌, ap, subst, ◌+◌, arith, Vec}
 use Rattle.iofd_rows.specs.Ids.{have_own_ids}
+use Rattle.iofd_words.specs.Checks.{detach_checks}
+use Rattle.iofd_words.specs.FirstTrue.{first_true}
 use Rattle.iofd_words.specs.declared.width.Width.{Width}
 use Rattle.iofd_words.specs.Answers.{Answers}
 use Rattle.iofd_runs.proofs.KeepsPins.{keeps_pins}
-use Rattle.iofd_runs.proofs.NotRefused.{detach_passed, passes}
+use Rattle.iofd_runs.proofs.NotRefused.{detach_passed}
 use Rattle.iofd_runs.proofs.OwnIds.{own_ids-filter}
 use Rattle.frame_memory.specs.Pool.{FramePool}
 use Rattle.iofd_rows.specs.Pinned.{ArePinned}
@@ -19,7 +21,6 @@ use Rattle.std.specs.List.{list_all}
 use Rattle.iofd_words.specs.After.{changed, detach_changes, detached, settle}
 use Rattle.iofd_words.specs.Areas.{all_paid, areas_of, paid, with_phase}
 use Rattle.iofd_words.specs.Attachments.{attachment_of, ioas_of_attachment, without_attachment}
-use Rattle.iofd_words.specs.Checks.{refusal}
 use Rattle.iofd_words.specs.Objects.{has_hwpt, kind_of, without_object}
 use Rattle.iofd_words.specs.View.{view}
 use Rattle.iofd_words.specs.World.{World}
@@ -54,9 +55,9 @@ use Rattle.object_table.specs.Table.{Table, destroy_refusal, is_at, removed}
 use Rattle.object_table.specs.declared.kind.Kind.TheVariants as of_kind
 
 -- what isn't attached was refused
-pub never_unattached : {X : Type 0} (w : World) (device : DeviceNo) → refusal w (event.Detach device) ≡ None → attachment_of w.attachments device ≡ None → X
+pub never_unattached : {X : Type 0} (w : World) (device : DeviceNo) → first_true (detach_checks (view w) device) ≡ None → attachment_of w.attachments device ≡ None → X
 never_unattached w device none is =
-    let attached : is_none (attachment_of w.attachments device) ≡ false = (detach_passed (view w) device (passes w (event.Detach device) none)).attached in
+    let attached : is_none (attachment_of w.attachments device) ≡ false = (detach_passed (view w) device none).attached in
     let other : is_none (attachment_of w.attachments device) ≡ true = ap (λ (o : Option Attachment). is_none o) is in
     absurd (differ (sym other ∙ attached))
   where
@@ -69,11 +70,11 @@ record Ending (w : World) (device : DeviceNo) (a : Attachment) (ioas : ObjId) : 
   over : ioas_of_attachment w.objects a ≡ Some ioas
 
 -- the pins after it
-next_pins : (at : ℕ) (w : World) (device : DeviceNo) (a : Attachment) → IsTidy at w → refusal w (event.Detach device) ≡ None → attachment_of w.attachments device ≡ Some a → ArePinned (at + 1) (settle w (detached w device a))
+next_pins : (at : ℕ) (w : World) (device : DeviceNo) (a : Attachment) → IsTidy at w → first_true (detach_checks (view w) device) ≡ None → attachment_of w.attachments device ≡ Some a → ArePinned (at + 1) (settle w (detached w device a))
 unfolding changed Answers
 next_pins at w device a tidy none found =
     let Q = λ (o : Option Attachment). ArePinned (at + 1) (detach_changes w device o) in
-    let after : Q (attachment_of w.attachments device) = keeps_pins at w (event.Detach device) reply.Done none tt tidy.pins in
+    let after : Q (attachment_of w.attachments device) = keeps_pins {A = Unit {0}} at w (event.Detach device) reply.Done none tt tidy.pins in
     subst Q found after
 
 -- ---- paid areas
@@ -96,10 +97,10 @@ fewer_none w device left same = record {
 }
 
 module _ {A : Type 0} where
-  pub never_lost : {X : Type 0} (w : World) (s : State A) (device : DeviceNo) → Shows w s → refusal w (event.Detach device) ≡ None → attachment_of s.attachments.items device ≡ None → X
+  pub never_lost : {X : Type 0} (w : World) (s : State A) (device : DeviceNo) → Shows w s → first_true (detach_checks (view w) device) ≡ None → attachment_of s.attachments.items device ≡ None → X
   never_lost w s device shows none is = never_unattached w device none (rw shows.devices.attached is)
 
-  pub never_astray : {X : Type 0} (at : ℕ) (w : World) (s : State A) (device : DeviceNo) → IsTidy at w → Shows w s → refusal w (event.Detach device) ≡ None → space_of (objects_in s.objects) (attachment_of s.attachments.items device) ≡ None → X
+  pub never_astray : {X : Type 0} (at : ℕ) (w : World) (s : State A) (device : DeviceNo) → IsTidy at w → Shows w s → first_true (detach_checks (view w) device) ≡ None → space_of (objects_in s.objects) (attachment_of s.attachments.items device) ≡ None → X
   never_astray at w s device tidy shows none is = never_unattached w device none (unattached w device tidy.debts (rw (shows.objects.rows, shows.devices.attached) is))
 
   ending : (w : World) (s : State A) (device : DeviceNo) (a : Attachment) (file : FileNo) (ioas : ObjId) → Shows w s → attachment_of s.attachments.items device ≡ Some a → space_of (objects_in s.objects) (attachment_of s.attachments.items device) ≡ Some (file, ioas) → Ending w device a ioas
@@ -116,13 +117,13 @@ module _ {A : Type 0} where
       rw (found, over, space_of) refl
 
   -- the attachment is gone, and the page table stays
-  pub shows_detached : (at : ℕ) (w : World) (s new : State A) (device : DeviceNo) (a : Attachment) (file : FileNo) (ioas : ObjId) → IsTidy at w → Shows w s → refusal w (event.Detach device) ≡ None
+  pub shows_detached : (at : ℕ) (w : World) (s new : State A) (device : DeviceNo) (a : Attachment) (file : FileNo) (ioas : ObjId) → IsTidy at w → Shows w s → first_true (detach_checks (view w) device) ≡ None
       → attachment_of s.attachments.items device ≡ Some a
       → space_of (objects_in s.objects) (attachment_of s.attachments.items device) ≡ Some (file, ioas)
       → (IsOrderly s.objects → HasAreas a.file ioas (all_paid device (areas_at s.objects.rows a.file ioas)) s.objects new.objects)
       → new.attachments.items ≡ without_attachment device s.attachments.items
       → is_idle (objects_in new.objects) new.attachments.items a.file a.hwpt ≡ false
-      → Shows (changed at w (event.Detach device) reply.Done) (record s { objects = new.objects; attachments = new.attachments })
+      → Shows (changed {A = A} at w (event.Detach device) reply.Done) (record s { objects = new.objects; attachments = new.attachments })
   unfolding changed settle detached Answers
   shows_detached at w s new device a file ioas tidy shows none found space paid without busy =
       let end = ending w s device a file ioas shows found space in
@@ -154,7 +155,7 @@ module _ {A : Type 0} where
       })
 
   -- the page table goes with the attachment
-  module _ (at : ℕ) (w : World) (s : State A) (new : Table (Held A)) (attachments : Vec Attachment A) (device : DeviceNo) (a : Attachment) (file : FileNo) (ioas : ObjId) (table : Table (Held A)) (tidy : IsTidy at w) (shows : Shows w s) (none : refusal w (event.Detach device) ≡ None)
+  module _ (at : ℕ) (w : World) (s : State A) (new : Table (Held A)) (attachments : Vec Attachment A) (device : DeviceNo) (a : Attachment) (file : FileNo) (ioas : ObjId) (table : Table (Held A)) (tidy : IsTidy at w) (shows : Shows w s) (none : first_true (detach_checks (view w) device) ≡ None)
       (found : attachment_of s.attachments.items device ≡ Some a)
       (space : space_of (objects_in s.objects) (attachment_of s.attachments.items device) ≡ Some (file, ioas))
       (pays : IsOrderly s.objects → HasAreas a.file ioas (all_paid device (areas_at s.objects.rows a.file ioas)) s.objects table)
@@ -207,7 +208,7 @@ module _ {A : Type 0} where
         ∙ sym (areas a.file ioas) ∙ paid_areas_of device w.areas a.file ioas
 
     shows_after : (areas_gone pins_gone : ℕ → ℕ) (memory : Memory) (pool : FramePool) → AreFewer areas_gone pins_gone w left (all_paid device w.areas) → IsReleased areas_gone pins_gone s.memory memory s.pool pool
-        → Shows (changed at w (event.Detach device) reply.Done) (record s { objects = new; attachments = attachments; memory = memory; pool = pool })
+        → Shows (changed {A = A} at w (event.Detach device) reply.Done) (record s { objects = new; attachments = attachments; memory = memory; pool = pool })
     unfolding changed settle detached Answers
     shows_after areas_gone pins_gone memory pool fewer released =
         let next = next_pins at w device a tidy none end.found in
@@ -233,7 +234,7 @@ module _ {A : Type 0} where
         })
 
     -- and another one stays
-    pub shows_dropped : has_hwpt (objects_in new) a.file ioas ≡ true → Shows (changed at w (event.Detach device) reply.Done) (record s { objects = new; attachments = attachments })
+    pub shows_dropped : has_hwpt (objects_in new) a.file ioas ≡ true → Shows (changed {A = A} at w (event.Detach device) reply.Done) (record s { objects = new; attachments = attachments })
     shows_dropped more =
         let fewer = fewer_none w device left (all_stay w (without_attachment device w.attachments) a ioas tidy.ids end.over had (ap (λ (l : List Object). has_hwpt l a.file ioas) objects ∙ more)) in
         shows_after never never s.memory s.pool fewer (nothing_released at w s tidy shows left (all_paid device w.areas) fewer)
@@ -252,5 +253,5 @@ module _ {A : Type 0} where
     may_unpin last = may_release at w s tidy shows never (over (own_areas new a.file ioas)) left (all_paid device w.areas) (fewer_last last)
 
     pub shows_last : (memory : Memory) (pool : FramePool) → has_hwpt (objects_in new) a.file ioas ≡ false → IsReleased never (over (own_areas new a.file ioas)) s.memory memory s.pool pool
-        → Shows (changed at w (event.Detach device) reply.Done) (record s { objects = new; attachments = attachments; memory = memory; pool = pool })
+        → Shows (changed {A = A} at w (event.Detach device) reply.Done) (record s { objects = new; attachments = attachments; memory = memory; pool = pool })
     shows_last memory pool last released = shows_after never (over (own_areas new a.file ioas)) memory pool (fewer_last last) released

@@ -6,7 +6,7 @@ use Rattle.std.specs.List.{find, list_all}
 use Rattle.std.proofs.lemmas.List.Folds.{list_all-append}
 use Rattle.std.proofs.lemmas.Bool.Decides.{nat_tests}
 use Rattle.iofd_rows.proofs.Bools.{and_true, both_true}
-use Rattle.iofd_words.specs.Answers.{Answers, write_reply}
+use Rattle.iofd_words.specs.Answers.{write_reply}
 use Rattle.iofd_words.specs.Areas.{area_at, areas_of}
 use Rattle.iofd_words.specs.Attachments.{attachment_of, ioas_of_attachment}
 use Rattle.iofd_words.specs.DeviceSet.{has_device}
@@ -19,7 +19,6 @@ use Rattle.iofd_words.specs.Settings.{DeviceSettings}
 use Rattle.iofd_words.specs.View.{view}
 use Rattle.iofd_words.specs.Width.{bits_of}
 use Rattle.iofd_words.specs.World.{World}
-use Rattle.iofd_words.specs.declared.event.Event.TheVariants as event
 use Rattle.iofd_words.specs.declared.fault.AccessKind.{AccessKind}
 use Rattle.iofd_words.specs.declared.fault.AccessKind.TheVariants.{Write}
 use Rattle.iofd_words.specs.declared.fault.FaultReason.TheVariants.{BeyondWidth, WriteDenied}
@@ -34,7 +33,7 @@ use Rattle.iofd_words.specs.declared.rows.Phase.TheVariants.{Live, Leaving}
 use Rattle.iofd_words.specs.declared.rows.Pin.{Pin}
 use Rattle.iofd_runs.proofs.PinnedAccess.{some_outcome}
 use Rattle.iofd_rows.proofs.Found.{found_passes as found_holds}
-use Rattle.server_state.specs.Choice.{IsChosen, MayUse, is_denial, without_cache, first_of}
+use Rattle.server_state.specs.Choice.{WriteChosen, is_denial, without_cache, first_of}
 use Rattle.device_events.specs.Outcomes.{given_outcome}
 use Rattle.server_state.specs.Step.{IsTidy}
 
@@ -97,13 +96,19 @@ holds_of_contained p (y ∷ xs) x all (suc k, below, same) = let parts = and_tru
 
 -- ---- the answer
 
-pub chosen_answer : (at : ℕ) (w : World) (device : DeviceNo) (iova : Iova) (bytes : List ℕ) (via : Option FrameNo) (o : Outcome) → IsTidy at w → o ≡ given_outcome via (outcomes w device iova.0 Write) → MayUse w (event.DeviceWrite device iova bytes) via
-    → Contains (outcomes w device iova.0 Write) o × Answers w (event.DeviceWrite device iova bytes) (write_reply w device iova.0 o) × IsChosen w (event.DeviceWrite device iova bytes) via (write_reply w device iova.0 o)
-unfolding Answers
-chosen_answer at w device iova bytes None o tidy is may =
+-- a cached frame is one at which the policy lets the write pass
+abbrev MayPass : List Outcome → Option FrameNo → Type 0
+MayPass lawful None = Unit {0}
+MayPass lawful (Some frame) = Contains lawful (Passes frame)
+
+pub chosen_answer : (at : ℕ) (w : World) (device : DeviceNo) (iova : Iova) (via : Option FrameNo) (o : Outcome) → IsTidy at w → o ≡ given_outcome via (outcomes w device iova.0 Write) → MayPass (outcomes w device iova.0 Write) via
+    → Contains (outcomes w device iova.0 Write) o
+    × Contains (map (write_reply w device iova.0) (outcomes w device iova.0 Write)) (write_reply w device iova.0 o)
+    × WriteChosen (without_cache (outcomes w device iova.0 Write)) via (write_reply w device iova.0) (write_reply w device iova.0 o)
+chosen_answer at w device iova None o tidy is may =
     let given = given_is (outcomes w device iova.0 Write) o (some_outcome at w device iova.0 Write tidy.pins tidy.fit) is in
     (given.lawful, contained_map (write_reply w device iova.0) (outcomes w device iova.0 Write) o given.lawful, ap (option_map (write_reply w device iova.0)) given.uncached)
-chosen_answer at w device iova bytes (Some frame) o tidy is may =
+chosen_answer at w device iova (Some frame) o tidy is may =
     let has = subst (Contains (outcomes w device iova.0 Write)) (sym is) may in
     (has, contained_map (write_reply w device iova.0) (outcomes w device iova.0 Write) o has, ap (write_reply w device iova.0) is)
 

@@ -1,12 +1,14 @@
--- Areas lie in addresses that can be used: so a device narrows just those that it leaves out itself.
-use Rattle.std.proofs.Common.{◌≡◌, ℕ, Bool, true, false, ◌&&◌, ◌||◌, not, eqb, Option, Some, None, List, [], ◌∷◌, ◌++◌, map, refl, ap, sym, subst, ◌∙◌, inl, inr}
-use Rattle.std.specs.List.{filter, list_any}
+-- Areas and allowed ranges lie in addresses that can be used: so a device narrows just those that it leaves out itself.
+use Rattle.std.proofs.Common.{◌≡◌, Bool, true, false, ◌||◌, eqb, Some, List, [], ◌∷◌, ◌++◌, map, refl, ap, ◌∙◌, inl, inr}
+use Rattle.std.specs.List.{list_any}
 use Rattle.std.proofs.lemmas.List.Folds.{list_any-append}
 use Rattle.device_events.specs.Narrow.{is_narrowed}
-use Rattle.iofd_rows.proofs.Bools.{and_true, not_true, or_none}
-use Rattle.iofd_rows.proofs.Each.{IsIn, in_filter, of_each}
+use Rattle.iofd_rows.proofs.Bools.{and_true, clash, not_true, or_none}
+use Rattle.iofd_rows.proofs.Each.{IsIn, in_filter, of_any, of_each}
+use Rattle.iofd_rows.proofs.ListTests.{false_else}
 use Rattle.iofd_rows.proofs.Named.{file_is, id_is}
 use Rattle.iofd_runs.specs.InUsable.{AreasUsable, is_in_usable}
+use Rattle.iofd_words.specs.Allowed.{allowed_of}
 use Rattle.iofd_words.specs.Areas.{areas_of, is_of}
 use Rattle.iofd_words.specs.Bounds.{Bounds}
 use Rattle.iofd_words.specs.Checks.{narrows, unusable_in}
@@ -46,26 +48,47 @@ in_space w file ioas area usable within =
     let clear : meets_some (unusable w.settings w.objects w.attachments area.file area.ioas) area.span ≡ false = not_true _ (of_each (is_in_usable w) w.areas area usable.usable own.0) in
     rw (file_is area.file file numbers.0, id_is area.ioas ioas numbers.1) at clear
 
-world_narrows : (w : World) (file : FileNo) (ioas : ObjId) (device : DeviceSettings) → AreasUsable w → (view w).allowed_of file ioas ≡ []
-    → narrows (view w) file ioas (Some device) ≡ list_any (λ (a : Area). is_narrowed device a.span) (areas_of w.areas file ioas)
-world_narrows w file ioas device usable unbounded =
+-- none of the ranges that it allows meets those either
+allowed_clear : (w : World) (file : FileNo) (ioas : ObjId) (range : Bounds) → AreasUsable w → IsIn (allowed_of w.allowed file ioas) range → meets_some (unusable_in (view w) file ioas) range ≡ false
+allowed_clear w file ioas range usable within =
+    false_else (meets_some (unusable_in (view w) file ioas) range)
+    (λ met. clash _ (usable.ranges file ioas) (of_any (meets_some (unusable_in (view w) file ioas)) (allowed_of w.allowed file ioas) range within met))
+
+world_narrows : (w : World) (file : FileNo) (ioas : ObjId) (device : DeviceSettings) → AreasUsable w
+    → narrows (view w) file ioas (Some device) ≡ (list_any (λ (a : Area). is_narrowed device a.span) (areas_of w.areas file ioas) || list_any (is_narrowed device) (allowed_of w.allowed file ioas))
+world_narrows w file ioas device usable =
     let bars : List Bounds = beyond device.width ∷ reserved_by device ++ unusable_in (view w) file ioas in
-    list_any-append (meets_some bars) (map (λ (a : Area). a.span) (areas_of w.areas file ioas)) ((view w).allowed_of file ioas)
-    ∙ rw unbounded (or_none _)
-    ∙ any-spans (meets_some bars) (areas_of w.areas file ioas)
+    let areas : list_any (meets_some bars) (map (λ (a : Area). a.span) (areas_of w.areas file ioas)) ≡ list_any (λ (a : Area). is_narrowed device a.span) (areas_of w.areas file ioas) =
+    any-spans (meets_some bars) (areas_of w.areas file ioas)
     ∙ any_alike (λ (a : Area). meets_some bars a.span) (λ (a : Area). is_narrowed device a.span) (areas_of w.areas file ioas)
-    (λ area within. one_alike device (unusable_in (view w) file ioas) area.span (in_space w file ioas area usable within))
+    (λ area within. one_alike device (unusable_in (view w) file ioas) area.span (in_space w file ioas area usable within)) in
+    let ranges : list_any (meets_some bars) (allowed_of w.allowed file ioas) ≡ list_any (is_narrowed device) (allowed_of w.allowed file ioas) =
+    any_alike (meets_some bars) (is_narrowed device) (allowed_of w.allowed file ioas)
+    (λ range within. one_alike device (unusable_in (view w) file ioas) range (allowed_clear w file ioas range usable within)) in
+    list_any-append (meets_some bars) (map (λ (a : Area). a.span) (areas_of w.areas file ioas)) (allowed_of w.allowed file ioas)
+    ∙ ap (λ b. b || list_any (meets_some bars) (allowed_of w.allowed file ioas)) areas
+    ∙ ap (λ b. list_any (λ (a : Area). is_narrowed device a.span) (areas_of w.areas file ioas) || b) ranges
+
+-- ---- one test after the other
+
+pub either_first : (here one other : Bool) → here ≡ one → here ≡ true → here ≡ (one || other)
+either_first here true other is passes = passes
+either_first here false other is passes = absurd (clash here is passes)
+
+pub either_then : (here later one other : Bool) → here ≡ one → here ≡ false → later ≡ other → later ≡ (one || other)
+either_then here later true other is fails same = absurd (clash here fails is)
+either_then here later false other is fails same = same
+
+pub no_area : (device : DeviceSettings) (areas : List Area) → areas ≡ [] → list_any (λ (a : Area). is_narrowed device a.span) areas ≡ false
+no_area device areas none = rw none refl
 
 module _ {A : Type 0} (s : State A) (file : FileNo) (ioas : ObjId) where
-  pub known_narrows : (device : DeviceSettings) → IsKnown s → narrows (seen s) file ioas (Some device) ≡ list_any (λ (a : Area). is_narrowed device a.span) (areas_at s.objects.rows file ioas)
+  -- an area or an allowed range is left out
+  pub known_narrows : (device : DeviceSettings) → IsKnown s
+      → narrows (seen s) file ioas (Some device) ≡ (list_any (λ (a : Area). is_narrowed device a.span) (areas_at s.objects.rows file ioas) || list_any (is_narrowed device) (allowed_of s.allowed file ioas))
   known_narrows device known =
       let w = known.world in
-      let same : seen s ≡ view w = same_view w s known.shows in
-      let unbounded : (view w).allowed_of file ioas ≡ [] = sym (ap (λ (v : View). v.allowed_of file ioas) same) in
-      ap (λ (v : View). narrows v file ioas (Some device)) same
-      ∙ world_narrows w file ioas device known.tidy.usable unbounded
-      ∙ ap (list_any (λ (a : Area). is_narrowed device a.span)) (known.shows.objects.spaces file ioas)
-
-  -- where there are no areas it narrows none
-  pub no_narrows : (device : DeviceSettings) → areas_at s.objects.rows file ioas ≡ [] → narrows (seen s) file ioas (Some device) ≡ false
-  no_narrows device none = rw none refl
+      ap (λ (v : View). narrows v file ioas (Some device)) (same_view w s known.shows)
+      ∙ world_narrows w file ioas device known.tidy.usable
+      ∙ ap (λ (areas : List Area). list_any (λ (a : Area). is_narrowed device a.span) areas || list_any (is_narrowed device) (allowed_of w.allowed file ioas)) (known.shows.objects.spaces file ioas)
+      ∙ ap (λ (ranges : List Bounds). list_any (λ (a : Area). is_narrowed device a.span) (areas_at s.objects.rows file ioas) || list_any (is_narrowed device) ranges) (known.shows.allowed file ioas)

@@ -2,14 +2,14 @@
 use Rattle.std.proofs.Common.{◌≡◌, ℕ, true, false, is_some, Option, Some, None, List, refl, ◌∙◌, ap, Bool, ◌&&◌}
 use Rattle.std.specs.List.{find}
 use Rattle.std.specs.Option.{option_map}
-use Rattle.iofd_words.specs.Checks.{lacks_room_for_hwpt, refusal}
+use Rattle.iofd_words.specs.Checks.{attach_checks, bind_checks, lacks_room_for_hwpt}
 use Rattle.iofd_words.specs.Files as files
 use Rattle.iofd_words.specs.Files.{device_of}
+use Rattle.iofd_words.specs.FirstTrue.{first_true}
 use Rattle.iofd_words.specs.Objects.{automatic_hwpt, binding_of, is_bound_as, is_full}
 use Rattle.iofd_words.specs.Settings.{DeviceSettings}
 use Rattle.iofd_words.specs.View.{view}
 use Rattle.iofd_words.specs.World.{World}
-use Rattle.iofd_words.specs.declared.event.Event.TheVariants as event
 use Rattle.iofd_words.specs.declared.numbers.DeviceNo.{DeviceNo}
 use Rattle.iofd_words.specs.declared.numbers.FileNo.{FileNo}
 use Rattle.iofd_words.specs.declared.numbers.ObjId.{ObjId}
@@ -17,7 +17,7 @@ use Rattle.iofd_words.specs.declared.refusal.Refusal.{Refusal}
 use Rattle.iofd_words.specs.declared.rows.Object.{Object}
 use Rattle.iofd_words.specs.declared.width.Width.{Width}
 use Rattle.iofd_runs.proofs.Known.{bind_open, bound_known}
-use Rattle.iofd_runs.proofs.NotRefused.{attach_passed, bind_passed, passes}
+use Rattle.iofd_runs.proofs.NotRefused.{attach_passed, bind_passed}
 use Rattle.server_state.specs.Held.{objects_in}
 use Rattle.device_events.specs.Attaching.{width_of}
 use Rattle.server_state.specs.Shows.{Shows}
@@ -30,21 +30,21 @@ use Rattle.server_state.proofs.NeverFull.{takes_object}
 
 -- no page table of the device's width is there, so there is room for one
 room_for_hwpt : (w : World) (device : DeviceNo) (pt_id : ObjId) (bound : Object) (width : Width) → binding_of w.objects device ≡ Some bound → width_of w.settings device ≡ Some width → automatic_hwpt w.objects bound.file pt_id width ≡ None
-    → refusal w (event.Attach device pt_id) ≡ None → is_full w.objects bound.file ≡ false
+    → first_true (attach_checks (view w) device pt_id) ≡ None → is_full w.objects bound.file ≡ false
 room_for_hwpt w device pt_id bound width binding wide automatic none =
-    by_device (device_of w.settings device) wide (attach_passed (view w) device pt_id bound binding (passes w (event.Attach device pt_id) none)).roomy
+    by_device (device_of w.settings device) wide (attach_passed (view w) device pt_id bound binding none).roomy
   where
     by_device : (o : Option DeviceSettings) → elim o as (λ _. Option Width) [ Some d ↦ Some d.width | None ↦ None ] ≡ Some width → lacks_room_for_hwpt (view w) bound.file pt_id o ≡ false → is_full w.objects bound.file ≡ false
     by_device None wide room = cc
     by_device (Some d) wide room = let same : d.width ≡ width = cc in rw (same, automatic) at room
 
 module _ {A : Type 0} where
-  pub bind_taken : (w : World) (s : State A) (file : FileNo) (device : DeviceNo) (error : ReserveError) (r : Refusal) → Shows w s → refusal w (event.Bind file device) ≡ None → error ≡ Refused r → IsWhy (insert_refusal s.objects file) error → ⊥
-  bind_taken w s file device error r shows none = takes_object w s file error r shows (bind_open w file device none) (bind_passed (view w) file device (passes w (event.Bind file device) none)).roomy
+  pub bind_taken : (w : World) (s : State A) (file : FileNo) (device : DeviceNo) (error : ReserveError) (r : Refusal) → Shows w s → first_true (bind_checks (view w) file device) ≡ None → error ≡ Refused r → IsWhy (insert_refusal s.objects file) error → ⊥
+  bind_taken w s file device error r shows none = takes_object w s file error r shows (bind_open w file device none) (bind_passed (view w) file device none).roomy
 
   -- ---- of an attachment
 
-  pub hwpt_taken : (at : ℕ) (w : World) (s : State A) (device : DeviceNo) (pt_id : ObjId) (bound : Object) (width : Width) (error : ReserveError) (r : Refusal) → IsTidy at w → Shows w s → refusal w (event.Attach device pt_id) ≡ None
+  pub hwpt_taken : (at : ℕ) (w : World) (s : State A) (device : DeviceNo) (pt_id : ObjId) (bound : Object) (width : Width) (error : ReserveError) (r : Refusal) → IsTidy at w → Shows w s → first_true (attach_checks (view w) device pt_id) ≡ None
       → find (λ object. is_bound_as device object.kind) s.bindings.items ≡ Some bound → width_of s.config device ≡ Some width → option_map (λ (object : Object). object.id) (automatic_hwpt (objects_in s.objects) bound.file pt_id width) ≡ None
       → error ≡ Refused r → IsWhy (insert_refusal s.objects bound.file) error → ⊥
   hwpt_taken at w s device pt_id bound width error r tidy shows none binding wide automatic =

@@ -1,7 +1,7 @@
 //! Attach: a device translates by an address space.
 
 ghost use Rattle.std.specs.Prelude.{◌≡◌, ℕ, Some, false, IfOk, OnErr, OnOk};
-ghost use Rattle.iofd_words.specs.Checks.{checks, lacks_attached_page, lacks_room_for_hwpt, passes_limit_attached, target_checks};
+ghost use Rattle.iofd_words.specs.Checks.{attach_checks, lacks_attached_page, lacks_room_for_hwpt, passes_limit_attached, target_checks};
 ghost use Rattle.iofd_words.specs.FirstTrue.{first_true};
 ghost use Rattle.iofd_words.specs.Files.{device_of};
 ghost use Rattle.iofd_words.specs.Objects as objects;
@@ -26,10 +26,10 @@ use std::alloc::Allocator;
 use user_memory::UserMemory;
 
 /// Why it is refused, by the first row of the definitions that holds. None where nothing refuses it.
-#[tactic(auto, unfolding(iofd_words::specs::Checks::checks))]
+#[tactic(auto, unfolding(iofd_words::specs::Checks::attach_checks))]
 pub fn refusal<A: Allocator>(state: &State<A>, device: DeviceNo, pt_id: ObjId) -> Option<Cause>
     requires { IsKnown state.now }
-    ensures { result ≡ first_true (checks (seen state.now) (event.Attach device pt_id)) }
+    ensures { result ≡ first_true (attach_checks (seen state.now) device pt_id) }
 {
     let Some(bound) = state.binding_of(device) else {
         return Some(Cause::Id);

@@ -1,7 +1,7 @@
 //! Bind: a device is bound to a file.
 
 ghost use Rattle.std.specs.Prelude.{◌≡◌, ℕ, IfOk, OnErr};
-ghost use Rattle.iofd_words.specs.Checks.{checks};
+ghost use Rattle.iofd_words.specs.Checks.{bind_checks};
 ghost use Rattle.iofd_words.specs.FirstTrue.{first_true};
 ghost use Rattle.iofd_words.specs.declared.event.Event.TheVariants as event;
 ghost use Rattle.server_state.specs.Seen.{seen};
@@ -13,9 +13,9 @@ use server_state::{Held, State};
 use std::alloc::Allocator;
 
 /// Why it is refused, by the first row of the definitions that holds. None where nothing refuses it.
-#[tactic(auto, using(server_state::proofs::ObjectsMoved::is_full_rows), unfolding(iofd_words::specs::Checks::checks))]
+#[tactic(auto, using(server_state::proofs::ObjectsMoved::is_full_rows), unfolding(iofd_words::specs::Checks::bind_checks))]
 pub fn refusal<A: Allocator>(state: &State<A>, file: FileNo, device: DeviceNo) -> Option<Cause>
-    ensures { result ≡ first_true (checks (seen state.now) (event.Bind file device)) }
+    ensures { result ≡ first_true (bind_checks (seen state.now) file device) }
 {
     if !state.objects.is_open(file) {
         return Some(Cause::Id);

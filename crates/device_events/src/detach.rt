@@ -1,7 +1,7 @@
 //! Detach: a device translates no more.
 
 ghost use Rattle.std.specs.Prelude.{◌≡◌, ℕ, Some, None, false};
-ghost use Rattle.iofd_words.specs.Checks.{checks};
+ghost use Rattle.iofd_words.specs.Checks.{detach_checks};
 ghost use Rattle.iofd_words.specs.FirstTrue.{first_true};
 ghost use Rattle.iofd_words.specs.Objects as objects;
 ghost use Rattle.iofd_words.specs.declared.event.Event.TheVariants as event;
@@ -19,9 +19,9 @@ use server_state::{Held, State, lookups, release};
 use std::alloc::Allocator;
 
 /// Why it is refused, by the first row of the definitions that holds. None where nothing refuses it.
-#[tactic(auto, unfolding(iofd_words::specs::Checks::checks))]
+#[tactic(auto, unfolding(iofd_words::specs::Checks::detach_checks))]
 pub fn refusal<A: Allocator>(state: &State<A>, device: DeviceNo) -> Option<Cause>
-    ensures { result ≡ first_true (checks (seen state.now) (event.Detach device)) }
+    ensures { result ≡ first_true (detach_checks (seen state.now) device) }
 {
     if state.binding_of(device).is_none() {
         return Some(Cause::Id);

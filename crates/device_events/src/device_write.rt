@@ -3,7 +3,7 @@
 ghost use Rattle.std.specs.Prelude.{◌≡◌, ℕ};
 ghost use Rattle.std.specs.Option.{option_map_or};
 ghost use Rattle.iofd_words.specs.Files as files;
-ghost use Rattle.iofd_words.specs.Checks.{checks};
+ghost use Rattle.iofd_words.specs.Checks.{device_write_checks};
 ghost use Rattle.iofd_words.specs.FirstTrue.{first_true};
 ghost use Rattle.iofd_words.specs.Policy as policy;
 ghost use Rattle.iofd_words.specs.declared.event.Event.TheVariants as event;
@@ -19,14 +19,14 @@ use server_state::State;
 use std::alloc::Allocator;
 
 /// Why it is refused, by the first row of the definitions that holds. None where nothing refuses it.
-#[tactic(auto, unfolding(iofd_words::specs::Checks::checks))]
+#[tactic(auto, unfolding(iofd_words::specs::Checks::device_write_checks))]
 pub fn refusal<A: Allocator>(
     state: &State<A>,
     device: DeviceNo,
     iova: Iova,
     bytes: &Burst,
 ) -> Option<Cause>
-    ensures { result ≡ first_true (checks (seen state.now) (event.DeviceWrite device iova bytes.now)) }
+    ensures { result ≡ first_true (device_write_checks (seen state.now) device iova bytes.now) }
 {
     access::refusal(state, device, iova, bytes.as_slice().len())
 }

@@ -1,7 +1,7 @@
 //! Flush: a device has forgotten what it had cached.
 
 ghost use Rattle.std.specs.Prelude.{◌≡◌, ℕ};
-ghost use Rattle.iofd_words.specs.Checks.{checks};
+ghost use Rattle.iofd_words.specs.Checks.{flush_checks};
 ghost use Rattle.iofd_words.specs.FirstTrue.{first_true};
 ghost use Rattle.iofd_words.specs.declared.event.Event.TheVariants as event;
 ghost use Rattle.server_state.specs.Seen.{seen};
@@ -13,9 +13,9 @@ use server_state::State;
 use std::alloc::Allocator;
 
 /// Why it is refused, by the first row of the definitions that holds. None where nothing refuses it.
-#[tactic(auto, unfolding(iofd_words::specs::Checks::checks))]
+#[tactic(auto, unfolding(iofd_words::specs::Checks::flush_checks))]
 pub fn refusal<A: Allocator>(state: &State<A>, device: DeviceNo) -> Option<Cause>
-    ensures { result ≡ first_true (checks (seen state.now) (event.Flush device)) }
+    ensures { result ≡ first_true (flush_checks (seen state.now) device) }
 {
     if state.binding_of(device).is_none() {
         return Some(Cause::Id);

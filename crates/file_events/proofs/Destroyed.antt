@@ -1,8 +1,9 @@
 -- An object that was destroyed: an address space with its areas, or a page table with pins.
 use Rattle.std.proofs.Common.{◌≡◌, ℕ, Bool, true, false, cond, ◌&&◌, ◌||◌, not, eqb, is_none, Option, Some, None, List, [], ◌∷◌, map, refl, sym, ◌∙◌, ap, arith, ◌+◌}
+use Rattle.iofd_words.specs.Allowed.{AllowedRanges, allowed_of, without_allowed}
 use Rattle.iofd_words.specs.Answers.{Answers}
 use Rattle.iofd_runs.proofs.KeepsPins.{keeps_pins}
-use Rattle.iofd_runs.proofs.NotRefused.{destroy_passed, passes}
+use Rattle.iofd_runs.proofs.NotRefused.{destroy_passed}
 use Rattle.iofd_runs.proofs.OwnIds.{own_ids-filter}
 use Rattle.frame_memory.specs.Pool.{FramePool}
 use Rattle.memory_rows.proofs.FramesFollow.{translated_same}
@@ -16,8 +17,9 @@ use Rattle.std.specs.List.{filter, list_all, list_any}
 use Rattle.std.proofs.lemmas.Bool.Decides.{nat_tests}
 use Rattle.iofd_words.specs.After.{settle, without_areas, changed}
 use Rattle.iofd_words.specs.Areas.{areas_of, is_of}
-use Rattle.iofd_words.specs.Checks.{is_device_object, is_used, refusal}
+use Rattle.iofd_words.specs.Checks.{destroy_checks, is_device_object, is_used}
 use Rattle.iofd_rows.specs.Ids.{have_own_ids}
+use Rattle.iofd_words.specs.FirstTrue.{first_true}
 use Rattle.iofd_words.specs.Objects.{has_hwpt, is_bound_as, is_bound_device, is_hwpt_over, kind_of, without_object}
 use Rattle.iofd_words.specs.View.{view}
 use Rattle.iofd_words.specs.World.{World}
@@ -31,6 +33,7 @@ use Rattle.iofd_words.specs.declared.rows.Object.{Object}
 use Rattle.iofd_words.specs.declared.rows.ObjectKind.{ObjectKind}
 use Rattle.iofd_words.specs.declared.rows.ObjectKind.TheVariants as kind
 use Rattle.iofd_words.specs.declared.width.Width.{Width}
+use Rattle.iofd_rows.proofs.Allowed.{allowed_without, is_of_space}
 use Rattle.iofd_rows.proofs.Bools.{and_true, clash}
 use Rattle.iofd_rows.proofs.Found.{all_filter}
 use Rattle.iofd_rows.proofs.ListTests.{filter_all}
@@ -146,12 +149,12 @@ abbrev pub gone : World → FileNo → ObjId → World
 gone w file id =
     settle w (record (without_areas (is_of file id) w) {
       objects = without_object file id w.objects;
-      allowed = filter (λ ranges. not (eqb ranges.file.0 file.0 && eqb ranges.ioas.0 id.0)) w.allowed;
+      allowed = without_allowed file id w.allowed;
     })
 
 -- nothing stands on it
-unused : (w : World) (file : FileNo) (id : ObjId) (k : ObjectKind) → refusal w (event.Destroy file id) ≡ None → kind_of w.objects file id ≡ Some k → is_used (view w) file id (Some k) ≡ false
-unused w file id k none is_kind = ap (is_used (view w) file id) (sym is_kind) ∙ (destroy_passed (view w) file id (passes w (event.Destroy file id) none)).unused
+unused : (w : World) (file : FileNo) (id : ObjId) (k : ObjectKind) → first_true (destroy_checks (view w) file id) ≡ None → kind_of w.objects file id ≡ Some k → is_used (view w) file id (Some k) ≡ false
+unused w file id k none is_kind = ap (is_used (view w) file id) (sym is_kind) ∙ (destroy_passed (view w) file id none).unused
 
 module _ {A : Type 0} where
   no_areas_in : (o : Option (Held A)) (ioas : ObjId) (width : Width) (automatic : Bool) → kind_at o ≡ Some (kind.Hwpt ioas width automatic) → areas_of_held o ≡ []
@@ -172,14 +175,14 @@ module _ {A : Type 0} where
       shows.objects.spaces file id ∙ areas_at_rows s.objects.rows file id
       ∙ no_areas_in (value_at s.objects.rows file id) ioas width automatic (sym (kind_of_rows s.objects.rows file id) ∙ ap (λ (l : List Object). kind_of l file id) (sym shows.objects.rows) ∙ is_kind)
 
-  pub shows_destroyed : (at : ℕ) (w : World) (s : State A) (file : FileNo) (id : ObjId) (k : ObjectKind) (table : Table (Held A)) (areas pins : ℕ → ℕ) (memory : Memory) (pool : FramePool) → IsTidy at w → Shows w s → refusal w (event.Destroy file id) ≡ None
+  pub shows_destroyed : (at : ℕ) (w : World) (s : State A) (file : FileNo) (id : ObjId) (k : ObjectKind) (table : Table (Held A)) (areas pins : ℕ → ℕ) (memory : Memory) (pool : FramePool) (allowed : List AllowedRanges) → IsTidy at w → Shows w s → first_true (destroy_checks (view w) file id) ≡ None
       → kind_of w.objects file id ≡ Some k → is_bound_device k ≡ false → table.rows ≡ removed file id s.objects.rows → table.files ≡ s.objects.files
       → AreFewer areas pins w (without_object file id w.objects) (filter (λ (area : Area). not (is_of file id area)) w.areas)
-      → IsReleased areas pins s.memory memory s.pool pool
-      → Shows (gone w file id) (record s { objects = table; memory = memory; pool = pool })
+      → IsReleased areas pins s.memory memory s.pool pool → allowed ≡ without_allowed file id s.allowed
+      → Shows (gone w file id) (record s { objects = table; allowed = allowed; memory = memory; pool = pool })
   unfolding settle without_areas changed Answers
-  shows_destroyed at w s file id k table areas pins memory pool tidy shows none is_kind no_device rows files fewer released =
-      let next : ArePinned (at + 1) (gone w file id) = keeps_pins at w (event.Destroy file id) reply.Done none tt tidy.pins in
+  shows_destroyed at w s file id k table areas pins memory pool allowed tidy shows none is_kind no_device rows files fewer released forgets =
+      let next : ArePinned (at + 1) (gone w file id) = keeps_pins {A = A} at w (event.Destroy file id) reply.Done none tt tidy.pins in
       let after = shown_after at w s tidy shows areas pins (without_object file id w.objects) (filter (λ (area : Area). not (is_of file id area)) w.areas) fewer (at + 1) (gone w file id) memory pool next refl refl (objects_left (is_of file id) w.areas w.memory) refl refl released in
       record {
         settings = shows.settings;
@@ -194,7 +197,7 @@ module _ {A : Type 0} where
           attached = shows.devices.attached;
         };
         limits = after.limits;
-        allowed = ap (filter _) shows.allowed;
+        allowed = λ f i. allowed_without file id w.allowed f i ∙ ap (cond (is_of_space file id f i) []) (shows.allowed f i) ∙ sym (allowed_without file id s.allowed f i) ∙ ap (λ (rows : List AllowedRanges). allowed_of rows f i) (sym forgets);
         users = after.users;
         pins = after.pins;
         frames = after.frames;
@@ -212,7 +215,7 @@ module _ {A : Type 0} where
   kind_shown w s file id k shows is_kind = ap (λ (l : List Object). kind_of l file id) shows.objects.rows ∙ is_kind
 
   -- an address space
-  module _ (at : ℕ) (w : World) (s : State A) (file : FileNo) (id : ObjId) (tidy : IsTidy at w) (shows : Shows w s) (none : refusal w (event.Destroy file id) ≡ None) (is_kind : kind_of (objects_in s.objects) file id ≡ Some kind.Ioas) where
+  module _ (at : ℕ) (w : World) (s : State A) (file : FileNo) (id : ObjId) (tidy : IsTidy at w) (shows : Shows w s) (none : first_true (destroy_checks (view w) file id) ≡ None) (is_kind : kind_of (objects_in s.objects) file id ≡ Some kind.Ioas) where
     space_kind : kind_of w.objects file id ≡ Some kind.Ioas
     space_kind = kind_shown w s file id kind.Ioas shows is_kind
 
@@ -224,14 +227,14 @@ module _ {A : Type 0} where
     pub space_may : MayRelease (over (own_areas s.objects file id)) never s.memory s.pool.holds
     space_may = may_release at w s tidy shows (over (own_areas s.objects file id)) never (without_object file id w.objects) (filter (λ (area : Area). not (is_of file id area)) w.areas) goes
 
-    pub space_destroyed : (table : Table (Held A)) (memory : Memory) (pool : FramePool) → (destroy_refusal s.objects file tablekind.Ioas id ≡ None → table.rows ≡ removed file id s.objects.rows) → table.files ≡ s.objects.files
-        → IsReleased (over (own_areas s.objects file id)) never s.memory memory s.pool pool
-        → Shows (gone w file id) (record s { objects = table; memory = memory; pool = pool })
-    space_destroyed table memory pool rows files released =
-        shows_destroyed at w s file id kind.Ioas table (over (own_areas s.objects file id)) never memory pool tidy shows none space_kind refl (rows (may_go s.objects file id kind.Ioas shows.objects.proper is_kind)) files goes released
+    pub space_destroyed : (table : Table (Held A)) (memory : Memory) (pool : FramePool) (allowed : List AllowedRanges) → (destroy_refusal s.objects file tablekind.Ioas id ≡ None → table.rows ≡ removed file id s.objects.rows) → table.files ≡ s.objects.files
+        → IsReleased (over (own_areas s.objects file id)) never s.memory memory s.pool pool → allowed ≡ without_allowed file id s.allowed
+        → Shows (gone w file id) (record s { objects = table; allowed = allowed; memory = memory; pool = pool })
+    space_destroyed table memory pool allowed rows files released forgets =
+        shows_destroyed at w s file id kind.Ioas table (over (own_areas s.objects file id)) never memory pool allowed tidy shows none space_kind refl (rows (may_go s.objects file id kind.Ioas shows.objects.proper is_kind)) files goes released forgets
 
   -- a page table
-  module _ (at : ℕ) (w : World) (s : State A) (file : FileNo) (id ioas : ObjId) (width : Width) (automatic : Bool) (table : Table (Held A)) (tidy : IsTidy at w) (shows : Shows w s) (none : refusal w (event.Destroy file id) ≡ None)
+  module _ (at : ℕ) (w : World) (s : State A) (file : FileNo) (id ioas : ObjId) (width : Width) (automatic : Bool) (table : Table (Held A)) (tidy : IsTidy at w) (shows : Shows w s) (none : first_true (destroy_checks (view w) file id) ≡ None)
       (is_kind : kind_of (objects_in s.objects) file id ≡ Some (kind.Hwpt ioas width automatic)) (may : destroy_refusal s.objects file tablekind.Hwpt id ≡ None → table.rows ≡ removed file id s.objects.rows) (files : table.files ≡ s.objects.files) where
     of_world : kind_of w.objects file id ≡ Some (kind.Hwpt ioas width automatic)
     of_world = kind_shown w s file id (kind.Hwpt ioas width automatic) shows is_kind
@@ -263,26 +266,27 @@ module _ {A : Type 0} where
     last_may last = may_release at w s tidy shows never (over (own_areas table file ioas)) (without_object file id w.objects) (filter (λ (area : Area). not (is_of file id area)) w.areas) (loses last)
 
     -- the pins of the space's areas went with its last page table
-    pub last_destroyed : (memory : Memory) (pool : FramePool) → has_hwpt (objects_in table) file ioas ≡ false → IsReleased never (over (own_areas table file ioas)) s.memory memory s.pool pool
-        → Shows (gone w file id) (record s { objects = table; memory = memory; pool = pool })
-    last_destroyed memory pool last released =
-        shows_destroyed at w s file id (kind.Hwpt ioas width automatic) table never (over (own_areas table file ioas)) memory pool tidy shows none of_world refl rows files (loses last) released
+    pub last_destroyed : (memory : Memory) (pool : FramePool) (allowed : List AllowedRanges) → has_hwpt (objects_in table) file ioas ≡ false → IsReleased never (over (own_areas table file ioas)) s.memory memory s.pool pool → allowed ≡ without_allowed file id s.allowed
+        → Shows (gone w file id) (record s { objects = table; allowed = allowed; memory = memory; pool = pool })
+    last_destroyed memory pool allowed last released forgets =
+        shows_destroyed at w s file id (kind.Hwpt ioas width automatic) table never (over (own_areas table file ioas)) memory pool allowed tidy shows none of_world refl rows files (loses last) released forgets
 
-    pub other_destroyed : has_hwpt (objects_in table) file ioas ≡ true
-        → Shows (gone w file id) (record s { objects = table })
-    other_destroyed more =
+    pub other_destroyed : (allowed : List AllowedRanges) → has_hwpt (objects_in table) file ioas ≡ true → allowed ≡ without_allowed file id s.allowed
+        → Shows (gone w file id) (record s { objects = table; allowed = allowed })
+    other_destroyed allowed more forgets =
         let fewer = other_fewer w file id tidy.ids ioas width automatic of_world empty (ap (λ (l : List Object). has_hwpt l file ioas) (sym objects_kept) ∙ more) in
-        shows_destroyed at w s file id (kind.Hwpt ioas width automatic) table never never s.memory s.pool tidy shows none of_world refl rows files fewer
+        shows_destroyed at w s file id (kind.Hwpt ioas width automatic) table never never s.memory s.pool allowed tidy shows none of_world refl rows files fewer
         (nothing_released at w s tidy shows (without_object file id w.objects) (filter (λ (area : Area). not (is_of file id area)) w.areas) fewer)
+        forgets
 
   -- ---- what was refused
 
-  pub never_device : (w : World) (s : State A) (file : FileNo) (id : ObjId) (device : DeviceNo) → Shows w s → refusal w (event.Destroy file id) ≡ None → kind_of (objects_in s.objects) file id ≡ Some (kind.Device device) → ⊥
+  pub never_device : (w : World) (s : State A) (file : FileNo) (id : ObjId) (device : DeviceNo) → Shows w s → first_true (destroy_checks (view w) file id) ≡ None → kind_of (objects_in s.objects) file id ≡ Some (kind.Device device) → ⊥
   never_device w s file id device shows none is_kind =
       let of_world = kind_shown w s file id (kind.Device device) shows is_kind in
-      clash true (ap is_device_object (sym of_world) ∙ (destroy_passed (view w) file id (passes w (event.Destroy file id) none)).no_device) refl
+      clash true (ap is_device_object (sym of_world) ∙ (destroy_passed (view w) file id none).no_device) refl
 
-  pub never_none : (w : World) (s : State A) (file : FileNo) (id : ObjId) → Shows w s → refusal w (event.Destroy file id) ≡ None → kind_of (objects_in s.objects) file id ≡ None → ⊥
+  pub never_none : (w : World) (s : State A) (file : FileNo) (id : ObjId) → Shows w s → first_true (destroy_checks (view w) file id) ≡ None → kind_of (objects_in s.objects) file id ≡ None → ⊥
   never_none w s file id shows none is_kind =
       let of_world = ap (λ (l : List Object). kind_of l file id) shows.objects.rows ∙ is_kind in
-      clash true (ap (λ (o : Option ObjectKind). is_none o) (sym of_world) ∙ (destroy_passed (view w) file id (passes w (event.Destroy file id) none)).there) refl
+      clash true (ap (λ (o : Option ObjectKind). is_none o) (sym of_world) ∙ (destroy_passed (view w) file id none).there) refl

@@ -1,7 +1,7 @@
 -- A file that was closed: all its objects, areas and attachments are gone.
 use Rattle.std.proofs.Common.{◌≡◌, ◌≢◌, ℕ, zero, suc, ◌-◌, ◌<◌, Vec, Bool, true, false, cond, ◌&&◌, ◌||◌, not, eqb, ltb, is_some, None, List, [], ◌∷◌, ◌++◌, map, get_or, set, refl, sym, ◌∙◌, ap, arith, get_or-set_other, ◌+◌}
 use Rattle.iofd_runs.proofs.KeepsPins.{keeps_pins}
-use Rattle.iofd_runs.proofs.NotRefused.{close_passed, passes}
+use Rattle.iofd_runs.proofs.NotRefused.{close_passed}
 use Rattle.frame_memory.specs.Pool.{FramePool}
 use Rattle.memory_rows.proofs.Counts.{count_alike, count_within}
 use Rattle.memory_rows.proofs.Gone.{objects_left, over_parts, translated_parts}
@@ -12,6 +12,7 @@ use Rattle.server_state.proofs.Orderly.{orderly}
 use Rattle.server_state.proofs.MemoryReleased.{AreFewer, may_release, shown_after}
 use Rattle.file_events.proofs.RowsCounted.{file_over, file_translated}
 use Rattle.file_events.specs.FileAreas.{areas_of_rows, translated_of}
+use Rattle.iofd_words.specs.Allowed.{AllowedRanges, allowed_of}
 use Rattle.iofd_words.specs.Answers.{Answers}
 use Rattle.std.specs.List.{find, filter, list_all, list_any}
 use Rattle.std.proofs.lemmas.Bool.{eqb-true}
@@ -19,8 +20,9 @@ use Rattle.std.proofs.lemmas.Bool.Decides.{nat_tests}
 use Rattle.std.proofs.lemmas.List.Folds.{list_any-append}
 use Rattle.iofd_words.specs.After.{settle, without_areas, changed}
 use Rattle.iofd_words.specs.Areas.{areas_of}
-use Rattle.iofd_words.specs.Checks.{refusal}
+use Rattle.iofd_words.specs.Checks.{close_checks}
 use Rattle.iofd_words.specs.Files as files
+use Rattle.iofd_words.specs.FirstTrue.{first_true}
 use Rattle.iofd_words.specs.Objects.{has_hwpt, is_bound_as, is_bound_device, objects_of}
 use Rattle.iofd_words.specs.View.{view}
 use Rattle.iofd_words.specs.World.{World}
@@ -34,6 +36,7 @@ use Rattle.iofd_words.specs.declared.rows.Attachment.{Attachment}
 use Rattle.iofd_words.specs.declared.rows.Object.{Object}
 use Rattle.iofd_words.specs.declared.rows.ObjectKind.{ObjectKind}
 use Rattle.iofd_words.specs.declared.rows.ObjectKind.TheVariants as kind
+use Rattle.iofd_rows.proofs.Allowed.{allowed_closed}
 use Rattle.iofd_rows.proofs.Bools.{and_true, both_true}
 use Rattle.iofd_rows.proofs.Found.{all_filter, find-filter}
 use Rattle.iofd_rows.proofs.ListTests.{any-filter, none_stronger}
@@ -149,12 +152,12 @@ module _ {A : Type 0} where
       by_file true here rest = rw (here, rest) refl
       by_file false here rest = rest
 
-  module _ (at : ℕ) (w : World) (s : State A) (file : FileNo) (tidy : IsTidy at w) (shows : Shows w s) (none : refusal w (event.Close file) ≡ None) where
+  module _ (at : ℕ) (w : World) (s : State A) (file : FileNo) (tidy : IsTidy at w) (shows : Shows w s) (none : first_true (close_checks (view w) file) ≡ None) where
     no_device : list_any (λ (object : Object). is_bound_device object.kind) (objects_of w.objects file) ≡ false
-    no_device = (close_passed (view w) file (passes w (event.Close file) none)).no_device
+    no_device = (close_passed (view w) file none).no_device
 
     opened : is_open s.objects file ≡ true
-    opened = shows.objects.files file ∙ (close_passed (view w) file (passes w (event.Close file) none)).opened
+    opened = shows.objects.files file ∙ (close_passed (view w) file none).opened
 
     may_close : close_refusal s.objects file ≡ None
     may_close =
@@ -226,15 +229,15 @@ module _ {A : Type 0} where
     pub areas_may : MayRelease (over (areas_of_rows (rows_of s.objects file))) (over (translated_of (objects_in s.objects) (rows_of s.objects file))) s.memory s.pool.holds
     areas_may = may_release at w s tidy shows (over (areas_of_rows (rows_of s.objects file))) (over (translated_of (objects_in s.objects) (rows_of s.objects file))) left stay fewer
 
-    pub shows_closed : (table : Table (Held A)) (attachments : Vec Attachment A) (memory : Memory) (pool : FramePool) → (close_refusal s.objects file ≡ None → table ≡ closed s.objects file)
+    pub shows_closed : (table : Table (Held A)) (attachments : Vec Attachment A) (memory : Memory) (pool : FramePool) (allowed : List AllowedRanges) → (close_refusal s.objects file ≡ None → table ≡ closed s.objects file)
         → attachments.items ≡ filter (λ (a : Attachment). not (eqb a.file.0 file.0)) s.attachments.items
-        → IsReleased (over (areas_of_rows (rows_of s.objects file))) (over (translated_of (objects_in s.objects) (rows_of s.objects file))) s.memory memory s.pool pool
-        → Shows (changed at w (event.Close file) reply.Done) (record s { objects = table; attachments = attachments; memory = memory; pool = pool })
+        → IsReleased (over (areas_of_rows (rows_of s.objects file))) (over (translated_of (objects_in s.objects) (rows_of s.objects file))) s.memory memory s.pool pool → allowed ≡ filter (λ (row : AllowedRanges). not (eqb row.file.0 file.0)) s.allowed
+        → Shows (changed {A = A} at w (event.Close file) reply.Done) (record s { objects = table; allowed = allowed; attachments = attachments; memory = memory; pool = pool })
     unfolding changed settle without_areas Answers
-    shows_closed table attachments memory pool closes detached released =
+    shows_closed table attachments memory pool allowed closes detached released forgets =
         let is = closes may_close in
-        let next = keeps_pins at w (event.Close file) reply.Done none tt tidy.pins in
-        let after = shown_after at w s tidy shows (over (areas_of_rows (rows_of s.objects file))) (over (translated_of (objects_in s.objects) (rows_of s.objects file))) left stay fewer (at + 1) (changed at w (event.Close file) reply.Done) memory pool next refl refl (objects_left of_file w.areas w.memory) refl refl released in
+        let next = keeps_pins {A = A} at w (event.Close file) reply.Done none tt tidy.pins in
+        let after = shown_after at w s tidy shows (over (areas_of_rows (rows_of s.objects file))) (over (translated_of (objects_in s.objects) (rows_of s.objects file))) left stay fewer (at + 1) (changed {A = A} at w (event.Close file) reply.Done) memory pool next refl refl (objects_left of_file w.areas w.memory) refl refl released in
         record {
           settings = shows.settings;
           objects = record {
@@ -248,7 +251,7 @@ module _ {A : Type 0} where
             attached = ap (filter (λ (a : Attachment). not (eqb a.file.0 file.0))) shows.devices.attached ∙ sym detached;
           };
           limits = after.limits;
-          allowed = ap (filter _) shows.allowed;
+          allowed = λ f i. allowed_closed file w.allowed f i ∙ ap (cond (eqb f.0 file.0) []) (shows.allowed f i) ∙ sym (allowed_closed file s.allowed f i) ∙ ap (λ (rows : List AllowedRanges). allowed_of rows f i) (sym forgets);
           users = after.users;
           pins = after.pins;
           frames = after.frames;

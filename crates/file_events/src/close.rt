@@ -2,7 +2,7 @@
 
 ghost use Rattle.std.specs.Prelude.{◌≡◌, ℕ, not, ◌==◌, filter, None};
 ghost use Rattle.std.specs.List.{list_any};
-ghost use Rattle.iofd_words.specs.Checks.{checks};
+ghost use Rattle.iofd_words.specs.Checks.{close_checks};
 ghost use Rattle.iofd_words.specs.FirstTrue.{first_true};
 ghost use Rattle.iofd_words.specs.Objects.{objects_of, is_bound_device};
 ghost use Rattle.iofd_words.specs.declared.event.Event.TheVariants as event;
@@ -22,9 +22,9 @@ use std::alloc::Allocator;
 use user_memory::UserMemory;
 
 /// Why it is refused, by the first row of the definitions that holds. None where nothing refuses it.
-#[tactic(auto, unfolding(iofd_words::specs::Checks::checks))]
+#[tactic(auto, unfolding(iofd_words::specs::Checks::close_checks))]
 pub fn refusal<A: Allocator>(state: &State<A>, file: FileNo) -> Option<Cause>
-    ensures { result ≡ first_true (checks (seen state.now) (event.Close file)) }
+    ensures { result ≡ first_true (close_checks (seen state.now) file) }
 {
     if !state.objects.is_open(file) {
         return Some(Cause::Id);
@@ -48,12 +48,13 @@ fn is_device<A: Allocator>(held: &Held<A>) -> bool
     matches!(held, Held::Device(_))
 }
 
-/// What it does where nothing refuses it: the file's objects and attachments go, and its areas with their memory
+/// What it does where nothing refuses it: the file's objects, allowed ranges and attachments go, and its areas with their memory
 /// objects and the pins of their pages.
 pub fn commit<A: Allocator>(state: &mut State<A>, file: FileNo) -> Reply
     requires { IsGranted (event.Close file) state.old }
     ensures { (at : ℕ) → Steps at (event.Close file) state.old result state.new }
 {
+    state.allowed.remove_file(file);
     remove_areas(&state.objects, file, &mut state.memory, &mut state.pool);
     detach_all(&mut state.attachments, file);
     close_table(&mut state.objects, file);

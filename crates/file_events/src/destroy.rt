@@ -2,7 +2,7 @@
 
 ghost use Rattle.std.specs.Prelude.{◌≡◌, ℕ, Some, None};
 ghost use Rattle.iofd_words.specs.Attachments.{has_device_on};
-ghost use Rattle.iofd_words.specs.Checks.{checks, is_device_object, is_used};
+ghost use Rattle.iofd_words.specs.Checks.{destroy_checks, is_device_object, is_used};
 ghost use Rattle.iofd_words.specs.FirstTrue.{first_true};
 ghost use Rattle.iofd_words.specs.declared.event.Event.TheVariants as event;
 ghost use Rattle.object_table.specs.Table.{destroy_refusal, removed};
@@ -15,9 +15,9 @@ use server_state::{Held, State, lookups, release};
 use std::alloc::Allocator;
 
 /// Why it is refused, by the first row of the definitions that holds. None where nothing refuses it.
-#[tactic(auto, unfolding(iofd_words::specs::Checks::checks))]
+#[tactic(auto, unfolding(iofd_words::specs::Checks::destroy_checks))]
 pub fn refusal<A: Allocator>(state: &State<A>, file: FileNo, id: ObjId) -> Option<Cause>
-    ensures { result ≡ first_true (checks (seen state.now) (event.Destroy file id)) }
+    ensures { result ≡ first_true (destroy_checks (seen state.now) file id) }
 {
     if !state.objects.is_open(file) {
         return Some(Cause::Id);
@@ -58,12 +58,13 @@ fn is_device(kind: ObjectKind) -> bool
     matches!(kind, ObjectKind::Device(_))
 }
 
-/// What it does where nothing refuses it. An address space goes with its areas and their memory objects, of which no
-/// page is pinned; a page table goes, and with the last one over an address space the pins of its areas' pages.
+/// What it does where nothing refuses it. An address space goes with its allowed ranges, and with its areas and their
+/// memory objects, of which no page is pinned; a page table goes, and with the last one over an address space the pins of its areas' pages.
 pub fn commit<A: Allocator>(state: &mut State<A>, file: FileNo, id: ObjId) -> Reply
     requires { IsGranted (event.Destroy file id) state.old }
     ensures { (at : ℕ) → Steps at (event.Destroy file id) state.old result state.new }
 {
+    state.allowed.remove(file, id);
     match lookups::kind_of(&state.objects, file, id) {
         Some(ObjectKind::Ioas) => {
             // It was refused while it had a page table: so no page of its areas is pinned for it.

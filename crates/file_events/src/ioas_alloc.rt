@@ -1,7 +1,7 @@
 //! IoasAlloc: a file gets a new address space.
 
 ghost use Rattle.std.specs.Prelude.{◌≡◌, ℕ, IfOk, OnErr};
-ghost use Rattle.iofd_words.specs.Checks.{checks};
+ghost use Rattle.iofd_words.specs.Checks.{ioas_alloc_checks};
 ghost use Rattle.iofd_words.specs.FirstTrue.{first_true};
 ghost use Rattle.iofd_words.specs.declared.event.Event.TheVariants as event;
 ghost use Rattle.server_state.specs.Seen.{seen};
@@ -14,9 +14,9 @@ use server_state::{Held, State};
 use std::alloc::Allocator;
 
 /// Why it is refused, by the first row of the definitions that holds. None where nothing refuses it.
-#[tactic(auto, using(server_state::proofs::ObjectsMoved::is_full_rows), unfolding(iofd_words::specs::Checks::checks))]
+#[tactic(auto, using(server_state::proofs::ObjectsMoved::is_full_rows), unfolding(iofd_words::specs::Checks::ioas_alloc_checks))]
 pub fn refusal<A: Allocator>(state: &State<A>, file: FileNo) -> Option<Cause>
-    ensures { result ≡ first_true (checks (seen state.now) (event.IoasAlloc file)) }
+    ensures { result ≡ first_true (ioas_alloc_checks (seen state.now) file) }
 {
     if !state.objects.is_open(file) {
         return Some(Cause::Id);

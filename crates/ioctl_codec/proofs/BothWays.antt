@@ -1,14 +1,14 @@
 -- Reading and the layout say the same.
-use Rattle.std.proofs.Common.{◌≡◌, ℕ, zero, suc, ◌-◌, ◌≤◌, Bool, true, false, ◌==◌, ltb, not, ◌||◌, List, [], ◌∷◌, ◌++◌, length, take, drop, replicate, None, refl, sym, ap, subst, ◌∙◌, arith}
+use Rattle.std.proofs.Common.{◌≡◌, ℕ, zero, suc, ◌+◌, ◌-◌, ◌*◌, ◌≤◌, Bool, true, false, ◌==◌, ltb, not, ◌||◌, List, [], ◌∷◌, ◌++◌, length, take, drop, replicate, None, refl, sym, ap, ◌∙◌, append_assoc, arith}
 use Rattle.std.specs.List.{list_all}
 use Rattle.std.specs.Int.{w32, from_le_bytes, to_le_bytes}
-use Rattle.std.proofs.lemmas.Bool.{ltb-false, le-ltb, eqb-true}
-use Rattle.std.proofs.lemmas.List.{take_at, drop_at, take-append-drop, take_all, drop_all, drop-drop, length-append, length-take, length-drop, length-replicate}
+use Rattle.std.proofs.lemmas.Bool.{ltb-false, le-ltb, eqb-true, eq-eqb}
+use Rattle.std.proofs.lemmas.List.{take_at, drop_at, take-append-drop, take-take, drop-take, drop-drop, length-append, length-take, length-drop, length-replicate}
 use Rattle.iofd_words.specs.FirstTrue.{first_true}
 use Rattle.iofd_words.specs.declared.refusal.Cause.{Cause}
 use Rattle.iofd_words.specs.declared.refusal.Cause.TheVariants as cause
-use Rattle.ioctl_codec.specs.Layout.{Structure, U32, bytes_of, length_of, are_allowed, carried, spelled, numbers_at, IsLaidOut}
-use Rattle.ioctl_codec.specs.Refusals.{size_at, size_checks, field_checks, read_numbers, read_values, refusal_of}
+use Rattle.ioctl_codec.specs.Layout.{Structure, U32, bytes_of, length_of, are_allowed, carried, spelled, numbers_at, entry_count, IsLaidOut}
+use Rattle.ioctl_codec.specs.Refusals.{size_at, size_checks, field_checks, read_numbers, read_values, read_count, after_size, refusal_of}
 use Rattle.ioctl_codec.proofs.LittleEndian.{IsBytes, IsBytes-drop, IsBytes-take, to_le_bytes-from_le_bytes, from_le_bytes-to_le_bytes}
 use Rattle.ioctl_codec.proofs.Rows.{and-parts, spelled-numbers_at, AreOfWidth-numbers_at, length-spelled, numbers_at-spelled}
 
@@ -56,7 +56,7 @@ record Passes (s : Structure) (bytes : List ℕ) : Type 0 where
   whole : size_at bytes ≤ length bytes
   tail : list_all (λ byte. byte == 0) (drop (length_of s) (take (size_at bytes) bytes)) ≡ true
   allowed : are_allowed s.fields (read_numbers s bytes) ≡ true
-  ended : length (drop (size_at bytes) bytes) ≤ 0
+  ended : length (after_size bytes) ≡ 16 * read_count s bytes
 
 passes : (s : Structure) (bytes : List ℕ) → refusal_of s bytes ≡ None → Passes s bytes
 unfolding refusal_of size_checks field_checks
@@ -67,8 +67,9 @@ passes s bytes e =
     let cut = ltb (length bytes) size in
     let dirty = not (list_all (λ byte. byte == 0) (drop (length_of s) (take size bytes))) in
     let supported = are_allowed s.fields (read_numbers s bytes) in
-    let after = drop size bytes in
-    let g-checks : List (Cause × Bool) = (cause.Array, ltb 0 (length after)) ∷ [] in
+    let after = after_size bytes in
+    let whole = length after == 16 * read_count s bytes in
+    let g-checks : List (Cause × Bool) = (cause.Array, not whole) ∷ [] in
     let f-checks : List (Cause × Bool) = (cause.Unsupported, not supported) ∷ g-checks in
     let d-checks : List (Cause × Bool) = (cause.Tail, dirty) ∷ f-checks in
     let c-checks : List (Cause × Bool) = (cause.Short, cut) ∷ d-checks in
@@ -78,7 +79,7 @@ passes s bytes e =
     let c = none_after cause.Short cut d-checks b.1 in
     let d = none_after cause.Tail dirty f-checks c.1 in
     let f = none_after cause.Unsupported (not supported) g-checks d.1 in
-    let g = none_after cause.Array (ltb 0 (length after)) [] f.1 in
+    let g = none_after cause.Array (not whole) [] f.1 in
     let sizes = or-false (ltb (length bytes) 4) (ltb size (length_of s)) a.0 in
     record {
       four = ltb-false (length bytes) 4 sizes.0;
@@ -87,74 +88,91 @@ passes s bytes e =
       whole = ltb-false (length bytes) size c.0;
       tail = not-false (list_all (λ byte. byte == 0) (drop (length_of s) (take size bytes))) d.0;
       allowed = not-false supported f.0;
-      ended = ltb-false 0 (length after) g.0;
+      ended = eqb-true (length after) (16 * read_count s bytes) (not-false whole g.0);
     }
 
-pub is_laid_out : (s : Structure) (bytes : List ℕ) → IsBytes bytes → refusal_of s bytes ≡ None → IsLaidOut s (read_values s bytes) bytes
+pub is_laid_out : (s : Structure) (bytes : List ℕ) → IsBytes bytes → refusal_of s bytes ≡ None → IsLaidOut s (read_values s bytes) (take (size_at bytes) bytes)
 unfolding read_numbers
 is_laid_out s bytes fits e =
     let p = passes s bytes e in
     let size = size_at bytes in
     let m = bytes_of s.fields in
-    let rest = drop 4 bytes in
-    let len : length bytes ≡ size = omega (arith, p.whole, p.ended, length-drop size bytes) in
-    let front : to_le_bytes w32 size ≡ take 4 bytes = to_le_bytes-from_le_bytes U32 (take 4 bytes) (omega (arith, p.four, length-take 4 bytes)) (IsBytes-take 4 bytes fits) in
-    let fields : spelled s.fields (numbers_at s.fields rest) ≡ take m rest =
-    spelled-numbers_at s.fields rest (IsBytes-drop 4 bytes fits) (omega (arith, p.least, len, length-drop 4 bytes)) in
-    let all : take size bytes ≡ bytes = take_all size bytes (omega (arith, len)) in
-    let tail : drop (length_of s) bytes ≡ replicate (size - length_of s) 0 =
-    zeros_are (drop (length_of s) bytes) (subst (λ (xs : List ℕ). list_all (λ byte. byte == 0) (drop (length_of s) xs) ≡ true) all p.tail)
-    ∙ ap (λ (n : ℕ). replicate n 0) (omega (arith, len, length-drop (length_of s) bytes)) in
-    let back : drop m rest ≡ replicate (size - length_of s) 0 = drop-drop m 4 bytes ∙ tail in
+    let head = take size bytes in
+    let rest = drop 4 head in
+    let front : to_le_bytes w32 size ≡ take 4 head =
+    to_le_bytes-from_le_bytes U32 (take 4 bytes) (omega (arith, p.four, length-take 4 bytes)) (IsBytes-take 4 bytes fits) ∙ sym (take-take 4 size bytes (omega (arith, p.least))) in
+    let same : take m (drop 4 bytes) ≡ take m rest =
+    sym (drop-take 4 m bytes) ∙ (ap (drop 4) (sym (take-take (4 + m) size bytes (omega (arith, p.least)))) ∙ drop-take 4 m head) in
+    let fields : spelled s.fields (numbers_at s.fields (drop 4 bytes)) ≡ take m rest =
+    spelled-numbers_at s.fields (drop 4 bytes) (IsBytes-drop 4 bytes fits) (omega (arith, p.least, p.whole, length-drop 4 bytes)) ∙ same in
+    let back : drop m rest ≡ replicate (size - length_of s) 0 =
+    drop-drop m 4 head ∙ (zeros_are (drop (length_of s) head) p.tail
+    ∙ ap (λ (n : ℕ). replicate n 0) (omega (arith, p.whole, length-take size bytes, length-drop (length_of s) head))) in
     record {
       size = size;
-      numbers = numbers_at s.fields rest;
+      numbers = numbers_at s.fields (drop 4 bytes);
       least = p.least;
       most = p.most;
-      widths = AreOfWidth-numbers_at s.fields rest (IsBytes-drop 4 bytes fits);
+      widths = AreOfWidth-numbers_at s.fields (drop 4 bytes) (IsBytes-drop 4 bytes fits);
       allowed = p.allowed;
       values_are = refl;
-      bytes_are = sym (take-append-drop 4 bytes)
+      bytes_are = sym (take-append-drop 4 head)
           ∙ (ap (λ (x : List ℕ). x ++ rest) (sym front)
           ∙ ap (λ (x : List ℕ). to_le_bytes w32 size ++ x) (sym (take-append-drop m rest)
-          ∙ (ap (λ (x : List ℕ). x ++ drop m rest) (sym fields) ∙ ap (λ (x : List ℕ). spelled s.fields (numbers_at s.fields rest) ++ x) back)));
+          ∙ (ap (λ (x : List ℕ). x ++ drop m rest) (sym fields) ∙ ap (λ (x : List ℕ). spelled s.fields (numbers_at s.fields (drop 4 bytes)) ++ x) back)));
     }
+
+-- the bytes of as many entries as the structure counts follow it
+pub is_whole : (s : Structure) (bytes : List ℕ) → refusal_of s bytes ≡ None → length (after_size bytes) ≡ 16 * read_count s bytes
+is_whole s bytes e = let p = passes s bytes e in p.ended
 
 -- ---- what is laid out so is read
 
-pub record IsRead (s : Structure) (values bytes : List ℕ) : Type 0 where
+pub record IsRead (s : Structure) (values bytes after : List ℕ) : Type 0 where
   pub accepted : refusal_of s bytes ≡ None
   pub values_are : read_values s bytes ≡ values
+  pub after_is : after_size bytes ≡ after
 
-pub is_read : (s : Structure) (values bytes : List ℕ) → IsLaidOut s values bytes → IsRead s values bytes
+pub is_read : (s : Structure) (values head after bytes : List ℕ) → IsLaidOut s values head → bytes ≡ head ++ after → length after ≡ 16 * entry_count s.fields values
+    → IsRead s values bytes after
 unfolding refusal_of size_checks field_checks read_numbers
-is_read s values bytes laid =
+is_read s values head after bytes laid bytes-are whole-is =
     let size = laid.size in
     let m = bytes_of s.fields in
     let fields = spelled s.fields laid.numbers in
     let zeros : List ℕ = replicate (size - length_of s) 0 in
     let front = to_le_bytes w32 size in
     let field_len : length fields ≡ m = length-spelled s.fields laid.numbers laid.widths in
-    let size-is : size_at bytes ≡ size =
-    ap size_at laid.bytes_are ∙ ap (from_le_bytes w32) (take_at front (fields ++ zeros) 4 refl) ∙ from_le_bytes-to_le_bytes U32 size (omega (arith, laid.most)) in
-    let rest-is : drop 4 bytes ≡ fields ++ zeros = ap (drop 4) laid.bytes_are ∙ drop_at front (fields ++ zeros) 4 refl in
-    let len : length bytes ≡ size =
+    let head-len : length head ≡ size =
     ap length laid.bytes_are ∙ omega (arith, length-append front (fields ++ zeros), length-append fields zeros, field_len, length-replicate {A = ℕ} (size - length_of s) 0, laid.least) in
-    let numbers-are : read_numbers s bytes ≡ laid.numbers = ap (numbers_at s.fields) rest-is ∙ numbers_at-spelled s.fields laid.numbers zeros laid.widths in
-    let tail-is : drop (length_of s) bytes ≡ zeros = sym (drop-drop m 4 bytes) ∙ ap (drop m) rest-is ∙ drop_at fields zeros m field_len in
+    let len : length bytes ≡ size + length after = ap length bytes-are ∙ omega (arith, length-append head after, head-len) in
+    let apart : bytes ≡ front ++ (fields ++ (zeros ++ after)) =
+    bytes-are ∙ (ap (λ (x : List ℕ). x ++ after) laid.bytes_are ∙ (append_assoc front (fields ++ zeros) after ∙ ap (λ (x : List ℕ). front ++ x) (append_assoc fields zeros after))) in
+    let size-is : size_at bytes ≡ size =
+    ap size_at apart ∙ ap (from_le_bytes w32) (take_at front (fields ++ (zeros ++ after)) 4 refl) ∙ from_le_bytes-to_le_bytes U32 size (omega (arith, laid.most)) in
+    let rest-is : drop 4 bytes ≡ fields ++ (zeros ++ after) = ap (drop 4) apart ∙ drop_at front (fields ++ (zeros ++ after)) 4 refl in
+    let numbers-are : read_numbers s bytes ≡ laid.numbers = ap (numbers_at s.fields) rest-is ∙ numbers_at-spelled s.fields laid.numbers (zeros ++ after) laid.widths in
+    let values-are : read_values s bytes ≡ values = ap (carried s.fields) numbers-are ∙ laid.values_are in
+    let head-rest : drop 4 head ≡ fields ++ zeros = ap (drop 4) laid.bytes_are ∙ drop_at front (fields ++ zeros) 4 refl in
+    let tail-is : drop (length_of s) head ≡ zeros = sym (drop-drop m 4 head) ∙ ap (drop m) head-rest ∙ drop_at fields zeros m field_len in
     let read = size_at bytes in
-    let after = drop read bytes in
-    let after-is : after ≡ [] = drop_all read bytes (omega (arith, len, size-is)) in
-    let whole : take read bytes ≡ bytes = take_all read bytes (omega (arith, len, size-is)) in
+    let after-is : after_size bytes ≡ after =
+    ap (λ (n : ℕ). drop n bytes) size-is ∙ (ap (drop size) bytes-are ∙ drop_at head after size head-len) in
+    let head-is : take read bytes ≡ head =
+    ap (λ (n : ℕ). take n bytes) size-is ∙ (ap (take size) bytes-are ∙ take_at head after size head-len) in
     let clean = list_all (λ byte. byte == 0) (drop (length_of s) (take read bytes)) in
     let clean-is : clean ≡ true =
-    ap (λ (xs : List ℕ). list_all (λ byte. byte == 0) (drop (length_of s) xs)) whole ∙ (ap (list_all (λ byte. byte == 0)) tail-is ∙ are_zeros (size - length_of s)) in
+    ap (λ (xs : List ℕ). list_all (λ byte. byte == 0) (drop (length_of s) xs)) head-is ∙ (ap (list_all (λ byte. byte == 0)) tail-is ∙ are_zeros (size - length_of s)) in
     let supported = are_allowed s.fields (read_numbers s bytes) in
     let supported-is : supported ≡ true = ap (are_allowed s.fields) numbers-are ∙ laid.allowed in
+    let whole = length (after_size bytes) == 16 * read_count s bytes in
+    let counted : length (after_size bytes) ≡ 16 * read_count s bytes =
+    ap length after-is ∙ (whole-is ∙ ap (λ (xs : List ℕ). 16 * entry_count s.fields xs) (sym values-are)) in
+    let whole-true : whole ≡ true = eq-eqb (length (after_size bytes)) (16 * read_count s bytes) counted in
     let short = ltb (length bytes) 4 || ltb read (length_of s) in
     let large = ltb 4096 read in
     let cut = ltb (length bytes) read in
-    let g-checks : List (Cause × Bool) = (cause.Array, ltb 0 (length after)) ∷ [] in
+    let g-checks : List (Cause × Bool) = (cause.Array, not whole) ∷ [] in
     let f-checks : List (Cause × Bool) = (cause.Unsupported, not supported) ∷ g-checks in
     let d-checks : List (Cause × Bool) = (cause.Tail, not clean) ∷ f-checks in
     let c-checks : List (Cause × Bool) = (cause.Short, cut) ∷ d-checks in
@@ -166,6 +184,7 @@ is_read s values bytes laid =
           (none_before cause.Short cut d-checks (le-ltb (length bytes) read (omega (arith, size-is, len)))
           (none_before cause.Tail (not clean) f-checks (ap not clean-is)
           (none_before cause.Unsupported (not supported) g-checks (ap not supported-is)
-          (none_before cause.Array (ltb 0 (length after)) [] (le-ltb 0 (length after) (omega (arith, ap length after-is))) refl)))));
-      values_are = ap (carried s.fields) numbers-are ∙ laid.values_are;
+          (none_before cause.Array (not whole) [] (ap not whole-true) refl)))));
+      values_are = values-are;
+      after_is = after-is;
     }

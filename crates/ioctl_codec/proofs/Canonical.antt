@@ -1,52 +1,56 @@
 -- The canonical spelling of a command spells it, and a command that is spelled at all may be encoded.
-use Rattle.std.proofs.Common.{◌≡◌, ℕ, ◌-◌, ◌≤◌, Bool, true, false, ◌||◌, ◌==◌, List, [], ◌∷◌, ◌++◌, replicate, None, refl, sym, ap, subst, ◌∙◌, lit≤, arith}
+use Rattle.std.proofs.Common.{◌≡◌, ℕ, ◌-◌, ◌^◌, ◌<◌, ◌≤◌, Bool, true, false, ◌||◌, ◌==◌, List, [], ◌∷◌, ◌++◌, length, replicate, None, refl, sym, ap, subst, ◌∙◌, lit≤, arith}
 use Rattle.std.specs.Int.{w32, to_le_bytes}
 use Rattle.std.proofs.lemmas.List.{append-nil}
-use Rattle.std.proofs.lemmas.Bool.{eqb-true}
+use Rattle.std.proofs.lemmas.Bool.{eqb-true, ltb-true, lt-ltb}
 use Rattle.std.specs.Prelude.{slice_index}
 use Rattle.std.specs.Int.RustNames.{bit_and}
 use Rattle.iofd_words.specs.Rights.{has_flag}
 use Rattle.iofd_words.specs.declared.event.MapRequest.{MapRequest}
 use Rattle.ioctl_codec.specs.declared.command.Command.{Command}
-use Rattle.ioctl_codec.specs.declared.command.Command.TheVariants.{Destroy, IoasAlloc, IoasMap, IoasUnmap}
-use Rattle.ioctl_codec.specs.Layout.{are_allowed, carried, filled, spelled, length_of, structure_bytes}
-use Rattle.ioctl_codec.specs.Structures.{ioas_map, structure_of, values_of, is_spellable}
+use Rattle.ioctl_codec.specs.declared.command.Command.TheVariants.{Destroy, IoasAlloc, IoasAllowIovas, IoasIovaRanges, IoasMap, IoasUnmap}
+use Rattle.ioctl_codec.specs.Entries.{AreAddresses}
+use Rattle.ioctl_codec.specs.Layout.{AreOfWidth, are_allowed, carried, filled, spelled, length_of, structure_bytes}
+use Rattle.ioctl_codec.specs.Structures.{ioas_allow_iovas, ioas_map, map_values, structure_of, values_of, entries_of, is_spellable}
 use Rattle.ioctl_codec.specs.Spelling.{Spells, canonical, FitsFields, HasSpelling}
 use Rattle.ioctl_codec.specs.Refusals.{read_numbers, read_values, refusal}
-use Rattle.ioctl_codec.proofs.Commands.{refusal-number}
-use Rattle.ioctl_codec.proofs.BothWays.{is_read}
+use Rattle.ioctl_codec.proofs.Commands.{refusal-number, spelled_read}
 use Rattle.ioctl_codec.proofs.Refusing.{and-true}
 use Rattle.ioctl_codec.proofs.Rows.{and-parts, and_both, are_allowed-filled}
 
-abbrev canonical_row : Command → List ℕ
+abbrev canonical_row : {A : Type 0} → Command A → List ℕ
 canonical_row c = filled (structure_of c).fields (values_of c) None
 
 abbrev has_known_flags : MapRequest → Bool
 has_known_flags m = bit_and m.flags.0 7 == m.flags.0
 
 abbrev map_row : Bool → MapRequest → List ℕ
-map_row fixed m = filled (ioas_map fixed).fields (values_of (IoasMap m)) None
+map_row fixed m = filled (ioas_map fixed).fields (map_values m) None
 
 are_allowed-map : (fixed : Bool) (m : MapRequest) → are_allowed (ioas_map fixed).fields (map_row fixed m) ≡ has_known_flags m
 are_allowed-map true m = and-true (has_known_flags m)
 are_allowed-map false m = and-true (has_known_flags m)
 
-are_allowed-canonical : (c : Command) → is_spellable c ≡ true → are_allowed (structure_of c).fields (canonical_row c) ≡ true
+are_allowed-canonical : {A : Type 0} (c : Command A) → is_spellable c ≡ true → are_allowed (structure_of c).fields (canonical_row c) ≡ true
 are_allowed-canonical (Destroy id) e = refl
 are_allowed-canonical IoasAlloc e = refl
+are_allowed-canonical (IoasAllowIovas ioas ranges) e = refl
+are_allowed-canonical (IoasIovaRanges r) e = refl
 are_allowed-canonical (IoasMap m) e =
     let fixed = has_flag m.flags.0 1 in
     let p = and-parts (has_known_flags m) (fixed || m.iova.0 == 0) e in
     are_allowed-map fixed m ∙ p.0
 are_allowed-canonical (IoasUnmap u) e = refl
 
-carried-map : (fixed : Bool) (m : MapRequest) → (fixed || m.iova.0 == 0) ≡ true → carried (ioas_map fixed).fields (map_row fixed m) ≡ values_of (IoasMap m)
+carried-map : (fixed : Bool) (m : MapRequest) → (fixed || m.iova.0 == 0) ≡ true → carried (ioas_map fixed).fields (map_row fixed m) ≡ map_values m
 carried-map true m e = refl
 carried-map false m e = ap (λ (iova : ℕ). m.flags.0 ∷ m.ioas.0 ∷ m.user_va ∷ m.length ∷ iova ∷ []) (sym (eqb-true m.iova.0 0 e))
 
-carried-canonical : (c : Command) → is_spellable c ≡ true → carried (structure_of c).fields (canonical_row c) ≡ values_of c
+carried-canonical : {A : Type 0} (c : Command A) → is_spellable c ≡ true → carried (structure_of c).fields (canonical_row c) ≡ values_of c
 carried-canonical (Destroy id) e = refl
 carried-canonical IoasAlloc e = refl
+carried-canonical (IoasAllowIovas ioas ranges) e = refl
+carried-canonical (IoasIovaRanges r) e = refl
 carried-canonical (IoasMap m) e =
     let fixed = has_flag m.flags.0 1 in
     let p = and-parts (has_known_flags m) (fixed || m.iova.0 == 0) e in
@@ -54,32 +58,55 @@ carried-canonical (IoasMap m) e =
 carried-canonical (IoasUnmap u) e = refl
 
 -- an address that isn't fixed is read as 0
-kept-map : (fixed : Bool) (m : MapRequest) (bytes : List ℕ) → read_values (ioas_map fixed) bytes ≡ values_of (IoasMap m) → (fixed || m.iova.0 == 0) ≡ true
+kept-map : (fixed : Bool) (m : MapRequest) (bytes : List ℕ) → read_values (ioas_map fixed) bytes ≡ map_values m → (fixed || m.iova.0 == 0) ≡ true
 unfolding read_numbers
 kept-map true m bytes e = refl
 kept-map false m bytes e =
     let zero_is : 0 ≡ m.iova.0 = ap (λ (vs : List ℕ). slice_index vs 4) e in
     subst (λ (n : ℕ). (n == 0) ≡ true) zero_is refl
 
-length_at_most : (c : Command) → length_of (structure_of c) ≤ 4096
+length_at_most : {A : Type 0} (c : Command A) → length_of (structure_of c) ≤ 4096
 length_at_most (Destroy id) = lit≤ tt
 length_at_most IoasAlloc = lit≤ tt
+length_at_most (IoasAllowIovas ioas ranges) = lit≤ tt
+length_at_most (IoasIovaRanges r) = lit≤ tt
 length_at_most (IoasMap m) = lit≤ tt
 length_at_most (IoasUnmap u) = lit≤ tt
 
-no_tail : (c : Command) → replicate {A = ℕ} (length_of (structure_of c) - length_of (structure_of c)) 0 ≡ []
+no_tail : {A : Type 0} (c : Command A) → replicate {A = ℕ} (length_of (structure_of c) - length_of (structure_of c)) 0 ≡ []
 no_tail (Destroy id) = refl
 no_tail IoasAlloc = refl
+no_tail (IoasAllowIovas ioas ranges) = refl
+no_tail (IoasIovaRanges r) = refl
 no_tail (IoasMap m) = refl
 no_tail (IoasUnmap u) = refl
 
-pub canonical_spells : (c : Command) → FitsFields c → is_spellable c ≡ true → Spells (structure_of c).number (canonical c) c
+widths : {A : Type 0} (c : Command A) → FitsFields c → is_spellable c ≡ true → AreOfWidth (structure_of c).fields (canonical_row c)
+widths (Destroy id) fits spellable = fits
+widths IoasAlloc fits spellable = fits
+widths (IoasAllowIovas ioas ranges) fits spellable = (fits.0, (ltb-true (length ranges) (2 ^ 32) spellable, (omega arith, (omega arith, tt))))
+widths (IoasIovaRanges r) fits spellable = fits
+widths (IoasMap m) fits spellable = fits
+widths (IoasUnmap u) fits spellable = fits
+
+addresses : {A : Type 0} (c : Command A) → FitsFields c → AreAddresses (entries_of c)
+addresses (Destroy id) fits = tt
+addresses IoasAlloc fits = tt
+addresses (IoasAllowIovas ioas ranges) fits = fits.1
+addresses (IoasIovaRanges r) fits = tt
+addresses (IoasMap m) fits = tt
+addresses (IoasUnmap u) fits = tt
+
+-- a canonical spelling, the numbers of the structure and those of the entries being of their widths
+pub canonical_of : {A : Type 0} (c : Command A) → AreOfWidth (structure_of c).fields (canonical_row c) → AreAddresses (entries_of c) → is_spellable c ≡ true
+    → Spells (structure_of c).number (canonical c) c
 unfolding structure_bytes
-canonical_spells c fits spellable =
+canonical_of c fits entries spellable =
     let s = structure_of c in
     let fields = spelled s.fields (canonical_row c) in
     record {
       number = refl;
+      head = to_le_bytes w32 (length_of s) ++ fields;
       laid_out = record {
         size = length_of s;
         numbers = canonical_row c;
@@ -90,28 +117,42 @@ canonical_spells c fits spellable =
         values_are = carried-canonical c spellable;
         bytes_are = ap (λ (x : List ℕ). to_le_bytes w32 (length_of s) ++ x) (sym (append-nil fields) ∙ ap (λ (x : List ℕ). fields ++ x) (sym (no_tail c)));
       };
+      addresses = entries;
+      bytes_are = refl;
     }
 
-spellable-if : (c : Command) (bytes : List ℕ) → are_allowed (structure_of c).fields (canonical_row c) ≡ true → read_values (structure_of c) bytes ≡ values_of c → is_spellable c ≡ true
-spellable-if (Destroy id) bytes e values = refl
-spellable-if IoasAlloc bytes e values = refl
-spellable-if (IoasMap m) bytes e values =
+pub canonical_spells : {A : Type 0} (c : Command A) → FitsFields c → is_spellable c ≡ true → Spells (structure_of c).number (canonical c) c
+canonical_spells c fits spellable = canonical_of c (widths c fits spellable) (addresses c fits) spellable
+
+-- the count of an ALLOW_IOVAS has 32 bits
+count_below : (numbers values : List ℕ) → AreOfWidth ioas_allow_iovas.fields numbers → carried ioas_allow_iovas.fields numbers ≡ values → slice_index values 1 < 2 ^ 32
+count_below [] values fits e = absurd fits
+count_below (a ∷ []) values fits e = absurd fits.1
+count_below (a ∷ b ∷ numbers) values fits e = subst (λ (n : ℕ). n < 2 ^ 32) (ap (λ (vs : List ℕ). slice_index vs 1) e) fits.1.0
+
+spellable-if : {A : Type 0} (c : Command A) (bytes numbers : List ℕ) → are_allowed (structure_of c).fields (canonical_row c) ≡ true → read_values (structure_of c) bytes ≡ values_of c
+    → AreOfWidth (structure_of c).fields numbers → carried (structure_of c).fields numbers ≡ values_of c → is_spellable c ≡ true
+spellable-if (Destroy id) bytes numbers e values fits numbers_are = refl
+spellable-if IoasAlloc bytes numbers e values fits numbers_are = refl
+spellable-if (IoasAllowIovas ioas ranges) bytes numbers e values fits numbers_are =
+    lt-ltb (length ranges) (2 ^ 32) (count_below numbers (ioas.0 ∷ length ranges ∷ []) fits numbers_are)
+spellable-if (IoasIovaRanges r) bytes numbers e values fits numbers_are = refl
+spellable-if (IoasMap m) bytes numbers e values fits numbers_are =
     let fixed = has_flag m.flags.0 1 in
     and_both (has_known_flags m) (fixed || m.iova.0 == 0) (sym (are_allowed-map fixed m) ∙ e) (kept-map fixed m bytes values)
-spellable-if (IoasUnmap u) bytes e values = refl
+spellable-if (IoasUnmap u) bytes numbers e values fits numbers_are = refl
 
-pub spellable_from : (c : Command) (nr : ℕ) (bytes : List ℕ) → Spells nr bytes c → is_spellable c ≡ true
+pub spellable_from : {A : Type 0} (c : Command A) (nr : ℕ) (bytes : List ℕ) → Spells nr bytes c → is_spellable c ≡ true
 spellable_from c nr bytes spells =
     let laid = spells.laid_out in
     let zeroed = are_allowed-filled (structure_of c).fields laid.numbers laid.allowed in
-    let read = is_read (structure_of c) (values_of c) bytes laid in
-    spellable-if c bytes (subst (λ (values : List ℕ). are_allowed (structure_of c).fields (filled (structure_of c).fields values None) ≡ true) laid.values_are zeroed) read.values_are
+    let read = spelled_read nr bytes c spells in
+    spellable-if c bytes laid.numbers (subst (λ (values : List ℕ). are_allowed (structure_of c).fields (filled (structure_of c).fields values None) ≡ true) laid.values_are zeroed) read.values_are laid.widths laid.values_are
 
-pub canonical_accepted : (c : Command) → FitsFields c → is_spellable c ≡ true → refusal (structure_of c).number (canonical c) ≡ None
+pub canonical_accepted : {A : Type 0} (c : Command A) → FitsFields c → is_spellable c ≡ true → refusal (structure_of c).number (canonical c) ≡ None
 canonical_accepted c fits spellable =
-    let spells = canonical_spells c fits spellable in
-    let read = is_read (structure_of c) (values_of c) (canonical c) spells.laid_out in
+    let read = spelled_read (structure_of c).number (canonical c) c (canonical_spells c fits spellable) in
     refusal-number c (structure_of c).number (canonical c) refl ∙ read.accepted
 
-pub has_spelling : (c : Command) → FitsFields c → is_spellable c ≡ true → HasSpelling c
+pub has_spelling : {A : Type 0} (c : Command A) → FitsFields c → is_spellable c ≡ true → HasSpelling c
 has_spelling c fits spellable = ((structure_of c).number, canonical c, canonical_spells c fits spellable)

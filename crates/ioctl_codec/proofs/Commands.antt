@@ -1,33 +1,42 @@
 -- Commands: each is known from its number and its values, and decoding finds exactly the one that is spelled.
-use Rattle.std.proofs.Common.{◌≡◌, ℕ, Bool, true, false, cond, ◌==◌, List, take, drop, None, Result, Ok, Err, refl, sym, ap, subst, ◌∙◌}
+use Rattle.std.proofs.Common.{◌≡◌, ℕ, ◌*◌, ◌<◌, Bool, true, false, cond, ◌==◌, List, [], ◌∷◌, ◌++◌, length, take, drop, None, Result, Ok, Err, refl, sym, ap, subst, ◌∙◌}
+use Rattle.std.proofs.lemmas.List.{take-append-drop}
 use Rattle.std.specs.Prelude.{IfOk, slice_index}
 use Rattle.std.specs.Int.{w32, from_le_bytes}
-use Rattle.iofd_words.specs.Rights.{has_flag}
+use Rattle.iofd_words.specs.Rights.{has_flag, is_fixed}
 use Rattle.ioctl_codec.specs.declared.command.Command.{Command}
-use Rattle.ioctl_codec.specs.declared.command.Command.TheVariants.{Destroy, IoasAlloc, IoasMap, IoasUnmap}
+use Rattle.ioctl_codec.specs.declared.command.Command.TheVariants.{Destroy, IoasAlloc, IoasAllowIovas, IoasIovaRanges, IoasMap, IoasUnmap}
 use Rattle.ioctl_codec.specs.declared.command.DecodeError.{DecodeError}
-use Rattle.ioctl_codec.specs.Layout.{Structure, IsLaidOut}
-use Rattle.ioctl_codec.specs.Structures.{destroy, ioas_alloc, ioas_map, ioas_unmap, structure_of, values_of}
+use Rattle.ioctl_codec.specs.declared.command.DecodeError.TheVariants as errors
+use Rattle.ioctl_codec.specs.Layout.{Structure, IsLaidOut, entry_count}
+use Rattle.ioctl_codec.specs.Structures.{destroy, ioas_alloc, ioas_allow_iovas, ioas_iova_ranges, ioas_map, ioas_unmap, structure_of, values_of, entries_of}
+use Rattle.iofd_words.specs.Bounds.{Bounds}
+use Rattle.ioctl_codec.specs.Entries.{AreAddresses, entries_at, entries_bytes}
 use Rattle.ioctl_codec.specs.Spelling.{Spells}
-use Rattle.ioctl_codec.specs.Refusals.{refusal_of, refusal, refused_of, read_numbers, read_values}
-use Rattle.ioctl_codec.proofs.LittleEndian.{IsBytes}
-use Rattle.ioctl_codec.proofs.BothWays.{is_laid_out, is_read}
+use Rattle.ioctl_codec.specs.Refusals.{refusal_of, refusal, refused_of, read_numbers, read_values, read_count, size_at, after_size, OnMemory, Gives, SpellsEntries}
+use Rattle.ioctl_codec.proofs.LittleEndian.{IsBytes, IsBytes-drop}
+use Rattle.ioctl_codec.proofs.BothWays.{IsRead, is_laid_out, is_whole, is_read}
+use Rattle.ioctl_codec.proofs.EntriesBytes.{length-entries_bytes, length-entries_at, entries_at-entries_bytes, entries_bytes-entries_at, AreAddresses-entries_at}
 
 -- the structure that bytes with this number have, by their flags if it's a MAP
 structure_in : ℕ → List ℕ → Structure
 structure_in nr bytes =
     cond (nr == 0x3B80) destroy
     (cond (nr == 0x3B81) ioas_alloc
+    (cond (nr == 0x3B82) ioas_allow_iovas
+    (cond (nr == 0x3B84) ioas_iova_ranges
     (cond (nr == 0x3B85) (ioas_map (has_flag (from_le_bytes w32 (take 4 (drop 4 bytes))) 1))
-    ioas_unmap))
+    ioas_unmap))))
 
-structure-is : (c : Command) (nr : ℕ) (bytes : List ℕ) → (structure_of c).number ≡ nr → values_of c ≡ read_values (structure_of c) bytes → structure_of c ≡ structure_in nr bytes
+structure-is : {A : Type 0} (c : Command A) (nr : ℕ) (bytes : List ℕ) → (structure_of c).number ≡ nr → values_of c ≡ read_values (structure_of c) bytes → structure_of c ≡ structure_in nr bytes
 unfolding structure_in read_numbers
 structure-is (Destroy id) nr bytes e values = subst (λ (n : ℕ). destroy ≡ structure_in n bytes) e refl
 structure-is IoasAlloc nr bytes e values = subst (λ (n : ℕ). ioas_alloc ≡ structure_in n bytes) e refl
+structure-is (IoasAllowIovas ioas ranges) nr bytes e values = subst (λ (n : ℕ). ioas_allow_iovas ≡ structure_in n bytes) e refl
+structure-is (IoasIovaRanges r) nr bytes e values = subst (λ (n : ℕ). ioas_iova_ranges ≡ structure_in n bytes) e refl
 structure-is (IoasMap m) nr bytes e values =
     let flags : m.flags.0 ≡ from_le_bytes w32 (take 4 (drop 4 bytes)) = ap (λ (vs : List ℕ). slice_index vs 0) values in
-    subst (λ (n : ℕ). structure_of (IoasMap m) ≡ structure_in n bytes) e (ap (λ (n : ℕ). ioas_map (has_flag n 1)) flags)
+    subst (λ (n : ℕ). ioas_map (is_fixed m.flags) ≡ structure_in n bytes) e (ap (λ (n : ℕ). ioas_map (has_flag n 1)) flags)
 structure-is (IoasUnmap u) nr bytes e values = subst (λ (n : ℕ). ioas_unmap ≡ structure_in n bytes) e refl
 
 -- both structures of a MAP have the same refusals
@@ -36,17 +45,38 @@ unfolding refusal_of read_numbers
 refusal-map true bytes = refl
 refusal-map false bytes = refl
 
-pub refusal-number : (c : Command) (nr : ℕ) (bytes : List ℕ) → (structure_of c).number ≡ nr → refusal nr bytes ≡ refusal_of (structure_of c) bytes
+pub refusal-number : {A : Type 0} (c : Command A) (nr : ℕ) (bytes : List ℕ) → (structure_of c).number ≡ nr → refusal nr bytes ≡ refusal_of (structure_of c) bytes
 refusal-number (Destroy id) nr bytes e = subst (λ (n : ℕ). refusal n bytes ≡ refusal_of destroy bytes) e refl
 refusal-number IoasAlloc nr bytes e = subst (λ (n : ℕ). refusal n bytes ≡ refusal_of ioas_alloc bytes) e refl
-refusal-number (IoasMap m) nr bytes e = subst (λ (n : ℕ). refusal n bytes ≡ refusal_of (structure_of (IoasMap m)) bytes) e (refusal-map (has_flag m.flags.0 1) bytes)
+refusal-number (IoasAllowIovas ioas ranges) nr bytes e = subst (λ (n : ℕ). refusal n bytes ≡ refusal_of ioas_allow_iovas bytes) e refl
+refusal-number (IoasIovaRanges r) nr bytes e = subst (λ (n : ℕ). refusal n bytes ≡ refusal_of ioas_iova_ranges bytes) e refl
+refusal-number (IoasMap m) nr bytes e = subst (λ (n : ℕ). refusal n bytes ≡ refusal_of (ioas_map (is_fixed m.flags)) bytes) e (refusal-map (has_flag m.flags.0 1) bytes)
 refusal-number (IoasUnmap u) nr bytes e = subst (λ (n : ℕ). refusal n bytes ≡ refusal_of ioas_unmap bytes) e refl
 
--- the command of a number and its values
-rebuilt : ℕ → List ℕ → Command
-rebuilt nr values =
+structure-allow : (nr : ℕ) (bytes : List ℕ) → nr ≡ 0x3B82 → structure_in nr bytes ≡ ioas_allow_iovas
+unfolding structure_in
+structure-allow nr bytes e = rw e refl
+
+count-map : (fixed : Bool) (values : List ℕ) → entry_count (ioas_map fixed).fields values ≡ 0
+count-map true values = refl
+count-map false values = refl
+
+-- a command has as many entries as its values count
+pub count_is : {A : Type 0} (c : Command A) → entry_count (structure_of c).fields (values_of c) ≡ length (entries_of c)
+count_is (Destroy id) = refl
+count_is IoasAlloc = refl
+count_is (IoasAllowIovas ioas ranges) = refl
+count_is (IoasIovaRanges r) = refl
+count_is (IoasMap m) = count-map (is_fixed m.flags) (m.flags.0 ∷ m.ioas.0 ∷ m.user_va ∷ m.length ∷ m.iova.0 ∷ [])
+count_is (IoasUnmap u) = refl
+
+-- the command of a number, its values and its entries
+rebuilt : {A : Type 0} → ℕ → List ℕ → List Bounds → Command A
+rebuilt nr values entries =
     cond (nr == 0x3B80) (Destroy (record { 0 = slice_index values 0 }))
     (cond (nr == 0x3B81) IoasAlloc
+    (cond (nr == 0x3B82) (IoasAllowIovas (record { 0 = slice_index values 0 }) entries)
+    (cond (nr == 0x3B84) (IoasIovaRanges (record { ioas = record { 0 = slice_index values 0 }; places = slice_index values 1 }))
     (cond (nr == 0x3B85) (IoasMap (record {
       flags = record { 0 = slice_index values 0 };
       ioas = record { 0 = slice_index values 1 };
@@ -54,39 +84,102 @@ rebuilt nr values =
       length = slice_index values 3;
       iova = record { 0 = slice_index values 4 };
     }))
-    (IoasUnmap (record { ioas = record { 0 = slice_index values 0 }; iova = record { 0 = slice_index values 1 }; length = slice_index values 2 }))))
+    (IoasUnmap (record { ioas = record { 0 = slice_index values 0 }; iova = record { 0 = slice_index values 1 }; length = slice_index values 2 }))))))
 
-rebuilt-is : (c : Command) → rebuilt (structure_of c).number (values_of c) ≡ c
+rebuilt-is : {A : Type 0} (c : Command A) → rebuilt (structure_of c).number (values_of c) (entries_of c) ≡ c
 unfolding rebuilt
 rebuilt-is (Destroy id) = refl
 rebuilt-is IoasAlloc = refl
+rebuilt-is (IoasAllowIovas ioas ranges) = refl
+rebuilt-is (IoasIovaRanges r) = refl
 rebuilt-is (IoasMap m) = refl
 rebuilt-is (IoasUnmap u) = refl
 
-pub same_command : (c d : Command) → (structure_of c).number ≡ (structure_of d).number → values_of c ≡ values_of d → c ≡ d
-same_command c d e f =
-    sym (rebuilt-is c) ∙ (ap (λ (nr : ℕ). rebuilt nr (values_of c)) e ∙ (ap (rebuilt (structure_of d).number) f ∙ rebuilt-is d))
+same_command : {A : Type 0} (c d : Command A) → (structure_of c).number ≡ (structure_of d).number → values_of c ≡ values_of d → entries_of c ≡ entries_of d → c ≡ d
+same_command {A} c d e f h =
+    sym (rebuilt-is c)
+    ∙ (ap (λ (nr : ℕ). rebuilt {A = A} nr (values_of c) (entries_of c)) e
+    ∙ (ap (λ (values : List ℕ). rebuilt {A = A} (structure_of d).number values (entries_of c)) f
+    ∙ (ap (rebuilt {A = A} (structure_of d).number (values_of d)) h ∙ rebuilt-is d)))
 
--- what reading says of what it answers
-pub found : (nr : ℕ) (bytes : List ℕ) (r : Result Command DecodeError) → IsBytes bytes → refused_of r ≡ refusal nr bytes
-    → IfOk r (λ c. (structure_of c).number ≡ nr) → IfOk r (λ c. values_of c ≡ read_values (structure_of c) bytes) → IfOk r (λ c. Spells nr bytes c)
-found nr bytes (Ok c) fits e number values =
-    let accepted : refusal_of (structure_of c) bytes ≡ None = sym (refusal-number c nr bytes number) ∙ sym e in
+-- bytes that spell a command are read as its structure, its values and its entries
+pub spelled_read : {A : Type 0} (nr : ℕ) (bytes : List ℕ) (c : Command A) → Spells nr bytes c → IsRead (structure_of c) (values_of c) bytes (entries_bytes (entries_of c))
+spelled_read nr bytes c spells =
+    is_read (structure_of c) (values_of c) spells.head (entries_bytes (entries_of c)) bytes spells.laid_out spells.bytes_are
+    (length-entries_bytes (entries_of c) ∙ ap (λ (n : ℕ). 16 * n) (sym (count_is c)))
+
+spelled : {A : Type 0} (nr : ℕ) (bytes : List ℕ) (c : Command A) → IsBytes bytes → refusal nr bytes ≡ None
+    → (structure_of c).number ≡ nr → values_of c ≡ read_values (structure_of c) bytes → entries_of c ≡ entries_at (length (entries_of c)) (after_size bytes) → Spells nr bytes c
+spelled nr bytes c fits e number values entries =
+    let s = structure_of c in
+    let count = length (entries_of c) in
+    let after = after_size bytes in
+    let accepted : refusal_of s bytes ≡ None = sym (refusal-number c nr bytes number) ∙ e in
+    let counted : read_count s bytes ≡ count = ap (entry_count s.fields) (sym values) ∙ count_is c in
+    let whole : length after ≡ 16 * count = is_whole s bytes accepted ∙ ap (λ (n : ℕ). 16 * n) counted in
+    let after_fits = IsBytes-drop (size_at bytes) bytes fits in
+    let written : entries_bytes (entries_of c) ≡ after = ap entries_bytes entries ∙ entries_bytes-entries_at count after after_fits whole in
     record {
       number = number;
-      laid_out = subst (λ (vs : List ℕ). IsLaidOut (structure_of c) vs bytes) (sym values) (is_laid_out (structure_of c) bytes fits accepted);
+      head = take (size_at bytes) bytes;
+      laid_out = subst (λ (vs : List ℕ). IsLaidOut s vs (take (size_at bytes) bytes)) (sym values) (is_laid_out s bytes fits accepted);
+      addresses = subst AreAddresses (sym entries) (AreAddresses-entries_at count after after_fits);
+      bytes_are = sym (take-append-drop (size_at bytes) bytes) ∙ ap (λ (x : List ℕ). take (size_at bytes) bytes ++ x) (sym written);
     }
-found nr bytes (Err d) fits e number values = tt
 
-pub only : (nr : ℕ) (bytes : List ℕ) (r : Result Command DecodeError) (c : Command) → Spells nr bytes c → refused_of r ≡ refusal nr bytes
-    → IfOk r (λ c. (structure_of c).number ≡ nr) → IfOk r (λ c. values_of c ≡ read_values (structure_of c) bytes) → r ≡ Ok c
-only nr bytes (Ok d) c spells e number values =
+-- what reading says of what it answers
+pub found : {A : Type 0} (nr : ℕ) (bytes : List ℕ) (r : Result (Command A) DecodeError) → IsBytes bytes → refused_of r ≡ refusal nr bytes
+    → IfOk r (λ c. (structure_of c).number ≡ nr) → IfOk r (λ c. values_of c ≡ read_values (structure_of c) bytes)
+    → IfOk r (λ c. entries_of c ≡ entries_at (length (entries_of c)) (after_size bytes)) → IfOk r (λ c. Spells nr bytes c)
+found nr bytes (Ok c) fits e number values entries = spelled nr bytes c fits (sym e) number values entries
+found nr bytes (Err d) fits e number values entries = tt
+
+-- a command that is spelled so has as many entries as the bytes count
+count_read : {A : Type 0} (nr : ℕ) (bytes : List ℕ) (c : Command A) → Spells nr bytes c → read_count (structure_of c) bytes ≡ length (entries_of c)
+count_read nr bytes c spells =
+    let read = spelled_read nr bytes c spells in
+    ap (entry_count (structure_of c).fields) read.values_are ∙ count_is c
+
+pub only : {A : Type 0} (nr : ℕ) (bytes : List ℕ) (r : Result (Command A) DecodeError) (c : Command A) → Spells nr bytes c → refused_of r ≡ refusal nr bytes
+    → IfOk r (λ c. (structure_of c).number ≡ nr) → IfOk r (λ c. values_of c ≡ read_values (structure_of c) bytes)
+    → IfOk r (λ c. entries_of c ≡ entries_at (length (entries_of c)) (after_size bytes))
+    → OnMemory r ((nr ≡ 0x3B82) × (0 < read_count ioas_allow_iovas bytes)) → Gives r c
+only nr bytes (Ok d) c spells e number values entries memory =
     let same : (structure_of d).number ≡ (structure_of c).number = number ∙ sym spells.number in
-    let read = is_read (structure_of c) (values_of c) bytes spells.laid_out in
+    let read = spelled_read nr bytes c spells in
     let structures : structure_of d ≡ structure_of c =
     structure-is d nr bytes number values ∙ sym (structure-is c nr bytes spells.number (sym read.values_are)) in
-    ap (λ (x : Command). Ok x) (same_command d c same (values ∙ (ap (λ (s : Structure). read_values s bytes) structures ∙ read.values_are)))
-only nr bytes (Err d) c spells e number values =
-    let read = is_read (structure_of c) (values_of c) bytes spells.laid_out in
+    let counts : length (entries_of d) ≡ length (entries_of c) =
+    sym (count_is d) ∙ (ap (entry_count (structure_of d).fields) values
+    ∙ (ap (λ (s : Structure). read_count s bytes) structures ∙ count_read nr bytes c spells)) in
+    let same_entries : entries_of d ≡ entries_of c =
+    entries ∙ (ap (λ (n : ℕ). entries_at n (after_size bytes)) counts
+    ∙ (ap (entries_at (length (entries_of c))) read.after_is ∙ entries_at-entries_bytes (entries_of c) spells.addresses)) in
+    same_command d c same (values ∙ (ap (λ (s : Structure). read_values s bytes) structures ∙ read.values_are)) same_entries
+only nr bytes (Err (errors.Refused refused)) c spells e number values entries memory =
+    let read = spelled_read nr bytes c spells in
     let none : refusal nr bytes ≡ None = refusal-number c nr bytes spells.number ∙ read.accepted in
     absurd cc
+only nr bytes (Err errors.Memory) c spells e number values entries memory =
+    let read = spelled_read nr bytes c spells in
+    let structure : structure_of c ≡ ioas_allow_iovas =
+    structure-is c nr bytes spells.number (sym read.values_are) ∙ structure-allow nr bytes memory.0 in
+    subst (λ (n : ℕ). 0 < n) (sym (ap (λ (s : Structure). read_count s bytes) structure) ∙ count_read nr bytes c spells) memory.1
+
+values-allow : (bytes : List ℕ) → let values = read_values ioas_allow_iovas bytes in slice_index values 0 ∷ read_count ioas_allow_iovas bytes ∷ [] ≡ values
+unfolding read_numbers
+values-allow bytes = refl
+
+-- where memory is refused there is a command that has entries
+pub wanting : {A : Type 0} (nr : ℕ) (bytes : List ℕ) (r : Result (Command A) DecodeError) → IsBytes bytes → refused_of r ≡ refusal nr bytes
+    → OnMemory r ((nr ≡ 0x3B82) × (0 < read_count ioas_allow_iovas bytes)) → OnMemory r ((c : Command A) × SpellsEntries nr bytes c)
+wanting nr bytes (Ok d) fits e memory = tt
+wanting nr bytes (Err (errors.Refused refused)) fits e memory = tt
+wanting {A} nr bytes (Err errors.Memory) fits e memory =
+    let count = read_count ioas_allow_iovas bytes in
+    let ranges = entries_at count (after_size bytes) in
+    let len : length ranges ≡ count = length-entries_at count (after_size bytes) in
+    let ioas = slice_index (read_values ioas_allow_iovas bytes) 0 in
+    let c : Command A = IoasAllowIovas (record { 0 = ioas }) ranges in
+    let values : ioas ∷ length ranges ∷ [] ≡ read_values ioas_allow_iovas bytes = ap (λ (n : ℕ). ioas ∷ n ∷ []) len ∙ values-allow bytes in
+    (c, (spelled nr bytes c fits (sym e) (sym memory.0) values (ap (λ (n : ℕ). entries_at n (after_size bytes)) (sym len)), subst (λ (n : ℕ). 0 < n) (sym len) memory.1))

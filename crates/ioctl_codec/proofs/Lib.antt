@@ -2,6 +2,7 @@ pub mod FirstTrue
 pub mod Refusing
 pub mod LittleEndian
 pub mod Rows
+pub mod EntriesBytes
 pub mod BothWays
 pub mod Commands
 pub mod Writes

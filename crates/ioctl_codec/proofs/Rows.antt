@@ -3,10 +3,10 @@ use Rattle.std.proofs.Common.{◌≡◌, ℕ, ◌+◌, ◌≤◌, Bool, true, fa
 use Rattle.std.specs.Prelude.{slice_index}
 use Rattle.std.specs.Int.{byte_len, from_le_bytes, to_le_bytes}
 use Rattle.std.proofs.lemmas.List.{take_at, drop_at, take-append-drop, take-take, drop-take, length-append, length-take, length-drop}
-use Rattle.ioctl_codec.specs.Layout.{Role, Flags, Argument, Answered, Chosen, Output, Reserved, Field, width, bytes_of, is_allowed, are_allowed, AreOfWidth, is_carried, value_in, carried, number_in, filled, spelled, numbers_at}
+use Rattle.ioctl_codec.specs.Layout.{Role, Flags, Argument, Answered, Chosen, Count, Output, Ignored, Reserved, Field, width, bytes_of, is_allowed, are_allowed, AreOfWidth, is_carried, value_in, carried, number_in, filled, spelled, numbers_at}
 use Rattle.ioctl_codec.proofs.LittleEndian.{IsBytes, IsBytes-drop, IsBytes-take, length-to_le_bytes, to_le_bytes-from_le_bytes, from_le_bytes-to_le_bytes, from_le_bytes_below}
 
-take-add : (k m : ℕ) (bytes : List ℕ) → take (k + m) bytes ≡ take k bytes ++ take m (drop k bytes)
+pub take-add : (k m : ℕ) (bytes : List ℕ) → take (k + m) bytes ≡ take k bytes ++ take m (drop k bytes)
 take-add k m bytes =
     let front : take k (take (k + m) bytes) ≡ take k bytes = take-take k (k + m) bytes (omega arith) in
     let rest : drop k (take (k + m) bytes) ≡ take m (drop k bytes) = drop-take k m bytes in
@@ -63,7 +63,9 @@ allowed_step (Flags known) n fields numbers e h = let p = and-parts (is_allowed 
 allowed_step Argument n fields numbers e h = h
 allowed_step Answered n fields numbers e h = h
 allowed_step Chosen n fields numbers e h = h
+allowed_step Count n fields numbers e h = h
 allowed_step Output n fields numbers e h = h
+allowed_step Ignored n fields numbers e h = h
 allowed_step Reserved n fields numbers e h = h
 
 allowed_rest : (role : Role) (n : ℕ) (fields : List Field) (numbers : List ℕ) → (is_allowed role n && are_allowed fields numbers) ≡ true → are_allowed fields numbers ≡ true

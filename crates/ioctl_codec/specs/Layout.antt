@@ -15,8 +15,12 @@ pub data Role : Type 0 where
   Answered : Role
   -- the same, but it's read and ignored: the command has 0 for it
   Chosen : Role
+  -- how many entries follow the structure; the command carries these
+  Count : Role
   -- it's read and ignored, and what is written back has the answer in it
   Output : Role
+  -- it's read and ignored, and 0 is written back
+  Ignored : Role
   -- it has to be 0
   Reserved : Role
 
@@ -63,7 +67,9 @@ is_allowed Reserved n = n == 0
 is_allowed Argument n = true
 is_allowed Answered n = true
 is_allowed Chosen n = true
+is_allowed Count n = true
 is_allowed Output n = true
+is_allowed Ignored n = true
 
 abbrev pub are_allowed : List Field → List ℕ → Bool
 are_allowed [] [] = true
@@ -83,7 +89,9 @@ is_carried (Flags known) = true
 is_carried Argument = true
 is_carried Answered = true
 is_carried Chosen = true
+is_carried Count = true
 is_carried Output = false
+is_carried Ignored = false
 is_carried Reserved = false
 
 -- the value that a command carries for the number in such a field
@@ -92,7 +100,9 @@ value_in (Flags known) n = n
 value_in Argument n = n
 value_in Answered n = n
 value_in Chosen n = 0
+value_in Count n = n
 value_in Output n = n
+value_in Ignored n = n
 value_in Reserved n = n
 
 -- those that the command carries
@@ -101,13 +111,30 @@ carried [] numbers = []
 carried (field ∷ fields) [] = []
 carried (field ∷ fields) (n ∷ numbers) = if is_carried field.role then value_in field.role n ∷ carried fields numbers else carried fields numbers
 
+abbrev pub is_count : Role → Bool
+is_count (Flags known) = false
+is_count Argument = false
+is_count Answered = false
+is_count Chosen = false
+is_count Count = true
+is_count Output = false
+is_count Ignored = false
+is_count Reserved = false
+
+-- how many entries follow a structure that carries these values: what its count says, and none if it has no count
+abbrev pub entry_count : List Field → List ℕ → ℕ
+entry_count [] values = 0
+entry_count (field ∷ fields) values = if is_count field.role then slice_index values 0 else entry_count fields (if is_carried field.role then drop 1 values else values)
+
 -- what stands in a field for a carried value and for an answer, if there is one
 abbrev pub number_in : Role → ℕ → Option ℕ → ℕ
 number_in (Flags known) value answer = value
 number_in Argument value answer = value
 number_in Answered value answer = unwrap_or answer value
 number_in Chosen value answer = unwrap_or answer 0
+number_in Count value answer = value
 number_in Output value answer = unwrap_or answer 0
+number_in Ignored value answer = 0
 number_in Reserved value answer = 0
 
 -- the carried values in their fields, the answer in its field, and zeros
@@ -132,7 +159,7 @@ numbers_at (field ∷ fields) bytes = from_le_bytes (width field) (take (byte_le
 unfoldable pub structure_bytes : Structure → List ℕ → Option ℕ → List ℕ
 structure_bytes s values answer = to_le_bytes w32 (length_of s) ++ spelled s.fields (filled s.fields values answer)
 
--- THE LAYOUT: the bytes are a size, the structure's fields with these values in them, and a tail of zeros up to
+-- THE LAYOUT OF A STRUCTURE: the bytes are a size, the structure's fields with these values in them, and a tail of zeros up to
 -- the size. The size is at least the structure's own length, and at most 4096.
 pub record IsLaidOut (s : Structure) (values bytes : List ℕ) : Type 0 where
   pub size : ℕ

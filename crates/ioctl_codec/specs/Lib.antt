@@ -1,4 +1,5 @@
 pub mod Layout
+pub mod Entries
 pub mod Structures
 pub mod Spelling
 pub mod Refusals

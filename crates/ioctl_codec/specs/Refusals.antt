@@ -1,12 +1,15 @@
 -- The refusals of bytes that spell no command, in their order.
-use Rattle.std.specs.Prelude.{ℕ, ◌==◌, Bool, not, ◌||◌, nat_lt, List, [], ◌∷◌, ◌++◌, length, take, drop, Option, Some, None, Result, Ok, Err}
+use Rattle.std.specs.Prelude.{◌≡◌, ℕ, ◌*◌, ◌<◌, ◌==◌, Bool, not, ◌||◌, nat_lt, List, [], ◌∷◌, ◌++◌, length, take, drop, Option, Some, None, Result, Ok, Err}
 use Rattle.std.specs.List.{list_all}
 use Rattle.std.specs.Int.{w32, from_le_bytes}
 use Rattle.iofd_words.specs.FirstTrue.{first_true}
 use Rattle.iofd_words.specs.declared.refusal.Cause.{Cause}
 use Rattle.iofd_words.specs.declared.refusal.Cause.TheVariants as cause
-use Rattle.ioctl_codec.specs.Layout.{Structure, length_of, are_allowed, carried, numbers_at}
-use Rattle.ioctl_codec.specs.Structures.{structure_at}
+use Rattle.iofd_words.specs.declared.refusal.Refusal.{Refusal}
+use Rattle.ioctl_codec.specs.Layout.{Structure, length_of, are_allowed, carried, numbers_at, entry_count}
+use Rattle.ioctl_codec.specs.Spelling.{Spells}
+use Rattle.ioctl_codec.specs.Structures.{structure_at, entries_of}
+use Rattle.ioctl_codec.specs.declared.command.Command.{Command}
 use Rattle.ioctl_codec.specs.declared.command.DecodeError.{DecodeError}
 use Rattle.ioctl_codec.specs.declared.command.DecodeError.TheVariants as errors
 
@@ -23,33 +26,60 @@ size_checks known bytes =
     ∷ (cause.Tail, not (list_all (λ byte. byte == 0) (drop known (take (size_at bytes) bytes))))
     ∷ []
 
--- then the flags and the reserved fields, and then the bytes after the size
-unfoldable pub field_checks : Bool → List ℕ → List (Cause × Bool)
-field_checks supported after =
+-- then the flags and the reserved fields, and then the bytes after the size: 16 for each entry
+unfoldable pub field_checks : Bool → ℕ → List ℕ → List (Cause × Bool)
+field_checks supported count after =
     (cause.Unsupported, not supported)
-    ∷ (cause.Array, nat_lt 0 (length after))
+    ∷ (cause.Array, not (length after == 16 * count))
     ∷ []
 
 -- the numbers in the structure's fields
 unfoldable pub read_numbers : Structure → List ℕ → List ℕ
 read_numbers s bytes = numbers_at s.fields (drop 4 bytes)
 
--- why the bytes aren't such a structure, if they aren't
+-- the values that a structure's bytes carry
+abbrev pub read_values : Structure → List ℕ → List ℕ
+read_values s bytes = carried s.fields (read_numbers s bytes)
+
+-- how many entries they say there are
+abbrev pub read_count : Structure → List ℕ → ℕ
+read_count s bytes = entry_count s.fields (read_values s bytes)
+
+-- the bytes after the size's end
+abbrev pub after_size : List ℕ → List ℕ
+after_size bytes = drop (size_at bytes) bytes
+
+-- why the bytes aren't such a structure with its entries, if they aren't
 unfoldable pub refusal_of : Structure → List ℕ → Option Cause
-refusal_of s bytes = first_true (size_checks (length_of s) bytes ++ field_checks (are_allowed s.fields (read_numbers s bytes)) (drop (size_at bytes) bytes))
+refusal_of s bytes = first_true (size_checks (length_of s) bytes ++ field_checks (are_allowed s.fields (read_numbers s bytes)) (read_count s bytes) (after_size bytes))
 
 -- the number comes first
 abbrev pub refusal : ℕ → List ℕ → Option Cause
 refusal nr bytes = elim (structure_at nr) [ None ↦ Some cause.Number | Some s ↦ refusal_of s bytes ]
 
-abbrev pub cause_of : DecodeError → Cause
-cause_of (errors.Refused r) = r.cause
+-- the cause for which it was refused, if it was
+abbrev pub cause_of : {T : Type 0} → Result T Refusal → Option Cause
+cause_of (Ok x) = None
+cause_of (Err r) = Some r.cause
 
--- the cause for which a call was refused, if it was
+-- the same, where memory may be wanting too
 abbrev pub refused_of : {T : Type 0} → Result T DecodeError → Option Cause
 refused_of (Ok x) = None
-refused_of (Err e) = Some (cause_of e)
+refused_of (Err (errors.Refused r)) = Some r.cause
+refused_of (Err errors.Memory) = None
 
--- the values that a structure's bytes carry
-abbrev pub read_values : Structure → List ℕ → List ℕ
-read_values s bytes = carried s.fields (read_numbers s bytes)
+-- where memory was wanting
+abbrev pub OnMemory : {T : Type 0} → Result T DecodeError → Type 0 → Type 0
+OnMemory (Ok x) P = Unit {0}
+OnMemory (Err (errors.Refused r)) P = Unit {0}
+OnMemory (Err errors.Memory) P = P
+
+-- the result is this command, unless memory was wanting for its entries
+abbrev pub Gives : {A : Type 0} → Result (Command A) DecodeError → Command A → Type 0
+Gives (Ok found) c = found ≡ c
+Gives (Err (errors.Refused r)) c = ⊥
+Gives (Err errors.Memory) c = 0 < length (entries_of c)
+
+-- the bytes, given with this number, are a command that has entries
+abbrev pub SpellsEntries : {A : Type 0} → ℕ → List ℕ → Command A → Type 0
+SpellsEntries nr bytes c = Spells nr bytes c × (0 < length (entries_of c))

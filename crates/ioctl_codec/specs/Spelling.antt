@@ -1,36 +1,52 @@
 -- Which bytes spell a command, its one canonical spelling, and what is written back for a reply.
-use Rattle.std.specs.Prelude.{◌≡◌, ℕ, List, [], Option, Some, None}
+use Rattle.std.specs.Prelude.{◌≡◌, ℕ, ◌^◌, ◌<◌, nat_lt, List, [], ◌∷◌, ◌++◌, length, take, Option, Some, None, if◌then◌else◌}
+use Rattle.iofd_words.specs.Bounds.{Bounds}
 use Rattle.iofd_words.specs.declared.reply.Reply.{Reply}
 use Rattle.iofd_words.specs.declared.reply.Reply.TheVariants as reply
 use Rattle.ioctl_codec.specs.Layout.{structure_bytes, IsLaidOut, AreOfWidth, filled}
-use Rattle.ioctl_codec.specs.Structures.{structure_of, values_of}
+use Rattle.ioctl_codec.specs.Entries.{entries_bytes, AreAddresses}
+use Rattle.ioctl_codec.specs.Structures.{structure_of, values_of, entries_of, ioas_iova_ranges}
 use Rattle.ioctl_codec.specs.declared.command.Command.{Command}
-use Rattle.ioctl_codec.specs.declared.command.Command.TheVariants.{Destroy, IoasAlloc, IoasMap, IoasUnmap}
+use Rattle.ioctl_codec.specs.declared.command.Command.TheVariants.{Destroy, IoasAlloc, IoasAllowIovas, IoasMap, IoasUnmap}
+use Rattle.ioctl_codec.specs.declared.command.RangesRequest.{RangesRequest}
 
--- these bytes, given with this number, are the command
-pub record Spells (nr : ℕ) (bytes : List ℕ) (c : Command) : Type 0 where
-  pub number : (structure_of c).number ≡ nr
-  pub laid_out : IsLaidOut (structure_of c) (values_of c) bytes
+module _ {A : Type 0} where
+  -- these bytes, given with this number, are the command: its structure, and its entries behind the structure
+  pub record Spells (nr : ℕ) (bytes : List ℕ) (c : Command A) : Type 0 where
+    pub number : (structure_of c).number ≡ nr
+    pub head : List ℕ
+    pub laid_out : IsLaidOut (structure_of c) (values_of c) head
+    pub addresses : AreAddresses (entries_of c)
+    pub bytes_are : bytes ≡ head ++ entries_bytes (entries_of c)
 
-abbrev pub HasSpelling : Command → Type 0
-HasSpelling c = (nr : ℕ) × (bytes : List ℕ) × Spells nr bytes c
+  abbrev pub HasSpelling : Command A → Type 0
+  HasSpelling c = (nr : ℕ) × (bytes : List ℕ) × Spells nr bytes c
 
--- the structure of its own length, with zeros in the ignored fields
-abbrev pub canonical : Command → List ℕ
-canonical c = structure_bytes (structure_of c) (values_of c) None
+  -- the structure of its own length, with zeros in the ignored fields, and the entries
+  abbrev pub canonical : Command A → List ℕ
+  canonical c = structure_bytes (structure_of c) (values_of c) None ++ entries_bytes (entries_of c)
 
--- the command's numbers fit their fields, as those of every value of the type do
-abbrev pub FitsFields : Command → Type 0
-FitsFields c = AreOfWidth (structure_of c).fields (filled (structure_of c).fields (values_of c) None)
+  -- the command's numbers fit their types, as those of every value of the type do
+  abbrev pub FitsFields : Command A → Type 0
+  FitsFields (IoasAllowIovas ioas ranges) = (ioas.0 < 2 ^ 32) × AreAddresses ranges
+  FitsFields c = AreOfWidth (structure_of c).fields (filled (structure_of c).fields (values_of c) None)
 
--- what a good reply puts into the answer's field, if the structure has one; no other reply is written back
-abbrev pub answer_of : Command → Reply → Option (Option ℕ)
-answer_of (Destroy id) reply.Done = Some None
-answer_of IoasAlloc (reply.Id id) = Some (Some id.0)
-answer_of (IoasMap m) (reply.Iova iova) = Some (Some iova.0)
-answer_of (IoasUnmap u) (reply.Bytes count) = Some (Some count)
-answer_of _ _ = None
+  -- what a good reply puts into the answer's field, if the structure has one; no other reply is written back
+  abbrev pub answer_of : Command A → Reply → Option (Option ℕ)
+  answer_of (Destroy id) reply.Done = Some None
+  answer_of IoasAlloc (reply.Id id) = Some (Some id.0)
+  answer_of (IoasAllowIovas ioas ranges) reply.Done = if nat_lt (length ranges) (2 ^ 32) then Some None else None
+  answer_of (IoasMap m) (reply.Iova iova) = Some (Some iova.0)
+  answer_of (IoasUnmap u) (reply.Bytes count) = Some (Some count)
+  answer_of _ _ = None
 
--- what is written back: the structure of its own length, whatever size came in, with the answer in its field
-abbrev pub written_back : Command → Reply → List ℕ
-written_back c r = elim (answer_of c r) [ None ↦ [] | Some answer ↦ structure_bytes (structure_of c) (values_of c) answer ]
+  -- what is written back: the structure of its own length, whatever size came in, with the answer in its field, and
+  -- without entries
+  abbrev pub written_back : Command A → Reply → List ℕ
+  written_back c r = elim (answer_of c r) [ None ↦ [] | Some answer ↦ structure_bytes (structure_of c) (values_of c) answer ]
+
+-- what is written back for IOVA_RANGES: the structure with the number of ranges that there are, whatever number of
+-- places came in, and the alignment of addresses; then the first ranges, as many as there are places for
+abbrev pub ranges_written_back : RangesRequest → List Bounds → List ℕ
+ranges_written_back request ranges =
+    structure_bytes ioas_iova_ranges (request.ioas.0 ∷ length ranges ∷ []) (Some 4096) ++ entries_bytes (take request.places ranges)

@@ -1,10 +1,12 @@
 -- The structures served, as `include/uapi/linux/iommufd.h` of Linux 6.6 has them.
-use Rattle.std.specs.Prelude.{ℕ, ◌==◌, Bool, true, false, ◌&&◌, ◌||◌, List, [], ◌∷◌, find, Option}
+use Rattle.std.specs.Prelude.{ℕ, ◌==◌, ◌^◌, Bool, true, false, ◌&&◌, ◌||◌, nat_lt, List, [], ◌∷◌, length, find, Option}
 use Rattle.std.specs.Int.RustNames.{bit_and}
+use Rattle.iofd_words.specs.Bounds.{Bounds}
 use Rattle.iofd_words.specs.Rights.{is_fixed}
-use Rattle.ioctl_codec.specs.Layout.{Role, Flags, Argument, Answered, Chosen, Output, Reserved, Structure, u32, u64}
+use Rattle.iofd_words.specs.declared.event.MapRequest.{MapRequest}
+use Rattle.ioctl_codec.specs.Layout.{Role, Flags, Argument, Answered, Chosen, Count, Output, Ignored, Reserved, Structure, u32, u64}
 use Rattle.ioctl_codec.specs.declared.command.Command.{Command}
-use Rattle.ioctl_codec.specs.declared.command.Command.TheVariants.{Destroy, IoasAlloc, IoasMap, IoasUnmap}
+use Rattle.ioctl_codec.specs.declared.command.Command.TheVariants.{Destroy, IoasAlloc, IoasAllowIovas, IoasIovaRanges, IoasMap, IoasUnmap}
 
 -- id
 abbrev pub destroy : Structure
@@ -13,6 +15,14 @@ destroy = record { number = 0x3B80; fields = u32 Argument ∷ [] }
 -- flags (none is known), out_ioas_id
 abbrev pub ioas_alloc : Structure
 ioas_alloc = record { number = 0x3B81; fields = u32 Reserved ∷ u32 Output ∷ [] }
+
+-- ioas_id, num_iovas, reserved, allowed_iovas (the caller's address of the entries, which here follow the structure)
+abbrev pub ioas_allow_iovas : Structure
+ioas_allow_iovas = record { number = 0x3B82; fields = u32 Argument ∷ u32 Count ∷ u32 Reserved ∷ u64 Ignored ∷ [] }
+
+-- ioas_id, num_iovas (for how many ranges the caller has places), reserved, allowed_iovas, out_iova_alignment
+abbrev pub ioas_iova_ranges : Structure
+ioas_iova_ranges = record { number = 0x3B84; fields = u32 Argument ∷ u32 Argument ∷ u32 Reserved ∷ u64 Ignored ∷ u64 Output ∷ [] }
 
 -- the address of a MAP: the caller's where the flags fix it, and else one that the server chooses
 abbrev pub iova_role : Bool → Role
@@ -28,28 +38,48 @@ abbrev pub ioas_unmap : Structure
 ioas_unmap = record { number = 0x3B86; fields = u32 Argument ∷ u64 Argument ∷ u64 Answered ∷ [] }
 
 abbrev pub structures : List Structure
-structures = destroy ∷ ioas_alloc ∷ ioas_map true ∷ ioas_unmap ∷ []
+structures = destroy ∷ ioas_alloc ∷ ioas_allow_iovas ∷ ioas_iova_ranges ∷ ioas_map true ∷ ioas_unmap ∷ []
 
 -- the structure of a command's number, if it's served (both of MAP have the same length and refusals)
 abbrev pub structure_at : ℕ → Option Structure
 structure_at nr = find (λ s. s.number == nr) structures
 
-abbrev pub structure_of : Command → Structure
-structure_of (Destroy id) = destroy
-structure_of IoasAlloc = ioas_alloc
-structure_of (IoasMap m) = ioas_map (is_fixed m.flags)
-structure_of (IoasUnmap u) = ioas_unmap
+-- what a MAP carries
+abbrev pub map_values : MapRequest → List ℕ
+map_values m = m.flags.0 ∷ m.ioas.0 ∷ m.user_va ∷ m.length ∷ m.iova.0 ∷ []
 
--- what a command carries, in the order of the fields that carry it
-abbrev pub values_of : Command → List ℕ
-values_of (Destroy id) = id.0 ∷ []
-values_of IoasAlloc = []
-values_of (IoasMap m) = m.flags.0 ∷ m.ioas.0 ∷ m.user_va ∷ m.length ∷ m.iova.0 ∷ []
-values_of (IoasUnmap u) = u.ioas.0 ∷ u.iova.0 ∷ u.length ∷ []
+module _ {A : Type 0} where
+  abbrev pub structure_of : Command A → Structure
+  structure_of (Destroy id) = destroy
+  structure_of IoasAlloc = ioas_alloc
+  structure_of (IoasAllowIovas ioas ranges) = ioas_allow_iovas
+  structure_of (IoasIovaRanges r) = ioas_iova_ranges
+  structure_of (IoasMap m) = ioas_map (is_fixed m.flags)
+  structure_of (IoasUnmap u) = ioas_unmap
 
--- the commands that have a spelling
-abbrev pub is_spellable : Command → Bool
-is_spellable (Destroy id) = true
-is_spellable IoasAlloc = true
-is_spellable (IoasMap m) = (bit_and m.flags.0 7 == m.flags.0) && (is_fixed m.flags || m.iova.0 == 0)
-is_spellable (IoasUnmap u) = true
+  -- the entries that follow the structure
+  abbrev pub entries_of : Command A → List Bounds
+  entries_of (Destroy id) = []
+  entries_of IoasAlloc = []
+  entries_of (IoasAllowIovas ioas ranges) = ranges
+  entries_of (IoasIovaRanges r) = []
+  entries_of (IoasMap m) = []
+  entries_of (IoasUnmap u) = []
+
+  -- what a command carries, in the order of the fields that carry it; a count is that of its entries
+  abbrev pub values_of : Command A → List ℕ
+  values_of (Destroy id) = id.0 ∷ []
+  values_of IoasAlloc = []
+  values_of (IoasAllowIovas ioas ranges) = ioas.0 ∷ length ranges ∷ []
+  values_of (IoasIovaRanges r) = r.ioas.0 ∷ r.places ∷ []
+  values_of (IoasMap m) = map_values m
+  values_of (IoasUnmap u) = u.ioas.0 ∷ u.iova.0 ∷ u.length ∷ []
+
+  -- the commands that have a spelling
+  abbrev pub is_spellable : Command A → Bool
+  is_spellable (Destroy id) = true
+  is_spellable IoasAlloc = true
+  is_spellable (IoasAllowIovas ioas ranges) = nat_lt (length ranges) (2 ^ 32)
+  is_spellable (IoasIovaRanges r) = true
+  is_spellable (IoasMap m) = (bit_and m.flags.0 7 == m.flags.0) && (is_fixed m.flags || m.iova.0 == 0)
+  is_spellable (IoasUnmap u) = true

@@ -1,51 +1,73 @@
 //! Commands, and why bytes are none.
 
-ghost use Rattle.std.specs.Prelude.{◌≡◌, ◌==◌, ◌&&◌, ◌||◌, if◌then◌else◌};
+ghost use Rattle.std.specs.Prelude.{◌≡◌, ◌==◌, ◌&&◌, ◌||◌, if◌then◌else◌, nat_lt, ◌^◌, length, is_some, IfSome};
 ghost use Rattle.std.specs.Int.RustNames.{bit_and};
 ghost use Rattle.iofd_words.specs.Rights.{is_fixed};
 
-use crate::structure::{DESTROY, IOAS_ALLOC, IOAS_MAP, IOAS_UNMAP};
-use iofd_words::{Iova, MapFlags, MapRequest, ObjId, Refusal, UnmapRequest};
+use crate::structure::{
+    DESTROY, IOAS_ALLOC, IOAS_ALLOW_IOVAS, IOAS_IOVA_RANGES, IOAS_MAP, IOAS_UNMAP,
+};
+use iofd_words::{Iova, IovaRange, MapFlags, MapRequest, ObjId, RangeList, Refusal, UnmapRequest};
+use std::alloc::{Allocator, Global};
 
 // FIXED_IOVA, WRITEABLE and READABLE.
 const KNOWN_MAP_FLAGS: u32 = MapFlags::FIXED_IOVA.0 | MapFlags::WRITEABLE.0 | MapFlags::READABLE.0;
 
-/// What a call of `ioctl` asks for (uapi header `iommufd.h`, one structure each).
+/// What IOAS_IOVA_RANGES asks for (uapi header, `struct iommu_ioas_iova_ranges`): the ranges of an address space, for
+/// so many of which the caller has places.
 #[derive(Clone, Copy, PartialEq, Eq, Debug)]
-pub enum Command {
+pub struct RangesRequest {
+    pub ioas: ObjId,
+    pub places: u32,
+}
+
+/// What a call of `ioctl` asks for (uapi header `iommufd.h`, one structure each). One with a list owns it.
+#[derive(Debug, Drop)]
+pub enum Command<A: Allocator = Global> {
     /// IOMMU_DESTROY: takes the object of this id away.
     Destroy(ObjId),
     /// IOMMU_IOAS_ALLOC: makes an I/O address space.
     IoasAlloc,
+    /// IOMMU_IOAS_ALLOW_IOVAS: the ranges to which addresses that the server chooses are bounded, in place of those
+    /// before.
+    IoasAllowIovas(ObjId, RangeList<A>),
+    /// IOMMU_IOAS_IOVA_RANGES: asks in which ranges of addresses can be mapped.
+    IoasIovaRanges(RangesRequest),
     /// IOMMU_IOAS_MAP: maps user memory at an address, the given one or one that the server chooses.
     IoasMap(MapRequest),
     /// IOMMU_IOAS_UNMAP: takes areas away.
     IoasUnmap(UnmapRequest),
 }
 
-impl Command {
+impl<A: Allocator> Command<A> {
     ghost use Rattle.ioctl_codec.specs.Structures.{structure_of, is_spellable};
 
     /// The command's number (uapi header: `_IO(';', nr)`, 0x3B80 and on).
     pub fn number(&self) -> u32
         ensures { result ≡ (structure_of self.now).number }
     {
-        match *self {
+        match self {
             Command::Destroy(_) => DESTROY,
             Command::IoasAlloc => IOAS_ALLOC,
+            Command::IoasAllowIovas(_, _) => IOAS_ALLOW_IOVAS,
+            Command::IoasIovaRanges(_) => IOAS_IOVA_RANGES,
             Command::IoasMap(_) => IOAS_MAP,
             Command::IoasUnmap(_) => IOAS_UNMAP,
         }
     }
 
     /// Whether some bytes spell the command, so that `encode` may write it. It's so unless it's a MAP with an unknown
-    /// flag, or with an address other than 0 that its flags don't fix.
+    /// flag, or with an address other than 0 that its flags don't fix, or has 2^32 ranges or more.
     pub fn is_spellable(&self) -> bool
         ensures { result ≡ is_spellable self.now }
     {
-        match *self {
+        match self {
             Command::IoasMap(map) => are_spellable(map.flags) && is_kept(map.flags, map.iova),
-            Command::Destroy(_) | Command::IoasAlloc | Command::IoasUnmap(_) => true,
+            Command::IoasAllowIovas(_, ranges) => count_of(ranges.as_slice()).is_some(),
+            Command::Destroy(_)
+            | Command::IoasAlloc
+            | Command::IoasIovaRanges(_)
+            | Command::IoasUnmap(_) => true,
         }
     }
 }
@@ -55,6 +77,16 @@ impl Command {
 pub enum DecodeError {
     /// They spell none. The cause is Number, Short, Tail, Unsupported or Array.
     Refused(Refusal),
+    /// They spell a command with entries, and the memory for these was refused.
+    Memory,
+}
+
+// How many ranges there are, if a structure's count can say it.
+pub fn count_of(ranges: &[IovaRange]) -> Option<u32>
+    ensures some { is_some result ≡ nat_lt (length ranges.now) (2 ^ 32) }
+    ensures value { IfSome result (λ count. count ≡ length ranges.now) }
+{
+    u32::try_from(ranges.len()).ok()
 }
 
 // Whether a MAP may have these flags: none but the known ones.

@@ -5,12 +5,13 @@ mod checks;
 mod command;
 mod decoding;
 mod encoding;
+mod entries;
 mod laws;
 mod number;
 mod structure;
 mod writing;
 
-pub use command::{Command, DecodeError};
+pub use command::{Command, DecodeError, RangesRequest};
 pub use decoding::decode;
-pub use encoding::{encode, encode_reply, encode_reply_to};
+pub use encoding::{encode, encode_ranges, encode_reply, encode_reply_to};
 pub use laws::{round_trip, spellable_commands};

@@ -3,9 +3,12 @@
 ghost use Rattle.std.specs.Prelude.{◌≡◌, ◌+◌, ◌^◌, ◌<◌, ◌≤◌, ◌++◌, [], ◌∷◌, take, drop, true, Some, None};
 ghost use Rattle.std.specs.Int.{w32, w64, to_le_bytes};
 ghost use Rattle.ioctl_codec.specs.Layout.{AreOfWidth, filled, structure_bytes};
-ghost use Rattle.ioctl_codec.specs.Structures.{destroy, ioas_alloc, ioas_map, ioas_unmap};
+ghost use Rattle.ioctl_codec.specs.Structures.{destroy, ioas_alloc, ioas_allow_iovas, ioas_iova_ranges, ioas_map, ioas_unmap};
 
-use crate::structure::{DESTROY_LENGTH, IOAS_ALLOC_LENGTH, IOAS_MAP_LENGTH, IOAS_UNMAP_LENGTH};
+use crate::structure::{
+    DESTROY_LENGTH, IOAS_ALLOC_LENGTH, IOAS_ALLOW_IOVAS_LENGTH, IOAS_IOVA_RANGES_LENGTH,
+    IOAS_MAP_LENGTH, IOAS_UNMAP_LENGTH,
+};
 use iofd_words::{MapRequest, ObjId, UnmapRequest};
 
 // Writes a number at a place, and answers the place behind it.
@@ -46,6 +49,40 @@ pub fn put_ioas_alloc(out: &mut [u8; 64], out_ioas_id: ObjId) -> usize
     let at = put_u32(out, 0, IOAS_ALLOC_LENGTH);
     let at = put_u32(out, at, 0);
     put_u32(out, at, out_ioas_id.0)
+}
+
+pub fn put_ioas_allow_iovas(out: &mut [u8; 64], ioas: ObjId, num_iovas: u32) -> usize
+    ensures count { result ≡ 24 }
+    ensures bytes { out.new
+        ≡ structure_bytes ioas_allow_iovas (ioas.0 ∷ num_iovas ∷ []) None ++ drop result out.old }
+    ensures fits { let fields = ioas_allow_iovas.fields in
+        AreOfWidth fields (filled fields (ioas.0 ∷ num_iovas ∷ []) None) }
+{
+    let at = put_u32(out, 0, IOAS_ALLOW_IOVAS_LENGTH);
+    let at = put_u32(out, at, ioas.0);
+    let at = put_u32(out, at, num_iovas);
+    let at = put_u32(out, at, 0);
+    put_u64(out, at, 0)
+}
+
+pub fn put_ioas_iova_ranges(
+    out: &mut [u8; 64],
+    ioas: ObjId,
+    num_iovas: u32,
+    out_iova_alignment: u64,
+) -> usize
+    ensures count { result ≡ 32 }
+    ensures bytes { out.new
+        ≡ structure_bytes ioas_iova_ranges (ioas.0 ∷ num_iovas ∷ []) (Some out_iova_alignment) ++ drop result out.old }
+    ensures fits { let fields = ioas_iova_ranges.fields in
+        AreOfWidth fields (filled fields (ioas.0 ∷ num_iovas ∷ []) (Some out_iova_alignment)) }
+{
+    let at = put_u32(out, 0, IOAS_IOVA_RANGES_LENGTH);
+    let at = put_u32(out, at, ioas.0);
+    let at = put_u32(out, at, num_iovas);
+    let at = put_u32(out, at, 0);
+    let at = put_u64(out, at, 0);
+    put_u64(out, at, out_iova_alignment)
 }
 
 pub fn put_ioas_map(out: &mut [u8; 64], map: MapRequest) -> usize

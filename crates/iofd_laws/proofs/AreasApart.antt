@@ -6,12 +6,13 @@ use Rattle.std.proofs.lemmas.Bool.Decides.{nat_tests}
 use Rattle.iofd_words.specs.After.{changed, map_changes, attach_changes, target_changes, detach_changes, settle, without_areas, attached, detached, mapped_area}
 use Rattle.iofd_words.specs.Attachments.{attachment_of}
 use Rattle.iofd_words.specs.Files.{user_of, device_of}
+use Rattle.iofd_words.specs.FirstTrue.{first_true}
 use Rattle.iofd_words.specs.Objects.{binding_of, kind_of}
 use Rattle.iofd_words.specs.Settings.{DeviceSettings}
 use Rattle.iofd_words.specs.Answers.{Answers, IsMappedAt}
 use Rattle.iofd_words.specs.Areas.{areas_meet, areas_of, is_of, meets_area, with_area, with_phase}
 use Rattle.iofd_words.specs.Bounds.{Bounds}
-use Rattle.iofd_words.specs.Checks.{refusal}
+use Rattle.iofd_words.specs.Checks.{map_checks, refusal}
 use Rattle.iofd_laws.specs.Laws.{are_apart}
 use Rattle.iofd_words.specs.Rights.{is_fixed}
 use Rattle.iofd_words.specs.Span.{meets, span_from}
@@ -118,10 +119,10 @@ are_apart-map phase (a ∷ areas) = rw (meets_area-map phase areas a.file a.ioas
 -- ---- every event keeps them apart
 
 -- a MAP's span meets no area, be its address fixed or chosen
-map_is_free : (w : World) (file : FileNo) (request : MapRequest) (iova : Iova) → IsMappedAt w file request (is_fixed request.flags) iova → refusal w (event.Map file request) ≡ None → meets_area w.areas file request.ioas (span_from iova.0 request.length) ≡ false
+map_is_free : (w : World) (file : FileNo) (request : MapRequest) (iova : Iova) → IsMappedAt w file request (is_fixed request.flags) iova → first_true (map_checks (view w) file request) ≡ None → meets_area w.areas file request.ioas (span_from iova.0 request.length) ≡ false
 map_is_free w file request iova is none = (lies_at w file request iova none is).apart
 
-pub keeps_apart : (at : ℕ) (w : World) (e : Event) (answer : Reply) → refusal w e ≡ None → Answers w e answer → are_apart w.areas ≡ true → are_apart (changed at w e answer).areas ≡ true
+pub keeps_apart : {A : Type 0} → (at : ℕ) (w : World) (e : Event A) (answer : Reply) → refusal w e ≡ None → Answers w e answer → are_apart w.areas ≡ true → are_apart (changed at w e answer).areas ≡ true
 unfolding changed settle without_areas attached detached Answers
 keeps_apart at w (event.IoasAlloc file) (reply.Id id) none answers apart = apart
 keeps_apart at w (event.Map file request) (reply.Iova iova) none answers apart = mapped (user_of w.settings file)
@@ -134,6 +135,7 @@ keeps_apart at w (event.Unmap file request) (reply.Pending errno) none answers a
 keeps_apart at w (event.Destroy file id) reply.Done none answers apart = are_apart-filter _ w.areas apart
 keeps_apart at w (event.Close file) reply.Done none answers apart = are_apart-filter _ w.areas apart
 keeps_apart at w (event.UserMap user va) (reply.Frame frame) none answers apart = apart
+keeps_apart at w (event.AllowIovas file ioas ranges) reply.Done none answers apart = apart
 keeps_apart at w (event.UserUnmap user va) reply.Done none answers apart = apart
 keeps_apart at w (event.UserWrite user va bytes) reply.Done none answers apart = apart
 keeps_apart at w (event.Bind file device) (reply.Id id) none answers apart = apart

@@ -5,12 +5,14 @@ use Rattle.std.specs.List.{filter, list_all, list_any}
 use Rattle.std.proofs.lemmas.Bool.{eqb-true, true≢false}
 use Rattle.std.proofs.lemmas.Bool.Decides.{nat_tests}
 use Rattle.iofd_words.specs.After.{changed, map_changes, attach_changes, target_changes, detach_changes, settle, without_areas, attached, detached, goes_with, mapped_area, with_hwpt}
+use Rattle.iofd_words.specs.Allowed.{AllowedRanges, with_allowed, without_allowed}
 use Rattle.iofd_words.specs.Areas.{all_paid, owed_by, paid, is_touched, leaving, with_area, with_phase}
 use Rattle.iofd_words.specs.Attachments.{attachment_of, with_attachment, without_attachment, devices_of}
-use Rattle.iofd_words.specs.Checks.{refusal}
+use Rattle.iofd_words.specs.Checks.{detach_checks, flush_checks, refusal}
 use Rattle.iofd_words.specs.DeviceSet.{without_device}
 use Rattle.iofd_words.specs.Files.{user_of, device_of}
 use Rattle.iofd_laws.specs.Laws.{FileRows, IsOfAnother, file_of_device, rows_of}
+use Rattle.iofd_words.specs.FirstTrue.{first_true}
 use Rattle.iofd_words.specs.Objects.{automatic_hwpt, binding_of, comes_before, kind_of, objects_of, with_object}
 use Rattle.iofd_words.specs.Run.{after, after_answer}
 use Rattle.iofd_words.specs.Settings.{DeviceSettings}
@@ -112,8 +114,13 @@ closed_more (f ∷ files) own file differ = ap (λ b. eqb f.0 file.0 || b) (clos
 
 -- ---- each command
 
-same_rows : {objects objects' : List Object} {areas areas' : List Area} {attachments attachments' : List Attachment} {closed closed' : Bool} → objects ≡ objects' → areas ≡ areas' → attachments ≡ attachments' → closed ≡ closed' → (let rows : FileRows = record { objects = objects; areas = areas; attachments = attachments; closed = closed } in rows) ≡ record { objects = objects'; areas = areas'; attachments = attachments'; closed = closed' }
-same_rows a b c d = rw (a, b, c, d) refl
+same_rows : {objects objects' : List Object} {areas areas' : List Area} {allowed allowed' : List AllowedRanges} {attachments attachments' : List Attachment} {closed closed' : Bool} → objects ≡ objects' → areas ≡ areas' → allowed ≡ allowed' → attachments ≡ attachments' → closed ≡ closed'
+    → (let rows : FileRows = record { objects = objects; areas = areas; allowed = allowed; attachments = attachments; closed = closed } in rows) ≡ record { objects = objects'; areas = areas'; allowed = allowed'; attachments = attachments'; closed = closed' }
+same_rows a b c d e = rw (a, b, c, d, e) refl
+
+-- the allowed ranges are those of an address space of this file
+abbrev are_of_file : FileNo → AllowedRanges → Bool
+are_of_file file ranges = eqb ranges.file.0 file.0
 
 -- what is of another file passes the test of what isn't this file's
 stays : (own file : FileNo) (n : ℕ) (b : Bool) → own.0 ≢ file.0 → eqb n file.0 ≡ true → not (eqb n own.0 && b) ≡ true
@@ -202,41 +209,49 @@ is_bound w device some = by_option (binding_of w.objects device) refl some
 elsewhere : (w : World) (device : DeviceNo) (object : Object) (file : FileNo) → ((own : FileNo) → file_of_device w device ≡ Some own → own.0 ≢ file.0) → binding_of w.objects device ≡ Some object → object.file.0 ≢ file.0
 elsewhere w device object file another is = another object.file (ap (λ o. elim o [ Some bound ↦ Some bound.file | None ↦ None ]) is)
 
-flush_bound : (w : World) (device : DeviceNo) → refusal w (event.Flush device) ≡ None → is_none (binding_of w.objects device) ≡ false
-flush_bound w device none = flush_passed (view w) device (passes w (event.Flush device) none)
+flush_bound : (w : World) (device : DeviceNo) → first_true (flush_checks (view w) device) ≡ None → is_none (binding_of w.objects device) ≡ false
+flush_bound w device none = flush_passed (view w) device none
 
-detach_is_bound : (w : World) (device : DeviceNo) → refusal w (event.Detach device) ≡ None → is_none (binding_of w.objects device) ≡ false
-detach_is_bound w device none = (detach_passed (view w) device (passes w (event.Detach device) none)).bound
+detach_is_bound : (w : World) (device : DeviceNo) → first_true (detach_checks (view w) device) ≡ None → is_none (binding_of w.objects device) ≡ false
+detach_is_bound w device none = (detach_passed (view w) device none).bound
 
-pub keeps_others : (at : ℕ) (w : World) (e : Event) (answer : Reply) (file : FileNo) → AreBound w → refusal w e ≡ None → IsOfAnother w e file → rows_of file (changed at w e answer) ≡ rows_of file w
+pub keeps_others : {A : Type 0} → (at : ℕ) (w : World) (e : Event A) (answer : Reply) (file : FileNo) → AreBound w → refusal w e ≡ None → IsOfAnother w e file → rows_of file (changed at w e answer) ≡ rows_of file w
 unfolding changed settle without_areas attached detached
 keeps_others at w (event.IoasAlloc f) (reply.Id id) file b none another =
-    same_rows (objects-with_object _ w.objects file (other_file f file (another f refl))) refl refl refl
+    same_rows (objects-with_object _ w.objects file (other_file f file (another f refl))) refl refl refl refl
+keeps_others at w (event.AllowIovas f ioas ranges) reply.Done file b none another =
+    let before : filter (are_of_file file) (without_allowed f ioas w.allowed) ≡ filter (are_of_file file) w.allowed =
+    filter_filter _ _ w.allowed (λ r same. stays f file r.file.0 _ (another f refl) same) in
+    let gone : filter (are_of_file file) (with_allowed f ioas ranges w.allowed) ≡ filter (are_of_file file) w.allowed = rw (filter, other_file f file (another f refl)) before in
+    same_rows refl refl gone refl refl
 keeps_others at w (event.Map f request) (reply.Iova iova) file b none another = mapped (user_of w.settings f)
   where
     mapped : (user : Option UserNo) → rows_of file (map_changes at w f request iova user) ≡ rows_of file w
     mapped None = refl
-    mapped (Some user) = same_rows refl (areas-with_area (mapped_area at f request iova) w.areas file (other_file f file (another f refl))) refl refl
+    mapped (Some user) = same_rows refl (areas-with_area (mapped_area at f request iova) w.areas file (other_file f file (another f refl))) refl refl refl
 keeps_others at w (event.Unmap f request) (reply.Bytes count) file b none another =
-    same_rows refl (filter_filter _ _ w.areas (λ a same. not_false _ (untouched f file a.file.0 _ _ (another f refl) same))) refl refl
+    same_rows refl (filter_filter _ _ w.areas (λ a same. not_false _ (untouched f file a.file.0 _ _ (another f refl) same))) refl refl refl
 keeps_others at w (event.Unmap f request) (reply.Pending errno) file b none another =
     same_rows refl
     (filter_map_same _ (λ (a : Area). list_all (is_bound_to w.objects a.file) (owed_by [] a.phase)) (λ (a : Area). with_phase (cond (is_touched f request a) (leaving (devices_of w.objects w.attachments f request.ioas) a.phase) a.phase) a) w.areas
     b.debts (λ a. refl) (λ a same _. phase_stays a (is_touched f request a) _ (untouched f file a.file.0 _ _ (another f refl) same)))
-    refl refl
+    refl refl refl
 keeps_others at w (event.Destroy f id) reply.Done file b none another =
-    same_rows (filter_filter _ _ w.objects (λ o same. stays f file o.file.0 _ (another f refl) same)) (filter_filter _ _ w.areas (λ a same. stays f file a.file.0 _ (another f refl) same)) refl refl
+    same_rows (filter_filter _ _ w.objects (λ o same. stays f file o.file.0 _ (another f refl) same)) (filter_filter _ _ w.areas (λ a same. stays f file a.file.0 _ (another f refl) same))
+    (filter_filter _ _ w.allowed (λ r same. stays f file r.file.0 _ (another f refl) same))
+    refl refl
 keeps_others at w (event.Close f) reply.Done file b none another =
     same_rows
     (filter_filter _ _ w.objects (λ o same. stays_too f file o.file.0 (another f refl) same))
     (filter_filter _ _ w.areas (λ a same. stays_too f file a.file.0 (another f refl) same))
+    (filter_filter _ _ w.allowed (λ r same. stays_too f file r.file.0 (another f refl) same))
     (filter_filter _ _ w.attachments (λ a same. stays_too f file a.file.0 (another f refl) same))
     (closed_more w.closed f file (other_file f file (another f refl)))
 keeps_others at w (event.UserMap user va) (reply.Frame frame) file b none another = refl
 keeps_others at w (event.UserUnmap user va) reply.Done file b none another = refl
 keeps_others at w (event.UserWrite user va bytes) reply.Done file b none another = refl
 keeps_others at w (event.Bind f device) (reply.Id id) file b none another =
-    same_rows (objects-with_object _ w.objects file (other_file f file (another f refl))) refl refl refl
+    same_rows (objects-with_object _ w.objects file (other_file f file (another f refl))) refl refl refl refl
 keeps_others at w (event.Attach device pt_id) (reply.Id id) file b none another = bound (binding_of w.objects device) refl (device_of w.settings device)
   where
     bound : (o : Option Object) → binding_of w.objects device ≡ o → (settings : Option DeviceSettings) → rows_of file (attach_changes w device pt_id id o settings) ≡ rows_of file w
@@ -250,6 +265,7 @@ keeps_others at w (event.Attach device pt_id) (reply.Id id) file b none another 
             same_rows
             (hwpt_same object.file pt_id id settings.width (automatic_hwpt w.objects object.file pt_id settings.width) w.objects file (other_file object.file file differ))
             (areas_paid w device object file b is differ)
+            refl
             (attachments-with_attachment_other _ w.attachments file (other_file object.file file differ))
             refl
         by_kind k = refl
@@ -265,11 +281,12 @@ keeps_others at w (event.Detach device) reply.Done file b none another =
         same_rows
         (filter_filter _ _ w.objects (λ o same. goes_elsewhere (without_attachment device w.attachments) a file o (λ here. differ (own ∙ here)) same))
         (areas_paid w device object file b is differ)
+        refl
         (attachments_same w device object file b is differ)
         refl
 keeps_others at w (event.Flush device) reply.Done file b none another =
     let bound = is_bound w device (flush_bound w device none) in
-    same_rows refl (areas_paid w device bound.0 file b bound.1 (elsewhere w device bound.0 file another bound.1)) refl refl
+    same_rows refl (areas_paid w device bound.0 file b bound.1 (elsewhere w device bound.0 file another bound.1)) refl refl refl
 keeps_others at w (event.DeviceWrite device iova bytes) (reply.Passed frame) file b none another = refl
 keeps_others at w e answer file b none another = refl
 

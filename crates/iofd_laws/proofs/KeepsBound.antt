@@ -6,9 +6,10 @@ use Rattle.iofd_words.specs.After.{changed, map_changes, attach_changes, target_
 use Rattle.iofd_words.specs.Answers.{Answers}
 use Rattle.iofd_words.specs.Areas.{is_of, owed_by}
 use Rattle.iofd_words.specs.Attachments.{attachment_of, has_device_on, without_attachment}
-use Rattle.iofd_words.specs.Checks.{refusal, is_device_object}
+use Rattle.iofd_words.specs.Checks.{bind_checks, close_checks, destroy_checks, is_device_object, refusal}
 use Rattle.iofd_words.specs.Files.{user_of, device_of}
 use Rattle.iofd_rows.specs.Ids.{have_own_ids}
+use Rattle.iofd_words.specs.FirstTrue.{first_true}
 use Rattle.iofd_words.specs.Objects.{automatic_hwpt, binding_of, is_automatic, is_bound_as, is_bound_device, is_object, kind_of, objects_of}
 use Rattle.iofd_words.specs.Settings.{DeviceSettings}
 use Rattle.iofd_words.specs.Tables.{with_tables}
@@ -33,7 +34,7 @@ use Rattle.iofd_laws.proofs.Bound.{AreBound, StayBound, debts_bound, is_bound_to
 use Rattle.iofd_rows.proofs.Bools.{not_true}
 use Rattle.iofd_rows.proofs.Found.{all_filter, none_both}
 use Rattle.iofd_runs.proofs.OwnIds.{keeps_own_ids}
-use Rattle.iofd_runs.proofs.NotRefused.{bind_passed, close_passed, destroy_passed, passes}
+use Rattle.iofd_runs.proofs.NotRefused.{bind_passed, close_passed, destroy_passed}
 
 -- what holds of every world of a run
 pub record IsTidy (w : World) : Type 0 where
@@ -95,18 +96,18 @@ detached_bound w device a b =
 
 -- ---- what the refusals rule out
 
-destroy_no_device : (w : World) (file : FileNo) (id : ObjId) → refusal w (event.Destroy file id) ≡ None → is_device_object (kind_of w.objects file id) ≡ false
-destroy_no_device w file id none = (destroy_passed (view w) file id (passes w (event.Destroy file id) none)).no_device
+destroy_no_device : (w : World) (file : FileNo) (id : ObjId) → first_true (destroy_checks (view w) file id) ≡ None → is_device_object (kind_of w.objects file id) ≡ false
+destroy_no_device w file id none = (destroy_passed (view w) file id none).no_device
 
-close_no_device : (w : World) (file : FileNo) → refusal w (event.Close file) ≡ None → list_any (λ (o : Object). is_bound_device o.kind) (objects_of w.objects file) ≡ false
-close_no_device w file none = (close_passed (view w) file (passes w (event.Close file) none)).no_device
+close_no_device : (w : World) (file : FileNo) → first_true (close_checks (view w) file) ≡ None → list_any (λ (o : Object). is_bound_device o.kind) (objects_of w.objects file) ≡ false
+close_no_device w file none = (close_passed (view w) file none).no_device
 
-bind_unbound : (w : World) (file : FileNo) (device : DeviceNo) → refusal w (event.Bind file device) ≡ None → is_some (binding_of w.objects device) ≡ false
-bind_unbound w file device none = (bind_passed (view w) file device (passes w (event.Bind file device) none)).unbound
+bind_unbound : (w : World) (file : FileNo) (device : DeviceNo) → first_true (bind_checks (view w) file device) ≡ None → is_some (binding_of w.objects device) ≡ false
+bind_unbound w file device none = (bind_passed (view w) file device none).unbound
 
 -- ---- each event
 
-pub keeps_bound : (at : ℕ) (w : World) (e : Event) (answer : Reply) → refusal w e ≡ None → Answers w e answer → IsTidy w → AreBound (changed at w e answer)
+pub keeps_bound : {A : Type 0} → (at : ℕ) (w : World) (e : Event A) (answer : Reply) → refusal w e ≡ None → Answers w e answer → IsTidy w → AreBound (changed at w e answer)
 unfolding changed settle without_areas
 keeps_bound at w (event.IoasAlloc file) (reply.Id id) none answers tidy =
     stay_bound w _ (stays-with_object (record { file = file; id = id; kind = kind.Ioas }) w.objects (λ device. refl)) tidy.bound
@@ -128,6 +129,8 @@ keeps_bound at w (event.Close file) reply.Done none answers tidy =
     let left = filter (λ (o : Object). not (eqb o.file.0 file.0)) w.objects in
     record { attachments = attachments_stay w.objects left _ stay (all_filter _ _ w.attachments tidy.bound.attachments); debts = fewer_debts w left (λ a. eqb a.file.0 file.0) stay tidy.bound }
 keeps_bound at w (event.UserMap user va) (reply.Frame frame) none answers tidy = record { attachments = tidy.bound.attachments; debts = tidy.bound.debts }
+keeps_bound at w (event.AllowIovas file ioas ranges) reply.Done none answers tidy =
+    record { attachments = tidy.bound.attachments; debts = tidy.bound.debts }
 keeps_bound at w (event.UserUnmap user va) reply.Done none answers tidy =
     record { attachments = tidy.bound.attachments; debts = tidy.bound.debts }
 keeps_bound at w (event.UserWrite user va bytes) reply.Done none answers tidy =
@@ -153,7 +156,7 @@ keeps_bound at w (event.Flush device) reply.Done none answers tidy = record { at
 keeps_bound at w (event.DeviceWrite device iova bytes) (reply.Passed frame) none answers tidy = record { attachments = tidy.bound.attachments; debts = tidy.bound.debts }
 keeps_bound at w e answer none answers tidy = tidy.bound
 
-pub keeps_tidy : (at : ℕ) (w : World) (e : Event) (answer : Reply) → refusal w e ≡ None → Answers w e answer → IsTidy w → IsTidy (changed at w e answer)
+pub keeps_tidy : {A : Type 0} → (at : ℕ) (w : World) (e : Event A) (answer : Reply) → refusal w e ≡ None → Answers w e answer → IsTidy w → IsTidy (changed at w e answer)
 keeps_tidy at w e answer none answers tidy = record { own_ids = keeps_own_ids at w e answer none answers tidy.own_ids; bound = keeps_bound at w e answer none answers tidy }
 
 -- the frames of tables are no part of it

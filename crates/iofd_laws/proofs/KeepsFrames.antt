@@ -53,7 +53,7 @@ module _ (w : World) (page : ObjectPage) where
   stays : pin_moves page w w
   stays = same (pinned_frame w.pins page) (frame_now w.memory w.user_pages page)
 
-  changed_moves : (at : ℕ) (e : Event) (answer : Reply) → pin_moves page w (changed at w e answer)
+  changed_moves : {A : Type 0} → (at : ℕ) (e : Event A) (answer : Reply) → pin_moves page w (changed at w e answer)
   unfolding changed
   changed_moves at (event.IoasAlloc file) (reply.Id id) = same (pinned_frame w.pins page) _
   changed_moves at (event.Map file request) (reply.Iova iova) = mapped (user_of w.settings file)
@@ -66,6 +66,7 @@ module _ (w : World) (page : ObjectPage) where
   changed_moves at (event.Destroy file id) reply.Done = settle_moves _
   changed_moves at (event.Close file) reply.Done = settle_moves _
   changed_moves at (event.UserMap user va) (reply.Frame frame) = same (pinned_frame w.pins page) _
+  changed_moves at (event.AllowIovas file ioas ranges) reply.Done = same (pinned_frame w.pins page) _
   changed_moves at (event.UserUnmap user va) reply.Done = same (pinned_frame w.pins page) _
   changed_moves at (event.UserWrite user va bytes) reply.Done = same (pinned_frame w.pins page) _
   changed_moves at (event.Bind file device) (reply.Id id) = same (pinned_frame w.pins page) _

@@ -6,17 +6,19 @@ use Rattle.std.proofs.lemmas.Bool.{eqb-true}
 use Rattle.std.proofs.lemmas.List.FromFn.{length-map-range_with_len}
 use Rattle.std.proofs.lemmas.List.Sums.{count_by-le-length, length-filter}
 use Rattle.iofd_words.specs.After.{changed, map_changes, attach_changes, target_changes, detach_changes, settle, without_areas, attached, detached, goes_with, mapped_area, memory_object, with_hwpt}
+use Rattle.iofd_words.specs.Allowed.{AllowedRanges}
 use Rattle.iofd_words.specs.Answers.{Answers}
 use Rattle.iofd_words.specs.Areas.{areas_of, is_of, is_touched, paid, with_area, with_phase}
 use Rattle.iofd_words.specs.Attachments.{attachment_of, with_attachment, without_attachment}
-use Rattle.iofd_words.specs.Checks.{newly_pinned, passes_limit, refusal}
+use Rattle.iofd_words.specs.Checks.{attach_checks, map_checks, newly_pinned, passes_limit, refusal}
 use Rattle.iofd_words.specs.Files.{device_of, limit_of, user_of}
+use Rattle.iofd_words.specs.FirstTrue.{first_true}
 use Rattle.iofd_words.specs.Objects.{automatic_hwpt, binding_of, has_hwpt, is_object, kind_of, without_object}
 use Rattle.iofd_words.specs.Pins.{ObjectPage, is_page, is_translated, pages_of, pinned_frame, settled}
 use Rattle.iofd_words.specs.Settings.{DeviceSettings, Settings}
 use Rattle.iofd_words.specs.Tables.{with_tables}
 use Rattle.iofd_words.specs.View.{View, view}
-use Rattle.iofd_words.specs.World.{AllowedRanges, World, opening}
+use Rattle.iofd_words.specs.World.{World, opening}
 use Rattle.iofd_words.specs.declared.event.Event.{Event}
 use Rattle.iofd_words.specs.declared.event.Event.TheVariants as event
 use Rattle.iofd_words.specs.declared.event.MapRequest.{MapRequest}
@@ -50,7 +52,7 @@ use Rattle.iofd_runs.specs.Owned.{is_of_files_user}
 use Rattle.iofd_runs.proofs.AttachedPages.{IsNew, had_before, none_new, over_number, over_space, unpinned}
 use Rattle.iofd_runs.proofs.KeepsOwned.{OwnedPins, keeps_owned_pins, later_owned, opening_owned, owner, tabled_owned}
 use Rattle.iofd_runs.proofs.KeepsPins.{gone_within, moved_new, none_over, pages_in}
-use Rattle.iofd_runs.proofs.NotRefused.{attach_passed, map_passed, passes}
+use Rattle.iofd_runs.proofs.NotRefused.{attach_passed, map_passed}
 
 -- a memory object of the user
 abbrev of_user : UserNo → MemoryObject → Bool
@@ -179,7 +181,7 @@ none_new_object at w file request iova user page p table within =
     no_table here true translated a b is = cc
     no_table here false true a b is = cc
 
-mapped_held : (at : ℕ) (w : World) (file : FileNo) (request : MapRequest) (iova : Iova) (user other : UserNo) (limit : ℕ) → ArePinned at w → refusal w (event.Map file request) ≡ None → user_of w.settings file ≡ Some user → limit_of w.settings other ≡ Some limit → held_in w other ≤ limit
+mapped_held : (at : ℕ) (w : World) (file : FileNo) (request : MapRequest) (iova : Iova) (user other : UserNo) (limit : ℕ) → ArePinned at w → first_true (map_checks (view w) file request) ≡ None → user_of w.settings file ≡ Some user → limit_of w.settings other ≡ Some limit → held_in w other ≤ limit
     → held_in (settle w (mapped_world at w file request iova user)) other ≤ limit
 mapped_held at w file request iova user other limit p none is has before =
     rw (held_settle w new other, page_count_last pinned (of_user other) w.memory object) (by_user (eqb user.0 other.0) refl)
@@ -207,7 +209,7 @@ mapped_held at w file request iova user other limit p none is has before =
 
     by_table : (b : Bool) → has_hwpt w.objects file request.ioas ≡ b → user ≡ other → held_in w other + count_by pinned (pages_of object) ≤ limit
     by_table true table same =
-        let passed = map_passed (view w) file request (passes w (event.Map file request) none) in
+        let passed = map_passed (view w) file request none in
         let more = within_limit (view w) (user_of w.settings file) other (request.length / 4096) limit (is ∙ ap (λ (u : UserNo). Some u) same) has (and_rest (has_hwpt w.objects file request.ioas) _ table passed.within_limit) in
         let pages = count_by-le-length pinned (pages_of object) in
         let many : length (pages_of object) ≡ request.length / 4096 = length-map-range_with_len _ 0 (request.length / 4096) in
@@ -296,7 +298,7 @@ module _ (at : ℕ) (w : World) (phase : Area → Phase) (file : FileNo) (ioas i
               omega (arith, held, none, before)
 
 -- a device is attached
-attached_held : (at : ℕ) (w : World) (device : DeviceNo) (ioas id : ObjId) (object : Object) (width : Width) (automatic : Option Object) (phase : Area → Phase) (attachments : List Attachment) (user : UserNo) (limit : ℕ) → OwnedPins at w → refusal w (event.Attach device ioas) ≡ None → binding_of w.objects device ≡ Some object → limit_of w.settings user ≡ Some limit → held_in w user ≤ limit
+attached_held : (at : ℕ) (w : World) (device : DeviceNo) (ioas id : ObjId) (object : Object) (width : Width) (automatic : Option Object) (phase : Area → Phase) (attachments : List Attachment) (user : UserNo) (limit : ℕ) → OwnedPins at w → first_true (attach_checks (view w) device ioas) ≡ None → binding_of w.objects device ≡ Some object → limit_of w.settings user ≡ Some limit → held_in w user ≤ limit
     → held_in (settle w (moved_world w phase (with_hwpt object.file ioas id width automatic w.objects) attachments)) user ≤ limit
 attached_held at w device ioas id object width (Some automatic) phase attachments user limit p none is has before =
     let held = fewer_held w phase w.objects attachments user (λ file space table. table) in
@@ -308,7 +310,7 @@ attached_held at w device ioas id object width None phase attachments user limit
         let held = fewer_held w phase (with_hwpt object.file ioas id width None w.objects) attachments user (λ file space table. had_before w.objects object.file ioas id width file space had table) in
         omega (arith, held, before)
     by_table false had =
-        let passed = attach_passed (view w) device ioas object is (passes w (event.Attach device ioas) none) in
+        let passed = attach_passed (view w) device ioas object is none in
         first_held at w phase object.file ioas id width attachments user limit p has (and_rest (not (has_hwpt w.objects object.file ioas)) _ (not_false _ had) passed.within_limit) before
 
 -- ---- each event
@@ -326,7 +328,7 @@ gone_limits w goes left attachments allowed closed fewer =
     settled_limits w (record (without_areas goes w) { objects = left; attachments = attachments; allowed = allowed; closed = closed }) refl
     (λ user limit is before. let held = gone_held w goes left attachments allowed closed user fewer in omega (arith, held, before))
 
-pub keeps_limits : (at : ℕ) (w : World) (e : Event) (answer : Reply) → refusal w e ≡ None → OwnedPins at w → WithinLimits w → WithinLimits (changed at w e answer)
+pub keeps_limits : {A : Type 0} → (at : ℕ) (w : World) (e : Event A) (answer : Reply) → refusal w e ≡ None → OwnedPins at w → WithinLimits w → WithinLimits (changed at w e answer)
 unfolding changed without_areas attached detached
 keeps_limits at w (event.IoasAlloc file) (reply.Id id) none p within = within
 keeps_limits at w (event.Map file request) (reply.Iova iova) none p within = mapped (user_of w.settings file) refl
@@ -339,6 +341,7 @@ keeps_limits at w (event.Unmap file request) (reply.Pending errno) none p within
 keeps_limits at w (event.Destroy file id) reply.Done none p within = gone_limits w (is_of file id) (without_object file id w.objects) w.attachments _ w.closed (λ own ioas has. hwpt-filter (λ o. not (is_object file id o)) w.objects own ioas has) within
 keeps_limits at w (event.Close file) reply.Done none p within = gone_limits w (λ a. eqb a.file.0 file.0) _ _ _ _ (λ own ioas has. hwpt-filter (λ o. not (eqb o.file.0 file.0)) w.objects own ioas has) within
 keeps_limits at w (event.UserMap user va) (reply.Frame frame) none p within = within
+keeps_limits at w (event.AllowIovas file ioas ranges) reply.Done none p within = within
 keeps_limits at w (event.UserUnmap user va) reply.Done none p within = within
 keeps_limits at w (event.UserWrite user va bytes) reply.Done none p within = within
 keeps_limits at w (event.Bind file device) (reply.Id id) none p within = within
@@ -381,7 +384,7 @@ tabled_limits at w taken given k = record { pins = tabled_owned at w taken given
 pub later_limits : (at : ℕ) (w : World) → KeptLimits at w → KeptLimits (at + 1) w
 later_limits at w k = record { pins = later_owned at w k.pins; limits = k.limits }
 
-pub keeps_kept_limits : (at : ℕ) (w : World) (e : Event) (answer : Reply) → refusal w e ≡ None → Answers w e answer → KeptLimits at w → KeptLimits (at + 1) (changed at w e answer)
+pub keeps_kept_limits : {A : Type 0} → (at : ℕ) (w : World) (e : Event A) (answer : Reply) → refusal w e ≡ None → Answers w e answer → KeptLimits at w → KeptLimits (at + 1) (changed at w e answer)
 keeps_kept_limits at w e answer none answers k = record { pins = keeps_owned_pins at w e answer none answers k.pins; limits = keeps_limits at w e answer none k.pins k.limits }
 
 pub opening_limits : (settings : Settings) → KeptLimits 0 (opening settings)

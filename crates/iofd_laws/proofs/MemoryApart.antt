@@ -193,7 +193,7 @@ gone_object goes areas memory number has =
         by_test true is rest = rw (stays m is) rest
         by_test false is rest = rest
 
-keeps_object : (at : ℕ) (w : World) (e : Event) (answer : Reply) (number : ℕ) → is_some (object_numbered w.memory number) ≡ true → list_any (λ (a : Area). eqb a.memory number) (changed at w e answer).areas ≡ true
+keeps_object : {A : Type 0} → (at : ℕ) (w : World) (e : Event A) (answer : Reply) (number : ℕ) → is_some (object_numbered w.memory number) ≡ true → list_any (λ (a : Area). eqb a.memory number) (changed at w e answer).areas ≡ true
     → object_numbered (changed at w e answer).memory number ≡ object_numbered w.memory number
 unfolding changed settle without_areas attached detached
 keeps_object at w (event.IoasAlloc file) (reply.Id id) number some has = refl
@@ -207,6 +207,7 @@ keeps_object at w (event.Unmap file request) (reply.Pending errno) number some h
 keeps_object at w (event.Destroy file id) reply.Done number some has = gone_object (is_of file id) w.areas w.memory number has
 keeps_object at w (event.Close file) reply.Done number some has = gone_object (λ (a : Area). eqb a.file.0 file.0) w.areas w.memory number has
 keeps_object at w (event.UserMap user va) (reply.Frame frame) number some has = refl
+keeps_object at w (event.AllowIovas file ioas ranges) reply.Done number some has = refl
 keeps_object at w (event.UserUnmap user va) reply.Done number some has = refl
 keeps_object at w (event.UserWrite user va bytes) reply.Done number some has = refl
 keeps_object at w (event.Bind file device) (reply.Id id) number some has = refl

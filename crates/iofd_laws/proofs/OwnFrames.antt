@@ -86,7 +86,7 @@ own_frames-filter stays (p ∷ pages) own =
 
 -- ---- every event keeps them apart
 
-pub keeps_own_frames : (at : ℕ) (w : World) (e : Event) (answer : Reply) → refusal w e ≡ None → Answers w e answer → have_own_frames w.user_pages ≡ true → have_own_frames (changed at w e answer).user_pages ≡ true
+pub keeps_own_frames : {A : Type 0} → (at : ℕ) (w : World) (e : Event A) (answer : Reply) → refusal w e ≡ None → Answers w e answer → have_own_frames w.user_pages ≡ true → have_own_frames (changed at w e answer).user_pages ≡ true
 unfolding changed settle without_areas attached detached Answers
 keeps_own_frames at w (event.IoasAlloc file) (reply.Id id) none answers own = own
 keeps_own_frames at w (event.Map file request) (reply.Iova iova) none answers own = mapped (user_of w.settings file)
@@ -100,6 +100,7 @@ keeps_own_frames at w (event.Destroy file id) reply.Done none answers own = own
 keeps_own_frames at w (event.Close file) reply.Done none answers own = own
 keeps_own_frames at w (event.UserMap user va) (reply.Frame frame) none answers own =
     own_frames_more w.user_pages _ (no_page w.user_pages w.pins w.table_frames frame.0 (free_parts w.settings.pool w.user_pages w.pins w.table_frames frame.0 answers).1) own
+keeps_own_frames at w (event.AllowIovas file ioas ranges) reply.Done none answers own = own
 keeps_own_frames at w (event.UserUnmap user va) reply.Done none answers own = own_frames-filter _ w.user_pages own
 keeps_own_frames at w (event.UserWrite user va bytes) reply.Done none answers own = own
 keeps_own_frames at w (event.Bind file device) (reply.Id id) none answers own = own
@@ -131,7 +132,7 @@ never_written w device address (Passes f ∷ os) frame (zero, within, is) = cc
 never_written w device address (Denied reason ∷ os) frame (zero, within, is) = cc
 never_written w device address (o ∷ os) frame (suc k, within, is) = never_written w device address os frame (k, omega (arith, within), is)
 
-given_free : (w : World) (e : Event) (frame : FrameNo) → Answers w e (reply.Frame frame) → WasFree w frame
+given_free : {A : Type 0} → (w : World) (e : Event A) (frame : FrameNo) → Answers w e (reply.Frame frame) → WasFree w frame
 unfolding Answers
 given_free w (event.UserMap user va) frame answers = free_parts w.settings.pool w.user_pages w.pins w.table_frames frame.0 answers
 given_free w (event.DeviceWrite device iova bytes) frame answers =

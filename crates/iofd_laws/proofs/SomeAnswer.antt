@@ -8,13 +8,14 @@ use Rattle.iofd_rows.specs.Pinned.{ArePinned}
 use Rattle.iofd_rows.proofs.Bools.{not_false}
 use Rattle.iofd_laws.proofs.FreshIds.{fresh_id}
 use Rattle.iofd_runs.proofs.Known.{bound_known}
-use Rattle.iofd_runs.proofs.NotRefused.{alloc_passed, attach_passed, bind_passed, map_passed, passes, user_map_passed}
+use Rattle.iofd_runs.proofs.NotRefused.{alloc_passed, attach_passed, bind_passed, map_passed, user_map_passed}
 use Rattle.iofd_runs.proofs.PinnedAccess.{some_outcome}
 use Rattle.iofd_words.specs.Answers.{Answers, IsHwptFor, IsHwptOf, IsMappedAt, IsTarget, UnmapAnswers, write_reply}
 use Rattle.iofd_words.specs.Areas.{is_waiting, touched_bytes}
 use Rattle.iofd_words.specs.Attachments.{devices_of}
-use Rattle.iofd_words.specs.Checks.{checks, choices, has_choice, lacks_choice, lacks_room_for_hwpt, may_choose, refusal, taken_spans}
+use Rattle.iofd_words.specs.Checks.{attach_checks, choices, has_choice, lacks_choice, lacks_room_for_hwpt, may_choose, refusal, taken_spans}
 use Rattle.iofd_words.specs.Files.{device_of}
+use Rattle.iofd_words.specs.FirstTrue.{first_true}
 use Rattle.iofd_words.specs.Frames.{is_free}
 use Rattle.iofd_words.specs.Objects.{automatic_hwpt, binding_of, is_full, kind_of}
 use Rattle.iofd_words.specs.Policy.{outcomes}
@@ -61,9 +62,9 @@ first_of_map f [] some = absurd (some refl)
 first_of_map f (x ∷ xs) some = (f x, (0, omega arith, refl))
 
 -- a device that isn't bound is refused
-unbound : (w : World) (device : DeviceNo) (pt_id : ObjId) → refusal w (event.Attach device pt_id) ≡ None → binding_of w.objects device ≡ None → ⊥
-unfolding refusal checks
-unbound w device pt_id none is = let refused = rw (is, checks) at none in cc
+unbound : (w : World) (device : DeviceNo) (pt_id : ObjId) → first_true (attach_checks (view w) device pt_id) ≡ None → binding_of w.objects device ≡ None → ⊥
+unfolding attach_checks
+unbound w device pt_id none is = let refused = rw (is, attach_checks) at none in cc
 
 module _ (at : ℕ) (w : World) (pins : ArePinned at w) (fits : RowsFit w) where
   -- an UNMAP waits, or it answers how many bytes go
@@ -89,7 +90,7 @@ module _ (at : ℕ) (w : World) (pins : ArePinned at w) (fits : RowsFit w) where
   table_id file (Some automatic) roomy = (automatic.id, refl)
   table_id file None roomy = fresh_id w.objects file (roomy refl)
 
-  attach_answer : (device : DeviceNo) (pt_id : ObjId) → refusal w (event.Attach device pt_id) ≡ None → (id : ObjId) × IsHwptOf w pt_id id (binding_of w.objects device) (device_of w.settings device)
+  attach_answer : (device : DeviceNo) (pt_id : ObjId) → first_true (attach_checks (view w) device pt_id) ≡ None → (id : ObjId) × IsHwptOf w pt_id id (binding_of w.objects device) (device_of w.settings device)
   attach_answer device pt_id none = by_binding (binding_of w.objects device) refl
     where
       other : (a b : Bool) → a ≡ true → (a && b) ≡ false → b ≡ false
@@ -112,27 +113,28 @@ module _ (at : ℕ) (w : World) (pins : ArePinned at w) (fits : RowsFit w) where
       by_binding : (o : Option Object) → binding_of w.objects device ≡ o → (id : ObjId) × IsHwptOf w pt_id id o (device_of w.settings device)
       by_binding None is = absurd (unbound w device pt_id none is)
       by_binding (Some bound) is =
-          let passed = attach_passed (view w) device pt_id bound is (passes w (event.Attach device pt_id) none) in
+          let passed = attach_passed (view w) device pt_id bound is none in
           by_device bound (device_of w.settings device) (bound_known w.settings w.closed w.objects device bound fits.known is).1 passed.space passed.roomy
 
-  pub some_answer : (e : Event) → refusal w e ≡ None → (answer : Reply) × Answers w e answer
+  pub some_answer : {A : Type 0} → (e : Event A) → refusal w e ≡ None → (answer : Reply) × Answers w e answer
   unfolding Answers
   some_answer (event.IoasAlloc file) none =
-      let (id, fresh) = fresh_id w.objects file (alloc_passed (view w) file (passes w (event.IoasAlloc file) none)).roomy in
+      let (id, fresh) = fresh_id w.objects file (alloc_passed (view w) file none).roomy in
       (reply.Id id, fresh)
   some_answer (event.Map file request) none =
-      let (iova, at) = map_answer file request (map_passed (view w) file request (passes w (event.Map file request) none)).chosen in
+      let (iova, at) = map_answer file request (map_passed (view w) file request none).chosen in
       (reply.Iova iova, at)
   some_answer (event.Unmap file request) none = unmap_answer file request
   some_answer (event.Destroy file id) none = (reply.Done, tt)
   some_answer (event.Close file) none = (reply.Done, tt)
   some_answer (event.UserMap user va) none =
-      let (frame, free) = counted (is_free w.settings.pool w.user_pages w.pins w.table_frames) (range_with_len 0 w.settings.pool) (user_map_passed (view w) user va (passes w (event.UserMap user va) none)).roomy in
+      let (frame, free) = counted (is_free w.settings.pool w.user_pages w.pins w.table_frames) (range_with_len 0 w.settings.pool) (user_map_passed (view w) user va none).roomy in
       (reply.Frame (record { 0 = frame }), free)
+  some_answer (event.AllowIovas file ioas ranges) none = (reply.Done, tt)
   some_answer (event.UserUnmap user va) none = (reply.Done, tt)
   some_answer (event.UserWrite user va bytes) none = (reply.Done, tt)
   some_answer (event.Bind file device) none =
-      let (id, fresh) = fresh_id w.objects file (bind_passed (view w) file device (passes w (event.Bind file device) none)).roomy in
+      let (id, fresh) = fresh_id w.objects file (bind_passed (view w) file device none).roomy in
       (reply.Id id, fresh)
   some_answer (event.Attach device pt_id) none =
       let (id, target) = attach_answer device pt_id none in

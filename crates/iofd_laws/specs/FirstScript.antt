@@ -34,7 +34,7 @@ id n = record { 0 = n }
 abbrev device : DeviceNo
 device = record { 0 = 1 }
 
-abbrev step : Event → Reply → Record Global
+abbrev step : Event Global → Reply → Record Global
 step e r = record { pass = record { 0 = 0 }; event = e; reply = r; taken = []; given = [] }
 
 abbrev refused : Cause → Reply
@@ -54,13 +54,13 @@ settings =
     }
 
 -- the page at 0x10000 is mapped at 0x1000, for reads and writes
-abbrev map_page : Event
+abbrev map_page : Event Global
 map_page = event.Map (file 1) (record { flags = record { 0 = 7 }; ioas = id 1; user_va = 0x10000; length = 0x1000; iova = record { 0 = 0x1000 } })
 
-abbrev unmap_page : Event
+abbrev unmap_page : Event Global
 unmap_page = event.Unmap (file 1) (record { ioas = id 1; iova = record { 0 = 0x1000 }; length = 0x1000 })
 
-abbrev write : Event
+abbrev write : Event Global
 write = event.DeviceWrite device (record { 0 = 0x1ffe }) (0xbe ∷ 0xef ∷ [])
 
 -- up to the device's binding

@@ -1,6 +1,7 @@
 -- What is true of every run, in the subject's words.
 use Rattle.std.specs.Prelude.{◌≡◌, ◌≢◌, ◌<◌, ℕ, Bool, true, false, ◌==◌, ◌&&◌, not, Option, Some, None, List, [], ◌∷◌, filter, find}
 use Rattle.std.specs.List.{list_any}
+use Rattle.iofd_words.specs.Allowed.{AllowedRanges}
 use Rattle.iofd_words.specs.Areas.{meets_area}
 use Rattle.iofd_words.specs.Frames.{is_reached}
 use Rattle.iofd_words.specs.Objects.{binding_of, objects_of}
@@ -43,8 +44,9 @@ abbrev pub file_of_device : World → DeviceNo → Option FileNo
 file_of_device w device = elim (binding_of w.objects device) [ Some bound ↦ Some bound.file | None ↦ None ]
 
 -- the file that an event is of: the one that a command names, or to which the device is bound
-abbrev pub file_of : World → Event → Option FileNo
+abbrev pub file_of : {A : Type 0} → World → Event A → Option FileNo
 file_of w (event.IoasAlloc file) = Some file
+file_of w (event.AllowIovas file ioas ranges) = Some file
 file_of w (event.Map file request) = Some file
 file_of w (event.Unmap file request) = Some file
 file_of w (event.Destroy file id) = Some file
@@ -59,13 +61,14 @@ file_of w (event.Flush device) = file_of_device w device
 file_of w (event.DeviceWrite device iova bytes) = file_of_device w device
 
 -- the event isn't of this file
-abbrev pub IsOfAnother : World → Event → FileNo → Type 0
+abbrev pub IsOfAnother : {A : Type 0} → World → Event A → FileNo → Type 0
 IsOfAnother w e file = (own : FileNo) → file_of w e ≡ Some own → own.0 ≢ file.0
 
--- what a file has: its objects, its areas, its devices' attachments, and whether it is closed
+-- what a file has: its objects, its areas and allowed ranges, its devices' attachments, and whether it is closed
 pub record FileRows : Type 0 where
   pub objects : List Object
   pub areas : List Area
+  pub allowed : List AllowedRanges
   pub attachments : List Attachment
   pub closed : Bool
 
@@ -74,6 +77,7 @@ rows_of file w =
     record {
       objects = objects_of w.objects file;
       areas = filter (λ area. area.file.0 == file.0) w.areas;
+      allowed = filter (λ ranges. ranges.file.0 == file.0) w.allowed;
       attachments = filter (λ a. a.file.0 == file.0) w.attachments;
       closed = list_any (λ f. f.0 == file.0) w.closed;
     }

@@ -74,7 +74,7 @@ pub fn every_access_has_an_answer<A: Allocator>()
 
 /// In every run, an event that nothing refuses has a lawful answer.
 pub fn every_event_has_an_answer<A: Allocator>()
-    ensures { (settings : Settings) (records : List (Record A)) (event : Event) → IsRun settings records →
+    ensures { (settings : Settings) (records : List (Record A)) (event : Event A) → IsRun settings records →
         refusal (world_of settings records) event ≡ None → (answer : Reply) × Answers (world_of settings records) event answer }
 {}
 

@@ -1,3 +1,4 @@
+pub mod Allowed
 pub mod Bools
 pub mod Contained
 pub mod Each

@@ -5,12 +5,12 @@ use Rattle.std.proofs.lemmas.Bool.Decides.{nat_tests}
 use Rattle.std.proofs.lemmas.Bool.{eqb-true}
 use Rattle.iofd_words.specs.After.{with_hwpt}
 use Rattle.iofd_words.specs.Areas.{areas_of, is_of}
-use Rattle.iofd_words.specs.Checks.{refusal, lacks_attached_page}
+use Rattle.iofd_words.specs.Checks.{attach_checks, lacks_attached_page}
+use Rattle.iofd_words.specs.FirstTrue.{first_true}
 use Rattle.iofd_words.specs.Objects.{binding_of, has_hwpt}
 use Rattle.iofd_words.specs.Pins.{ObjectPage, frame_now, is_page, is_translated, pages_of, pinned_frame, pinned_pages, unpinned_pages}
 use Rattle.iofd_words.specs.View.{view}
 use Rattle.iofd_words.specs.World.{World}
-use Rattle.iofd_words.specs.declared.event.Event.TheVariants as event
 use Rattle.iofd_words.specs.declared.numbers.DeviceNo.{DeviceNo}
 use Rattle.iofd_words.specs.declared.numbers.FileNo.{FileNo}
 use Rattle.iofd_words.specs.declared.numbers.ObjId.{ObjId}
@@ -27,12 +27,12 @@ use Rattle.iofd_rows.proofs.ObjectPages.{has_page, in_pinned, is_listed, listed_
 use Rattle.iofd_rows.proofs.PageLists.{no_page, page_kept}
 use Rattle.iofd_rows.proofs.PinsFollow.{pin_is_of}
 use Rattle.iofd_rows.proofs.PageTables.{hwpt-with_object, hwpt_alike}
-use Rattle.iofd_runs.proofs.NotRefused.{attach_passed, passes}
+use Rattle.iofd_runs.proofs.NotRefused.{attach_passed}
 
 -- ---- what the refusals rule out
 
-attach_has_pages : (w : World) (device : DeviceNo) (ioas : ObjId) (object : Object) → refusal w (event.Attach device ioas) ≡ None → binding_of w.objects device ≡ Some object → lacks_attached_page (view w) object.file ioas ≡ false
-attach_has_pages w device ioas object none is = (attach_passed (view w) device ioas object is (passes w (event.Attach device ioas) none)).present
+attach_has_pages : (w : World) (device : DeviceNo) (ioas : ObjId) (object : Object) → first_true (attach_checks (view w) device ioas) ≡ None → binding_of w.objects device ≡ Some object → lacks_attached_page (view w) object.file ioas ≡ false
+attach_has_pages w device ioas object none is = (attach_passed (view w) device ioas object is none).present
 
 -- ---- the pages of an address space
 
@@ -110,7 +110,7 @@ made_present at w file ioas id width page p unused lacks new =
     there None is = cc
 
 -- the automatic page table, or one that is made
-pub attached_present : (at : ℕ) (w : World) (device : DeviceNo) (ioas id : ObjId) (object : Object) (width : Width) (automatic : Option Object) (page : ObjectPage) → ArePinned at w → refusal w (event.Attach device ioas) ≡ None → binding_of w.objects device ≡ Some object → IsNew w (with_hwpt object.file ioas id width automatic w.objects) page → is_some (frame_now w.memory w.user_pages page) ≡ true
+pub attached_present : (at : ℕ) (w : World) (device : DeviceNo) (ioas id : ObjId) (object : Object) (width : Width) (automatic : Option Object) (page : ObjectPage) → ArePinned at w → first_true (attach_checks (view w) device ioas) ≡ None → binding_of w.objects device ≡ Some object → IsNew w (with_hwpt object.file ioas id width automatic w.objects) page → is_some (frame_now w.memory w.user_pages page) ≡ true
 attached_present at w device ioas id object width (Some automatic) page p none is new = absurd (none_new w w.objects page (λ file space has. has) new)
 attached_present at w device ioas id object width None page p none is new = by_table (has_hwpt w.objects object.file ioas) refl
   where

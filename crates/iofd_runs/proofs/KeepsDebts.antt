@@ -4,10 +4,11 @@ use Rattle.iofd_words.specs.After.{changed, map_changes, attach_changes, target_
 use Rattle.iofd_words.specs.Answers.{Answers, IsHwptOf, IsTarget}
 use Rattle.iofd_words.specs.Areas.{is_touched}
 use Rattle.iofd_words.specs.Attachments.{attachment_of}
-use Rattle.iofd_words.specs.Checks.{refusal, is_used}
+use Rattle.iofd_words.specs.Checks.{attach_checks, destroy_checks, is_used, map_checks, refusal}
 use Rattle.iofd_rows.specs.Debts.{DebtsAttached}
 use Rattle.iofd_words.specs.Files.{user_of, device_of}
 use Rattle.iofd_rows.specs.Ids.{have_own_ids}
+use Rattle.iofd_words.specs.FirstTrue.{first_true}
 use Rattle.iofd_words.specs.Objects.{binding_of, has_ioas, kind_of}
 use Rattle.iofd_words.specs.Settings.{DeviceSettings}
 use Rattle.iofd_words.specs.Tables.{with_tables}
@@ -32,7 +33,7 @@ use Rattle.iofd_rows.proofs.Moves.{owed_area, owed_fewer, owed_flush, owed_leavi
 use Rattle.iofd_runs.proofs.ObjectsGo.{owed_closed, owed_destroyed}
 use Rattle.iofd_rows.proofs.Owed.{EachOwed, debts_attached, each_owed, space_of}
 use Rattle.iofd_runs.proofs.OwnIds.{keeps_own_ids, unused}
-use Rattle.iofd_runs.proofs.NotRefused.{AttachPassed, attach_passed, destroy_passed, map_passed, passes}
+use Rattle.iofd_runs.proofs.NotRefused.{AttachPassed, attach_passed, destroy_passed, map_passed}
 
 -- what holds of every world of a run
 pub record IsSound (w : World) : Type 0 where
@@ -44,18 +45,18 @@ IsOwed w = EachOwed w.objects w.attachments w.areas
 
 -- ---- what the refusals rule out
 
-map_has_space : (w : World) (file : FileNo) (request : MapRequest) → refusal w (event.Map file request) ≡ None → has_ioas w.objects file request.ioas ≡ true
-map_has_space w file request none = (map_passed (view w) file request (passes w (event.Map file request) none)).space
+map_has_space : (w : World) (file : FileNo) (request : MapRequest) → first_true (map_checks (view w) file request) ≡ None → has_ioas w.objects file request.ioas ≡ true
+map_has_space w file request none = (map_passed (view w) file request none).space
 
-destroy_unused : (w : World) (file : FileNo) (id : ObjId) → refusal w (event.Destroy file id) ≡ None → is_used (view w) file id (kind_of w.objects file id) ≡ false
-destroy_unused w file id none = (destroy_passed (view w) file id (passes w (event.Destroy file id) none)).unused
+destroy_unused : (w : World) (file : FileNo) (id : ObjId) → first_true (destroy_checks (view w) file id) ≡ None → is_used (view w) file id (kind_of w.objects file id) ≡ false
+destroy_unused w file id none = (destroy_passed (view w) file id none).unused
 
-attach_free : (w : World) (device : DeviceNo) (pt_id : ObjId) (object : Object) → binding_of w.objects device ≡ Some object → refusal w (event.Attach device pt_id) ≡ None → AttachPassed (view w) device pt_id object
-attach_free w device pt_id object is none = attach_passed (view w) device pt_id object is (passes w (event.Attach device pt_id) none)
+attach_free : (w : World) (device : DeviceNo) (pt_id : ObjId) (object : Object) → binding_of w.objects device ≡ Some object → first_true (attach_checks (view w) device pt_id) ≡ None → AttachPassed (view w) device pt_id object
+attach_free w device pt_id object is none = attach_passed (view w) device pt_id object is none
 
 -- ---- each event
 
-keeps_owed : (at : ℕ) (w : World) (e : Event) (answer : Reply) → refusal w e ≡ None → Answers w e answer → have_own_ids w.objects ≡ true → IsOwed w → IsOwed (changed at w e answer)
+keeps_owed : {A : Type 0} → (at : ℕ) (w : World) (e : Event A) (answer : Reply) → refusal w e ≡ None → Answers w e answer → have_own_ids w.objects ≡ true → IsOwed w → IsOwed (changed at w e answer)
 unfolding changed settle without_areas attached detached Answers
 keeps_owed at w (event.IoasAlloc file) (reply.Id id) none answers own each =
     owed_object w.objects w.attachments w.areas (record { file = file; id = id; kind = kind.Ioas }) (unused w.objects file id answers) (λ ioas is. cc) each
@@ -69,6 +70,7 @@ keeps_owed at w (event.Unmap file request) (reply.Pending errno) none answers ow
 keeps_owed at w (event.Destroy file id) reply.Done none answers own each = owed_destroyed w file id (destroy_unused w file id none) each
 keeps_owed at w (event.Close file) reply.Done none answers own each = owed_closed w.objects w.attachments w.areas file each
 keeps_owed at w (event.UserMap user va) (reply.Frame frame) none answers own each = each
+keeps_owed at w (event.AllowIovas file ioas ranges) reply.Done none answers own each = each
 keeps_owed at w (event.UserUnmap user va) reply.Done none answers own each = each
 keeps_owed at w (event.UserWrite user va bytes) reply.Done none answers own each = each
 keeps_owed at w (event.Bind file device) (reply.Id id) none answers own each =
@@ -92,7 +94,7 @@ keeps_owed at w (event.Flush device) reply.Done none answers own each = owed_flu
 keeps_owed at w (event.DeviceWrite device iova bytes) (reply.Passed frame) none answers own each = each
 keeps_owed at w e answer none answers own each = each
 
-pub keeps_sound : (at : ℕ) (w : World) (e : Event) (answer : Reply) → refusal w e ≡ None → Answers w e answer → IsSound w → IsSound (changed at w e answer)
+pub keeps_sound : {A : Type 0} → (at : ℕ) (w : World) (e : Event A) (answer : Reply) → refusal w e ≡ None → Answers w e answer → IsSound w → IsSound (changed at w e answer)
 keeps_sound at w e answer none answers sound = record {
   own_ids = keeps_own_ids at w e answer none answers sound.own_ids;
   debts = debts_attached (changed at w e answer) (keeps_owed at w e answer none answers sound.own_ids (each_owed w sound.debts));

@@ -5,9 +5,10 @@ use Rattle.std.proofs.lemmas.Bool.Decides.{nat_tests}
 use Rattle.iofd_words.specs.After.{changed, map_changes, attach_changes, target_changes, detach_changes, settle, without_areas, attached, detached, mapped_area}
 use Rattle.iofd_words.specs.Answers.{Answers, IsMappedAt}
 use Rattle.iofd_words.specs.Attachments.{attachment_of, with_attachment}
-use Rattle.iofd_words.specs.Checks.{refusal}
+use Rattle.iofd_words.specs.Checks.{attach_checks, map_checks, refusal}
 use Rattle.iofd_words.specs.Files.{user_of, device_of}
 use Rattle.iofd_runs.specs.Fits.{RowsFit, begins_at_page, devices_rise, is_of_pages}
+use Rattle.iofd_words.specs.FirstTrue.{first_true}
 use Rattle.iofd_words.specs.Frames.{frame_at, is_free}
 use Rattle.iofd_words.specs.Objects.{automatic_hwpt, binding_of, kind_of}
 use Rattle.iofd_words.specs.Pages.{is_above_user, page_of}
@@ -42,7 +43,7 @@ use Rattle.iofd_rows.proofs.Found.{all_filter, all_map, found_passes}
 use Rattle.iofd_rows.proofs.OwnMemory.{all-with_area}
 use Rattle.iofd_runs.proofs.Known.{alloc_open, attached_one, bind_device, bind_open, bound_known, is_known, known_closed, known_hwpt, known_one}
 use Rattle.iofd_runs.proofs.MappedAt.{lies_at}
-use Rattle.iofd_runs.proofs.NotRefused.{attach_passed, map_passed, passes}
+use Rattle.iofd_runs.proofs.NotRefused.{attach_passed, map_passed}
 
 -- ---- a span of a length has that many numbers
 
@@ -54,14 +55,14 @@ from_size first length some = let above : 0 < length = search (some, arith, nat_
 short_length : (va length : ℕ) → is_above_user va length ≡ false → length ≤ 2 ^ 48
 short_length va length is = search (is, arith, nat_tests)
 
-mapped_pages : (at : ℕ) (w : World) (file : FileNo) (request : MapRequest) (iova : Iova) → refusal w (event.Map file request) ≡ None → is_of_pages (mapped_area at file request iova) ≡ true
+mapped_pages : (at : ℕ) (w : World) (file : FileNo) (request : MapRequest) (iova : Iova) → first_true (map_checks (view w) file request) ≡ None → is_of_pages (mapped_area at file request iova) ≡ true
 mapped_pages at w file request iova none =
-    let passed = map_passed (view w) file request (passes w (event.Map file request) none) in
+    let passed = map_passed (view w) file request none in
     let size = from_size iova.0 request.length passed.some in
     let below : request.length ≤ 2 ^ 48 = short_length request.user_va request.length passed.in_user in
     rw size (both_true _ _ passed.whole (search (below, arith, nat_tests)))
 
-mapped_start : (at : ℕ) (w : World) (file : FileNo) (request : MapRequest) (iova : Iova) → IsMappedAt w file request (is_fixed request.flags) iova → refusal w (event.Map file request) ≡ None → begins_at_page (mapped_area at file request iova) ≡ true
+mapped_start : (at : ℕ) (w : World) (file : FileNo) (request : MapRequest) (iova : Iova) → IsMappedAt w file request (is_fixed request.flags) iova → first_true (map_checks (view w) file request) ≡ None → begins_at_page (mapped_area at file request iova) ≡ true
 mapped_start at w file request iova is none = (lies_at w file request iova none is).whole
 
 -- ---- one more attachment
@@ -107,8 +108,8 @@ rise-filter p (a ∷ attachments) rise =
     kept true first rest = both_true _ _ first rest
     kept false first rest = rest
 
-attach_free : (w : World) (device : DeviceNo) (object : Object) (ioas : ObjId) → binding_of w.objects device ≡ Some object → refusal w (event.Attach device ioas) ≡ None → is_some (attachment_of w.attachments device) ≡ false
-attach_free w device object ioas is none = (attach_passed (view w) device ioas object is (passes w (event.Attach device ioas) none)).unattached
+attach_free : (w : World) (device : DeviceNo) (object : Object) (ioas : ObjId) → binding_of w.objects device ≡ Some object → first_true (attach_checks (view w) device ioas) ≡ None → is_some (attachment_of w.attachments device) ≡ false
+attach_free w device object ioas is none = (attach_passed (view w) device ioas object is none).unattached
 
 -- ---- frames of the pool
 
@@ -158,7 +159,7 @@ free_below pool pages pins tables frame free = (and_true (ltb frame pool) _ free
 
 -- ---- each event
 
-pub keeps_fit : (at : ℕ) (w : World) (e : Event) (answer : Reply) → refusal w e ≡ None → Answers w e answer → RowsFit w → RowsFit (changed at w e answer)
+pub keeps_fit : {A : Type 0} → (at : ℕ) (w : World) (e : Event A) (answer : Reply) → refusal w e ≡ None → Answers w e answer → RowsFit w → RowsFit (changed at w e answer)
 unfolding changed settle without_areas attached detached Answers
 keeps_fit at w (event.IoasAlloc file) (reply.Id id) none answers fits = record { pages = fits.pages; starts = fits.starts; rise = fits.rise; user_frames = fits.user_frames; pin_frames = fits.pin_frames; known = known_one (is_known w.settings w.closed) (record { file = file; id = id; kind = kind.Ioas }) w.objects (both_true _ _ (alloc_open w file none) refl) fits.known; attached = fits.attached }
 keeps_fit at w (event.Map file request) (reply.Iova iova) none answers fits = mapped (user_of w.settings file)
@@ -180,6 +181,8 @@ keeps_fit at w (event.UserMap user va) (reply.Frame frame) none answers fits =
       known = fits.known;
       attached = fits.attached;
     }
+keeps_fit at w (event.AllowIovas file ioas ranges) reply.Done none answers fits =
+    record { pages = fits.pages; starts = fits.starts; rise = fits.rise; user_frames = fits.user_frames; pin_frames = fits.pin_frames; known = fits.known; attached = fits.attached }
 keeps_fit at w (event.UserUnmap user va) reply.Done none answers fits =
     record {
       pages = fits.pages;

@@ -23,7 +23,7 @@ use Rattle.iofd_rows.specs.Pinned.{ArePinned, have_own_memory}
 use Rattle.iofd_runs.proofs.KeepsPins.{keeps_pins, later_pinned, none_over, tabled_pinned}
 use Rattle.iofd_rows.proofs.OwnMemory.{own_memory-filter, own_memory-map, own_memory-with_area}
 
-pub keeps_own_memory : (at : ℕ) (w : World) (e : Event) (answer : Reply) → ArePinned at w → have_own_memory w.areas ≡ true → have_own_memory (changed at w e answer).areas ≡ true
+pub keeps_own_memory : {A : Type 0} → (at : ℕ) (w : World) (e : Event A) (answer : Reply) → ArePinned at w → have_own_memory w.areas ≡ true → have_own_memory (changed at w e answer).areas ≡ true
 unfolding changed settle without_areas attached detached
 keeps_own_memory at w (event.IoasAlloc file) (reply.Id id) p own = own
 keeps_own_memory at w (event.Map file request) (reply.Iova iova) p own = mapped (user_of w.settings file)
@@ -36,6 +36,7 @@ keeps_own_memory at w (event.Unmap file request) (reply.Pending errno) p own = o
 keeps_own_memory at w (event.Destroy file id) reply.Done p own = own_memory-filter _ w.areas own
 keeps_own_memory at w (event.Close file) reply.Done p own = own_memory-filter _ w.areas own
 keeps_own_memory at w (event.UserMap user va) (reply.Frame frame) p own = own
+keeps_own_memory at w (event.AllowIovas file ioas ranges) reply.Done p own = own
 keeps_own_memory at w (event.UserUnmap user va) reply.Done p own = own
 keeps_own_memory at w (event.UserWrite user va bytes) reply.Done p own = own
 keeps_own_memory at w (event.Bind file device) (reply.Id id) p own = own
@@ -70,5 +71,5 @@ tabled_own at w taken given p = record { pins = tabled_pinned at w taken given p
 pub later_own : (at : ℕ) (w : World) → OwnPins at w → OwnPins (at + 1) w
 later_own at w p = record { pins = later_pinned at w p.pins; own = p.own }
 
-pub keeps_own_pins : (at : ℕ) (w : World) (e : Event) (answer : Reply) → refusal w e ≡ None → Answers w e answer → OwnPins at w → OwnPins (at + 1) (changed at w e answer)
+pub keeps_own_pins : {A : Type 0} → (at : ℕ) (w : World) (e : Event A) (answer : Reply) → refusal w e ≡ None → Answers w e answer → OwnPins at w → OwnPins (at + 1) (changed at w e answer)
 keeps_own_pins at w e answer none answers p = record { pins = keeps_pins at w e answer none answers p.pins; own = keeps_own_memory at w e answer p.pins p.own }

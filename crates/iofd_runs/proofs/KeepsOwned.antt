@@ -78,7 +78,7 @@ fewer_owned settings q memory areas owned =
 
 -- ---- each event
 
-pub keeps_owned : (at : ℕ) (w : World) (e : Event) (answer : Reply) → ArePinned at w → AreasOwned w → AreasOwned (changed at w e answer)
+pub keeps_owned : {A : Type 0} → (at : ℕ) (w : World) (e : Event A) (answer : Reply) → ArePinned at w → AreasOwned w → AreasOwned (changed at w e answer)
 unfolding changed settle without_areas attached detached
 keeps_owned at w (event.IoasAlloc file) (reply.Id id) p o = record { owned = o.owned }
 keeps_owned at w (event.Map file request) (reply.Iova iova) p o = mapped (user_of w.settings file) refl
@@ -97,6 +97,7 @@ keeps_owned at w (event.Unmap file request) (reply.Pending errno) p o = record {
 keeps_owned at w (event.Destroy file id) reply.Done p o = record { owned = all_filter (is_over_own w.settings _) _ w.areas (fewer_owned w.settings _ w.memory w.areas o.owned) }
 keeps_owned at w (event.Close file) reply.Done p o = record { owned = all_filter (is_over_own w.settings _) _ w.areas (fewer_owned w.settings _ w.memory w.areas o.owned) }
 keeps_owned at w (event.UserMap user va) (reply.Frame frame) p o = record { owned = o.owned }
+keeps_owned at w (event.AllowIovas file ioas ranges) reply.Done p o = record { owned = o.owned }
 keeps_owned at w (event.UserUnmap user va) reply.Done p o = record { owned = o.owned }
 keeps_owned at w (event.UserWrite user va bytes) reply.Done p o = record { owned = o.owned }
 keeps_owned at w (event.Bind file device) (reply.Id id) p o = record { owned = o.owned }
@@ -131,7 +132,7 @@ tabled_owned at w taken given p = record { pins = tabled_pinned at w taken given
 pub later_owned : (at : ℕ) (w : World) → OwnedPins at w → OwnedPins (at + 1) w
 later_owned at w p = record { pins = later_pinned at w p.pins; areas = p.areas }
 
-pub keeps_owned_pins : (at : ℕ) (w : World) (e : Event) (answer : Reply) → refusal w e ≡ None → Answers w e answer → OwnedPins at w → OwnedPins (at + 1) (changed at w e answer)
+pub keeps_owned_pins : {A : Type 0} → (at : ℕ) (w : World) (e : Event A) (answer : Reply) → refusal w e ≡ None → Answers w e answer → OwnedPins at w → OwnedPins (at + 1) (changed at w e answer)
 keeps_owned_pins at w e answer none answers p = record { pins = keeps_pins at w e answer none answers p.pins; areas = keeps_owned at w e answer p.pins p.areas }
 
 pub opening_owned : (settings : Settings) → OwnedPins 0 (opening settings)

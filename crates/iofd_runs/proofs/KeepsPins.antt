@@ -6,11 +6,13 @@ use Rattle.std.specs.List.{filter, list_all, list_any}
 use Rattle.std.proofs.lemmas.Bool.Decides.{nat_tests}
 use Rattle.std.proofs.lemmas.List.Folds.{list_all-append, list_any-append}
 use Rattle.iofd_words.specs.After.{changed, map_changes, attach_changes, target_changes, detach_changes, settle, without_areas, attached, detached, goes_with, mapped_area, memory_object}
+use Rattle.iofd_words.specs.Allowed.{AllowedRanges}
 use Rattle.iofd_words.specs.Answers.{Answers}
 use Rattle.iofd_words.specs.Areas.{is_of, is_touched, paid, with_area, with_phase}
 use Rattle.iofd_words.specs.Attachments.{attachment_of, without_attachment}
-use Rattle.iofd_words.specs.Checks.{refusal}
+use Rattle.iofd_words.specs.Checks.{map_checks, refusal}
 use Rattle.iofd_words.specs.Files.{user_of, device_of}
+use Rattle.iofd_words.specs.FirstTrue.{first_true}
 use Rattle.iofd_words.specs.Frames.{FrameWrite}
 use Rattle.iofd_words.specs.Objects.{automatic_hwpt, binding_of, has_hwpt, is_object, kind_of, with_object, without_object}
 use Rattle.iofd_rows.specs.Pinned.{ArePinned, has_object, have_own_numbers}
@@ -19,7 +21,7 @@ use Rattle.iofd_words.specs.Settings.{DeviceSettings, Settings}
 use Rattle.iofd_words.specs.Span.{size_of, span_from}
 use Rattle.iofd_words.specs.Tables.{with_tables}
 use Rattle.iofd_words.specs.View.{view}
-use Rattle.iofd_words.specs.World.{AllowedRanges, World, opening}
+use Rattle.iofd_words.specs.World.{World, opening}
 use Rattle.iofd_words.specs.declared.event.Event.{Event}
 use Rattle.iofd_words.specs.declared.event.Event.TheVariants as event
 use Rattle.iofd_words.specs.declared.event.MapRequest.{MapRequest}
@@ -45,7 +47,7 @@ use Rattle.iofd_rows.proofs.Each.{IsIn, in_filter, of_all, of_any, of_each}
 use Rattle.iofd_rows.proofs.Found.{all_filter, all_map, all_weaker}
 use Rattle.iofd_rows.proofs.ListTests.{any-filter, any_weaker, false_else, none_stronger, or_right}
 use Rattle.iofd_runs.proofs.MappedPages.{mapped_present}
-use Rattle.iofd_runs.proofs.NotRefused.{MapPassed, map_passed, passes}
+use Rattle.iofd_runs.proofs.NotRefused.{MapPassed, map_passed}
 use Rattle.iofd_rows.proofs.ObjectPages.{in_pinned, is_listed, listed_fewer, pinned_differ, translated-map, translated_fewer}
 use Rattle.iofd_rows.proofs.OnePin.{settled_once}
 use Rattle.iofd_rows.proofs.OwnMemory.{all-with_area, areas-filter, areas-map, areas-with_area, have_areas}
@@ -194,7 +196,7 @@ none_over at (a ∷ areas) memory made sizes =
             let other : eqb m.number a.memory ≡ false = grind (arith, nat_tests) in
             rw (other, none rows parts.1 same) refl
 
-mapped_pinned : (at : ℕ) (w : World) (file : FileNo) (request : MapRequest) (iova : Iova) (user : UserNo) → refusal w (event.Map file request) ≡ None → user_of w.settings file ≡ Some user → ArePinned at w → ArePinned (at + 1) (map_changes at w file request iova (Some user))
+mapped_pinned : (at : ℕ) (w : World) (file : FileNo) (request : MapRequest) (iova : Iova) (user : UserNo) → first_true (map_checks (view w) file request) ≡ None → user_of w.settings file ≡ Some user → ArePinned at w → ArePinned (at + 1) (map_changes at w file request iova (Some user))
 mapped_pinned at w file request iova user none is p =
     let area = mapped_area at file request iova in
     let object = memory_object at user request in
@@ -215,7 +217,7 @@ mapped_pinned at w file request iova user none is p =
     eqb_same n = grind (arith, nat_tests)
 
     size : eqb (request.length / 4096 * 4096) (size_of (span_from iova.0 request.length)) ≡ true
-    size = whole_size request iova (map_passed (view w) file request (passes w (event.Map file request) none))
+    size = whole_size request iova (map_passed (view w) file request none)
       where
         whole_size : (request : MapRequest) (iova : Iova) → MapPassed (view w) file request → eqb (request.length / 4096 * 4096) (size_of (span_from iova.0 request.length)) ≡ true
         whole_size request iova passed =
@@ -288,7 +290,7 @@ moved_pinned at w phase left attachments present p =
 
 -- ---- each event
 
-pub keeps_pins : (at : ℕ) (w : World) (e : Event) (answer : Reply) → refusal w e ≡ None → Answers w e answer → ArePinned at w → ArePinned (at + 1) (changed at w e answer)
+pub keeps_pins : {A : Type 0} → (at : ℕ) (w : World) (e : Event A) (answer : Reply) → refusal w e ≡ None → Answers w e answer → ArePinned at w → ArePinned (at + 1) (changed at w e answer)
 unfolding changed without_areas attached detached Answers
 keeps_pins at w (event.IoasAlloc file) (reply.Id id) none answers p =
     let object : Object = record { file = file; id = id; kind = kind.Ioas } in
@@ -306,6 +308,9 @@ keeps_pins at w (event.Destroy file id) reply.Done none answers p =
 keeps_pins at w (event.Close file) reply.Done none answers p =
     gone_pinned at w (λ a. eqb a.file.0 file.0) _ _ _ _ (λ own ioas has. hwpt-filter (λ o. not (eqb o.file.0 file.0)) w.objects own ioas has) p
 keeps_pins at w (event.UserMap user va) (reply.Frame frame) none answers p = same_areas at w _ _ p
+keeps_pins at w (event.AllowIovas file ioas ranges) reply.Done none answers p =
+    let q = later_pinned at w p in
+    record { numbers = q.numbers; made = q.made; sizes = q.sizes; used = q.used; pinned = q.pinned; only = q.only; once = q.once }
 keeps_pins at w (event.UserUnmap user va) reply.Done none answers p = same_areas at w _ _ p
 keeps_pins at w (event.UserWrite user va bytes) reply.Done none answers p = same_areas at w w.user_pages _ p
 keeps_pins at w (event.Bind file device) (reply.Id id) none answers p =

@@ -5,14 +5,14 @@ use Rattle.std.proofs.lemmas.Bool.{eqb-true}
 use Rattle.std.proofs.lemmas.Bool.Decides.{nat_tests}
 use Rattle.iofd_words.specs.After.{with_hwpt}
 use Rattle.iofd_words.specs.Attachments.{with_attachment}
-use Rattle.iofd_words.specs.Checks.{refusal}
+use Rattle.iofd_words.specs.Checks.{bind_checks, ioas_alloc_checks}
 use Rattle.iofd_words.specs.Files.{is_device, is_open, numbered, user_of}
 use Rattle.iofd_runs.specs.Fits.{is_known_device}
+use Rattle.iofd_words.specs.FirstTrue.{first_true}
 use Rattle.iofd_words.specs.Objects.{binding_of, is_bound_as, with_object}
 use Rattle.iofd_words.specs.Settings.{Settings}
 use Rattle.iofd_words.specs.View.{view}
 use Rattle.iofd_words.specs.World.{World}
-use Rattle.iofd_words.specs.declared.event.Event.TheVariants as event
 use Rattle.iofd_words.specs.declared.numbers.DeviceNo.{DeviceNo}
 use Rattle.iofd_words.specs.declared.numbers.FileNo.{FileNo}
 use Rattle.iofd_words.specs.declared.numbers.ObjId.{ObjId}
@@ -23,7 +23,7 @@ use Rattle.iofd_words.specs.declared.rows.ObjectKind.TheVariants as kind
 use Rattle.iofd_words.specs.declared.width.Width.{Width}
 use Rattle.iofd_rows.proofs.Bools.{and_true, both_false, both_true, not_false, not_true}
 use Rattle.iofd_rows.proofs.Each.{in_filter, in_found, in_with_attachment, in_with_object, of_all, of_each, IsIn}
-use Rattle.iofd_runs.proofs.NotRefused.{alloc_passed, bind_passed, passes}
+use Rattle.iofd_runs.proofs.NotRefused.{alloc_passed, bind_passed}
 
 -- the object is of an open file, and a bound device is one of the settings
 abbrev pub is_known : Settings → List FileNo → Object → Bool
@@ -103,11 +103,11 @@ bound_known settings closed objects device object all is =
 
 -- ---- what the refusals rule out
 
-pub alloc_open : (w : World) (file : FileNo) → refusal w (event.IoasAlloc file) ≡ None → is_open w.settings w.closed file ≡ true
-alloc_open w file none = (alloc_passed (view w) file (passes w (event.IoasAlloc file) none)).opened
+pub alloc_open : (w : World) (file : FileNo) → first_true (ioas_alloc_checks (view w) file) ≡ None → is_open w.settings w.closed file ≡ true
+alloc_open w file none = (alloc_passed (view w) file none).opened
 
-pub bind_open : (w : World) (file : FileNo) (device : DeviceNo) → refusal w (event.Bind file device) ≡ None → is_open w.settings w.closed file ≡ true
-bind_open w file device none = (bind_passed (view w) file device (passes w (event.Bind file device) none)).opened
+pub bind_open : (w : World) (file : FileNo) (device : DeviceNo) → first_true (bind_checks (view w) file device) ≡ None → is_open w.settings w.closed file ≡ true
+bind_open w file device none = (bind_passed (view w) file device none).opened
 
-pub bind_device : (w : World) (file : FileNo) (device : DeviceNo) → refusal w (event.Bind file device) ≡ None → is_device w.settings device ≡ true
-bind_device w file device none = (bind_passed (view w) file device (passes w (event.Bind file device) none)).known
+pub bind_device : (w : World) (file : FileNo) (device : DeviceNo) → first_true (bind_checks (view w) file device) ≡ None → is_device w.settings device ≡ true
+bind_device w file device none = (bind_passed (view w) file device none).known

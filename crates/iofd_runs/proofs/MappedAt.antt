@@ -6,7 +6,8 @@ use Rattle.std.proofs.lemmas.Bool.{not-false}
 use Rattle.iofd_words.specs.Answers.{IsMappedAt}
 use Rattle.iofd_words.specs.Areas.{areas_meet}
 use Rattle.iofd_words.specs.Bounds.{Bounds}
-use Rattle.iofd_words.specs.Checks.{choices, may_choose, refusal, taken_spans, unusable_in}
+use Rattle.iofd_words.specs.Checks.{choices, map_checks, may_choose, taken_spans, unusable_in}
+use Rattle.iofd_words.specs.FirstTrue.{first_true}
 use Rattle.iofd_words.specs.Pages.{is_above_sum, is_whole}
 use Rattle.iofd_words.specs.Ranges.{meets_some}
 use Rattle.iofd_words.specs.Rights.{is_fixed}
@@ -15,13 +16,12 @@ use Rattle.iofd_words.specs.Span.{meets, span_from}
 use Rattle.iofd_words.specs.Usable.{occupied}
 use Rattle.iofd_words.specs.View.{View, view}
 use Rattle.iofd_words.specs.World.{World}
-use Rattle.iofd_words.specs.declared.event.Event.TheVariants as event
 use Rattle.iofd_words.specs.declared.event.MapRequest.{MapRequest}
 use Rattle.iofd_words.specs.declared.numbers.FileNo.{FileNo}
 use Rattle.iofd_words.specs.declared.numbers.Iova.{Iova}
 use Rattle.iofd_words.specs.declared.rows.Area.{Area}
 use Rattle.iofd_rows.proofs.Bools.{and_rest, and_true, not_true, or_false}
-use Rattle.iofd_runs.proofs.NotRefused.{MapPassed, map_passed, passes}
+use Rattle.iofd_runs.proofs.NotRefused.{MapPassed, map_passed}
 
 pub record LiesAt (v : View) (file : FileNo) (request : MapRequest) (iova : ℕ) : Type 0 where
   pub sum : is_above_sum iova request.length ≡ false
@@ -58,12 +58,12 @@ fixed_lies v file request is passed =
       apart = and_rest (is_fixed request.flags) _ is passed.apart;
     }
 
-pub lies_at : (w : World) (file : FileNo) (request : MapRequest) (iova : Iova) → refusal w (event.Map file request) ≡ None → IsMappedAt w file request (is_fixed request.flags) iova → LiesAt (view w) file request iova.0
+pub lies_at : (w : World) (file : FileNo) (request : MapRequest) (iova : Iova) → first_true (map_checks (view w) file request) ≡ None → IsMappedAt w file request (is_fixed request.flags) iova → LiesAt (view w) file request iova.0
 lies_at w file request iova none is =
     by_flag (is_fixed request.flags) refl is
   where
     by_flag : (b : Bool) → is_fixed request.flags ≡ b → IsMappedAt w file request b iova → LiesAt (view w) file request iova.0
     by_flag true fixed at =
-        let here = fixed_lies (view w) file request fixed (map_passed (view w) file request (passes w (event.Map file request) none)) in
+        let here = fixed_lies (view w) file request fixed (map_passed (view w) file request none) in
         subst (λ (i : Iova). LiesAt (view w) file request i.0) (sym at) here
     by_flag false fixed may = chosen_lies (view w) file request iova.0 may

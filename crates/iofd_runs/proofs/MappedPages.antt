@@ -4,8 +4,9 @@ use Rattle.std.specs.List.{find, list_all, list_any, range_with_len}
 use Rattle.std.proofs.lemmas.Bool.Decides.{nat_tests}
 use Rattle.std.proofs.lemmas.Bool.{eqb-false, eqb-true, not-false}
 use Rattle.iofd_words.specs.After.{mapped_area, memory_object}
-use Rattle.iofd_words.specs.Checks.{refusal, has_pages, lacks_mapped_page}
+use Rattle.iofd_words.specs.Checks.{has_pages, lacks_mapped_page, map_checks}
 use Rattle.iofd_words.specs.Files.{user_of}
+use Rattle.iofd_words.specs.FirstTrue.{first_true}
 use Rattle.iofd_words.specs.Frames.{frame_at}
 use Rattle.iofd_words.specs.Objects.{has_hwpt}
 use Rattle.iofd_words.specs.Pages.{page_of}
@@ -13,7 +14,6 @@ use Rattle.iofd_words.specs.Areas.{with_area}
 use Rattle.iofd_words.specs.Pins.{ObjectPage, frame_now, is_page, is_translated, pinned_pages}
 use Rattle.iofd_words.specs.View.{view}
 use Rattle.iofd_words.specs.World.{World}
-use Rattle.iofd_words.specs.declared.event.Event.TheVariants as event
 use Rattle.iofd_words.specs.declared.event.MapRequest.{MapRequest}
 use Rattle.iofd_words.specs.declared.numbers.FileNo.{FileNo}
 use Rattle.iofd_words.specs.declared.numbers.FrameNo.{FrameNo}
@@ -23,13 +23,13 @@ use Rattle.iofd_words.specs.declared.rows.Area.{Area}
 use Rattle.iofd_words.specs.declared.rows.MemoryObject.{MemoryObject}
 use Rattle.iofd_words.specs.declared.rows.UserPage.{UserPage}
 use Rattle.iofd_rows.proofs.Bools.{and_rest, and_true, or_none}
-use Rattle.iofd_runs.proofs.NotRefused.{map_passed, passes}
+use Rattle.iofd_runs.proofs.NotRefused.{map_passed}
 use Rattle.iofd_rows.proofs.ObjectPages.{has_page, in_pinned, is_listed, listed_is, listed_more, translated-with_area, untranslated}
 
 -- ---- what the refusals rule out
 
-map_has_pages : (w : World) (file : FileNo) (request : MapRequest) → refusal w (event.Map file request) ≡ None → lacks_mapped_page (view w) file request ≡ false
-map_has_pages w file request none = (map_passed (view w) file request (passes w (event.Map file request) none)).present
+map_has_pages : (w : World) (file : FileNo) (request : MapRequest) → first_true (map_checks (view w) file request) ≡ None → lacks_mapped_page (view w) file request ≡ false
+map_has_pages w file request none = (map_passed (view w) file request none).present
 
 present_for : (f : UserNo → Bool) (o : Option UserNo) (user : UserNo) → o ≡ Some user → elim o [ Some u ↦ not (f u) | None ↦ true ] ≡ false → f user ≡ true
 present_for f (Some u) user is present = let same : u ≡ user = cc in ap f (sym same) ∙ not-false (f u) present
@@ -81,7 +81,7 @@ not_listed at memory page made is = listed_is memory page ∙ none memory made
         rw (unlike, rest) refl
 
 -- each page that is to be pinned anew is there
-pub mapped_present : (at : ℕ) (w : World) (file : FileNo) (request : MapRequest) (iova : Iova) (user : UserNo) (page : ObjectPage) → refusal w (event.Map file request) ≡ None → user_of w.settings file ≡ Some user → list_all (λ (o : MemoryObject). ltb o.number at) w.memory ≡ true
+pub mapped_present : (at : ℕ) (w : World) (file : FileNo) (request : MapRequest) (iova : Iova) (user : UserNo) (page : ObjectPage) → first_true (map_checks (view w) file request) ≡ None → user_of w.settings file ≡ Some user → list_all (λ (o : MemoryObject). ltb o.number at) w.memory ≡ true
     → list_any (λ (a : Area). eqb a.memory at) w.areas ≡ false
     → list_any (is_page page) (pinned_pages w.objects (with_area (mapped_area at file request iova) w.areas) (w.memory ++ memory_object at user request ∷ []) w.access_pins) ≡ true
     → list_any (is_page page) (pinned_pages w.objects w.areas w.memory w.access_pins) ≡ false

@@ -2,18 +2,20 @@
 -- by a name of its own.
 use Rattle.std.proofs.Common.{◌≡◌, ℕ, ◌^◌, Bool, true, false, ◌&&◌, ◌||◌, not, eqb, leb, is_none, is_some, Option, Some, None, List, ◌∷◌, length, refl}
 use Rattle.std.specs.List.{list_any}
+use Rattle.iofd_words.specs.Allowed.{are_ranges}
 use Rattle.iofd_words.specs.Areas.{areas_meet, has_no_room, is_cut, is_everything, unmapped_span}
 use Rattle.iofd_words.specs.Attachments.{attachment_of}
-use Rattle.iofd_words.specs.Checks.{attach_checks, checks, is_device_object, is_interrupt, is_outside_usable, is_used, lacks_attached_page, lacks_choice, lacks_mapped_page, lacks_room_for_hwpt, narrows, overlaps, passes_limit_attached, passes_limit_mapped, refusal, target_checks, user_access_checks}
+use Rattle.iofd_words.specs.Bounds.{Bounds}
+use Rattle.iofd_words.specs.Checks.{allow_iovas_checks, attach_checks, bind_checks, bound_attach_checks, checks, close_checks, destroy_checks, detach_checks, device_write_checks, flush_checks, ioas_alloc_checks, is_device_object, is_interrupt, is_outside_usable, is_used, lacks_attached_page, lacks_choice, lacks_mapped_page, lacks_room_for_hwpt, map_checks, narrows, overlaps, passes_limit_attached, passes_limit_mapped, refusal, target_checks, unmap_checks, unusable_in, user_access_checks, user_map_checks, user_unmap_checks, user_write_checks}
 use Rattle.iofd_words.specs.Files.{device_of, is_device, is_user}
 use Rattle.iofd_words.specs.FirstTrue.{first_true}
 use Rattle.iofd_words.specs.Objects.{has_ioas, is_bound_device, is_full, kind_of, objects_of}
 use Rattle.iofd_words.specs.Pages.{crosses, is_above_sum, is_above_user, is_whole, page_of}
+use Rattle.iofd_words.specs.Ranges.{meets_some}
 use Rattle.iofd_words.specs.Rights.{is_fixed}
 use Rattle.iofd_words.specs.View.{View, view}
 use Rattle.iofd_words.specs.World.{World}
 use Rattle.iofd_words.specs.declared.event.Event.{Event}
-use Rattle.iofd_words.specs.declared.event.Event.TheVariants as event
 use Rattle.iofd_words.specs.declared.event.MapRequest.{MapRequest}
 use Rattle.iofd_words.specs.declared.event.UnmapRequest.{UnmapRequest}
 use Rattle.iofd_words.specs.declared.numbers.DeviceNo.{DeviceNo}
@@ -29,8 +31,7 @@ use Rattle.iofd_rows.proofs.Bools.{and_true, or_false}
 use Rattle.iofd_runs.proofs.Runs.{tests_false}
 
 -- nothing refuses the event in the world: no test of its table is true
-pub passes : (w : World) (e : Event) → refusal w e ≡ None → first_true (checks (view w) e) ≡ None
-unfolding refusal
+pub passes : {A : Type 0} → (w : World) (e : Event A) → refusal w e ≡ None → first_true (checks (view w) e) ≡ None
 passes w e none = none
 
 not_not : (b : Bool) → not b ≡ false → b ≡ true
@@ -43,9 +44,9 @@ pub record AllocPassed (v : View) (file : FileNo) : Type 0 where
   pub opened : v.is_open file ≡ true
   pub roomy : is_full v.objects file ≡ false
 
-pub alloc_passed : (v : View) (file : FileNo) → first_true (checks v (event.IoasAlloc file)) ≡ None → AllocPassed v file
-unfolding checks
-alloc_passed v file none = let rows = checks v (event.IoasAlloc file) in record { opened = not_not _ (tests_false rows 0 none); roomy = tests_false rows 1 none }
+pub alloc_passed : (v : View) (file : FileNo) → first_true (ioas_alloc_checks v file) ≡ None → AllocPassed v file
+unfolding ioas_alloc_checks
+alloc_passed v file none = let rows = ioas_alloc_checks v file in record { opened = not_not _ (tests_false rows 0 none); roomy = tests_false rows 1 none }
 
 pub record DestroyPassed (v : View) (file : FileNo) (id : ObjId) : Type 0 where
   pub opened : v.is_open file ≡ true
@@ -53,19 +54,33 @@ pub record DestroyPassed (v : View) (file : FileNo) (id : ObjId) : Type 0 where
   pub unused : is_used v file id (kind_of v.objects file id) ≡ false
   pub no_device : is_device_object (kind_of v.objects file id) ≡ false
 
-pub destroy_passed : (v : View) (file : FileNo) (id : ObjId) → first_true (checks v (event.Destroy file id)) ≡ None → DestroyPassed v file id
-unfolding checks
+pub destroy_passed : (v : View) (file : FileNo) (id : ObjId) → first_true (destroy_checks v file id) ≡ None → DestroyPassed v file id
+unfolding destroy_checks
 destroy_passed v file id none =
-    let rows = checks v (event.Destroy file id) in
+    let rows = destroy_checks v file id in
     record { opened = not_not _ (tests_false rows 0 none); there = tests_false rows 1 none; unused = tests_false rows 2 none; no_device = tests_false rows 3 none }
 
 pub record ClosePassed (v : View) (file : FileNo) : Type 0 where
   pub opened : v.is_open file ≡ true
   pub no_device : list_any (λ (o : Object). is_bound_device o.kind) (objects_of v.objects file) ≡ false
 
-pub close_passed : (v : View) (file : FileNo) → first_true (checks v (event.Close file)) ≡ None → ClosePassed v file
-unfolding checks
-close_passed v file none = let rows = checks v (event.Close file) in record { opened = not_not _ (tests_false rows 0 none); no_device = tests_false rows 1 none }
+pub close_passed : (v : View) (file : FileNo) → first_true (close_checks v file) ≡ None → ClosePassed v file
+unfolding close_checks
+close_passed v file none = let rows = close_checks v file in record { opened = not_not _ (tests_false rows 0 none); no_device = tests_false rows 1 none }
+
+-- ---- allowed ranges
+
+pub record AllowPassed (v : View) (file : FileNo) (ioas : ObjId) (ranges : List Bounds) : Type 0 where
+  pub opened : v.is_open file ≡ true
+  pub space : has_ioas v.objects file ioas ≡ true
+  pub good : are_ranges ranges ≡ true
+  pub usable : list_any (meets_some (unusable_in v file ioas)) ranges ≡ false
+
+pub allow_passed : (v : View) (file : FileNo) (ioas : ObjId) (ranges : List Bounds) → first_true (allow_iovas_checks v file ioas ranges) ≡ None → AllowPassed v file ioas ranges
+unfolding allow_iovas_checks
+allow_passed v file ioas ranges none =
+    let rows = allow_iovas_checks v file ioas ranges in
+    record { opened = not_not _ (tests_false rows 0 none); space = not_not _ (tests_false rows 1 none); good = not_not _ (tests_false rows 2 none); usable = tests_false rows 3 none }
 
 -- ---- areas
 
@@ -86,10 +101,10 @@ pub record MapPassed (v : View) (file : FileNo) (request : MapRequest) : Type 0 
   pub present : lacks_mapped_page v file request ≡ false
   pub within_limit : passes_limit_mapped v file request ≡ false
 
-pub map_passed : (v : View) (file : FileNo) (request : MapRequest) → first_true (checks v (event.Map file request)) ≡ None → MapPassed v file request
-unfolding checks
+pub map_passed : (v : View) (file : FileNo) (request : MapRequest) → first_true (map_checks v file request) ≡ None → MapPassed v file request
+unfolding map_checks
 map_passed v file request none =
-    let rows = checks v (event.Map file request) in
+    let rows = map_checks v file request in
     let sums = or_false (is_above_sum request.user_va request.length) (is_fixed request.flags && is_above_sum request.iova.0 request.length) (tests_false rows 2 none) in
     let aligned = or_false (eqb request.length 0) (not (is_whole request.length && is_whole request.user_va)) (tests_false rows 3 none) in
     let wholes = and_true (is_whole request.length) (is_whole request.user_va) (not_not _ aligned.1) in
@@ -120,10 +135,10 @@ pub record UnmapPassed (v : View) (file : FileNo) (request : UnmapRequest) : Typ
   pub touches : (not (is_everything request) && not (areas_meet (unmapped_span request) (v.areas_of file request.ioas))) ≡ false
   pub uncut : is_cut (unmapped_span request) (v.areas_of file request.ioas) ≡ false
 
-pub unmap_passed : (v : View) (file : FileNo) (request : UnmapRequest) → first_true (checks v (event.Unmap file request)) ≡ None → UnmapPassed v file request
-unfolding checks
+pub unmap_passed : (v : View) (file : FileNo) (request : UnmapRequest) → first_true (unmap_checks v file request) ≡ None → UnmapPassed v file request
+unfolding unmap_checks
 unmap_passed v file request none =
-    let rows = checks v (event.Unmap file request) in
+    let rows = unmap_checks v file request in
     record {
       opened = not_not _ (tests_false rows 0 none);
       sum = tests_false rows 1 none;
@@ -141,10 +156,10 @@ pub record UserMapPassed (v : View) (user : UserNo) (va : ℕ) : Type 0 where
   pub unmapped : is_some (v.frame_at user (page_of va)) ≡ false
   pub roomy : eqb v.free_count 0 ≡ false
 
-pub user_map_passed : (v : View) (user : UserNo) (va : ℕ) → first_true (checks v (event.UserMap user va)) ≡ None → UserMapPassed v user va
-unfolding checks
+pub user_map_passed : (v : View) (user : UserNo) (va : ℕ) → first_true (user_map_checks v user va) ≡ None → UserMapPassed v user va
+unfolding user_map_checks
 user_map_passed v user va none =
-    let rows = checks v (event.UserMap user va) in
+    let rows = user_map_checks v user va in
     record { known = not_not _ (tests_false rows 0 none); aligned = tests_false rows 1 none; unmapped = tests_false rows 2 none; roomy = tests_false rows 3 none }
 
 pub record UserUnmapPassed (v : View) (user : UserNo) (va : ℕ) : Type 0 where
@@ -152,10 +167,10 @@ pub record UserUnmapPassed (v : View) (user : UserNo) (va : ℕ) : Type 0 where
   pub aligned : (not (is_whole va) || leb (2 ^ 48) va) ≡ false
   pub mapped : is_none (v.frame_at user (page_of va)) ≡ false
 
-pub user_unmap_passed : (v : View) (user : UserNo) (va : ℕ) → first_true (checks v (event.UserUnmap user va)) ≡ None → UserUnmapPassed v user va
-unfolding checks
+pub user_unmap_passed : (v : View) (user : UserNo) (va : ℕ) → first_true (user_unmap_checks v user va) ≡ None → UserUnmapPassed v user va
+unfolding user_unmap_checks
 user_unmap_passed v user va none =
-    let rows = checks v (event.UserUnmap user va) in
+    let rows = user_unmap_checks v user va in
     record { known = not_not _ (tests_false rows 0 none); aligned = tests_false rows 1 none; mapped = tests_false rows 2 none }
 
 -- of an access to so many bytes of the user's own memory
@@ -169,8 +184,8 @@ user_access_passed v user va len none =
     let rows = user_access_checks v user va len in
     record { known = not_not _ (tests_false rows 0 none); short = tests_false rows 1 none; mapped = tests_false rows 2 none }
 
-pub user_write_passed : (v : View) (user : UserNo) (va : ℕ) (bytes : List ℕ) → first_true (checks v (event.UserWrite user va bytes)) ≡ None → UserAccessPassed v user va (length bytes)
-unfolding checks
+pub user_write_passed : (v : View) (user : UserNo) (va : ℕ) (bytes : List ℕ) → first_true (user_write_checks v user va bytes) ≡ None → UserAccessPassed v user va (length bytes)
+unfolding user_write_checks
 user_write_passed v user va bytes none = user_access_passed v user va (length bytes) none
 
 -- ---- devices
@@ -181,10 +196,10 @@ pub record BindPassed (v : View) (file : FileNo) (device : DeviceNo) : Type 0 wh
   pub unbound : is_some (v.binding_of device) ≡ false
   pub roomy : is_full v.objects file ≡ false
 
-pub bind_passed : (v : View) (file : FileNo) (device : DeviceNo) → first_true (checks v (event.Bind file device)) ≡ None → BindPassed v file device
-unfolding checks
+pub bind_passed : (v : View) (file : FileNo) (device : DeviceNo) → first_true (bind_checks v file device) ≡ None → BindPassed v file device
+unfolding bind_checks
 bind_passed v file device none =
-    let rows = checks v (event.Bind file device) in
+    let rows = bind_checks v file device in
     record { opened = not_not _ (tests_false rows 0 none); known = not_not _ (tests_false rows 1 none); unbound = tests_false rows 2 none; roomy = tests_false rows 3 none }
 
 -- of a device that is bound to the object's file
@@ -196,11 +211,11 @@ pub record AttachPassed (v : View) (device : DeviceNo) (pt_id : ObjId) (bound : 
   pub present : lacks_attached_page v bound.file pt_id ≡ false
   pub within_limit : passes_limit_attached v bound.file pt_id ≡ false
 
-pub attach_passed : (v : View) (device : DeviceNo) (pt_id : ObjId) (bound : Object) → v.binding_of device ≡ Some bound → first_true (checks v (event.Attach device pt_id)) ≡ None → AttachPassed v device pt_id bound
-unfolding checks
+pub attach_passed : (v : View) (device : DeviceNo) (pt_id : ObjId) (bound : Object) → v.binding_of device ≡ Some bound → first_true (attach_checks v device pt_id) ≡ None → AttachPassed v device pt_id bound
+unfolding attach_checks
 attach_passed v device pt_id bound is none =
-    let passed : first_true (attach_checks v device pt_id bound.file) ≡ None = rw (is, checks) at none in
-    let unattached = tests_false (attach_checks v device pt_id bound.file) 0 passed in
+    let passed : first_true (bound_attach_checks v device pt_id bound.file) ≡ None = rw (is, attach_checks) at none in
+    let unattached = tests_false (bound_attach_checks v device pt_id bound.file) 0 passed in
     by_kind (kind_of v.objects bound.file pt_id) refl unattached (others (is_some (attachment_of v.attachments device)) unattached passed)
   where
     others : (first : Bool) → first ≡ false → first_true ((cause.Bound, first) ∷ target_checks v device pt_id bound.file (kind_of v.objects bound.file pt_id)) ≡ None → first_true (target_checks v device pt_id bound.file (kind_of v.objects bound.file pt_id)) ≡ None
@@ -219,13 +234,13 @@ pub record DetachPassed (v : View) (device : DeviceNo) : Type 0 where
   pub bound : is_none (v.binding_of device) ≡ false
   pub attached : is_none (attachment_of v.attachments device) ≡ false
 
-pub detach_passed : (v : View) (device : DeviceNo) → first_true (checks v (event.Detach device)) ≡ None → DetachPassed v device
-unfolding checks
-detach_passed v device none = let rows = checks v (event.Detach device) in record { bound = tests_false rows 0 none; attached = tests_false rows 1 none }
+pub detach_passed : (v : View) (device : DeviceNo) → first_true (detach_checks v device) ≡ None → DetachPassed v device
+unfolding detach_checks
+detach_passed v device none = let rows = detach_checks v device in record { bound = tests_false rows 0 none; attached = tests_false rows 1 none }
 
-pub flush_passed : (v : View) (device : DeviceNo) → first_true (checks v (event.Flush device)) ≡ None → is_none (v.binding_of device) ≡ false
-unfolding checks
-flush_passed v device none = tests_false (checks v (event.Flush device)) 0 none
+pub flush_passed : (v : View) (device : DeviceNo) → first_true (flush_checks v device) ≡ None → is_none (v.binding_of device) ≡ false
+unfolding flush_checks
+flush_passed v device none = tests_false (flush_checks v device) 0 none
 
 -- of an access to so many bytes
 pub record AccessPassed (v : View) (device : DeviceNo) (iova : Iova) (len : ℕ) : Type 0 where
@@ -233,6 +248,6 @@ pub record AccessPassed (v : View) (device : DeviceNo) (iova : Iova) (len : ℕ)
   pub short : crosses iova.0 len ≡ false
   pub outside : is_interrupt (device_of v.settings device) iova.0 ≡ false
 
-pub write_passed : (v : View) (device : DeviceNo) (iova : Iova) (bytes : List ℕ) → first_true (checks v (event.DeviceWrite device iova bytes)) ≡ None → AccessPassed v device iova (length bytes)
-unfolding checks
-write_passed v device iova bytes none = let rows = checks v (event.DeviceWrite device iova bytes) in record { bound = tests_false rows 0 none; short = tests_false rows 1 none; outside = tests_false rows 2 none }
+pub write_passed : (v : View) (device : DeviceNo) (iova : Iova) (bytes : List ℕ) → first_true (device_write_checks v device iova bytes) ≡ None → AccessPassed v device iova (length bytes)
+unfolding device_write_checks
+write_passed v device iova bytes none = let rows = device_write_checks v device iova bytes in record { bound = tests_false rows 0 none; short = tests_false rows 1 none; outside = tests_false rows 2 none }

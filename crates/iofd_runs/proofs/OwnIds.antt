@@ -98,7 +98,7 @@ own_ids-with_hwpt : (w : World) (file : FileNo) (ioas id : ObjId) (width : Width
 own_ids-with_hwpt w file ioas id width (Some object) answers own = own
 own_ids-with_hwpt w file ioas id width None answers own = own_ids-with_object (record { file = file; id = id; kind = kind.Hwpt ioas width true }) w.objects (unused w.objects file id answers) own
 
-pub keeps_own_ids : (at : ℕ) (w : World) (e : Event) (answer : Reply) → refusal w e ≡ None → Answers w e answer → have_own_ids w.objects ≡ true → have_own_ids (changed at w e answer).objects ≡ true
+pub keeps_own_ids : {A : Type 0} → (at : ℕ) (w : World) (e : Event A) (answer : Reply) → refusal w e ≡ None → Answers w e answer → have_own_ids w.objects ≡ true → have_own_ids (changed at w e answer).objects ≡ true
 unfolding changed settle without_areas attached detached Answers
 keeps_own_ids at w (event.IoasAlloc file) (reply.Id id) none answers own =
     own_ids-with_object (record { file = file; id = id; kind = kind.Ioas }) w.objects (unused w.objects file id answers) own
@@ -112,6 +112,7 @@ keeps_own_ids at w (event.Unmap file request) (reply.Pending errno) none answers
 keeps_own_ids at w (event.Destroy file id) reply.Done none answers own = own_ids-filter _ w.objects own
 keeps_own_ids at w (event.Close file) reply.Done none answers own = own_ids-filter _ w.objects own
 keeps_own_ids at w (event.UserMap user va) (reply.Frame frame) none answers own = own
+keeps_own_ids at w (event.AllowIovas file ioas ranges) reply.Done none answers own = own
 keeps_own_ids at w (event.UserUnmap user va) reply.Done none answers own = own
 keeps_own_ids at w (event.UserWrite user va bytes) reply.Done none answers own = own
 keeps_own_ids at w (event.Bind file device) (reply.Id id) none answers own =

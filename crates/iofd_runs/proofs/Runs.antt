@@ -14,7 +14,7 @@ use Rattle.iofd_words.specs.declared.refusal.Cause.{Cause}
 use Rattle.iofd_words.specs.declared.reply.Reply.{Reply}
 
 -- a step that keeps P where nothing refuses keeps it, where P doesn't speak of the frames of tables
-module _ {A : Type 0} (P : World → Type 0) (tables : (w : World) (taken given : List FrameNo) → P w → P (with_tables taken given w)) (keeps : (at : ℕ) (w : World) (e : Event) (answer : Reply) → refusal w e ≡ None → Answers w e answer → P w → P (changed at w e answer)) where
+module _ {A : Type 0} (P : World → Type 0) (tables : (w : World) (taken given : List FrameNo) → P w → P (with_tables taken given w)) (keeps : (at : ℕ) (w : World) (e : Event A) (answer : Reply) → refusal w e ≡ None → Answers w e answer → P w → P (changed at w e answer)) where
   by_answer : (at : ℕ) (w : World) (r : Record A) (o : Option Cause) → refusal w r.event ≡ o → IsAnswer w r o → P w → P (after_answer at w r o)
   by_answer at w r (Some cause) is answers p = p
   by_answer at w r None is answers p = tables (changed at w r.event r.reply) r.taken r.given (keeps at w r.event r.reply is answers p)
@@ -28,7 +28,7 @@ module _ {A : Type 0} (P : World → Type 0) (tables : (w : World) (taken given 
   run_keeps at w (r ∷ rs) run p = run_keeps (at + 1) (after at w r) rs run.1 (after_keeps at w r run.0 p)
 
 -- a step that keeps P, which may speak of the position too, where nothing refuses keeps it
-module _ {A : Type 0} (P : ℕ → World → Type 0) (tables : (at : ℕ) (w : World) (taken given : List FrameNo) → P at w → P at (with_tables taken given w)) (later : (at : ℕ) (w : World) → P at w → P (at + 1) w) (keeps : (at : ℕ) (w : World) (e : Event) (answer : Reply) → refusal w e ≡ None → Answers w e answer → P at w → P (at + 1) (changed at w e answer)) where
+module _ {A : Type 0} (P : ℕ → World → Type 0) (tables : (at : ℕ) (w : World) (taken given : List FrameNo) → P at w → P at (with_tables taken given w)) (later : (at : ℕ) (w : World) → P at w → P (at + 1) w) (keeps : (at : ℕ) (w : World) (e : Event A) (answer : Reply) → refusal w e ≡ None → Answers w e answer → P at w → P (at + 1) (changed at w e answer)) where
   by_answer_at : (at : ℕ) (w : World) (r : Record A) (o : Option Cause) → refusal w r.event ≡ o → IsAnswer w r o → P at w → P (at + 1) (after_answer at w r o)
   by_answer_at at w r (Some cause) is answers p = later at w p
   by_answer_at at w r None is answers p = tables (at + 1) (changed at w r.event r.reply) r.taken r.given (keeps at w r.event r.reply is answers p)

@@ -20,7 +20,7 @@ use Rattle.iofd_words.specs.declared.rows.Object.{Object}
 use Rattle.iofd_words.specs.declared.rows.ObjectKind.{ObjectKind}
 use Rattle.iofd_words.specs.declared.rows.ObjectKind.TheVariants as kind
 
-pub changed_settings : (at : ℕ) (w : World) (e : Event) (answer : Reply) → (changed at w e answer).settings ≡ w.settings
+pub changed_settings : {A : Type 0} → (at : ℕ) (w : World) (e : Event A) (answer : Reply) → (changed at w e answer).settings ≡ w.settings
 unfolding changed settle without_areas attached detached
 changed_settings at w (event.IoasAlloc file) (reply.Id id) = refl
 changed_settings at w (event.Map file request) (reply.Iova iova) = mapped (user_of w.settings file)
@@ -33,6 +33,7 @@ changed_settings at w (event.Unmap file request) (reply.Pending errno) = refl
 changed_settings at w (event.Destroy file id) reply.Done = refl
 changed_settings at w (event.Close file) reply.Done = refl
 changed_settings at w (event.UserMap user va) (reply.Frame frame) = refl
+changed_settings at w (event.AllowIovas file ioas ranges) reply.Done = refl
 changed_settings at w (event.UserUnmap user va) reply.Done = refl
 changed_settings at w (event.UserWrite user va bytes) reply.Done = refl
 changed_settings at w (event.Bind file device) (reply.Id id) = refl
@@ -56,7 +57,7 @@ changed_settings at w (event.DeviceWrite device iova bytes) (reply.Passed frame)
 changed_settings at w e answer = refl
 
 -- for a run
-pub keeps_settings : (settings : Settings) (at : ℕ) (w : World) (e : Event) (answer : Reply) → refusal w e ≡ None → Answers w e answer → w.settings ≡ settings → (changed at w e answer).settings ≡ settings
+pub keeps_settings : {A : Type 0} → (settings : Settings) (at : ℕ) (w : World) (e : Event A) (answer : Reply) → refusal w e ≡ None → Answers w e answer → w.settings ≡ settings → (changed at w e answer).settings ≡ settings
 keeps_settings settings at w e answer none answers is = changed_settings at w e answer ∙ is
 
 pub tabled_settings : (settings : Settings) (w : World) (taken given : List FrameNo) → w.settings ≡ settings → (with_tables taken given w).settings ≡ settings

@@ -1,8 +1,10 @@
 -- The world after an event that nothing refused, by the answer that the record has.
 use Rattle.std.specs.Prelude.{ℕ, ◌/◌, Bool, true, ◌==◌, ◌&&◌, not, Option, Some, None, List, [], ◌∷◌, ◌++◌, filter}
 use Rattle.std.specs.List.{list_any}
+use Rattle.iofd_words.specs.Allowed.{with_allowed, without_allowed}
 use Rattle.iofd_words.specs.Areas.{is_of, is_touched, with_area, with_leaving, all_paid}
 use Rattle.iofd_words.specs.Attachments.{attachment_of, has_device_on, devices_of, with_attachment, without_attachment}
+use Rattle.iofd_words.specs.Bounds.{Bounds}
 use Rattle.iofd_words.specs.Files.{user_of, device_of}
 use Rattle.iofd_words.specs.Frames.{frame_at, with_write, without_frame, without_page}
 use Rattle.iofd_words.specs.Objects.{automatic_hwpt, binding_of, is_automatic, is_object, kind_of, with_object, without_object}
@@ -136,6 +138,10 @@ abbrev pub allocated : World → FileNo → Reply → World
 allocated w file (reply.Id id) = record w { objects = with_object (record { file = file; id = id; kind = kind.Ioas }) w.objects }
 allocated w file answer = w
 
+abbrev pub ranges_allowed : World → FileNo → ObjId → List Bounds → Reply → World
+ranges_allowed w file ioas ranges reply.Done = record w { allowed = with_allowed file ioas ranges w.allowed }
+ranges_allowed w file ioas ranges answer = w
+
 abbrev pub mapped : ℕ → World → FileNo → MapRequest → Reply → World
 mapped at w file request (reply.Iova iova) = map_changes at w file request iova (user_of w.settings file)
 mapped at w file request answer = w
@@ -150,7 +156,7 @@ abbrev pub destroyed : World → FileNo → ObjId → Reply → World
 destroyed w file id reply.Done =
     settle w (record (without_areas (is_of file id) w) {
       objects = without_object file id w.objects;
-      allowed = filter (λ ranges. not (ranges.file.0 == file.0 && ranges.ioas.0 == id.0)) w.allowed;
+      allowed = without_allowed file id w.allowed;
     })
 destroyed w file id answer = w
 
@@ -208,8 +214,9 @@ device_written w iova bytes (reply.Passed frame) =
 device_written w iova bytes answer = w
 
 -- the world after an event, at the record's position
-unfoldable pub changed : ℕ → World → Event → Reply → World
+unfoldable pub changed : {A : Type 0} → ℕ → World → Event A → Reply → World
 changed at w (event.IoasAlloc file) answer = allocated w file answer
+changed at w (event.AllowIovas file ioas ranges) answer = ranges_allowed w file ioas ranges answer
 changed at w (event.Map file request) answer = mapped at w file request answer
 changed at w (event.Unmap file request) answer = unmapped w file request answer
 changed at w (event.Destroy file id) answer = destroyed w file id answer

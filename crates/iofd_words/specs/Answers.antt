@@ -89,8 +89,9 @@ UnmapAnswers w file request answer = ⊥
 
 -- ---- the answers of each event
 
-unfoldable pub Answers : World → Event → Reply → Type 0
+unfoldable pub Answers : {A : Type 0} → World → Event A → Reply → Type 0
 Answers w (event.IoasAlloc file) answer = AnswersId (λ id. IsTrue (is_fresh w.objects file id)) answer
+Answers w (event.AllowIovas file ioas ranges) answer = AnswersDone answer
 Answers w (event.Map file request) answer = AnswersIova (IsMappedAt w file request (is_fixed request.flags)) answer
 Answers w (event.Unmap file request) answer = UnmapAnswers w file request answer
 Answers w (event.Destroy file id) answer = AnswersDone answer

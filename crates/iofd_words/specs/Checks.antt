@@ -2,6 +2,7 @@
 -- or unknown file comes before all.
 use Rattle.std.specs.Prelude.{ℕ, ◌+◌, ◌/◌, ◌^◌, Bool, true, false, ◌==◌, ◌&&◌, ◌||◌, not, nat_le, nat_lt, Option, Some, None, is_some, is_none, List, [], ◌∷◌, ◌++◌, filter, length, map}
 use Rattle.std.specs.List.{list_any, list_all, range_with_len}
+use Rattle.iofd_words.specs.Allowed.{are_ranges}
 use Rattle.iofd_words.specs.Areas.{areas_meet, has_no_room, is_cut, is_everything, unmapped_span}
 use Rattle.iofd_words.specs.Attachments.{attachment_of, has_device_on}
 use Rattle.iofd_words.specs.Files.{is_user, is_device, limit_of, user_of, device_of}
@@ -21,6 +22,7 @@ use Rattle.iofd_words.specs.World.{World}
 use Rattle.iofd_words.specs.declared.event.Event.{Event}
 use Rattle.iofd_words.specs.declared.event.Event.TheVariants as event
 use Rattle.iofd_words.specs.declared.event.MapRequest.{MapRequest}
+use Rattle.iofd_words.specs.declared.event.UnmapRequest.{UnmapRequest}
 use Rattle.iofd_words.specs.declared.numbers.DeviceNo.{DeviceNo}
 use Rattle.iofd_words.specs.declared.numbers.FileNo.{FileNo}
 use Rattle.iofd_words.specs.declared.numbers.FrameNo.{FrameNo}
@@ -169,17 +171,27 @@ target_checks v device pt_id file (Some (kind.Device bound)) = (cause.Id, true) 
 target_checks v device pt_id file None = (cause.Id, true) ∷ []
 
 -- those of Attach, of a device that is bound to the file
-abbrev pub attach_checks : View → DeviceNo → ObjId → FileNo → List (Cause × Bool)
-attach_checks v device pt_id file =
+abbrev pub bound_attach_checks : View → DeviceNo → ObjId → FileNo → List (Cause × Bool)
+bound_attach_checks v device pt_id file =
     (cause.Bound, is_some (attachment_of v.attachments device))
     ∷ target_checks v device pt_id file (kind_of v.objects file pt_id)
 
-unfoldable pub checks : View → Event → List (Cause × Bool)
-checks v (event.IoasAlloc file) =
+unfoldable pub ioas_alloc_checks : View → FileNo → List (Cause × Bool)
+ioas_alloc_checks v file =
     (cause.Id, not (v.is_open file))
     ∷ (cause.Full, is_full v.objects file)
     ∷ []
-checks v (event.Map file request) =
+
+unfoldable pub allow_iovas_checks : View → FileNo → ObjId → List Bounds → List (Cause × Bool)
+allow_iovas_checks v file ioas ranges =
+    (cause.Id, not (v.is_open file))
+    ∷ (cause.Id, not (has_ioas v.objects file ioas))
+    ∷ (cause.List, not (are_ranges ranges))
+    ∷ (cause.Narrow, list_any (meets_some (unusable_in v file ioas)) ranges)
+    ∷ []
+
+unfoldable pub map_checks : View → FileNo → MapRequest → List (Cause × Bool)
+map_checks v file request =
     (cause.Id, not (v.is_open file))
     ∷ (cause.NoRight, not (is_readable request.flags || is_writeable request.flags))
     ∷ (cause.Sum, is_above_sum request.user_va request.length || (is_fixed request.flags && is_above_sum request.iova.0 request.length))
@@ -193,7 +205,9 @@ checks v (event.Map file request) =
     ∷ (cause.Absent, lacks_mapped_page v file request)
     ∷ (cause.Account, passes_limit_mapped v file request)
     ∷ []
-checks v (event.Unmap file request) =
+
+unfoldable pub unmap_checks : View → FileNo → UnmapRequest → List (Cause × Bool)
+unmap_checks v file request =
     (cause.Id, not (v.is_open file))
     ∷ (cause.Sum, is_above_sum request.iova.0 request.length)
     ∷ (cause.Align, request.length == 0)
@@ -201,45 +215,82 @@ checks v (event.Unmap file request) =
     ∷ (cause.Span, not (is_everything request) && not (areas_meet (unmapped_span request) (v.areas_of file request.ioas)))
     ∷ (cause.Span, is_cut (unmapped_span request) (v.areas_of file request.ioas))
     ∷ []
-checks v (event.Destroy file id) =
+
+unfoldable pub destroy_checks : View → FileNo → ObjId → List (Cause × Bool)
+destroy_checks v file id =
     (cause.Id, not (v.is_open file))
     ∷ (cause.Id, is_none (kind_of v.objects file id))
     ∷ (cause.InUse, is_used v file id (kind_of v.objects file id))
     ∷ (cause.Bound, is_device_object (kind_of v.objects file id))
     ∷ []
-checks v (event.Close file) =
+
+unfoldable pub close_checks : View → FileNo → List (Cause × Bool)
+close_checks v file =
     (cause.Id, not (v.is_open file))
     ∷ (cause.InUse, list_any (λ object. is_bound_device object.kind) (objects_of v.objects file))
     ∷ []
-checks v (event.UserMap user va) =
+
+unfoldable pub user_map_checks : View → UserNo → ℕ → List (Cause × Bool)
+user_map_checks v user va =
     (cause.Id, not (is_user v.settings user))
     ∷ (cause.Align, not (is_whole va) || nat_le (2 ^ 48) va)
     ∷ (cause.Overlap, is_some (v.frame_at user (page_of va)))
     ∷ (cause.Frames, v.free_count == 0)
     ∷ []
-checks v (event.UserUnmap user va) =
+
+unfoldable pub user_unmap_checks : View → UserNo → ℕ → List (Cause × Bool)
+user_unmap_checks v user va =
     (cause.Id, not (is_user v.settings user))
     ∷ (cause.Align, not (is_whole va) || nat_le (2 ^ 48) va)
     ∷ (cause.Absent, is_none (v.frame_at user (page_of va)))
     ∷ []
-checks v (event.UserWrite user va bytes) = user_access_checks v user va (length bytes)
-checks v (event.Bind file device) =
+
+unfoldable pub user_write_checks : View → UserNo → ℕ → List ℕ → List (Cause × Bool)
+user_write_checks v user va bytes = user_access_checks v user va (length bytes)
+
+unfoldable pub bind_checks : View → FileNo → DeviceNo → List (Cause × Bool)
+bind_checks v file device =
     (cause.Id, not (v.is_open file))
     ∷ (cause.Id, not (is_device v.settings device))
     ∷ (cause.Bound, is_some (v.binding_of device))
     ∷ (cause.Full, is_full v.objects file)
     ∷ []
-checks v (event.Attach device pt_id) =
-    elim (v.binding_of device) [ None ↦ (cause.Id, true) ∷ [] | Some bound ↦ attach_checks v device pt_id bound.file ]
-checks v (event.Detach device) =
+
+unfoldable pub attach_checks : View → DeviceNo → ObjId → List (Cause × Bool)
+attach_checks v device pt_id =
+    elim (v.binding_of device) [ None ↦ (cause.Id, true) ∷ [] | Some bound ↦ bound_attach_checks v device pt_id bound.file ]
+
+unfoldable pub detach_checks : View → DeviceNo → List (Cause × Bool)
+detach_checks v device =
     (cause.Id, is_none (v.binding_of device))
     ∷ (cause.Unattached, is_none (attachment_of v.attachments device))
     ∷ []
-checks v (event.Flush device) =
+
+unfoldable pub flush_checks : View → DeviceNo → List (Cause × Bool)
+flush_checks v device =
     (cause.Id, is_none (v.binding_of device))
     ∷ []
-checks v (event.DeviceWrite device iova bytes) = access_checks v device iova (length bytes)
+
+unfoldable pub device_write_checks : View → DeviceNo → Iova → List ℕ → List (Cause × Bool)
+device_write_checks v device iova bytes = access_checks v device iova (length bytes)
+
+-- the refusals of each event
+abbrev pub checks : {A : Type 0} → View → Event A → List (Cause × Bool)
+checks v (event.IoasAlloc file) = ioas_alloc_checks v file
+checks v (event.AllowIovas file ioas ranges) = allow_iovas_checks v file ioas ranges
+checks v (event.Map file request) = map_checks v file request
+checks v (event.Unmap file request) = unmap_checks v file request
+checks v (event.Destroy file id) = destroy_checks v file id
+checks v (event.Close file) = close_checks v file
+checks v (event.UserMap user va) = user_map_checks v user va
+checks v (event.UserUnmap user va) = user_unmap_checks v user va
+checks v (event.UserWrite user va bytes) = user_write_checks v user va bytes
+checks v (event.Bind file device) = bind_checks v file device
+checks v (event.Attach device pt_id) = attach_checks v device pt_id
+checks v (event.Detach device) = detach_checks v device
+checks v (event.Flush device) = flush_checks v device
+checks v (event.DeviceWrite device iova bytes) = device_write_checks v device iova bytes
 
 -- the cause for which an event is refused, if any
-unfoldable pub refusal : World → Event → Option Cause
+abbrev pub refusal : {A : Type 0} → World → Event A → Option Cause
 refusal w event = first_true (checks (view w) event)

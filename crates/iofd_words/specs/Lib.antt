@@ -1,4 +1,5 @@
 pub mod After
+pub mod Allowed
 pub mod Answers
 pub mod Areas
 pub mod Attachments

@@ -1,19 +1,24 @@
 -- The answers to questions, which change nothing.
-use Rattle.std.specs.Prelude.{ℕ, Bool, not, Option, Some, None, List, [], ◌∷◌, map}
-use Rattle.iofd_words.specs.Checks.{access_checks, user_access_checks}
+use Rattle.std.specs.Prelude.{ℕ, ◌≡◌, ◌^◌, Bool, ◌&&◌, not, nat_lt, Option, Some, None, List, [], ◌∷◌, map}
+use Rattle.iofd_words.specs.Bounds.{Bounds}
+use Rattle.iofd_words.specs.Checks.{access_checks, unusable_in, user_access_checks}
 use Rattle.iofd_words.specs.FirstTrue.{first_true}
 use Rattle.iofd_words.specs.Frames.{bytes_at, frame_at, free_count}
 use Rattle.iofd_words.specs.Files.{is_user}
+use Rattle.iofd_words.specs.Objects.{has_ioas}
 use Rattle.iofd_words.specs.Pages.{offset_of, page_of}
 use Rattle.iofd_words.specs.Pins.{held_by, pinned_frame}
 use Rattle.iofd_words.specs.Policy.{Outcome, Passes, Denied, outcomes, fault_of}
+use Rattle.iofd_words.specs.Ranges.{AreMerged, in_spans}
 use Rattle.iofd_words.specs.Run.{world_of}
 use Rattle.iofd_words.specs.Settings.{Settings}
 use Rattle.iofd_words.specs.View.{View, view}
 use Rattle.iofd_words.specs.World.{World}
 use Rattle.iofd_words.specs.declared.fault.AccessKind.TheVariants.{Read}
 use Rattle.iofd_words.specs.declared.numbers.DeviceNo.{DeviceNo}
+use Rattle.iofd_words.specs.declared.numbers.FileNo.{FileNo}
 use Rattle.iofd_words.specs.declared.numbers.FrameNo.{FrameNo}
+use Rattle.iofd_words.specs.declared.numbers.ObjId.{ObjId}
 use Rattle.iofd_words.specs.declared.query.Answer.{Answer}
 use Rattle.iofd_words.specs.declared.query.Answer.TheVariants as answer
 use Rattle.iofd_words.specs.declared.query.Query.{Query}
@@ -28,6 +33,19 @@ query_checks v (DeviceRead device iova len) = access_checks v device iova len
 query_checks v (UserRead user va len) = user_access_checks v user va len
 query_checks v FreeFrames = []
 query_checks v (Held user) = (cause.Id, not (is_user v.settings user)) ∷ []
+
+-- those of the question for an address space's usable ranges
+abbrev pub ranges_checks : View → FileNo → ObjId → List (Cause × Bool)
+ranges_checks v file ioas =
+    (cause.Id, not (v.is_open file))
+    ∷ (cause.Id, not (has_ioas v.objects file ioas))
+    ∷ []
+
+-- the usable ranges of an address space: by rising start, no two of them overlap or adjoin, and they hold just the addresses that
+-- can be used
+pub record AreUsableRanges (v : View) (file : FileNo) (ioas : ObjId) (ranges : List Bounds) : Type 0 where
+  pub merged : AreMerged ranges
+  pub set : (n : ℕ) → in_spans ranges n ≡ (nat_lt n (2 ^ 64) && not (in_spans (unusable_in v file ioas) n))
 
 -- how the outcome of a read is told: the bytes of the frame where it passes
 abbrev pub read_answer : World → DeviceNo → ℕ → ℕ → Outcome → Answer

@@ -1,6 +1,7 @@
 -- What the refusals and the policy ask of a world. A server that keeps a world in a way of its own gives the same answers. What has
 -- no order in the subject (pins, users' pages, frames) is looked up, and never compared as a list.
 use Rattle.std.specs.Prelude.{ℕ, Bool, Option, List}
+use Rattle.iofd_words.specs.Allowed.{allowed_of}
 use Rattle.iofd_words.specs.Areas as area
 use Rattle.iofd_words.specs.Bounds.{Bounds}
 use Rattle.iofd_words.specs.Files as file
@@ -9,7 +10,7 @@ use Rattle.iofd_words.specs.Objects as object
 use Rattle.iofd_words.specs.Pins as pin
 use Rattle.iofd_words.specs.Pins.{ObjectPage}
 use Rattle.iofd_words.specs.Settings.{Settings}
-use Rattle.iofd_words.specs.World.{World, allowed_of}
+use Rattle.iofd_words.specs.World.{World}
 use Rattle.iofd_words.specs.declared.numbers.DeviceNo.{DeviceNo}
 use Rattle.iofd_words.specs.declared.numbers.FileNo.{FileNo}
 use Rattle.iofd_words.specs.declared.numbers.FrameNo.{FrameNo}

@@ -1,10 +1,9 @@
 -- The world: lists of rows, as the events have left them.
-use Rattle.std.specs.Prelude.{◌==◌, ◌&&◌, Some, None, List, [], find}
-use Rattle.iofd_words.specs.Bounds.{Bounds}
+use Rattle.std.specs.Prelude.{List, []}
+use Rattle.iofd_words.specs.Allowed.{AllowedRanges}
 use Rattle.iofd_words.specs.Frames.{FrameWrite}
 use Rattle.iofd_words.specs.Settings.{Settings}
 use Rattle.iofd_words.specs.declared.numbers.FileNo.{FileNo}
-use Rattle.iofd_words.specs.declared.numbers.ObjId.{ObjId}
 use Rattle.iofd_words.specs.declared.rows.AccessPin.{AccessPin}
 use Rattle.iofd_words.specs.declared.rows.Area.{Area}
 use Rattle.iofd_words.specs.declared.rows.Attachment.{Attachment}
@@ -13,17 +12,6 @@ use Rattle.iofd_words.specs.declared.rows.Object.{Object}
 use Rattle.iofd_words.specs.declared.rows.Pin.{Pin}
 use Rattle.iofd_words.specs.declared.rows.TableFrame.{TableFrame}
 use Rattle.iofd_words.specs.declared.rows.UserPage.{UserPage}
-
--- the ranges that are allowed to addresses which the server chooses in an address space
-pub record AllowedRanges : Type 0 where
-  pub file : FileNo
-  pub ioas : ObjId
-  pub spans : List Bounds
-
--- those of an address space; none, where it allows all addresses
-abbrev pub allowed_of : List AllowedRanges → FileNo → ObjId → List Bounds
-allowed_of rows file ioas =
-    elim (find (λ ranges. ranges.file.0 == file.0 && ranges.ioas.0 == ioas.0) rows) [ Some ranges ↦ ranges.spans | None ↦ [] ]
 
 pub record World : Type 0 where
   -- what it was opened with

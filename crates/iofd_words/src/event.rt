@@ -1,8 +1,14 @@
 //! The events that change the world, one for each command and step.
 
+ghost use Rattle.std.specs.Prelude.{◌≡◌, ◌<◌, IfOk, OnErr, length};
+ghost use Rattle.iofd_words.specs.Allowed.{ranges_of};
+
 use crate::burst::Burst;
 use crate::flags::MapFlags;
 use crate::numbers::{DeviceNo, FileNo, FrameNo, Iova, ObjId, UserNo};
+use crate::range::RangeList;
+use crate::refusal::NoMemory;
+use std::alloc::{Allocator, Global};
 
 /// What IOAS_MAP asks for (uapi header, `struct iommu_ioas_map`). Lengths and addresses are in bytes.
 #[derive(Clone, Copy, PartialEq, Eq, Debug)]
@@ -23,11 +29,13 @@ pub struct UnmapRequest {
     pub length: u64,
 }
 
-/// A step that is recorded.
-#[derive(Clone, Copy, PartialEq, Eq, Debug)]
-pub enum Event {
+/// A step that is recorded. One with a list owns it.
+#[derive(Debug, Drop)]
+pub enum Event<A: Allocator = Global> {
     /// IOAS_ALLOC: makes an I/O address space.
     IoasAlloc(FileNo),
+    /// IOAS_ALLOW_IOVAS: the ranges to which addresses that the server chooses are bounded, in place of those before.
+    AllowIovas(FileNo, ObjId, RangeList<A>),
     /// IOAS_MAP: maps user memory at an address.
     Map(FileNo, MapRequest),
     /// IOAS_UNMAP: takes areas away.
@@ -54,9 +62,37 @@ pub enum Event {
     DeviceWrite(DeviceNo, Iova, Burst),
 }
 
+impl<A: Allocator + Copy> Event<A> {
+    /// The same event, with its list in memory of this allocator. It fails only where memory does; an event without a
+    /// list, or with an empty one, needs none.
+    pub fn copied(&self, alloc: A) -> Result<Event<A>, NoMemory>
+        ensures ok { IfOk result (λ event. event ≡ self.now) }
+        ensures memory { OnErr result (0 < length (ranges_of self.now)) }
+    {
+        Ok(match self {
+            Event::IoasAlloc(file) => Event::IoasAlloc(*file),
+            Event::AllowIovas(file, ioas, ranges) => {
+                Event::AllowIovas(*file, *ioas, ranges.copied(alloc)?)
+            }
+            Event::Map(file, request) => Event::Map(*file, *request),
+            Event::Unmap(file, request) => Event::Unmap(*file, *request),
+            Event::Destroy(file, id) => Event::Destroy(*file, *id),
+            Event::Close(file) => Event::Close(*file),
+            Event::UserMap(user, va) => Event::UserMap(*user, *va),
+            Event::UserUnmap(user, va) => Event::UserUnmap(*user, *va),
+            Event::UserWrite(user, va, bytes) => Event::UserWrite(*user, *va, *bytes),
+            Event::Bind(file, device) => Event::Bind(*file, *device),
+            Event::Attach(device, pt_id) => Event::Attach(*device, *pt_id),
+            Event::Detach(device) => Event::Detach(*device),
+            Event::Flush(device) => Event::Flush(*device),
+            Event::DeviceWrite(device, iova, bytes) => Event::DeviceWrite(*device, *iova, *bytes),
+        })
+    }
+}
+
 /// An event to apply, and for a DeviceWrite the frame of a cached translation, if it comes from one.
-#[derive(Clone, Copy, PartialEq, Eq, Debug)]
-pub struct Act {
-    pub event: Event,
+#[derive(Debug, Drop)]
+pub struct Act<A: Allocator = Global> {
+    pub event: Event<A>,
     pub via: Option<FrameNo>,
 }

@@ -11,6 +11,7 @@ mod flags;
 mod lists;
 mod numbers;
 mod query;
+mod range;
 mod record;
 mod refusal;
 mod reply;
@@ -29,6 +30,7 @@ pub use numbers::{
     DeviceNo, FileNo, FrameNo, Iova, ObjId, PAGE_SIZE, PassNo, SourceId, USER_END, UserNo,
 };
 pub use query::{Answer, Query};
+pub use range::{IovaRange, RangeList};
 pub use record::Record;
 pub use refusal::{Cause, Errno, NoMemory, Refusal};
 pub use reply::Reply;

@@ -11,7 +11,7 @@ use std::alloc::{Allocator, Global};
 #[derive(Debug, Drop)]
 pub struct Record<A: Allocator = Global> {
     pub pass: PassNo,
-    pub event: Event,
+    pub event: Event<A>,
     pub reply: Reply,
     pub taken: FrameList<A>,
     pub given: FrameList<A>,

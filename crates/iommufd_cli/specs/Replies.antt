@@ -1,5 +1,5 @@
 -- The lines that a session answers to the steps of a script, in ASCII.
-use Rattle.std.specs.Prelude.{ℕ, false, List, ◌++◌, codes, decimal}
+use Rattle.std.specs.Prelude.{ℕ, false, nat_lt, Option, Some, None, List, length, ◌++◌, codes, decimal, if◌then◌else◌}
 use Rattle.std.specs.Int.{w16, to_be_bytes}
 use Rattle.std.specs.Fmt.{digits}
 use Rattle.hex.specs.Hex.{encode_lower}
@@ -12,8 +12,14 @@ use Rattle.iofd_words.specs.declared.reply.Reply.{Reply}
 use Rattle.iofd_words.specs.declared.reply.Reply.TheVariants as reply
 use Rattle.iofd_words.specs.declared.query.Answer.{Answer}
 use Rattle.iofd_words.specs.declared.query.Answer.TheVariants as answer
-use Rattle.ioctl_codec.specs.Spelling.{written_back}
+use Rattle.iofd_words.specs.Bounds.{Bounds}
+use Rattle.iofd_words.specs.declared.event.Event.{Event}
+use Rattle.iofd_words.specs.declared.event.Event.TheVariants as event
+use Rattle.iofd_words.specs.declared.refusal.Cause.TheVariants as cause
+use Rattle.ioctl_codec.specs.Spelling.{ranges_written_back, written_back}
 use Rattle.ioctl_codec.specs.declared.command.Command.{Command}
+use Rattle.ioctl_codec.specs.declared.command.Command.TheVariants as command
+use Rattle.ioctl_codec.specs.declared.command.RangesRequest.{RangesRequest}
 use Rattle.iommufd_cli.specs.Names.{cause_name, kind_name}
 
 -- a text as a line: a line feed ends it
@@ -57,11 +63,11 @@ reply_text (reply.Fault fault) = fault_text fault
 reply_text (reply.Refused refusal) = refusal_text refusal.cause
 
 -- errno 0, and in hex what is written back; it's nothing for a reply that the command never gets
-abbrev pub written_text : Command → Reply → List ℕ
+abbrev pub written_text : {A : Type 0} → Command A → Reply → List ℕ
 written_text command reply = codes "0 " ++ encode_lower (written_back command reply)
 
 -- an ioctl that was given this command
-abbrev pub ioctl_text : Command → Reply → List ℕ
+abbrev pub ioctl_text : {A : Type 0} → Command A → Reply → List ℕ
 ioctl_text command (reply.Pending errno) = pending_text errno
 ioctl_text command (reply.Refused refusal) = refusal_text refusal.cause
 ioctl_text command reply.Done = written_text command reply.Done
@@ -71,6 +77,35 @@ ioctl_text command (reply.Bytes count) = written_text command (reply.Bytes count
 ioctl_text command (reply.Frame frame) = written_text command (reply.Frame frame)
 ioctl_text command (reply.Passed frame) = written_text command (reply.Passed frame)
 ioctl_text command (reply.Fault fault) = written_text command (reply.Fault fault)
+
+-- the command whose event it is, if it is one's
+abbrev pub command_of : {A : Type 0} → Event A → Option (Command A)
+command_of (event.IoasAlloc file) = Some command.IoasAlloc
+command_of (event.AllowIovas file ioas ranges) = Some (command.IoasAllowIovas ioas ranges)
+command_of (event.Map file request) = Some (command.IoasMap request)
+command_of (event.Unmap file request) = Some (command.IoasUnmap request)
+command_of (event.Destroy file id) = Some (command.Destroy id)
+command_of (event.Close file) = None
+command_of (event.UserMap user va) = None
+command_of (event.UserUnmap user va) = None
+command_of (event.UserWrite user va bytes) = None
+command_of (event.Bind file device) = None
+command_of (event.Attach device pt_id) = None
+command_of (event.Detach device) = None
+command_of (event.Flush device) = None
+command_of (event.DeviceWrite device iova bytes) = None
+
+-- the reply to an event: a command's is told as an ioctl's
+abbrev pub event_text : {A : Type 0} → Event A → Reply → List ℕ
+event_text e r = elim (command_of e) [ None ↦ reply_text r | Some c ↦ ioctl_text c r ]
+
+-- what stands before the digits of so many usable ranges: errno 0, or that there are too few places
+abbrev pub places_text : RangesRequest → ℕ → List ℕ
+places_text request count = if nat_lt request.places count then refusal_text cause.Places ++ codes " " else codes "0 "
+
+-- the usable ranges of an address space
+abbrev pub ranges_text : RangesRequest → List Bounds → List ℕ
+ranges_text request ranges = places_text request (length ranges) ++ encode_lower (ranges_written_back request ranges)
 
 -- a look
 abbrev pub answer_text : Answer → List ℕ

@@ -1,13 +1,14 @@
 //! The lines that a session answers to the steps of a script.
 
-ghost use Rattle.std.specs.Prelude.{◌≡◌, ◌≤◌, ◌+◌, ◌*◌, ◌++◌, length, decimal};
+ghost use Rattle.std.specs.Prelude.{◌≡◌, ◌≤◌, ◌<◌, ◌^◌, ◌+◌, ◌*◌, ◌++◌, IfOk, codes, length, decimal};
 ghost use Rattle.hex.specs.Hex.{encode_lower};
-ghost use Rattle.iommufd_cli.specs.Replies.{line, refusal_text, pending_text, memory_text, no_memory_text, bad_line_text, fault_text, reply_text, written_text, ioctl_text, answer_text};
+ghost use Rattle.iommufd_cli.specs.Replies.{line, refusal_text, pending_text, memory_text, no_memory_text, bad_line_text, fault_text, reply_text, written_text, ioctl_text, answer_text, places_text, ranges_text};
 
 use crate::line::Line;
 use crate::names::{name_of_cause, name_of_kind};
-use ioctl_codec::{Command, encode_reply_to};
-use iofd_words::{Answer, Errno, Fault, Refusal, Reply};
+use ioctl_codec::{Command, RangesRequest, encode_ranges, encode_reply_to};
+use iofd_words::{Answer, Cause, Errno, Fault, NoMemory, Refusal, Reply, Span};
+use std::alloc::Allocator;
 
 /// The line for a reply to a step that is no ioctl: `ok`, `ok id N` and `ok frame N` in decimal, the
 /// errno and the cause of a refusal, the errno and `Pending`, or the fault. A line feed ends it.
@@ -27,7 +28,7 @@ pub fn reply_line(reply: &Reply) -> Line
 /// The line for a reply to an ioctl that was given this command: the errno and the cause of a refusal,
 /// the errno and `Pending`, and for any other reply `0` and in hex what is written back, at most 40
 /// bytes. A line feed ends it.
-pub fn ioctl_line(command: &Command, reply: &Reply) -> Line
+pub fn ioctl_line<A: Allocator>(command: &Command<A>, reply: &Reply) -> Line
     ensures { result ≡ line (ioctl_text command.now reply.now) }
 {
     match *reply {
@@ -35,6 +36,48 @@ pub fn ioctl_line(command: &Command, reply: &Reply) -> Line
         Reply::Refused(refusal) => refusal_line(refusal),
         _ => written_line(command, reply),
     }
+}
+
+/// The line for the usable ranges of an address space, which the request asks for: `0`, or `90 Places` where it has fewer
+/// places than there are ranges, and in hex what is written back. A line feed ends it. It fails only where memory does.
+pub fn ranges_line<A: Allocator + Copy>(
+    alloc: A,
+    request: RangesRequest,
+    ranges: &[Span],
+) -> Result<Vec<u8, A>, NoMemory>
+    requires { length ranges.now < 2 ^ 32 }
+    ensures { IfOk result (λ text. text.items ≡ line (ranges_text request ranges.now)) }
+{
+    let bytes = encode_ranges(alloc, request, ranges)?;
+    let digits = hex::encode(alloc, &bytes)?;
+    let mut text = Vec::from_slice(alloc, places_words(request, ranges.len()).as_slice())?;
+    text.extend_from_slice(digits.as_bytes())?;
+    text.extend_from_slice(b"\n")?;
+    Ok(text)
+}
+
+// What stands before the digits: `0`, or the refusal where there are too few places for so many ranges.
+fn places_words(request: RangesRequest, count: usize) -> Line
+    ensures { result ≡ places_text request count }
+{
+    if (request.places as usize) < count {
+        return spaced(refusal_words(Refusal {
+            cause: Cause::Places,
+        }));
+    }
+    let mut line = Line::new();
+    line.push_slice(b"0 ");
+    line
+}
+
+// The words and a space.
+fn spaced(words: Line) -> Line
+    requires { length words ≤ 190 }
+    ensures { result ≡ words ++ codes " " }
+{
+    let mut line = words;
+    line.push_slice(b" ");
+    line
 }
 
 /// The line for an answer to a look: the bytes in hex, the count in decimal, the fault, or the errno and
@@ -55,11 +98,19 @@ pub fn answer_line(answer: &Answer) -> Line
 pub fn refusal_line(refusal: Refusal) -> Line
     ensures { result ≡ line (refusal_text refusal.cause) }
 {
+    ended(refusal_words(refusal))
+}
+
+// The errno and the cause.
+fn refusal_words(refusal: Refusal) -> Line
+    ensures text { result ≡ refusal_text refusal.cause }
+    ensures most { length result ≤ 190 }
+{
     let mut line = Line::new();
     line.push_decimal(u64::from(refusal.errno().number()));
     line.push_slice(b" ");
     line.push_slice(name_of_cause(refusal.cause));
-    ended(line)
+    line
 }
 
 /// The line for a step that was refused for want of memory: `12 Memory`. A line feed ends it.
@@ -138,7 +189,7 @@ fn pending_line(errno: Errno) -> Line
 }
 
 // An ioctl whose errno is 0.
-fn written_line(command: &Command, reply: &Reply) -> Line
+fn written_line<A: Allocator>(command: &Command<A>, reply: &Reply) -> Line
     ensures { result ≡ line (written_text command.now reply.now) }
 {
     let mut buffer = [0; 64];

@@ -16,7 +16,7 @@ use Rattle.iofd_words.specs.declared.reply.Reply.{Reply}
 use Rattle.iofd_words.specs.declared.reply.Reply.TheVariants as reply
 use Rattle.server_state.specs.Step.{recorded}
 
-module _ (A : Type 0) (at : ℕ) (w : World) (pass : PassNo) (e : Event) where
+module _ (A : Type 0) (at : ℕ) (w : World) (pass : PassNo) (e : Event A) where
   pub refused_lawful : (cause : Cause) → refusal w e ≡ Some cause → Lawful w (recorded {A = A} pass e (reply.Refused (record { cause = cause })))
   unfolding Lawful
   refused_lawful cause is = (subst (IsAnswer w (recorded {A = A} pass e (reply.Refused (record { cause = cause })))) (sym is) refl, (refl, refl))

@@ -3,14 +3,9 @@ use Rattle.std.proofs.Common.{◌≡◌, ℕ, suc, Bool, true, false, ◌||◌, 
 use Rattle.std.specs.List.{list_any}
 use Rattle.std.proofs.lemmas.Bool.Decides.{nat_tests}
 use Rattle.iofd_rows.proofs.Bools.{and_true}
-use Rattle.iofd_words.specs.After.{changed, map_changes, attach_changes, target_changes, detach_changes, settle, without_areas, attached, detached}
-use Rattle.iofd_words.specs.Attachments.{attachment_of}
 use Rattle.iofd_words.specs.Checks.{refusal}
-use Rattle.iofd_words.specs.Files.{user_of, device_of}
-use Rattle.iofd_words.specs.Objects.{binding_of, kind_of}
 use Rattle.iofd_words.specs.Policy.{Outcome, Passes, Denied, outcomes}
 use Rattle.iofd_words.specs.Run.{Lawful, after, after_answer, world_of}
-use Rattle.iofd_words.specs.Settings.{DeviceSettings}
 use Rattle.iofd_words.specs.Tables.{with_tables}
 use Rattle.iofd_words.specs.World.{World}
 use Rattle.iofd_words.specs.declared.event.Event.{Event}
@@ -18,15 +13,10 @@ use Rattle.iofd_words.specs.declared.event.Event.TheVariants as event
 use Rattle.iofd_words.specs.declared.fault.AccessKind.TheVariants.{Write}
 use Rattle.iofd_words.specs.declared.numbers.FrameNo.{FrameNo}
 use Rattle.iofd_words.specs.declared.numbers.PassNo.{PassNo}
-use Rattle.iofd_words.specs.declared.numbers.UserNo.{UserNo}
 use Rattle.iofd_words.specs.declared.record.Record.{Record}
 use Rattle.iofd_words.specs.declared.refusal.Cause.{Cause}
 use Rattle.iofd_words.specs.declared.reply.Reply.{Reply}
-use Rattle.iofd_words.specs.declared.reply.Reply.TheVariants as reply
-use Rattle.iofd_words.specs.declared.rows.Attachment.{Attachment}
-use Rattle.iofd_words.specs.declared.rows.Object.{Object}
-use Rattle.iofd_words.specs.declared.rows.ObjectKind.{ObjectKind}
-use Rattle.iofd_words.specs.declared.rows.ObjectKind.TheVariants as kind
+use Rattle.iofd_runs.proofs.SameSettings.{changed_settings}
 use Rattle.iommufd_core.proofs.Histories.{run_more, tidy_run, world_more}
 use Rattle.server_state.specs.Choice.{IsChosen, MayUse}
 use Rattle.iommufd_core.specs.History.{History, may_apply, world}
@@ -38,41 +28,6 @@ use Rattle.server_state.specs.Step.{Answered, TidyShowsSame}
 use Rattle.server_state.specs.declared.state.State.{State}
 
 -- ---- no event changes what the core was opened with
-
-changed_settings : (at : ℕ) (w : World) (e : Event) (answer : Reply) → (changed at w e answer).settings ≡ w.settings
-unfolding changed settle without_areas attached detached
-changed_settings at w (event.IoasAlloc file) (reply.Id id) = refl
-changed_settings at w (event.Map file request) (reply.Iova iova) = mapped (user_of w.settings file)
-  where
-    mapped : (user : Option UserNo) → (map_changes at w file request iova user).settings ≡ w.settings
-    mapped None = refl
-    mapped (Some user) = refl
-changed_settings at w (event.Unmap file request) (reply.Bytes count) = refl
-changed_settings at w (event.Unmap file request) (reply.Pending errno) = refl
-changed_settings at w (event.Destroy file id) reply.Done = refl
-changed_settings at w (event.Close file) reply.Done = refl
-changed_settings at w (event.UserMap user va) (reply.Frame frame) = refl
-changed_settings at w (event.UserUnmap user va) reply.Done = refl
-changed_settings at w (event.UserWrite user va bytes) reply.Done = refl
-changed_settings at w (event.Bind file device) (reply.Id id) = refl
-changed_settings at w (event.Attach device pt_id) (reply.Id id) = bound (binding_of w.objects device) (device_of w.settings device)
-  where
-    bound : (object : Option Object) (settings : Option DeviceSettings) → (attach_changes w device pt_id id object settings).settings ≡ w.settings
-    bound None settings = refl
-    bound (Some object) None = refl
-    bound (Some object) (Some settings) = by_kind (kind_of w.objects object.file pt_id)
-      where
-        by_kind : (k : Option ObjectKind) → (target_changes w device pt_id id object settings k).settings ≡ w.settings
-        by_kind (Some kind.Ioas) = refl
-        by_kind k = refl
-changed_settings at w (event.Detach device) reply.Done = attached_or_not (attachment_of w.attachments device)
-  where
-    attached_or_not : (a : Option Attachment) → (detach_changes w device a).settings ≡ w.settings
-    attached_or_not None = refl
-    attached_or_not (Some a) = refl
-changed_settings at w (event.Flush device) reply.Done = refl
-changed_settings at w (event.DeviceWrite device iova bytes) (reply.Passed frame) = refl
-changed_settings at w e answer = refl
 
 after_settings : {A : Type 0} (at : ℕ) (w : World) (r : Record A) → (after at w r).settings ≡ w.settings
 unfolding after with_tables
@@ -93,7 +48,7 @@ pass_found frame (Passes at ∷ os) is = by_test (eqb at.0 frame.0) refl is (λ 
     by_test true same is later = let numbers : at.0 ≡ frame.0 = search (same, arith, nat_tests) in (0, omega arith, ap (λ n. Passes (record { 0 = n })) numbers)
     by_test false same is later = let rest = later is in (suc rest.0, omega (arith, rest.1), rest.2)
 
-pub may_use : {A : Type 0} (h : History A) (e : Event) (via : Option FrameNo) → may_apply h e via ≡ true → MayUse (world h) e via
+pub may_use : {A : Type 0} (h : History A) (e : Event A) (via : Option FrameNo) → may_apply h e via ≡ true → MayUse (world h) e via
 may_use h e None is = tt
 may_use h (event.DeviceWrite device iova bytes) (Some frame) is =
     pass_found frame (outcomes (world h) device iova.0 Write) (and_true (is_none _) (list_any (is_pass_at frame) (outcomes (world h) device iova.0 Write)) is).1
@@ -116,7 +71,7 @@ module _ {A : Type 0} (old new : State A) (records : List (Record A)) (kept : Is
         shows = subst (λ settings. Shows (world_of settings records) new) (sym config) (stays (world_of old.config records) (tidy_run old.config records kept.run) kept.shows);
       }
 
-  module _ (pass : PassNo) (e : Event) (via : Option FrameNo) (answer : Reply) (may : MayUse (world_of old.config records) e via) (answered : Answered (length records) e via old answer new) where
+  module _ (pass : PassNo) (e : Event A) (via : Option FrameNo) (answer : Reply) (may : MayUse (world_of old.config records) e via) (answered : Answered (length records) e via old answer new) where
     told : Lawful (world_of old.config records) (recorded {A = A} pass e answer) × (refusal (world_of old.config records) e ≡ None → IsChosen (world_of old.config records) e via answer)
         × Shows (after (length records) (world_of old.config records) (recorded {A = A} pass e answer)) new
     told = answered pass (world_of old.config records) (tidy_run old.config records kept.run) kept.shows (λ none. may)

@@ -36,7 +36,7 @@ module _ {A : Type 0} where
   world h = world_of h.settings h.records
 
   -- one more record, of this caller and event and with this reply; which table frames it took and gave back is as its steps allow
-  pub record HasOneMore (caller : PassNo) (e : Event) (answer : Reply) (old new : History A) : Type 0 where
+  pub record HasOneMore (caller : PassNo) (e : Event A) (answer : Reply) (old new : History A) : Type 0 where
     pub made : Record A
     pub records : new ≡ record old { records = old.records ++ made ∷ [] }
     pub pass : made.pass ≡ caller
@@ -44,7 +44,7 @@ module _ {A : Type 0} where
     pub reply : made.reply ≡ answer
 
   -- an act may be applied: it has no cached frame, or is a device's write that may pass at that frame
-  abbrev pub may_apply : History A → Event → Option FrameNo → Bool
+  abbrev pub may_apply : History A → Event A → Option FrameNo → Bool
   may_apply h e None = true
   may_apply h (event.DeviceWrite device iova bytes) (Some frame) = passes_in (world h) device iova (length bytes) Write frame
   may_apply h e (Some frame) = false

@@ -1,5 +1,6 @@
 -- What a core is seen as.
-use Rattle.std.specs.Prelude.{◌≡◌, ◌⊎◌, ℕ, Bool, true, false, None, IsTrue}
+use Rattle.std.specs.Prelude.{◌≡◌, ◌<◌, ◌⊎◌, ℕ, Bool, true, false, None, IsTrue, length}
+use Rattle.iofd_words.specs.Allowed.{ranges_of}
 use Rattle.iofd_words.specs.Checks.{refusal}
 use Rattle.iofd_words.specs.declared.event.Event.{Event}
 use Rattle.iofd_words.specs.declared.event.Event.TheVariants as event
@@ -11,8 +12,9 @@ pub record Server (A : Type 0) : Type 0 where
   pub room : ℕ
 
 -- the kinds of event that may take memory beside their record's: those by which something comes
-abbrev pub takes_memory : Event → Bool
+abbrev pub takes_memory : {A : Type 0} → Event A → Bool
 takes_memory (event.IoasAlloc file) = true
+takes_memory (event.AllowIovas file ioas ranges) = true
 takes_memory (event.Map file request) = true
 takes_memory (event.Unmap file request) = false
 takes_memory (event.Destroy file id) = false
@@ -26,7 +28,7 @@ takes_memory (event.Detach device) = false
 takes_memory (event.Flush device) = false
 takes_memory (event.DeviceWrite device iova bytes) = false
 
--- the only time at which memory may be wanting: there is no place for the record, or nothing refuses the event and it
--- is of a kind that may take memory
-abbrev pub MayWant : {A : Type 0} → Server A → Event → Type 0
-MayWant s e = (s.room ≡ 0) ⊎ ((refusal (world s.history) e ≡ None) × IsTrue (takes_memory e))
+-- the only time at which memory may be wanting: there is no place for the record, or for the list that the event carries, or nothing
+-- refuses the event and it is of a kind that may take memory
+abbrev pub MayWant : {A : Type 0} → Server A → Event A → Type 0
+MayWant s e = ((s.room ≡ 0) ⊎ (0 < length (ranges_of e))) ⊎ ((refusal (world s.history) e ≡ None) × IsTrue (takes_memory e))

@@ -1,19 +1,23 @@
 //! The core: a state, and the records of all steps that led to it.
 
-ghost use Rattle.std.specs.Prelude.{◌≡◌, [], IfOk, IsTrue, OnErr, length, None};
+ghost use Rattle.std.specs.Prelude.{◌≡◌, ◌<◌, ◌^◌, [], IfOk, IsTrue, OnErr, length, None};
 ghost use Rattle.iofd_words.specs.Checks as checks;
-ghost use Rattle.iofd_words.specs.Look.{answers_to};
+ghost use Rattle.iofd_words.specs.FirstTrue.{first_true};
+ghost use Rattle.iofd_words.specs.Look.{AreUsableRanges, answers_to, ranges_checks};
 ghost use Rattle.iofd_words.specs.Run.{IsRun};
 ghost use Rattle.server_state.specs.Choice.{IsChosen, IsLooked};
 ghost use Rattle.iommufd_core.specs.History.{HasOneMore, may_apply, passes_in, world};
+ghost use Rattle.iommufd_core.specs.Ranges.{refused_ranges};
 ghost use Rattle.iommufd_core.specs.Server.{MayWant};
+ghost use Rattle.iofd_words.specs.View.{view};
 
-use crate::{events, look, opening};
+use crate::{RangesError, events, look, opening, ranges};
 use device_events::access;
 use iofd_words::{
-    AccessKind, Act, Answer, Config, DeviceNo, FrameList, FrameNo, Iova, NoMemory, PassNo, Query,
-    Record, Reply,
+    AccessKind, Act, Answer, Config, DeviceNo, FileNo, FrameList, FrameNo, Iova, NoMemory, ObjId,
+    PassNo, Query, Record, Reply,
 };
+use iova_ranges::RangeSet;
 use server_state::State;
 use std::alloc::{Allocator, Global};
 use std::marker::Model;
@@ -65,7 +69,7 @@ impl<A: Allocator + Copy> Core<A> {
     /// a flush is owed, is denied; with one it passes there.
     ///
     /// NoMemory comes only where a growth was really refused, and leaves everything as it was.
-    pub fn apply(&mut self, pass: PassNo, act: &Act) -> Result<Stamp, NoMemory>
+    pub fn apply(&mut self, pass: PassNo, act: &Act<A>) -> Result<Stamp, NoMemory>
         requires { IsTrue (may_apply self.old.history act.now.event act.now.via) }
         ensures record { IfOk result (λ stamp. HasOneMore pass act.now.event stamp.reply self.old.history self.new.history) }
         ensures at { IfOk result (λ stamp. stamp.at ≡ length self.old.history.records) }
@@ -73,8 +77,8 @@ impl<A: Allocator + Copy> Core<A> {
         ensures chosen { IfOk result (λ stamp.
             checks.refusal (world self.old.history) act.now.event ≡ None → IsChosen (world self.old.history) act.now.event act.now.via stamp.reply) }
 
-        // Want of memory comes only where the record has no place, or to an event that nothing refuses and by which
-        // something comes. It changes nothing.
+        // Want of memory comes only where the record has no place, or the list that the event carries, or to an event that
+        // nothing refuses and by which something comes. It changes nothing.
         ensures memory { OnErr result (MayWant self.old act.now.event) }
         ensures unchanged { OnErr result (self.new.history ≡ self.old.history) }
     {
@@ -82,18 +86,35 @@ impl<A: Allocator + Copy> Core<A> {
         if self.records.reserve(1).is_err() {
             return Err(NoMemory);
         }
+        let alloc = self.state.alloc;
+        let Ok(event) = act.event.copied(alloc) else {
+            return Err(NoMemory);
+        };
         let Ok(reply) = events::answer(&mut self.state, at, act) else {
             return Err(NoMemory);
         };
-        let alloc = self.state.alloc;
         self.records.push_reserved(Record {
             pass,
-            event: act.event,
+            event,
             reply,
             taken: FrameList::new(Vec::new(alloc)),
             given: FrameList::new(Vec::new(alloc)),
         });
         Ok(Stamp { at, reply })
+    }
+
+    /// The usable ranges of the file's address space of this id, by rising start (uapi header,
+    /// `IOMMU_IOAS_IOVA_RANGES`): the addresses that each of its page tables translates and no device attached to it
+    /// keeps for itself, the allowed ones or not. The question changes nothing.
+    ///
+    /// Refused: Id (2, ENOENT), where the file isn't open or the id is no address space of it. It takes memory only for
+    /// the answer.
+    pub fn usable_ranges(&self, file: FileNo, ioas: ObjId) -> Result<RangeSet<A>, RangesError>
+        ensures refused { refused_ranges result ≡ first_true (ranges_checks (view (world self.now.history)) file ioas) }
+        ensures ranges { IfOk result (λ set. AreUsableRanges (view (world self.now.history)) file ioas set.spans) }
+        ensures few { IfOk result (λ set. length set.spans < 2 ^ 32) }
+    {
+        ranges::usable_ranges(&self.state, file, ioas)
     }
 }
 

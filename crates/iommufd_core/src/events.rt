@@ -10,7 +10,7 @@ ghost use Rattle.server_state.specs.Step.{Answered, ChosenSteps, IsCalled, IsGra
 use device_events::{attach, bind, detach, device_write, flush};
 use file_events::{close, destroy, ioas_alloc};
 use iofd_words::{Act, Cause, Event, NoMemory, Refusal, Reply};
-use memory_events::{map, unmap, user_map, user_unmap, user_write};
+use memory_events::{allow_iovas, map, unmap, user_map, user_unmap, user_write};
 use server_state::State;
 use std::alloc::Allocator;
 
@@ -19,7 +19,7 @@ use std::alloc::Allocator;
 pub(crate) fn answer<A: Allocator + Copy>(
     state: &mut State<A>,
     at: u64,
-    act: &Act,
+    act: &Act<A>,
 ) -> Result<Reply, NoMemory>
     requires { IsCalled at act.now.event act.now.via state.old }
     ensures ok { IfOk result (λ reply. Answered at act.now.event act.now.via state.old reply state.new) }
@@ -33,12 +33,15 @@ pub(crate) fn answer<A: Allocator + Copy>(
 }
 
 /// Why the event is refused, if it is. It takes no memory.
-fn refusal<A: Allocator>(state: &State<A>, event: &Event) -> Option<Cause>
+fn refusal<A: Allocator>(state: &State<A>, event: &Event<A>) -> Option<Cause>
     requires { IsKnown state.now }
     ensures { result ≡ first_true (checks (seen state.now) event.now) }
 {
     match event {
         Event::IoasAlloc(file) => ioas_alloc::refusal(state, *file),
+        Event::AllowIovas(file, ioas, ranges) => {
+            allow_iovas::refusal(state, *file, *ioas, ranges.as_slice())
+        }
         Event::Map(file, request) => map::refusal(state, *file, *request),
         Event::Unmap(file, request) => unmap::refusal(state, *file, *request),
         Event::Destroy(file, id) => destroy::refusal(state, *file, *id),
@@ -57,7 +60,11 @@ fn refusal<A: Allocator>(state: &State<A>, event: &Event) -> Option<Cause>
 }
 
 /// Carries out an event that nothing refuses, at this position. An error leaves the world as it was.
-fn commit<A: Allocator + Copy>(state: &mut State<A>, at: u64, act: &Act) -> Result<Reply, NoMemory>
+fn commit<A: Allocator + Copy>(
+    state: &mut State<A>,
+    at: u64,
+    act: &Act<A>,
+) -> Result<Reply, NoMemory>
     requires { IsGrantedFor at act.now.event act.now.via state.old }
     ensures ok { IfOk result (λ reply. ChosenSteps at act.now.event act.now.via state.old reply state.new) }
     ensures err { OnErr result (TidyShowsSame at state.old state.new) }
@@ -65,6 +72,9 @@ fn commit<A: Allocator + Copy>(state: &mut State<A>, at: u64, act: &Act) -> Resu
 {
     match &act.event {
         Event::IoasAlloc(file) => ioas_alloc::commit(state, *file),
+        Event::AllowIovas(file, ioas, ranges) => {
+            allow_iovas::commit(state, *file, *ioas, ranges)
+        }
         Event::Map(file, request) => map::commit(state, at, *file, *request),
         Event::Unmap(file, request) => Ok(unmap::commit(state, *file, *request)),
         Event::Destroy(file, id) => Ok(destroy::commit(state, *file, *id)),

@@ -5,5 +5,7 @@ mod apply;
 mod events;
 mod look;
 mod opening;
+mod ranges;
 
 pub use apply::{Core, Stamp};
+pub use ranges::RangesError;

@@ -6,6 +6,7 @@ ghost use Rattle.server_state.specs.Shows.{Shows};
 
 use frame_memory::Pool;
 use iofd_words::{Config, NoMemory};
+use iova_ranges::AllowedTable;
 use object_table::ObjectTable;
 use server_state::State;
 use std::alloc::Allocator;
@@ -25,6 +26,7 @@ pub(crate) fn opened<A: Allocator + Copy, B: Allocator>(
         alloc,
         config: config.copied(alloc)?,
         objects: ObjectTable::new(alloc, files)?,
+        allowed: AllowedTable::new(alloc),
         bindings: Vec::new(alloc),
         attachments: Vec::new(alloc),
         memory: UserMemory::new(alloc, config.users())?,

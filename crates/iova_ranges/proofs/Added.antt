@@ -7,8 +7,8 @@ use Rattle.std.proofs.lemmas.Bool.Decides.{nat_tests}
 use Rattle.std.specs.Prelude.{if◌then◌else◌}
 use Rattle.iofd_words.specs.Bounds.{Bounds}
 use Rattle.iofd_words.specs.Span.{holds}
-use Rattle.iova_ranges.specs.Ranges.{AreMergedFrom, AreMerged, touches_one}
-use Rattle.iofd_words.specs.Ranges.{in_spans}
+use Rattle.iofd_words.specs.Ranges.{AreMerged, AreMergedFrom, in_spans}
+use Rattle.iova_ranges.specs.Ranges.{touches_one}
 use Rattle.iova_ranges.specs.Adding.{is_clear_below, joined, joined_on}
 
 -- the span, joined with those that it meets or adjoins, in its place among the others

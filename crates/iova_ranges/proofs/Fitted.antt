@@ -3,8 +3,7 @@ use Rattle.std.proofs.Common.{◌≡◌, ℕ, zero, suc, ◌+◌, ◌%◌, ◌<�
 use Rattle.std.proofs.lemmas.Bool.{cases_lt}
 use Rattle.std.proofs.lemmas.Bool.Decides.{nat_tests}
 use Rattle.iofd_words.specs.Bounds.{Bounds}
-use Rattle.iova_ranges.specs.Ranges.{AreMergedFrom, AreMerged}
-use Rattle.iofd_words.specs.Ranges.{in_spans}
+use Rattle.iofd_words.specs.Ranges.{AreMerged, AreMergedFrom, in_spans}
 use Rattle.iofd_words.specs.Fits.{IsFit, StartsRiseFrom, StartsRise, whole_from}
 use Rattle.iova_ranges.specs.Search.{room_in, first_below}
 use Rattle.iova_ranges.proofs.Merged.{below-out, merged-lower}

@@ -3,8 +3,10 @@ pub mod Bounded
 pub mod Covering
 pub mod Errors
 pub mod Fitted
+pub mod LeftOut
 pub mod Merged
 pub mod Reaching
 pub mod Removed
 pub mod Rooms
 pub mod Same
+pub mod StartsFound

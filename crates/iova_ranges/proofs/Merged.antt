@@ -4,8 +4,7 @@ use Rattle.std.specs.List.{prefix_len, AllWithin}
 use Rattle.std.specs.List.Sorted.{IsNonDecreasingBy}
 use Rattle.std.proofs.lemmas.Bool.Decides.{nat_tests}
 use Rattle.iofd_words.specs.Bounds.{Bounds}
-use Rattle.iova_ranges.specs.Ranges.{AreMergedFrom}
-use Rattle.iofd_words.specs.Ranges.{in_spans}
+use Rattle.iofd_words.specs.Ranges.{AreMergedFrom, in_spans}
 
 pub begins-from : (low : ℕ) (xs : List Bounds) → AreMergedFrom low xs → (j : ℕ) (d : Bounds) → j < length xs → low ≤ (get_or xs j d).first
 begins-from low [] merged j d within = absurd (omega arith)

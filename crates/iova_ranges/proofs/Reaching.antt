@@ -10,8 +10,8 @@ use Rattle.std.proofs.lemmas.Option.{slice_get_past, slice_get_read}
 use denote.Ref.{Bor}
 use Rattle.iofd_words.specs.Bounds.{Bounds}
 use Rattle.iofd_words.specs.Span.{lies_in}
-use Rattle.iova_ranges.specs.Ranges.{AreMergedFrom, AreMerged, AllIn, lies_in_one}
-use Rattle.iofd_words.specs.Ranges.{in_spans}
+use Rattle.iofd_words.specs.Ranges.{AreMerged, AreMergedFrom, in_spans}
+use Rattle.iova_ranges.specs.Ranges.{AllIn, lies_in_one}
 use Rattle.iova_ranges.proofs.Merged.{below-out}
 
 -- what `get` answers, as a value

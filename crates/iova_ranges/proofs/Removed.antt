@@ -6,8 +6,8 @@ use Rattle.std.proofs.lemmas.Bool.Decides.{nat_tests}
 use Rattle.std.specs.Prelude.{nat_lt, if◌then◌else◌}
 use Rattle.iofd_words.specs.Bounds.{Bounds}
 use Rattle.iofd_words.specs.Span.{holds, lies_in}
-use Rattle.iova_ranges.specs.Ranges.{AreMergedFrom, AreMerged, splits_one}
-use Rattle.iofd_words.specs.Ranges.{in_spans}
+use Rattle.iofd_words.specs.Ranges.{AreMerged, AreMergedFrom, in_spans}
+use Rattle.iova_ranges.specs.Ranges.{splits_one}
 use Rattle.iova_ranges.specs.Removing.{trimmed, halves, HasAround}
 use Rattle.iova_ranges.proofs.Merged.{merged-lower}
 

@@ -8,9 +8,8 @@ use Rattle.std.proofs.lemmas.Bool.Decides.{nat_tests}
 use Rattle.iofd_words.specs.Bounds.{Bounds}
 use Rattle.iofd_words.specs.Span.{holds, meets, span_from}
 use Rattle.iova_ranges.specs.Ranges.{AllIn}
-use Rattle.iofd_words.specs.Ranges.{in_spans}
+use Rattle.iofd_words.specs.Ranges.{in_spans, meets_some}
 use Rattle.iofd_words.specs.Fits.{IsFit, whole_from}
-use Rattle.iofd_words.specs.Ranges.{meets_some}
 use Rattle.iofd_words.specs.Room.{AreOrdered, is_covered_by, fits, starts_to_try, has_fit}
 use Rattle.iova_ranges.proofs.Covering.{covered_by-all, all-covered_by}
 use Rattle.iova_ranges.proofs.Fitted.{whole_from-above, whole_from-whole, whole_from-least}

@@ -3,8 +3,7 @@ use Rattle.std.proofs.Common.{◌≡◌, ℕ, ◌+◌, ◌<◌, ◌≤◌, List,
 use Rattle.std.proofs.lemmas.Bool.{cases_lt}
 use Rattle.std.proofs.lemmas.Bool.Decides.{nat_tests}
 use Rattle.iofd_words.specs.Bounds.{Bounds}
-use Rattle.iova_ranges.specs.Ranges.{AreMergedFrom}
-use Rattle.iofd_words.specs.Ranges.{in_spans}
+use Rattle.iofd_words.specs.Ranges.{AreMergedFrom, in_spans}
 use Rattle.iova_ranges.proofs.Merged.{below-out}
 
 abbrev pub SameNumbers : List Bounds → List Bounds → Type 0

@@ -1,19 +1,9 @@
 -- Sets of numbers, told by spans.
-use Rattle.std.specs.Prelude.{ℕ, ◌+◌, ◌≤◌, ◌≡◌, Bool, true, ◌&&◌, nat_le, nat_lt, List, [], ◌∷◌}
+use Rattle.std.specs.Prelude.{ℕ, ◌+◌, ◌≤◌, ◌≡◌, Bool, true, ◌&&◌, nat_le, nat_lt, List}
 use Rattle.std.specs.List.{list_any}
 use Rattle.iofd_words.specs.Bounds.{Bounds}
 use Rattle.iofd_words.specs.Ranges.{in_spans}
 use Rattle.iofd_words.specs.Span.{lies_in}
-
--- no span begins below this number, and between each span and the next one a number is left out
-abbrev pub AreMergedFrom : ℕ → List Bounds → Type 0
-AreMergedFrom low [] = Unit {0}
-AreMergedFrom low (span ∷ spans) =
-    (low ≤ span.first) × (span.first ≤ span.last) × AreMergedFrom (span.last + 2) spans
-
--- by rising start, and no two overlap or adjoin
-abbrev pub AreMerged : List Bounds → Type 0
-AreMerged spans = AreMergedFrom 0 spans
 
 -- each number of the span is in the set
 abbrev pub AllIn : List Bounds → Bounds → Type 0

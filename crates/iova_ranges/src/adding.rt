@@ -3,8 +3,8 @@
 ghost use Rattle.std.specs.Prelude.{◌≡◌, ℕ, ◌||◌, not, ◌+◌, ◌<◌, ◌≤◌, ◌++◌, ◌∷◌, drop, take, length, IsTrue, OnOk, OnErr, vec_len, vec_capacity};
 ghost use Rattle.std.specs.List.{prefix_len};
 ghost use Rattle.iofd_words.specs.Span.{holds};
-ghost use Rattle.iova_ranges.specs.Ranges.{AreMerged, touches_one};
-ghost use Rattle.iofd_words.specs.Ranges.{in_spans};
+ghost use Rattle.iofd_words.specs.Ranges.{AreMerged, in_spans};
+ghost use Rattle.iova_ranges.specs.Ranges.{touches_one};
 ghost use Rattle.iova_ranges.specs.Adding.{is_clear_below, joined, joined_on};
 
 use crate::between::between;

@@ -2,8 +2,7 @@
 
 ghost use Rattle.std.specs.Prelude.{◌≡◌, ◌==◌, ◌<◌, ◌↔◌, ℕ, [], length, not, IsTrue, IfOk, OnOk, OnErr};
 ghost use Rattle.iova_ranges.specs.Allowed.{IsAllowed, is_allowed, is_allowed_number};
-ghost use Rattle.iova_ranges.specs.Ranges.{AreMerged};
-ghost use Rattle.iofd_words.specs.Ranges.{in_spans};
+ghost use Rattle.iofd_words.specs.Ranges.{AreMerged, in_spans};
 
 use crate::RangeSet;
 use crate::between::between;
@@ -21,7 +20,7 @@ pub struct Allowed<A: Allocator = Global> {
 impl<A: Allocator> Model for Allowed<A> {
     ghost use Rattle.std.specs.Prelude.{List};
     ghost use Rattle.iofd_words.specs.Bounds.{Bounds};
-    ghost use Rattle.iova_ranges.specs.Ranges.{AreMerged};
+    ghost use Rattle.iofd_words.specs.Ranges.{AreMerged};
 
     ghost Value = { List Bounds };
 

@@ -2,7 +2,7 @@
 
 ghost use Rattle.std.specs.Prelude.{◌≡◌, ◌↔◌, ℕ, ◌+◌, ◌≤◌, ◌^◌, drop, length, IsTrue, IfSome, IfNone};
 ghost use Rattle.iofd_words.specs.Fits.{StartsRise, IsFit, whole_from};
-ghost use Rattle.iova_ranges.specs.Ranges.{AreMerged};
+ghost use Rattle.iofd_words.specs.Ranges.{AreMerged};
 ghost use Rattle.iova_ranges.specs.Search.{first_below, room_in};
 
 use iofd_words::{PAGE_SIZE, Span};

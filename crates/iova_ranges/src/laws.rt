@@ -1,11 +1,11 @@
 //! Laws of the definitions, each the contract of a function that does nothing.
 
-ghost use Rattle.std.specs.Prelude.{◌≡◌, ◌↔◌, ℕ, ◌&&◌, true, false, not, IsTrue, List, [], ◌∷◌};
+ghost use Rattle.std.specs.Prelude.{◌≡◌, ◌↔◌, ℕ, ◌&&◌, true, false, not, nat_le, IsTrue, List, [], ◌∷◌};
+ghost use Rattle.std.specs.List.{list_any};
 ghost use Rattle.iofd_words.specs.Bounds.{Bounds};
 ghost use Rattle.iofd_words.specs.Fits.{IsFit};
-ghost use Rattle.iova_ranges.specs.Ranges.{AreMerged};
-ghost use Rattle.iofd_words.specs.Ranges.{in_spans};
-ghost use Rattle.iofd_words.specs.Room.{AreOrdered, fits, has_fit};
+ghost use Rattle.iofd_words.specs.Ranges.{AreMerged, in_spans};
+ghost use Rattle.iofd_words.specs.Room.{AreOrdered, fits, has_fit, starts_to_try};
 
 /// Sets of the same numbers are made up of the same spans.
 pub fn equal_sets_have_equal_spans()
@@ -24,6 +24,14 @@ pub fn fits_are_tested()
 pub fn room_is_found()
     ensures { (count : ℕ) (spans areas : List Bounds) → AreOrdered areas
         → IsTrue (has_fit count spans areas) ↔ ((start : ℕ) × IsFit count spans areas start) }
+{}
+
+/// Where so many addresses fit from a start on, they fit from one of the starts that are tried, at or below it. So the
+/// test of these few tells whether any start fits, and the least of them that fits is the least of all. The spans and
+/// areas may stand in any order and overlap.
+pub fn few_starts_suffice()
+    ensures { (count start : ℕ) (spans areas : List Bounds) → fits count spans areas start ≡ true
+        → list_any (λ tried. nat_le tried start && fits count spans areas tried) (starts_to_try spans areas) ≡ true }
 {}
 
 /// What fits hangs on the numbers that are in the set and in no area, and not on how they are told.

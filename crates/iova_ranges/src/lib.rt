@@ -4,8 +4,10 @@
 
 mod adding;
 mod allowed;
+mod allowed_ranges;
 mod between;
 mod fitting;
+mod gaps;
 pub mod laws;
 mod lookups;
 mod range_set;
@@ -13,6 +15,7 @@ mod removing;
 mod reserved;
 
 pub use allowed::Allowed;
+pub use allowed_ranges::{AllowedRow, AllowedTable};
 pub use fitting::starts_rise;
 pub use range_set::RangeSet;
 pub use reserved::{Reserved, ReservedSpan};

@@ -3,8 +3,8 @@
 ghost use Rattle.std.specs.Prelude.{◌≡◌, ◌↔◌, IsTrue, ◌≤◌, find, nat_lt, nat_le, length};
 ghost use Rattle.std.specs.List.{prefix_len};
 ghost use Rattle.std.specs.Option.{option_copied};
-ghost use Rattle.iova_ranges.specs.Ranges.{AreMerged, AllIn, lies_in_one};
-ghost use Rattle.iofd_words.specs.Ranges.{in_spans};
+ghost use Rattle.iofd_words.specs.Ranges.{AreMerged, in_spans};
+ghost use Rattle.iova_ranges.specs.Ranges.{AllIn, lies_in_one};
 
 use iofd_words::Span;
 

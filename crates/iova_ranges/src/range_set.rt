@@ -1,12 +1,13 @@
 //! The set of ranges.
 
-ghost use Rattle.std.specs.Prelude.{◌≡◌, ◌==◌, ◌↔◌, ◌||◌, ◌&&◌, not, ℕ, ◌+◌, ◌<◌, ◌≤◌, [], length, IsTrue, IfOk, IfSome, IfNone, OnOk, OnErr};
+ghost use Rattle.std.specs.Prelude.{◌≡◌, ◌==◌, ◌↔◌, ◌||◌, ◌&&◌, not, ℕ, ◌+◌, ◌<◌, ◌≤◌, [], length, IsTrue, IfOk, IfSome, IfNone, MatchOption, OnOk, OnErr};
 ghost use Rattle.iofd_words.specs.Span.{holds};
 ghost use Rattle.iofd_words.specs.Fits.{StartsRise, IsFit};
-ghost use Rattle.iova_ranges.specs.Ranges.{AreMerged, AllIn, lies_in_one, splits_one, touches_one};
-ghost use Rattle.iofd_words.specs.Ranges.{in_spans};
+ghost use Rattle.iofd_words.specs.Ranges.{AreMerged, in_spans};
+ghost use Rattle.iova_ranges.specs.Gaps.{IsGap};
+ghost use Rattle.iova_ranges.specs.Ranges.{AllIn, lies_in_one, splits_one, touches_one};
 
-use crate::{adding, fitting, lookups, removing};
+use crate::{adding, fitting, gaps, lookups, removing};
 use iofd_words::{Iova, NoMemory, Span};
 use std::alloc::{Allocator, Global};
 use std::marker::Model;
@@ -23,7 +24,7 @@ impl<A: Allocator> Model for RangeSet<A> {
     ghost use Rattle.std.specs.Prelude.{◌-◌};
     ghost use Rattle.std.specs.Vec.{vec_len, vec_capacity};
     ghost use Rattle.iova_ranges.specs.RangeTable.{RangeTable};
-    ghost use Rattle.iova_ranges.specs.Ranges.{AreMerged};
+    ghost use Rattle.iofd_words.specs.Ranges.{AreMerged};
 
     ghost Value = { RangeTable };
 
@@ -82,6 +83,14 @@ impl<A: Allocator> RangeSet<A> {
         ensures value { result ≡ lies_in_one self.now.spans span }
     {
         lookups::covers(&self.merged, span)
+    }
+
+    /// Numbers that aren't in the set, one of which lies in the span; None where each number of it is in the set. It
+    /// takes no memory.
+    pub fn gap_meeting(&self, span: Span) -> Option<Span>
+        ensures { MatchOption result (AllIn self.now.spans span) (IsGap self.now.spans span) }
+    {
+        gaps::gap_meeting(&self.merged, span)
     }
 
     /// The spans that make up the set, by rising start. Between each and the next one at least one number is left out.

@@ -2,8 +2,8 @@
 
 ghost use Rattle.std.specs.Prelude.{◌≡◌, ℕ, ◌&&◌, ◌+◌, ◌-◌, ◌<◌, ◌≤◌, ◌++◌, [], ◌∷◌, not, map, filter, take, drop, slice_index_or, IsTrue, OnOk, OnErr, vec_len, vec_capacity};
 ghost use Rattle.iofd_words.specs.Span.{holds, lies_in};
-ghost use Rattle.iova_ranges.specs.Ranges.{AreMerged, splits_one};
-ghost use Rattle.iofd_words.specs.Ranges.{in_spans};
+ghost use Rattle.iofd_words.specs.Ranges.{AreMerged, in_spans};
+ghost use Rattle.iova_ranges.specs.Ranges.{splits_one};
 ghost use Rattle.iova_ranges.specs.Removing.{trimmed, halves, HasAround};
 
 use crate::between::between;

@@ -1,29 +1,33 @@
 -- The search for the least address that may be chosen: it starts at 0, and goes behind what is in the way.
-use Rattle.std.proofs.Common.{◌≡◌, ℕ, ◌+◌, ◌-◌, ◌*◌, ◌/◌, ◌%◌, ◌^◌, ◌<◌, ◌≤◌, Bool, true, false, ◌&&◌, ◌||◌, not, eqb, leb, ltb, Option, Some, None, find, is_none, is_some, List, [], ◌∷◌, ◌++◌, map, MatchOption, refl, ap, sym, subst, ◌∙◌, ⊎_elim, arith}
+use Rattle.std.proofs.Common.{◌≡◌, ℕ, ◌+◌, ◌-◌, ◌%◌, ◌<◌, ◌≤◌, Bool, true, false, ◌&&◌, ◌||◌, not, leb, Option, Some, None, find, is_none, is_some, List, [], ◌∷◌, map, MatchOption, refl, ap, sym, ◌∙◌, ⊎_elim, arith}
 use Rattle.std.specs.List.{list_any}
 use Rattle.std.proofs.lemmas.Bool.Decides.{nat_tests}
-use Rattle.std.proofs.lemmas.Bool.{cases_lt}
+use Rattle.std.proofs.lemmas.Bool.{cases_Bool, cases_lt}
 use Rattle.std.proofs.lemmas.List.Folds.{list_any-append}
 use Rattle.area_map.proofs.Found.{meets_none, meets_some}
 use Rattle.area_map.specs.Areas.{AreKept}
 use Rattle.iofd_rows.proofs.Bools.{both_false, both_true, clash}
-use Rattle.iofd_rows.proofs.Each.{IsIn, in_found, of_any}
+use Rattle.iofd_rows.proofs.Each.{in_found, of_any}
 use Rattle.iofd_rows.proofs.ListTests.{false_else, or_left, or_right}
 use Rattle.iofd_words.specs.Areas.{areas_meet}
 use Rattle.iofd_words.specs.Bounds.{Bounds}
-use Rattle.iofd_words.specs.Checks.{choices, has_choice, may_choose, taken_spans, unusable_in}
+use Rattle.iofd_words.specs.Checks.{choices, has_choice, may_choose, taken_spans}
 use Rattle.iofd_words.specs.Fits.{whole_from}
 use Rattle.iofd_words.specs.Pages.{is_above_sum}
 use Rattle.iofd_words.specs.Ranges as ranges
 use Rattle.iofd_words.specs.Rights.{is_fixed}
 use Rattle.iofd_words.specs.Room.{fits, is_covered_by, starts_to_try}
 use Rattle.iofd_words.specs.Span.{meets, span_from}
-use Rattle.iofd_words.specs.Usable.{everything, occupied}
+use Rattle.iofd_words.specs.Usable.{occupied}
+use Rattle.iova_ranges.proofs.Covering.{all-covered_by, covered_by-all}
+use Rattle.iova_ranges.proofs.StartsFound.{start_found}
+use Rattle.iova_ranges.specs.Gaps.{IsGap}
+use Rattle.iova_ranges.specs.Ranges.{AllIn}
 use Rattle.iofd_words.specs.View.{View}
 use Rattle.iofd_words.specs.declared.event.MapRequest.{MapRequest}
 use Rattle.iofd_words.specs.declared.numbers.FileNo.{FileNo}
 use Rattle.iofd_words.specs.declared.rows.Area.{Area}
-use Rattle.memory_events.specs.Place.{IsLeastSpan, IsPlace, IsPlaceBy}
+use Rattle.memory_events.specs.Place.{IsClear, IsInTheWay, IsLeastSpan, IsPlace, IsPlaceBy}
 use Rattle.server_state.specs.Reach.{IsOneOf}
 
 -- ---- areas
@@ -69,81 +73,119 @@ module _ (v : View) (file : FileNo) (request : MapRequest) where
   abbrev taken : List Bounds
   taken = taken_spans v file request
 
-  -- no address below may be chosen, and the start is one of those that have nothing before them
+  -- no address below may be chosen, and the start is the first of a page
   pub record IsSearched (start : ℕ) : Type 0 where
     pub below : (x : ℕ) → x < start → may_choose v file request x ≡ false
     pub whole : start % 4096 ≡ 0
-    pub tried : (test : ℕ → Bool) → test start ≡ true → list_any test (starts_to_try (choices v file request) taken) ≡ true
 
-  parts : (x : ℕ) → may_choose v file request x ≡ true → (is_above_sum x request.length ≡ false) × (x % 4096 ≡ 0) × (ranges.meets_some taken (span_from x request.length) ≡ false)
-  parts x may =
-      let sum : is_above_sum x request.length ≡ false = grind (arith, nat_tests) in
-      let whole : x % 4096 ≡ 0 = grind (arith, nat_tests) in
-      let free : ranges.meets_some taken (span_from x request.length) ≡ false = grind (arith, nat_tests) in
-      (sum, whole, free)
+  -- what a choice is
+  record IsChoice (x : ℕ) : Type 0 where
+    sum : is_above_sum x request.length ≡ false
+    whole : x % 4096 ≡ 0
+    inside : is_covered_by (choices v file request) (span_from x request.length) ≡ true
+    free : ranges.meets_some taken (span_from x request.length) ≡ false
+
+  parts : (x : ℕ) → may_choose v file request x ≡ true → IsChoice x
+  parts x may = record { sum = grind (arith, nat_tests); whole = grind (arith, nat_tests); inside = grind (arith, nat_tests); free = grind (arith, nat_tests) }
+
+  -- what is taken and meets the span stands in its way
+  pub taken_in_the_way : (span one : Bounds) → 0 < request.length → span ≡ span_from span.first request.length → IsOneOf taken span one → IsInTheWay v file request span one
+  taken_in_the_way span one some from is =
+      let lasts : span.last ≡ span.first + request.length - 1 = ap (λ (s : Bounds). s.last) from in
+      let met = is.met in
+      record {
+        reaches = grind (arith, nat_tests);
+        none = λ x low high. false_else (may_choose v file request x) (λ may.
+            clash _ (parts x may).free (is.among (λ (o : Bounds). meets o (span_from x request.length)) (in_the_way x lasts low high)));
+      }
+    where
+      in_the_way : (x : ℕ) → span.last ≡ span.first + request.length - 1 → span.first ≤ x → x ≤ one.last → meets one (span_from x request.length) ≡ true
+      in_the_way x lasts low high = let met = is.met in grind (arith, nat_tests)
+
+  -- and so do addresses that aren't allowed
+  pub gap_in_the_way : (span gap : Bounds) → 0 < request.length → span ≡ span_from span.first request.length → IsGap (choices v file request) span gap → IsInTheWay v file request span gap
+  gap_in_the_way span gap some from is =
+      let lasts : span.last ≡ span.first + request.length - 1 = ap (λ (s : Bounds). s.last) from in
+      let met = is.met in
+      record {
+        reaches = grind (arith, nat_tests);
+        none = λ x low high. false_else (may_choose v file request x) (λ may.
+            let all = covered_by-all (choices v file request) (span_from x request.length) (parts x may).inside in
+            ⊎_elim
+            (λ (before : x < gap.first).
+            clash _ (is.out gap.first (omega arith) is.ordered) (all gap.first (omega (arith, before)) (ends x lasts low)))
+            (λ (inside : gap.first ≤ x). clash _ (is.out x inside high) (all x (omega arith) (omega (arith, some))))
+            (cases_lt x gap.first));
+      }
+    where
+      ends : (x : ℕ) → span.last ≡ span.first + request.length - 1 → span.first ≤ x → gap.first ≤ x + request.length - 1
+      ends x lasts low = let met = is.met in grind (arith, nat_tests)
 
   -- behind what is in the way
-  pub goes_on : (start : ℕ) (one : Bounds) → 0 < request.length → IsSearched start → IsOneOf taken (span_from start request.length) one → IsSearched (whole_from (one.last + 1))
-  goes_on start one some searched is =
-      record { below = below; whole = omega arith; tried = tried }
+  pub goes_on : (start : ℕ) (one : Bounds) → IsSearched start → IsInTheWay v file request (span_from start request.length) one → IsSearched (whole_from (one.last + 1))
+  goes_on start one searched is =
+      record { below = below; whole = omega arith }
     where
-      in_the_way : (x : ℕ) → start ≤ x → x ≤ one.last → meets one (span_from x request.length) ≡ true
-      in_the_way x from to = let met = is.met in grind (arith, nat_tests)
-
       below : (x : ℕ) → x < whole_from (one.last + 1) → may_choose v file request x ≡ false
       below x under =
           false_else (may_choose v file request x) (λ may.
-          let told = parts x may in
+          let told = (parts x may).whole in
           ⊎_elim
           (λ (before : x < start). clash _ (searched.below x before) may)
-          (λ (from : start ≤ x).
-          let to : x ≤ one.last = let whole = told.1 in omega arith in
-          clash _ told.2 (is.among (λ (o : Bounds). meets o (span_from x request.length)) (in_the_way x from to)))
+          (λ (from : start ≤ x). clash _ (is.none x from (omega (arith, told, under))) may)
           (cases_lt x start))
-
-      tried : (test : ℕ → Bool) → test (whole_from (one.last + 1)) ≡ true → list_any test (starts_to_try (choices v file request) taken) ≡ true
-      tried test passes =
-          list_any-append test (map (λ (s : Bounds). whole_from s.first) (choices v file request)) (map (λ (s : Bounds). whole_from (s.last + 1)) taken)
-          ∙ or_right (list_any test (map (λ (s : Bounds). whole_from s.first) (choices v file request))) _ (any-map taken ∙ is.among (λ (s : Bounds). test (whole_from (s.last + 1))) passes)
-        where
-          any-map : (spans : List Bounds) → list_any test (map (λ (s : Bounds). whole_from (s.last + 1)) spans) ≡ list_any (λ (s : Bounds). test (whole_from (s.last + 1))) spans
-          any-map [] = refl
-          any-map (s ∷ spans) = ap (λ b. test (whole_from (s.last + 1)) || b) (any-map spans)
 
   -- an address at which the span would end above all may not be chosen
   pub none_above : (start : ℕ) → IsSearched start → 18446744073709551616 < start + request.length → (x : ℕ) → may_choose v file request x ≡ false
   none_above start searched above x =
       false_else (may_choose v file request x) (λ may.
-      let told = parts x may in
+      let told = (parts x may).sum in
       ⊎_elim
       (λ (before : x < start). clash _ (searched.below x before) may)
-      (λ (from : start ≤ x). let sum = told.0 in absurd (grind (arith, nat_tests)))
+      (λ (from : start ≤ x). absurd (grind (arith, nat_tests)))
       (cases_lt x start))
 
-  module _ (unbounded : v.allowed_of file request.ioas ≡ []) where
-    pub begins : 0 < request.length → IsSearched 0
-    begins some =
-        record { below = λ x under. absurd (omega (arith, under)); whole = refl; tried = λ test passes. tried test passes }
-      where
-        tried : (test : ℕ → Bool) → test 0 ≡ true → list_any test (starts_to_try (choices v file request) taken) ≡ true
-        tried test passes = rw unbounded (or_left (test 0) _ passes)
+  pub begins : IsSearched 0
+  begins = record { below = λ x under. absurd (omega (arith, under)); whole = refl }
 
-    pub found : (start : ℕ) → 0 < request.length → start + request.length ≤ 18446744073709551616 → IsSearched start → ranges.meets_some taken (span_from start request.length) ≡ false → may_choose v file request start ≡ true
-    found start some high searched free =
-        let covered : is_covered_by (choices v file request) (span_from start request.length) ≡ true = rw unbounded (grind (arith, nat_tests)) in
-        let whole = searched.whole in
-        grind (arith, nat_tests)
+  pub found : (start : ℕ) → 0 < request.length → start + request.length ≤ 18446744073709551616 → IsSearched start → IsClear v file request (span_from start request.length) → may_choose v file request start ≡ true
+  found start some high searched clear =
+      let inside = clear.inside in
+      let free = clear.free in
+      let whole = searched.whole in
+      grind (arith, nat_tests)
 
-    pub is_least : (start : ℕ) → IsSearched start → (x : ℕ) → may_choose v file request x ≡ true → start ≤ x
-    is_least start searched x may =
-        ⊎_elim (λ (before : x < start). absurd (clash _ (searched.below x before) may)) (λ (from : start ≤ x). from) (cases_lt x start)
+  pub is_least : (start : ℕ) → IsSearched start → (x : ℕ) → may_choose v file request x ≡ true → start ≤ x
+  is_least start searched x may =
+      ⊎_elim (λ (before : x < start). absurd (clash _ (searched.below x before) may)) (λ (from : start ≤ x). from) (cases_lt x start)
+
+  -- where an address may be chosen, one of those that are tried may
+  pub is_there : (start : ℕ) → may_choose v file request start ≡ true → has_choice v file request ≡ true
+  is_there start may =
+      let sum = (parts start may).sum in
+      let fit : fits request.length (choices v file request) taken start ≡ true = grind (arith, nat_tests) in
+      weaker (starts_to_try (choices v file request) taken) sum (start_found request.length (choices v file request) taken start fit)
+    where
+      below : (s : ℕ) → is_above_sum start request.length ≡ false → (leb s start && fits request.length (choices v file request) taken s) ≡ true → may_choose v file request s ≡ true
+      below s sum is = grind (arith, nat_tests)
+
+      weaker : (starts : List ℕ) → is_above_sum start request.length ≡ false → list_any (λ s. leb s start && fits request.length (choices v file request) taken s) starts ≡ true → list_any (may_choose v file request) starts ≡ true
+      weaker [] sum some = some
+      weaker (s ∷ starts) sum some =
+          ⊎_elim
+          (λ (here : (leb s start && fits request.length (choices v file request) taken s) ≡ true). rw (below s sum here) refl)
+          (λ (other : (leb s start && fits request.length (choices v file request) taken s) ≡ false). or_right (may_choose v file request s) _ (weaker starts sum (rw other at some)))
+          (cases_Bool (leb s start && fits request.length (choices v file request) taken s))
 
   -- each step of the search goes on
-  pub rises : (start : ℕ) (one : Bounds) → IsOneOf taken (span_from start request.length) one → start < whole_from (one.last + 1)
-  rises start one is =
-      let met = is.met in
-      let to : start ≤ one.last = grind (arith, nat_tests) in
-      omega (arith, to)
+  pub rises : (start : ℕ) (one : Bounds) → IsInTheWay v file request (span_from start request.length) one → start < whole_from (one.last + 1)
+  rises start one is = let reaches = is.reaches in omega (arith, reaches)
+
+-- allowed and free, or behind a gap
+pub clear_or_gap : (v : View) (file : FileNo) (request : MapRequest) (span : Bounds) (o : Option Bounds) → 0 < request.length → span ≡ span_from span.first request.length → span.first ≤ span.last → ranges.meets_some (taken_spans v file request) span ≡ false
+    → MatchOption o (AllIn (choices v file request) span) (IsGap (choices v file request) span) → MatchOption o (IsClear v file request span) (IsInTheWay v file request span)
+clear_or_gap v file request span None some from ordered free all = record { inside = all-covered_by (choices v file request) span ordered all; free = free }
+clear_or_gap v file request span (Some gap) some from ordered free is = gap_in_the_way v file request span gap some from is
 
 pub fewer_left : (start next high : ℕ) → start < next → start < high → high - next < high - start
 fewer_left start next high above below = omega (arith, above, below)

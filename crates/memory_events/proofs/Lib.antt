@@ -1,8 +1,10 @@
 pub mod AreasFiltered
 pub mod AttachedDevices
 pub mod Chosen
+pub mod LeavingOut
 pub mod MapAsks
 pub mod MapMemory
 pub mod Mapped
+pub mod RangesAllowed
 pub mod Touched
 pub mod Unmapped

@@ -3,7 +3,6 @@ use Rattle.std.proofs.Common.{eqb, ◌≡◌, ℕ, ◌+◌, ◌*◌, ◌≤◌, 
 use Rattle.std.specs.List.{list_all}
 use Rattle.std.proofs.Math.Nat.{div-mul-le_self}
 use Rattle.std.proofs.lemmas.Bool.Decides.{nat_tests}
-use Rattle.iofd_rows.proofs.Bools.{and_true}
 use Rattle.iofd_runs.proofs.NotRefused.{MapPassed, map_passed}
 use Rattle.iofd_words.specs.Checks.{has_pages, passes_limit}
 use Rattle.iofd_words.specs.Files.{is_user, user_of}
@@ -26,7 +25,7 @@ use Rattle.server_state.proofs.Limits.{room_there}
 module _ {A : Type 0} where
   module _ (at : ℕ) (s : State A) (file : FileNo) (request : MapRequest) (user : UserNo) (granted : IsGrantedAt at (event.Map file request) s) (is_user_of : user_of s.config file ≡ Some user) where
     rows : MapPassed (seen s) file request
-    rows = map_passed (seen s) file request (same_refusal granted.world s granted.shows (event.Map file request) ∙ granted.none)
+    rows = map_passed (seen s) file request (same_refusal granted.world s granted.shows {E = A} (event.Map file request) ∙ granted.none)
 
     pub some_length : eqb request.length 0 ≡ false
     some_length = rows.some

@@ -8,9 +8,9 @@ use Rattle.std.specs.List.{count_by, list_any}
 use Rattle.iofd_rows.proofs.Bools.{both_false, clash, not_false}
 use Rattle.iofd_runs.proofs.KeepsOwnMemory.{OwnPins, keeps_own_pins}
 use Rattle.iofd_runs.proofs.MappedAt.{LiesAt, lies_at}
-use Rattle.iofd_runs.proofs.NotRefused.{map_passed, passes}
+use Rattle.iofd_runs.proofs.NotRefused.{map_passed}
 use Rattle.iofd_words.specs.Bounds.{Bounds}
-use Rattle.iofd_words.specs.Checks.{checks, choices, has_choice, may_choose, refusal, taken_spans}
+use Rattle.iofd_words.specs.Checks.{choices, has_choice, map_checks, may_choose, taken_spans}
 use Rattle.iofd_words.specs.After.{changed, mapped_area, settle, map_changes}
 use Rattle.iofd_words.specs.Areas.{is_of}
 use Rattle.iofd_words.specs.Areas as world
@@ -146,34 +146,34 @@ module _ {A : Type 0} where
           frames = frames_follow w.settings.pool w.writes w.table_frames s.memory after s.pool pool shows.frames settles.holds settles.bytes;
         }
 
-    pub shows_mapped : IsTidy at w → Shows w s → refusal w (event.Map file request) ≡ None → IsMappedAt w file request (is_fixed request.flags) iova → user_of s.config file ≡ Some user
+    pub shows_mapped : IsTidy at w → Shows w s → first_true (map_checks (view w) file request) ≡ None → IsMappedAt w file request (is_fixed request.flags) iova → user_of s.config file ≡ Some user
         → (IsOrderly s.objects → HasAreas file request.ioas (own.with_area (area at w file request iova user) (areas_at s.objects.rows file request.ioas)) s.objects table)
         → pinned ≡ has_hwpt (objects_in s.objects) file request.ioas
         → HasObject (if pinned then 1 else 0) (object at w file request iova user) s.memory after
         → Settles s.memory after s.pool pool
-        → Shows (changed at w (event.Map file request) (reply.Iova iova)) (record s { objects = table; memory = after; pool = pool })
+        → Shows (changed {A = A} at w (event.Map file request) (reply.Iova iova)) (record s { objects = table; memory = after; pool = pool })
     unfolding changed Answers
     shows_mapped tidy shows none place is_user inserted is_pinned has_object settles =
         let known : user_of w.settings file ≡ Some user = rw shows.settings is_user in
-        let next : OwnPins (at + 1) (map_changes at w file request iova (user_of w.settings file)) = keeps_own_pins at w (event.Map file request) (reply.Iova iova) none place (record { pins = tidy.pins; own = tidy.own }) in
+        let next : OwnPins (at + 1) (map_changes at w file request iova (user_of w.settings file)) = keeps_own_pins {A = A} at w (event.Map file request) (reply.Iova iova) none place (record { pins = tidy.pins; own = tidy.own }) in
         let P = λ (o : Option UserNo). Shows (map_changes at w file request iova o) (record s { objects = table; memory = after; pool = pool }) in
         let Q = λ (o : Option UserNo). OwnPins (at + 1) (map_changes at w file request iova o) in
         subst P (sym known) (shows_settled tidy shows (subst Q known next) inserted is_pinned has_object settles)
 
 -- ---- where nothing refuses
 
-module _ (w : World) (file : FileNo) (request : MapRequest) (none : refusal w (event.Map file request) ≡ None) where
+module _ (w : World) (file : FileNo) (request : MapRequest) (none : first_true (map_checks (view w) file request) ≡ None) where
   -- the file has a user
   pub has_user : user_of w.settings file ≡ None → ⊥
   has_user lacks =
-      let opened : is_open w.settings w.closed file ≡ true = (map_passed (view w) file request (passes w (event.Map file request) none)).opened in
+      let opened : is_open w.settings w.closed file ≡ true = (map_passed (view w) file request none).opened in
       let still : (is_some {T = UserNo} None && not (list_any (λ f. eqb f.0 file.0) w.closed)) ≡ true = rw lacks at opened in
       cc
 
   -- there is a place
   pub has_place : (v : View) → view w ≡ v → HasNoPlace v file request → ⊥
   has_place v same nowhere =
-      let rows = map_passed (view w) file request (passes w (event.Map file request) none) in
+      let rows = map_passed (view w) file request none in
       by_flag (is_fixed request.flags) refl (subst (λ (x : View). HasNoPlace x file request) (sym same) nowhere) rows.sum rows.chosen rows.space
     where
       none_fits : (p : ℕ → Bool) (starts : List ℕ) → ((x : ℕ) → p x ≡ false) → list_any p starts ≡ false
@@ -200,9 +200,9 @@ module _ (w : World) (file : FileNo) (request : MapRequest) (none : refusal w (e
       by_flag false chosen = (chosen.is, chosen.may, chosen.least)
 
 -- its address space takes the area
-module _ {A : Type 0} (w : World) (s : State A) (file : FileNo) (request : MapRequest) (shows : Shows w s) (none : refusal w (event.Map file request) ≡ None) where
-  passed : first_true (checks (seen s) (event.Map file request)) ≡ None
-  passed = same_refusal w s shows (event.Map file request) ∙ none
+module _ {A : Type 0} (w : World) (s : State A) (file : FileNo) (request : MapRequest) (shows : Shows w s) (none : first_true (map_checks (view w) file request) ≡ None) where
+  passed : first_true (map_checks (seen s) file request) ≡ None
+  passed = same_refusal w s shows {E = A} (event.Map file request) ∙ none
 
   pub area_taken : (at : ℕ) (iova : Iova) {X : Type 0} → IsMappedAt w file request (is_fixed request.flags) iova → (has_ioas (objects_in s.objects) file request.ioas ≡ true → insert_refusal (mapped_area at file request iova).span (areas_at s.objects.rows file request.ioas) ≡ None → X) → X
   area_taken at iova place result =

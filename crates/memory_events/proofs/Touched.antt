@@ -1,10 +1,10 @@
 -- The areas that an UNMAP touches, among all areas and among those of its address space.
-use Rattle.std.proofs.Common.{◌≡◌, ℕ, ◌+◌, ◌≤◌, Bool, true, false, cond, ◌&&◌, not, List, [], ◌∷◌, map, refl, ap, arith}
-use Rattle.std.specs.List.{filter}
+use Rattle.std.proofs.Common.{◌≡◌, ℕ, ◌+◌, ◌≤◌, Bool, true, false, cond, ◌&&◌, not, eqb, length, List, [], ◌∷◌, map, refl, ap, arith}
+use Rattle.std.specs.List.{filter, list_any}
 use Rattle.std.proofs.lemmas.Bool.Decides.{nat_tests}
 use Rattle.area_map.specs.Areas.{AreApartFrom, areas_outside, areas_within, marked}
 use Rattle.iofd_rows.proofs.Bools.{or_false}
-use Rattle.iofd_words.specs.Areas.{areas_of, is_cut, is_of, is_touched, is_waiting, leaving, touched, unmapped_span, with_leaving, with_phase}
+use Rattle.iofd_words.specs.Areas.{areas_of, is_cut, is_of, is_touched, is_waiting, leaving, owed_by, touched, unmapped_span, with_leaving, with_phase}
 use Rattle.iofd_words.specs.Bounds.{Bounds}
 use Rattle.iofd_words.specs.Span.{lies_in, meets}
 use Rattle.iofd_words.specs.declared.event.UnmapRequest.{UnmapRequest}
@@ -12,7 +12,6 @@ use Rattle.iofd_words.specs.declared.numbers.FileNo.{FileNo}
 use Rattle.iofd_words.specs.declared.numbers.ObjId.{ObjId}
 use Rattle.iofd_words.specs.declared.rows.Area.{Area}
 use Rattle.server_state.specs.Spaces.{is_space}
-use Rattle.server_state.specs.Mapping.{some_waits}
 
 -- ---- where no area is cut
 
@@ -50,7 +49,8 @@ apart : (file : FileNo) (ioas : ObjId) (f : FileNo) (i : ObjId) (a : Area) → i
 apart file ioas f i a other is = grind (arith, nat_tests)
 
 module _ (file : FileNo) (request : UnmapRequest) where
-  pub waits_filtered : (attached : List ℕ) (areas : List Area) → is_waiting areas attached file request ≡ some_waits (unmapped_span request) attached (areas_of areas file request.ioas)
+  pub waits_filtered : (attached : List ℕ) (areas : List Area) → is_waiting areas attached file request
+      ≡ list_any (λ (a : Area). not (eqb (length (owed_by attached a.phase)) 0)) (filter (λ (a : Area). meets a.span (unmapped_span request)) (areas_of areas file request.ioas))
   waits_filtered attached [] = refl
   waits_filtered attached (a ∷ areas) = let rest = waits_filtered attached areas in grind (arith, nat_tests)
 

@@ -1,6 +1,6 @@
 -- The world after an UNMAP is shown.
 use Rattle.std.proofs.Common.{◌≡◌, ℕ, ◌+◌, ◌*◌, ◌<◌, ◌≤◌, leb, Bool, true, false, cond, not, eqb, Option, None, is_some, List, [], ◌∷◌, length, map, refl, sym, ◌∙◌, ap, arith}
-use Rattle.std.specs.List.{filter, list_all}
+use Rattle.std.specs.List.{filter, list_all, list_any}
 use Rattle.std.specs.Prelude.{Result, Ok, Err}
 use Rattle.std.specs.Result.{OkIff}
 use Rattle.area_map.specs.Areas.{AreKept, areas_outside, areas_within, bytes_of, marked}
@@ -9,14 +9,17 @@ use Rattle.std.proofs.lemmas.List.Sums.{sum_by-cons}
 use Rattle.area_map.proofs.Kept.{length-filter-le}
 use Rattle.iofd_rows.proofs.Bools.{and_true}
 use Rattle.iofd_rows.proofs.Found.{all_filter}
-use Rattle.iofd_runs.proofs.NotRefused.{passes, unmap_passed}
-use Rattle.iofd_words.specs.After.{settle, without_areas}
-use Rattle.iofd_words.specs.Areas.{areas_of, is_cut, is_of, is_touched, is_waiting, leaving, touched, touched_bytes, unmapped_span, with_leaving, with_phase}
+use Rattle.iofd_runs.proofs.NotRefused.{unmap_passed}
+use Rattle.iofd_words.specs.After.{changed, settle, unmapped, without_areas}
+use Rattle.iofd_words.specs.Answers.{Answers, UnmapAnswers}
+use Rattle.iofd_words.specs.Areas.{areas_of, is_cut, is_of, is_touched, is_waiting, leaving, owed_by, touched, touched_bytes, unmapped_span, with_leaving, with_phase}
 use Rattle.iofd_words.specs.Attachments.{devices_of}
 use Rattle.iofd_words.specs.Bounds.{Bounds}
-use Rattle.iofd_words.specs.Checks.{refusal}
 use Rattle.iofd_runs.specs.Fits.{devices_rise, is_of_pages}
 use Rattle.iofd_rows.specs.Pinned.{ArePinned}
+use Rattle.iofd_runs.proofs.KeepsPins.{keeps_pins}
+use Rattle.iofd_words.specs.Checks.{unmap_checks}
+use Rattle.iofd_words.specs.FirstTrue.{first_true}
 use Rattle.iofd_words.specs.Objects.{has_hwpt}
 use Rattle.frame_memory.specs.Pool.{FramePool}
 use Rattle.memory_rows.proofs.Gone.{objects_left, over_parts, translated_parts, translated_space}
@@ -28,6 +31,7 @@ use Rattle.iofd_words.specs.Span.{lies_in, size_of}
 use Rattle.iofd_words.specs.View.{view}
 use Rattle.iofd_words.specs.World.{World}
 use Rattle.iofd_words.specs.declared.event.Event.TheVariants as event
+use Rattle.iofd_words.specs.declared.reply.Reply.TheVariants as reply
 use Rattle.iofd_words.specs.declared.event.UnmapRequest.{UnmapRequest}
 use Rattle.iofd_words.specs.declared.numbers.FileNo.{FileNo}
 use Rattle.iofd_words.specs.declared.rows.Area.{Area}
@@ -67,19 +71,20 @@ module _ {A : Type 0} where
         ∙ ap (λ (rows : List Attachment). devices_of (objects_in s.objects) rows file request.ioas) is
         ∙ attached_shown
 
-    -- whether a device has to flush before
-    pub waits_shown : (span : Bounds) (attached : List ℕ) → span ≡ unmapped_span request → attached ≡ devices_of w.objects w.attachments file request.ioas
-        → is_waiting w.areas (devices_of w.objects w.attachments file request.ioas) file request ≡ some_waits span attached (own_areas s.objects file request.ioas)
-    waits_shown span attached is_span is_attached =
-        rw (is_span, is_attached, own_shown) (waits_filtered file request (devices_of w.objects w.attachments file request.ioas) w.areas)
-
-    module _ (none : refusal w (event.Unmap file request) ≡ None) (kept : AreKept (own_areas s.objects file request.ioas)) where
+    module _ (none : first_true (unmap_checks (view w) file request) ≡ None) (kept : AreKept (own_areas s.objects file request.ioas)) where
       -- no area is cut
       uncut : is_cut (unmapped_span request) (areas_of w.areas file request.ioas) ≡ false
-      uncut = (unmap_passed (view w) file request (passes w (event.Unmap file request) none)).uncut
+      uncut = (unmap_passed (view w) file request none).uncut
 
       are : AreAlike (unmapped_span request) (areas_of w.areas file request.ioas)
       are = let here : AreKept (areas_of w.areas file request.ioas) = rw own_shown at kept in alike (unmapped_span request) 0 (areas_of w.areas file request.ioas) here.apart uncut
+
+      -- whether a device has to flush before
+      pub waits_shown : (span : Bounds) (attached : List ℕ) → span ≡ unmapped_span request → attached ≡ devices_of w.objects w.attachments file request.ioas
+          → is_waiting w.areas (devices_of w.objects w.attachments file request.ioas) file request ≡ some_waits span attached (own_areas s.objects file request.ioas)
+      waits_shown span attached is_span is_attached =
+          let devices = devices_of w.objects w.attachments file request.ioas in
+          rw (is_span, is_attached, own_shown) (waits_filtered file request devices w.areas ∙ ap (list_any (λ (a : Area). not (eqb (length (owed_by devices a.phase)) 0))) (met_within (unmapped_span request) (areas_of w.areas file request.ioas) are))
 
       -- the touched areas are on their way out
       pub shows_pending : (span : Bounds) (attached : List ℕ) (t : Table (Held A)) → span ≡ unmapped_span request → attached ≡ devices_of w.objects w.attachments file request.ioas
@@ -199,10 +204,10 @@ converted (Err e) v is fits never = is fits
 -- ---- where nothing refuses
 
 -- it names a span
-pub names_span : {X : Type 0} (w : World) (file : FileNo) (request : UnmapRequest) (o : Option X) → refusal w (event.Unmap file request) ≡ None → o ≡ None
+pub names_span : {X : Type 0} (w : World) (file : FileNo) (request : UnmapRequest) (o : Option X) → first_true (unmap_checks (view w) file request) ≡ None → o ≡ None
     → (0 < request.length → is_above_sum request.iova.0 request.length ≡ false → is_some o ≡ true) → ⊥
 names_span w file request o none lacks some =
-    let passed = unmap_passed (view w) file request (passes w (event.Unmap file request) none) in
+    let passed = unmap_passed (view w) file request none in
     let sum : is_above_sum request.iova.0 request.length ≡ false = passed.sum in
     let length : eqb request.length 0 ≡ false = passed.some in
     let positive : 0 < request.length = grind (arith, nat_tests) in
@@ -215,3 +220,8 @@ module _ {A : Type 0} where
   never_strange at w s attachments tidy shows is strange =
       let all : list_all (λ (a : Attachment). is_device s.config a.device) attachments ≡ true = rw (is, ← shows.devices.attached, ← shows.settings) tidy.fit.attached in
       cc
+
+-- the pins of what is left
+pub unmapped_pins : (at : ℕ) (w : World) (file : FileNo) (request : UnmapRequest) (count : ℕ) → first_true (unmap_checks (view w) file request) ≡ None → UnmapAnswers w file request (reply.Bytes count) → ArePinned at w → ArePinned (at + 1) (unmapped w file request (reply.Bytes count))
+unfolding changed Answers
+unmapped_pins at w file request count none answers pins = keeps_pins {A = ℕ} at w (event.Unmap file request) (reply.Bytes count) none answers pins

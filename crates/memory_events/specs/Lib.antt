@@ -1,1 +1,2 @@
+pub mod LeftOut
 pub mod Place

@@ -1,22 +1,27 @@
 //! The address that the server chooses for a MAP that doesn't fix one.
 
 ghost use Rattle.std.specs.Prelude.{◌≡◌, ◌==◌, ◌+◌, ◌≤◌, ◌^◌, ℕ, false, map, IfSome, MatchOption};
+ghost use Rattle.iofd_words.specs.Allowed.{allowed_of};
 ghost use Rattle.iofd_words.specs.Areas.{areas_meet};
 ghost use Rattle.iofd_words.specs.Checks.{may_choose, taken_spans};
 ghost use Rattle.iofd_words.specs.Fits.{whole_from};
 ghost use Rattle.iofd_words.specs.Ranges.{meets_some};
-ghost use Rattle.memory_events.specs.Place.{IsLeastSpan};
+ghost use Rattle.iofd_words.specs.Span.{span_from};
+ghost use Rattle.iofd_words.specs.Usable.{allowed_spans};
+ghost use Rattle.iova_ranges.specs.Gaps.{IsGap};
+ghost use Rattle.iova_ranges.specs.Ranges.{AllIn};
+ghost use Rattle.memory_events.specs.Place.{IsClear, IsInTheWay, IsLeastSpan};
 ghost use Rattle.server_state.specs.Held.{areas_at};
 ghost use Rattle.server_state.specs.Reach.{IsOneOf};
 ghost use Rattle.server_state.specs.Seen.{seen};
 
 use area_map::Areas;
-use iofd_words::{FileNo, MapRequest, PAGE_SIZE, Span};
+use iofd_words::{FileNo, MapRequest, ObjId, PAGE_SIZE, Span};
 use server_state::{State, usable};
 use std::alloc::Allocator;
 
 /// The span from the least address that the server may choose; None where it may choose none. It passes each area and
-/// each span that can't be used at most once, from below. It takes no memory.
+/// each span that can't be used or isn't allowed at most twice, from below. It takes no memory.
 pub(crate) fn least_span<A: Allocator>(
     state: &State<A>,
     file: FileNo,
@@ -42,8 +47,46 @@ pub(crate) fn least_span<A: Allocator>(
     None
 }
 
-/// Something at which the span can't be mapped, and which meets it: addresses that can't be used, or an area.
+/// Something in the way of the span from some address on: addresses that can't be used or aren't allowed, or an area.
 fn in_the_way<A: Allocator>(
+    state: &State<A>,
+    file: FileNo,
+    request: MapRequest,
+    areas: &Areas<A>,
+    span: Span,
+) -> Option<Span>
+    requires some { (request.length == 0) ≡ false }
+    requires from { span ≡ span_from span.first request.length }
+    requires here { areas_at state.now.objects.rows file request.ioas ≡ areas.now.areas }
+    ensures { MatchOption result
+        (IsClear (seen state.now) file request span)
+        (IsInTheWay (seen state.now) file request span) }
+{
+    match taken_meeting(state, file, request, areas, span) {
+        Some(one) => Some(one),
+        None => gap_meeting(state, file, request.ioas, span),
+    }
+}
+
+/// Addresses that aren't allowed to the address space, one of which lies in the span.
+fn gap_meeting<A: Allocator>(
+    state: &State<A>,
+    file: FileNo,
+    ioas: ObjId,
+    span: Span,
+) -> Option<Span>
+    ensures { MatchOption result
+        (AllIn (allowed_spans (allowed_of state.now.allowed file ioas)) span)
+        (IsGap (allowed_spans (allowed_of state.now.allowed file ioas)) span) }
+{
+    match state.allowed.of(file, ioas) {
+        Some(row) => row.gap_meeting(span),
+        None => None,
+    }
+}
+
+/// Something at which the span can't be mapped, and which meets it: addresses that can't be used, or an area.
+fn taken_meeting<A: Allocator>(
     state: &State<A>,
     file: FileNo,
     request: MapRequest,

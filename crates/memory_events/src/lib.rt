@@ -1,10 +1,12 @@
 //! The events of users' memory and of mappings: each with the test that refuses it, and what it does.
 #![tactic(auto)]
 
+pub mod allow_iovas;
 mod choice;
 mod devices;
 pub mod map;
 pub mod unmap;
+pub mod usable_ranges;
 pub mod user_access;
 pub mod user_map;
 pub mod user_read;

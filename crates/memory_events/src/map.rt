@@ -3,7 +3,7 @@
 ghost use Rattle.std.specs.Prelude.{◌≡◌, ◌==◌, ◌&&◌, ◌||◌, not, true, false, IfOk, OnErr, MatchOption, [], ◌∷◌, ◌/◌, ◌≤◌, ◌^◌, if◌then◌else◌};
 ghost use Rattle.iofd_words.specs.After.{mapped_area, memory_object};
 ghost use Rattle.iofd_words.specs.Areas.{areas_meet, has_no_room};
-ghost use Rattle.iofd_words.specs.Checks.{checks, is_outside_usable, lacks_choice, lacks_mapped_page, mapped_span, passes_limit_mapped, unusable_in};
+ghost use Rattle.iofd_words.specs.Checks.{map_checks, is_outside_usable, lacks_choice, lacks_mapped_page, mapped_span, passes_limit_mapped, unusable_in};
 ghost use Rattle.iofd_words.specs.FirstTrue.{first_true};
 ghost use Rattle.iofd_words.specs.Pages.{is_above_sum, is_above_user, is_whole};
 ghost use Rattle.iofd_words.specs.Ranges.{meets_some};
@@ -25,10 +25,10 @@ use server_state::{State, accounts, area_changes, lookups, usable};
 use std::alloc::Allocator;
 
 /// Why it is refused, by the first row of the definitions that holds. None where nothing refuses it.
-#[tactic(auto, unfolding(iofd_words::specs::Checks::checks))]
+#[tactic(auto, unfolding(iofd_words::specs::Checks::map_checks))]
 pub fn refusal<A: Allocator>(state: &State<A>, file: FileNo, request: MapRequest) -> Option<Cause>
     requires { IsKnown state.now }
-    ensures { result ≡ first_true (checks (seen state.now) (event.Map file request)) }
+    ensures { result ≡ first_true (map_checks (seen state.now) file request) }
 {
     if !state.objects.is_open(file) {
         return Some(Cause::Id);

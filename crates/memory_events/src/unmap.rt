@@ -2,7 +2,7 @@
 
 ghost use Rattle.std.specs.Prelude.{◌≡◌, ◌<◌, ◌&&◌, ◌∷◌, [], ℕ, false, not, IfSome, IsSome};
 ghost use Rattle.iofd_words.specs.Areas.{areas_meet, is_cut, is_everything, unmapped_span};
-ghost use Rattle.iofd_words.specs.Checks.{checks};
+ghost use Rattle.iofd_words.specs.Checks.{unmap_checks};
 ghost use Rattle.iofd_words.specs.FirstTrue.{first_true};
 ghost use Rattle.iofd_words.specs.Pages.{is_above_sum};
 ghost use Rattle.iofd_words.specs.declared.event.Event.TheVariants as event;
@@ -17,9 +17,9 @@ use server_state::{State, area_changes, lookups, release};
 use std::alloc::Allocator;
 
 /// Why it is refused, by the first row of the definitions that holds. None where nothing refuses it.
-#[tactic(auto, unfolding(iofd_words::specs::Checks::checks))]
+#[tactic(auto, unfolding(iofd_words::specs::Checks::unmap_checks))]
 pub fn refusal<A: Allocator>(state: &State<A>, file: FileNo, request: UnmapRequest) -> Option<Cause>
-    ensures { result ≡ first_true (checks (seen state.now) (event.Unmap file request)) }
+    ensures { result ≡ first_true (unmap_checks (seen state.now) file request) }
 {
     if !state.objects.is_open(file) {
         return Some(Cause::Id);

@@ -1,5 +1,5 @@
 -- Spans that attached devices keep for themselves: what a search among attachments, and then among a device's spans, finds.
-use Rattle.std.proofs.Common.{◌≡◌, Bool, true, false, ◌&&◌, ◌||◌, eqb, Option, Some, None, is_some, find, List, [], ◌∷◌, map, MatchOption, refl, ap, sym, ◌∙◌, inl, inr}
+use Rattle.std.proofs.Common.{◌≡◌, Bool, true, false, ◌&&◌, eqb, Option, Some, None, is_some, find, List, [], ◌∷◌, map, MatchOption, ap, sym, ◌∙◌, inl, inr}
 use Rattle.std.specs.List.{filter, list_any}
 use Rattle.std.proofs.lemmas.List.Folds.{list_any-append}
 use Rattle.iofd_rows.proofs.Bools.{and_true, both_false, both_true, clash, or_none}

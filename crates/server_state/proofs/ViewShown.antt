@@ -1,7 +1,8 @@
 -- What is kept gives the view of the world that is shown: so the same refuses an event, and the same may come of an access.
-use Rattle.std.proofs.Common.{◌≡◌, ℕ, ◌+◌, [], List, Option, Some, None, sym, ap, refl, eqb, ◌∙◌}
+use Rattle.std.proofs.Common.{◌≡◌, ℕ, ◌+◌, List, Option, Some, None, sym, ap, refl, eqb, ◌∙◌}
 use Rattle.std.specs.List.{find, range_with_len}
 use Rattle.std.proofs.Math.Path.{fun_ext}
+use Rattle.iofd_words.specs.Allowed.{allowed_of}
 use Rattle.iofd_words.specs.Areas as area
 use Rattle.iofd_words.specs.Checks.{checks, refusal}
 use Rattle.iofd_words.specs.Files as file
@@ -20,12 +21,10 @@ use Rattle.iofd_words.specs.Look.{query_checks}
 use Rattle.iofd_words.specs.Objects as object
 use Rattle.iofd_words.specs.Policy.{access_outcomes, outcomes}
 use Rattle.iofd_words.specs.View.{View, view}
-use Rattle.iofd_words.specs.World.{World, allowed_of}
+use Rattle.iofd_words.specs.World.{World}
 use Rattle.iofd_words.specs.declared.event.Event.{Event}
 use Rattle.iofd_words.specs.declared.fault.AccessKind.{AccessKind}
 use Rattle.iofd_words.specs.declared.numbers.DeviceNo.{DeviceNo}
-use Rattle.iofd_words.specs.declared.numbers.FileNo.{FileNo}
-use Rattle.iofd_words.specs.declared.numbers.ObjId.{ObjId}
 use Rattle.iofd_words.specs.declared.query.Query.{Query}
 use Rattle.server_state.specs.Held.{areas_at}
 use Rattle.server_state.specs.Seen.{seen}
@@ -53,7 +52,7 @@ module _ {A : Type 0} (w : World) (s : State A) (shows : Shows w s) where
       let is_open : table.is_open s.objects ≡ file.is_open w.settings w.closed = fun_ext shows.objects.files in
       let bindings : object.binding_of s.bindings.items ≡ object.binding_of w.objects = fun_ext (λ d. sym (shows.devices.bindings d)) in
       let areas : areas_at s.objects.rows ≡ area.areas_of w.areas = fun_ext (λ f. fun_ext (λ ioas. sym (shows.objects.spaces f ioas))) in
-      let allowed : (λ (f : FileNo) (i : ObjId). allowed_of [] f i) ≡ allowed_of w.allowed = ap allowed_of (sym shows.allowed) in
+      let allowed : allowed_of s.allowed ≡ allowed_of w.allowed = fun_ext (λ f. fun_ext (λ ioas. sym (shows.allowed f ioas))) in
       let pinned : kept.pinned_frame s.memory ≡ pin.pinned_frame w.pins =
       fun_ext (λ page. sym (shows.pins.frames page)) in
       let pages : frame.frame_at s.memory.pages ≡ frame.frame_at w.user_pages =
@@ -73,7 +72,7 @@ module _ {A : Type 0} (w : World) (s : State A) (shows : Shows w s) where
         is_open,
         bindings,
         areas,
-        ← allowed,
+        allowed,
         held,
         now,
         pinned,
@@ -87,8 +86,7 @@ module _ {A : Type 0} (w : World) (s : State A) (shows : Shows w s) where
       refl
 
   -- what refuses an event is what refuses it in the world
-  pub same_refusal : (e : Event) → first_true (checks (seen s) e) ≡ refusal w e
-  unfolding refusal
+  pub same_refusal : {E : Type 0} → (e : Event E) → first_true (checks (seen s) e) ≡ refusal w e
   same_refusal e = ap (λ (v : View). first_true (checks v e)) same_view
 
   -- and a question

@@ -51,7 +51,7 @@ is_pass_at frame (Passes at) = at.0 == frame.0
 is_pass_at frame (Denied reason) = false
 
 -- the cached frame is one at which the policy lets the write pass now; only a device's write may have one
-abbrev pub MayUse : World → Event → Option FrameNo → Type 0
+abbrev pub MayUse : {A : Type 0} → World → Event A → Option FrameNo → Type 0
 MayUse w e None = Unit {0}
 MayUse w (event.DeviceWrite device iova bytes) (Some frame) = Contains (outcomes w device iova.0 Write) (Passes frame)
 MayUse w e (Some frame) = ⊥
@@ -68,8 +68,9 @@ IsLeastMapped w file request false (reply.Iova iova) = (x : ℕ) → may_choose 
 IsLeastMapped w file request false answer = ⊥
 
 -- a user's new page gets the least frame that nobody reaches; which id an object gets is the server's
-abbrev pub IsChosen : World → Event → Option FrameNo → Reply → Type 0
+abbrev pub IsChosen : {A : Type 0} → World → Event A → Option FrameNo → Reply → Type 0
 IsChosen w (event.IoasAlloc file) via answer = Unit {0}
+IsChosen w (event.AllowIovas file ioas ranges) via answer = Unit {0}
 IsChosen w (event.Map file request) via answer = IsLeastMapped w file request (is_fixed request.flags) answer
 IsChosen w (event.Unmap file request) via answer = Unit {0}
 IsChosen w (event.Destroy file id) via answer = Unit {0}

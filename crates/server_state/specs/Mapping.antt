@@ -1,10 +1,10 @@
 -- Words for MAP and UNMAP: the pins that come, and the areas of one address space.
-use Rattle.std.specs.Prelude.{ℕ, Bool, false, ◌==◌, ◌&&◌, not, Some, None, List, [], length}
+use Rattle.std.specs.Prelude.{ℕ, Bool, false, ◌==◌, not, Some, None, List, [], length}
 use Rattle.std.specs.List.{list_any}
+use Rattle.area_map.specs.Areas.{areas_within}
 use Rattle.iofd_words.specs.Areas.{owed_by}
 use Rattle.iofd_words.specs.Bounds.{Bounds}
 use Rattle.iofd_words.specs.Objects.{kind_of, is_hwpt_over}
-use Rattle.iofd_words.specs.Span.{meets}
 use Rattle.iofd_words.specs.declared.numbers.FileNo.{FileNo}
 use Rattle.iofd_words.specs.declared.numbers.ObjId.{ObjId}
 use Rattle.iofd_words.specs.declared.rows.Area.{Area}
@@ -25,6 +25,6 @@ is_over objects ioas a = elim (kind_of objects a.file a.hwpt) [ Some kind ↦ is
 abbrev pub own_areas : {A : Type 0} → Table (Held A) → FileNo → ObjId → List Area
 own_areas table file ioas = elim (own table file Ioas ioas) [ Some row ↦ areas_in row.value | None ↦ [] ]
 
--- some area that meets the span waits for a device, where those attached are given
+-- some area that lies in the span waits for a device, where those attached are given
 abbrev pub some_waits : Bounds → List ℕ → List Area → Bool
-some_waits span attached areas = list_any (λ area. meets area.span span && not (length (owed_by attached area.phase) == 0)) areas
+some_waits span attached areas = list_any (λ area. not (length (owed_by attached area.phase) == 0)) (areas_within span areas)

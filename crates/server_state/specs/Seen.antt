@@ -1,6 +1,6 @@
 -- What is kept, as the view that the refusals and the policy read. It is that of the world that is shown.
-use Rattle.std.specs.Prelude.{[]}
 use Rattle.frame_memory.specs.Pool.{free_count}
+use Rattle.iofd_words.specs.Allowed.{allowed_of}
 use Rattle.iofd_words.specs.Frames.{frame_at}
 use Rattle.iofd_words.specs.Objects as object
 use Rattle.iofd_words.specs.View.{View}
@@ -18,8 +18,7 @@ seen s =
       binding_of = object.binding_of s.bindings.items;
       attachments = s.attachments.items;
       areas_of = areas_at s.objects.rows;
-      -- no list of allowed ranges is served yet
-      allowed_of = λ file ioas. [];
+      allowed_of = allowed_of s.allowed;
       memory = rows_of s.memory;
       frame_at = frame_at s.memory.pages;
       frame_now = frame_now s.memory;

@@ -1,6 +1,7 @@
 -- When what is kept shows a world: each question of the world has its answer there. Eight groups: the settings, the limits of users, and the lists of rows.
-use Rattle.std.specs.Prelude.{◌≡◌, true, List, [], map}
+use Rattle.std.specs.Prelude.{◌≡◌, true, List, map}
 use Rattle.std.specs.List.{list_all}
+use Rattle.iofd_words.specs.Allowed.{allowed_of}
 use Rattle.iofd_words.specs.Areas.{areas_of}
 use Rattle.iofd_words.specs.Files as file
 use Rattle.iofd_words.specs.Objects.{binding_of}
@@ -34,8 +35,8 @@ pub record DevicesShown (objects : List Object) (attachments : List Attachment) 
 pub record Shows {A : Type 0} (w : World) (s : State A) : Type 0 where
   pub settings : w.settings ≡ s.config
   pub limits : s.memory.limits ≡ w.settings.users
-  -- no list of allowed ranges is served yet
-  pub allowed : w.allowed ≡ []
+  -- each address space has its allowed ranges
+  pub allowed : (file : FileNo) (ioas : ObjId) → allowed_of w.allowed file ioas ≡ allowed_of s.allowed file ioas
   pub objects : ObjectsShown w.settings w.closed w.objects w.areas s.objects
   pub devices : DevicesShown w.objects w.attachments s.bindings.items s.attachments.items
   pub users : UsersShown w.user_pages s.memory.pages

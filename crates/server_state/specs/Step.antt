@@ -38,7 +38,7 @@ pub record IsTidy (at : ℕ) (w : World) : Type 0 where
   pub usable : AreasUsable w
 
 -- a record that took and gave back no table frames
-abbrev pub recorded : {A : Type 0} → PassNo → Event → Reply → Record A
+abbrev pub recorded : {A : Type 0} → PassNo → Event A → Reply → Record A
 recorded pass event reply = record { pass = pass; event = event; reply = reply; taken = []; given = [] }
 
 module _ {A : Type 0} where
@@ -50,28 +50,28 @@ module _ {A : Type 0} where
     pub shows : Shows world s
 
   -- and nothing refuses the event there, at this position
-  pub record IsGrantedAt (at : ℕ) (event : Event) (s : State A) : Type 0 where
+  pub record IsGrantedAt (at : ℕ) (event : Event A) (s : State A) : Type 0 where
     pub world : World
     pub tidy : IsTidy at world
     pub shows : Shows world s
     pub none : refusal world event ≡ None
 
   -- at some position
-  pub record IsGranted (event : Event) (s : State A) : Type 0 where
+  pub record IsGranted (event : Event A) (s : State A) : Type 0 where
     pub at : ℕ
     pub granted : IsGrantedAt at event s
 
   -- and a cached frame is one at which the policy lets the event pass
-  pub record IsGrantedFor (at : ℕ) (event : Event) (via : Option FrameNo) (s : State A) : Type 0 where
+  pub record IsGrantedFor (at : ℕ) (event : Event A) (via : Option FrameNo) (s : State A) : Type 0 where
     pub granted : IsGrantedAt at event s
     pub may : MayUse granted.world event via
 
-  pub record IsGrantedVia (event : Event) (via : Option FrameNo) (s : State A) : Type 0 where
+  pub record IsGrantedVia (event : Event A) (via : Option FrameNo) (s : State A) : Type 0 where
     pub at : ℕ
     pub granted : IsGrantedFor at event via s
 
   -- the event is asked for at this position, with such a frame if nothing refuses it
-  pub record IsCalled (at : ℕ) (event : Event) (via : Option FrameNo) (s : State A) : Type 0 where
+  pub record IsCalled (at : ℕ) (event : Event A) (via : Option FrameNo) (s : State A) : Type 0 where
     pub world : World
     pub tidy : IsTidy at world
     pub shows : Shows world s
@@ -83,7 +83,7 @@ module _ {A : Type 0} where
     pub none : first_true (query_checks (view known.world) query) ≡ None
 
   -- an event that nothing refuses is answered so, and the world after it is shown
-  abbrev pub Steps : ℕ → Event → State A → Reply → State A → Type 0
+  abbrev pub Steps : ℕ → Event A → State A → Reply → State A → Type 0
   Steps at event old reply new =
       (w : World) → IsTidy at w → Shows w old → refusal w event ≡ None → Answers w event reply × Shows (changed at w event reply) new
 
@@ -96,14 +96,14 @@ module _ {A : Type 0} where
   TidyShowsSame at old new = (w : World) → IsTidy at w → Shows w old → Shows w new
 
   -- the same of an event that may have a cached frame, and the reply is the one that is chosen
-  abbrev pub ChosenSteps : ℕ → Event → Option FrameNo → State A → Reply → State A → Type 0
+  abbrev pub ChosenSteps : ℕ → Event A → Option FrameNo → State A → Reply → State A → Type 0
   ChosenSteps at event via old reply new =
       (w : World) → IsTidy at w → Shows w old → refusal w event ≡ None → MayUse w event via
       → Answers w event reply × IsChosen w event via reply × Shows (changed at w event reply) new
 
   -- whatever the event: its record is one that may be made, its reply is the one that is chosen, and the world
   -- after it is shown
-  abbrev pub Answered : ℕ → Event → Option FrameNo → State A → Reply → State A → Type 0
+  abbrev pub Answered : ℕ → Event A → Option FrameNo → State A → Reply → State A → Type 0
   Answered at event via old reply new =
       (pass : PassNo) (w : World) → IsTidy at w → Shows w old → (refusal w event ≡ None → MayUse w event via)
       → Lawful w (recorded {A = A} pass event reply) × (refusal w event ≡ None → IsChosen w event via reply)

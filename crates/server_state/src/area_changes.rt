@@ -89,7 +89,7 @@ pub fn own_areas<A: Allocator>(
     }
 }
 
-/// Whether a device still has to flush before the areas that meet the span may go: one of those attached for a live
+/// Whether a device still has to flush before the areas that lie in the span may go: one of those attached for a live
 /// area, one of those that it waits for for a leaving area.
 pub fn some_waits<A: Allocator>(
     table: &ObjectTable<Held<A>, A>,
@@ -102,8 +102,7 @@ pub fn some_waits<A: Allocator>(
     ensures kept { AreKept (own_areas table.now file ioas) }
 {
     match own_areas(table, file, ioas) {
-        Some(areas) => areas.iter().any(|area| area.span.meets(span)
-            && waits(&area.phase, attached)),
+        Some(areas) => areas.within(span).any(|area| waits(&area.phase, attached)),
         None => false,
     }
 }

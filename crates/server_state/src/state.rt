@@ -3,6 +3,7 @@
 use crate::held::Held;
 use frame_memory::Pool;
 use iofd_words::{Attachment, Config, Object};
+use iova_ranges::AllowedTable;
 use object_table::ObjectTable;
 use std::alloc::{Allocator, Global};
 use user_memory::UserMemory;
@@ -17,6 +18,8 @@ pub struct State<A: Allocator = Global> {
     pub config: Config<A>,
     /// The files, and what each object of theirs holds.
     pub objects: ObjectTable<Held<A>, A>,
+    /// The ranges that address spaces allow to addresses which the server chooses.
+    pub allowed: AllowedTable<A>,
     /// The objects by which devices are bound.
     pub bindings: Vec<Object, A>,
     /// By which page table each device translates, by rising device.

@@ -9,4 +9,8 @@ mod fakes;
 #[cfg(test)]
 mod lines;
 #[cfg(test)]
+mod many_ranges;
+#[cfg(test)]
 mod session;
+#[cfg(test)]
+mod structures;

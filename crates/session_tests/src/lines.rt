@@ -1,13 +1,15 @@
 //! Worked lines of the session's format, each with the line feed that ends it.
 
-use ioctl_codec::Command;
+use ioctl_codec::{Command, RangesRequest};
 use iofd_words::{
-    AccessKind, Answer, Burst, Cause, Errno, Fault, FaultReason, FrameNo, Iova, MapFlags,
-    MapRequest, ObjId, Refusal, Reply, SourceId, UnmapRequest,
+    AccessKind, Answer, Burst, Cause, Errno, Fault, FaultReason, FrameNo, Iova, IovaRange,
+    MapFlags, MapRequest, ObjId, RangeList, Refusal, Reply, SourceId, Span, UnmapRequest,
 };
 use iommufd_cli::{
-    Line, answer_line, bad_line, ioctl_line, memory_line, no_memory_line, refusal_line, reply_line,
+    Line, answer_line, bad_line, ioctl_line, memory_line, no_memory_line, ranges_line,
+    refusal_line, reply_line,
 };
+use std::test::Fail;
 
 const MAP: MapRequest = MapRequest {
     flags: MapFlags(7),
@@ -135,7 +137,7 @@ fn steps(rt: HostRuntime) {
 }
 
 // A command with its good reply, and the line for it.
-static GOOD: [(Command, Reply, &str); 4] = [
+const GOOD: [(Command, Reply, &str); 4] = [
     (
         Command::IoasAlloc,
         Reply::Id(ObjId(1)),
@@ -186,6 +188,80 @@ fn ioctls(rt: HostRuntime) {
         assert!(rt; tells(command, reply, text), "{text}");
         assert!(rt; tells_bare(command), "{text}");
     }
+}
+
+#[test]
+fn allowed_ranges(rt: HostRuntime) -> Result<(), Fail> {
+    let range = IovaRange {
+        start: 0x2000,
+        last: 0x2fff,
+    };
+    for (count, text) in [
+        (0, "0 180000000100000000000000000000000000000000000000\n"),
+        (2, "0 180000000100000002000000000000000000000000000000\n"),
+    ] {
+        let ranges = RangeList::new(vec![in rt.alloc(); range; count]?);
+        let command = Command::IoasAllowIovas(ObjId(1), ranges);
+        assert!(rt; tells(&command, &Reply::Done, text), "{text}");
+        assert!(rt; tells_bare(&command), "{text}");
+    }
+    Ok(())
+}
+
+// How many places there are for how many of the usable ranges, which are those up to 0x3fff and from 0x5000 up to below
+// 2^39, and the line.
+static USABLE: [(u32, usize, &str); 6] = [
+    (
+        2,
+        2,
+        "0 2000000001000000020000000000000000000000000000000010000000000000\
+0000000000000000ff3f0000000000000050000000000000ffffffff7f000000\n",
+    ),
+    (
+        u32::MAX,
+        2,
+        "0 2000000001000000020000000000000000000000000000000010000000000000\
+0000000000000000ff3f0000000000000050000000000000ffffffff7f000000\n",
+    ),
+    (
+        1,
+        2,
+        "90 Places 2000000001000000020000000000000000000000000000000010000000000000\
+0000000000000000ff3f000000000000\n",
+    ),
+    (
+        0,
+        2,
+        "90 Places 2000000001000000020000000000000000000000000000000010000000000000\n",
+    ),
+    (
+        1,
+        0,
+        "0 2000000001000000000000000000000000000000000000000010000000000000\n",
+    ),
+    (
+        0,
+        0,
+        "0 2000000001000000000000000000000000000000000000000010000000000000\n",
+    ),
+];
+
+#[test]
+fn usable_ranges(rt: HostRuntime) -> Result<(), Fail> {
+    let low = Span::new(0, 0x3fff).ok_or("a span")?;
+    let high = Span::new(0x5000, 0x7f_ffff_ffff).ok_or("a span")?;
+    let ranges = [low, high];
+    for (places, count, text) in &USABLE {
+        let ioas = ObjId(1);
+        let places = *places;
+        let line = ranges_line(
+            rt.alloc(),
+            RangesRequest { ioas, places },
+            &ranges[..*count],
+        )?;
+        assert_eq!(rt; line.as_slice(), text.as_bytes());
+    }
+    Ok(())
 }
 
 #[test]

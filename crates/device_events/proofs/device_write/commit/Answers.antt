@@ -1,9 +1,9 @@
 use Rattle.std.proofs.Common.{◌≡◌, ◌%◌, length, ◌∙◌, ap, sym, arith}
-use Rattle.iofd_runs.proofs.NotRefused.{passes, write_passed}
+use Rattle.iofd_runs.proofs.NotRefused.{write_passed}
 use Rattle.iofd_words.specs.After.{changed}
+use Rattle.iofd_words.specs.Answers.{Answers}
 use Rattle.iofd_words.specs.Policy.{Passes, fault_of, outcomes}
 use Rattle.iofd_words.specs.View.{view}
-use Rattle.iofd_words.specs.declared.event.Event.TheVariants as event
 use Rattle.iofd_words.specs.declared.fault.AccessKind.TheVariants.{Write}
 use Rattle.device_events.proofs.DeviceWrites.{chosen_answer, pass_in_pool}
 use Rattle.memory_rows.proofs.UserAccess.{short}
@@ -23,7 +23,7 @@ write-requires-clause-frame g c =
     c.in-Ok.ensures ∙ ap (given_outcome c.args.via) (same_outcomes w c.args.state.now known.shows c.args.device
     c.args.iova.0 Write)
     in
-    let answer = chosen_answer c.requires.at w c.args.device iova c.args.bytes.now c.args.via (Passes frame)
+    let answer = chosen_answer c.requires.at w c.args.device iova c.args.via (Passes frame)
     known.tidy told c.requires.granted.may in
     let within = pass_in_pool w known.tidy.fit.pin_frames c.args.device iova.0 Write frame answer.0 in
     let size = known.shows.frames.size in
@@ -36,19 +36,19 @@ write-requires-clause-within g c =
     let iova = c.args.iova in
     let bytes = c.args.bytes.now in
     let passed = write_passed (view w) c.args.device iova bytes
-    (passes w (event.DeviceWrite c.args.device iova bytes) known.none) in
+    known.none in
     rw c.as_slice.ensures.value (short iova.0 (length bytes) passed.short).within
 
 pub returns-in-Ok : goal.returns-in-Ok
-unfolding changed
+unfolding changed Answers
 returns-in-Ok g c = λ at w tidy shows none may.
     let frame = c.in-Ok.frame in
     let iova = c.args.iova in
     let bytes = c.args.bytes.now in
     let told : Passes frame ≡ given_outcome c.args.via (outcomes w c.args.device iova.0 Write) = c.in-Ok.ensures ∙ ap (given_outcome c.args.via) (same_outcomes w c.args.state.now shows c.args.device iova.0 Write) in
-    let answer = chosen_answer at w c.args.device iova bytes c.args.via (Passes frame) tidy told may in
+    let answer = chosen_answer at w c.args.device iova c.args.via (Passes frame) tidy told may in
     let within = pass_in_pool w tidy.fit.pin_frames c.args.device iova.0 Write frame answer.0 in
-    let within_page = (short iova.0 (length bytes) (write_passed (view w) c.args.device iova bytes (passes w (event.DeviceWrite c.args.device iova bytes) none)).short).within in
+    let within_page = (short iova.0 (length bytes) (write_passed (view w) c.args.device iova bytes none).short).within in
     let old = c.args.state.now in
     let put : c.write.new.self ≡ written old.pool frame.0 (iova.0 % 4096) bytes =
     rw c.as_slice.ensures.value at c.write.ensures.new in (
@@ -68,10 +68,10 @@ returns-in-Ok g c = λ at w tidy shows none may.
     )
 
 pub returns-in-Err : goal.returns-in-Err
-unfolding changed
+unfolding changed Answers
 returns-in-Err g c = λ at w tidy shows none may.
     let iova = c.args.iova in
     let told = c.in-Err.ensures ∙ ap (given_outcome c.args.via) (same_outcomes w c.args.state.now shows c.args.device iova.0 Write) in
-    let answer = chosen_answer at w c.args.device iova c.args.bytes.now c.args.via _ tidy told may in
+    let answer = chosen_answer at w c.args.device iova c.args.via _ tidy told may in
     let fault = c.fault_of.ensures ∙ ap (λ settings. fault_of settings c.args.device iova.0 Write c.in-Err.reason) (sym shows.settings) in
     (rw fault answer.1, rw fault answer.2, shows)

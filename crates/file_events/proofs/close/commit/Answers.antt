@@ -11,4 +11,4 @@ remove_areas-requires g c =
 pub returns : goal.returns
 unfolding changed Answers
 returns g c = λ at w tidy shows none.
-    (tt, shows_closed at w c.args.state.now c.args.file tidy shows none c.close_table.new.table c.detach_all.new.attachments c.remove_areas.new.memory c.remove_areas.new.pool c.close_table.ensures c.detach_all.ensures c.remove_areas.ensures)
+    (tt, shows_closed at w c.args.state.now c.args.file tidy shows none c.close_table.new.table c.detach_all.new.attachments c.remove_areas.new.memory c.remove_areas.new.pool c.remove_file.new.self c.close_table.ensures c.detach_all.ensures c.remove_areas.ensures c.remove_file.ensures)

@@ -14,7 +14,7 @@ unfolding changed Answers
 returns-in-Some-Ioas g c = λ at w tidy shows none. (
   tt,
   space_destroyed at w c.args.state.now c.args.file c.args.id tidy shows none (sym c.in-Some-Ioas.ensures ∙ ap Some c.in-Some-Ioas.field-0-is)
-      c.remove.new.table c.remove_space.new.memory c.remove_space.new.pool c.remove.ensures.rows c.remove.ensures.files c.remove_space.ensures,
+      c.remove-in-Some-Ioas.new.table c.remove_space.new.memory c.remove_space.new.pool c.remove.new.self c.remove-in-Some-Ioas.ensures.rows c.remove-in-Some-Ioas.ensures.files c.remove_space.ensures c.remove.ensures,
 )
 
 pub unpin_space-requires : goal.unpin_space-requires
@@ -28,7 +28,7 @@ unfolding changed Answers
 returns-then-not-has_hwpt g c = λ at w tidy shows none. (
   tt,
   last_destroyed at w c.args.state.now c.args.file c.args.id c.in-Some-Hwpt.ioas c.in-Some-Hwpt.field-0-1 c.in-Some-Hwpt.field-0-2 c.remove-in-Some-Hwpt.new.table tidy shows none (sym c.in-Some-Hwpt.ensures ∙ ap Some c.in-Some-Hwpt.field-0-is) c.remove-in-Some-Hwpt.ensures.rows c.remove-in-Some-Hwpt.ensures.files
-      c.unpin_space.new.memory c.unpin_space.new.pool (sym c.has_hwpt.ensures ∙ c.if-not-has_hwpt.true) c.unpin_space.ensures,
+      c.unpin_space.new.memory c.unpin_space.new.pool c.remove.new.self (sym c.has_hwpt.ensures ∙ c.if-not-has_hwpt.true) c.unpin_space.ensures c.remove.ensures,
 )
 
 pub returns-else-not-has_hwpt : goal.returns-else-not-has_hwpt
@@ -36,7 +36,7 @@ unfolding changed Answers
 returns-else-not-has_hwpt g c = λ at w tidy shows none. (
   tt,
   other_destroyed at w c.args.state.now c.args.file c.args.id c.in-Some-Hwpt.ioas c.in-Some-Hwpt.field-0-1 c.in-Some-Hwpt.field-0-2 c.remove-in-Some-Hwpt.new.table tidy shows none (sym c.in-Some-Hwpt.ensures ∙ ap Some c.in-Some-Hwpt.field-0-is) c.remove-in-Some-Hwpt.ensures.rows c.remove-in-Some-Hwpt.ensures.files
-      (sym c.has_hwpt.ensures ∙ c.if-not-has_hwpt.false),
+      c.remove.new.self (sym c.has_hwpt.ensures ∙ c.if-not-has_hwpt.false) c.remove.ensures,
 )
 
 pub returns-in-Some-Device : goal.returns-in-Some-Device

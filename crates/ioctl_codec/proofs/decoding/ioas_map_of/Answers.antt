@@ -5,12 +5,13 @@ use Rattle.ioctl_codec.proofs.Refusing.{refused_early, refused_late, and-true}
 use Rattle.ioctl_codec.proofs.decoding.ioas_map_of.Goals as goal
 
 pub returns-in_err-fields-clause-refused : goal.returns-in_err-fields-clause-refused
-returns-in_err-fields-clause-refused c = refused_early (ioas_map true) c.args.bytes.now c.from_residual.result c.in_err-fields.field-0.0 c.from_residual.ensures.1 c.in_err-fields.ensures.refused
+returns-in_err-fields-clause-refused g c = refused_early (ioas_map true) c.args.bytes.now c.from_residual.result c.in_err-fields.field-0.0 c.from_residual.ensures.1 c.in_err-fields.ensures.refused
 
 pub returns-in_err-checked-clause-refused : goal.returns-in_err-checked-clause-refused
 unfolding read_numbers
-returns-in_err-checked-clause-refused c =
-    refused_late (ioas_map true) c.args.bytes.now c.in_ok-fields.after.now c.is_supported.result c.from_residual-in_err-checked.result c.in_err-checked.field-0.0 c.from_residual-in_err-checked.ensures.1
+returns-in_err-checked-clause-refused g c =
+    refused_late (ioas_map true) c.args.bytes.now c.in_ok-fields.after.now c.is_supported.result 0 c.from_residual-in_err-checked.result c.in_err-checked.field-0.0 c.from_residual-in_err-checked.ensures.1
     c.in_ok-fields.ensures.refused c.in_ok-fields.ensures.after
     (rw (c.is_supported.ensures, c.u32_at-flags.ensures.value, c.u32_at-reserved.ensures.value, c.u32_at-ioas.ensures.rest, c.u32_at-flags.ensures.rest, c.in_ok-fields.ensures.fields) (rw and-true refl))
-    c.in_err-checked.ensures
+    refl
+    c.in_err-checked.ensures.refused

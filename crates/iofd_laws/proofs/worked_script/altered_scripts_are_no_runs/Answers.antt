@@ -1,8 +1,8 @@
+use Rattle.iofd_words.specs.Checks.{attach_checks, bind_checks, close_checks, destroy_checks, detach_checks, device_write_checks, flush_checks, ioas_alloc_checks, map_checks, unmap_checks, user_map_checks}
 use Rattle.iofd_words.specs.Tables.{with_tables}
 use Rattle.std.proofs.Common.{◌≡◌, ℕ, ap, inl, inr}
 use Rattle.iofd_words.specs.After.{changed, settle, without_areas, attached, detached}
 use Rattle.iofd_words.specs.Answers.{Answers}
-use Rattle.iofd_words.specs.Checks.{checks, refusal}
 use Rattle.iofd_words.specs.Policy.{access_outcomes, outcomes}
 use Rattle.iofd_words.specs.Run.{IsRun, Lawful, after}
 use Rattle.iofd_words.specs.declared.fault.AccessKind.TheVariants.{Write}
@@ -39,34 +39,34 @@ other_causes : reply.Refused (record { cause = cause.Id }) ≡ reply.Refused (re
 other_causes is = let causes : cause.Id ≡ cause.Align = ap cause_in is in cc
 
 pub returns-clause-frame_again : goal.returns-clause-frame_again
-unfolding IsRun Lawful after with_tables refusal checks Answers changed settle without_areas attached detached outcomes access_outcomes
+unfolding IsRun Lawful after with_tables ioas_alloc_checks map_checks unmap_checks destroy_checks close_checks user_map_checks bind_checks attach_checks detach_checks flush_checks device_write_checks Answers changed settle without_areas attached detached outcomes access_outcomes
 returns-clause-frame_again c = λ run. let last = run.1.1.1.1.1.1.1.0.0 in cc
 
 pub returns-clause-frame_beyond : goal.returns-clause-frame_beyond
-unfolding IsRun Lawful after with_tables refusal checks Answers changed settle without_areas attached detached outcomes access_outcomes
+unfolding IsRun Lawful after with_tables ioas_alloc_checks map_checks unmap_checks destroy_checks close_checks user_map_checks bind_checks attach_checks detach_checks flush_checks device_write_checks Answers changed settle without_areas attached detached outcomes access_outcomes
 returns-clause-frame_beyond c = λ run. let last = run.1.1.1.1.1.1.1.0.0 in cc
 
 pub returns-clause-live_denied : goal.returns-clause-live_denied
-unfolding IsRun Lawful after with_tables refusal checks Answers changed settle without_areas attached detached outcomes access_outcomes
+unfolding IsRun Lawful after with_tables ioas_alloc_checks map_checks unmap_checks destroy_checks close_checks user_map_checks bind_checks attach_checks detach_checks flush_checks device_write_checks Answers changed settle without_areas attached detached outcomes access_outcomes
 returns-clause-live_denied c = λ run. let is = contained_in_one _ _ run.1.1.1.1.1.1.1.0.0 in cc
 
 pub returns-clause-other_reason : goal.returns-clause-other_reason
-unfolding IsRun Lawful after with_tables refusal checks Answers changed settle without_areas attached detached outcomes access_outcomes
+unfolding IsRun Lawful after with_tables ioas_alloc_checks map_checks unmap_checks destroy_checks close_checks user_map_checks bind_checks attach_checks detach_checks flush_checks device_write_checks Answers changed settle without_areas attached detached outcomes access_outcomes
 returns-clause-other_reason c = λ run. elim (contained_in_two _ _ _ run.1.1.1.1.1.1.1.1.0.0) [ inl is ↦ passed_or_denied _ _ is | inr is ↦ other_reasons _ _ is ]
 
 pub returns-clause-other_file : goal.returns-clause-other_file
-unfolding IsRun Lawful after with_tables refusal checks Answers changed settle without_areas attached detached outcomes access_outcomes
+unfolding IsRun Lawful after with_tables ioas_alloc_checks map_checks unmap_checks destroy_checks close_checks user_map_checks bind_checks attach_checks detach_checks flush_checks device_write_checks Answers changed settle without_areas attached detached outcomes access_outcomes
 returns-clause-other_file c = λ run. let last = run.1.1.1.1.1.1.1.0.0 in cc
 
 pub returns-clause-too_early : goal.returns-clause-too_early
-unfolding IsRun Lawful after with_tables refusal checks Answers changed settle without_areas attached detached outcomes access_outcomes
+unfolding IsRun Lawful after with_tables ioas_alloc_checks map_checks unmap_checks destroy_checks close_checks user_map_checks bind_checks attach_checks detach_checks flush_checks device_write_checks Answers changed settle without_areas attached detached outcomes access_outcomes
 returns-clause-too_early c = λ run. let last = run.1.1.1.1.1.1.1.0.0.0 in cc
 
 pub returns-clause-wrong_cause : goal.returns-clause-wrong_cause
-unfolding IsRun Lawful after with_tables refusal checks Answers changed settle without_areas attached detached outcomes access_outcomes
+unfolding IsRun Lawful after with_tables ioas_alloc_checks map_checks unmap_checks destroy_checks close_checks user_map_checks bind_checks attach_checks detach_checks flush_checks device_write_checks Answers changed settle without_areas attached detached outcomes access_outcomes
 returns-clause-wrong_cause c = λ run. other_causes run.1.1.1.1.1.1.1.0.0
 
 -- beginning, the UNMAP and the flush, and then the write: the area is leaving, and the device owes nothing
 pub returns-clause-flushed_passes : goal.returns-clause-flushed_passes
-unfolding IsRun Lawful after with_tables refusal checks Answers changed settle without_areas attached detached outcomes access_outcomes
+unfolding IsRun Lawful after with_tables ioas_alloc_checks map_checks unmap_checks destroy_checks close_checks user_map_checks bind_checks attach_checks detach_checks flush_checks device_write_checks Answers changed settle without_areas attached detached outcomes access_outcomes
 returns-clause-flushed_passes c = λ run. passed_or_denied_too _ _ (contained_in_one _ _ run.1.1.1.1.1.1.1.1.1.0.0)

@@ -1,15 +1,15 @@
+use Rattle.iofd_words.specs.Checks.{attach_checks, bind_checks, close_checks, destroy_checks, detach_checks, device_write_checks, flush_checks, ioas_alloc_checks, map_checks, unmap_checks, user_map_checks}
 use Rattle.iofd_words.specs.Tables.{with_tables}
 use Rattle.std.proofs.Common.{refl, arith}
 use Rattle.iofd_words.specs.After.{changed, settle, without_areas, attached, detached}
 use Rattle.iofd_words.specs.Answers.{Answers}
-use Rattle.iofd_words.specs.Checks.{checks, refusal}
 use Rattle.iofd_words.specs.Policy.{access_outcomes, outcomes}
 use Rattle.iofd_words.specs.Run.{IsRun, Lawful, after}
 use Rattle.iofd_laws.proofs.worked_script.owed_flush_leaves_both_answers.Goals as goal
 
 -- the frame is the first of the two answers, the denial the second
 pub returns-clause-passed : goal.returns-clause-passed
-unfolding IsRun Lawful after with_tables refusal checks Answers changed settle without_areas attached detached outcomes access_outcomes
+unfolding IsRun Lawful after with_tables ioas_alloc_checks map_checks unmap_checks destroy_checks close_checks user_map_checks bind_checks attach_checks detach_checks flush_checks device_write_checks Answers changed settle without_areas attached detached outcomes access_outcomes
 returns-clause-passed c = (
   (refl, (refl, refl)),
   (
@@ -31,7 +31,7 @@ returns-clause-passed c = (
 )
 
 pub returns-clause-denied : goal.returns-clause-denied
-unfolding IsRun Lawful after with_tables refusal checks Answers changed settle without_areas attached detached outcomes access_outcomes
+unfolding IsRun Lawful after with_tables ioas_alloc_checks map_checks unmap_checks destroy_checks close_checks user_map_checks bind_checks attach_checks detach_checks flush_checks device_write_checks Answers changed settle without_areas attached detached outcomes access_outcomes
 returns-clause-denied c = (
   (refl, (refl, refl)),
   (

@@ -16,11 +16,11 @@ returns-clause-shows g c =
         files = λ number. rw (c.in_ok-new.ensures, c.files.ensures) (all_open g.row.A.Denot c.args.config.now number);
       };
       devices = record {
-        bindings = λ device. rw c.new-2.ensures.items refl;
-        attached = sym c.new-3.ensures.items;
+        bindings = λ device. rw c.new-3.ensures.items refl;
+        attached = sym c.new-4.ensures.items;
       };
       limits = c.in_ok-new-2.ensures.limits ∙ c.users.ensures;
-      allowed = refl;
+      allowed = λ file ioas. rw c.new-2.ensures refl;
       users = rw c.in_ok-new-2.ensures.pages (record { pages = λ user page. refl; counts = λ test. refl });
       pins = pins_opened c.in_ok-new-2.field-0 c.in_ok-new-2.ensures.objects;
       frames = rw (c.in_ok-new-3.ensures, c.pool-pool.ensures.value)
@@ -36,10 +36,10 @@ pool_between s within = by_test (is_between 1 4096 s.pool) refl within
     by_test true is within = (search (is, arith, nat_tests), search (is, arith, nat_tests))
     by_test false is within = let first = rw is at within in cc
 
-pub new-requires-5-clause-some : goal.new-requires-5-clause-some
-new-requires-5-clause-some g c = rw c.pool-pool.ensures.value
+pub new-requires-6-clause-some : goal.new-requires-6-clause-some
+new-requires-6-clause-some g c = rw c.pool-pool.ensures.value
     (pool_between c.args.config.now c.pool-pool.ensures.within).0
 
-pub new-requires-5-clause-few : goal.new-requires-5-clause-few
-new-requires-5-clause-few g c = rw c.pool-pool.ensures.value
+pub new-requires-6-clause-few : goal.new-requires-6-clause-few
+new-requires-6-clause-few g c = rw c.pool-pool.ensures.value
     (pool_between c.args.config.now c.pool-pool.ensures.within).1

@@ -1,23 +1,23 @@
-use Rattle.std.proofs.Common.{sym, subst}
-use Rattle.iofd_words.specs.Checks.{unusable_in}
-use Rattle.iofd_words.specs.Usable.{occupied}
-use Rattle.iofd_words.specs.Ranges.{meets_some}
-use Rattle.iofd_words.specs.declared.rows.Area.{Area}
-use Rattle.std.proofs.Common.{◌≡◌, false, List, MatchOption}
-use Rattle.memory_events.proofs.Chosen.{nothing_else, unusable_one}
-use Rattle.server_state.specs.Held.{areas_at}
-use Rattle.server_state.specs.Reach.{IsOneOf}
+use Rattle.std.proofs.Common.{◌≡◌, ℕ, ◌<◌, ◌≤◌, eqb, false, ap, arith}
+use Rattle.std.proofs.lemmas.Bool.Decides.{nat_tests}
+use Rattle.iofd_words.specs.Bounds.{Bounds}
+use Rattle.iofd_words.specs.Span.{span_from}
+use Rattle.memory_events.proofs.Chosen.{clear_or_gap, taken_in_the_way}
 use Rattle.server_state.specs.Seen.{seen}
 use Rattle.memory_events.proofs.choice.in_the_way.Goals as goal
 
+positive : (n : ℕ) → eqb n 0 ≡ false → 0 < n
+positive n is = grind (arith, nat_tests)
+
+ordered : (span : Bounds) (length : ℕ) → 0 < length → span ≡ span_from span.first length → span.first ≤ span.last
+ordered span length some from = let last = ap (λ (s : Bounds). s.last) from in omega (arith, last, some)
+
 pub returns-in-Some : goal.returns-in-Some
-returns-in-Some g c =
-    unusable_one (unusable_in (seen c.args.state.now) c.args.file c.args.request.ioas) (areas_at c.args.state.now.objects.rows c.args.file c.args.request.ioas) c.args.span c.in-Some.one
-    (rw (c.in-Some.is, c.deref.ensures.value) at c.unusable_meeting-unusable.ensures)
+returns-in-Some g c = taken_in_the_way (seen c.args.state.now) c.args.file c.args.request c.args.span c.in-Some.one (positive c.args.request.length c.requires.some) c.requires.from (rw c.in-Some.is at c.taken_meeting.ensures)
 
 pub returns-in-None : goal.returns-in-None
 returns-in-None g c =
-    let unusable = unusable_in (seen c.args.state.now) c.args.file c.args.request.ioas in
-    let P : List Area → Type 0 = λ areas. MatchOption c.area_meeting.result (meets_some (occupied unusable areas) c.args.span ≡ false) (IsOneOf (occupied unusable areas) c.args.span) in
-    subst P (sym c.requires)
-    (nothing_else unusable c.args.areas.now.areas c.args.span c.area_meeting.result (rw (c.in-None.is, c.deref.ensures.value) at c.unusable_meeting-unusable.ensures) c.area_meeting.ensures)
+    let some = positive c.args.request.length c.requires.some in
+    clear_or_gap (seen c.args.state.now) c.args.file c.args.request c.args.span c.gap_meeting.result some c.requires.from (ordered c.args.span c.args.request.length some c.requires.from)
+    (rw c.in-None.is at c.taken_meeting.ensures)
+    c.gap_meeting.ensures

@@ -1,13 +1,11 @@
 use Rattle.std.proofs.Common.{refl, sym, ◌∙◌}
 use Rattle.std.proofs.lemmas.Result.{OkIff-at_ok}
 use Rattle.iofd_words.specs.After.{changed}
-use Rattle.iofd_words.specs.Answers.{Answers}
+use Rattle.iofd_words.specs.Answers.{Answers, UnmapAnswers}
 use Rattle.iofd_rows.proofs.Bools.{not_false}
-use Rattle.iofd_runs.proofs.KeepsPins.{keeps_pins}
-use Rattle.iofd_words.specs.declared.event.Event.TheVariants as event
 use Rattle.iofd_words.specs.declared.reply.Reply.TheVariants as reply
 use Rattle.memory_events.proofs.Unmapped.{never_strange}
-use Rattle.memory_events.proofs.Unmapped.{attached_is, bytes_fit, bytes_shown, converted, may_remove, names_span, shows_pending, shows_removed, waits_shown}
+use Rattle.memory_events.proofs.Unmapped.{attached_is, bytes_fit, bytes_shown, converted, may_remove, names_span, shows_pending, shows_removed, unmapped_pins, waits_shown}
 use Rattle.memory_events.proofs.unmap.commit.Goals as goal
 
 pub returns-in_default : goal.returns-in_default
@@ -20,7 +18,7 @@ pub returns-then-some_waits : goal.returns-then-some_waits
 unfolding changed Answers
 returns-then-some_waits g c = λ at w tidy shows none.
     let devices = attached_is at w c.args.state.now c.args.file c.args.request tidy shows c.in-Some-attached_to.attached c.deref.result.now c.deref.ensures.value c.in-Some-attached_to.ensures.some in
-    let waits = waits_shown at w c.args.state.now c.args.file c.args.request tidy shows c.in-Some.span c.in-Some-attached_to.attached c.in-Some.ensures.value devices in (
+    let waits = waits_shown at w c.args.state.now c.args.file c.args.request tidy shows none c.some_waits.ensures.kept c.in-Some.span c.in-Some-attached_to.attached c.in-Some.ensures.value devices in (
       (waits ∙ sym c.some_waits.ensures.value ∙ c.if-some_waits.true, refl),
       shows_pending at w c.args.state.now c.args.file c.args.request tidy shows none c.some_waits.ensures.kept c.in-Some.span c.in-Some-attached_to.attached c.mark_leaving.new.table c.in-Some.ensures.value devices c.mark_leaving.ensures,
     )
@@ -39,11 +37,11 @@ pub returns : goal.returns
 unfolding changed Answers
 returns g c = λ at w tidy shows none.
     let devices = attached_is at w c.args.state.now c.args.file c.args.request tidy shows c.in-Some-attached_to.attached c.deref.result.now c.deref.ensures.value c.in-Some-attached_to.ensures.some in
-    let waits = waits_shown at w c.args.state.now c.args.file c.args.request tidy shows c.in-Some.span c.in-Some-attached_to.attached c.in-Some.ensures.value devices in
-    let answers : Answers w (event.Unmap c.args.file c.args.request) (reply.Bytes c.in-Ok.bytes) = (not_false _ (waits ∙ sym c.some_waits.ensures.value ∙ c.if-some_waits.false), (OkIff-at_ok _ _ _ _ c.try_from.ensures c.in-Ok.is).1 ∙ c.bytes_within.ensures ∙ sym (bytes_shown at w c.args.state.now c.args.file c.args.request tidy shows none c.some_waits.ensures.kept c.in-Some.span c.in-Some.ensures.value)) in (
+    let waits = waits_shown at w c.args.state.now c.args.file c.args.request tidy shows none c.some_waits.ensures.kept c.in-Some.span c.in-Some-attached_to.attached c.in-Some.ensures.value devices in
+    let answers : UnmapAnswers w c.args.file c.args.request (reply.Bytes c.in-Ok.bytes) = (not_false _ (waits ∙ sym c.some_waits.ensures.value ∙ c.if-some_waits.false), (OkIff-at_ok _ _ _ _ c.try_from.ensures c.in-Ok.is).1 ∙ c.bytes_within.ensures ∙ sym (bytes_shown at w c.args.state.now c.args.file c.args.request tidy shows none c.some_waits.ensures.kept c.in-Some.span c.in-Some.ensures.value)) in (
       answers,
       shows_removed at w c.args.state.now c.args.file c.args.request tidy shows none c.some_waits.ensures.kept c.in-Some.span c.has_hwpt-translated.result c.in-Some.ensures.value c.has_hwpt-translated.ensures c.remove.new.table c.remove_within.new.memory c.remove_within.new.pool
-          (keeps_pins at w (event.Unmap c.args.file c.args.request) (reply.Bytes c.in-Ok.bytes) none answers tidy.pins)
+          (unmapped_pins at w c.args.file c.args.request c.in-Ok.bytes none answers tidy.pins)
           c.remove.ensures
           c.remove_within.ensures,
     )

@@ -3,13 +3,12 @@ use Rattle.std.specs.List.{find, range_with_len}
 use Rattle.std.specs.Option.{IsSome, option_map}
 use Rattle.frame_memory.specs.UserPages.{user_page}
 use Rattle.iofd_rows.proofs.Each.{in_found}
-use Rattle.iofd_runs.proofs.NotRefused.{passes, user_map_passed}
+use Rattle.iofd_runs.proofs.NotRefused.{user_map_passed}
 use Rattle.iofd_words.specs.After.{changed}
 use Rattle.iofd_words.specs.Answers.{Answers}
 use Rattle.iofd_words.specs.Frames.{is_free}
 use Rattle.iofd_words.specs.Pages.{page_of}
 use Rattle.iofd_words.specs.View.{view}
-use Rattle.iofd_words.specs.declared.event.Event.TheVariants as event
 use Rattle.iofd_words.specs.declared.numbers.FrameNo.{FrameNo}
 use Rattle.iofd_words.specs.declared.reply.Reply.TheVariants as reply
 use Rattle.server_state.proofs.ViewShown.{same_least}
@@ -33,7 +32,7 @@ pub map_page-requires-clause-absent : goal.map_page-requires-clause-absent
 map_page-requires-clause-absent g c =
     let known = c.requires.granted in
     let passed = user_map_passed (view known.world) c.args.user c.args.va
-    (passes known.world (event.UserMap c.args.user c.args.va) known.none) in
+    known.none in
     sym (known.shows.users.pages c.args.user (page_of c.args.va)) ∙ none_of _ passed.unmapped
 
 pub map_page-requires-clause-free : goal.map_page-requires-clause-free
@@ -41,7 +40,7 @@ map_page-requires-clause-free g c =
     let known = c.requires.granted in
     let w = known.world in
     let passed = user_map_passed (view w) c.args.user c.args.va
-    (passes w (event.UserMap c.args.user c.args.va) known.none) in
+    known.none in
     let free = is_free w.settings.pool w.user_pages w.pins w.table_frames in
     let some : is_some (find (is_free w.settings.pool w.user_pages w.pins w.table_frames)
     (range_with_len 0 w.settings.pool)) ≡ true =

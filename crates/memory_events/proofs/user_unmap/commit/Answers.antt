@@ -1,13 +1,12 @@
 use Rattle.std.proofs.Common.{◌≡◌, false, Option, Some, None, is_none, refl, sym, ◌∙◌, ap}
 use Rattle.std.specs.Option.{IfSome, IsSome}
 use Rattle.frame_memory.specs.UserPages.{HasOneMore, user_page}
-use Rattle.iofd_runs.proofs.NotRefused.{passes, user_unmap_passed}
+use Rattle.iofd_runs.proofs.NotRefused.{user_unmap_passed}
 use Rattle.iofd_words.specs.After.{changed}
 use Rattle.iofd_words.specs.Answers.{Answers}
 use Rattle.iofd_words.specs.Frames.{frame_at, without_page}
 use Rattle.iofd_words.specs.Pages.{page_of}
 use Rattle.iofd_words.specs.View.{view}
-use Rattle.iofd_words.specs.declared.event.Event.TheVariants as event
 use Rattle.iofd_words.specs.declared.numbers.FrameNo.{FrameNo}
 use Rattle.iofd_words.specs.declared.numbers.UserNo.{UserNo}
 use Rattle.memory_rows.proofs.FramesFollow.{frames_follow, is_backed, pins_same, users_less}
@@ -23,7 +22,7 @@ pub unmap_page-requires-clause-present : goal.unmap_page-requires-clause-present
 unmap_page-requires-clause-present g c =
     let known = c.requires.granted in
     let passed = user_unmap_passed (view known.world) c.args.user c.args.va
-    (passes known.world (event.UserUnmap c.args.user c.args.va) known.none) in
+    known.none in
     some_of _ (ap (λ (o : Option FrameNo). is_none o) (sym (known.shows.users.pages c.args.user (page_of c.args.va)))
     ∙ passed.mapped)
 
@@ -47,7 +46,7 @@ returns g c = λ at w tidy shows none.
     let old = c.args.state.now in
     let new = c.unmap_page.new in
     let passed = user_unmap_passed (view w) c.args.user c.args.va
-    (passes w (event.UserUnmap c.args.user c.args.va) none) in
+    none in
     let some = some_of _ (ap (λ (o : Option FrameNo). is_none o)
     (sym (shows.users.pages c.args.user (page_of c.args.va))) ∙ passed.mapped) in (
       tt,

@@ -1,12 +1,11 @@
 use Rattle.std.proofs.Common.{◌≡◌, ◌%◌, true, false, Option, Some, None, is_none, length, ◌∙◌, ap, sym, arith}
 use Rattle.frame_memory.specs.Pool.{written}
-use Rattle.iofd_runs.proofs.NotRefused.{passes, user_write_passed}
+use Rattle.iofd_runs.proofs.NotRefused.{user_write_passed}
 use Rattle.iofd_words.specs.After.{changed}
 use Rattle.iofd_words.specs.Answers.{Answers}
 use Rattle.iofd_words.specs.Frames.{frame_at}
 use Rattle.iofd_words.specs.Pages.{page_of}
 use Rattle.iofd_words.specs.View.{view}
-use Rattle.iofd_words.specs.declared.event.Event.TheVariants as event
 use Rattle.iofd_words.specs.declared.numbers.FrameNo.{FrameNo}
 use Rattle.memory_rows.proofs.UserAccess.{page_in_pool, short}
 use Rattle.memory_rows.proofs.FramesFollow.{written_shown}
@@ -23,7 +22,7 @@ returns-in_default g c = λ at w tidy shows none.
     let told : frame_at c.args.state.now.memory.pages user (page_of va) ≡ None = sym c.frame_at.ensures
     ∙ c.in_default.is in
     let lost = shows.users.pages user (page_of va) ∙ told in
-    let mapped = (user_write_passed (view w) user va bytes (passes w (event.UserWrite user va bytes) none)).mapped in
+    let mapped = (user_write_passed (view w) user va bytes none).mapped in
     absurd (never (sym (ap (λ (o : Option FrameNo). is_none o) lost) ∙ mapped))
 
 pub write-requires-clause-frame : goal.write-requires-clause-frame
@@ -43,7 +42,7 @@ write-requires-clause-within g c =
     let w = known.world in
     let bytes = c.args.bytes.now in
     let passed = user_write_passed (view w) c.args.user c.args.va bytes
-    (passes w (event.UserWrite c.args.user c.args.va bytes) known.none) in
+    known.none in
     rw c.as_slice.ensures.value (short c.args.va (length bytes) passed.short).within
 
 pub returns-in-Some : goal.returns-in-Some
@@ -57,7 +56,7 @@ returns-in-Some g c = λ at w tidy shows none.
     let found : frame_at w.user_pages user (page_of va) ≡ Some frame = shows.users.pages user (page_of va)
     ∙ sym c.frame_at.ensures ∙ c.in-Some.is in
     let within = page_in_pool w tidy.fit.user_frames user (page_of va) frame found in
-    let passed = user_write_passed (view w) user va bytes (passes w (event.UserWrite user va bytes) none) in
+    let passed = user_write_passed (view w) user va bytes none in
     let in_page = (short va (length bytes) passed.short).within in
     let put : c.write.new.self ≡ written old.pool frame.0 (va % 4096) bytes =
     rw c.as_slice.ensures.value at c.write.ensures.new in (

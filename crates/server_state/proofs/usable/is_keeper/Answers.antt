@@ -1,4 +1,3 @@
-use Rattle.std.proofs.Common.{sym, ap, ◌∙◌, ◌&&◌}
 use Rattle.iofd_words.specs.Files.{device_of}
 use Rattle.iofd_words.specs.Span.{meets}
 use Rattle.iofd_words.specs.Usable.{reserved_of}

@@ -6,5 +6,5 @@ use Rattle.area_map.proofs.areas.Areas.owes.Goals as goal
 
 pub returns : goal.returns
 returns g c =
-    rw (c.owe.ensures, c.within.ensures)
+    rw (c.owe.ensures, c.within.ensures.value)
     (list_any-filter (λ (a : Area). lies_in a.span c.args.span) (λ (a : Area). is_owing a.phase) c.args.self.now.areas)

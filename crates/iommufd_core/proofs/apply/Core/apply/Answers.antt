@@ -10,19 +10,19 @@ use Rattle.server_state.proofs.ViewShown.{same_refusal}
 use Rattle.server_state.specs.Step.{Answered, IsCalled, TidyShowsSame}
 use Rattle.iommufd_core.proofs.apply.Core.apply.Goals as goal
 
-pub invariant_of-self-in_default : goal.invariant_of-self-in_default
-invariant_of-self-in_default g c =
+pub invariant_of-self-in_default-answer : goal.invariant_of-self-in_default-answer
+invariant_of-self-in_default-answer g c =
     let at : c.len-at.result ≡ length c.self.inside.records.items = c.len-at.ensures ∙ c.self.inside.records.ok.0 in
-    let stays = subst (λ n. TidyShowsSame n c.self.inside.state c.answer.new.state) at c.in_default.ensures.err in
+    let stays = subst (λ n. TidyShowsSame n c.self.inside.state c.answer.new.state) at c.in_default-answer.ensures.err in
     rw c.reserve.ensures.items (unchanged_kept c.self.inside.state c.answer.new.state c.self.inside.records.items c.self.invariant stays)
 
-pub returns-in_default-clause-run : goal.returns-in_default-clause-run
-returns-in_default-clause-run g c = (invariant_of-self-in_default g c).run
+pub returns-in_default-answer-clause-run : goal.returns-in_default-answer-clause-run
+returns-in_default-answer-clause-run g c = (invariant_of-self-in_default-answer g c).run
 
-pub returns-in_default-clause-unchanged : goal.returns-in_default-clause-unchanged
-returns-in_default-clause-unchanged g c =
+pub returns-in_default-answer-clause-unchanged : goal.returns-in_default-answer-clause-unchanged
+returns-in_default-answer-clause-unchanged g c =
     let at : c.len-at.result ≡ length c.self.inside.records.items = c.len-at.ensures ∙ c.self.inside.records.ok.0 in
-    let stays = subst (λ n. TidyShowsSame n c.self.inside.state c.answer.new.state) at c.in_default.ensures.err in
+    let stays = subst (λ n. TidyShowsSame n c.self.inside.state c.answer.new.state) at c.in_default-answer.ensures.err in
     let config = unchanged_config c.self.inside.state c.answer.new.state c.self.inside.records.items c.self.invariant stays in
     rw (config, c.reserve.ensures.items) (ap (λ (s : Server _). s.history) c.self.view_is)
 
@@ -33,10 +33,10 @@ invariant_of-self-2 g c =
     let records = c.self.inside.records.items in
     let act = c.args.act.now in
     let at : c.len-at.result ≡ length records = c.len-at.ensures ∙ c.self.inside.records.ok.0 in
-    let answered = subst (λ n. Answered n act.event act.via old c.in-Ok.reply new) at c.in-Ok.ensures.ok in
+    let answered = subst (λ n. Answered n act.event act.via old c.in-Ok-answer.reply new) at c.in-Ok-answer.ensures.ok in
     let may : MayUse (world_of old.config records) act.event act.via = may_use (record { settings = old.config; records = records }) act.event act.via (rw (← c.self.view_is) at c.requires) in
-    let kept = applied_kept old new records c.self.invariant c.args.pass act.event act.via c.in-Ok.reply may answered in
-    rw (c.push_reserved.ensures.items, c.reserve.ensures.items, c.new-2.ensures, c.new.ensures.items, c.new-4.ensures, c.new-3.ensures.items) kept
+    let kept = applied_kept old new records c.self.invariant c.args.pass act.event act.via c.in-Ok-answer.reply may answered in
+    rw (c.push_reserved.ensures.items, c.reserve.ensures.items, c.in-Ok.ensures.ok, c.new-2.ensures, c.new.ensures.items, c.new-4.ensures, c.new-3.ensures.items) kept
 
 pub returns-clause-record : goal.returns-clause-record
 returns-clause-record g c =
@@ -45,12 +45,12 @@ returns-clause-record g c =
     let records = c.self.inside.records.items in
     let act = c.args.act.now in
     let at : c.len-at.result ≡ length records = c.len-at.ensures ∙ c.self.inside.records.ok.0 in
-    let answered = subst (λ n. Answered n act.event act.via old c.in-Ok.reply new) at c.in-Ok.ensures.ok in
+    let answered = subst (λ n. Answered n act.event act.via old c.in-Ok-answer.reply new) at c.in-Ok-answer.ensures.ok in
     let may : MayUse (world_of old.config records) act.event act.via = may_use (record { settings = old.config; records = records }) act.event act.via (rw (← c.self.view_is) at c.requires) in
-    let config = applied_config old new records c.self.invariant c.args.pass act.event act.via c.in-Ok.reply may answered in
-    let is : HasOneMore c.args.pass act.event c.in-Ok.reply (record { settings = old.config; records = records }) (record { settings = new.config; records = c.push_reserved.new.self.items }) = record {
-      made = recorded c.args.pass act.event c.in-Ok.reply;
-      records = rw (config, c.push_reserved.ensures.items, c.reserve.ensures.items, c.new-2.ensures, c.new.ensures.items, c.new-4.ensures, c.new-3.ensures.items) refl;
+    let config = applied_config old new records c.self.invariant c.args.pass act.event act.via c.in-Ok-answer.reply may answered in
+    let is : HasOneMore c.args.pass act.event c.in-Ok-answer.reply (record { settings = old.config; records = records }) (record { settings = new.config; records = c.push_reserved.new.self.items }) = record {
+      made = recorded c.args.pass act.event c.in-Ok-answer.reply;
+      records = rw (config, c.push_reserved.ensures.items, c.reserve.ensures.items, c.in-Ok.ensures.ok, c.new-2.ensures, c.new.ensures.items, c.new-4.ensures, c.new-3.ensures.items) refl;
       pass = refl;
       event = refl;
       reply = refl;
@@ -66,15 +66,15 @@ returns-clause-chosen g c =
     let records = c.self.inside.records.items in
     let act = c.args.act.now in
     let at : c.len-at.result ≡ length records = c.len-at.ensures ∙ c.self.inside.records.ok.0 in
-    let answered = subst (λ n. Answered n act.event act.via old c.in-Ok.reply c.answer.new.state) at c.in-Ok.ensures.ok in
+    let answered = subst (λ n. Answered n act.event act.via old c.in-Ok-answer.reply c.answer.new.state) at c.in-Ok-answer.ensures.ok in
     let may : MayUse (world_of old.config records) act.event act.via = may_use (record { settings = old.config; records = records }) act.event act.via (rw (← c.self.view_is) at c.requires) in
-    rw (← c.self.view_is) (applied_chosen old c.answer.new.state records c.self.invariant c.args.pass act.event act.via c.in-Ok.reply may answered)
+    rw (← c.self.view_is) (applied_chosen old c.answer.new.state records c.self.invariant c.args.pass act.event act.via c.in-Ok-answer.reply may answered)
 
-pub returns-in_default-clause-memory : goal.returns-in_default-clause-memory
-returns-in_default-clause-memory g c =
+pub returns-in_default-answer-clause-memory : goal.returns-in_default-answer-clause-memory
+returns-in_default-answer-clause-memory g c =
     let old = c.self.inside.state in
     let records = c.self.inside.records.items in
-    let wants = c.in_default.ensures.memory in
+    let wants = c.in_default-answer.ensures.memory in
     rw (← c.self.view_is) (inr (sym (same_refusal (world_of old.config records) old c.self.invariant.shows c.args.act.now.event) ∙ wants.0, wants.1))
 
 pub answer-requires : goal.answer-requires

@@ -1,6 +1,5 @@
 use Rattle.std.proofs.Common.{◌≡◌, ◌==◌, ℕ, length, take}
-use Rattle.iova_ranges.specs.Ranges.{AreMerged}
-use Rattle.iofd_words.specs.Ranges.{in_spans}
+use Rattle.iofd_words.specs.Ranges.{AreMerged, in_spans}
 use Rattle.iova_ranges.proofs.range_set.RangeSet.of.Given as goal
 
 abbrev pub invariant-loop-span : goal.invariant-loop-span

@@ -1,6 +1,5 @@
 use Rattle.std.proofs.Common.{◌≡◌, ℕ, ◌&&◌, not, take}
-use Rattle.iofd_words.specs.Ranges.{in_spans}
-use Rattle.iova_ranges.specs.Ranges.{AreMerged}
+use Rattle.iofd_words.specs.Ranges.{AreMerged, in_spans}
 use Rattle.iova_ranges.specs.Reserved.{is_reserved}
 use Rattle.iova_ranges.proofs.reserved.Reserved.outside.Given as goal
 

@@ -1,0 +1,73 @@
+//! Ranges of addresses, as the interface has them.
+
+ghost use Rattle.std.specs.Prelude.{◌≡◌, ◌<◌, IfOk, OnErr, length};
+
+use crate::refusal::NoMemory;
+use std::alloc::{Allocator, Global};
+use std::marker::Model;
+
+/// The addresses from `start` to `last` (uapi header, `struct iommu_iova_range`). It is what a caller has written, and
+/// so it may begin above its last address.
+#[derive(Clone, Copy, PartialEq, Eq, Debug)]
+pub struct IovaRange {
+    pub start: u64,
+    pub last: u64,
+}
+
+impl Model for IovaRange {
+    ghost use Rattle.iofd_words.specs.Bounds.{Bounds};
+
+    ghost Value = { Bounds };
+
+    ghost view = { λ range. record { first = range.start; last = range.last } };
+
+    ghost inverse = { λ bounds. record { start = bounds.first; last = bounds.last } };
+}
+
+/// Ranges of addresses, in the order given.
+#[derive(Debug, Drop)]
+pub struct RangeList<A: Allocator = Global> {
+    ranges: Vec<IovaRange, A>,
+}
+
+impl<A: Allocator> Model for RangeList<A> {
+    ghost use Rattle.std.specs.Prelude.{List};
+    ghost use Rattle.iofd_words.specs.Bounds.{Bounds};
+
+    ghost Value = { List Bounds };
+
+    ghost view = { λ list. list.ranges.items };
+}
+
+impl<A: Allocator> RangeList<A> {
+    /// The list of these ranges. It takes no memory.
+    pub fn new(ranges: Vec<IovaRange, A>) -> RangeList<A>
+        ensures { result ≡ ranges.items }
+    {
+        RangeList { ranges }
+    }
+
+    /// The ranges, in order.
+    pub fn as_slice(&self) -> &[IovaRange]
+        ensures { result.now ≡ self.now }
+    {
+        self.ranges.as_slice()
+    }
+
+    /// The same ranges in new memory. It fails only where memory does; no ranges need none.
+    pub fn copied<B: Allocator>(&self, alloc: B) -> Result<RangeList<B>, NoMemory>
+        ensures ok { IfOk result (λ ranges. ranges ≡ self.now) }
+        ensures memory { OnErr result (0 < length self.now) }
+    {
+        let mut ranges = Vec::with_capacity(alloc, self.ranges.len())?;
+        ranges.extend_from_slice(&self.ranges)?;
+        Ok(RangeList { ranges })
+    }
+
+    /// The ranges as they were handed in. It takes no memory.
+    pub fn into_vec(self) -> Vec<IovaRange, A>
+        ensures { result.items ≡ self }
+    {
+        self.ranges
+    }
+}

@@ -1,0 +1,16 @@
+use Rattle.std.proofs.Common.{[], ◌∷◌, ◌++◌, ap, ◌∙◌}
+use Rattle.iofd_words.specs.After.{changed}
+use Rattle.iofd_words.specs.Allowed.{AllowedRanges, without_allowed}
+use Rattle.iofd_words.specs.Answers.{Answers}
+use Rattle.memory_events.proofs.RangesAllowed.{shows_allowed}
+use Rattle.memory_events.proofs.allow_iovas.commit.Goals as goal
+
+pub returns-clause-ok : goal.returns-clause-ok
+unfolding changed Answers
+returns-clause-ok g c = λ at w tidy shows none. (
+  tt,
+  shows_allowed w c.args.state.now c.args.file c.args.ioas c.args.ranges.now c.set.new.self shows
+      (c.in_ok-set.ensures.rows
+      ∙ ap (λ (row : AllowedRanges). without_allowed row.file row.ioas c.args.state.now.allowed ++ row ∷ []) c.in_ok-row.ensures.ok
+      ∙ ap (λ ranges. without_allowed c.args.file c.args.ioas c.args.state.now.allowed ++ record { file = c.args.file; ioas = c.args.ioas; spans = ranges } ∷ []) c.in_ok-ranges.ensures.ok),
+)

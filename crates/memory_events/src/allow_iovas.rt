@@ -1,0 +1,128 @@
+//! AllowIovas: the ranges to which the addresses that the server chooses in an address space are bounded.
+
+ghost use Rattle.std.specs.Prelude.{◌≡◌, ◌<◌, ◌==◌, true, false, ℕ, IfOk, OnErr, nat_lt};
+ghost use Rattle.std.specs.List.{list_any};
+ghost use Rattle.iofd_words.specs.Allowed.{are_ranges};
+ghost use Rattle.iofd_words.specs.Checks.{allow_iovas_checks, unusable_in};
+ghost use Rattle.iofd_words.specs.FirstTrue.{first_true};
+ghost use Rattle.iofd_words.specs.Ranges.{meets_some};
+ghost use Rattle.iofd_words.specs.declared.event.Event.TheVariants as event;
+ghost use Rattle.server_state.specs.Seen.{seen};
+ghost use Rattle.server_state.specs.Step.{ShowsSame, Steps};
+
+use iofd_words::{Cause, FileNo, IovaRange, NoMemory, ObjId, RangeList, Reply, Span};
+use iova_ranges::AllowedRow;
+use server_state::{State, lookups, usable};
+use std::alloc::Allocator;
+
+/// Why it is refused, by the first row of the definitions that holds. None where nothing refuses it.
+#[tactic(auto, unfolding(iofd_words::specs::Checks::allow_iovas_checks))]
+pub fn refusal<A: Allocator>(
+    state: &State<A>,
+    file: FileNo,
+    ioas: ObjId,
+    ranges: &[IovaRange],
+) -> Option<Cause>
+    ensures { result ≡ first_true (allow_iovas_checks (seen state.now) file ioas ranges.now) }
+{
+    if !state.objects.is_open(file) {
+        return Some(Cause::Id);
+    }
+    let Some(_) = lookups::areas_of(&state.objects, file, ioas) else {
+        return Some(Cause::Id);
+    };
+    if !are_ranges(ranges) {
+        return Some(Cause::List);
+    }
+    if meet_unusable(state, file, ioas, ranges) {
+        return Some(Cause::Narrow);
+    }
+    None
+}
+
+/// Whether each range begins below its last address, and no two have an address in common.
+fn are_ranges(ranges: &[IovaRange]) -> bool
+    ensures { result ≡ are_ranges ranges.now }
+{
+    let mut rest = ranges;
+    while let Some((range, others)) = rest.split_first() {
+        if range.start >= range.last || meets_some(others, *range) {
+            return false;
+        }
+        rest = others;
+    }
+    true
+}
+
+/// Whether one of the ranges has an address in common with this one.
+fn meets_some(others: &[IovaRange], range: IovaRange) -> bool
+    ensures { result ≡ meets_some others.now range }
+{
+    others
+        .iter()
+        .any(|one| one.start <= range.last && range.start <= one.last)
+}
+
+/// Whether an address of one of the ranges can't be used.
+fn meet_unusable<A: Allocator>(
+    state: &State<A>,
+    file: FileNo,
+    ioas: ObjId,
+    ranges: &[IovaRange],
+) -> bool
+    requires { are_ranges ranges.now ≡ true }
+    ensures { result ≡ list_any (meets_some (unusable_in (seen state.now) file ioas)) ranges.now }
+{
+    let mut rest = ranges;
+    while let Some((range, others)) = rest.split_first() {
+        if is_unusable(state, file, ioas, *range) {
+            return true;
+        }
+        rest = others;
+    }
+    false
+}
+
+/// Whether an address of the range can't be used.
+fn is_unusable<A: Allocator>(state: &State<A>, file: FileNo, ioas: ObjId, range: IovaRange) -> bool
+    requires { range.first < range.last }
+    ensures { result ≡ meets_some (unusable_in (seen state.now) file ioas) range }
+{
+    match Span::new(range.start, range.last) {
+        Some(span) => is_span_unusable(state, file, ioas, span),
+        None => false,
+    }
+}
+
+fn is_span_unusable<A: Allocator>(state: &State<A>, file: FileNo, ioas: ObjId, span: Span) -> bool
+    ensures { result ≡ meets_some (unusable_in (seen state.now) file ioas) span }
+{
+    let met = usable::unusable_meeting(
+        &state.config,
+        &state.objects,
+        &state.attachments,
+        file,
+        ioas,
+        span,
+    );
+    met.is_some()
+}
+
+/// What it does where nothing refuses it: the address space allows these ranges, in place of those before; an empty list
+/// allows all addresses again.
+///
+/// The only error is want of memory. It leaves the world as it was.
+pub fn commit<A: Allocator + Copy>(
+    state: &mut State<A>,
+    file: FileNo,
+    ioas: ObjId,
+    ranges: &RangeList<A>,
+) -> Result<Reply, NoMemory>
+    ensures ok { IfOk result (λ reply. (at : ℕ) → Steps at (event.AllowIovas file ioas ranges.now) state.old reply state.new) }
+    ensures err { OnErr result (ShowsSame state.old state.new) }
+{
+    let ranges = ranges.copied(state.alloc)?;
+    let row = AllowedRow::new(state.alloc, file, ioas, ranges)?;
+    state.allowed.set(row)?;
+    Ok(Reply::Done)
+}
