@@ -67,7 +67,7 @@ fn core_after<'a>(
 
 /// Whether the ranges are told, and are these.
 fn are_usable(core: &Core<&LocalHeap>, wanted: &[(u64, u64)]) -> Result<bool, RangesError> {
-    let set = core.usable_ranges(FIRST, ObjId(1))?;
+    let set = core.ranges(FIRST, ObjId(1))?;
     let ends = set.spans().iter().map(|span| (span.first(), span.last()));
     Ok(ends.eq(wanted.iter().copied()))
 }

@@ -353,7 +353,7 @@ static CHAINS: [Chain; 18] = [
 fn put_step(script: &mut String, step: Step) -> Result<(), AllocError> {
     match step {
         Line(line) => writeln!(script, "{line}"),
-        Alloc(file) => writeln!(script, "ioctl {file} 3b81 0c0000000000000000000000"),
+        Alloc(file) => put_alloc(script, file),
         Allow(file, ioas, ranges) => {
             write!(
                 script,
@@ -367,15 +367,9 @@ fn put_step(script: &mut String, step: Step) -> Result<(), AllocError> {
             "ioctl {file} 3b84 20000000{:08x}000000000000000000000000000000000000000000000000",
             ioas.swap_bytes()
         ),
-        Map(file, flags, ioas, va, length, iova) => writeln!(
-            script,
-            "ioctl {file} 3b85 28000000{:08x}{:08x}00000000{:016x}{:016x}{:016x}",
-            flags.swap_bytes(),
-            ioas.swap_bytes(),
-            va.swap_bytes(),
-            length.swap_bytes(),
-            iova.swap_bytes()
-        ),
+        Map(file, flags, ioas, va, length, iova) => {
+            put_map(script, file, flags, ioas, va, length, iova)
+        }
         Unmap(file, ioas, iova, length) => writeln!(
             script,
             "ioctl {file} 3b86 18000000{:08x}{:016x}{:016x}",
@@ -399,17 +393,40 @@ fn put_ranges(script: &mut String, ranges: &[(u64, u64)]) -> Result<(), AllocErr
     script.push('\n')
 }
 
+fn put_alloc(script: &mut String, file: u16) -> Result<(), AllocError> {
+    writeln!(script, "ioctl {file} 3b81 0c0000000000000000000000")
+}
+
+fn put_map(
+    script: &mut String,
+    file: u16,
+    flags: u32,
+    ioas: u32,
+    va: u64,
+    length: u64,
+    iova: u64,
+) -> Result<(), AllocError> {
+    writeln!(
+        script,
+        "ioctl {file} 3b85 28000000{:08x}{:08x}00000000{:016x}{:016x}{:016x}",
+        flags.swap_bytes(),
+        ioas.swap_bytes(),
+        va.swap_bytes(),
+        length.swap_bytes(),
+        iova.swap_bytes()
+    )
+}
+
 fn put_allocs(script: &mut String, count: u32) -> Result<(), AllocError> {
     for _ in 0..count {
-        put_step(script, Alloc(1))?;
+        put_alloc(script, 1)?;
     }
     Ok(())
 }
 
 fn put_maps(script: &mut String, count: u32) -> Result<(), AllocError> {
     for page in 0..count {
-        let iova = u64::from(page) * 0x1000;
-        put_step(script, Map(1, ALL, 1, 0x10000, 0x1000, iova))?;
+        put_map(script, 1, ALL, 1, 0x10000, 0x1000, u64::from(page) * 0x1000)?;
     }
     Ok(())
 }

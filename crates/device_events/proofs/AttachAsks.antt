@@ -44,6 +44,7 @@ use Rattle.memory_rows.specs.Moves.{MayPin, PinsAreKnown}
 use Rattle.user_memory.specs.Memory.{has_room}
 use Rattle.server_state.proofs.AreasBecome.{own_at}
 use Rattle.server_state.proofs.Orderly.{orderly}
+use Rattle.server_state.proofs.PageTables.{has_hwpt_kept, tables_shown}
 use Rattle.server_state.proofs.Limits.{room_there}
 use Rattle.server_state.proofs.ViewShown.{same_refusal}
 use Rattle.server_state.specs.Held.{areas_at, is_proper, object_of, objects_in}
@@ -156,6 +157,13 @@ room_for_pins objects areas file ioas none n =
     omega (arith, gained, few)
 
 -- ---- where nothing refuses
+
+-- whether an address space is translated is known of the page tables that are kept
+pub translated_space : {A : Type 0} (w : World) (s : State A) (table : Table (Held A)) (kept : List Object) (file : FileNo) (ioas : ObjId) → Shows w s → kept ≡ s.page_tables.items → table.rows ≡ s.objects.rows → has_hwpt kept file ioas ≡ has_hwpt (objects_in table) file ioas
+translated_space w s table kept file ioas shows is rows =
+    ap (λ (tables : List Object). has_hwpt tables file ioas) is
+    ∙ has_hwpt_kept s.page_tables.items (objects_in s.objects) (tables_shown w s shows) file ioas
+    ∙ ap (λ (rows : List (Row (Held _))). has_hwpt (map object_of rows) file ioas) (sym rows)
 
 module _ {A : Type 0} where
   -- the pins that are known

@@ -1,5 +1,5 @@
 -- What is kept after an attachment came shows the world after it.
-use Rattle.std.proofs.Common.{◌≡◌, ◌<◌, ◌^◌, ℕ, Bool, true, false, cond, eqb, not, Option, Some, None, List, [], map, refl, sym, ◌∙◌, ap, subst, arith, ◌+◌}
+use Rattle.std.proofs.Common.{◌≡◌, ◌<◌, ◌^◌, ℕ, Bool, true, false, cond, eqb, not, Option, Some, None, List, [], ◌∷◌, ◌++◌, map, refl, sym, ◌∙◌, ap, subst, arith, ◌+◌}
 use Rattle.iofd_words.specs.Checks.{attach_checks}
 use Rattle.iofd_words.specs.FirstTrue.{first_true}
 use Rattle.iofd_words.specs.View.{view}
@@ -51,11 +51,13 @@ use Rattle.server_state.specs.Held.{areas_at, is_proper, object_of, objects_in}
 use Rattle.device_events.specs.Attaching.{width_of}
 use Rattle.server_state.specs.Shows.{Shows}
 use Rattle.server_state.specs.Step.{IsTidy, ShowsSame}
+use Rattle.server_state.specs.Tables.{AreTables}
 use Rattle.server_state.specs.declared.held.Held.{Held}
 use Rattle.server_state.specs.declared.held.Held.TheVariants as held
 use Rattle.server_state.specs.declared.state.State.{State}
 use Rattle.device_events.proofs.Attached.{hwpt_object, never_unbound, same_tables, table_gained, was_unattached}
 use Rattle.server_state.proofs.Objects.{kind_at, kind_of_rows}
+use Rattle.server_state.proofs.PageTables.{tables_with}
 use Rattle.server_state.proofs.ObjectsMoved.{areas-inserted, objects-inserted, proper-inserted}
 use Rattle.object_table.specs.Table.{Row, Table, inserted, is_at, row_at}
 use Rattle.object_table.specs.declared.kind.Kind.TheVariants as of_kind
@@ -166,6 +168,7 @@ module _ {A : Type 0} where
         };
         devices = record {
           bindings = shows.devices.bindings;
+          tables = shows.devices.tables;
           attached = ap (with_attachment (record { device = device; file = bound.file; hwpt = id })) shows.devices.attached ∙ sym added;
         };
         limits = shows.limits;
@@ -202,9 +205,10 @@ module _ {A : Type 0} where
       → row_at table bound.file id ≡ None → 0 < id.0 → id.0 < 2 ^ 31
       → new.objects.rows ≡ inserted (new_row bound.file pt_id id width) table.rows → new.objects.files ≡ table.files
       → ArePinnedMore (newly_translated (objects_in table) bound.file pt_id (own_areas table bound.file pt_id)) s.memory after s.pool pool
+      → new.page_tables.items ≡ s.page_tables.items ++ hwpt_object bound.file pt_id id width ∷ []
       → new.attachments.items ≡ with_attachment (record { device = device; file = bound.file; hwpt = id }) s.attachments.items
-      → Answers {A = A} w (event.Attach device pt_id) (reply.Id id) × Shows (changed {A = A} at w (event.Attach device pt_id) (reply.Id id)) (record s { objects = new.objects; attachments = new.attachments; memory = after; pool = pool })
-  shows_grown at w s new device pt_id id bound width table after pool tidy shows none binding wide automatic same_rows same_files free above below rows files more added =
+      → Answers {A = A} w (event.Attach device pt_id) (reply.Id id) × Shows (changed {A = A} at w (event.Attach device pt_id) (reply.Id id)) (record s { objects = new.objects; page_tables = new.page_tables; attachments = new.attachments; memory = after; pool = pool })
+  shows_grown at w s new device pt_id id bound width table after pool tidy shows none binding wide automatic same_rows same_files free above below rows files more kept added =
       let binding_w : binding_of w.objects device ≡ Some bound = shows.devices.bindings device ∙ binding in
       let absent : automatic_hwpt w.objects bound.file pt_id width ≡ None = ap (λ (objects : List Object). automatic_hwpt objects bound.file pt_id width) shows.objects.rows ∙ none_found (automatic_hwpt (objects_in s.objects) bound.file pt_id width) automatic in
       let paid : all_paid device w.areas ≡ w.areas = pays_none w device tidy.debts (was_unattached w device pt_id bound none binding_w) in
@@ -216,7 +220,7 @@ module _ {A : Type 0} where
       let objects : objects_in table ≡ w.objects = ap (map object_of) same_rows ∙ sym shows.objects.rows in
       let newly : newly_translated (objects_in table) bound.file pt_id (own_areas table bound.file pt_id) ≡ newly_translated w.objects bound.file pt_id (areas_of w.areas bound.file pt_id) =
       ap (λ (areas : List Area). newly_translated (objects_in table) bound.file pt_id areas) space ∙ ap (λ (rows : List Object). newly_translated rows bound.file pt_id (areas_of w.areas bound.file pt_id)) objects in
-      joined at w (record s { objects = new.objects; attachments = new.attachments; memory = after; pool = pool }) device pt_id id bound width None tidy none binding_w (ap (λ settings. width_of settings device) shows.settings ∙ wide) absent (fresh_id w s bound.file id shows above below free_s) (λ next. record {
+      joined at w (record s { objects = new.objects; page_tables = new.page_tables; attachments = new.attachments; memory = after; pool = pool }) device pt_id id bound width None tidy none binding_w (ap (λ settings. width_of settings device) shows.settings ∙ wide) absent (fresh_id w s bound.file id shows above below free_s) (λ next. record {
         settings = shows.settings;
         objects = record {
           rows = ap (with_object (hwpt_object bound.file pt_id id width)) shows.objects.rows ∙ sym (objects-inserted (new_row bound.file pt_id id width) s.objects.rows) ∙ ap (map object_of) (sym rows_s);
@@ -226,6 +230,7 @@ module _ {A : Type 0} where
         };
         devices = record {
           bindings = λ d. find-with_object (λ (object : Object). is_bound_as d object.kind) (hwpt_object bound.file pt_id id width) w.objects refl ∙ shows.devices.bindings d;
+          tables = subst (λ tables. AreTables tables (with_object (hwpt_object bound.file pt_id id width) w.objects)) (sym kept) (tables_with s.page_tables.items w.objects shows.devices.tables (hwpt_object bound.file pt_id id width) refl);
           attached = ap (with_attachment (record { device = device; file = bound.file; hwpt = id })) shows.devices.attached ∙ sym added;
         };
         limits = more.settles.limits ∙ shows.limits;
@@ -246,9 +251,9 @@ module _ {A : Type 0} where
       })
 
   -- where memory was wanting nothing is seen to have changed
-  pub shows_stayed : (s new : State A) → new.objects.rows ≡ s.objects.rows → new.objects.files ≡ s.objects.files → new.attachments.items ≡ s.attachments.items → Stays s.memory new.memory s.pool new.pool
-      → ShowsSame s (record s { objects = new.objects; attachments = new.attachments; memory = new.memory; pool = new.pool })
-  shows_stayed s new rows files attachments stays w shows = record {
+  pub shows_stayed : (s new : State A) → new.objects.rows ≡ s.objects.rows → new.objects.files ≡ s.objects.files → new.page_tables.items ≡ s.page_tables.items → new.attachments.items ≡ s.attachments.items → Stays s.memory new.memory s.pool new.pool
+      → ShowsSame s (record s { objects = new.objects; page_tables = new.page_tables; attachments = new.attachments; memory = new.memory; pool = new.pool })
+  shows_stayed s new rows files tables attachments stays w shows = record {
     settings = shows.settings;
     limits = stays.limits ∙ shows.limits;
     allowed = shows.allowed;
@@ -258,7 +263,7 @@ module _ {A : Type 0} where
       spaces = λ f i. shows.objects.spaces f i ∙ ap (λ (l : List (Row (Held A))). areas_at l f i) (sym rows);
       files = λ number. rw files (shows.objects.files number);
     };
-    devices = record { bindings = shows.devices.bindings; attached = shows.devices.attached ∙ sym attachments };
+    devices = record { bindings = shows.devices.bindings; attached = shows.devices.attached ∙ sym attachments; tables = subst (λ kept. AreTables kept w.objects) (sym tables) shows.devices.tables };
     users = record {
       pages = λ u page. shows.users.pages u page ∙ ap (λ (l : List UserPage). frame_at l u page) (sym stays.pages);
       counts = λ test. shows.users.counts test ∙ ap (count_by test) (sym stays.pages);

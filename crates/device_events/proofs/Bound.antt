@@ -76,5 +76,5 @@ module _ {A : Type 0} where
         users = 0;
         value =
             held.Device device;
-      }) table bindings shows refl refl unused (λ ioas. refl) rows files
+      }) table bindings shows refl refl unused refl rows files
       (λ d. bound_last w.objects s.bindings.items file id device shows.devices.bindings free d ∙ ap (find (λ (object : Object). is_bound_as d object.kind)) (sym last))

@@ -21,7 +21,7 @@ use Rattle.std.specs.List.{list_all}
 use Rattle.iofd_words.specs.After.{changed, detach_changes, detached, settle}
 use Rattle.iofd_words.specs.Areas.{all_paid, areas_of, paid, with_phase}
 use Rattle.iofd_words.specs.Attachments.{attachment_of, ioas_of_attachment, without_attachment}
-use Rattle.iofd_words.specs.Objects.{has_hwpt, kind_of, without_object}
+use Rattle.iofd_words.specs.Objects.{has_hwpt, is_object, kind_of, without_object}
 use Rattle.iofd_words.specs.View.{view}
 use Rattle.iofd_words.specs.World.{World}
 use Rattle.iofd_words.specs.declared.event.Event.TheVariants as event
@@ -42,6 +42,7 @@ use Rattle.device_events.specs.Attaching.{is_idle}
 use Rattle.server_state.specs.Shows.{Shows}
 use Rattle.server_state.specs.Spaces.{HasAreas, IsOrderly}
 use Rattle.server_state.specs.Step.{IsTidy}
+use Rattle.server_state.specs.Tables.{AreTables}
 use Rattle.server_state.specs.declared.held.Held.{Held}
 use Rattle.server_state.specs.declared.state.State.{State}
 use Rattle.server_state.proofs.AreasBecome.{own_at}
@@ -50,6 +51,7 @@ use Rattle.server_state.proofs.Objects.{has_table}
 use Rattle.device_events.proofs.Flushed.{attached_to, shows_paid, unattached}
 use Rattle.server_state.proofs.MemoryReleased.{AreFewer, may_release, nothing_released, over_map, shown_after, translated_map}
 use Rattle.server_state.proofs.ObjectsGone.{objects-removed}
+use Rattle.server_state.proofs.PageTables.{has_hwpt_kept, tables_left}
 use Rattle.device_events.proofs.TableRows.{areas_removed, destroyable}
 use Rattle.object_table.specs.Table.{Table, destroy_refusal, is_at, removed}
 use Rattle.object_table.specs.declared.kind.Kind.TheVariants as of_kind
@@ -146,6 +148,7 @@ module _ {A : Type 0} where
         devices = record {
           bindings = λ d. bindings_stay w.objects (without_attachment device w.attachments) a d ∙ shows.devices.bindings d;
           attached = sym others;
+          tables = subst (AreTables s.page_tables.items) (sym left) shows.devices.tables;
         };
         limits = after.limits;
         allowed = shows.allowed;
@@ -162,7 +165,9 @@ module _ {A : Type 0} where
       (without : attachments.items ≡ without_attachment device s.attachments.items)
       (idle : is_idle (objects_in table) attachments.items a.file a.hwpt ≡ true)
       (dropped : destroy_refusal table a.file of_kind.Hwpt a.hwpt ≡ None → new.rows ≡ removed a.file a.hwpt table.rows)
-      (files : new.files ≡ table.files) where
+      (files : new.files ≡ table.files)
+      (page_tables : Vec Object A)
+      (kept : page_tables.items ≡ without_object a.file a.hwpt s.page_tables.items) where
     end : Ending w device a ioas
     end = ending w s device a file ioas shows found space
 
@@ -180,6 +185,16 @@ module _ {A : Type 0} where
       where
         idle_in : (objects : List Object) → attachments.items ≡ without_attachment device w.attachments → objects ≡ objects_in table → is_idle objects (without_attachment device w.attachments) a.file a.hwpt ≡ true
         idle_in objects same rows = ap (λ (l : List Attachment). is_idle objects l a.file a.hwpt) (sym same) ∙ ap (λ (l : List Object). is_idle l attachments.items a.file a.hwpt) rows ∙ idle
+
+    tables_here : AreTables page_tables.items left
+    tables_here =
+        subst (AreTables page_tables.items) (sym one_left)
+        (subst (λ tables. AreTables tables (without_object a.file a.hwpt w.objects)) (sym kept)
+        (tables_left s.page_tables.items w.objects shows.devices.tables (λ o. not (is_object a.file a.hwpt o))))
+
+    -- whether others translate the address space is known of those that are kept
+    same_left : has_hwpt left a.file ioas ≡ has_hwpt page_tables.items a.file ioas
+    same_left = sym (has_hwpt_kept page_tables.items left tables_here a.file ioas)
 
     kind_table : (width : Width) (automatic : Bool) → kind_of w.objects a.file a.hwpt ≡ Some (kind.Hwpt ioas width automatic) → kind_of (objects_in table) a.file a.hwpt ≡ Some (kind.Hwpt ioas width automatic)
     kind_table width automatic kind_w = sym (ap (λ (objects : List Object). kind_of objects a.file a.hwpt) paid_shown.objects.rows) ∙ kind_w
@@ -208,12 +223,12 @@ module _ {A : Type 0} where
         ∙ sym (areas a.file ioas) ∙ paid_areas_of device w.areas a.file ioas
 
     shows_after : (areas_gone pins_gone : ℕ → ℕ) (memory : Memory) (pool : FramePool) → AreFewer areas_gone pins_gone w left (all_paid device w.areas) → IsReleased areas_gone pins_gone s.memory memory s.pool pool
-        → Shows (changed {A = A} at w (event.Detach device) reply.Done) (record s { objects = new; attachments = attachments; memory = memory; pool = pool })
+        → Shows (changed {A = A} at w (event.Detach device) reply.Done) (record s { objects = new; page_tables = page_tables; attachments = attachments; memory = memory; pool = pool })
     unfolding changed settle detached Answers
     shows_after areas_gone pins_gone memory pool fewer released =
         let next = next_pins at w device a tidy none end.found in
         let after = shown_after at w s tidy shows areas_gone pins_gone left (all_paid device w.areas) fewer (at + 1) (settle w (detached w device a)) memory pool next refl refl (all_have (all_paid device w.areas) w.memory next.used) refl refl released in
-        let P = λ (o : Option Attachment). Shows (detach_changes w device o) (record s { objects = new; attachments = attachments; memory = memory; pool = pool }) in
+        let P = λ (o : Option Attachment). Shows (detach_changes w device o) (record s { objects = new; page_tables = page_tables; attachments = attachments; memory = memory; pool = pool }) in
         subst P (sym end.found) (record {
           settings = shows.settings;
           objects = record {
@@ -225,6 +240,7 @@ module _ {A : Type 0} where
           devices = record {
             bindings = λ d. bindings_stay w.objects (without_attachment device w.attachments) a d ∙ shows.devices.bindings d;
             attached = sym others;
+            tables = tables_here;
           };
           limits = after.limits;
           allowed = shows.allowed;
@@ -234,24 +250,24 @@ module _ {A : Type 0} where
         })
 
     -- and another one stays
-    pub shows_dropped : has_hwpt (objects_in new) a.file ioas ≡ true → Shows (changed {A = A} at w (event.Detach device) reply.Done) (record s { objects = new; attachments = attachments })
+    pub shows_dropped : has_hwpt page_tables.items a.file ioas ≡ true → Shows (changed {A = A} at w (event.Detach device) reply.Done) (record s { objects = new; page_tables = page_tables; attachments = attachments })
     shows_dropped more =
-        let fewer = fewer_none w device left (all_stay w (without_attachment device w.attachments) a ioas tidy.ids end.over had (ap (λ (l : List Object). has_hwpt l a.file ioas) objects ∙ more)) in
+        let fewer = fewer_none w device left (all_stay w (without_attachment device w.attachments) a ioas tidy.ids end.over had (same_left ∙ more)) in
         shows_after never never s.memory s.pool fewer (nothing_released at w s tidy shows left (all_paid device w.areas) fewer)
 
     -- it was the last one
-    fewer_last : has_hwpt (objects_in new) a.file ioas ≡ false → AreFewer never (over (own_areas new a.file ioas)) w left (all_paid device w.areas)
+    fewer_last : has_hwpt page_tables.items a.file ioas ≡ false → AreFewer never (over (own_areas new a.file ioas)) w left (all_paid device w.areas)
     fewer_last last = record {
       over_left = λ n. let is = over_paid device w.areas n in omega (arith, is);
       translated_left =
           λ n. ap (λ k. translated left (all_paid device w.areas) n + k) (ap (λ l. over l n) own_left ∙ over_paid device (areas_of w.areas a.file ioas) n)
           ∙ ap (λ k. k + over (areas_of w.areas a.file ioas) n) (translated_paid left device w.areas n)
-          ∙ table_lost w.objects left w.areas a.file ioas had (ap (λ (l : List Object). has_hwpt l a.file ioas) objects ∙ last) (others_stay w (without_attachment device w.attachments) a ioas tidy.ids end.over) n;
+          ∙ table_lost w.objects left w.areas a.file ioas had (same_left ∙ last) (others_stay w (without_attachment device w.attachments) a ioas tidy.ids end.over) n;
     }
 
-    pub may_unpin : has_hwpt (objects_in new) a.file ioas ≡ false → MayRelease never (over (own_areas new a.file ioas)) s.memory s.pool.holds
+    pub may_unpin : has_hwpt page_tables.items a.file ioas ≡ false → MayRelease never (over (own_areas new a.file ioas)) s.memory s.pool.holds
     may_unpin last = may_release at w s tidy shows never (over (own_areas new a.file ioas)) left (all_paid device w.areas) (fewer_last last)
 
-    pub shows_last : (memory : Memory) (pool : FramePool) → has_hwpt (objects_in new) a.file ioas ≡ false → IsReleased never (over (own_areas new a.file ioas)) s.memory memory s.pool pool
-        → Shows (changed {A = A} at w (event.Detach device) reply.Done) (record s { objects = new; attachments = attachments; memory = memory; pool = pool })
+    pub shows_last : (memory : Memory) (pool : FramePool) → has_hwpt page_tables.items a.file ioas ≡ false → IsReleased never (over (own_areas new a.file ioas)) s.memory memory s.pool pool
+        → Shows (changed {A = A} at w (event.Detach device) reply.Done) (record s { objects = new; page_tables = page_tables; attachments = attachments; memory = memory; pool = pool })
     shows_last memory pool last released = shows_after never (over (own_areas new a.file ioas)) memory pool (fewer_last last) released

@@ -18,10 +18,11 @@ ghost use Rattle.server_state.specs.Step.{IsGranted, IsKnown, ShowsSame, Steps};
 use crate::{attachments, narrow, pins};
 use frame_memory::Pool;
 use iofd_words::{
-    Attachment, Cause, Config, DeviceNo, FileNo, NoMemory, ObjId, ObjectKind, Reply, UserNo, Width,
+    Attachment, Cause, Config, DeviceNo, FileNo, NoMemory, ObjId, Object, ObjectKind, Reply,
+    UserNo, Width,
 };
 use object_table::{Kind, ObjectTable, ReserveError};
-use server_state::{Held, State, accounts, area_changes, lookups};
+use server_state::{Held, State, accounts, area_changes, lookups, page_tables};
 use std::alloc::Allocator;
 use user_memory::UserMemory;
 
@@ -111,6 +112,8 @@ pub fn commit<A: Allocator + Copy>(
         attachments::insert(&mut state.attachments, Attachment { device, file, hwpt });
         return Ok(Reply::Id(hwpt));
     }
+    let translated = page_tables::has_over(&state.page_tables, file, pt_id);
+    state.page_tables.reserve(1)?;
     match state.objects.reserve(file) {
         Ok(_) => (),
         // Never: the file is open and not full.
@@ -122,6 +125,7 @@ pub fn commit<A: Allocator + Copy>(
         &state.objects,
         file,
         pt_id,
+        translated,
         user,
         &mut state.memory,
         &mut state.pool,
@@ -132,21 +136,32 @@ pub fn commit<A: Allocator + Copy>(
         automatic: true,
     };
     let hwpt = state.objects.insert_reserved(file, Kind::Hwpt, table);
+    state.page_tables.push_reserved(Object {
+        file,
+        id: hwpt,
+        kind: ObjectKind::Hwpt {
+            ioas: pt_id,
+            width,
+            automatic: true,
+        },
+    });
     attachments::insert(&mut state.attachments, Attachment { device, file, hwpt });
     Ok(Reply::Id(hwpt))
 }
 
-/// Pins the pages of all areas of the address space, for its first page table; where it has one they are pinned. An
-/// error leaves all pins as they were.
+/// Pins the pages of all areas of the address space, for its first page table; where it is translated already they are
+/// pinned. An error leaves all pins as they were.
 fn pin_space<A: Allocator + Copy>(
     alloc: A,
     table: &ObjectTable<Held<A>, A>,
     file: FileNo,
     ioas: ObjId,
+    translated: bool,
     user: UserNo,
     memory: &mut UserMemory<A>,
     pool: &mut Pool<A>,
 ) -> Result<(), NoMemory>
+    requires translated { translated ≡ has_hwpt (objects_in table.now) file ioas }
     requires known { PinsAreKnown memory.old }
     requires may { has_hwpt (objects_in table.now) file ioas ≡ false
         → MayPin user (own_areas table.now file ioas) memory.old pool.old.holds }
@@ -154,7 +169,7 @@ fn pin_space<A: Allocator + Copy>(
         memory.old memory.new pool.old pool.new) }
     ensures err { OnErr result (Stays memory.old memory.new pool.old pool.new) }
 {
-    if lookups::has_hwpt(table, file, ioas) {
+    if translated {
         return Ok(());
     }
     let Some(areas) = area_changes::own_areas(table, file, ioas) else {
@@ -195,7 +210,7 @@ fn lacks_page<A: Allocator>(state: &State<A>, file: FileNo, ioas: ObjId) -> bool
     requires { IsKnown state.now }
     ensures { result ≡ lacks_attached_page (seen state.now) file ioas }
 {
-    if lookups::has_hwpt(&state.objects, file, ioas) {
+    if state.has_hwpt(file, ioas) {
         return false;
     }
     match lookups::areas_of(&state.objects, file, ioas) {
@@ -213,7 +228,7 @@ fn passes_limit<A: Allocator>(state: &State<A>, file: FileNo, ioas: ObjId) -> bo
     requires { IsKnown state.now }
     ensures { result ≡ passes_limit_attached (seen state.now) file ioas }
 {
-    if lookups::has_hwpt(&state.objects, file, ioas) {
+    if state.has_hwpt(file, ioas) {
         return false;
     }
     let Some(areas) = lookups::areas_of(&state.objects, file, ioas) else {

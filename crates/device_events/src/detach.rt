@@ -15,7 +15,7 @@ ghost use Rattle.object_table.specs.declared.kind.Kind.TheVariants as of_kind;
 use crate::{attachments, spaces};
 use iofd_words::{Attachment, Cause, DeviceNo, FileNo, ObjId, ObjectKind, Reply};
 use object_table::{Kind, ObjectTable};
-use server_state::{Held, State, lookups, release};
+use server_state::{Held, State, lookups, page_tables, release};
 use std::alloc::Allocator;
 
 /// Why it is refused, by the first row of the definitions that holds. None where nothing refuses it.
@@ -49,7 +49,8 @@ pub fn commit<A: Allocator>(state: &mut State<A>, device: DeviceNo) -> Reply
     attachments::remove(&mut state.attachments, device);
     if is_idle(&state.objects, &state.attachments, file, hwpt) {
         drop_table(&mut state.objects, file, hwpt);
-        if !lookups::has_hwpt(&state.objects, file, ioas) {
+        page_tables::remove(&mut state.page_tables, file, hwpt);
+        if !page_tables::has_over(&state.page_tables, file, ioas) {
             release::unpin_space(
                 &state.objects,
                 file,

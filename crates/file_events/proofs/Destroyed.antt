@@ -1,5 +1,5 @@
 -- An object that was destroyed: an address space with its areas, or a page table with pins.
-use Rattle.std.proofs.Common.{◌≡◌, ℕ, Bool, true, false, cond, ◌&&◌, ◌||◌, not, eqb, is_none, Option, Some, None, List, [], ◌∷◌, map, refl, sym, ◌∙◌, ap, arith, ◌+◌}
+use Rattle.std.proofs.Common.{◌≡◌, ℕ, Bool, true, false, cond, ◌&&◌, ◌||◌, not, eqb, is_none, Option, Some, None, List, [], ◌∷◌, map, refl, sym, ◌∙◌, ap, subst, Vec, arith, ◌+◌}
 use Rattle.iofd_words.specs.Allowed.{AllowedRanges, allowed_of, without_allowed}
 use Rattle.iofd_words.specs.Answers.{Answers}
 use Rattle.iofd_runs.proofs.KeepsPins.{keeps_pins}
@@ -20,7 +20,7 @@ use Rattle.iofd_words.specs.Areas.{areas_of, is_of}
 use Rattle.iofd_words.specs.Checks.{destroy_checks, is_device_object, is_used}
 use Rattle.iofd_rows.specs.Ids.{have_own_ids}
 use Rattle.iofd_words.specs.FirstTrue.{first_true}
-use Rattle.iofd_words.specs.Objects.{has_hwpt, is_bound_as, is_bound_device, is_hwpt_over, kind_of, without_object}
+use Rattle.iofd_words.specs.Objects.{has_hwpt, is_bound_as, is_bound_device, is_hwpt_over, is_object, kind_of, without_object}
 use Rattle.iofd_words.specs.View.{view}
 use Rattle.iofd_words.specs.World.{World}
 use Rattle.iofd_words.specs.declared.event.Event.TheVariants as event
@@ -49,6 +49,8 @@ use Rattle.server_state.specs.Held.{is_proper, areas_at, object_of, objects_in}
 use Rattle.server_state.specs.Mapping.{own_areas}
 use Rattle.server_state.specs.Shows.{Shows}
 use Rattle.server_state.specs.Step.{IsTidy}
+use Rattle.server_state.specs.Tables.{AreTables}
+use Rattle.server_state.proofs.PageTables.{has_hwpt_kept, tables_left}
 use Rattle.server_state.specs.declared.held.Held.{Held}
 use Rattle.server_state.specs.declared.held.Held.TheVariants as held
 use Rattle.server_state.specs.declared.state.State.{State}
@@ -175,13 +177,13 @@ module _ {A : Type 0} where
       shows.objects.spaces file id ∙ areas_at_rows s.objects.rows file id
       ∙ no_areas_in (value_at s.objects.rows file id) ioas width automatic (sym (kind_of_rows s.objects.rows file id) ∙ ap (λ (l : List Object). kind_of l file id) (sym shows.objects.rows) ∙ is_kind)
 
-  pub shows_destroyed : (at : ℕ) (w : World) (s : State A) (file : FileNo) (id : ObjId) (k : ObjectKind) (table : Table (Held A)) (areas pins : ℕ → ℕ) (memory : Memory) (pool : FramePool) (allowed : List AllowedRanges) → IsTidy at w → Shows w s → first_true (destroy_checks (view w) file id) ≡ None
+  pub shows_destroyed : (at : ℕ) (w : World) (s : State A) (file : FileNo) (id : ObjId) (k : ObjectKind) (table : Table (Held A)) (areas pins : ℕ → ℕ) (memory : Memory) (pool : FramePool) (allowed : List AllowedRanges) (tables : Vec Object A) → IsTidy at w → Shows w s → first_true (destroy_checks (view w) file id) ≡ None
       → kind_of w.objects file id ≡ Some k → is_bound_device k ≡ false → table.rows ≡ removed file id s.objects.rows → table.files ≡ s.objects.files
       → AreFewer areas pins w (without_object file id w.objects) (filter (λ (area : Area). not (is_of file id area)) w.areas)
-      → IsReleased areas pins s.memory memory s.pool pool → allowed ≡ without_allowed file id s.allowed
-      → Shows (gone w file id) (record s { objects = table; allowed = allowed; memory = memory; pool = pool })
+      → IsReleased areas pins s.memory memory s.pool pool → allowed ≡ without_allowed file id s.allowed → tables.items ≡ without_object file id s.page_tables.items
+      → Shows (gone w file id) (record s { objects = table; allowed = allowed; page_tables = tables; memory = memory; pool = pool })
   unfolding settle without_areas changed Answers
-  shows_destroyed at w s file id k table areas pins memory pool allowed tidy shows none is_kind no_device rows files fewer released forgets =
+  shows_destroyed at w s file id k table areas pins memory pool allowed tables tidy shows none is_kind no_device rows files fewer released forgets kept =
       let next : ArePinned (at + 1) (gone w file id) = keeps_pins {A = A} at w (event.Destroy file id) reply.Done none tt tidy.pins in
       let after = shown_after at w s tidy shows areas pins (without_object file id w.objects) (filter (λ (area : Area). not (is_of file id area)) w.areas) fewer (at + 1) (gone w file id) memory pool next refl refl (objects_left (is_of file id) w.areas w.memory) refl refl released in
       record {
@@ -195,6 +197,7 @@ module _ {A : Type 0} where
         devices = record {
           bindings = λ device. found_without (λ (o : Object). is_bound_as device o.kind) w.objects file id k tidy.ids is_kind (λ object of_file of_kind. rw of_kind (unbound k device no_device)) ∙ shows.devices.bindings device;
           attached = shows.devices.attached;
+          tables = subst (λ kept. AreTables kept (without_object file id w.objects)) (sym kept) (tables_left s.page_tables.items w.objects shows.devices.tables (λ o. not (is_object file id o)));
         };
         limits = after.limits;
         allowed = λ f i. allowed_without file id w.allowed f i ∙ ap (cond (is_of_space file id f i) []) (shows.allowed f i) ∙ sym (allowed_without file id s.allowed f i) ∙ ap (λ (rows : List AllowedRanges). allowed_of rows f i) (sym forgets);
@@ -227,15 +230,16 @@ module _ {A : Type 0} where
     pub space_may : MayRelease (over (own_areas s.objects file id)) never s.memory s.pool.holds
     space_may = may_release at w s tidy shows (over (own_areas s.objects file id)) never (without_object file id w.objects) (filter (λ (area : Area). not (is_of file id area)) w.areas) goes
 
-    pub space_destroyed : (table : Table (Held A)) (memory : Memory) (pool : FramePool) (allowed : List AllowedRanges) → (destroy_refusal s.objects file tablekind.Ioas id ≡ None → table.rows ≡ removed file id s.objects.rows) → table.files ≡ s.objects.files
-        → IsReleased (over (own_areas s.objects file id)) never s.memory memory s.pool pool → allowed ≡ without_allowed file id s.allowed
-        → Shows (gone w file id) (record s { objects = table; allowed = allowed; memory = memory; pool = pool })
-    space_destroyed table memory pool allowed rows files released forgets =
-        shows_destroyed at w s file id kind.Ioas table (over (own_areas s.objects file id)) never memory pool allowed tidy shows none space_kind refl (rows (may_go s.objects file id kind.Ioas shows.objects.proper is_kind)) files goes released forgets
+    pub space_destroyed : (table : Table (Held A)) (memory : Memory) (pool : FramePool) (allowed : List AllowedRanges) (tables : Vec Object A) → (destroy_refusal s.objects file tablekind.Ioas id ≡ None → table.rows ≡ removed file id s.objects.rows) → table.files ≡ s.objects.files
+        → IsReleased (over (own_areas s.objects file id)) never s.memory memory s.pool pool → allowed ≡ without_allowed file id s.allowed → tables.items ≡ without_object file id s.page_tables.items
+        → Shows (gone w file id) (record s { objects = table; allowed = allowed; page_tables = tables; memory = memory; pool = pool })
+    space_destroyed table memory pool allowed tables rows files released forgets kept =
+        shows_destroyed at w s file id kind.Ioas table (over (own_areas s.objects file id)) never memory pool allowed tables tidy shows none space_kind refl (rows (may_go s.objects file id kind.Ioas shows.objects.proper is_kind)) files goes released forgets kept
 
   -- a page table
   module _ (at : ℕ) (w : World) (s : State A) (file : FileNo) (id ioas : ObjId) (width : Width) (automatic : Bool) (table : Table (Held A)) (tidy : IsTidy at w) (shows : Shows w s) (none : first_true (destroy_checks (view w) file id) ≡ None)
-      (is_kind : kind_of (objects_in s.objects) file id ≡ Some (kind.Hwpt ioas width automatic)) (may : destroy_refusal s.objects file tablekind.Hwpt id ≡ None → table.rows ≡ removed file id s.objects.rows) (files : table.files ≡ s.objects.files) where
+      (is_kind : kind_of (objects_in s.objects) file id ≡ Some (kind.Hwpt ioas width automatic)) (may : destroy_refusal s.objects file tablekind.Hwpt id ≡ None → table.rows ≡ removed file id s.objects.rows) (files : table.files ≡ s.objects.files)
+      (tables : Vec Object A) (kept : tables.items ≡ without_object file id s.page_tables.items) where
     of_world : kind_of w.objects file id ≡ Some (kind.Hwpt ioas width automatic)
     of_world = kind_shown w s file id (kind.Hwpt ioas width automatic) shows is_kind
 
@@ -259,25 +263,32 @@ module _ {A : Type 0} where
         ∙ sym (areas-removed w.areas s.objects.rows file id shows.objects.spaces file ioas)
         ∙ ap (λ (l : List Area). areas_of l file ioas) (all_stay w file id tidy.ids ioas width automatic of_world empty)
 
-    loses : has_hwpt (objects_in table) file ioas ≡ false → AreFewer never (over (own_areas table file ioas)) w (without_object file id w.objects) (filter (λ (area : Area). not (is_of file id area)) w.areas)
-    loses last = last_fewer w file id tidy.ids ioas width automatic of_world empty (own_areas table file ioas) own_kept (ap (λ (l : List Object). has_hwpt l file ioas) (sym objects_kept) ∙ last)
+    tables_here : AreTables tables.items (without_object file id w.objects)
+    tables_here = subst (λ kept. AreTables kept (without_object file id w.objects)) (sym kept) (tables_left s.page_tables.items w.objects shows.devices.tables (λ o. not (is_object file id o)))
 
-    pub last_may : has_hwpt (objects_in table) file ioas ≡ false → MayRelease never (over (own_areas table file ioas)) s.memory s.pool.holds
+    -- whether others translate the address space is known of those that are kept
+    same_left : has_hwpt (without_object file id w.objects) file ioas ≡ has_hwpt tables.items file ioas
+    same_left = sym (has_hwpt_kept tables.items (without_object file id w.objects) tables_here file ioas)
+
+    loses : has_hwpt tables.items file ioas ≡ false → AreFewer never (over (own_areas table file ioas)) w (without_object file id w.objects) (filter (λ (area : Area). not (is_of file id area)) w.areas)
+    loses last = last_fewer w file id tidy.ids ioas width automatic of_world empty (own_areas table file ioas) own_kept (same_left ∙ last)
+
+    pub last_may : has_hwpt tables.items file ioas ≡ false → MayRelease never (over (own_areas table file ioas)) s.memory s.pool.holds
     last_may last = may_release at w s tidy shows never (over (own_areas table file ioas)) (without_object file id w.objects) (filter (λ (area : Area). not (is_of file id area)) w.areas) (loses last)
 
     -- the pins of the space's areas went with its last page table
-    pub last_destroyed : (memory : Memory) (pool : FramePool) (allowed : List AllowedRanges) → has_hwpt (objects_in table) file ioas ≡ false → IsReleased never (over (own_areas table file ioas)) s.memory memory s.pool pool → allowed ≡ without_allowed file id s.allowed
-        → Shows (gone w file id) (record s { objects = table; allowed = allowed; memory = memory; pool = pool })
+    pub last_destroyed : (memory : Memory) (pool : FramePool) (allowed : List AllowedRanges) → has_hwpt tables.items file ioas ≡ false → IsReleased never (over (own_areas table file ioas)) s.memory memory s.pool pool → allowed ≡ without_allowed file id s.allowed
+        → Shows (gone w file id) (record s { objects = table; allowed = allowed; page_tables = tables; memory = memory; pool = pool })
     last_destroyed memory pool allowed last released forgets =
-        shows_destroyed at w s file id (kind.Hwpt ioas width automatic) table never (over (own_areas table file ioas)) memory pool allowed tidy shows none of_world refl rows files (loses last) released forgets
+        shows_destroyed at w s file id (kind.Hwpt ioas width automatic) table never (over (own_areas table file ioas)) memory pool allowed tables tidy shows none of_world refl rows files (loses last) released forgets kept
 
-    pub other_destroyed : (allowed : List AllowedRanges) → has_hwpt (objects_in table) file ioas ≡ true → allowed ≡ without_allowed file id s.allowed
-        → Shows (gone w file id) (record s { objects = table; allowed = allowed })
+    pub other_destroyed : (allowed : List AllowedRanges) → has_hwpt tables.items file ioas ≡ true → allowed ≡ without_allowed file id s.allowed
+        → Shows (gone w file id) (record s { objects = table; allowed = allowed; page_tables = tables })
     other_destroyed allowed more forgets =
-        let fewer = other_fewer w file id tidy.ids ioas width automatic of_world empty (ap (λ (l : List Object). has_hwpt l file ioas) (sym objects_kept) ∙ more) in
-        shows_destroyed at w s file id (kind.Hwpt ioas width automatic) table never never s.memory s.pool allowed tidy shows none of_world refl rows files fewer
+        let fewer = other_fewer w file id tidy.ids ioas width automatic of_world empty (same_left ∙ more) in
+        shows_destroyed at w s file id (kind.Hwpt ioas width automatic) table never never s.memory s.pool allowed tables tidy shows none of_world refl rows files fewer
         (nothing_released at w s tidy shows (without_object file id w.objects) (filter (λ (area : Area). not (is_of file id area)) w.areas) fewer)
-        forgets
+        forgets kept
 
   -- ---- what was refused
 

@@ -1,5 +1,5 @@
 -- A file that was closed: all its objects, areas and attachments are gone.
-use Rattle.std.proofs.Common.{◌≡◌, ◌≢◌, ℕ, zero, suc, ◌-◌, ◌<◌, Vec, Bool, true, false, cond, ◌&&◌, ◌||◌, not, eqb, ltb, is_some, None, List, [], ◌∷◌, ◌++◌, map, get_or, set, refl, sym, ◌∙◌, ap, arith, get_or-set_other, ◌+◌}
+use Rattle.std.proofs.Common.{◌≡◌, ◌≢◌, ℕ, zero, suc, ◌-◌, ◌<◌, Vec, Bool, true, false, cond, ◌&&◌, ◌||◌, not, eqb, ltb, is_some, None, List, [], ◌∷◌, ◌++◌, map, get_or, set, refl, sym, ◌∙◌, ap, subst, arith, get_or-set_other, ◌+◌}
 use Rattle.iofd_runs.proofs.KeepsPins.{keeps_pins}
 use Rattle.iofd_runs.proofs.NotRefused.{close_passed}
 use Rattle.frame_memory.specs.Pool.{FramePool}
@@ -44,6 +44,8 @@ use Rattle.file_events.proofs.SpacesGone.{device_rows}
 use Rattle.server_state.specs.Held.{is_proper, areas_at, kind_in, object_of, objects_in, table_kind}
 use Rattle.server_state.specs.Shows.{Shows}
 use Rattle.server_state.specs.Step.{IsTidy}
+use Rattle.server_state.specs.Tables.{AreTables}
+use Rattle.server_state.proofs.PageTables.{tables_left}
 use Rattle.server_state.specs.declared.held.Held.{Held}
 use Rattle.server_state.specs.declared.state.State.{State}
 use Rattle.object_table.specs.Table.{Row, Table, close_refusal, closed, is_of_file, is_open, is_same_kind, keeps_file_open, rows_of}
@@ -229,12 +231,13 @@ module _ {A : Type 0} where
     pub areas_may : MayRelease (over (areas_of_rows (rows_of s.objects file))) (over (translated_of (objects_in s.objects) (rows_of s.objects file))) s.memory s.pool.holds
     areas_may = may_release at w s tidy shows (over (areas_of_rows (rows_of s.objects file))) (over (translated_of (objects_in s.objects) (rows_of s.objects file))) left stay fewer
 
-    pub shows_closed : (table : Table (Held A)) (attachments : Vec Attachment A) (memory : Memory) (pool : FramePool) (allowed : List AllowedRanges) → (close_refusal s.objects file ≡ None → table ≡ closed s.objects file)
+    pub shows_closed : (table : Table (Held A)) (attachments : Vec Attachment A) (memory : Memory) (pool : FramePool) (allowed : List AllowedRanges) (tables : Vec Object A) → (close_refusal s.objects file ≡ None → table ≡ closed s.objects file)
         → attachments.items ≡ filter (λ (a : Attachment). not (eqb a.file.0 file.0)) s.attachments.items
         → IsReleased (over (areas_of_rows (rows_of s.objects file))) (over (translated_of (objects_in s.objects) (rows_of s.objects file))) s.memory memory s.pool pool → allowed ≡ filter (λ (row : AllowedRanges). not (eqb row.file.0 file.0)) s.allowed
-        → Shows (changed {A = A} at w (event.Close file) reply.Done) (record s { objects = table; allowed = allowed; attachments = attachments; memory = memory; pool = pool })
+        → tables.items ≡ filter (λ (o : Object). not (eqb o.file.0 file.0)) s.page_tables.items
+        → Shows (changed {A = A} at w (event.Close file) reply.Done) (record s { objects = table; allowed = allowed; page_tables = tables; attachments = attachments; memory = memory; pool = pool })
     unfolding changed settle without_areas Answers
-    shows_closed table attachments memory pool allowed closes detached released forgets =
+    shows_closed table attachments memory pool allowed tables closes detached released forgets kept =
         let is = closes may_close in
         let next = keeps_pins {A = A} at w (event.Close file) reply.Done none tt tidy.pins in
         let after = shown_after at w s tidy shows (over (areas_of_rows (rows_of s.objects file))) (over (translated_of (objects_in s.objects) (rows_of s.objects file))) left stay fewer (at + 1) (changed {A = A} at w (event.Close file) reply.Done) memory pool next refl refl (objects_left of_file w.areas w.memory) refl refl released in
@@ -249,6 +252,7 @@ module _ {A : Type 0} where
           devices = record {
             bindings = λ device. bound_left device ∙ shows.devices.bindings device;
             attached = ap (filter (λ (a : Attachment). not (eqb a.file.0 file.0))) shows.devices.attached ∙ sym detached;
+            tables = subst (λ kept. AreTables kept left) (sym kept) (tables_left s.page_tables.items w.objects shows.devices.tables (λ o. not (eqb o.file.0 file.0)));
           };
           limits = after.limits;
           allowed = λ f i. allowed_closed file w.allowed f i ∙ ap (cond (eqb f.0 file.0) []) (shows.allowed f i) ∙ sym (allowed_closed file s.allowed f i) ∙ ap (λ (rows : List AllowedRanges). allowed_of rows f i) (sym forgets);

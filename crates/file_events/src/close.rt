@@ -13,11 +13,12 @@ ghost use Rattle.memory_rows.specs.Moves.{IsReleased, MayRelease};
 ghost use Rattle.memory_rows.specs.Shown.{over};
 ghost use Rattle.server_state.specs.Seen.{seen};
 ghost use Rattle.server_state.specs.Step.{IsGranted, Steps};
+ghost use Rattle.server_state.specs.Tables.{AreTables};
 
 use frame_memory::Pool;
-use iofd_words::{Attachment, Cause, FileNo, Reply};
+use iofd_words::{Attachment, Cause, FileNo, Object, Reply};
 use object_table::ObjectTable;
-use server_state::{Held, State, lookups, release};
+use server_state::{Held, State, page_tables, release};
 use std::alloc::Allocator;
 use user_memory::UserMemory;
 
@@ -55,8 +56,15 @@ pub fn commit<A: Allocator>(state: &mut State<A>, file: FileNo) -> Reply
     ensures { (at : ℕ) → Steps at (event.Close file) state.old result state.new }
 {
     state.allowed.remove_file(file);
-    remove_areas(&state.objects, file, &mut state.memory, &mut state.pool);
+    remove_areas(
+        &state.objects,
+        &state.page_tables,
+        file,
+        &mut state.memory,
+        &mut state.pool,
+    );
     detach_all(&mut state.attachments, file);
+    page_tables::remove_file(&mut state.page_tables, file);
     close_table(&mut state.objects, file);
     Reply::Done
 }
@@ -64,18 +72,20 @@ pub fn commit<A: Allocator>(state: &mut State<A>, file: FileNo) -> Reply
 /// The areas of all address spaces of the file go.
 fn remove_areas<A: Allocator>(
     table: &ObjectTable<Held<A>, A>,
+    tables: &[Object],
     file: FileNo,
     memory: &mut UserMemory<A>,
     pool: &mut Pool<A>,
 )
-    requires { MayRelease (over (areas_of_rows (rows_of table.now file))) (over (translated_of (objects_in table.now) (rows_of table.now file)))
+    requires tables { AreTables tables.now (objects_in table.now) }
+    requires may { MayRelease (over (areas_of_rows (rows_of table.now file))) (over (translated_of (objects_in table.now) (rows_of table.now file)))
         memory.old pool.old.holds }
     ensures { IsReleased (over (areas_of_rows (rows_of table.now file))) (over (translated_of (objects_in table.now) (rows_of table.now file)))
         memory.old memory.new pool.old pool.new }
 {
     for object in table.iter(file) {
         if let Held::Ioas(areas) = object.value {
-            let translated = lookups::has_hwpt(table, file, object.id);
+            let translated = page_tables::has_over(tables, file, object.id);
             release::remove(areas.iter(), translated, memory, pool);
         }
     }

@@ -7,16 +7,17 @@ ghost use Rattle.iofd_words.specs.FirstTrue.{first_true};
 ghost use Rattle.iofd_words.specs.declared.event.Event.TheVariants as event;
 ghost use Rattle.object_table.specs.Table.{destroy_refusal, removed};
 ghost use Rattle.server_state.specs.Seen.{seen};
-ghost use Rattle.server_state.specs.Step.{IsGranted, Steps};
+ghost use Rattle.server_state.specs.Step.{IsGranted, IsKnown, Steps};
 
 use iofd_words::{Attachment, Cause, FileNo, ObjId, ObjectKind, Reply};
 use object_table::{Kind, ObjectTable};
-use server_state::{Held, State, lookups, release};
+use server_state::{Held, State, lookups, page_tables, release};
 use std::alloc::Allocator;
 
 /// Why it is refused, by the first row of the definitions that holds. None where nothing refuses it.
 #[tactic(auto, unfolding(iofd_words::specs::Checks::destroy_checks))]
 pub fn refusal<A: Allocator>(state: &State<A>, file: FileNo, id: ObjId) -> Option<Cause>
+    requires { IsKnown state.now }
     ensures { result ≡ first_true (destroy_checks (seen state.now) file id) }
 {
     if !state.objects.is_open(file) {
@@ -36,10 +37,11 @@ pub fn refusal<A: Allocator>(state: &State<A>, file: FileNo, id: ObjId) -> Optio
 
 /// Whether others stand on the file's object of this id and kind: page tables on an address space, devices on a page table.
 fn is_used<A: Allocator>(state: &State<A>, file: FileNo, id: ObjId, kind: ObjectKind) -> bool
+    requires { IsKnown state.now }
     ensures { result ≡ is_used (seen state.now) file id (Some kind) }
 {
     match kind {
-        ObjectKind::Ioas => lookups::has_hwpt(&state.objects, file, id),
+        ObjectKind::Ioas => state.has_hwpt(file, id),
         ObjectKind::Hwpt { .. } => has_device_on(&state.attachments, file, id),
         ObjectKind::Device(_) => false,
     }
@@ -65,6 +67,7 @@ pub fn commit<A: Allocator>(state: &mut State<A>, file: FileNo, id: ObjId) -> Re
     ensures { (at : ℕ) → Steps at (event.Destroy file id) state.old result state.new }
 {
     state.allowed.remove(file, id);
+    page_tables::remove(&mut state.page_tables, file, id);
     match lookups::kind_of(&state.objects, file, id) {
         Some(ObjectKind::Ioas) => {
             // It was refused while it had a page table: so no page of its areas is pinned for it.
@@ -80,7 +83,7 @@ pub fn commit<A: Allocator>(state: &mut State<A>, file: FileNo, id: ObjId) -> Re
         }
         Some(ObjectKind::Hwpt { ioas, .. }) => {
             remove(&mut state.objects, file, Kind::Hwpt, id);
-            if !lookups::has_hwpt(&state.objects, file, ioas) {
+            if !page_tables::has_over(&state.page_tables, file, ioas) {
                 release::unpin_space(
                     &state.objects,
                     file,

@@ -158,7 +158,7 @@ fn answer_ranges<A: Allocator + Copy>(
 ) -> StepLine<A>
     ensures { IsRanges core.now file request (text_of result) core.now }
 {
-    match core.usable_ranges(file, request.ioas) {
+    match core.ranges(file, request.ioas) {
         Ok(ranges) => told_ranges(alloc, request, ranges.spans()),
         Err(RangesError::Refused(refusal)) => StepLine::Short(refusal_line(refusal)),
         Err(RangesError::Memory) => StepLine::Short(memory_line()),

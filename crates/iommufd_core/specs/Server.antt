@@ -1,5 +1,5 @@
 -- What a core is seen as.
-use Rattle.std.specs.Prelude.{◌≡◌, ◌<◌, ◌⊎◌, ℕ, Bool, true, false, None, IsTrue, length}
+use Rattle.std.specs.Prelude.{◌≡◌, ◌<◌, ◌⊎◌, ℕ, Bool, true, false, None, IsTrue, length, nat_lt}
 use Rattle.iofd_words.specs.Allowed.{ranges_of}
 use Rattle.iofd_words.specs.Checks.{refusal}
 use Rattle.iofd_words.specs.declared.event.Event.{Event}
@@ -14,7 +14,7 @@ pub record Server (A : Type 0) : Type 0 where
 -- the kinds of event that may take memory beside their record's: those by which something comes
 abbrev pub takes_memory : {A : Type 0} → Event A → Bool
 takes_memory (event.IoasAlloc file) = true
-takes_memory (event.AllowIovas file ioas ranges) = true
+takes_memory (event.AllowIovas file ioas ranges) = nat_lt 0 (length ranges)
 takes_memory (event.Map file request) = true
 takes_memory (event.Unmap file request) = false
 takes_memory (event.Destroy file id) = false

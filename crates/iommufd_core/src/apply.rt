@@ -109,7 +109,7 @@ impl<A: Allocator + Copy> Core<A> {
     ///
     /// Refused: Id (2, ENOENT), where the file isn't open or the id is no address space of it. It takes memory only for
     /// the answer.
-    pub fn usable_ranges(&self, file: FileNo, ioas: ObjId) -> Result<RangeSet<A>, RangesError>
+    pub fn ranges(&self, file: FileNo, ioas: ObjId) -> Result<RangeSet<A>, RangesError>
         ensures refused { refused_ranges result ≡ first_true (ranges_checks (view (world self.now.history)) file ioas) }
         ensures ranges { IfOk result (λ set. AreUsableRanges (view (world self.now.history)) file ioas set.spans) }
         ensures few { IfOk result (λ set. length set.spans < 2 ^ 32) }

@@ -28,6 +28,7 @@ pub(crate) fn opened<A: Allocator + Copy, B: Allocator>(
         objects: ObjectTable::new(alloc, files)?,
         allowed: AllowedTable::new(alloc),
         bindings: Vec::new(alloc),
+        page_tables: Vec::new(alloc),
         attachments: Vec::new(alloc),
         memory: UserMemory::new(alloc, config.users())?,
         pool: Pool::new(alloc, pool)?,

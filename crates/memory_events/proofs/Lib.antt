@@ -1,3 +1,4 @@
+pub mod AreRising
 pub mod AreasFiltered
 pub mod AttachedDevices
 pub mod Chosen

@@ -1,18 +1,19 @@
 //! AllowIovas: the ranges to which the addresses that the server chooses in an address space are bounded.
 
-ghost use Rattle.std.specs.Prelude.{◌≡◌, ◌<◌, ◌==◌, true, false, ℕ, IfOk, OnErr, nat_lt};
+ghost use Rattle.std.specs.Prelude.{◌≡◌, ◌<◌, ◌==◌, true, false, ℕ, IfOk, IsTrue, OnErr, length, nat_lt};
 ghost use Rattle.std.specs.List.{list_any};
 ghost use Rattle.iofd_words.specs.Allowed.{are_ranges};
 ghost use Rattle.iofd_words.specs.Checks.{allow_iovas_checks, unusable_in};
 ghost use Rattle.iofd_words.specs.FirstTrue.{first_true};
 ghost use Rattle.iofd_words.specs.Ranges.{meets_some};
 ghost use Rattle.iofd_words.specs.declared.event.Event.TheVariants as event;
+ghost use Rattle.memory_events.specs.Rising.{are_rising, ends_below};
 ghost use Rattle.server_state.specs.Seen.{seen};
-ghost use Rattle.server_state.specs.Step.{ShowsSame, Steps};
+ghost use Rattle.server_state.specs.Step.{IsKnown, ShowsSame, Steps};
 
 use iofd_words::{Cause, FileNo, IovaRange, NoMemory, ObjId, RangeList, Reply, Span};
 use iova_ranges::AllowedRow;
-use server_state::{State, lookups, usable};
+use server_state::{State, lookups};
 use std::alloc::Allocator;
 
 /// Why it is refused, by the first row of the definitions that holds. None where nothing refuses it.
@@ -23,6 +24,7 @@ pub fn refusal<A: Allocator>(
     ioas: ObjId,
     ranges: &[IovaRange],
 ) -> Option<Cause>
+    requires { IsKnown state.now }
     ensures { result ≡ first_true (allow_iovas_checks (seen state.now) file ioas ranges.now) }
 {
     if !state.objects.is_open(file) {
@@ -40,8 +42,40 @@ pub fn refusal<A: Allocator>(
     None
 }
 
-/// Whether each range begins below its last address, and no two have an address in common.
+/// Whether each range begins below its last address, and no two have an address in common. Ranges by rising address take
+/// one pass; others are compared each with each.
 fn are_ranges(ranges: &[IovaRange]) -> bool
+    ensures { result ≡ are_ranges ranges.now }
+{
+    are_rising(ranges) || are_apart(ranges)
+}
+
+/// Whether each range begins below its last address, and ends below the next one.
+fn are_rising(ranges: &[IovaRange]) -> bool
+    ensures { result ≡ are_rising ranges.now }
+{
+    let mut rest = ranges;
+    while let Some((range, others)) = rest.split_first() {
+        if range.start >= range.last || !ends_below(*range, others) {
+            return false;
+        }
+        rest = others;
+    }
+    true
+}
+
+/// Whether the range ends below the first of the others, if there is one.
+fn ends_below(range: IovaRange, others: &[IovaRange]) -> bool
+    ensures { result ≡ ends_below range others.now }
+{
+    match others.first() {
+        Some(next) => range.last < next.start,
+        None => true,
+    }
+}
+
+/// The same of ranges in any order.
+fn are_apart(ranges: &[IovaRange]) -> bool
     ensures { result ≡ are_ranges ranges.now }
 {
     let mut rest = ranges;
@@ -70,7 +104,8 @@ fn meet_unusable<A: Allocator>(
     ioas: ObjId,
     ranges: &[IovaRange],
 ) -> bool
-    requires { are_ranges ranges.now ≡ true }
+    requires known { IsKnown state.now }
+    requires ranges { are_ranges ranges.now ≡ true }
     ensures { result ≡ list_any (meets_some (unusable_in (seen state.now) file ioas)) ranges.now }
 {
     let mut rest = ranges;
@@ -85,7 +120,8 @@ fn meet_unusable<A: Allocator>(
 
 /// Whether an address of the range can't be used.
 fn is_unusable<A: Allocator>(state: &State<A>, file: FileNo, ioas: ObjId, range: IovaRange) -> bool
-    requires { range.first < range.last }
+    requires known { IsKnown state.now }
+    requires some { range.first < range.last }
     ensures { result ≡ meets_some (unusable_in (seen state.now) file ioas) range }
 {
     match Span::new(range.start, range.last) {
@@ -95,23 +131,16 @@ fn is_unusable<A: Allocator>(state: &State<A>, file: FileNo, ioas: ObjId, range:
 }
 
 fn is_span_unusable<A: Allocator>(state: &State<A>, file: FileNo, ioas: ObjId, span: Span) -> bool
+    requires { IsKnown state.now }
     ensures { result ≡ meets_some (unusable_in (seen state.now) file ioas) span }
 {
-    let met = usable::unusable_meeting(
-        &state.config,
-        &state.objects,
-        &state.attachments,
-        file,
-        ioas,
-        span,
-    );
-    met.is_some()
+    state.unusable_meeting(file, ioas, span).is_some()
 }
 
 /// What it does where nothing refuses it: the address space allows these ranges, in place of those before; an empty list
 /// allows all addresses again.
 ///
-/// The only error is want of memory. It leaves the world as it was.
+/// The only error is want of memory, which an empty list doesn't take. It leaves the world as it was.
 pub fn commit<A: Allocator + Copy>(
     state: &mut State<A>,
     file: FileNo,
@@ -120,7 +149,12 @@ pub fn commit<A: Allocator + Copy>(
 ) -> Result<Reply, NoMemory>
     ensures ok { IfOk result (λ reply. (at : ℕ) → Steps at (event.AllowIovas file ioas ranges.now) state.old reply state.new) }
     ensures err { OnErr result (ShowsSame state.old state.new) }
+    ensures memory { OnErr result (IsTrue (nat_lt 0 (length ranges.now))) }
 {
+    if ranges.as_slice().is_empty() {
+        state.allowed.remove(file, ioas);
+        return Ok(Reply::Done);
+    }
     let ranges = ranges.copied(state.alloc)?;
     let row = AllowedRow::new(state.alloc, file, ioas, ranges)?;
     state.allowed.set(row)?;

@@ -14,10 +14,11 @@ ghost use Rattle.memory_events.specs.Place.{IsClear, IsInTheWay, IsLeastSpan};
 ghost use Rattle.server_state.specs.Held.{areas_at};
 ghost use Rattle.server_state.specs.Reach.{IsOneOf};
 ghost use Rattle.server_state.specs.Seen.{seen};
+ghost use Rattle.server_state.specs.Step.{IsKnown};
 
 use area_map::Areas;
 use iofd_words::{FileNo, MapRequest, ObjId, PAGE_SIZE, Span};
-use server_state::{State, usable};
+use server_state::State;
 use std::alloc::Allocator;
 
 /// The span from the least address that the server may choose; None where it may choose none. It passes each area and
@@ -28,6 +29,7 @@ pub(crate) fn least_span<A: Allocator>(
     request: MapRequest,
     areas: &Areas<A>,
 ) -> Option<Span>
+    requires known { IsKnown state.now }
     requires some { (request.length == 0) ≡ false }
     requires here { areas_at state.now.objects.rows file request.ioas ≡ areas.now.areas }
     ensures { MatchOption result
@@ -55,6 +57,7 @@ fn in_the_way<A: Allocator>(
     areas: &Areas<A>,
     span: Span,
 ) -> Option<Span>
+    requires known { IsKnown state.now }
     requires some { (request.length == 0) ≡ false }
     requires from { span ≡ span_from span.first request.length }
     requires here { areas_at state.now.objects.rows file request.ioas ≡ areas.now.areas }
@@ -93,20 +96,13 @@ fn taken_meeting<A: Allocator>(
     areas: &Areas<A>,
     span: Span,
 ) -> Option<Span>
-    requires { areas_at state.now.objects.rows file request.ioas ≡ areas.now.areas }
+    requires known { IsKnown state.now }
+    requires here { areas_at state.now.objects.rows file request.ioas ≡ areas.now.areas }
     ensures { MatchOption result
         (meets_some (taken_spans (seen state.now) file request) span ≡ false)
         (IsOneOf (taken_spans (seen state.now) file request) span) }
 {
-    let unusable = usable::unusable_meeting(
-        &state.config,
-        &state.objects,
-        &state.attachments,
-        file,
-        request.ioas,
-        span,
-    );
-    match unusable {
+    match state.unusable_meeting(file, request.ioas, span) {
         Some(one) => Some(one),
         None => area_meeting(areas, span),
     }

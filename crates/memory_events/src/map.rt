@@ -21,7 +21,7 @@ use iofd_words::{
     Area, Cause, FileNo, Iova, MapRequest, MemoryObject, NoMemory, PAGE_SIZE, Phase, Reply, Span,
     USER_END, UserNo,
 };
-use server_state::{State, accounts, area_changes, lookups, usable};
+use server_state::{State, accounts, area_changes, lookups};
 use std::alloc::Allocator;
 
 /// Why it is refused, by the first row of the definitions that holds. None where nothing refuses it.
@@ -78,7 +78,7 @@ pub fn commit<A: Allocator + Copy>(
     };
     let area = mapped_area(at, file, request, span);
     let object = memory_object(at, user, request);
-    let pinned = lookups::has_hwpt(&state.objects, file, request.ioas);
+    let pinned = state.has_hwpt(file, request.ioas);
     area_changes::reserve(&mut state.objects, file, request.ioas)?;
     state.memory.add(&mut state.pool, object, pinned)?;
     area_changes::insert(&mut state.objects, file, request.ioas, area);
@@ -87,7 +87,8 @@ pub fn commit<A: Allocator + Copy>(
 
 /// The span that is mapped.
 fn place_of<A: Allocator>(state: &State<A>, file: FileNo, request: MapRequest) -> Option<Span>
-    requires { (request.length == 0) ≡ false }
+    requires known { IsKnown state.now }
+    requires some { (request.length == 0) ≡ false }
     ensures { MatchOption result (HasNoPlace (seen state.now) file request) (IsPlace (seen state.now) file request) }
 {
     if request.flags.is_fixed() {
@@ -174,6 +175,7 @@ fn refusal_by_areas<A: Allocator>(
 
 /// Whether the address is fixed, and some of the span can't be used.
 fn is_outside_usable<A: Allocator>(state: &State<A>, file: FileNo, request: MapRequest) -> bool
+    requires known { IsKnown state.now }
     requires some { (request.length == 0) ≡ false }
     requires sum { (is_fixed request.flags && is_above_sum request.iova.0 request.length) ≡ false }
     ensures { result ≡ is_outside_usable (seen state.now) file request }
@@ -194,17 +196,10 @@ fn is_unusable<A: Allocator>(
     request: MapRequest,
     span: Span,
 ) -> bool
+    requires { IsKnown state.now }
     ensures { result ≡ meets_some (unusable_in (seen state.now) file request.ioas) span }
 {
-    let met = usable::unusable_meeting(
-        &state.config,
-        &state.objects,
-        &state.attachments,
-        file,
-        request.ioas,
-        span,
-    );
-    met.is_some()
+    state.unusable_meeting(file, request.ioas, span).is_some()
 }
 
 /// Whether the address is fixed, and the span meets an area.
@@ -229,6 +224,7 @@ fn lacks_choice<A: Allocator>(
     request: MapRequest,
     areas: &Areas<A>,
 ) -> bool
+    requires known { IsKnown state.now }
     requires some { (request.length == 0) ≡ false }
     requires here { areas_at state.now.objects.rows file request.ioas ≡ areas.now.areas }
     ensures { result ≡ lacks_choice (seen state.now) file request }
@@ -276,9 +272,10 @@ fn is_above_user(start: u64, length: u64) -> bool
 
 /// Whether the address space has a page table, and a page is not in the memory of the file's user.
 fn lacks_page<A: Allocator>(state: &State<A>, file: FileNo, request: MapRequest) -> bool
+    requires { IsKnown state.now }
     ensures { result ≡ lacks_mapped_page (seen state.now) file request }
 {
-    if !lookups::has_hwpt(&state.objects, file, request.ioas) {
+    if !state.has_hwpt(file, request.ioas) {
         return false;
     }
     match state.config.user_of(file) {
@@ -296,7 +293,7 @@ fn passes_limit<A: Allocator>(state: &State<A>, file: FileNo, request: MapReques
     requires { IsKnown state.now }
     ensures { result ≡ passes_limit_mapped (seen state.now) file request }
 {
-    if !lookups::has_hwpt(&state.objects, file, request.ioas) {
+    if !state.has_hwpt(file, request.ioas) {
         return false;
     }
     let count = u128::from(request.length / PAGE_SIZE);

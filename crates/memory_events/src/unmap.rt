@@ -87,7 +87,7 @@ pub fn commit<A: Allocator>(state: &mut State<A>, file: FileNo, request: UnmapRe
         // Never: 65,535 areas of at most 2^48 bytes have fewer than 2^64.
         return Reply::Done;
     };
-    let translated = lookups::has_hwpt(&state.objects, file, ioas);
+    let translated = state.has_hwpt(file, ioas);
     release::remove_within(
         &state.objects,
         file,

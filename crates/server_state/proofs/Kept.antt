@@ -1,12 +1,12 @@
 -- Spans that attached devices keep for themselves: what a search among attachments, and then among a device's spans, finds.
-use Rattle.std.proofs.Common.{◌≡◌, Bool, true, false, ◌&&◌, eqb, Option, Some, None, is_some, find, List, [], ◌∷◌, map, MatchOption, ap, sym, ◌∙◌, inl, inr}
+use Rattle.std.proofs.Common.{◌≡◌, Bool, true, false, ◌&&◌, eqb, Option, Some, None, is_some, find, List, MatchOption, ap, sym, ◌∙◌}
 use Rattle.std.specs.List.{filter, list_any}
 use Rattle.std.proofs.lemmas.List.Folds.{list_any-append}
 use Rattle.iofd_rows.proofs.Bools.{and_true, both_false, both_true, clash, or_none}
-use Rattle.iofd_rows.proofs.Each.{IsIn, in_filter, in_found, of_any}
+use Rattle.iofd_rows.proofs.Each.{IsIn, in_found, of_any}
 use Rattle.iofd_rows.proofs.ListTests.{any-filter, or_left, or_right}
 use Rattle.iofd_rows.proofs.Unusable.{any-flat_map, by_rows}
-use Rattle.iofd_rows.specs.Reached.{ends_in, ends_in_kind, keeps_of}
+use Rattle.iofd_rows.specs.Reached.{ends_in, keeps_of}
 use Rattle.iofd_runs.proofs.OwnIds.{any_found}
 use Rattle.iofd_words.specs.Attachments.{is_attached_to}
 use Rattle.iofd_words.specs.Bounds.{Bounds}
@@ -22,12 +22,10 @@ use Rattle.iofd_words.specs.declared.rows.Attachment.{Attachment}
 use Rattle.iofd_words.specs.declared.rows.Object.{Object}
 use Rattle.iofd_words.specs.declared.rows.ObjectKind.{ObjectKind}
 use Rattle.iofd_words.specs.declared.rows.ObjectKind.TheVariants as kind
-use Rattle.object_table.specs.Table.{Row, is_of_file}
-use Rattle.server_state.proofs.Objects.{ends_in_rows}
+use Rattle.server_state.proofs.PageTables.{any_kept, over_is_table}
 use Rattle.server_state.specs.Choice.{first_of}
-use Rattle.server_state.specs.Held.{kind_in, object_of}
-use Rattle.server_state.specs.declared.held.Held.{Held}
 use Rattle.server_state.specs.Reach.{IsOneOf}
+use Rattle.server_state.specs.Tables.{AreTables}
 
 pub none_found : {X : Type 0} (p : X → Bool) (xs : List X) → find p xs ≡ None → list_any p xs ≡ false
 none_found p xs none = any_found p xs ∙ ap (λ o. is_some o) none
@@ -83,37 +81,34 @@ module _ (settings : Settings) (objects : List Object) (attachments : List Attac
 
 -- ---- page tables
 
-in_mapped : {X Y : Type 0} (f : X → Y) (xs : List X) (x : X) → IsIn xs x → IsIn (map f xs) (f x)
-in_mapped f [] x within = absurd within
-in_mapped f (y ∷ ys) x (inl same) = inl (ap f same)
-in_mapped f (y ∷ ys) x (inr later) = inr (in_mapped f ys x later)
+module _ (tables objects : List Object) (are : AreTables tables objects) (file : FileNo) (ioas : ObjId) (span : Bounds) where
+  abbrev over : Object → Bool
+  over o = eqb o.file.0 file.0 && is_hwpt_over ioas o.kind
 
-module _ {A : Type 0} (rows : List (Row (Held A))) (file : FileNo) (ioas : ObjId) (span : Bounds) where
-  abbrev ends : Row (Held A) → Bool
-  ends row = ends_in_kind ioas span (kind_in row.value)
+  pub none_ends : find (ends_in file ioas span) tables ≡ None → list_any (ends_in file ioas span) objects ≡ false
+  none_ends none =
+      any_kept tables objects are (ends_in file ioas span)
+      (λ o ends. over_is_table ioas o.kind (and_true (eqb o.file.0 file.0) (is_hwpt_over ioas o.kind) (and_true (over o) (meets_some (beyond_table o.kind) span) ends).0).1)
+      ∙ none_found (ends_in file ioas span) tables none
 
-  pub none_ends : find ends (filter (is_of_file file) rows) ≡ None → list_any (ends_in file ioas span) (map object_of rows) ≡ false
-  none_ends none = ends_in_rows rows file ioas span ∙ none_found ends (filter (is_of_file file) rows) none
+  among_tables : (object : Object) (test : Bounds → Bool) → IsIn tables object → over object ≡ true → list_any test (beyond_table object.kind) ≡ true → list_any test (beyond_tables objects file ioas) ≡ true
+  among_tables object test within here passes =
+      any-flat_map test (λ (o : Object). beyond_table o.kind) (filter over objects)
+      ∙ any-filter (λ (o : Object). list_any test (beyond_table o.kind)) over objects
+      ∙ any_kept tables objects are (λ (o : Object). over o && list_any test (beyond_table o.kind))
+      (λ o both. over_is_table ioas o.kind (and_true (eqb o.file.0 file.0) (is_hwpt_over ioas o.kind) (and_true (over o) (list_any test (beyond_table o.kind)) both).0).1)
+      ∙ of_any (λ (o : Object). over o && list_any test (beyond_table o.kind)) tables object within (both_true _ _ here passes)
 
-  among_tables : (row : Row (Held A)) (test : Bounds → Bool) → IsIn rows row → eqb row.file.0 file.0 ≡ true → is_hwpt_over ioas (kind_in row.value) ≡ true → list_any test (beyond_table (kind_in row.value)) ≡ true
-      → list_any test (beyond_tables (map object_of rows) file ioas) ≡ true
-  among_tables row test within of_file over passes =
-      any-flat_map test (λ (o : Object). beyond_table o.kind) (filter (λ (o : Object). eqb o.file.0 file.0 && is_hwpt_over ioas o.kind) (map object_of rows))
-      ∙ any-filter (λ (o : Object). list_any test (beyond_table o.kind)) (λ (o : Object). eqb o.file.0 file.0 && is_hwpt_over ioas o.kind) (map object_of rows)
-      ∙ of_any (λ (o : Object). (eqb o.file.0 file.0 && is_hwpt_over ioas o.kind) && list_any test (beyond_table o.kind)) (map object_of rows) (object_of row) (in_mapped object_of rows row within)
-      (both_true _ _ (both_true _ _ of_file over) passes)
-
-  pub end_found : (row : Row (Held A)) (o : Option Bounds) → find ends (filter (is_of_file file) rows) ≡ Some row → o ≡ first_of (beyond_table (kind_in row.value))
-      → MatchOption o (list_any (ends_in file ioas span) (map object_of rows) ≡ false) (IsOneOf (beyond_tables (map object_of rows) file ioas) span)
-  end_found row o found is =
-      let place = in_found ends (filter (is_of_file file) rows) row found in
-      let own = in_filter (is_of_file file) rows row place.0 in
-      let parts = and_true (is_hwpt_over ioas (kind_in row.value)) (meets_some (beyond_table (kind_in row.value)) span) place.1 in
-      by_kind (kind_in row.value) o is parts.0 parts.1 (λ test. among_tables row test own.0 own.1 parts.0)
+  pub end_found : (object : Object) (o : Option Bounds) → find (ends_in file ioas span) tables ≡ Some object → o ≡ first_of (beyond_table object.kind)
+      → MatchOption o (list_any (ends_in file ioas span) objects ≡ false) (IsOneOf (beyond_tables objects file ioas) span)
+  end_found object o found is =
+      let place = in_found (ends_in file ioas span) tables object found in
+      let parts = and_true (over object) (meets_some (beyond_table object.kind) span) place.1 in
+      by_kind object.kind o is (and_true (eqb object.file.0 file.0) (is_hwpt_over ioas object.kind) parts.0).1 parts.1 (λ test. among_tables object test place.0 parts.0)
     where
       by_kind : (k : ObjectKind) (o : Option Bounds) → o ≡ first_of (beyond_table k) → is_hwpt_over ioas k ≡ true → meets_some (beyond_table k) span ≡ true
-          → ((test : Bounds → Bool) → list_any test (beyond_table k) ≡ true → list_any test (beyond_tables (map object_of rows) file ioas) ≡ true)
-          → MatchOption o (list_any (ends_in file ioas span) (map object_of rows) ≡ false) (IsOneOf (beyond_tables (map object_of rows) file ioas) span)
+          → ((test : Bounds → Bool) → list_any test (beyond_table k) ≡ true → list_any test (beyond_tables objects file ioas) ≡ true)
+          → MatchOption o (list_any (ends_in file ioas span) objects ≡ false) (IsOneOf (beyond_tables objects file ioas) span)
       by_kind kind.Ioas o is over met among = cc
       by_kind (kind.Device device) o is over met among = cc
       by_kind (kind.Hwpt own width automatic) None is over met among = cc

@@ -9,6 +9,7 @@ pub mod Objects
 pub mod ObjectsGone
 pub mod ObjectsMoved
 pub mod Orderly
+pub mod PageTables
 pub mod RoomHeld
 pub mod Users
 pub mod ViewShown

@@ -53,10 +53,6 @@ module _ {A : Type 0} where
   areas_at_rows (row ∷ rows) file id = let rest = areas_at_rows rows file id in grind (arith, nat_tests)
 
   -- a search among the objects of a file is one among its rows
-  pub has_hwpt_rows : (rows : List (Row (Held A))) (file : FileNo) (ioas : ObjId) → has_hwpt (map object_of rows) file ioas ≡ list_any (λ (row : Row (Held A)). is_hwpt_over ioas (kind_in row.value)) (filter (is_of_file file) rows)
-  has_hwpt_rows [] file ioas = refl
-  has_hwpt_rows (row ∷ rows) file ioas = let rest = has_hwpt_rows rows file ioas in grind (arith, nat_tests)
-
   pub ends_in_rows : (rows : List (Row (Held A))) (file : FileNo) (ioas : ObjId) (span : Bounds) → list_any (ends_in file ioas span) (map object_of rows) ≡ list_any (λ (row : Row (Held A)). ends_in_kind ioas span (kind_in row.value)) (filter (is_of_file file) rows)
   ends_in_rows [] file ioas span = refl
   ends_in_rows (row ∷ rows) file ioas span = by_file (eqb row.file.0 file.0) refl (ends_in_rows rows file ioas span)

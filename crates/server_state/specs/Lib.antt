@@ -7,3 +7,4 @@ pub mod Seen
 pub mod Shows
 pub mod Spaces
 pub mod Step
+pub mod Tables

@@ -15,6 +15,7 @@ use Rattle.iofd_words.specs.declared.rows.Attachment.{Attachment}
 use Rattle.iofd_words.specs.declared.rows.Object.{Object}
 use Rattle.server_state.specs.Held.{object_of, is_proper, areas_at}
 use Rattle.server_state.specs.declared.held.Held.{Held}
+use Rattle.server_state.specs.Tables.{AreTables}
 use Rattle.server_state.specs.declared.state.State.{State}
 use Rattle.memory_rows.specs.Shown.{FramesShown, PinsShown, UsersShown}
 use Rattle.object_table.specs.Table.{Table, is_open}
@@ -27,10 +28,11 @@ pub record ObjectsShown {A : Type 0} (settings : Settings) (closed : List FileNo
   pub spaces : (f : FileNo) (ioas : ObjId) → areas_of areas f ioas ≡ areas_at table.rows f ioas
   pub files : (number : FileNo) → is_open table number ≡ file.is_open settings closed number
 
--- by which object a device is bound, and by which page table it translates
-pub record DevicesShown (objects : List Object) (attachments : List Attachment) (kept_bindings : List Object) (kept_attachments : List Attachment) : Type 0 where
+-- by which object a device is bound, by which page table it translates, and the page tables
+pub record DevicesShown (objects : List Object) (attachments : List Attachment) (kept_bindings : List Object) (kept_attachments : List Attachment) (kept_tables : List Object) : Type 0 where
   pub bindings : (device : DeviceNo) → binding_of objects device ≡ binding_of kept_bindings device
   pub attached : attachments ≡ kept_attachments
+  pub tables : AreTables kept_tables objects
 
 pub record Shows {A : Type 0} (w : World) (s : State A) : Type 0 where
   pub settings : w.settings ≡ s.config
@@ -38,7 +40,7 @@ pub record Shows {A : Type 0} (w : World) (s : State A) : Type 0 where
   -- each address space has its allowed ranges
   pub allowed : (file : FileNo) (ioas : ObjId) → allowed_of w.allowed file ioas ≡ allowed_of s.allowed file ioas
   pub objects : ObjectsShown w.settings w.closed w.objects w.areas s.objects
-  pub devices : DevicesShown w.objects w.attachments s.bindings.items s.attachments.items
+  pub devices : DevicesShown w.objects w.attachments s.bindings.items s.attachments.items s.page_tables.items
   pub users : UsersShown w.user_pages s.memory.pages
   pub pins : PinsShown w.objects w.areas w.memory w.pins s.memory
   pub frames : FramesShown w.settings.pool w.writes w.table_frames s.memory s.pool

@@ -7,6 +7,7 @@ pub mod accounts;
 pub mod area_changes;
 mod held;
 pub mod lookups;
+pub mod page_tables;
 pub mod release;
 mod state;
 pub mod usable;

@@ -8,8 +8,10 @@ ghost use Rattle.object_table.specs.Rows.{row_shown};
 ghost use Rattle.object_table.specs.Table.{rows_of};
 ghost use Rattle.server_state.specs.Mapping.{is_over};
 ghost use Rattle.server_state.specs.Held.{areas_at, object_of, kind_in, objects_in, space_of};
+ghost use Rattle.server_state.specs.Step.{IsKnown};
 
 use crate::held::Held;
+use crate::page_tables;
 use crate::state::State;
 use area_map::Areas;
 use iofd_words::{Attachment, DeviceNo, FileNo, ObjId, Object, ObjectKind, Width};
@@ -47,15 +49,6 @@ pub fn kind_of<A: Allocator>(
     Some(kind_in(table.value(file, id)?))
 }
 
-/// Whether the file's address space of this id has a hardware page table.
-pub fn has_hwpt<A: Allocator>(table: &ObjectTable<Held<A>, A>, file: FileNo, ioas: ObjId) -> bool
-    ensures { result ≡ objects.has_hwpt (objects_in table.now) file ioas }
-{
-    table
-        .iter(file)
-        .any(|object| is_hwpt_over(object.value, ioas))
-}
-
 /// The automatic hardware page table of this width over the file's address space of this id.
 #[tactic(auto, using(crate::proofs::Objects::automatic_rows))]
 pub fn automatic_hwpt<A: Allocator>(
@@ -81,15 +74,6 @@ fn automatic_object<A: Allocator>(
     table
         .iter(file)
         .find(|object| is_automatic_over(object.value, ioas, width))
-}
-
-fn is_hwpt_over<A: Allocator>(held: &Held<A>, ioas: ObjId) -> bool
-    ensures { result ≡ objects.is_hwpt_over ioas (kind_in held.now) }
-{
-    match held {
-        Held::Hwpt { ioas: over, .. } => *over == ioas,
-        _ => false,
-    }
 }
 
 fn is_automatic_over<A: Allocator>(held: &Held<A>, ioas: ObjId, width: Width) -> bool
@@ -148,6 +132,14 @@ fn is_table_over<A: Allocator>(
 }
 
 impl<A: Allocator> State<A> {
+    /// Whether the file's address space of this id has a hardware page table.
+    pub fn has_hwpt(&self, file: FileNo, ioas: ObjId) -> bool
+        requires { IsKnown self.now }
+        ensures { result ≡ objects.has_hwpt (objects_in self.now.objects) file ioas }
+    {
+        page_tables::has_over(&self.page_tables, file, ioas)
+    }
+
     /// The attachment of the device.
     pub fn attachment_of(&self, device: DeviceNo) -> Option<&Attachment>
         ensures { option_copied result ≡ attachments.attachment_of self.now.attachments.items device }

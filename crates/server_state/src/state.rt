@@ -22,6 +22,8 @@ pub struct State<A: Allocator = Global> {
     pub allowed: AllowedTable<A>,
     /// The objects by which devices are bound.
     pub bindings: Vec<Object, A>,
+    /// The page tables of all files, in any order: what asks for them goes over these alone.
+    pub page_tables: Vec<Object, A>,
     /// By which page table each device translates, by rising device.
     pub attachments: Vec<Attachment, A>,
     /// The users' pages and accounts, and the memory objects with their pins.

@@ -2,96 +2,103 @@
 
 ghost use Rattle.std.specs.Prelude.{◌≡◌, false, find, MatchOption};
 ghost use Rattle.std.specs.List.{list_any};
-ghost use Rattle.std.specs.Option.{option_copied, option_map};
+ghost use Rattle.std.specs.Option.{option_copied};
 ghost use Rattle.iofd_rows.specs.Reached as reached;
 ghost use Rattle.iofd_words.specs.Files.{device_of};
 ghost use Rattle.iofd_words.specs.Ranges.{meets_some};
 ghost use Rattle.iofd_words.specs.Span.{meets};
 ghost use Rattle.iofd_words.specs.Usable as usable;
-ghost use Rattle.object_table.specs.Rows.{row_shown};
-ghost use Rattle.object_table.specs.Table.{rows_of};
 ghost use Rattle.server_state.specs.Choice.{first_of};
-ghost use Rattle.server_state.specs.Held.{kind_in, objects_in};
+ghost use Rattle.server_state.specs.Held.{objects_in};
 ghost use Rattle.server_state.specs.Reach.{IsOneOf};
+ghost use Rattle.server_state.specs.Step.{IsKnown};
+ghost use Rattle.server_state.specs.Tables.{AreTables};
 
 use crate::held::Held;
 use crate::lookups;
-use iofd_words::{Attachment, Config, DeviceNo, FileNo, ObjId, Span};
-use object_table::{ObjectRef, ObjectTable};
+use crate::state::State;
+use iofd_words::{Attachment, Config, DeviceNo, FileNo, ObjId, Object, ObjectKind, Span};
+use object_table::ObjectTable;
 use std::alloc::Allocator;
 
-/// A span that can't be used in the file's address space of this id and that meets this one, if there is one. It takes
-/// no memory.
-pub fn unusable_meeting<A: Allocator>(
-    config: &Config<A>,
-    table: &ObjectTable<Held<A>, A>,
-    attachments: &[Attachment],
-    file: FileNo,
-    ioas: ObjId,
-    span: Span,
-) -> Option<Span>
-    ensures { MatchOption result
-        (meets_some (usable.unusable config.now (objects_in table.now) attachments.now file ioas) span ≡ false)
-        (IsOneOf (usable.unusable config.now (objects_in table.now) attachments.now file ioas) span) }
-{
-    match beyond_meeting(table, file, ioas, span) {
-        Some(one) => Some(one),
-        None => kept_meeting(config, table, attachments, file, ioas, span),
+impl<A: Allocator> State<A> {
+    /// A span that can't be used in the file's address space of this id and that meets this one, if there is one. It
+    /// takes no memory.
+    pub fn unusable_meeting(&self, file: FileNo, ioas: ObjId, span: Span) -> Option<Span>
+        requires { IsKnown self.now }
+        ensures { MatchOption result
+            (meets_some (usable.unusable self.now.config (objects_in self.now.objects) self.now.attachments.items file ioas) span ≡ false)
+            (IsOneOf (usable.unusable self.now.config (objects_in self.now.objects) self.now.attachments.items file ioas) span) }
+    {
+        match beyond_meeting(&self.objects, &self.page_tables, file, ioas, span) {
+            Some(one) => Some(one),
+            None => kept_meeting(
+                &self.config,
+                &self.objects,
+                &self.attachments,
+                file,
+                ioas,
+                span,
+            ),
+        }
     }
 }
 
 /// The addresses beyond a page table over the file's address space of this id, where they meet the span.
 fn beyond_meeting<A: Allocator>(
     table: &ObjectTable<Held<A>, A>,
+    tables: &[Object],
     file: FileNo,
     ioas: ObjId,
     span: Span,
 ) -> Option<Span>
+    requires { AreTables tables.now (objects_in table.now) }
     ensures { MatchOption result
         (list_any (reached.ends_in file ioas span) (objects_in table.now) ≡ false)
         (IsOneOf (usable.beyond_tables (objects_in table.now) file ioas) span) }
 {
-    match table_ending_in(table, file, ioas, span) {
-        Some(object) => beyond(object.value),
+    match table_ending_in(tables, file, ioas, span) {
+        Some(object) => beyond(object.kind),
         None => None,
     }
 }
 
 /// The first page table over the address space that doesn't translate all of the span.
-fn table_ending_in<A: Allocator>(
-    table: &ObjectTable<Held<A>, A>,
-    file: FileNo,
-    ioas: ObjId,
-    span: Span,
-) -> Option<ObjectRef<'_, Held<A>>>
-    ensures { option_map row_shown result
-        ≡ find (λ row. reached.ends_in_kind ioas span (kind_in row.value)) (rows_of table.now file) }
+fn table_ending_in(tables: &[Object], file: FileNo, ioas: ObjId, span: Span) -> Option<&Object>
+    ensures { option_copied result ≡ find (reached.ends_in file ioas span) tables.now }
 {
-    table
-        .iter(file)
-        .find(|object| is_end_in(object.value, ioas, span))
+    tables
+        .iter()
+        .find(|object| is_end_in(object, file, ioas, span))
 }
 
 /// Whether the object is a page table over the address space that doesn't translate all of the span.
-fn is_end_in<A: Allocator>(held: &Held<A>, ioas: ObjId, span: Span) -> bool
-    ensures { result ≡ reached.ends_in_kind ioas span (kind_in held.now) }
+fn is_end_in(object: &Object, file: FileNo, ioas: ObjId, span: Span) -> bool
+    ensures { result ≡ reached.ends_in file ioas span object.now }
 {
-    match held {
-        Held::Hwpt {
+    object.file == file && is_short_of(object.kind, ioas, span)
+}
+
+/// Whether it is a page table over the address space and doesn't translate all of the span.
+fn is_short_of(kind: ObjectKind, ioas: ObjId, span: Span) -> bool
+    ensures { result ≡ reached.ends_in_kind ioas span kind }
+{
+    match kind {
+        ObjectKind::Hwpt {
             ioas: over,
             width,
             ..
-        } => *over == ioas && width.end() <= span.last(),
+        } => over == ioas && width.end() <= span.last(),
         _ => false,
     }
 }
 
 /// The addresses that the object doesn't translate, if it is a page table.
-fn beyond<A: Allocator>(held: &Held<A>) -> Option<Span>
-    ensures { result ≡ first_of (usable.beyond_table (kind_in held.now)) }
+fn beyond(kind: ObjectKind) -> Option<Span>
+    ensures { result ≡ first_of (usable.beyond_table kind) }
 {
-    match held {
-        Held::Hwpt { width, .. } => Span::new(width.end(), u64::MAX),
+    match kind {
+        ObjectKind::Hwpt { width, .. } => Span::new(width.end(), u64::MAX),
         _ => None,
     }
 }

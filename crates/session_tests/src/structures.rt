@@ -107,7 +107,7 @@ fn put_ask(script: &mut String, ask: Ask) -> Result<(), AllocError> {
     match ask {
         Line(words) => writeln!(script, "ioctl 9 {words}"),
         Large(number, length, place, value, after) => {
-            let size = length + 8;
+            let size = length.saturating_add(8);
             write!(script, "ioctl 9 {number:x} {:08x}", size.swap_bytes())?;
             for at in 1..length / 4 {
                 let word = if at == place { value } else { 0 };

@@ -11,6 +11,6 @@ pin-requires-clause-present g c =
     let m = c.args.memory.now in
     let areas : List Area = c.in-Some.areas.now.areas in
     let is : c.deref.result.now ≡ numbers_of areas = c.deref.ensures.value ∙ c.in_ok-numbers.ensures in
-    let may = c.requires.may (sym c.has_hwpt.ensures ∙ c.if-has_hwpt.false) in
+    let may = c.requires.may (sym c.requires.translated ∙ c.if-translated.false) in
     ap (list_any (lacks_page m)) (is ∙ ap numbers_of (sym c.in-Some.ensures))
     ∙ lacking_pages m (numbers_of _) c.objects_told.ensures ∙ may.present

@@ -22,25 +22,25 @@ pub unpin_space-requires : goal.unpin_space-requires
 unpin_space-requires g c =
     let known = c.requires.granted in
     may_unpin c.requires.at known.world c.args.state.now c.drop_table.new.table c.remove.new.list c.args.device c.in-Some.attachment.now c.in-Some-space_of.field-0-0 c.in-Some-space_of.ioas c.pay.new.table known.tidy known.shows known.none
-    (sym c.in-Some.ensures) (sym c.in-Some-space_of.ensures) c.pay.ensures c.remove.ensures (rw c.deref.ensures.value at (sym c.if-is_idle.ensures)) c.drop_table.ensures.rows c.drop_table.ensures.files
-    (sym c.has_hwpt.ensures ∙ c.if-not-has_hwpt.true)
+    (sym c.in-Some.ensures) (sym c.in-Some-space_of.ensures) c.pay.ensures c.remove.ensures (rw c.deref.ensures.value at (sym c.if-is_idle.ensures)) c.drop_table.ensures.rows c.drop_table.ensures.files c.remove-then-is_idle.new.tables c.remove-then-is_idle.ensures
+    (rw c.deref-then-is_idle.ensures.value at (sym c.has_over.ensures ∙ c.if-not-has_over.true))
 
-pub returns-then-not-has_hwpt : goal.returns-then-not-has_hwpt
+pub returns-then-not-has_over : goal.returns-then-not-has_over
 unfolding Answers
-returns-then-not-has_hwpt g c =
+returns-then-not-has_over g c =
     λ at w tidy shows none. (
       tt,
       shows_last at w c.args.state.now c.drop_table.new.table c.remove.new.list c.args.device c.in-Some.attachment.now c.in-Some-space_of.field-0-0 c.in-Some-space_of.ioas c.pay.new.table tidy shows none
-          (sym c.in-Some.ensures) (sym c.in-Some-space_of.ensures) c.pay.ensures c.remove.ensures (rw c.deref.ensures.value at (sym c.if-is_idle.ensures)) c.drop_table.ensures.rows c.drop_table.ensures.files
-          c.unpin_space.new.memory c.unpin_space.new.pool (sym c.has_hwpt.ensures ∙ c.if-not-has_hwpt.true) c.unpin_space.ensures,
+          (sym c.in-Some.ensures) (sym c.in-Some-space_of.ensures) c.pay.ensures c.remove.ensures (rw c.deref.ensures.value at (sym c.if-is_idle.ensures)) c.drop_table.ensures.rows c.drop_table.ensures.files c.remove-then-is_idle.new.tables c.remove-then-is_idle.ensures
+          c.unpin_space.new.memory c.unpin_space.new.pool (rw c.deref-then-is_idle.ensures.value at (sym c.has_over.ensures ∙ c.if-not-has_over.true)) c.unpin_space.ensures,
     )
 
-pub returns-else-not-has_hwpt : goal.returns-else-not-has_hwpt
+pub returns-else-not-has_over : goal.returns-else-not-has_over
 unfolding Answers
-returns-else-not-has_hwpt g c =
+returns-else-not-has_over g c =
     λ at w tidy shows none. (
       tt,
       shows_dropped at w c.args.state.now c.drop_table.new.table c.remove.new.list c.args.device c.in-Some.attachment.now c.in-Some-space_of.field-0-0 c.in-Some-space_of.ioas c.pay.new.table tidy shows none
-          (sym c.in-Some.ensures) (sym c.in-Some-space_of.ensures) c.pay.ensures c.remove.ensures (rw c.deref.ensures.value at (sym c.if-is_idle.ensures)) c.drop_table.ensures.rows c.drop_table.ensures.files
-          (sym c.has_hwpt.ensures ∙ c.if-not-has_hwpt.false),
+          (sym c.in-Some.ensures) (sym c.in-Some-space_of.ensures) c.pay.ensures c.remove.ensures (rw c.deref.ensures.value at (sym c.if-is_idle.ensures)) c.drop_table.ensures.rows c.drop_table.ensures.files c.remove-then-is_idle.new.tables c.remove-then-is_idle.ensures
+          (rw c.deref-then-is_idle.ensures.value at (sym c.has_over.ensures ∙ c.if-not-has_over.false)),
     )

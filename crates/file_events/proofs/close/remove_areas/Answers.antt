@@ -5,6 +5,7 @@ use Rattle.memory_rows.specs.Shown.{over}
 use Rattle.object_table.specs.Rows.{row_shown}
 use Rattle.object_table.specs.Table.{is_of_file, rows_of}
 use Rattle.file_events.proofs.RowsCounted.{AreClosing, other_passed, space_gone, space_may}
+use Rattle.server_state.proofs.PageTables.{has_hwpt_kept}
 use Rattle.server_state.specs.Held.{areas_in, objects_in}
 use Rattle.file_events.specs.FileAreas.{areas_of_rows, translated_of}
 use Rattle.file_events.proofs.close.remove_areas.Goals as goal
@@ -15,19 +16,19 @@ loop-object-init g c =
     let objects = objects_in c.args.table.now in
     let start : AreClosing objects c.args.file rows rows c.args.memory.now c.args.memory.now c.args.pool.now c.args.pool.now = record {
       of_file = all_pass (is_of_file c.args.file) c.args.table.now.rows;
-      leaving = leaving_first (over (areas_of_rows rows)) (over (translated_of objects rows)) c.args.memory.now c.args.pool.now c.requires;
+      leaving = leaving_first (over (areas_of_rows rows)) (over (translated_of objects rows)) c.args.memory.now c.args.pool.now c.requires.may;
     } in
     subst (λ left. AreClosing objects c.args.file rows left c.args.memory.now c.args.memory.now c.args.pool.now c.args.pool.now) (sym (c.into_iter-object-iterator.ensures.into_iter_gives ∙ c.iter-object-items.ensures)) start
 
 pub remove-requires : goal.remove-requires
 remove-requires g c =
     space_may (objects_in c.args.table.now) c.args.file (rows_of c.args.table.now c.args.file) c.loop-object.object-iterator c.next.new.self (row_shown c.in-Some.object) c.args.memory.now c.loop-object.memory c.args.pool.now c.loop-object.pool c.in-Some.ensures.steps c.loop-object.invariant
-    c.iter.result c.has_hwpt-translated.result (c.iter.ensures.areas ∙ sym (ap areas_in c.in-Ioas.is)) c.has_hwpt-translated.ensures
+    c.iter.result c.has_over-translated.result (c.iter.ensures.areas ∙ sym (ap areas_in c.in-Ioas.is)) (c.has_over-translated.ensures ∙ has_hwpt_kept c.args.tables.now (objects_in c.args.table.now) c.requires.tables c.args.file c.in-Some.object.id)
 
 pub loop-object-preserved-in-Ioas : goal.loop-object-preserved-in-Ioas
 loop-object-preserved-in-Ioas g c =
     space_gone (objects_in c.args.table.now) c.args.file (rows_of c.args.table.now c.args.file) c.loop-object.object-iterator c.next.new.self (row_shown c.in-Some.object) c.args.memory.now c.loop-object.memory c.args.pool.now c.loop-object.pool c.in-Some.ensures.steps c.loop-object.invariant
-    c.iter.result c.has_hwpt-translated.result (c.iter.ensures.areas ∙ sym (ap areas_in c.in-Ioas.is)) c.has_hwpt-translated.ensures
+    c.iter.result c.has_over-translated.result (c.iter.ensures.areas ∙ sym (ap areas_in c.in-Ioas.is)) (c.has_over-translated.ensures ∙ has_hwpt_kept c.args.tables.now (objects_in c.args.table.now) c.requires.tables c.args.file c.in-Some.object.id)
     c.remove.new.memory c.remove.new.pool c.remove.ensures
 
 pub loop-object-preserved : goal.loop-object-preserved

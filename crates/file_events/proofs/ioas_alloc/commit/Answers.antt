@@ -18,6 +18,6 @@ returns-clause-ok g c = λ at w tidy shows none.
     let unused = rw reserved.rows at inserted.unused in (
       rw shows.objects.rows (fresh_id c.args.state.now.objects.rows c.args.file c.insert_reserved-id.result inserted.in_range.0 inserted.in_range.1 unused),
       shows_inserted w c.args.state.now _ c.insert_reserved-id.new.self c.args.state.now.bindings shows refl
-          c.new.ensures unused (λ ioas. refl) (rw reserved.rows at inserted.rows) (inserted.files ∙ reserved.files)
+          c.new.ensures unused refl (rw reserved.rows at inserted.rows) (inserted.files ∙ reserved.files)
           (λ device. find-with_object (λ object. is_bound_as device object.kind) _ w.objects refl ∙ shows.devices.bindings device),
     )

@@ -17,7 +17,8 @@ returns-clause-shows g c =
       };
       devices = record {
         bindings = λ device. rw c.new-3.ensures.items refl;
-        attached = sym c.new-4.ensures.items;
+        attached = sym c.new-5.ensures.items;
+        tables = λ test. rw c.new-4.ensures.items refl;
       };
       limits = c.in_ok-new-2.ensures.limits ∙ c.users.ensures;
       allowed = λ file ioas. rw c.new-2.ensures refl;
@@ -36,10 +37,10 @@ pool_between s within = by_test (is_between 1 4096 s.pool) refl within
     by_test true is within = (search (is, arith, nat_tests), search (is, arith, nat_tests))
     by_test false is within = let first = rw is at within in cc
 
-pub new-requires-6-clause-some : goal.new-requires-6-clause-some
-new-requires-6-clause-some g c = rw c.pool-pool.ensures.value
+pub new-requires-7-clause-some : goal.new-requires-7-clause-some
+new-requires-7-clause-some g c = rw c.pool-pool.ensures.value
     (pool_between c.args.config.now c.pool-pool.ensures.within).0
 
-pub new-requires-6-clause-few : goal.new-requires-6-clause-few
-new-requires-6-clause-few g c = rw c.pool-pool.ensures.value
+pub new-requires-7-clause-few : goal.new-requires-7-clause-few
+new-requires-7-clause-few g c = rw c.pool-pool.ensures.value
     (pool_between c.args.config.now c.pool-pool.ensures.within).1

@@ -26,8 +26,11 @@ returns-in_default-clause-ok g c = λ w tidy shows none.
     let lacks : user_of w.settings c.args.file ≡ None = rw shows.settings (sym c.user_of.ensures.value ∙ c.in_default.is) in
     absurd (has_user w c.args.file c.args.request none lacks)
 
-pub place_of-requires : goal.place_of-requires
-place_of-requires g c = some_length c.args.at c.args.state.now c.args.file c.args.request c.in-Some.user c.requires (sym c.user_of.ensures.value ∙ c.in-Some.is)
+pub place_of-requires-clause-known : goal.place_of-requires-clause-known
+place_of-requires-clause-known g c = record { at = c.args.at; world = c.requires.world; tidy = c.requires.tidy; shows = c.requires.shows }
+
+pub place_of-requires-clause-some : goal.place_of-requires-clause-some
+place_of-requires-clause-some g c = some_length c.args.at c.args.state.now c.args.file c.args.request c.in-Some.user c.requires (sym c.user_of.ensures.value ∙ c.in-Some.is)
 
 pub mapped_area-area-requires : goal.mapped_area-area-requires
 mapped_area-area-requires g c = is_spanned (seen c.args.state.now) c.args.file c.args.request c.in-Some-place_of.span (rw c.in-Some-place_of.is at c.place_of.ensures)

@@ -1,0 +1,8 @@
+use Rattle.server_state.proofs.PageTables.{has_hwpt_kept, tables_known}
+use Rattle.server_state.specs.Held.{objects_in}
+use Rattle.server_state.proofs.state.State.has_hwpt.Goals as goal
+
+pub returns : goal.returns
+returns g c =
+    rw (c.has_over.ensures, c.deref.ensures.value)
+    (has_hwpt_kept c.args.self.now.page_tables.items (objects_in c.args.self.now.objects) (tables_known c.args.self.now c.requires) c.args.file c.args.ioas)
