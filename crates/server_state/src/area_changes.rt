@@ -1,6 +1,6 @@
 //! Changes of one address space's areas: one comes, or some go.
 
-ghost use Rattle.std.specs.Prelude.{◌≡◌, ◌<◌, ◌==◌, not, true, None, [], length, map, OnOk, MatchOption};
+ghost use Rattle.std.specs.Prelude.{◌≡◌, ◌<◌, ◌==◌, not, true, None, [], length, map, OnErr, OnOk, MatchOption};
 ghost use Rattle.area_map.specs.Areas.{AreKept, areas_outside, areas_within, bytes_of, marked, with_area};
 ghost use Rattle.area_map.specs.Insertion.{insert_refusal};
 ghost use Rattle.iofd_words.specs.Areas.{owed_by};
@@ -15,8 +15,8 @@ use iofd_words::{Area, DeviceSet, FileNo, NoMemory, ObjId, Phase, Span};
 use object_table::{Kind, ObjectTable};
 use std::alloc::Allocator;
 
-/// Takes memory for one more area of this address space, if there is no room. No area changes, on an error neither: it is
-/// want of memory.
+/// Takes memory for one more area of this address space, if there is no room. No area changes, on an error neither:
+/// it is want of memory, and comes only where there was no room.
 #[tactic(auto, using(crate::proofs::AreasHeld::areas_absent))]
 pub fn reserve<A: Allocator + Copy>(
     table: &mut ObjectTable<Held<A>, A>,
@@ -27,6 +27,7 @@ pub fn reserve<A: Allocator + Copy>(
         → HasAreas file ioas (areas_at table.old.rows file ioas) table.old table.new }
     ensures ok { OnOk result (IsOrderly table.old → has_ioas (objects_in table.old) file ioas ≡ true
         → 0 < room_at table.new.rows file ioas) }
+    ensures full { OnErr result (IsOrderly table.old → room_at table.old.rows file ioas ≡ 0) }
 {
     match table.get_mut(file, Kind::Ioas, ioas) {
         Ok(held) => reserve_held(held),
@@ -37,6 +38,7 @@ pub fn reserve<A: Allocator + Copy>(
 fn reserve_held<A: Allocator + Copy>(held: &mut Held<A>) -> Result<(), NoMemory>
     ensures areas { IsWith (areas_in held.old) held.old held.new }
     ensures ok { OnOk result (is_ioas (kind_in held.old) ≡ true → 0 < room_in held.new) }
+    ensures full { OnErr result (room_in held.old ≡ 0) }
 {
     match held {
         Held::Ioas(areas) => areas.reserve(),

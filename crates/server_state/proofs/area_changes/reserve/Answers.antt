@@ -1,8 +1,8 @@
-use Rattle.std.proofs.Common.{◌<◌, ℕ, List, subst, sym}
-use Rattle.std.proofs.lemmas.Result.{on_ok_weaker}
+use Rattle.std.proofs.Common.{◌<◌, ℕ, List, subst, sym, ◌∙◌}
+use Rattle.std.proofs.lemmas.Result.{on_err_weaker, on_ok_weaker}
 use Rattle.iofd_words.specs.declared.rows.Area.{Area}
 use Rattle.server_state.proofs.AreasHeld.{rewritten, space_absent, space_found}
-use Rattle.server_state.proofs.RoomHeld.{room_written}
+use Rattle.server_state.proofs.RoomHeld.{room_found, room_written}
 use Rattle.server_state.proofs.area_changes.reserve.Goals as goal
 
 pub returns-in-Ok-clause-areas : goal.returns-in-Ok-clause-areas
@@ -20,3 +20,9 @@ returns-in-Ok-clause-ok g c =
 
 pub returns-in-Err-clause-ok : goal.returns-in-Err-clause-ok
 returns-in-Err-clause-ok g c = λ orderly has. absurd (space_absent c.args.table.now c.args.file c.args.ioas orderly c.in-Err.ensures.refused.0 has)
+
+pub returns-in-Ok-clause-full : goal.returns-in-Ok-clause-full
+returns-in-Ok-clause-full g c =
+    on_err_weaker c.reserve_held.result
+    (λ none orderly. room_found c.args.table.now c.args.file _ c.args.ioas c.in-Ok.held.now orderly c.in-Ok.ensures.ok ∙ none)
+    c.reserve_held.ensures.full
