@@ -335,11 +335,11 @@ pub(crate) fn apply_with<'a>(
     alloc: Global,
     heap: &'a LocalHeap,
     core: &mut Core<&'a LocalHeap>,
-    act: &Act<&'a LocalHeap>,
+    event: Event<&'a LocalHeap>,
     left: u64,
 ) -> Result<Option<Reply>, AllocError> {
     let _blocks = fill(alloc, heap, left)?;
-    match core.apply(PassNo(0), act) {
+    match apply(core, event) {
         Ok(stamp) => Ok(Some(stamp.reply)),
         Err(NoMemory) => Ok(None),
     }
@@ -350,25 +350,24 @@ pub(crate) fn same(holds: bool) -> Result<(), Fail> {
     Ok(wanted.ok_or("want of memory changed something")?)
 }
 
-/// The event with ever more memory left, until it is taken: its reply, and how often it found none and changed nothing.
+/// The step with ever more memory left, until it is taken: its reply, and how often it found none and changed nothing.
 fn apply_at_last<'a>(
     alloc: Global,
     heap: &'a LocalHeap,
     core: &mut Core<&'a LocalHeap>,
-    event: Event<&'a LocalHeap>,
+    step: Step,
 ) -> Result<(Reply, u64), Fail> {
-    let act = Act { event, via: None };
     let before = core.records().len();
     let seen = core.look(&read(0x1ffe, 2));
     for left in 0..2048u64 {
-        let answer = apply_with(alloc, heap, core, &act, left)?;
+        let answer = apply_with(alloc, heap, core, event(heap, step)?, left)?;
         if let Some(reply) = answer {
             return Ok((reply, left));
         }
         same(core.records().len() == before)?;
         same(core.look(&read(0x1ffe, 2)) == seen)?;
     }
-    Ok((core.apply(PassNo(0), &act)?.reply, 2048))
+    Ok((apply(core, event(heap, step)?)?.reply, 2048))
 }
 
 #[test]
@@ -379,7 +378,7 @@ fn a_refused_growth_changes_nothing(rt: HostRuntime) -> Result<(), Fail> {
     let mut core = Core::new(&heap, &config)?;
     let mut refused_steps = 0u32;
     for (step, reply) in &SCRIPT {
-        let (answer, refusals) = apply_at_last(rt.alloc(), &heap, &mut core, event(&heap, *step)?)?;
+        let (answer, refusals) = apply_at_last(rt.alloc(), &heap, &mut core, *step)?;
         assert!(rt; answer == *reply);
         refused_steps = refused_steps.saturating_add(u32::from(refusals > 0));
     }

@@ -1,7 +1,7 @@
 //! What is allowed and what can be used, with each growth refused in turn.
 
 use crate::events::{FIRST, Step, UNKNOWN, apply, apply_with, config, event, fill, same};
-use iofd_words::{Act, Cause, Config, FrameNo, Iova, ObjId, Refusal, Reply, Span};
+use iofd_words::{Cause, Config, FrameNo, Iova, ObjId, Refusal, Reply, Span};
 use iommufd_core::{Core, RangesError};
 use linked_list_allocator::LocalHeap;
 use std::alloc::Global;
@@ -81,13 +81,10 @@ fn is_taken(
     wanted: Reply,
 ) -> Result<bool, Fail> {
     let heap = LocalHeap::new(alloc, 30720)?;
-    let (step, reply, _) = &STEPS[count];
+    let (step, reply, _) = STEPS.get(count).ok_or("a step")?;
     let mut core = core_after(alloc, &heap, count)?;
-    let act = Act {
-        event: event(&heap, *step)?,
-        via: None,
-    };
-    if let Some(answer) = apply_with(alloc, &heap, &mut core, &act, left)? {
+    let event_now = event(&heap, *step)?;
+    if let Some(answer) = apply_with(alloc, &heap, &mut core, event_now, left)? {
         same(answer == *reply)?;
         return Ok(true);
     }
@@ -102,36 +99,72 @@ fn is_taken(
     Ok(false)
 }
 
+/// How often the step behind so many finds no memory, with ever more left. Each time nothing changed: neither itself nor a
+/// MAP at a chosen address is answered otherwise.
+fn refusals_of(
+    alloc: Global,
+    count: usize,
+    step: Step,
+    reply: Reply,
+    chosen: Reply,
+) -> Result<u64, Fail> {
+    for left in 0..1024u64 {
+        if is_taken(alloc, count, left, step, reply)? {
+            return Ok(left);
+        }
+        same(!is_taken(alloc, count, left, Step::Choose, chosen)?)?;
+    }
+    Ok(1024)
+}
+
 #[test]
 fn a_refused_growth_keeps_what_is_allowed(rt: HostRuntime) -> Result<(), Fail> {
     let mut refused_steps = 0u32;
     for (count, (step, reply, chosen)) in STEPS.iter().enumerate() {
-        let mut left = 0u64;
-        while left < 1024 && !is_taken(rt.alloc(), count, left, *step, *reply)? {
-            assert!(rt; !is_taken(rt.alloc(), count, left, Step::Choose, *chosen)?);
-            left += 1;
-        }
-        assert!(rt; left < 1024, "step {count}");
-        refused_steps = refused_steps.saturating_add(u32::from(left > 0));
+        let refusals = refusals_of(rt.alloc(), count, *step, *reply, *chosen)?;
+        assert!(rt; refusals < 1024, "step {count}");
+        refused_steps = refused_steps.saturating_add(u32::from(refusals > 0));
     }
     assert!(rt; refused_steps >= 5, "steps that grow: {refused_steps}");
     Ok(())
+}
+
+/// Whether the usable ranges are told with so many blocks left; else memory is said to be wanting.
+fn are_told(
+    alloc: Global,
+    heap: &LocalHeap,
+    core: &Core<&LocalHeap>,
+    left: u64,
+) -> Result<bool, Fail> {
+    let _blocks = fill(alloc, heap, left)?;
+    match are_usable(core, &USABLE) {
+        Ok(usable) => {
+            same(usable)?;
+            Ok(true)
+        }
+        Err(error) => {
+            same(error == RangesError::Memory)?;
+            Ok(false)
+        }
+    }
+}
+
+/// How often the question finds no memory, with ever more left.
+fn refusals_to_tell(alloc: Global, heap: &LocalHeap, core: &Core<&LocalHeap>) -> Result<u64, Fail> {
+    for left in 0..1024u64 {
+        if are_told(alloc, heap, core, left)? {
+            return Ok(left);
+        }
+    }
+    Ok(1024)
 }
 
 #[test]
 fn a_refused_growth_hides_what_can_be_used(rt: HostRuntime) -> Result<(), Fail> {
     let heap = LocalHeap::new(rt.alloc(), 16384)?;
     let core = core_after(rt.alloc(), &heap, STEPS.len())?;
-    let mut left = 0u64;
-    while left < 1024 {
-        let _blocks = fill(rt.alloc(), &heap, left)?;
-        let Err(error) = are_usable(&core, &USABLE) else {
-            break;
-        };
-        assert!(rt; error == RangesError::Memory);
-        left += 1;
-    }
-    assert!(rt; 0 < left && left < 1024, "{left} refusals");
+    let refusals = refusals_to_tell(rt.alloc(), &heap, &core)?;
+    assert!(rt; 0 < refusals && refusals < 1024, "{refusals} refusals");
     assert!(rt; are_usable(&core, &USABLE) == Ok(true));
     Ok(())
 }

@@ -384,7 +384,7 @@ fn put_step(script: &mut String, step: Step) -> Result<(), AllocError> {
 }
 
 fn put_ranges(script: &mut String, ranges: &[(u64, u64)]) -> Result<(), AllocError> {
-    let count = (ranges.len() as u32).swap_bytes();
+    let count = (ranges.len() as u64).swap_bytes() >> 32;
     write!(script, "{count:08x}000000000000000000000000")?;
     for (start, last) in ranges {
         let (start, last) = (start.swap_bytes(), last.swap_bytes());
