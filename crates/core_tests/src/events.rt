@@ -1,10 +1,9 @@
 //! The worked script, each call once, and a refused growth at each step.
 
-use iofd_words::Cause::{Absent, Cross, Frames, Id, InUse, Overlap};
 use iofd_words::{
-    AccessKind, Act, Answer, Burst, Config, DeviceConfig, DeviceNo, Errno, Event, Fault,
-    FaultReason, FileNo, FrameNo, Iova, IovaRange, MapFlags, MapRequest, NoMemory, ObjId, PassNo,
-    Query, RangeList, Refusal, Reply, SourceId, Span, SpanList, UnmapRequest, UserNo, Width,
+    AccessKind, Act, Answer, Burst, Cause, Config, DeviceConfig, DeviceNo, Errno, Event, Fault,
+    FaultReason, FileNo, FrameNo, Iova, MapFlags, MapRequest, NoMemory, ObjId, PassNo, Query,
+    Refusal, Reply, SourceId, SpanList, UnmapRequest, UserNo, Width,
 };
 use iommufd_core::{Core, Stamp};
 use linked_list_allocator::LocalHeap;
@@ -13,17 +12,17 @@ use std::test::Fail;
 
 const DEVICE: DeviceNo = DeviceNo(1);
 
-pub(crate) const FIRST: FileNo = FileNo(1);
+const FIRST: FileNo = FileNo(1);
 
 const SECOND: FileNo = FileNo(2);
 
-/// A pool of two frames, a user with two files, and a device of width 39 that keeps these spans for itself.
-pub(crate) fn config(alloc: Global, reserved: &[Span]) -> Result<Config, Fail> {
+/// A pool of two frames, a user with two files, and a device of width 39.
+fn config(alloc: Global) -> Result<Config, Fail> {
     let device = DeviceConfig::new(
         SourceId(0x18),
         Width::Bits39,
         false,
-        SpanList::new(Vec::from_slice(alloc, reserved)?),
+        SpanList::new(Vec::new(alloc)),
     );
     let users = vec![in alloc; 4]?;
     let files = vec![in alloc; UserNo(1), UserNo(1)]?;
@@ -34,10 +33,8 @@ pub(crate) fn config(alloc: Global, reserved: &[Span]) -> Result<Config, Fail> {
 
 /// An event of the script, with what stands in all of them left out.
 #[derive(Clone, Copy)]
-pub(crate) enum Step {
+enum Step {
     Alloc(FileNo),
-    /// An ALLOW_IOVAS of these ranges.
-    Allow(&'static [(u64, u64)]),
     /// The user's page at this address is mapped.
     Page(u64),
     /// The user gives up its page at this address.
@@ -46,8 +43,6 @@ pub(crate) enum Step {
     UserWrite,
     /// A MAP of the user's page at 0x10000 to this address.
     Map(u64),
-    /// A MAP of the user's two pages at 0x10000 to an address that the server chooses.
-    Choose,
     Bind,
     Attach,
     /// The device writes the last two bytes of the page at 0x1000.
@@ -68,12 +63,6 @@ const REQUEST: MapRequest = MapRequest {
     iova: Iova(0x1000),
 };
 
-const CHOOSE: MapRequest = MapRequest {
-    flags: MapFlags(6),
-    length: 0x2000,
-    ..REQUEST
-};
-
 const UNMAP: UnmapRequest = UnmapRequest {
     ioas: ObjId(1),
     iova: Iova(0x1000),
@@ -87,28 +76,14 @@ fn map(iova: u64) -> MapRequest {
     }
 }
 
-/// The ranges from these addresses to these.
-fn list<A: Allocator>(alloc: A, ranges: &[(u64, u64)]) -> Result<RangeList<A>, Fail> {
-    let mut list = Vec::new(alloc);
-    for (start, last) in ranges {
-        list.push(IovaRange {
-            start: *start,
-            last: *last,
-        })?;
-    }
-    Ok(RangeList::new(list))
-}
-
-pub(crate) fn event<A: Allocator>(alloc: A, step: Step) -> Result<Event<A>, Fail> {
+fn event<A: Allocator>(step: Step) -> Result<Event<A>, Fail> {
     let bytes = Burst::new(&[0xbe, 0xef]).ok_or("two bytes")?;
     Ok(match step {
         Step::Alloc(file) => Event::IoasAlloc(file),
-        Step::Allow(ranges) => Event::AllowIovas(FIRST, ObjId(1), list(alloc, ranges)?),
         Step::Page(va) => Event::UserMap(UserNo(1), va),
         Step::GiveUp(va) => Event::UserUnmap(UserNo(1), va),
         Step::UserWrite => Event::UserWrite(UserNo(1), 0x10ffe, bytes),
         Step::Map(iova) => Event::Map(FIRST, map(iova)),
-        Step::Choose => Event::Map(FIRST, CHOOSE),
         Step::Bind => Event::Bind(FIRST, DEVICE),
         Step::Attach => Event::Attach(DEVICE, ObjId(1)),
         Step::Write => Event::DeviceWrite(DEVICE, Iova(0x1ffe), bytes),
@@ -120,15 +95,23 @@ pub(crate) fn event<A: Allocator>(alloc: A, step: Step) -> Result<Event<A>, Fail
     })
 }
 
-pub(crate) const UNKNOWN: Reply = Reply::Refused(Refusal { cause: Id });
+const UNKNOWN: Reply = Reply::Refused(Refusal { cause: Cause::Id });
 
-const IN_USE: Reply = Reply::Refused(Refusal { cause: InUse });
+const IN_USE: Reply = Reply::Refused(Refusal {
+    cause: Cause::InUse,
+});
 
-const OVERLAP: Reply = Reply::Refused(Refusal { cause: Overlap });
+const OVERLAP: Reply = Reply::Refused(Refusal {
+    cause: Cause::Overlap,
+});
 
-const ABSENT: Reply = Reply::Refused(Refusal { cause: Absent });
+const ABSENT: Reply = Reply::Refused(Refusal {
+    cause: Cause::Absent,
+});
 
-const NO_FRAME: Reply = Reply::Refused(Refusal { cause: Frames });
+const NO_FRAME: Reply = Reply::Refused(Refusal {
+    cause: Cause::Frames,
+});
 
 /// A fault at the page 1.
 const DENIED: Fault = Fault {
@@ -177,16 +160,13 @@ fn read(iova: u64, len: u8) -> Query {
     }
 }
 
-pub(crate) fn apply<A: Allocator + Copy>(
-    core: &mut Core<A>,
-    event: Event<A>,
-) -> Result<Stamp, NoMemory> {
+fn apply<A: Allocator + Copy>(core: &mut Core<A>, event: Event<A>) -> Result<Stamp, NoMemory> {
     core.apply(PassNo(0), &Act { event, via: None })
 }
 
 /// Whether the event is answered so, under the next number, and one record more is told.
-fn answers(alloc: Global, core: &mut Core, step: Step, reply: Reply) -> Result<bool, Fail> {
-    let event = event(alloc, step)?;
+fn answers(core: &mut Core, step: Step, reply: Reply) -> Result<bool, Fail> {
+    let event = event(step)?;
     let count = core.records().len();
     let stamp = apply(core, event)?;
     Ok(
@@ -198,23 +178,20 @@ fn answers(alloc: Global, core: &mut Core, step: Step, reply: Reply) -> Result<b
 
 #[test]
 fn worked_script_has_its_replies(rt: HostRuntime) -> Result<(), Fail> {
-    let config = config(rt.alloc(), &[])?;
+    let config = config(rt.alloc())?;
     let mut core = Core::new(rt.alloc(), &config)?;
     for (place, (step, reply)) in SCRIPT.iter().enumerate() {
-        assert!(rt;
-            answers(rt.alloc(), &mut core, *step, *reply)?,
-            "event {place}"
-        );
+        assert!(rt; answers(&mut core, *step, *reply)?, "event {place}");
     }
     Ok(())
 }
 
 /// A core that the first steps of the script have gone through.
 fn core_after(alloc: Global, steps: usize) -> Result<Core, Fail> {
-    let config = config(alloc, &[])?;
+    let config = config(alloc)?;
     let mut core = Core::new(alloc, &config)?;
     for (step, _) in SCRIPT.iter().take(steps) {
-        apply(&mut core, event(alloc, *step)?)?;
+        apply(&mut core, event(*step)?)?;
     }
     Ok(core)
 }
@@ -238,7 +215,9 @@ const UNMAPPED: Fault = Fault {
     ..BEYOND
 };
 
-const CROSSES: Reply = Reply::Refused(Refusal { cause: Cross });
+const CROSSES: Reply = Reply::Refused(Refusal {
+    cause: Cause::Cross,
+});
 
 /// How many steps have gone before a read, its address and length, and its refusal or fault.
 static READS: [(usize, u64, u8, Reply); 5] = [
@@ -309,10 +288,8 @@ fn a_cached_frame_may_be_used_until_the_flush(rt: HostRuntime) -> Result<(), Fai
     Ok(())
 }
 
-type Blocks<'a> = Vec<Vec<u8, &'a LocalHeap>>;
-
-/// Takes all that the heap has but so many blocks of its least size.
-pub(crate) fn fill(alloc: Global, heap: &LocalHeap, left: u64) -> Result<Blocks<'_>, AllocError> {
+/// Takes all that the heap has left, in blocks of its least size.
+fn fill(alloc: Global, heap: &LocalHeap) -> Result<Vec<Vec<u8, &LocalHeap>>, AllocError> {
     let mut blocks = Vec::new(alloc);
     for _ in 0..2048 {
         let Ok(block) = Vec::with_capacity(heap, 1) else {
@@ -320,37 +297,39 @@ pub(crate) fn fill(alloc: Global, heap: &LocalHeap, left: u64) -> Result<Blocks<
         };
         blocks.push(block)?;
     }
-    blocks.truncate(blocks.len().saturating_sub(left as usize));
     Ok(blocks)
 }
 
 /// Whether no core opens in a full heap.
 fn is_refused(alloc: Global, heap: &LocalHeap, config: &Config) -> Result<bool, AllocError> {
-    let _blocks = fill(alloc, heap, 0)?;
+    let _blocks = fill(alloc, heap)?;
     Ok(Core::new(heap, config).is_err())
 }
 
 /// What the event is answered with so much memory left in blocks of the least size; None where it wants for some.
-pub(crate) fn apply_with<'a>(
+fn apply_with<'a>(
     alloc: Global,
     heap: &'a LocalHeap,
     core: &mut Core<&'a LocalHeap>,
     event: Event<&'a LocalHeap>,
     left: u64,
 ) -> Result<Option<Reply>, AllocError> {
-    let _blocks = fill(alloc, heap, left)?;
+    let mut blocks = fill(alloc, heap)?;
+    for _ in 0..left {
+        blocks.pop();
+    }
     match apply(core, event) {
         Ok(stamp) => Ok(Some(stamp.reply)),
         Err(NoMemory) => Ok(None),
     }
 }
 
-pub(crate) fn same(holds: bool) -> Result<(), Fail> {
+fn same(holds: bool) -> Result<(), Fail> {
     let wanted = if holds { Some(()) } else { None };
     Ok(wanted.ok_or("want of memory changed something")?)
 }
 
-/// The step with ever more memory left, until it is taken: its reply, and how often it found none and changed nothing.
+/// The step with ever more memory left, until it is taken: its reply, and how often it found none, which changed nothing.
 fn apply_at_last<'a>(
     alloc: Global,
     heap: &'a LocalHeap,
@@ -360,19 +339,19 @@ fn apply_at_last<'a>(
     let before = core.records().len();
     let seen = core.look(&read(0x1ffe, 2));
     for left in 0..2048u64 {
-        let answer = apply_with(alloc, heap, core, event(heap, step)?, left)?;
+        let answer = apply_with(alloc, heap, core, event(step)?, left)?;
         if let Some(reply) = answer {
             return Ok((reply, left));
         }
         same(core.records().len() == before)?;
         same(core.look(&read(0x1ffe, 2)) == seen)?;
     }
-    Ok((apply(core, event(heap, step)?)?.reply, 2048))
+    Ok((apply(core, event(step)?)?.reply, 2048))
 }
 
 #[test]
 fn a_refused_growth_changes_nothing(rt: HostRuntime) -> Result<(), Fail> {
-    let config = config(rt.alloc(), &[])?;
+    let config = config(rt.alloc())?;
     let heap = LocalHeap::new(rt.alloc(), 30720)?;
     assert!(rt; is_refused(rt.alloc(), &heap, &config)?);
     let mut core = Core::new(&heap, &config)?;

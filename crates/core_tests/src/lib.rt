@@ -5,6 +5,4 @@
 #[cfg(test)]
 mod events;
 #[cfg(test)]
-mod growth;
-#[cfg(test)]
 mod refusal_order;
