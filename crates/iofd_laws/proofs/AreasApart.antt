@@ -3,11 +3,11 @@ use Rattle.std.proofs.Common.{◌≡◌, ℕ, Bool, true, false, cond, ◌&&◌,
 use Rattle.std.specs.Prelude.{map}
 use Rattle.std.specs.List.{filter}
 use Rattle.std.proofs.lemmas.Bool.Decides.{nat_tests}
-use Rattle.iofd_words.specs.After.{changed, map_changes, attach_changes, target_changes, detach_changes, settle, without_areas, attached, detached, mapped_area}
+use Rattle.iofd_words.specs.After.{changed, map_changes, hwpt_changes, attach_changes, target_changes, detach_changes, settle, without_areas, attached, detached, joined, mapped_area}
 use Rattle.iofd_words.specs.Attachments.{attachment_of}
 use Rattle.iofd_words.specs.Files.{user_of, device_of}
 use Rattle.iofd_words.specs.FirstTrue.{first_true}
-use Rattle.iofd_words.specs.Objects.{binding_of, kind_of}
+use Rattle.iofd_words.specs.Objects.{binding_of, kind_of, settings_under}
 use Rattle.iofd_words.specs.Settings.{DeviceSettings}
 use Rattle.iofd_words.specs.Answers.{Answers, IsMappedAt}
 use Rattle.iofd_words.specs.Areas.{areas_meet, areas_of, is_of, meets_area, with_area, with_phase}
@@ -123,7 +123,7 @@ map_is_free : (w : World) (file : FileNo) (request : MapRequest) (iova : Iova) �
 map_is_free w file request iova is none = (lies_at w file request iova none is).apart
 
 pub keeps_apart : {A : Type 0} → (at : ℕ) (w : World) (e : Event A) (answer : Reply) → refusal w e ≡ None → Answers w e answer → are_apart w.areas ≡ true → are_apart (changed at w e answer).areas ≡ true
-unfolding changed settle without_areas attached detached Answers
+unfolding changed settle without_areas attached detached joined Answers
 keeps_apart at w (event.IoasAlloc file) (reply.Id id) none answers apart = apart
 keeps_apart at w (event.Map file request) (reply.Iova iova) none answers apart = mapped (user_of w.settings file)
   where
@@ -132,6 +132,11 @@ keeps_apart at w (event.Map file request) (reply.Iova iova) none answers apart =
     mapped (Some user) = are_apart-with_area (mapped_area at file request iova) w.areas (map_is_free w file request iova answers none) apart
 keeps_apart at w (event.Unmap file request) (reply.Bytes count) none answers apart = are_apart-filter _ w.areas apart
 keeps_apart at w (event.Unmap file request) (reply.Pending errno) none answers apart = are_apart-map _ w.areas ∙ apart
+keeps_apart at w (event.HwptAlloc file request) (reply.Id id) none answers apart = made (settings_under w.settings w.objects file request.device)
+  where
+    made : (settings : Option DeviceSettings) → are_apart (hwpt_changes w file request.ioas id settings).areas ≡ true
+    made None = apart
+    made (Some settings) = apart
 keeps_apart at w (event.Destroy file id) reply.Done none answers apart = are_apart-filter _ w.areas apart
 keeps_apart at w (event.Close file) reply.Done none answers apart = are_apart-filter _ w.areas apart
 keeps_apart at w (event.UserMap user va) (reply.Frame frame) none answers apart = apart
@@ -139,6 +144,7 @@ keeps_apart at w (event.AllowIovas file ioas ranges) reply.Done none answers apa
 keeps_apart at w (event.UserUnmap user va) reply.Done none answers apart = apart
 keeps_apart at w (event.UserWrite user va bytes) reply.Done none answers apart = apart
 keeps_apart at w (event.Bind file device) (reply.Id id) none answers apart = apart
+keeps_apart at w (event.Unbind file id) reply.Done none answers apart = apart
 keeps_apart at w (event.Attach device pt_id) (reply.Id id) none answers apart = bound (binding_of w.objects device) (device_of w.settings device)
   where
     bound : (object : Option Object) (settings : Option DeviceSettings) → are_apart (attach_changes w device pt_id id object settings).areas ≡ true
@@ -148,6 +154,7 @@ keeps_apart at w (event.Attach device pt_id) (reply.Id id) none answers apart = 
       where
         by_kind : (k : Option ObjectKind) → are_apart (target_changes w device pt_id id object settings k).areas ≡ true
         by_kind (Some kind.Ioas) = are_apart-map _ w.areas ∙ apart
+        by_kind (Some (kind.Hwpt ioas width automatic)) = are_apart-map _ w.areas ∙ apart
         by_kind k = apart
 keeps_apart at w (event.Detach device) reply.Done none answers apart = attached_or_not (attachment_of w.attachments device)
   where

@@ -3,14 +3,15 @@ use Rattle.std.proofs.Common.{◌≡◌, ◌≢◌, ℕ, Bool, true, false, cond
 use Rattle.std.specs.List.{filter, find, list_all, list_any}
 use Rattle.std.proofs.lemmas.Bool.{cases_eq, eqb-true}
 use Rattle.std.proofs.lemmas.Bool.Decides.{nat_tests}
-use Rattle.iofd_words.specs.Areas.{all_paid, is_of, is_touched, leaving, owed_by, paid, with_area, with_leaving}
-use Rattle.iofd_words.specs.Attachments.{devices_of, is_attached_to, with_attachment}
-use Rattle.iofd_words.specs.Checks.{is_device_object}
+use Rattle.iofd_words.specs.Areas.{owed_by}
+use Rattle.iofd_words.specs.Attachments.{attachment_of, with_attachment}
+use Rattle.iofd_words.specs.Checks.{is_attached, is_device_object}
+use Rattle.iofd_rows.specs.Debts.{DebtsAttached, attach_once, debtors_of}
 use Rattle.iofd_rows.specs.Ids.{have_own_ids}
-use Rattle.iofd_words.specs.Objects.{binding_of, is_automatic, is_bound_as, is_bound_device, is_object, kind_of, objects_of, with_object}
+use Rattle.iofd_words.specs.Objects.{binding_of, is_automatic, is_bound_as, is_bound_device, is_object, kind_of, objects_of, with_object, without_device_object}
+use Rattle.iofd_words.specs.View.{view}
 use Rattle.iofd_words.specs.World.{World}
 use Rattle.iofd_words.specs.declared.numbers.DeviceNo.{DeviceNo}
-use Rattle.iofd_words.specs.declared.event.UnmapRequest.{UnmapRequest}
 use Rattle.iofd_words.specs.declared.numbers.FileNo.{FileNo}
 use Rattle.iofd_words.specs.declared.numbers.ObjId.{ObjId}
 use Rattle.iofd_words.specs.declared.rows.Area.{Area}
@@ -21,7 +22,13 @@ use Rattle.iofd_words.specs.declared.rows.ObjectKind.TheVariants as kind
 use Rattle.iofd_words.specs.declared.rows.Phase.{Phase}
 use Rattle.iofd_words.specs.declared.rows.Phase.TheVariants.{Live, Leaving}
 use Rattle.iofd_rows.proofs.Bools.{or_false, and_true, both_true, not_true}
-use Rattle.iofd_rows.proofs.Found.{all_weaker, all_filter, all_map, all_filter_both, find-with_object, find-filter}
+use Rattle.iofd_rows.proofs.Each.{IsIn, of_all, of_each}
+use Rattle.iofd_rows.proofs.Found.{all_weaker, find-filter, find-with_object, found_passes}
+use Rattle.iofd_rows.proofs.ListTests.{false_else}
+use Rattle.iofd_rows.proofs.Moves.{found_once}
+use Rattle.iofd_rows.proofs.Named.{file_is, id_is, kind_only}
+use Rattle.iofd_rows.proofs.Owed.{IsDebtor, each_owed}
+use Rattle.iofd_rows.proofs.Unusable.{none_of}
 
 -- an object, if there is one, is of the file
 abbrev pub is_of_file : FileNo → Option Object → Bool
@@ -50,32 +57,10 @@ StayBound old new = (file : FileNo) (device : ℕ) → is_bound_to old file devi
 pub attachments_stay : (old new : List Object) (attachments : List Attachment) → StayBound old new → attachments_bound old attachments ≡ true → attachments_bound new attachments ≡ true
 attachments_stay old new attachments stay all = all_weaker _ _ attachments (λ a. stay a.file a.device.0) all
 
-pub debts_stay : (old new : List Object) (areas : List Area) → StayBound old new → debts_bound old areas ≡ true → debts_bound new areas ≡ true
-debts_stay old new areas stay all =
-    all_weaker (λ (area : Area). list_all (is_bound_to old area.file) (owed_by [] area.phase)) _ areas
-    (λ area. all_weaker _ _ (owed_by [] area.phase) (stay area.file)) all
-
 pub find_stays : (old new : List Object) → ((device : DeviceNo) → binding_of new device ≡ binding_of old device) → StayBound old new
 find_stays old new same = λ file device bound. ap (is_of_file file) (same (record { 0 = device })) ∙ bound
 
-same_file : (f g : FileNo) (o : Option Object) → f.0 ≡ g.0 → is_of_file f o ≡ true → is_of_file g o ≡ true
-same_file f g None same is = is
-same_file f g (Some object) same is = rw same at is
-
-pub bound_alike : (objects : List Object) (f g : FileNo) (device : ℕ) → f.0 ≡ g.0 → is_bound_to objects f device ≡ true → is_bound_to objects g device ≡ true
-bound_alike objects f g device same bound = same_file f g (binding_of objects (record { 0 = device })) same bound
-
 -- ---- rows that come
-
-pub debts-with_area : (objects : List Object) (area : Area) (areas : List Area) → list_all (is_bound_to objects area.file) (owed_by [] area.phase) ≡ true → debts_bound objects areas ≡ true → debts_bound objects (with_area area areas) ≡ true
-debts-with_area objects area [] here all = both_true _ _ here refl
-debts-with_area objects area (a ∷ areas) here all =
-    let parts = and_true (list_all (is_bound_to objects a.file) (owed_by [] a.phase)) (debts_bound objects areas) all in
-    added _ (debts-with_area objects area areas here parts.1) parts.0
-  where
-    added : (b : Bool) → debts_bound objects (with_area area areas) ≡ true → list_all (is_bound_to objects a.file) (owed_by [] a.phase) ≡ true → debts_bound objects (cond b (area ∷ a ∷ areas) (a ∷ with_area area areas)) ≡ true
-    added true rest first = both_true _ _ here all
-    added false rest first = both_true _ _ first rest
 
 pub attachments-with_attachment : (objects : List Object) (attachment : Attachment) (attachments : List Attachment) → is_bound_to objects attachment.file attachment.device.0 ≡ true → attachments_bound objects attachments ≡ true → attachments_bound objects (with_attachment attachment attachments) ≡ true
 attachments-with_attachment objects attachment [] here all = both_true _ _ here refl
@@ -87,39 +72,22 @@ attachments-with_attachment objects attachment (a ∷ attachments) here all =
     added true rest first = both_true _ _ here all
     added false rest first = both_true _ _ first rest
 
--- ---- debts that change
+-- ---- debts
 
--- those attached to an address space are bound to its file
-devices_bound : (objects : List Object) (attachments : List Attachment) (file : FileNo) (ioas : ObjId) (own : FileNo) → own.0 ≡ file.0 → attachments_bound objects attachments ≡ true → list_all (is_bound_to objects own) (devices_of objects attachments file ioas) ≡ true
-devices_bound objects attachments file ioas own same all =
-    all_map (is_bound_to objects own) (λ (a : Attachment). is_bound_to objects a.file a.device.0 && is_attached_to objects file ioas a) (λ (a : Attachment). a.device.0) (filter (is_attached_to objects file ioas) attachments)
-    (λ a both.
-    let parts = and_true (is_bound_to objects a.file a.device.0) (is_attached_to objects file ioas a) both in
-    let of_file = and_true (eqb a.file.0 file.0) _ parts.1 in
-    bound_alike objects a.file own a.device.0 (eqb-true a.file.0 file.0 of_file.0 ∙ sym same) parts.0)
-    (all_filter_both (λ (a : Attachment). is_bound_to objects a.file a.device.0) (is_attached_to objects file ioas) attachments all)
-
-pub leaving_bound : (objects : List Object) (attachments : List Attachment) (file : FileNo) (request : UnmapRequest) (areas : List Area) → attachments_bound objects attachments ≡ true → debts_bound objects areas ≡ true → debts_bound objects (with_leaving areas (devices_of objects attachments file request.ioas) file request) ≡ true
-leaving_bound objects attachments file request areas attached all =
-    all_map (λ (area : Area). list_all (is_bound_to objects area.file) (owed_by [] area.phase)) (λ (area : Area). list_all (is_bound_to objects area.file) (owed_by [] area.phase)) _ areas
-    (λ area here. by_phase area (is_touched file request area) refl area.phase here) all
+-- a debtor is attached, and so bound to its area's file
+pub debts_follow : (w : World) → DebtsAttached w → attachments_bound w.objects w.attachments ≡ true → debts_bound w.objects w.areas ≡ true
+debts_follow w debts bound =
+    of_all (λ (area : Area). list_all (is_bound_to w.objects area.file) (owed_by [] area.phase)) w.areas (λ area within. by_phase area area.phase ((each_owed w debts).debtors area within))
   where
-    by_phase : (area : Area) (touched : Bool) → is_touched file request area ≡ touched → (phase : Phase) → list_all (is_bound_to objects area.file) (owed_by [] phase) ≡ true → list_all (is_bound_to objects area.file) (owed_by [] (cond touched (leaving (devices_of objects attachments file request.ioas) phase) phase)) ≡ true
-    by_phase area false is phase here = here
-    by_phase area true is (Leaving owed tries) here = here
-    by_phase area true is Live here =
-        let of_space = and_true (is_of file request.ioas area) _ is in
-        let of_file = and_true (eqb area.file.0 file.0) _ of_space.0 in
-        devices_bound objects attachments file request.ioas area.file (eqb-true area.file.0 file.0 of_file.0) attached
+    debtor_bound : (area : Area) (device : ℕ) → IsDebtor w.objects w.attachments area.file area.ioas device → is_bound_to w.objects area.file device ≡ true
+    debtor_bound area device owes =
+        let parts = found_passes (λ (a : Attachment). is_bound_to w.objects a.file a.device.0) (λ (a : Attachment). eqb a.device.0 device) w.attachments owes.a bound owes.found in
+        let here : is_bound_to w.objects area.file owes.a.device.0 ≡ true = rw owes.of_file at parts.0 in
+        ap (is_bound_to w.objects area.file) (sym (eqb-true owes.a.device.0 device parts.1)) ∙ here
 
-pub paid_bound : (objects : List Object) (device : DeviceNo) (areas : List Area) → debts_bound objects areas ≡ true → debts_bound objects (all_paid device areas) ≡ true
-paid_bound objects device areas all =
-    all_map (λ (area : Area). list_all (is_bound_to objects area.file) (owed_by [] area.phase)) (λ (area : Area). list_all (is_bound_to objects area.file) (owed_by [] area.phase)) _ areas
-    (λ area here. by_phase area area.phase here) all
-  where
-    by_phase : (area : Area) (phase : Phase) → list_all (is_bound_to objects area.file) (owed_by [] phase) ≡ true → list_all (is_bound_to objects area.file) (owed_by [] (paid device phase)) ≡ true
-    by_phase area Live here = here
-    by_phase area (Leaving owed tries) here = all_filter (is_bound_to objects area.file) _ owed here
+    by_phase : (area : Area) (phase : Phase) → ((device : ℕ) → IsIn (debtors_of phase) device → IsDebtor w.objects w.attachments area.file area.ioas device) → list_all (is_bound_to w.objects area.file) (owed_by [] phase) ≡ true
+    by_phase area Live debtors = refl
+    by_phase area (Leaving owed tries) debtors = of_all (is_bound_to w.objects area.file) owed (λ device owes. debtor_bound area device (debtors device owes))
 
 -- ---- objects that come or go
 
@@ -194,3 +162,38 @@ id_without_device device file id (o ∷ objects) own none =
     by_id : (b : Bool) → is_object file id o ≡ b → is_device_object (elim (cond b (Some o) (find (is_object file id) objects)) [ Some object ↦ Some object.kind | None ↦ None ]) ≡ false → list_any (is_object o.file o.id) objects ≡ false → (is_device_object (kind_of objects file id) ≡ false → list_any (λ o. is_bound_as device o.kind && not (not (is_object file id o))) objects ≡ false) → ((is_bound_as device o.kind && not (not b)) || list_any (λ o. is_bound_as device o.kind && not (not (is_object file id o))) objects) ≡ false
     by_id true is here others rest = rw (no_device device o.kind here) (none_left device file id o objects is others)
     by_id false is here others rest = rw (and_no (is_bound_as device o.kind)) (rest here)
+
+-- a device's object goes, of a device that isn't attached
+pub attachments-unbound : (w : World) (file : FileNo) (id : ObjId) → have_own_ids w.objects ≡ true → attach_once w.attachments ≡ true → is_attached (view w) (kind_of w.objects file id) ≡ false → attachments_bound w.objects w.attachments ≡ true
+    → attachments_bound (without_device_object file id w.objects) w.attachments ≡ true
+attachments-unbound w file id own once unattached bound =
+    of_all (λ (a : Attachment). is_bound_to (without_device_object file id w.objects) a.file a.device.0) w.attachments
+    (λ a within.
+    ap (is_of_file a.file) (find-filter (is_as a) stays w.objects (none_of (λ o. is_as a o && not (stays o)) w.objects (λ o among. false_else _ (λ both. other a within o among both))))
+    ∙ of_each (λ (a : Attachment). is_bound_to w.objects a.file a.device.0) w.attachments a bound within)
+  where
+    is_as : Attachment → Object → Bool
+    is_as a o = is_bound_as (record { 0 = a.device.0 }) o.kind
+
+    stays : Object → Bool
+    stays o = not (is_object file id o && is_bound_device o.kind)
+
+    -- an attached device isn't the one of the object that goes
+    never : (a : Attachment) → IsIn w.attachments a → (k : ObjectKind) → is_bound_as (record { 0 = a.device.0 }) k ≡ true → is_attached (view w) (Some k) ≡ false → ⊥
+    never a within (kind.Device device) same unattached =
+        let found = found_once w.attachments a once within in
+        let like = ap (λ (n : ℕ). is_some (attachment_of w.attachments (record { 0 = n }))) (eqb-true device.0 a.device.0 same) in
+        cc
+    never a within kind.Ioas same unattached = cc
+    never a within (kind.Hwpt ioas width automatic) same unattached = cc
+
+    goes : (named device : Bool) → not (not (named && device)) ≡ true → named ≡ true
+    goes true device is = refl
+    goes false device is = cc
+
+    other : (a : Attachment) → IsIn w.attachments a → (o : Object) → IsIn w.objects o → (is_as a o && not (stays o)) ≡ true → ⊥
+    other a within o among both =
+        let parts = and_true (is_as a o) (not (stays o)) both in
+        let names = and_true (eqb o.file.0 file.0) (eqb o.id.0 id.0) (goes (is_object file id o) (is_bound_device o.kind) parts.1) in
+        let kind : kind_of w.objects file id ≡ Some o.kind = rw (file_is o.file file names.0, id_is o.id id names.1) at (kind_only w.objects o own among) in
+        never a within o.kind parts.0 (rw kind at unattached)

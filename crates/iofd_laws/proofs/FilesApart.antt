@@ -4,7 +4,7 @@ use Rattle.std.specs.Prelude.{is_none}
 use Rattle.std.specs.List.{filter, list_all, list_any}
 use Rattle.std.proofs.lemmas.Bool.{eqb-true, true≢false}
 use Rattle.std.proofs.lemmas.Bool.Decides.{nat_tests}
-use Rattle.iofd_words.specs.After.{changed, map_changes, attach_changes, target_changes, detach_changes, settle, without_areas, attached, detached, goes_with, mapped_area, with_hwpt}
+use Rattle.iofd_words.specs.After.{changed, map_changes, hwpt_changes, attach_changes, target_changes, detach_changes, settle, without_areas, attached, detached, joined, goes_with, mapped_area, with_hwpt}
 use Rattle.iofd_words.specs.Allowed.{AllowedRanges, with_allowed, without_allowed}
 use Rattle.iofd_words.specs.Areas.{all_paid, owed_by, paid, is_touched, leaving, with_area, with_phase}
 use Rattle.iofd_words.specs.Attachments.{attachment_of, with_attachment, without_attachment, devices_of}
@@ -13,7 +13,7 @@ use Rattle.iofd_words.specs.DeviceSet.{without_device}
 use Rattle.iofd_words.specs.Files.{user_of, device_of}
 use Rattle.iofd_laws.specs.Laws.{FileRows, IsOfAnother, file_of_device, rows_of}
 use Rattle.iofd_words.specs.FirstTrue.{first_true}
-use Rattle.iofd_words.specs.Objects.{automatic_hwpt, binding_of, comes_before, kind_of, objects_of, with_object}
+use Rattle.iofd_words.specs.Objects.{automatic_hwpt, binding_of, comes_before, kind_of, objects_of, settings_under, with_object}
 use Rattle.iofd_words.specs.Run.{after, after_answer}
 use Rattle.iofd_words.specs.Settings.{DeviceSettings}
 use Rattle.iofd_words.specs.Tables.{with_tables}
@@ -216,7 +216,7 @@ detach_is_bound : (w : World) (device : DeviceNo) → first_true (detach_checks 
 detach_is_bound w device none = (detach_passed (view w) device none).bound
 
 pub keeps_others : {A : Type 0} → (at : ℕ) (w : World) (e : Event A) (answer : Reply) (file : FileNo) → AreBound w → refusal w e ≡ None → IsOfAnother w e file → rows_of file (changed at w e answer) ≡ rows_of file w
-unfolding changed settle without_areas attached detached
+unfolding changed settle without_areas attached detached joined
 keeps_others at w (event.IoasAlloc f) (reply.Id id) file b none another =
     same_rows (objects-with_object _ w.objects file (other_file f file (another f refl))) refl refl refl refl
 keeps_others at w (event.AllowIovas f ioas ranges) reply.Done file b none another =
@@ -236,6 +236,11 @@ keeps_others at w (event.Unmap f request) (reply.Pending errno) file b none anot
     (filter_map_same _ (λ (a : Area). list_all (is_bound_to w.objects a.file) (owed_by [] a.phase)) (λ (a : Area). with_phase (cond (is_touched f request a) (leaving (devices_of w.objects w.attachments f request.ioas) a.phase) a.phase) a) w.areas
     b.debts (λ a. refl) (λ a same _. phase_stays a (is_touched f request a) _ (untouched f file a.file.0 _ _ (another f refl) same)))
     refl refl refl
+keeps_others at w (event.HwptAlloc f request) (reply.Id id) file b none another = made (settings_under w.settings w.objects f request.device)
+  where
+    made : (settings : Option DeviceSettings) → rows_of file (hwpt_changes w f request.ioas id settings) ≡ rows_of file w
+    made None = refl
+    made (Some settings) = same_rows (objects-with_object _ w.objects file (other_file f file (another f refl))) refl refl refl refl
 keeps_others at w (event.Destroy f id) reply.Done file b none another =
     same_rows (filter_filter _ _ w.objects (λ o same. stays f file o.file.0 _ (another f refl) same)) (filter_filter _ _ w.areas (λ a same. stays f file a.file.0 _ (another f refl) same))
     (filter_filter _ _ w.allowed (λ r same. stays f file r.file.0 _ (another f refl) same))
@@ -252,6 +257,8 @@ keeps_others at w (event.UserUnmap user va) reply.Done file b none another = ref
 keeps_others at w (event.UserWrite user va bytes) reply.Done file b none another = refl
 keeps_others at w (event.Bind f device) (reply.Id id) file b none another =
     same_rows (objects-with_object _ w.objects file (other_file f file (another f refl))) refl refl refl refl
+keeps_others at w (event.Unbind f id) reply.Done file b none another =
+    same_rows (filter_filter _ _ w.objects (λ o same. not_false _ (untouched f file o.file.0 _ _ (another f refl) same))) refl refl refl refl
 keeps_others at w (event.Attach device pt_id) (reply.Id id) file b none another = bound (binding_of w.objects device) refl (device_of w.settings device)
   where
     bound : (o : Option Object) → binding_of w.objects device ≡ o → (settings : Option DeviceSettings) → rows_of file (attach_changes w device pt_id id o settings) ≡ rows_of file w
@@ -268,6 +275,9 @@ keeps_others at w (event.Attach device pt_id) (reply.Id id) file b none another 
             refl
             (attachments-with_attachment_other _ w.attachments file (other_file object.file file differ))
             refl
+        by_kind (Some (kind.Hwpt ioas width automatic)) =
+            let differ = elsewhere w device object file another is in
+            same_rows refl (areas_paid w device object file b is differ) refl (attachments-with_attachment_other _ w.attachments file (other_file object.file file differ)) refl
         by_kind k = refl
 keeps_others at w (event.Detach device) reply.Done file b none another =
     let bound = is_bound w device (detach_is_bound w device none) in

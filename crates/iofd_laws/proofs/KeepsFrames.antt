@@ -1,11 +1,11 @@
 -- A page that stays pinned keeps its frame, and one that becomes pinned takes the frame that its user has there.
 use Rattle.std.proofs.Common.{ℕ, Bool, true, false, Option, Some, None, refl, sym, subst}
 use Rattle.std.specs.List.{list_any}
-use Rattle.iofd_words.specs.After.{attach_changes, changed, detach_changes, map_changes, settle, target_changes}
+use Rattle.iofd_words.specs.After.{attach_changes, changed, detach_changes, hwpt_changes, joined, map_changes, settle, target_changes}
 use Rattle.iofd_words.specs.Attachments.{attachment_of}
 use Rattle.iofd_words.specs.Checks.{refusal}
 use Rattle.iofd_words.specs.Files.{device_of, user_of}
-use Rattle.iofd_words.specs.Objects.{binding_of, kind_of}
+use Rattle.iofd_words.specs.Objects.{binding_of, kind_of, settings_under}
 use Rattle.iofd_words.specs.Pins.{ObjectPage, frame_now, is_page, pinned_frame, pinned_pages}
 use Rattle.iofd_words.specs.Run.{after, after_answer}
 use Rattle.iofd_words.specs.Settings.{DeviceSettings}
@@ -54,7 +54,7 @@ module _ (w : World) (page : ObjectPage) where
   stays = same (pinned_frame w.pins page) (frame_now w.memory w.user_pages page)
 
   changed_moves : {A : Type 0} → (at : ℕ) (e : Event A) (answer : Reply) → pin_moves page w (changed at w e answer)
-  unfolding changed
+  unfolding changed joined
   changed_moves at (event.IoasAlloc file) (reply.Id id) = same (pinned_frame w.pins page) _
   changed_moves at (event.Map file request) (reply.Iova iova) = mapped (user_of w.settings file)
     where
@@ -63,6 +63,11 @@ module _ (w : World) (page : ObjectPage) where
       mapped (Some user) = settle_moves _
   changed_moves at (event.Unmap file request) (reply.Bytes count) = settle_moves _
   changed_moves at (event.Unmap file request) (reply.Pending errno) = same (pinned_frame w.pins page) _
+  changed_moves at (event.HwptAlloc file request) (reply.Id id) = made (settings_under w.settings w.objects file request.device)
+    where
+      made : (settings : Option DeviceSettings) → pin_moves page w (hwpt_changes w file request.ioas id settings)
+      made None = stays
+      made (Some settings) = settle_moves _
   changed_moves at (event.Destroy file id) reply.Done = settle_moves _
   changed_moves at (event.Close file) reply.Done = settle_moves _
   changed_moves at (event.UserMap user va) (reply.Frame frame) = same (pinned_frame w.pins page) _
@@ -70,6 +75,7 @@ module _ (w : World) (page : ObjectPage) where
   changed_moves at (event.UserUnmap user va) reply.Done = same (pinned_frame w.pins page) _
   changed_moves at (event.UserWrite user va bytes) reply.Done = same (pinned_frame w.pins page) _
   changed_moves at (event.Bind file device) (reply.Id id) = same (pinned_frame w.pins page) _
+  changed_moves at (event.Unbind file id) reply.Done = same (pinned_frame w.pins page) _
   changed_moves at (event.Attach device pt_id) (reply.Id id) = bound (binding_of w.objects device) (device_of w.settings device)
     where
       bound : (object : Option Object) (settings : Option DeviceSettings) → pin_moves page w (attach_changes w device pt_id id object settings)
@@ -79,6 +85,7 @@ module _ (w : World) (page : ObjectPage) where
         where
           by_kind : (k : Option ObjectKind) → pin_moves page w (target_changes w device pt_id id object settings k)
           by_kind (Some kind.Ioas) = settle_moves _
+          by_kind (Some (kind.Hwpt ioas width automatic)) = same (pinned_frame w.pins page) _
           by_kind k = stays
   changed_moves at (event.Detach device) reply.Done = attached_or_not (attachment_of w.attachments device)
     where

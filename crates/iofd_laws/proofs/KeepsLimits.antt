@@ -1,19 +1,19 @@
 -- No event gives a user more pinned pages than its limit allows.
-use Rattle.std.proofs.Common.{◌≡◌, ℕ, ◌+◌, ◌/◌, ◌≤◌, Bool, true, false, cond, ◌&&◌, ◌||◌, not, eqb, ltb, is_none, is_some, Option, Some, None, List, [], ◌∷◌, ◌++◌, length, map, refl, ap, sym, ◌∙◌, arith}
+use Rattle.std.proofs.Common.{◌≡◌, ℕ, ◌+◌, ◌/◌, ◌≤◌, Bool, true, false, cond, ◌&&◌, ◌||◌, not, eqb, ltb, is_none, is_some, Option, Some, None, List, [], ◌∷◌, ◌++◌, length, refl, ap, sym, ◌∙◌, arith}
 use Rattle.std.specs.List.{count_by, filter, flat_map, list_any}
 use Rattle.std.proofs.lemmas.Bool.Decides.{nat_tests}
 use Rattle.std.proofs.lemmas.Bool.{eqb-true}
 use Rattle.std.proofs.lemmas.List.FromFn.{length-map-range_with_len}
 use Rattle.std.proofs.lemmas.List.Sums.{count_by-le-length, length-filter}
-use Rattle.iofd_words.specs.After.{changed, map_changes, attach_changes, target_changes, detach_changes, settle, without_areas, attached, detached, goes_with, mapped_area, memory_object, with_hwpt}
+use Rattle.iofd_words.specs.After.{changed, map_changes, hwpt_changes, attach_changes, target_changes, detach_changes, settle, without_areas, attached, detached, joined, goes_with, mapped_area, memory_object, with_hwpt}
 use Rattle.iofd_words.specs.Allowed.{AllowedRanges}
 use Rattle.iofd_words.specs.Answers.{Answers}
-use Rattle.iofd_words.specs.Areas.{areas_of, is_of, is_touched, paid, with_area, with_phase}
+use Rattle.iofd_words.specs.Areas.{all_paid, areas_of, is_of, is_touched, paid, with_area}
 use Rattle.iofd_words.specs.Attachments.{attachment_of, with_attachment, without_attachment}
-use Rattle.iofd_words.specs.Checks.{attach_checks, map_checks, newly_pinned, passes_limit, refusal}
+use Rattle.iofd_words.specs.Checks.{map_checks, newly_pinned, passes_limit, passes_limit_attached, refusal}
 use Rattle.iofd_words.specs.Files.{device_of, limit_of, user_of}
 use Rattle.iofd_words.specs.FirstTrue.{first_true}
-use Rattle.iofd_words.specs.Objects.{automatic_hwpt, binding_of, has_hwpt, is_object, kind_of, without_object}
+use Rattle.iofd_words.specs.Objects.{automatic_hwpt, binding_of, has_hwpt, is_object, kind_of, settings_under, without_object}
 use Rattle.iofd_words.specs.Pins.{ObjectPage, is_page, is_translated, pages_of, pinned_frame, settled}
 use Rattle.iofd_words.specs.Settings.{DeviceSettings, Settings}
 use Rattle.iofd_words.specs.Tables.{with_tables}
@@ -36,23 +36,22 @@ use Rattle.iofd_words.specs.declared.rows.MemoryObject.{MemoryObject}
 use Rattle.iofd_words.specs.declared.rows.Object.{Object}
 use Rattle.iofd_words.specs.declared.rows.ObjectKind.{ObjectKind}
 use Rattle.iofd_words.specs.declared.rows.ObjectKind.TheVariants as kind
-use Rattle.iofd_words.specs.declared.rows.Phase.{Phase}
 use Rattle.iofd_words.specs.declared.width.Width.{Width}
 use Rattle.iofd_laws.specs.Laws.{held_in}
 use Rattle.iofd_rows.specs.Pinned.{ArePinned}
 use Rattle.iofd_rows.proofs.Bools.{and_rest, and_true, both_true, clash, not_false, not_true}
 use Rattle.iofd_rows.proofs.Each.{IsIn, of_any, of_each}
 use Rattle.iofd_rows.proofs.ListTests.{false_else}
-use Rattle.iofd_rows.proofs.ObjectPages.{has_page, in_pinned, is_listed, listed_is, translated-with_area, untranslated}
+use Rattle.iofd_rows.proofs.ObjectPages.{has_page, in_pinned, is_listed, listed_is, translated-map, translated-with_area, untranslated}
 use Rattle.iofd_rows.proofs.PageCounts.{count_either, count_none, count_weaker, page_count, page_count_bound, page_count_filter, page_count_last, page_count_none}
 use Rattle.iofd_rows.proofs.PageLists.{in_pages, page_itself}
 use Rattle.iofd_rows.proofs.PageTables.{hwpt-filter}
 use Rattle.iofd_rows.proofs.PinsFollow.{pin_is_of, settled_at, settled_frame, settled_only}
 use Rattle.iofd_runs.specs.Owned.{is_of_files_user}
-use Rattle.iofd_runs.proofs.AttachedPages.{IsNew, had_before, none_new, over_number, over_space, unpinned}
+use Rattle.iofd_runs.proofs.AttachedPages.{IsNew, had_before, none_new, over_number, over_space, unpinned, with_table}
 use Rattle.iofd_runs.proofs.KeepsOwned.{OwnedPins, keeps_owned_pins, later_owned, opening_owned, owner, tabled_owned}
-use Rattle.iofd_runs.proofs.KeepsPins.{gone_within, moved_new, none_over, pages_in}
-use Rattle.iofd_runs.proofs.NotRefused.{attach_passed, map_passed}
+use Rattle.iofd_runs.proofs.KeepsPins.{AlikeAreas, gone_within, moved_new, none_over, pages_in}
+use Rattle.iofd_runs.proofs.NotRefused.{attach_passed, hwpt_passed, map_passed}
 
 -- a memory object of the user
 abbrev of_user : UserNo → MemoryObject → Bool
@@ -222,29 +221,35 @@ mapped_held at w file request iova user other limit p none is has before =
     by_user true same = let all = by_table (has_hwpt w.objects file request.ioas) refl (same_user user other same) in omega (arith, all, old)
     by_user false same = omega (arith, old, before)
 
--- ---- devices come and go
+-- ---- page tables come and go
 
-abbrev moved_world : World → (Area → Phase) → List Object → List Attachment → World
-moved_world w phase left attachments =
-    record w { objects = left; attachments = attachments; areas = map (λ (a : Area). with_phase (phase a) a) w.areas }
+abbrev moved_world : World → List Area → List Object → List Attachment → World
+moved_world w areas left attachments = record w { objects = left; attachments = attachments; areas = areas }
 
 -- a page that comes is new
-comes_new : (w : World) (phase : Area → Phase) (left : List Object) (attachments : List Attachment) (page : ObjectPage) → comes w (moved_world w phase left attachments) page ≡ true → IsNew w left page
-comes_new w phase left attachments page is =
-    let parts = and_true (list_any (is_page page) (pages_in (moved_world w phase left attachments))) (not (list_any (is_page page) (pages_in w))) is in
-    moved_new w phase left page parts.0 (not_true _ parts.1)
+comes_new : (w : World) (areas : List Area) (left : List Object) (attachments : List Attachment) (page : ObjectPage) → AlikeAreas w areas → comes w (moved_world w areas left attachments) page ≡ true → IsNew w left page
+comes_new w areas left attachments page alike is =
+    let parts = and_true (list_any (is_page page) (pages_in (moved_world w areas left attachments))) (not (list_any (is_page page) (pages_in w))) is in
+    moved_new w areas left page alike parts.0 (not_true _ parts.1)
 
 -- no page table comes
-fewer_held : (w : World) (phase : Area → Phase) (left : List Object) (attachments : List Attachment) (user : UserNo) → ((file : FileNo) (ioas : ObjId) → has_hwpt left file ioas ≡ true → has_hwpt w.objects file ioas ≡ true)
-    → held_in (settle w (moved_world w phase left attachments)) user ≤ held_in w user
-fewer_held w phase left attachments user fewer =
-    rw (held_settle w (moved_world w phase left attachments) user)
-    (none_comes w (moved_world w phase left attachments) (of_user user) w.memory (λ page is. none_new w left page fewer (comes_new w phase left attachments page is)))
+fewer_held : (w : World) (areas : List Area) (left : List Object) (attachments : List Attachment) (user : UserNo) → AlikeAreas w areas → ((file : FileNo) (ioas : ObjId) → has_hwpt left file ioas ≡ true → has_hwpt w.objects file ioas ≡ true)
+    → held_in (settle w (moved_world w areas left attachments)) user ≤ held_in w user
+fewer_held w areas left attachments user alike fewer =
+    rw (held_settle w (moved_world w areas left attachments) user)
+    (none_comes w (moved_world w areas left attachments) (of_user user) w.memory (λ page is. none_new w left page fewer (comes_new w areas left attachments page alike is)))
+
+-- the areas with a device's debts paid
+alike_paid : (w : World) (device : DeviceNo) → AlikeAreas w (all_paid device w.areas)
+alike_paid w device = λ objects number. translated-map objects (λ a. paid device a.phase) w.areas number
 
 -- an address space gets its first page table
-module _ (at : ℕ) (w : World) (phase : Area → Phase) (file : FileNo) (ioas id : ObjId) (width : Width) (attachments : List Attachment) (user : UserNo) (limit : ℕ) (p : OwnedPins at w) where
+module _ (at : ℕ) (w : World) (areas : List Area) (alike : AlikeAreas w areas) (file : FileNo) (ioas id : ObjId) (width : Width) (automatic : Bool) (attachments : List Attachment) (user : UserNo) (limit : ℕ) (p : OwnedPins at w) where
+  abbrev tables : List Object
+  tables = with_table file ioas id width automatic w.objects
+
   abbrev first_table : World
-  first_table = moved_world w phase (with_hwpt file ioas id width None w.objects) attachments
+  first_table = moved_world w areas tables attachments
 
   -- the memory object has an area in the address space
   abbrev in_space : MemoryObject → Bool
@@ -253,9 +258,12 @@ module _ (at : ℕ) (w : World) (phase : Area → Phase) (file : FileNo) (ioas i
   abbrev is_unpinned : ObjectPage → Bool
   is_unpinned page = is_none (pinned_frame w.pins page)
 
+  new_here : (page : ObjectPage) → comes w first_table page ≡ true → IsNew w tables page
+  new_here page is = comes_new w areas tables attachments page alike is
+
   comes_over : (m : MemoryObject) (page : ObjectPage) → IsIn (pages_of m) page → comes w first_table page ≡ true → in_space m ≡ true
   comes_over m page within is =
-      over_number w.areas file ioas page m.number (number_of_page m page within) (over_space w file ioas id width page (comes_new w phase (with_hwpt file ioas id width None w.objects) attachments page is))
+      over_number w.areas file ioas page m.number (number_of_page m page within) (over_space w file ioas id width automatic page (new_here page is))
 
   -- so many pages come as its pages that aren't pinned yet
   comes_count : page_count (comes w first_table) (of_user user) w.memory ≤ length (newly_pinned (view w) file ioas)
@@ -266,7 +274,7 @@ module _ (at : ℕ) (w : World) (phase : Area → Phase) (file : FileNo) (ioas i
     where
       by_tests : (m : MemoryObject) (a b : Bool) → in_space m ≡ b → cond a (count_by (comes w first_table) (pages_of m)) 0 ≤ cond b (count_by is_unpinned (pages_of m)) 0
       by_tests m false b is = omega arith
-      by_tests m true true is = count_weaker (comes w first_table) is_unpinned (pages_of m) (λ page within new. unpinned at w (with_hwpt file ioas id width None w.objects) page p.pins (comes_new w phase (with_hwpt file ioas id width None w.objects) attachments page new))
+      by_tests m true true is = count_weaker (comes w first_table) is_unpinned (pages_of m) (λ page within new. unpinned at w tables page p.pins (new_here page new))
       by_tests m true false is = let none = count_none (comes w first_table) (pages_of m) (λ page within. false_else (comes w first_table page) (λ new. clash _ is (comes_over m page within new))) in omega (arith, none)
 
   -- and none where they aren't the user's
@@ -297,21 +305,26 @@ module _ (at : ℕ) (w : World) (phase : Area → Phase) (file : FileNo) (ioas i
               let none = none_of_others (λ m its of_file. clash _ other (joined user.0 m.user.0 own.0 (flipped m.user.0 user.0 its) (sym (ap (λ (o : Option UserNo). elim o as (λ _. Bool) [ Some u ↦ eqb u.0 m.user.0 | None ↦ false ]) is) ∙ of_file))) in
               omega (arith, held, none, before)
 
--- a device is attached
-attached_held : (at : ℕ) (w : World) (device : DeviceNo) (ioas id : ObjId) (object : Object) (width : Width) (automatic : Option Object) (phase : Area → Phase) (attachments : List Attachment) (user : UserNo) (limit : ℕ) → OwnedPins at w → first_true (attach_checks (view w) device ioas) ≡ None → binding_of w.objects device ≡ Some object → limit_of w.settings user ≡ Some limit → held_in w user ≤ limit
-    → held_in (settle w (moved_world w phase (with_hwpt object.file ioas id width automatic w.objects) attachments)) user ≤ limit
-attached_held at w device ioas id object width (Some automatic) phase attachments user limit p none is has before =
-    let held = fewer_held w phase w.objects attachments user (λ file space table. table) in
-    omega (arith, held, before)
-attached_held at w device ioas id object width None phase attachments user limit p none is has before = by_table (has_hwpt w.objects object.file ioas) refl
+-- a page table is made
+table_held : (at : ℕ) (w : World) (areas : List Area) (file : FileNo) (ioas id : ObjId) (width : Width) (automatic : Bool) (attachments : List Attachment) (user : UserNo) (limit : ℕ) → AlikeAreas w areas → OwnedPins at w → passes_limit_attached (view w) file ioas ≡ false → limit_of w.settings user ≡ Some limit
+    → held_in w user ≤ limit → held_in (settle w (moved_world w areas (with_table file ioas id width automatic w.objects) attachments)) user ≤ limit
+table_held at w areas file ioas id width automatic attachments user limit alike p passed has before = by_table (has_hwpt w.objects file ioas) refl
   where
-    by_table : (b : Bool) → has_hwpt w.objects object.file ioas ≡ b → held_in (settle w (moved_world w phase (with_hwpt object.file ioas id width None w.objects) attachments)) user ≤ limit
+    by_table : (b : Bool) → has_hwpt w.objects file ioas ≡ b → held_in (settle w (moved_world w areas (with_table file ioas id width automatic w.objects) attachments)) user ≤ limit
     by_table true had =
-        let held = fewer_held w phase (with_hwpt object.file ioas id width None w.objects) attachments user (λ file space table. had_before w.objects object.file ioas id width file space had table) in
+        let held = fewer_held w areas (with_table file ioas id width automatic w.objects) attachments user alike (λ own space table. had_before w.objects file ioas id width automatic own space had table) in
         omega (arith, held, before)
     by_table false had =
-        let passed = attach_passed (view w) device ioas object is none in
-        first_held at w phase object.file ioas id width attachments user limit p has (and_rest (not (has_hwpt w.objects object.file ioas)) _ (not_false _ had) passed.within_limit) before
+        first_held at w areas alike file ioas id width automatic attachments user limit p has (and_rest (not (has_hwpt w.objects file ioas)) _ (not_false _ had) passed) before
+
+-- a device is attached, by an automatic page table or by one that is made
+attached_held : (at : ℕ) (w : World) (device : DeviceNo) (file : FileNo) (ioas id : ObjId) (width : Width) (automatic : Option Object) (attachments : List Attachment) (user : UserNo) (limit : ℕ) → OwnedPins at w → passes_limit_attached (view w) file ioas ≡ false → limit_of w.settings user ≡ Some limit → held_in w user ≤ limit
+    → held_in (settle w (moved_world w (all_paid device w.areas) (with_hwpt file ioas id width automatic w.objects) attachments)) user ≤ limit
+attached_held at w device file ioas id width (Some automatic) attachments user limit p passed has before =
+    let held = fewer_held w (all_paid device w.areas) w.objects attachments user (alike_paid w device) (λ own space table. table) in
+    omega (arith, held, before)
+attached_held at w device file ioas id width None attachments user limit p passed has before =
+    table_held at w (all_paid device w.areas) file ioas id width true attachments user limit (alike_paid w device) p passed has before
 
 -- ---- each event
 
@@ -329,7 +342,7 @@ gone_limits w goes left attachments allowed closed fewer =
     (λ user limit is before. let held = gone_held w goes left attachments allowed closed user fewer in omega (arith, held, before))
 
 pub keeps_limits : {A : Type 0} → (at : ℕ) (w : World) (e : Event A) (answer : Reply) → refusal w e ≡ None → OwnedPins at w → WithinLimits w → WithinLimits (changed at w e answer)
-unfolding changed without_areas attached detached
+unfolding changed without_areas attached detached joined
 keeps_limits at w (event.IoasAlloc file) (reply.Id id) none p within = within
 keeps_limits at w (event.Map file request) (reply.Iova iova) none p within = mapped (user_of w.settings file) refl
   where
@@ -338,6 +351,14 @@ keeps_limits at w (event.Map file request) (reply.Iova iova) none p within = map
     mapped (Some user) is = settled_limits w (mapped_world at w file request iova user) refl (λ other limit has before. mapped_held at w file request iova user other limit p.pins none is has before) within
 keeps_limits at w (event.Unmap file request) (reply.Bytes count) none p within = gone_limits w (is_touched file request) w.objects w.attachments w.allowed w.closed (λ own ioas has. has) within
 keeps_limits at w (event.Unmap file request) (reply.Pending errno) none p within = within
+keeps_limits at w (event.HwptAlloc file request) (reply.Id id) none p within = made (settings_under w.settings w.objects file request.device)
+  where
+    made : (settings : Option DeviceSettings) → WithinLimits (hwpt_changes w file request.ioas id settings)
+    made None = within
+    made (Some settings) =
+        let passed = hwpt_passed (view w) file request none in
+        settled_limits w (moved_world w w.areas (with_table file request.ioas id settings.width false w.objects) w.attachments) refl
+        (λ user limit has before. table_held at w w.areas file request.ioas id settings.width false w.attachments user limit (λ objects number. refl) p passed.within_limit has before) within
 keeps_limits at w (event.Destroy file id) reply.Done none p within = gone_limits w (is_of file id) (without_object file id w.objects) w.attachments _ w.closed (λ own ioas has. hwpt-filter (λ o. not (is_object file id o)) w.objects own ioas has) within
 keeps_limits at w (event.Close file) reply.Done none p within = gone_limits w (λ a. eqb a.file.0 file.0) _ _ _ _ (λ own ioas has. hwpt-filter (λ o. not (eqb o.file.0 file.0)) w.objects own ioas has) within
 keeps_limits at w (event.UserMap user va) (reply.Frame frame) none p within = within
@@ -345,20 +366,23 @@ keeps_limits at w (event.AllowIovas file ioas ranges) reply.Done none p within =
 keeps_limits at w (event.UserUnmap user va) reply.Done none p within = within
 keeps_limits at w (event.UserWrite user va bytes) reply.Done none p within = within
 keeps_limits at w (event.Bind file device) (reply.Id id) none p within = within
+keeps_limits at w (event.Unbind file id) reply.Done none p within = within
 keeps_limits at w (event.Attach device pt_id) (reply.Id id) none p within = bound (binding_of w.objects device) refl (device_of w.settings device)
   where
     bound : (object : Option Object) → binding_of w.objects device ≡ object → (settings : Option DeviceSettings) → WithinLimits (attach_changes w device pt_id id object settings)
     bound None is settings = within
     bound (Some object) is None = within
-    bound (Some object) is (Some settings) = by_kind (kind_of w.objects object.file pt_id)
+    bound (Some object) is (Some settings) = by_kind (kind_of w.objects object.file pt_id) refl
       where
-        by_kind : (k : Option ObjectKind) → WithinLimits (target_changes w device pt_id id object settings k)
-        by_kind (Some kind.Ioas) =
+        by_kind : (k : Option ObjectKind) → kind_of w.objects object.file pt_id ≡ k → WithinLimits (target_changes w device pt_id id object settings k)
+        by_kind (Some kind.Ioas) space =
             let automatic = automatic_hwpt w.objects object.file pt_id settings.width in
             let attachments = with_attachment (record { device = device; file = object.file; hwpt = id }) w.attachments in
-            settled_limits w (moved_world w (λ a. paid device a.phase) (with_hwpt object.file pt_id id settings.width automatic w.objects) attachments) refl
-            (λ user limit has before. attached_held at w device pt_id id object settings.width automatic (λ a. paid device a.phase) attachments user limit p none is has before) within
-        by_kind k = within
+            let passed = attach_passed (view w) device pt_id object is space none in
+            settled_limits w (moved_world w (all_paid device w.areas) (with_hwpt object.file pt_id id settings.width automatic w.objects) attachments) refl
+            (λ user limit has before. attached_held at w device object.file pt_id id settings.width automatic attachments user limit p passed.within_limit has before) within
+        by_kind (Some (kind.Hwpt ioas width automatic)) table = within
+        by_kind k other = within
 keeps_limits at w (event.Detach device) reply.Done none p within = attached_or_not (attachment_of w.attachments device)
   where
     attached_or_not : (a : Option Attachment) → WithinLimits (detach_changes w device a)
@@ -366,8 +390,8 @@ keeps_limits at w (event.Detach device) reply.Done none p within = attached_or_n
     attached_or_not (Some a) =
         let goes = goes_with (without_attachment device w.attachments) a in
         let left = filter (λ (o : Object). not (goes o)) w.objects in
-        settled_limits w (moved_world w (λ a. paid device a.phase) left (without_attachment device w.attachments)) refl
-        (λ user limit has before. let held = fewer_held w (λ a. paid device a.phase) left (without_attachment device w.attachments) user (λ own ioas table. hwpt-filter (λ o. not (goes o)) w.objects own ioas table) in omega (arith, held, before)) within
+        settled_limits w (moved_world w (all_paid device w.areas) left (without_attachment device w.attachments)) refl
+        (λ user limit has before. let held = fewer_held w (all_paid device w.areas) left (without_attachment device w.attachments) user (alike_paid w device) (λ own ioas table. hwpt-filter (λ o. not (goes o)) w.objects own ioas table) in omega (arith, held, before)) within
 keeps_limits at w (event.Flush device) reply.Done none p within = within
 keeps_limits at w (event.DeviceWrite device iova bytes) (reply.Passed frame) none p within = within
 keeps_limits at w e answer none p within = within

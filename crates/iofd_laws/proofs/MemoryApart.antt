@@ -3,12 +3,12 @@ use Rattle.std.proofs.Common.{◌≡◌, ℕ, ◌+◌, ◌*◌, Bool, true, fals
 use Rattle.std.specs.List.{filter, find, list_any}
 use Rattle.std.proofs.lemmas.Bool.{eqb-true, true≢false}
 use Rattle.std.proofs.lemmas.Bool.Decides.{nat_tests}
-use Rattle.iofd_words.specs.After.{changed, map_changes, attach_changes, target_changes, detach_changes, settle, without_areas, attached, detached}
+use Rattle.iofd_words.specs.After.{changed, map_changes, hwpt_changes, attach_changes, target_changes, detach_changes, settle, without_areas, attached, detached, joined}
 use Rattle.iofd_words.specs.Areas.{is_of, is_touched}
 use Rattle.iofd_words.specs.Attachments.{attachment_of}
 use Rattle.iofd_words.specs.Checks.{refusal}
 use Rattle.iofd_words.specs.Files.{user_of, device_of}
-use Rattle.iofd_words.specs.Objects.{binding_of, has_hwpt, is_hwpt_over, kind_of, objects_of}
+use Rattle.iofd_words.specs.Objects.{binding_of, has_hwpt, is_hwpt_over, kind_of, objects_of, settings_under}
 use Rattle.iofd_words.specs.Pins.{ObjectPage, is_page, is_translated, pinned_frame, pinned_pages}
 use Rattle.iofd_words.specs.Run.{after, after_answer}
 use Rattle.iofd_words.specs.Settings.{DeviceSettings}
@@ -49,8 +49,8 @@ use Rattle.iofd_rows.proofs.PinsFollow.{pin_is_of}
 flipped : (a b : ℕ) → eqb a b ≡ true → eqb b a ≡ true
 flipped a b is = grind (arith, nat_tests)
 
-joined : (a b c : ℕ) → eqb a b ≡ true → eqb c b ≡ true → eqb a c ≡ true
-joined a b c first second = grind (arith, nat_tests)
+both_equal : (a b c : ℕ) → eqb a b ≡ true → eqb c b ≡ true → eqb a c ≡ true
+both_equal a b c first second = grind (arith, nat_tests)
 
 -- ---- where each area has a memory object of its own, two tests of areas over one object pass at one area
 
@@ -65,7 +65,7 @@ any_both n p q (a ∷ areas) over_p over_q own has_p has_q =
     alone = not_true _ (and_true (not (has_area areas a.memory)) (have_own_memory areas) own).0
 
     none_later : eqb a.memory n ≡ true → (r : Area → Bool) → ((b : Area) → r b ≡ true → eqb b.memory n ≡ true) → list_any r areas ≡ false
-    none_later here r over = none_stronger r (λ (b : Area). eqb b.memory a.memory) areas (λ b is. joined b.memory n a.memory (over b is) here) alone
+    none_later here r over = none_stronger r (λ (b : Area). eqb b.memory a.memory) areas (λ b is. both_equal b.memory n a.memory (over b is) here) alone
 
     by_tests : (x y : Bool) → p a ≡ x → q a ≡ y → (x || list_any p areas) ≡ true → (y || list_any q areas) ≡ true → (list_any p areas ≡ true → list_any q areas ≡ true → list_any (λ b. p b && q b) areas ≡ true) → ((x && y) || list_any (λ b. p b && q b) areas) ≡ true
     by_tests true true pa qa has_p has_q later = refl
@@ -142,7 +142,7 @@ any_numbered (m ∷ memory) page own =
     by_number true is rest =
         let none : list_any (has_page page) memory ≡ false =
         none_stronger (has_page page) (λ (o : MemoryObject). eqb o.number m.number) memory
-        (λ o has. let parts = and_true (eqb page.memory o.number) (ltb page.index o.count) has in joined o.number page.memory m.number (flipped page.memory o.number parts.0) is) alone
+        (λ o has. let parts = and_true (eqb page.memory o.number) (ltb page.index o.count) has in both_equal o.number page.memory m.number (flipped page.memory o.number parts.0) is) alone
         in
         rw (flipped m.number page.memory is, none) (only_here (ltb page.index m.count))
     by_number false is rest = rw (unlike m.number page.memory is) rest
@@ -182,7 +182,7 @@ gone_object goes areas memory number has =
     (none_goes (λ (m : MemoryObject). eqb m.number number) (λ (m : MemoryObject). list_any (λ (a : Area). eqb a.memory m.number && not (goes a)) areas) memory
     (λ m is.
     any_weaker (λ (a : Area). not (goes a) && eqb a.memory number) (λ (a : Area). eqb a.memory m.number && not (goes a)) areas
-    (λ a both. let parts = and_true (not (goes a)) (eqb a.memory number) both in both_true _ _ (joined a.memory number m.number parts.1 is) parts.0)
+    (λ a both. let parts = and_true (not (goes a)) (eqb a.memory number) both in both_true _ _ (both_equal a.memory number m.number parts.1 is) parts.0)
     left))
   where
     none_goes : (p q : MemoryObject → Bool) (xs : List MemoryObject) → ((m : MemoryObject) → p m ≡ true → q m ≡ true) → list_any (λ m. p m && not (q m)) xs ≡ false
@@ -195,7 +195,7 @@ gone_object goes areas memory number has =
 
 keeps_object : {A : Type 0} → (at : ℕ) (w : World) (e : Event A) (answer : Reply) (number : ℕ) → is_some (object_numbered w.memory number) ≡ true → list_any (λ (a : Area). eqb a.memory number) (changed at w e answer).areas ≡ true
     → object_numbered (changed at w e answer).memory number ≡ object_numbered w.memory number
-unfolding changed settle without_areas attached detached
+unfolding changed settle without_areas attached detached joined
 keeps_object at w (event.IoasAlloc file) (reply.Id id) number some has = refl
 keeps_object at w (event.Map file request) (reply.Iova iova) number some has = mapped (user_of w.settings file)
   where
@@ -204,6 +204,11 @@ keeps_object at w (event.Map file request) (reply.Iova iova) number some has = m
     mapped (Some user) = found_before (λ (m : MemoryObject). eqb m.number number) w.memory _ some
 keeps_object at w (event.Unmap file request) (reply.Bytes count) number some has = gone_object (is_touched file request) w.areas w.memory number has
 keeps_object at w (event.Unmap file request) (reply.Pending errno) number some has = refl
+keeps_object at w (event.HwptAlloc file request) (reply.Id id) number some has = made (settings_under w.settings w.objects file request.device)
+  where
+    made : (settings : Option DeviceSettings) → object_numbered (hwpt_changes w file request.ioas id settings).memory number ≡ object_numbered w.memory number
+    made None = refl
+    made (Some settings) = refl
 keeps_object at w (event.Destroy file id) reply.Done number some has = gone_object (is_of file id) w.areas w.memory number has
 keeps_object at w (event.Close file) reply.Done number some has = gone_object (λ (a : Area). eqb a.file.0 file.0) w.areas w.memory number has
 keeps_object at w (event.UserMap user va) (reply.Frame frame) number some has = refl
@@ -211,6 +216,7 @@ keeps_object at w (event.AllowIovas file ioas ranges) reply.Done number some has
 keeps_object at w (event.UserUnmap user va) reply.Done number some has = refl
 keeps_object at w (event.UserWrite user va bytes) reply.Done number some has = refl
 keeps_object at w (event.Bind file device) (reply.Id id) number some has = refl
+keeps_object at w (event.Unbind file id) reply.Done number some has = refl
 keeps_object at w (event.Attach device pt_id) (reply.Id id) number some has = bound (binding_of w.objects device) (device_of w.settings device)
   where
     bound : (object : Option Object) (settings : Option DeviceSettings) → object_numbered (attach_changes w device pt_id id object settings).memory number ≡ object_numbered w.memory number
@@ -220,6 +226,7 @@ keeps_object at w (event.Attach device pt_id) (reply.Id id) number some has = bo
       where
         by_kind : (k : Option ObjectKind) → object_numbered (target_changes w device pt_id id object settings k).memory number ≡ object_numbered w.memory number
         by_kind (Some kind.Ioas) = refl
+        by_kind (Some (kind.Hwpt ioas width automatic)) = refl
         by_kind k = refl
 keeps_object at w (event.Detach device) reply.Done number some has = attached_or_not (attachment_of w.attachments device)
   where
@@ -267,7 +274,7 @@ module _ {A : Type 0} (at : ℕ) (w : World) (r : Record A) (file : FileNo) (num
       let here = flipped a.memory number (and_true (eqb a.file.0 file.0) (eqb a.memory number) over).1 in
       some_found (λ (m : MemoryObject). eqb m.number number) w.memory
       (any_weaker (λ (m : MemoryObject). eqb m.number a.memory && eqb (m.count * 4096) (size_of a.span)) (λ (m : MemoryObject). eqb m.number number) w.memory
-      (λ m is. joined m.number a.memory number (and_true (eqb m.number a.memory) (eqb (m.count * 4096) (size_of a.span)) is).0 here) sized))
+      (λ m is. both_equal m.number a.memory number (and_true (eqb m.number a.memory) (eqb (m.count * 4096) (size_of a.span)) is).0 here) sized))
       before.pins.sizes has)
 
   same_object : object_numbered (after at w r).memory number ≡ object_numbered w.memory number

@@ -2,14 +2,14 @@
 use Rattle.std.proofs.Common.{◌≡◌, ℕ, zero, suc, ◌<◌, Bool, true, false, cond, ◌||◌, not, eqb, Option, Some, None, List, [], ◌∷◌, ◌++◌, map, Contains, refl, sym, ◌∙◌, subst, arith, IsTrue}
 use Rattle.std.specs.List.{filter, list_any}
 use Rattle.std.proofs.lemmas.Bool.Decides.{nat_tests}
-use Rattle.iofd_words.specs.After.{changed, map_changes, attach_changes, target_changes, detach_changes, settle, without_areas, attached, detached}
+use Rattle.iofd_words.specs.After.{changed, map_changes, hwpt_changes, attach_changes, target_changes, detach_changes, settle, without_areas, attached, detached, joined}
 use Rattle.iofd_words.specs.Answers.{Answers, write_reply}
 use Rattle.iofd_words.specs.Attachments.{attachment_of}
 use Rattle.iofd_words.specs.Checks.{refusal}
 use Rattle.iofd_words.specs.Files.{user_of, device_of}
 use Rattle.iofd_words.specs.Frames.{is_free, is_reached}
 use Rattle.iofd_laws.specs.Laws.{have_own_frames, WasFree}
-use Rattle.iofd_words.specs.Objects.{binding_of, kind_of}
+use Rattle.iofd_words.specs.Objects.{binding_of, kind_of, settings_under}
 use Rattle.iofd_words.specs.Policy.{Outcome, Passes, Denied, outcomes}
 use Rattle.iofd_words.specs.Run.{IsAnswer, Lawful}
 use Rattle.iofd_words.specs.Settings.{DeviceSettings}
@@ -87,7 +87,7 @@ own_frames-filter stays (p ∷ pages) own =
 -- ---- every event keeps them apart
 
 pub keeps_own_frames : {A : Type 0} → (at : ℕ) (w : World) (e : Event A) (answer : Reply) → refusal w e ≡ None → Answers w e answer → have_own_frames w.user_pages ≡ true → have_own_frames (changed at w e answer).user_pages ≡ true
-unfolding changed settle without_areas attached detached Answers
+unfolding changed settle without_areas attached detached joined Answers
 keeps_own_frames at w (event.IoasAlloc file) (reply.Id id) none answers own = own
 keeps_own_frames at w (event.Map file request) (reply.Iova iova) none answers own = mapped (user_of w.settings file)
   where
@@ -96,6 +96,11 @@ keeps_own_frames at w (event.Map file request) (reply.Iova iova) none answers ow
     mapped (Some user) = own
 keeps_own_frames at w (event.Unmap file request) (reply.Bytes count) none answers own = own
 keeps_own_frames at w (event.Unmap file request) (reply.Pending errno) none answers own = own
+keeps_own_frames at w (event.HwptAlloc file request) (reply.Id id) none answers own = made (settings_under w.settings w.objects file request.device)
+  where
+    made : (settings : Option DeviceSettings) → have_own_frames (hwpt_changes w file request.ioas id settings).user_pages ≡ true
+    made None = own
+    made (Some settings) = own
 keeps_own_frames at w (event.Destroy file id) reply.Done none answers own = own
 keeps_own_frames at w (event.Close file) reply.Done none answers own = own
 keeps_own_frames at w (event.UserMap user va) (reply.Frame frame) none answers own =
@@ -104,6 +109,7 @@ keeps_own_frames at w (event.AllowIovas file ioas ranges) reply.Done none answer
 keeps_own_frames at w (event.UserUnmap user va) reply.Done none answers own = own_frames-filter _ w.user_pages own
 keeps_own_frames at w (event.UserWrite user va bytes) reply.Done none answers own = own
 keeps_own_frames at w (event.Bind file device) (reply.Id id) none answers own = own
+keeps_own_frames at w (event.Unbind file id) reply.Done none answers own = own
 keeps_own_frames at w (event.Attach device pt_id) (reply.Id id) none answers own = bound (binding_of w.objects device) (device_of w.settings device)
   where
     bound : (object : Option Object) (settings : Option DeviceSettings) → have_own_frames (attach_changes w device pt_id id object settings).user_pages ≡ true
@@ -113,6 +119,7 @@ keeps_own_frames at w (event.Attach device pt_id) (reply.Id id) none answers own
       where
         by_kind : (k : Option ObjectKind) → have_own_frames (target_changes w device pt_id id object settings k).user_pages ≡ true
         by_kind (Some kind.Ioas) = own
+        by_kind (Some (kind.Hwpt ioas width automatic)) = own
         by_kind k = own
 keeps_own_frames at w (event.Detach device) reply.Done none answers own = attached_or_not (attachment_of w.attachments device)
   where

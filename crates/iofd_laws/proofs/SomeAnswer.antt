@@ -8,7 +8,7 @@ use Rattle.iofd_rows.specs.Pinned.{ArePinned}
 use Rattle.iofd_rows.proofs.Bools.{not_false}
 use Rattle.iofd_laws.proofs.FreshIds.{fresh_id}
 use Rattle.iofd_runs.proofs.Known.{bound_known}
-use Rattle.iofd_runs.proofs.NotRefused.{alloc_passed, attach_passed, bind_passed, map_passed, user_map_passed}
+use Rattle.iofd_runs.proofs.NotRefused.{alloc_passed, attach_passed, bind_passed, hwpt_passed, map_passed, target_passed, user_map_passed}
 use Rattle.iofd_runs.proofs.PinnedAccess.{some_outcome}
 use Rattle.iofd_words.specs.Answers.{Answers, IsHwptFor, IsHwptOf, IsMappedAt, IsTarget, UnmapAnswers, write_reply}
 use Rattle.iofd_words.specs.Areas.{is_waiting, touched_bytes}
@@ -100,21 +100,21 @@ module _ (at : ℕ) (w : World) (pins : ArePinned at w) (fits : RowsFit w) where
       roomy : (bound : Object) (d : DeviceSettings) → lacks_room_for_hwpt (view w) bound.file pt_id (Some d) ≡ false → is_none (automatic_hwpt w.objects bound.file pt_id d.width) ≡ true → is_full w.objects bound.file ≡ false
       roomy bound d lacks new = other (is_none (automatic_hwpt w.objects bound.file pt_id d.width)) (is_full w.objects bound.file) new lacks
 
-      of_kind : (bound : Object) (d : DeviceSettings) (k : Option ObjectKind) → k ≡ Some kind.Ioas → lacks_room_for_hwpt (view w) bound.file pt_id (Some d) ≡ false → (id : ObjId) × IsTarget w bound.file pt_id id d.width k
-      of_kind bound d (Some kind.Ioas) is lacks = table_id bound.file (automatic_hwpt w.objects bound.file pt_id d.width) (roomy bound d lacks)
-      of_kind bound d (Some (kind.Hwpt ioas width automatic)) is lacks = cc
-      of_kind bound d (Some (kind.Device other)) is lacks = cc
-      of_kind bound d None is lacks = cc
+      by_kind : (bound : Object) (d : DeviceSettings) (k : Option ObjectKind) → binding_of w.objects device ≡ Some bound → device_of w.settings device ≡ Some d → kind_of w.objects bound.file pt_id ≡ k → (id : ObjId) × IsTarget w bound.file pt_id id d.width k
+      by_kind bound d (Some kind.Ioas) is known space =
+          let passed = attach_passed (view w) device pt_id bound is space none in
+          table_id bound.file (automatic_hwpt w.objects bound.file pt_id d.width) (roomy bound d (rw known at passed.roomy))
+      by_kind bound d (Some (kind.Hwpt ioas width automatic)) is known table = (pt_id, refl)
+      by_kind bound d (Some (kind.Device other)) is known named = let rest = (target_passed (view w) device pt_id bound (Some (kind.Device other)) is named none).1 in cc
+      by_kind bound d None is known named = let rest = (target_passed (view w) device pt_id bound None is named none).1 in cc
 
-      by_device : (bound : Object) (o : Option DeviceSettings) → is_some o ≡ true → kind_of w.objects bound.file pt_id ≡ Some kind.Ioas → lacks_room_for_hwpt (view w) bound.file pt_id o ≡ false → (id : ObjId) × IsHwptOf w pt_id id (Some bound) o
-      by_device bound None known space lacks = cc
-      by_device bound (Some d) known space lacks = of_kind bound d (kind_of w.objects bound.file pt_id) space lacks
+      by_device : (bound : Object) (o : Option DeviceSettings) → binding_of w.objects device ≡ Some bound → device_of w.settings device ≡ o → is_some o ≡ true → (id : ObjId) × IsHwptOf w pt_id id (Some bound) o
+      by_device bound None is known some = cc
+      by_device bound (Some d) is known some = by_kind bound d (kind_of w.objects bound.file pt_id) is known refl
 
       by_binding : (o : Option Object) → binding_of w.objects device ≡ o → (id : ObjId) × IsHwptOf w pt_id id o (device_of w.settings device)
       by_binding None is = absurd (unbound w device pt_id none is)
-      by_binding (Some bound) is =
-          let passed = attach_passed (view w) device pt_id bound is none in
-          by_device bound (device_of w.settings device) (bound_known w.settings w.closed w.objects device bound fits.known is).1 passed.space passed.roomy
+      by_binding (Some bound) is = by_device bound (device_of w.settings device) is refl (bound_known w.settings w.closed w.objects device bound fits.known is).1
 
   pub some_answer : {A : Type 0} → (e : Event A) → refusal w e ≡ None → (answer : Reply) × Answers w e answer
   unfolding Answers
@@ -125,6 +125,9 @@ module _ (at : ℕ) (w : World) (pins : ArePinned at w) (fits : RowsFit w) where
       let (iova, at) = map_answer file request (map_passed (view w) file request none).chosen in
       (reply.Iova iova, at)
   some_answer (event.Unmap file request) none = unmap_answer file request
+  some_answer (event.HwptAlloc file request) none =
+      let (id, fresh) = fresh_id w.objects file (hwpt_passed (view w) file request none).roomy in
+      (reply.Id id, fresh)
   some_answer (event.Destroy file id) none = (reply.Done, tt)
   some_answer (event.Close file) none = (reply.Done, tt)
   some_answer (event.UserMap user va) none =
@@ -136,6 +139,7 @@ module _ (at : ℕ) (w : World) (pins : ArePinned at w) (fits : RowsFit w) where
   some_answer (event.Bind file device) none =
       let (id, fresh) = fresh_id w.objects file (bind_passed (view w) file device none).roomy in
       (reply.Id id, fresh)
+  some_answer (event.Unbind file id) none = (reply.Done, tt)
   some_answer (event.Attach device pt_id) none =
       let (id, target) = attach_answer device pt_id none in
       (reply.Id id, target)

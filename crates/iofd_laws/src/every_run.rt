@@ -6,7 +6,7 @@ ghost use Rattle.iofd_runs.specs.Fits.{RowsFit};
 ghost use Rattle.iofd_runs.specs.InUsable.{AreasUsable};
 ghost use Rattle.iofd_runs.specs.Owned.{AreasOwned};
 ghost use Rattle.iofd_laws.specs.Laws.{are_apart, have_own_frames, has_memory, held_in, IsOfAnother, SameMemory, WasFree, rows_of};
-ghost use Rattle.iofd_rows.specs.Ids.{have_own_ids};
+ghost use Rattle.iofd_rows.specs.Ids.{AreBoundOnce, have_own_ids};
 ghost use Rattle.iofd_laws.specs.Laws.{pin_moves};
 ghost use Rattle.iofd_rows.specs.Pinned.{ArePinned};
 ghost use Rattle.iofd_words.specs.Answers.{Answers};
@@ -50,6 +50,12 @@ pub fn only_free_frames_are_given_out<A: Allocator>()
 pub fn ids_are_unique<A: Allocator>()
     ensures { (settings : Settings) (records : List (Record A)) → IsRun settings records →
         IsTrue (have_own_ids (world_of settings records).objects) }
+{}
+
+/// In every run, a device is bound by at most one object, and so to at most one file.
+pub fn devices_are_bound_once<A: Allocator>()
+    ensures { (settings : Settings) (records : List (Record A)) → IsRun settings records →
+        AreBoundOnce (world_of settings records).objects }
 {}
 
 /// In every run, each page that is to be pinned has one pin, and no other page has any. No two memory objects have one

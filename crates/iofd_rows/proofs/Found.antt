@@ -29,17 +29,6 @@ all_map p q h (x ∷ xs) weaker all =
     let parts = and_true (q x) (list_all q xs) all in
     both_true _ _ (weaker x parts.0) (all_map p q h xs weaker parts.1)
 
--- what passes a test and holds of each has both
-pub all_filter_both : {X : Type 0} (p q : X → Bool) (xs : List X) → list_all p xs ≡ true → list_all (λ x. p x && q x) (filter q xs) ≡ true
-all_filter_both p q [] all = refl
-all_filter_both p q (x ∷ xs) all =
-    let parts = and_true (p x) (list_all p xs) all in
-    kept (q x) refl parts.0 (all_filter_both p q xs parts.1)
-  where
-    kept : (b : Bool) → q x ≡ b → p x ≡ true → list_all (λ x. p x && q x) (filter q xs) ≡ true → list_all (λ x. p x && q x) (cond b (x ∷ filter q xs) (filter q xs)) ≡ true
-    kept true passes here rest = both_true _ _ (both_true _ _ here passes) rest
-    kept false passes here rest = rest
-
 -- ---- the first row that passes
 
 pub find-with_object : (p : Object → Bool) (object : Object) (objects : List Object) → p object ≡ false → find p (with_object object objects) ≡ find p objects

@@ -28,7 +28,7 @@ use Rattle.iofd_rows.proofs.Owed.{EachOwed, HasTable, IsDebtor, IsSpace, debtor_
 eqb_flipped : (m n : ℕ) → eqb m n ≡ eqb n m
 eqb_flipped m n = grind (arith, nat_tests)
 
-device_is : (a b : DeviceNo) → eqb a.0 b.0 ≡ true → a ≡ b
+pub device_is : (a b : DeviceNo) → eqb a.0 b.0 ≡ true → a ≡ b
 device_is a b same = let numbers = eqb-true a.0 b.0 same in ap (λ n. let d : DeviceNo = record { 0 = n } in d) numbers
 
 -- an attachment of this device comes later

@@ -47,10 +47,12 @@ by_rows settings objects attachments file ioas span =
 
 -- ---- tests that fail
 
-each_not : {X : Type 0} (p : X → Bool) (xs : List X) (x : X) → list_any p xs ≡ false → IsIn xs x → p x ≡ false
+pub each_not : {X : Type 0} (p : X → Bool) (xs : List X) (x : X) → list_any p xs ≡ false → IsIn xs x
+    → p x ≡ false
 each_not p xs x none within = false_else (p x) (λ passes. clash _ none (of_any p xs x within passes))
 
-none_of : {X : Type 0} (p : X → Bool) (xs : List X) → ((x : X) → IsIn xs x → p x ≡ false) → list_any p xs ≡ false
+pub none_of : {X : Type 0} (p : X → Bool) (xs : List X) → ((x : X) → IsIn xs x → p x ≡ false)
+    → list_any p xs ≡ false
 none_of p [] each = refl
 none_of p (x ∷ xs) each = both_false _ _ (each x (inl refl)) (none_of p xs (λ y later. each y (inr later)))
 

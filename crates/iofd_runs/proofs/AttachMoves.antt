@@ -84,12 +84,13 @@ owed_detached objects attachments areas device a each =
 
 -- ---- an attachment comes
 
--- the page table of an attachment to an address space is over that address space, be it there already or new
+-- the page table of an attachment is over this address space, be it there already or new
 pub record IsMade (objects new : List Object) (file : FileNo) (ioas id : ObjId) : Type 0 where
   pub stay : KindsStay objects new
   pub spaces : (object : Object) → IsIn new object → (over : ObjId) → ioas_of object.kind ≡ Some over → IsSpace new object.file over
   pub width : Width
-  pub table : kind_of new file id ≡ Some (kind.Hwpt ioas width true)
+  pub automatic : Bool
+  pub table : kind_of new file id ≡ Some (kind.Hwpt ioas width automatic)
 
 automatic_kind : (k : ObjectKind) (ioas : ObjId) (width : Width) → is_automatic_over ioas width k ≡ true → (of : Width) × (k ≡ kind.Hwpt ioas of true)
 automatic_kind kind.Ioas ioas width is = cc
@@ -108,7 +109,7 @@ is_made w file ioas id width (Some object) own found answers space spaces =
     let of_file : object.file ≡ file = file_is object.file file parts.0 in
     let only = kind_only w.objects object own within in
     let here : kind_of w.objects file id ≡ Some object.kind = rw (← of_file, answers) only in
-    record { stay = λ f i k is. is; spaces = spaces; width = of; table = rw is_kind at here }
+    record { stay = λ f i k is. is; spaces = spaces; width = of; automatic = true; table = rw is_kind at here }
 is_made w file ioas id width None own found answers space spaces =
     let object : Object = record { file = file; id = id; kind = kind.Hwpt ioas width true } in
     let free = unused w.objects file id answers in
@@ -116,23 +117,36 @@ is_made w file ioas id width None own found answers space spaces =
       stay = λ f i k is. kind_before object w.objects f i k free is;
       spaces = spaces_with w.objects object free (λ over is. let same : ioas ≡ over = cc in rw (← same) space) spaces;
       width = width;
+      automatic = true;
       table = kind_new object w.objects free;
     }
 
-pub owed_attached : (w : World) (device : DeviceNo) (file : FileNo) (ioas id : ObjId) (width : Width) → have_own_ids w.objects ≡ true → is_some (attachment_of w.attachments device) ≡ false → IsSpace w.objects file ioas → IsHwptFor w file id (automatic_hwpt w.objects file ioas width) → EachOwed w.objects w.attachments w.areas → EachOwed (with_hwpt file ioas id width (automatic_hwpt w.objects file ioas width) w.objects) (with_attachment (record { device = device; file = file; hwpt = id }) w.attachments) (all_paid device w.areas)
-owed_attached w device file ioas id width own none space answers each =
-    let new : List Object = with_hwpt file ioas id width (automatic_hwpt w.objects file ioas width) w.objects in
-    let made : IsMade w.objects new file ioas id = is_made w file ioas id width (automatic_hwpt w.objects file ioas width) own refl answers space each.spaces in
+-- the one that is named
+pub is_there : (objects : List Object) (file : FileNo) (ioas id : ObjId) (width : Width) (automatic : Bool)
+    → kind_of objects file id ≡ Some (kind.Hwpt ioas width automatic)
+    → ((object : Object) → IsIn objects object → (over : ObjId) → ioas_of object.kind ≡ Some over → IsSpace objects object.file over)
+    → IsMade objects objects file ioas id
+is_there objects file ioas id width automatic table spaces =
+    record { stay = λ f i k is. is; spaces = spaces; width = width; automatic = automatic; table = table }
+
+pub owed_attached : (objects new : List Object) (attachments : List Attachment) (areas : List Area)
+    → (device : DeviceNo) (file : FileNo) (ioas id : ObjId)
+    → is_some (attachment_of attachments device) ≡ false → IsMade objects new file ioas id
+    → EachOwed objects attachments areas
+    → EachOwed new (with_attachment (record { device = device; file = file; hwpt = id }) attachments) (all_paid device areas)
+owed_attached objects new attachments areas device file ioas id none made each =
     let attachment : Attachment = record { device = device; file = file; hwpt = id } in
-    let once = once_with attachment w.attachments (any_found (λ (a : Attachment). eqb a.device.0 device.0) w.attachments ∙ none) each.once in
+    let once = once_with attachment attachments (any_found (λ (a : Attachment). eqb a.device.0 device.0) attachments ∙ none) each.once in
     record {
       once = once;
-      debtors = debtors_paid w.objects new w.attachments (with_attachment attachment w.attachments) device w.areas each (λ area d differ is.
-          debtor_stays w.objects new w.attachments (with_attachment attachment w.attachments) area.file area.ioas d made.stay (λ a found. found_with attachment w.attachments (record { 0 = d }) a once found) is);
+      debtors = debtors_paid objects new attachments (with_attachment attachment attachments) device areas each (λ area d differ is.
+          debtor_stays objects new attachments (with_attachment attachment attachments) area.file area.ioas d made.stay
+          (λ a found. found_with attachment attachments (record { 0 = d }) a once found)
+          is);
       tables = λ a within. ⊎_elim
-          (λ (same : attachment ≡ a). subst (HasTable new) same (record { ioas = ioas; width = made.width; automatic = true; table = made.table }))
-          (λ (before : IsIn w.attachments a). table_stays w.objects new a made.stay (each.tables a before))
-          (in_with_attachment attachment w.attachments a within);
+          (λ (same : attachment ≡ a). subst (HasTable new) same (record { ioas = ioas; width = made.width; automatic = made.automatic; table = made.table }))
+          (λ (before : IsIn attachments a). table_stays objects new a made.stay (each.tables a before))
+          (in_with_attachment attachment attachments a within);
       spaces = made.spaces;
-      in_spaces = spaces_paid new device w.areas (λ area within. made.stay area.file area.ioas kind.Ioas (each.in_spaces area within));
+      in_spaces = spaces_paid new device areas (λ area within. made.stay area.file area.ioas kind.Ioas (each.in_spaces area within));
     }

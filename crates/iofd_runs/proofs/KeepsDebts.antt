@@ -1,15 +1,15 @@
 -- Every event keeps each debtor attached to the address space of its area.
 use Rattle.std.proofs.Common.{◌≡◌, ℕ, true, false, not, Option, Some, None, List, refl}
-use Rattle.iofd_words.specs.After.{changed, map_changes, attach_changes, target_changes, detach_changes, settle, without_areas, attached, detached, mapped_area}
+use Rattle.iofd_words.specs.After.{changed, map_changes, attach_changes, target_changes, detach_changes, hwpt_changes, made_hwpt, settle, without_areas, attached, detached, joined, mapped_area, with_hwpt}
 use Rattle.iofd_words.specs.Answers.{Answers, IsHwptOf, IsTarget}
 use Rattle.iofd_words.specs.Areas.{is_touched}
 use Rattle.iofd_words.specs.Attachments.{attachment_of}
-use Rattle.iofd_words.specs.Checks.{attach_checks, destroy_checks, is_used, map_checks, refusal}
+use Rattle.iofd_words.specs.Checks.{destroy_checks, is_used, map_checks, refusal}
 use Rattle.iofd_rows.specs.Debts.{DebtsAttached}
 use Rattle.iofd_words.specs.Files.{user_of, device_of}
 use Rattle.iofd_rows.specs.Ids.{have_own_ids}
 use Rattle.iofd_words.specs.FirstTrue.{first_true}
-use Rattle.iofd_words.specs.Objects.{binding_of, has_ioas, kind_of}
+use Rattle.iofd_words.specs.Objects.{automatic_hwpt, binding_of, has_ioas, kind_of, settings_under}
 use Rattle.iofd_words.specs.Settings.{DeviceSettings}
 use Rattle.iofd_words.specs.Tables.{with_tables}
 use Rattle.iofd_words.specs.View.{view}
@@ -17,7 +17,6 @@ use Rattle.iofd_words.specs.World.{World}
 use Rattle.iofd_words.specs.declared.event.Event.{Event}
 use Rattle.iofd_words.specs.declared.event.Event.TheVariants as event
 use Rattle.iofd_words.specs.declared.event.MapRequest.{MapRequest}
-use Rattle.iofd_words.specs.declared.numbers.DeviceNo.{DeviceNo}
 use Rattle.iofd_words.specs.declared.numbers.FileNo.{FileNo}
 use Rattle.iofd_words.specs.declared.numbers.FrameNo.{FrameNo}
 use Rattle.iofd_words.specs.declared.numbers.ObjId.{ObjId}
@@ -28,12 +27,12 @@ use Rattle.iofd_words.specs.declared.rows.Attachment.{Attachment}
 use Rattle.iofd_words.specs.declared.rows.Object.{Object}
 use Rattle.iofd_words.specs.declared.rows.ObjectKind.{ObjectKind}
 use Rattle.iofd_words.specs.declared.rows.ObjectKind.TheVariants as kind
-use Rattle.iofd_runs.proofs.AttachMoves.{owed_attached, owed_detached}
+use Rattle.iofd_runs.proofs.AttachMoves.{is_made, is_there, owed_attached, owed_detached}
 use Rattle.iofd_rows.proofs.Moves.{owed_area, owed_fewer, owed_flush, owed_leaving, owed_object}
-use Rattle.iofd_runs.proofs.ObjectsGo.{owed_closed, owed_destroyed}
-use Rattle.iofd_rows.proofs.Owed.{EachOwed, debts_attached, each_owed, space_of}
+use Rattle.iofd_runs.proofs.ObjectsGo.{owed_closed, owed_destroyed, owed_unbound}
+use Rattle.iofd_rows.proofs.Owed.{EachOwed, IsSpace, debts_attached, each_owed, space_of}
 use Rattle.iofd_runs.proofs.OwnIds.{keeps_own_ids, unused}
-use Rattle.iofd_runs.proofs.NotRefused.{AttachPassed, attach_passed, destroy_passed, map_passed}
+use Rattle.iofd_runs.proofs.NotRefused.{attach_passed, destroy_passed, hwpt_passed, join_passed, map_passed}
 
 -- what holds of every world of a run
 pub record IsSound (w : World) : Type 0 where
@@ -51,13 +50,10 @@ map_has_space w file request none = (map_passed (view w) file request none).spac
 destroy_unused : (w : World) (file : FileNo) (id : ObjId) → first_true (destroy_checks (view w) file id) ≡ None → is_used (view w) file id (kind_of w.objects file id) ≡ false
 destroy_unused w file id none = (destroy_passed (view w) file id none).unused
 
-attach_free : (w : World) (device : DeviceNo) (pt_id : ObjId) (object : Object) → binding_of w.objects device ≡ Some object → first_true (attach_checks (view w) device pt_id) ≡ None → AttachPassed (view w) device pt_id object
-attach_free w device pt_id object is none = attach_passed (view w) device pt_id object is none
-
 -- ---- each event
 
 keeps_owed : {A : Type 0} → (at : ℕ) (w : World) (e : Event A) (answer : Reply) → refusal w e ≡ None → Answers w e answer → have_own_ids w.objects ≡ true → IsOwed w → IsOwed (changed at w e answer)
-unfolding changed settle without_areas attached detached Answers
+unfolding changed settle without_areas attached detached joined Answers
 keeps_owed at w (event.IoasAlloc file) (reply.Id id) none answers own each =
     owed_object w.objects w.attachments w.areas (record { file = file; id = id; kind = kind.Ioas }) (unused w.objects file id answers) (λ ioas is. cc) each
 keeps_owed at w (event.Map file request) (reply.Iova iova) none answers own each = mapped (user_of w.settings file)
@@ -67,6 +63,18 @@ keeps_owed at w (event.Map file request) (reply.Iova iova) none answers own each
     mapped (Some user) = owed_area w.objects w.attachments w.areas (mapped_area at file request iova) refl (space_of w.objects file request.ioas (map_has_space w file request none)) each
 keeps_owed at w (event.Unmap file request) (reply.Bytes count) none answers own each = owed_fewer w.objects w.attachments w.areas (λ area. not (is_touched file request area)) each
 keeps_owed at w (event.Unmap file request) (reply.Pending errno) none answers own each = owed_leaving w.objects w.attachments w.areas file request each
+keeps_owed at w (event.HwptAlloc file request) (reply.Id id) none answers own each =
+    made (settings_under w.settings w.objects file request.device)
+  where
+    space : IsSpace w.objects file request.ioas
+    space = space_of w.objects file request.ioas (hwpt_passed (view w) file request none).space
+
+    made : (settings : Option DeviceSettings) → IsOwed (hwpt_changes w file request.ioas id settings)
+    made None = each
+    made (Some settings) =
+        owed_object w.objects w.attachments w.areas (made_hwpt file request.ioas id settings) (unused w.objects file id answers)
+        (λ over is. let same : request.ioas ≡ over = cc in rw (← same) space)
+        each
 keeps_owed at w (event.Destroy file id) reply.Done none answers own each = owed_destroyed w file id (destroy_unused w file id none) each
 keeps_owed at w (event.Close file) reply.Done none answers own each = owed_closed w.objects w.attachments w.areas file each
 keeps_owed at w (event.UserMap user va) (reply.Frame frame) none answers own each = each
@@ -75,6 +83,8 @@ keeps_owed at w (event.UserUnmap user va) reply.Done none answers own each = eac
 keeps_owed at w (event.UserWrite user va bytes) reply.Done none answers own each = each
 keeps_owed at w (event.Bind file device) (reply.Id id) none answers own each =
     owed_object w.objects w.attachments w.areas (record { file = file; id = id; kind = kind.Device device }) (unused w.objects file id answers) (λ ioas is. cc) each
+keeps_owed at w (event.Unbind file id) reply.Done none answers own each =
+    owed_unbound w.objects w.attachments w.areas file id each
 keeps_owed at w (event.Attach device pt_id) (reply.Id id) none answers own each = bound (binding_of w.objects device) refl (device_of w.settings device) answers
   where
     bound : (object : Option Object) → binding_of w.objects device ≡ object → (settings : Option DeviceSettings) → IsHwptOf w pt_id id object settings → IsOwed (attach_changes w device pt_id id object settings)
@@ -83,7 +93,16 @@ keeps_owed at w (event.Attach device pt_id) (reply.Id id) none answers own each 
     bound (Some object) is (Some settings) hwpt = by_kind (kind_of w.objects object.file pt_id) refl hwpt
       where
         by_kind : (k : Option ObjectKind) → kind_of w.objects object.file pt_id ≡ k → IsTarget w object.file pt_id id settings.width k → IsOwed (target_changes w device pt_id id object settings k)
-        by_kind (Some kind.Ioas) space made = owed_attached w device object.file pt_id id settings.width own (attach_free w device pt_id object is none).unattached space made each
+        by_kind (Some kind.Ioas) space made =
+            let automatic = automatic_hwpt w.objects object.file pt_id settings.width in
+            let table = is_made w object.file pt_id id settings.width automatic own refl made space each.spaces in
+            let objects = with_hwpt object.file pt_id id settings.width automatic w.objects in
+            let free = (attach_passed (view w) device pt_id object is space none).unattached in
+            owed_attached w.objects objects w.attachments w.areas device object.file pt_id id free table each
+        by_kind (Some (kind.Hwpt ioas width automatic)) named same =
+            let table = is_there w.objects object.file ioas id width automatic (rw same named) each.spaces in
+            let free = (join_passed (view w) device pt_id ioas width automatic object is named none).unattached in
+            owed_attached w.objects w.objects w.attachments w.areas device object.file ioas id free table each
         by_kind k space never = each
 keeps_owed at w (event.Detach device) reply.Done none answers own each = attached_or_not (attachment_of w.attachments device)
   where

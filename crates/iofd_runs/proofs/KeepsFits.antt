@@ -2,15 +2,16 @@
 use Rattle.std.proofs.Common.{◌≡◌, ℕ, ◌+◌, ◌<◌, ◌≤◌, ◌^◌, Bool, true, false, cond, ◌&&◌, not, eqb, ltb, is_some, Option, Some, None, List, [], ◌∷◌, refl, arith, ◌++◌, IsTrue}
 use Rattle.std.specs.List.{filter, list_all, find, filter_map, list_any}
 use Rattle.std.proofs.lemmas.Bool.Decides.{nat_tests}
-use Rattle.iofd_words.specs.After.{changed, map_changes, attach_changes, target_changes, detach_changes, settle, without_areas, attached, detached, mapped_area}
+use Rattle.iofd_words.specs.After.{changed, map_changes, attach_changes, target_changes, detach_changes, hwpt_changes, made_hwpt, settle, without_areas, attached, detached, joined, mapped_area}
 use Rattle.iofd_words.specs.Answers.{Answers, IsMappedAt}
+use Rattle.iofd_words.specs.Areas.{all_paid}
 use Rattle.iofd_words.specs.Attachments.{attachment_of, with_attachment}
-use Rattle.iofd_words.specs.Checks.{attach_checks, map_checks, refusal}
-use Rattle.iofd_words.specs.Files.{user_of, device_of}
+use Rattle.iofd_words.specs.Checks.{map_checks, refusal}
+use Rattle.iofd_words.specs.Files.{device_of, is_device, is_open, user_of}
 use Rattle.iofd_runs.specs.Fits.{RowsFit, begins_at_page, devices_rise, is_of_pages}
 use Rattle.iofd_words.specs.FirstTrue.{first_true}
 use Rattle.iofd_words.specs.Frames.{frame_at, is_free}
-use Rattle.iofd_words.specs.Objects.{automatic_hwpt, binding_of, kind_of}
+use Rattle.iofd_words.specs.Objects.{automatic_hwpt, binding_of, kind_of, settings_under}
 use Rattle.iofd_words.specs.Pages.{is_above_user, page_of}
 use Rattle.iofd_words.specs.Pins.{ObjectPage, frame_now, is_page, pin_now, settled}
 use Rattle.iofd_words.specs.Rights.{is_fixed}
@@ -22,11 +23,9 @@ use Rattle.iofd_words.specs.World.{World}
 use Rattle.iofd_words.specs.declared.event.Event.{Event}
 use Rattle.iofd_words.specs.declared.event.Event.TheVariants as event
 use Rattle.iofd_words.specs.declared.event.MapRequest.{MapRequest}
-use Rattle.iofd_words.specs.declared.numbers.DeviceNo.{DeviceNo}
 use Rattle.iofd_words.specs.declared.numbers.FileNo.{FileNo}
 use Rattle.iofd_words.specs.declared.numbers.FrameNo.{FrameNo}
 use Rattle.iofd_words.specs.declared.numbers.Iova.{Iova}
-use Rattle.iofd_words.specs.declared.numbers.ObjId.{ObjId}
 use Rattle.iofd_words.specs.declared.numbers.UserNo.{UserNo}
 use Rattle.iofd_words.specs.declared.reply.Reply.{Reply}
 use Rattle.iofd_words.specs.declared.reply.Reply.TheVariants as reply
@@ -43,7 +42,7 @@ use Rattle.iofd_rows.proofs.Found.{all_filter, all_map, found_passes}
 use Rattle.iofd_rows.proofs.OwnMemory.{all-with_area}
 use Rattle.iofd_runs.proofs.Known.{alloc_open, attached_one, bind_device, bind_open, bound_known, is_known, known_closed, known_hwpt, known_one}
 use Rattle.iofd_runs.proofs.MappedAt.{lies_at}
-use Rattle.iofd_runs.proofs.NotRefused.{attach_passed, map_passed}
+use Rattle.iofd_runs.proofs.NotRefused.{attach_passed, hwpt_passed, join_passed, map_passed}
 
 -- ---- a span of a length has that many numbers
 
@@ -108,9 +107,6 @@ rise-filter p (a ∷ attachments) rise =
     kept true first rest = both_true _ _ first rest
     kept false first rest = rest
 
-attach_free : (w : World) (device : DeviceNo) (object : Object) (ioas : ObjId) → binding_of w.objects device ≡ Some object → first_true (attach_checks (view w) device ioas) ≡ None → is_some (attachment_of w.attachments device) ≡ false
-attach_free w device object ioas is none = (attach_passed (view w) device ioas object is none).unattached
-
 -- ---- frames of the pool
 
 all_both : {X : Type 0} (p : X → Bool) (xs ys : List X) → list_all p xs ≡ true → list_all p ys ≡ true → list_all p (xs ++ ys) ≡ true
@@ -160,7 +156,7 @@ free_below pool pages pins tables frame free = (and_true (ltb frame pool) _ free
 -- ---- each event
 
 pub keeps_fit : {A : Type 0} → (at : ℕ) (w : World) (e : Event A) (answer : Reply) → refusal w e ≡ None → Answers w e answer → RowsFit w → RowsFit (changed at w e answer)
-unfolding changed settle without_areas attached detached Answers
+unfolding changed settle without_areas attached detached joined Answers
 keeps_fit at w (event.IoasAlloc file) (reply.Id id) none answers fits = record { pages = fits.pages; starts = fits.starts; rise = fits.rise; user_frames = fits.user_frames; pin_frames = fits.pin_frames; known = known_one (is_known w.settings w.closed) (record { file = file; id = id; kind = kind.Ioas }) w.objects (both_true _ _ (alloc_open w file none) refl) fits.known; attached = fits.attached }
 keeps_fit at w (event.Map file request) (reply.Iova iova) none answers fits = mapped (user_of w.settings file)
   where
@@ -169,6 +165,22 @@ keeps_fit at w (event.Map file request) (reply.Iova iova) none answers fits = ma
     mapped (Some user) = record { pages = all-with_area is_of_pages (mapped_area at file request iova) w.areas (mapped_pages at w file request iova none) fits.pages; starts = all-with_area begins_at_page (mapped_area at file request iova) w.areas (mapped_start at w file request iova answers none) fits.starts; rise = fits.rise; user_frames = fits.user_frames; pin_frames = settled_below w.settings.pool _ w.user_pages fits.user_frames _ _ w.pins fits.pin_frames; known = fits.known; attached = fits.attached }
 keeps_fit at w (event.Unmap file request) (reply.Bytes count) none answers fits = record { pages = all_filter is_of_pages _ w.areas fits.pages; starts = all_filter begins_at_page _ w.areas fits.starts; rise = fits.rise; user_frames = fits.user_frames; pin_frames = settled_below w.settings.pool _ w.user_pages fits.user_frames _ _ w.pins fits.pin_frames; known = fits.known; attached = fits.attached }
 keeps_fit at w (event.Unmap file request) (reply.Pending errno) none answers fits = record { pages = all_map is_of_pages is_of_pages _ w.areas (λ area is. is) fits.pages; starts = all_map begins_at_page begins_at_page _ w.areas (λ area is. is) fits.starts; rise = fits.rise; user_frames = fits.user_frames; pin_frames = fits.pin_frames; known = fits.known; attached = fits.attached }
+keeps_fit at w (event.HwptAlloc file request) (reply.Id id) none answers fits =
+    made (settings_under w.settings w.objects file request.device)
+  where
+    made : (settings : Option DeviceSettings) → RowsFit (hwpt_changes w file request.ioas id settings)
+    made None = fits
+    made (Some settings) =
+        let opened = (hwpt_passed (view w) file request none).opened in
+        record {
+          pages = fits.pages;
+          starts = fits.starts;
+          rise = fits.rise;
+          user_frames = fits.user_frames;
+          pin_frames = settled_below w.settings.pool _ w.user_pages fits.user_frames _ _ w.pins fits.pin_frames;
+          known = known_one (is_known w.settings w.closed) (made_hwpt file request.ioas id settings) w.objects (both_true _ _ opened refl) fits.known;
+          attached = fits.attached;
+        }
 keeps_fit at w (event.Destroy file id) reply.Done none answers fits = record { pages = all_filter is_of_pages _ w.areas fits.pages; starts = all_filter begins_at_page _ w.areas fits.starts; rise = fits.rise; user_frames = fits.user_frames; pin_frames = settled_below w.settings.pool _ w.user_pages fits.user_frames _ _ w.pins fits.pin_frames; known = all_filter (is_known w.settings w.closed) _ w.objects fits.known; attached = fits.attached }
 keeps_fit at w (event.Close file) reply.Done none answers fits = record { pages = all_filter is_of_pages _ w.areas fits.pages; starts = all_filter begins_at_page _ w.areas fits.starts; rise = rise-filter _ w.attachments fits.rise; user_frames = fits.user_frames; pin_frames = settled_below w.settings.pool _ w.user_pages fits.user_frames _ _ w.pins fits.pin_frames; known = known_closed w.settings w.closed file w.objects fits.known; attached = all_filter _ _ w.attachments fits.attached }
 keeps_fit at w (event.UserMap user va) (reply.Frame frame) none answers fits =
@@ -204,18 +216,56 @@ keeps_fit at w (event.UserWrite user va bytes) reply.Done none answers fits =
       attached = fits.attached;
     }
 keeps_fit at w (event.Bind file device) (reply.Id id) none answers fits = record { pages = fits.pages; starts = fits.starts; rise = fits.rise; user_frames = fits.user_frames; pin_frames = fits.pin_frames; known = known_one (is_known w.settings w.closed) (record { file = file; id = id; kind = kind.Device device }) w.objects (both_true _ _ (bind_open w file device none) (bind_device w file device none)) fits.known; attached = fits.attached }
+keeps_fit at w (event.Unbind file id) reply.Done none answers fits =
+    record {
+      pages = fits.pages;
+      starts = fits.starts;
+      rise = fits.rise;
+      user_frames = fits.user_frames;
+      pin_frames = fits.pin_frames;
+      known = all_filter (is_known w.settings w.closed) _ w.objects fits.known;
+      attached = fits.attached;
+    }
 keeps_fit at w (event.Attach device pt_id) (reply.Id id) none answers fits = bound (binding_of w.objects device) refl (device_of w.settings device)
   where
     bound : (object : Option Object) → binding_of w.objects device ≡ object → (settings : Option DeviceSettings) → RowsFit (attach_changes w device pt_id id object settings)
     bound None is settings = fits
     bound (Some object) is None = fits
-    bound (Some object) is (Some settings) = by_kind (kind_of w.objects object.file pt_id)
+    bound (Some object) is (Some settings) = by_kind (kind_of w.objects object.file pt_id) refl
       where
-        by_kind : (k : Option ObjectKind) → RowsFit (target_changes w device pt_id id object settings k)
-        by_kind (Some kind.Ioas) =
-            let here = bound_known w.settings w.closed w.objects device object fits.known is in
-            record { pages = all_map is_of_pages is_of_pages _ w.areas (λ area is. is) fits.pages; starts = all_map begins_at_page begins_at_page _ w.areas (λ area is. is) fits.starts; rise = rise-with_attachment (record { device = device; file = object.file; hwpt = id }) w.attachments (attach_free w device object pt_id is none) fits.rise; user_frames = fits.user_frames; pin_frames = settled_below w.settings.pool _ w.user_pages fits.user_frames _ _ w.pins fits.pin_frames; known = known_hwpt w.settings w.closed object.file pt_id id settings.width (automatic_hwpt w.objects object.file pt_id settings.width) w.objects here.0 fits.known; attached = attached_one w.settings (record { device = device; file = object.file; hwpt = id }) w.attachments here.1 fits.attached }
-        by_kind k = fits
+        here : (is_open w.settings w.closed object.file ≡ true) × (is_device w.settings device ≡ true)
+        here = bound_known w.settings w.closed w.objects device object fits.known is
+
+        attachment : Attachment
+        attachment = record { device = device; file = object.file; hwpt = id }
+
+        -- with the attachment, and with pages pinned for it or not
+        fit : (objects : List Object) (pins : List Pin) → is_some (attachment_of w.attachments device) ≡ false
+            → list_all (is_known w.settings w.closed) objects ≡ true
+            → list_all (λ (pin : Pin). ltb pin.frame.0 w.settings.pool) pins ≡ true
+            → RowsFit (record w { objects = objects; attachments = with_attachment attachment w.attachments; areas = all_paid device w.areas; pins = pins })
+        fit objects pins free known below =
+            record {
+              pages = all_map is_of_pages is_of_pages _ w.areas (λ area is. is) fits.pages;
+              starts = all_map begins_at_page begins_at_page _ w.areas (λ area is. is) fits.starts;
+              rise = rise-with_attachment attachment w.attachments free fits.rise;
+              user_frames = fits.user_frames;
+              pin_frames = below;
+              known = known;
+              attached = attached_one w.settings attachment w.attachments here.1 fits.attached;
+            }
+
+        by_kind : (k : Option ObjectKind) → kind_of w.objects object.file pt_id ≡ k
+            → RowsFit (target_changes w device pt_id id object settings k)
+        by_kind (Some kind.Ioas) named =
+            let automatic = automatic_hwpt w.objects object.file pt_id settings.width in
+            fit _ _ (attach_passed (view w) device pt_id object is named none).unattached
+            (known_hwpt w.settings w.closed object.file pt_id id settings.width automatic w.objects here.0 fits.known)
+            (settled_below w.settings.pool _ w.user_pages fits.user_frames _ _ w.pins fits.pin_frames)
+        by_kind (Some (kind.Hwpt ioas width automatic)) named =
+            let free = (join_passed (view w) device pt_id ioas width automatic object is named none).unattached in
+            fit w.objects w.pins free fits.known fits.pin_frames
+        by_kind k named = fits
 keeps_fit at w (event.Detach device) reply.Done none answers fits = attached_or_not (attachment_of w.attachments device)
   where
     attached_or_not : (a : Option Attachment) → RowsFit (detach_changes w device a)

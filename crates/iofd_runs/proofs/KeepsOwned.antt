@@ -4,13 +4,13 @@ use Rattle.std.specs.List.{filter, list_all, list_any}
 use Rattle.std.proofs.lemmas.Bool.{eqb-true}
 use Rattle.std.proofs.lemmas.Bool.Decides.{nat_tests}
 use Rattle.std.proofs.lemmas.List.Folds.{list_all-append}
-use Rattle.iofd_words.specs.After.{changed, map_changes, attach_changes, target_changes, detach_changes, settle, without_areas, attached, detached, mapped_area, memory_object}
+use Rattle.iofd_words.specs.After.{changed, map_changes, hwpt_changes, attach_changes, target_changes, detach_changes, settle, without_areas, attached, detached, joined, mapped_area, memory_object}
 use Rattle.iofd_words.specs.Answers.{Answers}
 use Rattle.iofd_words.specs.Areas.{areas_of, is_of}
 use Rattle.iofd_words.specs.Attachments.{attachment_of}
 use Rattle.iofd_words.specs.Checks.{refusal}
 use Rattle.iofd_words.specs.Files.{user_of, device_of, numbered}
-use Rattle.iofd_words.specs.Objects.{binding_of, kind_of}
+use Rattle.iofd_words.specs.Objects.{binding_of, kind_of, settings_under}
 use Rattle.iofd_words.specs.Settings.{DeviceSettings, Settings}
 use Rattle.iofd_words.specs.Tables.{with_tables}
 use Rattle.iofd_words.specs.World.{World, opening}
@@ -79,7 +79,7 @@ fewer_owned settings q memory areas owned =
 -- ---- each event
 
 pub keeps_owned : {A : Type 0} → (at : ℕ) (w : World) (e : Event A) (answer : Reply) → ArePinned at w → AreasOwned w → AreasOwned (changed at w e answer)
-unfolding changed settle without_areas attached detached
+unfolding changed settle without_areas attached detached joined
 keeps_owned at w (event.IoasAlloc file) (reply.Id id) p o = record { owned = o.owned }
 keeps_owned at w (event.Map file request) (reply.Iova iova) p o = mapped (user_of w.settings file) refl
   where
@@ -94,6 +94,11 @@ keeps_owned at w (event.Map file request) (reply.Iova iova) p o = mapped (user_o
         }
 keeps_owned at w (event.Unmap file request) (reply.Bytes count) p o = record { owned = all_filter (is_over_own w.settings _) _ w.areas (fewer_owned w.settings _ w.memory w.areas o.owned) }
 keeps_owned at w (event.Unmap file request) (reply.Pending errno) p o = record { owned = all_map (is_over_own w.settings w.memory) (is_over_own w.settings w.memory) _ w.areas (λ a is. is) o.owned }
+keeps_owned at w (event.HwptAlloc file request) (reply.Id id) p o = made (settings_under w.settings w.objects file request.device)
+  where
+    made : (settings : Option DeviceSettings) → AreasOwned (hwpt_changes w file request.ioas id settings)
+    made None = o
+    made (Some settings) = record { owned = o.owned }
 keeps_owned at w (event.Destroy file id) reply.Done p o = record { owned = all_filter (is_over_own w.settings _) _ w.areas (fewer_owned w.settings _ w.memory w.areas o.owned) }
 keeps_owned at w (event.Close file) reply.Done p o = record { owned = all_filter (is_over_own w.settings _) _ w.areas (fewer_owned w.settings _ w.memory w.areas o.owned) }
 keeps_owned at w (event.UserMap user va) (reply.Frame frame) p o = record { owned = o.owned }
@@ -101,6 +106,7 @@ keeps_owned at w (event.AllowIovas file ioas ranges) reply.Done p o = record { o
 keeps_owned at w (event.UserUnmap user va) reply.Done p o = record { owned = o.owned }
 keeps_owned at w (event.UserWrite user va bytes) reply.Done p o = record { owned = o.owned }
 keeps_owned at w (event.Bind file device) (reply.Id id) p o = record { owned = o.owned }
+keeps_owned at w (event.Unbind file id) reply.Done p o = record { owned = o.owned }
 keeps_owned at w (event.Attach device pt_id) (reply.Id id) p o = bound (binding_of w.objects device) (device_of w.settings device)
   where
     bound : (object : Option Object) (settings : Option DeviceSettings) → AreasOwned (attach_changes w device pt_id id object settings)
@@ -110,6 +116,7 @@ keeps_owned at w (event.Attach device pt_id) (reply.Id id) p o = bound (binding_
       where
         by_kind : (k : Option ObjectKind) → AreasOwned (target_changes w device pt_id id object settings k)
         by_kind (Some kind.Ioas) = record { owned = all_map (is_over_own w.settings w.memory) (is_over_own w.settings w.memory) _ w.areas (λ a is. is) o.owned }
+        by_kind (Some (kind.Hwpt ioas width automatic)) = record { owned = all_map (is_over_own w.settings w.memory) (is_over_own w.settings w.memory) _ w.areas (λ a is. is) o.owned }
         by_kind k = o
 keeps_owned at w (event.Detach device) reply.Done p o = attached_or_not (attachment_of w.attachments device)
   where

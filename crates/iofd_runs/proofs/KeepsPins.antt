@@ -5,16 +5,16 @@ use Rattle.std.proofs.Math.Nat.{div-add-mod}
 use Rattle.std.specs.List.{filter, list_all, list_any}
 use Rattle.std.proofs.lemmas.Bool.Decides.{nat_tests}
 use Rattle.std.proofs.lemmas.List.Folds.{list_all-append, list_any-append}
-use Rattle.iofd_words.specs.After.{changed, map_changes, attach_changes, target_changes, detach_changes, settle, without_areas, attached, detached, goes_with, mapped_area, memory_object}
+use Rattle.iofd_words.specs.After.{changed, map_changes, hwpt_changes, attach_changes, target_changes, detach_changes, settle, without_areas, attached, detached, joined, goes_with, mapped_area, memory_object}
 use Rattle.iofd_words.specs.Allowed.{AllowedRanges}
 use Rattle.iofd_words.specs.Answers.{Answers}
 use Rattle.iofd_words.specs.Areas.{is_of, is_touched, paid, with_area, with_phase}
 use Rattle.iofd_words.specs.Attachments.{attachment_of, without_attachment}
-use Rattle.iofd_words.specs.Checks.{map_checks, refusal}
+use Rattle.iofd_words.specs.Checks.{lacks_attached_page, map_checks, refusal}
 use Rattle.iofd_words.specs.Files.{user_of, device_of}
 use Rattle.iofd_words.specs.FirstTrue.{first_true}
 use Rattle.iofd_words.specs.Frames.{FrameWrite}
-use Rattle.iofd_words.specs.Objects.{automatic_hwpt, binding_of, has_hwpt, is_object, kind_of, with_object, without_object}
+use Rattle.iofd_words.specs.Objects.{automatic_hwpt, binding_of, has_hwpt, is_object, kind_of, settings_under, with_object, without_device_object, without_object}
 use Rattle.iofd_rows.specs.Pinned.{ArePinned, has_object, have_own_numbers}
 use Rattle.iofd_words.specs.Pins.{ObjectPage, are_present, frame_now, is_page, is_translated, page_of_pin, pinned_frame, pinned_pages}
 use Rattle.iofd_words.specs.Settings.{DeviceSettings, Settings}
@@ -41,18 +41,19 @@ use Rattle.iofd_words.specs.declared.rows.ObjectKind.TheVariants as kind
 use Rattle.iofd_words.specs.declared.rows.Phase.{Phase}
 use Rattle.iofd_words.specs.declared.rows.Pin.{Pin}
 use Rattle.iofd_words.specs.declared.rows.UserPage.{UserPage}
-use Rattle.iofd_runs.proofs.AttachedPages.{IsNew, attached_present, none_new}
+use Rattle.iofd_words.specs.declared.width.Width.{Width}
+use Rattle.iofd_runs.proofs.AttachedPages.{IsNew, attached_present, none_new, table_present, with_table}
 use Rattle.iofd_rows.proofs.Bools.{and_rest, and_true, both_true, clash, not_false, not_true}
 use Rattle.iofd_rows.proofs.Each.{IsIn, in_filter, of_all, of_any, of_each}
 use Rattle.iofd_rows.proofs.Found.{all_filter, all_map, all_weaker}
 use Rattle.iofd_rows.proofs.ListTests.{any-filter, any_weaker, false_else, none_stronger, or_right}
 use Rattle.iofd_runs.proofs.MappedPages.{mapped_present}
-use Rattle.iofd_runs.proofs.NotRefused.{MapPassed, map_passed}
+use Rattle.iofd_runs.proofs.NotRefused.{MapPassed, hwpt_passed, map_passed}
 use Rattle.iofd_rows.proofs.ObjectPages.{in_pinned, is_listed, listed_fewer, pinned_differ, translated-map, translated_fewer}
 use Rattle.iofd_rows.proofs.OnePin.{settled_once}
 use Rattle.iofd_rows.proofs.OwnMemory.{all-with_area, areas-filter, areas-map, areas-with_area, have_areas}
 use Rattle.iofd_rows.proofs.PageLists.{all_pages, at_page, kept_page}
-use Rattle.iofd_rows.proofs.PageTables.{hwpt-filter, same_hwpt}
+use Rattle.iofd_rows.proofs.PageTables.{hwpt-filter, hwpt-unbound, same_hwpt}
 use Rattle.iofd_rows.proofs.PinsFollow.{settled_only, settled_pinned}
 
 pub opening_pinned : (settings : Settings) → ArePinned 0 (opening settings)
@@ -274,24 +275,42 @@ gone_pinned at w goes left attachments allowed closed fewer p =
         let parts = in_filter (λ (a : Area). not (goes a)) w.areas a among in
         object_left a parts.0 parts.1 (of_each (has_object w.memory) w.areas a p.sizes parts.0))
 
--- page tables come or go with a device: what is to be pinned then, and wasn't, is new
-pub moved_new : (w : World) (phase : Area → Phase) (left : List Object) (page : ObjectPage) → list_any (is_page page) (pinned_pages left (map (λ (a : Area). with_phase (phase a) a) w.areas) w.memory w.access_pins) ≡ true → list_any (is_page page) (pages_in w) ≡ false → IsNew w left page
-moved_new w phase left page within before =
-    let now = and_true (is_listed w.memory page) (is_translated left (map (λ (a : Area). with_phase (phase a) a) w.areas) page.memory) (sym (in_pinned left (map (λ (a : Area). with_phase (phase a) a) w.areas) w.memory w.access_pins page) ∙ within) in
-    let old = and_rest (is_listed w.memory page) (is_translated w.objects w.areas page.memory) now.0 (sym (in_pinned w.objects w.areas w.memory w.access_pins page) ∙ before) in
-    (now.0, sym (translated-map left phase w.areas page.memory) ∙ now.1, old)
+-- areas that page tables translate as they do the world's
+abbrev pub AlikeAreas : World → List Area → Type 0
+AlikeAreas w areas = (objects : List Object) (number : ℕ) → is_translated objects areas number ≡ is_translated objects w.areas number
 
+-- page tables come or go: what is to be pinned then, and wasn't, is new
+pub moved_new : (w : World) (areas : List Area) (left : List Object) (page : ObjectPage) → AlikeAreas w areas → list_any (is_page page) (pinned_pages left areas w.memory w.access_pins) ≡ true → list_any (is_page page) (pages_in w) ≡ false → IsNew w left page
+moved_new w areas left page alike within before =
+    let now = and_true (is_listed w.memory page) (is_translated left areas page.memory) (sym (in_pinned left areas w.memory w.access_pins page) ∙ within) in
+    let old = and_rest (is_listed w.memory page) (is_translated w.objects w.areas page.memory) now.0 (sym (in_pinned w.objects w.areas w.memory w.access_pins page) ∙ before) in
+    (now.0, sym (alike left page.memory) ∙ now.1, old)
+
+tables_pinned : (at : ℕ) (w : World) (areas : List Area) (left : List Object) (attachments : List Attachment) → AlikeAreas w areas → list_all (has_object w.memory) areas ≡ true → have_areas areas w.memory ≡ true
+    → ((page : ObjectPage) → IsNew w left page → is_some (frame_now w.memory w.user_pages page) ≡ true) → ArePinned at w → ArePinned (at + 1) (settle w (record w { objects = left; attachments = attachments; areas = areas }))
+tables_pinned at w areas left attachments alike sizes used present p =
+    let q = later_pinned at w p in
+    settle_pinned at w (record w { objects = left; attachments = attachments; areas = areas }) p
+    (record { numbers = q.numbers; made = q.made; sizes = sizes; used = used })
+    (λ page within before. present page (moved_new w areas left page alike within before))
+
+-- a page table comes over an address space: the pages that it adds are there
+pub table_pinned : (at : ℕ) (w : World) (file : FileNo) (ioas id : ObjId) (width : Width) (automatic : Bool) → lacks_attached_page (view w) file ioas ≡ false → ArePinned at w
+    → ArePinned (at + 1) (settle w (record w { objects = with_table file ioas id width automatic w.objects }))
+table_pinned at w file ioas id width automatic lacks p =
+    tables_pinned at w w.areas (with_table file ioas id width automatic w.objects) w.attachments (λ objects number. refl) p.sizes p.used
+    (λ page new. table_present at w file ioas id width automatic page p lacks new) p
+
+-- with a device
 moved_pinned : (at : ℕ) (w : World) (phase : Area → Phase) (left : List Object) (attachments : List Attachment) → ((page : ObjectPage) → IsNew w left page → is_some (frame_now w.memory w.user_pages page) ≡ true) → ArePinned at w → ArePinned (at + 1) (settle w (record w { objects = left; attachments = attachments; areas = map (λ (a : Area). with_phase (phase a) a) w.areas }))
 moved_pinned at w phase left attachments present p =
-    let q = other_phases at w phase p in
-    settle_pinned at w (record w { objects = left; attachments = attachments; areas = map (λ (a : Area). with_phase (phase a) a) w.areas }) p
-    (record { numbers = q.numbers; made = q.made; sizes = q.sizes; used = q.used })
-    (λ page within before. present page (moved_new w phase left page within before))
+    let areas : List Area = map (λ (a : Area). with_phase (phase a) a) w.areas in
+    tables_pinned at w areas left attachments (λ objects number. translated-map objects phase w.areas number) (sizes-map w.memory phase w.areas p.sizes) (areas-map phase w.areas w.memory p.used) present p
 
 -- ---- each event
 
 pub keeps_pins : {A : Type 0} → (at : ℕ) (w : World) (e : Event A) (answer : Reply) → refusal w e ≡ None → Answers w e answer → ArePinned at w → ArePinned (at + 1) (changed at w e answer)
-unfolding changed without_areas attached detached Answers
+unfolding changed without_areas attached detached joined Answers
 keeps_pins at w (event.IoasAlloc file) (reply.Id id) none answers p =
     let object : Object = record { file = file; id = id; kind = kind.Ioas } in
     same_tables at w (with_object object w.objects) (λ own ioas. same_hwpt object w.objects own ioas refl) p
@@ -303,6 +322,11 @@ keeps_pins at w (event.Map file request) (reply.Iova iova) none answers p = mapp
 keeps_pins at w (event.Unmap file request) (reply.Bytes count) none answers p =
     gone_pinned at w (is_touched file request) w.objects w.attachments w.allowed w.closed (λ own ioas has. has) p
 keeps_pins at w (event.Unmap file request) (reply.Pending errno) none answers p = other_phases at w _ p
+keeps_pins at w (event.HwptAlloc file request) (reply.Id id) none answers p = made (settings_under w.settings w.objects file request.device)
+  where
+    made : (settings : Option DeviceSettings) → ArePinned (at + 1) (hwpt_changes w file request.ioas id settings)
+    made None = later_pinned at w p
+    made (Some settings) = table_pinned at w file request.ioas id settings.width false (hwpt_passed (view w) file request none).present p
 keeps_pins at w (event.Destroy file id) reply.Done none answers p =
     gone_pinned at w (is_of file id) (without_object file id w.objects) w.attachments _ w.closed (λ own ioas has. hwpt-filter (λ o. not (is_object file id o)) w.objects own ioas has) p
 keeps_pins at w (event.Close file) reply.Done none answers p =
@@ -316,17 +340,21 @@ keeps_pins at w (event.UserWrite user va bytes) reply.Done none answers p = same
 keeps_pins at w (event.Bind file device) (reply.Id id) none answers p =
     let object : Object = record { file = file; id = id; kind = kind.Device device } in
     same_tables at w (with_object object w.objects) (λ own ioas. same_hwpt object w.objects own ioas refl) p
+keeps_pins at w (event.Unbind file id) reply.Done none answers p = same_tables at w (without_device_object file id w.objects) (hwpt-unbound w.objects file id) p
 keeps_pins at w (event.Attach device pt_id) (reply.Id id) none answers p = bound (binding_of w.objects device) refl (device_of w.settings device)
   where
     bound : (object : Option Object) → binding_of w.objects device ≡ object → (settings : Option DeviceSettings) → ArePinned (at + 1) (attach_changes w device pt_id id object settings)
     bound None is settings = later_pinned at w p
     bound (Some object) is None = later_pinned at w p
-    bound (Some object) is (Some settings) = by_kind (kind_of w.objects object.file pt_id)
+    bound (Some object) is (Some settings) = by_kind (kind_of w.objects object.file pt_id) refl
       where
-        by_kind : (k : Option ObjectKind) → ArePinned (at + 1) (target_changes w device pt_id id object settings k)
-        by_kind (Some kind.Ioas) =
-            moved_pinned at w (λ a. paid device a.phase) _ _ (λ page new. attached_present at w device pt_id id object settings.width (automatic_hwpt w.objects object.file pt_id settings.width) page p none is new) p
-        by_kind k = later_pinned at w p
+        by_kind : (k : Option ObjectKind) → kind_of w.objects object.file pt_id ≡ k → ArePinned (at + 1) (target_changes w device pt_id id object settings k)
+        by_kind (Some kind.Ioas) space =
+            moved_pinned at w (λ a. paid device a.phase) _ _ (λ page new. attached_present at w device pt_id id object settings.width (automatic_hwpt w.objects object.file pt_id settings.width) page p none is space new) p
+        by_kind (Some (kind.Hwpt ioas width automatic)) table =
+            let r = other_phases at w (λ a. paid device a.phase) p in
+            record { numbers = r.numbers; made = r.made; sizes = r.sizes; used = r.used; pinned = r.pinned; only = r.only; once = r.once }
+        by_kind k other = later_pinned at w p
 keeps_pins at w (event.Detach device) reply.Done none answers p = attached_or_not (attachment_of w.attachments device)
   where
     attached_or_not : (a : Option Attachment) → ArePinned (at + 1) (detach_changes w device a)

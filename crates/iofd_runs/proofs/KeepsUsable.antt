@@ -2,22 +2,22 @@
 use Rattle.std.proofs.Common.{◌≡◌, ℕ, Bool, true, false, cond, ◌&&◌, ◌||◌, not, eqb, Option, Some, None, List, [], ◌∷◌, ◌++◌, map, refl, ap, sym, subst, ◌∙◌, ⊎_elim, arith}
 use Rattle.std.proofs.lemmas.Bool.{eqb-true}
 use Rattle.std.proofs.lemmas.Bool.Decides.{nat_tests}
-use Rattle.std.specs.List.{filter, list_any}
+use Rattle.std.specs.List.{filter, list_all, list_any}
 use Rattle.std.proofs.lemmas.List.Folds.{list_any-append}
-use Rattle.iofd_words.specs.After.{changed, map_changes, attach_changes, target_changes, detach_changes, settle, without_areas, attached, detached, mapped_area, with_hwpt}
+use Rattle.iofd_words.specs.After.{changed, map_changes, attach_changes, target_changes, detach_changes, hwpt_changes, made_hwpt, settle, without_areas, attached, detached, joined, mapped_area, with_hwpt}
 use Rattle.iofd_words.specs.Allowed.{allowed_of, with_allowed}
-use Rattle.iofd_words.specs.Answers.{Answers, IsHwptOf, IsTarget}
+use Rattle.iofd_words.specs.Answers.{Answers, IsHwptFor, IsHwptOf, IsTarget}
 use Rattle.iofd_words.specs.Areas.{areas_of, is_of}
 use Rattle.iofd_words.specs.Attachments.{attachment_of, is_attached_to, with_attachment, without_attachment}
 use Rattle.iofd_words.specs.Bounds.{Bounds}
-use Rattle.iofd_words.specs.Checks.{narrows, refusal, unusable_in}
+use Rattle.iofd_words.specs.Checks.{narrows, narrows_by_width, narrows_without, refusal, unusable_in}
 use Rattle.iofd_words.specs.Files.{device_of, user_of}
-use Rattle.iofd_words.specs.Objects.{automatic_hwpt, binding_of, is_hwpt_over, kind_of, with_object}
+use Rattle.iofd_words.specs.Objects.{automatic_hwpt, binding_of, is_hwpt_over, is_object, kind_of, settings_under, with_object}
 use Rattle.iofd_words.specs.Ranges.{meets_some}
 use Rattle.iofd_words.specs.Settings.{DeviceSettings, Settings}
 use Rattle.iofd_words.specs.Span.{meets}
 use Rattle.iofd_words.specs.Tables.{with_tables}
-use Rattle.iofd_words.specs.Usable.{beyond, reserved_by, reserved_of, unusable}
+use Rattle.iofd_words.specs.Usable.{beyond, beyond_table, reserved_by, reserved_of, unusable}
 use Rattle.iofd_words.specs.View.{view}
 use Rattle.iofd_words.specs.World.{World, opening}
 use Rattle.iofd_words.specs.declared.event.Event.{Event}
@@ -34,21 +34,22 @@ use Rattle.iofd_words.specs.declared.rows.Attachment.{Attachment}
 use Rattle.iofd_words.specs.declared.rows.Object.{Object}
 use Rattle.iofd_words.specs.declared.rows.ObjectKind.{ObjectKind}
 use Rattle.iofd_words.specs.declared.rows.ObjectKind.TheVariants as kind
+use Rattle.iofd_words.specs.declared.width.Width.{Width}
 use Rattle.iofd_rows.proofs.Allowed.{allowed_closed, allowed_with, allowed_without, is_of_space, spans_clear}
-use Rattle.iofd_rows.proofs.Bools.{and_true, both_false, both_true, clash, not_false, not_true, or_false}
-use Rattle.iofd_rows.proofs.Each.{IsIn, in_filter, in_with_attachment, in_with_object, of_all, of_any, of_each}
+use Rattle.iofd_rows.proofs.Bools.{and_rest, and_true, both_false, both_true, clash, not_false, not_true, or_false}
+use Rattle.iofd_rows.proofs.Each.{IsIn, in_filter, in_with_attachment, in_with_object, of_all, of_each}
 use Rattle.iofd_rows.proofs.Found.{all_filter, all_map, all_weaker}
-use Rattle.iofd_rows.proofs.ListTests.{any-filter, false_else}
+use Rattle.iofd_rows.proofs.ListTests.{any-filter}
 use Rattle.iofd_rows.proofs.Moves.{KindsStay}
 use Rattle.iofd_rows.proofs.Named.{kind_before}
 use Rattle.iofd_rows.proofs.Owed.{EachOwed, HasTable, each_owed}
 use Rattle.iofd_rows.proofs.OwnMemory.{all-with_area}
-use Rattle.iofd_rows.proofs.Unusable.{attached_of, usable_left, usable_still}
+use Rattle.iofd_rows.proofs.Unusable.{attached_of, each_not, none_of, usable_left, usable_still}
 use Rattle.iofd_rows.specs.Reached.{ends_in, keeps_of}
 use Rattle.iofd_runs.proofs.AttachMoves.{IsMade, is_made}
 use Rattle.iofd_runs.proofs.KeepsDebts.{IsSound, keeps_sound, tabled_sound}
 use Rattle.iofd_runs.proofs.MappedAt.{lies_at}
-use Rattle.iofd_runs.proofs.NotRefused.{allow_passed, attach_passed}
+use Rattle.iofd_runs.proofs.NotRefused.{allow_passed, attach_passed, hwpt_passed, join_passed}
 use Rattle.iofd_runs.proofs.OwnIds.{unused}
 use Rattle.iofd_runs.specs.InUsable.{AreasUsable, is_in_usable}
 
@@ -59,14 +60,17 @@ attached_before objects new file ioas a stay has is =
     let now = stay a.file a.hwpt (kind.Hwpt has.ioas has.width has.automatic) has.table in
     attached_of file ioas a (kind_of new a.file a.hwpt) (kind_of objects a.file a.hwpt) (now ∙ sym has.table) is
 
--- ---- an object comes that is no page table
+-- ---- an object comes
 
-usable_object : (w : World) (object : Object) (file : FileNo) (ioas : ObjId) (span : Bounds) → EachOwed w.objects w.attachments w.areas → list_any (λ (o : Object). eqb o.file.0 object.file.0 && eqb o.id.0 object.id.0) w.objects ≡ false → is_hwpt_over ioas object.kind ≡ false
+-- no page table over the address space that ends in the span
+usable_object : (w : World) (object : Object) (file : FileNo) (ioas : ObjId) (span : Bounds)
+    → EachOwed w.objects w.attachments w.areas → list_any (is_object object.file object.id) w.objects ≡ false
+    → ends_in file ioas span object ≡ false
     → meets_some (unusable w.settings w.objects w.attachments file ioas) span ≡ false → meets_some (unusable w.settings (with_object object w.objects) w.attachments file ioas) span ≡ false
-usable_object w object file ioas span each free other clear =
+usable_object w object file ioas span each free reaches clear =
     usable_still w.settings w.objects (with_object object w.objects) w.attachments w.attachments file ioas span
     (λ o within ends. ⊎_elim
-    (λ (same : object ≡ o). absurd (clash _ other (over o same ends)))
+    (λ (same : object ≡ o). absurd (clash _ reaches (subst (λ (x : Object). ends_in file ioas span x ≡ true) (sym same) ends)))
     (λ (before : IsIn w.objects o). before)
     (in_with_object object w.objects o within))
     (λ a within keeps. (
@@ -75,77 +79,109 @@ usable_object w object file ioas span each free other clear =
           (and_true (is_attached_to (with_object object w.objects) file ioas a) _ keeps).0,
     ))
     clear
+
+-- what is no page table over it ends nowhere
+no_end : (object : Object) (file : FileNo) (ioas : ObjId) (span : Bounds) → is_hwpt_over ioas object.kind ≡ false
+    → ends_in file ioas span object ≡ false
+no_end object file ioas span other =
+    none (eqb object.file.0 file.0) (is_hwpt_over ioas object.kind) (meets_some (beyond_table object.kind) span) other
   where
-    over : (o : Object) → object ≡ o → ends_in file ioas span o ≡ true → is_hwpt_over ioas object.kind ≡ true
-    over o same ends =
-        let parts = and_true (eqb o.file.0 file.0 && is_hwpt_over ioas o.kind) _ ends in
-        rw same (and_true (eqb o.file.0 file.0) (is_hwpt_over ioas o.kind) parts.0).1
+    none : (p q r : Bool) → q ≡ false → ((p && q) && r) ≡ false
+    none true q r is = rw is refl
+    none false q r is = refl
 
--- ---- a device is attached
-
-module _ (w : World) (device : DeviceNo) (settings : DeviceSettings) (file : FileNo) (ioas id : ObjId) (automatic : Option Object) where
-  -- the objects, with a page table of the device's width
-  abbrev new : List Object
-  new = with_hwpt file ioas id settings.width automatic w.objects
-
-  abbrev table : Object
-  table = record { file = file; id = id; kind = kind.Hwpt ioas settings.width true }
-
-  abbrev attachment : Attachment
-  attachment = record { device = device; file = file; hwpt = id }
-
-  -- a span that the device doesn't narrow, if it is of the address space, stays usable
-  usable_attached : (f : FileNo) (i : ObjId) (span : Bounds) → EachOwed w.objects w.attachments w.areas → IsMade w.objects new file ioas id → device_of w.settings device ≡ Some settings
-      → ((eqb f.0 file.0 && eqb i.0 ioas.0) ≡ true → (meets (beyond settings.width) span ≡ false) × (meets_some (reserved_by settings) span ≡ false))
-      → meets_some (unusable w.settings w.objects w.attachments f i) span ≡ false → meets_some (unusable w.settings new (with_attachment attachment w.attachments) f i) span ≡ false
-  usable_attached f i span each made known wide clear =
-      usable_still w.settings w.objects new w.attachments (with_attachment attachment w.attachments) f i span
-      (λ o within ends. of_object automatic o within ends)
-      (λ a within keeps. ⊎_elim
-      (λ (same : attachment ≡ a). absurd (not_kept (subst (λ (x : Attachment). keeps_of w.settings new f i span x ≡ true) (sym same) keeps)))
-      (λ (before : IsIn w.attachments a).
-      (before, attached_before w.objects new f i a made.stay (each.tables a before) (and_true (is_attached_to new f i a) _ keeps).0))
-      (in_with_attachment attachment w.attachments a within))
-      clear
-    where
-      flipped : (m n : ℕ) → eqb m n ≡ true → eqb n m ≡ true
-      flipped m n is = grind (arith, nat_tests)
-
-      here : eqb file.0 f.0 ≡ true → eqb ioas.0 i.0 ≡ true → (eqb f.0 file.0 && eqb i.0 ioas.0) ≡ true
-      here of_file of_space = both_true _ _ (flipped file.0 f.0 of_file) (flipped ioas.0 i.0 of_space)
-
-      never : ((eqb file.0 f.0 && eqb ioas.0 i.0) && (meets (beyond settings.width) span || false)) ≡ true → ⊥
-      never ends =
-          let parts = and_true (eqb file.0 f.0 && eqb ioas.0 i.0) (meets (beyond settings.width) span || false) ends in
-          let space = and_true (eqb file.0 f.0) (eqb ioas.0 i.0) parts.0 in
-          clash _ (both_false _ _ (wide (here space.0 space.1)).0 refl) parts.1
-
-      of_object : (o : Option Object) → (object : Object) → IsIn (with_hwpt file ioas id settings.width o w.objects) object → ends_in f i span object ≡ true → IsIn w.objects object
-      of_object (Some there) object within ends = within
-      of_object None object within ends =
-          ⊎_elim
-          (λ (same : table ≡ object). absurd (never (subst (λ (x : Object). ends_in f i span x ≡ true) (sym same) ends)))
-          (λ (before : IsIn w.objects object). before)
-          (in_with_object table w.objects object within)
-
-      kept_parts : (o : Option ObjectKind) → o ≡ Some (kind.Hwpt ioas made.width true) → (eqb file.0 f.0 && elim o [ Some k ↦ is_hwpt_over i k | None ↦ false ]) ≡ true → (eqb file.0 f.0 && eqb ioas.0 i.0) ≡ true
-      kept_parts o is both = rw is at both
-
-      of_device : (o : Option DeviceSettings) → o ≡ Some settings → meets_some (reserved_of o) span ≡ true → meets_some (reserved_by settings) span ≡ true
-      of_device o is met = rw is at met
-
-      not_kept : keeps_of w.settings new f i span attachment ≡ true → ⊥
-      not_kept keeps =
-          let parts = and_true (is_attached_to new f i attachment) (meets_some (reserved_of (device_of w.settings device)) span) keeps in
-          let both = kept_parts (kind_of new file id) made.table parts.0 in
-          let space = and_true (eqb file.0 f.0) (eqb ioas.0 i.0) both in
-          clash _ (wide (here space.0 space.1)).1 (of_device (device_of w.settings device) known parts.1)
-
--- ---- the allowed ranges
+-- ---- page tables and devices come
 
 -- the spans of an address space that can't be used
 abbrev bars : World → FileNo → ObjId → List Bounds
 bars w file ioas = unusable w.settings w.objects w.attachments file ioas
+
+-- with these objects and attachments, a span that can be used still can; in this address space, if it is clear of the
+-- given ones
+abbrev StaysUsable : World → List Object → List Attachment → FileNo → ObjId → List Bounds → Type 0
+StaysUsable w objects attachments file ioas spans =
+    (f : FileNo) (i : ObjId) (span : Bounds) → (is_of_space file ioas f i ≡ true → meets_some spans span ≡ false)
+    → meets_some (bars w f i) span ≡ false
+    → meets_some (unusable w.settings objects attachments f i) span ≡ false
+
+flipped : (m n : ℕ) → eqb m n ≡ true → eqb n m ≡ true
+flipped m n is = grind (arith, nat_tests)
+
+here_too : (file f : FileNo) (ioas i : ObjId) → (eqb file.0 f.0 && eqb ioas.0 i.0) ≡ true
+    → is_of_space file ioas f i ≡ true
+here_too file f ioas i is =
+    let parts = and_true (eqb file.0 f.0) (eqb ioas.0 i.0) is in
+    both_true _ _ (flipped file.0 f.0 parts.0) (flipped ioas.0 i.0 parts.1)
+
+-- a page table comes
+usable_hwpt : (w : World) (file : FileNo) (ioas id : ObjId) (width : Width) (automatic : Bool)
+    → EachOwed w.objects w.attachments w.areas → list_any (is_object file id) w.objects ≡ false
+    → StaysUsable w (with_object (record { file = file; id = id; kind = kind.Hwpt ioas width automatic }) w.objects) w.attachments file ioas (beyond width ∷ [])
+usable_hwpt w file ioas id width automatic each free f i span wide clear =
+    let object : Object = record { file = file; id = id; kind = kind.Hwpt ioas width automatic } in
+    usable_object w object f i span each free (by_space (eqb file.0 f.0 && eqb ioas.0 i.0) refl) clear
+  where
+    by_space : (b : Bool) → (eqb file.0 f.0 && eqb ioas.0 i.0) ≡ b
+        → (b && meets_some (beyond width ∷ []) span) ≡ false
+    by_space true is = wide (here_too file f ioas i is)
+    by_space false is = refl
+
+-- a device is attached by a page table that is there
+usable_attachment : (settings : Settings) (objects : List Object) (attachments : List Attachment) (attachment : Attachment)
+    → (device : DeviceSettings) (ioas : ObjId) (width : Width) (automatic : Bool)
+    → kind_of objects attachment.file attachment.hwpt ≡ Some (kind.Hwpt ioas width automatic)
+    → device_of settings attachment.device ≡ Some device → (f : FileNo) (i : ObjId) (span : Bounds)
+    → (is_of_space attachment.file ioas f i ≡ true → meets_some (reserved_by device) span ≡ false)
+    → meets_some (unusable settings objects attachments f i) span ≡ false
+    → meets_some (unusable settings objects (with_attachment attachment attachments) f i) span ≡ false
+usable_attachment settings objects attachments attachment device ioas width automatic table known f i span wide clear =
+    usable_still settings objects objects attachments (with_attachment attachment attachments) f i span
+    (λ o within ends. within)
+    (λ a within keeps. ⊎_elim
+    (λ (same : attachment ≡ a). absurd (not_kept (subst (λ (x : Attachment). keeps_of settings objects f i span x ≡ true) (sym same) keeps)))
+    (λ (before : IsIn attachments a). (before, (and_true (is_attached_to objects f i a) _ keeps).0))
+    (in_with_attachment attachment attachments a within))
+    clear
+  where
+    by_table : (o : Option ObjectKind) → o ≡ Some (kind.Hwpt ioas width automatic)
+        → (eqb attachment.file.0 f.0 && elim o [ Some k ↦ is_hwpt_over i k | None ↦ false ]) ≡ true
+        → (eqb attachment.file.0 f.0 && eqb ioas.0 i.0) ≡ true
+    by_table o is both = rw is at both
+
+    of_device : (o : Option DeviceSettings) → o ≡ Some device → meets_some (reserved_of o) span ≡ true
+        → meets_some (reserved_by device) span ≡ true
+    of_device o is met = rw is at met
+
+    not_kept : keeps_of settings objects f i span attachment ≡ true → ⊥
+    not_kept keeps =
+        let parts = and_true (is_attached_to objects f i attachment) (meets_some (reserved_of (device_of settings attachment.device)) span) keeps in
+        let here = here_too attachment.file f ioas i (by_table (kind_of objects attachment.file attachment.hwpt) table parts.0) in
+        clash _ (wide here) (of_device (device_of settings attachment.device) known parts.1)
+
+-- a device is attached to an address space
+usable_attached : (w : World) (device : DeviceNo) (settings : DeviceSettings) (file : FileNo) (ioas id : ObjId) (o : Option Object)
+    → EachOwed w.objects w.attachments w.areas
+    → IsMade w.objects (with_hwpt file ioas id settings.width o w.objects) file ioas id → IsHwptFor w file id o
+    → device_of w.settings device ≡ Some settings
+    → StaysUsable w (with_hwpt file ioas id settings.width o w.objects)
+    (with_attachment (record { device = device; file = file; hwpt = id }) w.attachments)
+    file ioas (beyond settings.width ∷ reserved_by settings)
+usable_attached w device settings file ioas id o each made answers known f i span wide clear =
+    usable_attachment w.settings (with_hwpt file ioas id settings.width o w.objects) w.attachments
+    (record { device = device; file = file; hwpt = id })
+    settings ioas made.width made.automatic made.table known f i span
+    (λ here. (or_false (meets (beyond settings.width) span) _ (wide here)).1)
+    (by_table o answers)
+  where
+    by_table : (o : Option Object) → IsHwptFor w file id o
+        → meets_some (unusable w.settings (with_hwpt file ioas id settings.width o w.objects) w.attachments f i) span ≡ false
+    by_table (Some object) answers = clear
+    by_table None answers =
+        usable_hwpt w file ioas id settings.width true each (unused w.objects file id answers) f i span
+        (λ here. both_false _ _ (or_false (meets (beyond settings.width) span) _ (wide here)).0 refl)
+        clear
+
+-- ---- the allowed ranges
 
 -- none, or clear ones
 clear_if : (b : Bool) (bars spans others : List Bounds) → (b ≡ true → list_any (meets_some bars) others ≡ false) → (b ≡ false → list_any (meets_some bars) spans ≡ false) → list_any (meets_some bars) (cond b others spans) ≡ false
@@ -161,59 +197,77 @@ allowed_clear w file ioas ranges f i new old =
     here_clear : (eqb f.0 file.0 ≡ true) × (eqb i.0 ioas.0 ≡ true) → list_any (meets_some (bars w f i)) ranges ≡ false
     here_clear is = ap (λ (n : ℕ). list_any (meets_some (bars w (record { 0 = n }) i)) ranges) (eqb-true f.0 file.0 is.0) ∙ ap (λ (n : ℕ). list_any (meets_some (bars w file (record { 0 = n }))) ranges) (eqb-true i.0 ioas.0 is.1) ∙ new
 
--- ---- all areas
+-- ---- what narrows an area or an allowed range is refused
 
--- what a device narrows is refused
-wide_areas : (w : World) (file : FileNo) (ioas : ObjId) (settings : DeviceSettings) (area : Area) → IsIn w.areas area → narrows (view w) file ioas (Some settings) ≡ false → is_of file ioas area ≡ true
-    → (meets (beyond settings.width) area.span ≡ false) × (meets_some (reserved_by settings) area.span ≡ false)
-wide_areas w file ioas settings area within wide of_space =
-    let bars : List Bounds = beyond settings.width ∷ reserved_by settings ++ unusable_in (view w) file ioas in
-    let split = sym (list_any-append (meets_some bars) (map (λ (a : Area). a.span) (areas_of w.areas file ioas)) ((view w).allowed_of file ioas)) ∙ wide in
-    let spans = (or_false (list_any (meets_some bars) (map (λ (a : Area). a.span) (areas_of w.areas file ioas))) _ split).0 in
-    let own = of_span bars w.areas within spans in
-    let parts = or_false (meets (beyond settings.width) area.span) (meets_some (reserved_by settings ++ unusable_in (view w) file ioas) area.span) own in
-    let rest = sym (list_any-append (λ (one : Bounds). meets one area.span) (reserved_by settings) (unusable_in (view w) file ioas)) ∙ parts.1 in
-    (parts.0, (or_false (meets_some (reserved_by settings) area.span) _ rest).0)
+wide_parts : (w : World) (file : FileNo) (ioas : ObjId) (spans : List Bounds)
+    → narrows_without (view w) file ioas spans ≡ false
+    → (list_any (meets_some spans) (map (λ (a : Area). a.span) (areas_of w.areas file ioas)) ≡ false)
+    × (list_any (meets_some spans) (allowed_of w.allowed file ioas) ≡ false)
+wide_parts w file ioas spans wide =
+    let areas = map (λ (a : Area). a.span) (areas_of w.areas file ioas) in
+    let ranges = allowed_of w.allowed file ioas in
+    let split = sym (list_any-append (meets_some all) areas ranges) ∙ wide in
+    let parts = or_false (list_any (meets_some all) areas) (list_any (meets_some all) ranges) split in
+    (spans_clear all spans areas first parts.0, spans_clear all spans ranges first parts.1)
   where
-    any-spans : (bars : List Bounds) (areas : List Area) → list_any (meets_some bars) (map (λ (a : Area). a.span) areas) ≡ list_any (λ (a : Area). meets_some bars a.span) areas
-    any-spans bars [] = refl
-    any-spans bars (a ∷ areas) = ap (λ b. meets_some bars a.span || b) (any-spans bars areas)
-
-    of_span : (bars : List Bounds) (areas : List Area) → IsIn areas area → list_any (meets_some bars) (map (λ (a : Area). a.span) (areas_of areas file ioas)) ≡ false → meets_some bars area.span ≡ false
-    of_span bars areas among none =
-        let here = sym (any-filter (λ (a : Area). meets_some bars a.span) (is_of file ioas) areas) ∙ sym (any-spans bars (areas_of areas file ioas)) ∙ none in
-        false_else (meets_some bars area.span) (λ met. clash _ here (of_any (λ (a : Area). is_of file ioas a && meets_some bars a.span) areas area among (both_true _ _ of_space met)))
-
--- nor does a device that is let narrow the allowed ranges
-wide_ranges : (w : World) (file : FileNo) (ioas : ObjId) (settings : DeviceSettings) (f : FileNo) (i : ObjId) → (eqb f.0 file.0 ≡ true) × (eqb i.0 ioas.0 ≡ true) → narrows (view w) file ioas (Some settings) ≡ false
-    → list_any (λ span. meets (beyond settings.width) span || meets_some (reserved_by settings) span) (allowed_of w.allowed f i) ≡ false
-wide_ranges w file ioas settings f i is wide =
-    ap (λ (n : ℕ). list_any own (allowed_of w.allowed (record { 0 = n }) i)) (eqb-true f.0 file.0 is.0)
-    ∙ ap (λ (n : ℕ). list_any own (allowed_of w.allowed file (record { 0 = n }))) (eqb-true i.0 ioas.0 is.1)
-    ∙ by_own (allowed_of w.allowed file ioas) (or_false _ (list_any (meets_some all) (allowed_of w.allowed file ioas)) split).1
-  where
-    own : Bounds → Bool
-    own span = meets (beyond settings.width) span || meets_some (reserved_by settings) span
-
     all : List Bounds
-    all = beyond settings.width ∷ reserved_by settings ++ unusable_in (view w) file ioas
+    all = spans ++ unusable_in (view w) file ioas
 
-    split : (list_any (meets_some all) (map (λ (a : Area). a.span) (areas_of w.areas file ioas)) || list_any (meets_some all) (allowed_of w.allowed file ioas)) ≡ false
-    split = sym (list_any-append (meets_some all) (map (λ (a : Area). a.span) (areas_of w.areas file ioas)) (allowed_of w.allowed file ioas)) ∙ wide
+    first : (span : Bounds) → meets_some all span ≡ false → meets_some spans span ≡ false
+    first span clear =
+        let split = sym (list_any-append (λ (one : Bounds). meets one span) spans (unusable_in (view w) file ioas)) ∙ clear in
+        (or_false (meets_some spans span) _ split).0
 
-    by_own : (spans : List Bounds) → list_any (meets_some all) spans ≡ false → list_any own spans ≡ false
-    by_own [] none = refl
-    by_own (span ∷ spans) none =
-        let parts = or_false (meets_some all span) (list_any (meets_some all) spans) none in
-        let first = or_false (meets (beyond settings.width) span) (meets_some (reserved_by settings ++ unusable_in (view w) file ioas) span) parts.0 in
-        let rest = sym (list_any-append (λ (one : Bounds). meets one span) (reserved_by settings) (unusable_in (view w) file ioas)) ∙ first.1 in
-        both_false _ _ (both_false _ _ first.0 (or_false (meets_some (reserved_by settings) span) _ rest).0) (by_own spans parts.1)
+-- so an area of the address space is clear of these spans
+wide_areas : (w : World) (file : FileNo) (ioas : ObjId) (spans : List Bounds) (area : Area) → IsIn w.areas area
+    → narrows_without (view w) file ioas spans ≡ false → is_of file ioas area ≡ true
+    → meets_some spans area.span ≡ false
+wide_areas w file ioas spans area within wide of_space =
+    let own = sym (any-spans (areas_of w.areas file ioas)) ∙ (wide_parts w file ioas spans wide).0 in
+    let none = sym (any-filter (λ (a : Area). meets_some spans a.span) (is_of file ioas) w.areas) ∙ own in
+    let reaches = λ (a : Area). is_of file ioas a && meets_some spans a.span in
+    and_rest (is_of file ioas area) (meets_some spans area.span) of_space (each_not reaches w.areas area none within)
+  where
+    any-spans : (areas : List Area)
+        → list_any (meets_some spans) (map (λ (a : Area). a.span) areas) ≡ list_any (λ (a : Area). meets_some spans a.span) areas
+    any-spans [] = refl
+    any-spans (a ∷ areas) = ap (λ b. meets_some spans a.span || b) (any-spans areas)
+
+-- and so are its allowed ranges
+wide_ranges : (w : World) (file : FileNo) (ioas : ObjId) (spans : List Bounds) (f : FileNo) (i : ObjId)
+    → is_of_space file ioas f i ≡ true → narrows_without (view w) file ioas spans ≡ false
+    → list_any (meets_some spans) (allowed_of w.allowed f i) ≡ false
+wide_ranges w file ioas spans f i here wide =
+    let is = and_true (eqb f.0 file.0) (eqb i.0 ioas.0) here in
+    ap (λ (n : ℕ). list_any (meets_some spans) (allowed_of w.allowed (record { 0 = n }) i)) (eqb-true f.0 file.0 is.0)
+    ∙ ap (λ (n : ℕ). list_any (meets_some spans) (allowed_of w.allowed file (record { 0 = n }))) (eqb-true i.0 ioas.0 is.1)
+    ∙ (wide_parts w file ioas spans wide).1
+
+-- areas and allowed ranges stay in addresses that can be used
+module _ (w : World) (objects : List Object) (attachments : List Attachment) (file : FileNo) (ioas : ObjId) (spans : List Bounds) (wide : narrows_without (view w) file ioas spans ≡ false) (stays : StaysUsable w objects attachments file ioas spans) where
+  clear_areas : list_all (is_in_usable w) w.areas ≡ true
+      → list_all (λ (a : Area). not (meets_some (unusable w.settings objects attachments a.file a.ioas) a.span)) w.areas ≡ true
+  clear_areas usable =
+      of_all _ w.areas (λ a within. not_false _
+      (stays a.file a.ioas a.span
+      (λ of_space. wide_areas w file ioas spans a within wide of_space)
+      (not_true _ (of_each (is_in_usable w) w.areas a usable within))))
+
+  clear_ranges : (f : FileNo) (i : ObjId) → list_any (meets_some (bars w f i)) (allowed_of w.allowed f i) ≡ false
+      → list_any (meets_some (unusable w.settings objects attachments f i)) (allowed_of w.allowed f i) ≡ false
+  clear_ranges f i clear =
+      none_of _ (allowed_of w.allowed f i) (λ span within.
+      stays f i span
+      (λ here. each_not (meets_some spans) (allowed_of w.allowed f i) span (wide_ranges w file ioas spans f i here wide) within)
+      (each_not (meets_some (bars w f i)) (allowed_of w.allowed f i) span clear within))
+
+-- ---- each event
 
 usable_keeps : {A : Type 0} → (at : ℕ) (w : World) (e : Event A) (answer : Reply) → refusal w e ≡ None → Answers w e answer → IsSound w → AreasUsable w → AreasUsable (changed at w e answer)
-unfolding changed settle without_areas attached detached Answers
+unfolding changed settle without_areas attached detached joined Answers
 usable_keeps at w (event.IoasAlloc file) (reply.Id id) none answers sound u =
     let object : Object = record { file = file; id = id; kind = kind.Ioas } in
-    record { usable = all_weaker (is_in_usable w) _ w.areas (λ a is. not_false _ (usable_object w object a.file a.ioas a.span (each_owed w sound.debts) (unused w.objects file id answers) refl (not_true _ is))) u.usable; ranges = λ f i. spans_clear _ _ _ (λ span clear. usable_object w object f i span (each_owed w sound.debts) (unused w.objects file id answers) refl clear) (u.ranges f i) }
+    record { usable = all_weaker (is_in_usable w) _ w.areas (λ a is. not_false _ (usable_object w object a.file a.ioas a.span (each_owed w sound.debts) (unused w.objects file id answers) (no_end object a.file a.ioas a.span refl) (not_true _ is))) u.usable; ranges = λ f i. spans_clear _ _ _ (λ span clear. usable_object w object f i span (each_owed w sound.debts) (unused w.objects file id answers) (no_end object f i span refl) clear) (u.ranges f i) }
 usable_keeps at w (event.AllowIovas file ioas ranges) reply.Done none answers sound u =
     let passed = allow_passed (view w) file ioas ranges none in
     record { usable = u.usable; ranges = λ f i. allowed_clear w file ioas ranges f i passed.usable (u.ranges f i) }
@@ -224,6 +278,22 @@ usable_keeps at w (event.Map file request) (reply.Iova iova) none answers sound 
     mapped (Some user) = record { usable = all-with_area (is_in_usable w) (mapped_area at file request iova) w.areas (not_false _ (lies_at w file request iova none answers).usable) u.usable; ranges = u.ranges }
 usable_keeps at w (event.Unmap file request) (reply.Bytes count) none answers sound u = record { usable = all_filter (is_in_usable w) _ w.areas u.usable; ranges = u.ranges }
 usable_keeps at w (event.Unmap file request) (reply.Pending errno) none answers sound u = record { usable = all_map (is_in_usable w) (is_in_usable w) _ w.areas (λ a is. is) u.usable; ranges = u.ranges }
+usable_keeps at w (event.HwptAlloc file request) (reply.Id id) none answers sound u =
+    made (settings_under w.settings w.objects file request.device) refl
+  where
+    made : (settings : Option DeviceSettings) → settings_under w.settings w.objects file request.device ≡ settings
+        → AreasUsable (hwpt_changes w file request.ioas id settings)
+    made None is = u
+    made (Some settings) is =
+        let narrow = narrows_by_width (view w) file request.ioas in
+        let wide : narrow (Some settings) ≡ false = sym (ap narrow is) ∙ (hwpt_passed (view w) file request none).wide in
+        let objects = with_object (made_hwpt file request.ioas id settings) w.objects in
+        let spans = beyond settings.width ∷ [] in
+        let stays = usable_hwpt w file request.ioas id settings.width false (each_owed w sound.debts) (unused w.objects file id answers) in
+        record {
+          usable = clear_areas w objects w.attachments file request.ioas spans wide stays u.usable;
+          ranges = λ f i. clear_ranges w objects w.attachments file request.ioas spans wide stays f i (u.ranges f i);
+        }
 usable_keeps at w (event.Destroy file id) reply.Done none answers sound u =
     record {
       usable = all_filter _ _ w.areas (all_weaker (is_in_usable w) _ w.areas (λ a is. not_false _ (usable_left w.settings w.objects w.attachments w.attachments _ a.file a.ioas a.span sound.own_ids (λ x within. within) (not_true _ is))) u.usable);
@@ -241,7 +311,12 @@ usable_keeps at w (event.UserUnmap user va) reply.Done none answers sound u = re
 usable_keeps at w (event.UserWrite user va bytes) reply.Done none answers sound u = record { usable = u.usable; ranges = u.ranges }
 usable_keeps at w (event.Bind file device) (reply.Id id) none answers sound u =
     let object : Object = record { file = file; id = id; kind = kind.Device device } in
-    record { usable = all_weaker (is_in_usable w) _ w.areas (λ a is. not_false _ (usable_object w object a.file a.ioas a.span (each_owed w sound.debts) (unused w.objects file id answers) refl (not_true _ is))) u.usable; ranges = λ f i. spans_clear _ _ _ (λ span clear. usable_object w object f i span (each_owed w sound.debts) (unused w.objects file id answers) refl clear) (u.ranges f i) }
+    record { usable = all_weaker (is_in_usable w) _ w.areas (λ a is. not_false _ (usable_object w object a.file a.ioas a.span (each_owed w sound.debts) (unused w.objects file id answers) (no_end object a.file a.ioas a.span refl) (not_true _ is))) u.usable; ranges = λ f i. spans_clear _ _ _ (λ span clear. usable_object w object f i span (each_owed w sound.debts) (unused w.objects file id answers) (no_end object f i span refl) clear) (u.ranges f i) }
+usable_keeps at w (event.Unbind file id) reply.Done none answers sound u =
+    record {
+      usable = all_weaker (is_in_usable w) _ w.areas (λ a is. not_false _ (usable_left w.settings w.objects w.attachments w.attachments _ a.file a.ioas a.span sound.own_ids (λ x within. within) (not_true _ is))) u.usable;
+      ranges = λ f i. spans_clear _ _ _ (λ span clear. usable_left w.settings w.objects w.attachments w.attachments _ f i span sound.own_ids (λ x within. within) clear) (u.ranges f i);
+    }
 usable_keeps at w (event.Attach device pt_id) (reply.Id id) none answers sound u = bound (binding_of w.objects device) refl (device_of w.settings device) refl answers
   where
     bound : (object : Option Object) → binding_of w.objects device ≡ object → (settings : Option DeviceSettings) → device_of w.settings device ≡ settings → IsHwptOf w pt_id id object settings → AreasUsable (attach_changes w device pt_id id object settings)
@@ -252,41 +327,38 @@ usable_keeps at w (event.Attach device pt_id) (reply.Id id) none answers sound u
         each : EachOwed w.objects w.attachments w.areas
         each = each_owed w sound.debts
 
-        wide : narrows (view w) object.file pt_id (Some settings) ≡ false
-        wide = sym (ap (narrows (view w) object.file pt_id) known) ∙ (attach_passed (view w) device pt_id object is none).wide
+        attachment : Attachment
+        attachment = record { device = device; file = object.file; hwpt = id }
 
-        -- the allowed ranges of an address space stay clear; the device doesn't narrow those of its own
-        wide_clear : (f : FileNo) (i : ObjId) (b : Bool) → is_of_space object.file pt_id f i ≡ b → IsMade w.objects (with_hwpt object.file pt_id id settings.width (automatic_hwpt w.objects object.file pt_id settings.width) w.objects) object.file pt_id id
-            → list_any (meets_some (unusable w.settings (with_hwpt object.file pt_id id settings.width (automatic_hwpt w.objects object.file pt_id settings.width) w.objects) (with_attachment (record { device = device; file = object.file; hwpt = id }) w.attachments) f i)) (allowed_of w.allowed f i) ≡ false
-        wide_clear f i true here table =
-            let own = wide_ranges w object.file pt_id settings f i (and_true _ _ here) wide in
-            attached_clear (allowed_of w.allowed f i) own (u.ranges f i)
-          where
-            attached_clear : (spans : List Bounds) → list_any (λ span. meets (beyond settings.width) span || meets_some (reserved_by settings) span) spans ≡ false → list_any (meets_some (bars w f i)) spans ≡ false
-                → list_any (meets_some (unusable w.settings (with_hwpt object.file pt_id id settings.width (automatic_hwpt w.objects object.file pt_id settings.width) w.objects) (with_attachment (record { device = device; file = object.file; hwpt = id }) w.attachments) f i)) spans ≡ false
-            attached_clear [] own clear = refl
-            attached_clear (span ∷ spans) own clear =
-                let owns = or_false (meets (beyond settings.width) span || meets_some (reserved_by settings) span) _ own in
-                let clears = or_false (meets_some (bars w f i) span) _ clear in
-                both_false _ _
-                (usable_attached w device settings object.file pt_id id (automatic_hwpt w.objects object.file pt_id settings.width) f i span each table known (λ of_space. or_false _ _ owns.0) clears.0)
-                (attached_clear spans owns.1 clears.1)
-        wide_clear f i false other table =
-            spans_clear _ _ _ (λ span clear. usable_attached w device settings object.file pt_id id (automatic_hwpt w.objects object.file pt_id settings.width) f i span each table known (λ of_space. absurd (clash _ other of_space)) clear) (u.ranges f i)
+        attachments : List Attachment
+        attachments = with_attachment attachment w.attachments
+
+        spans : List Bounds
+        spans = beyond settings.width ∷ reserved_by settings
 
         by_kind : (k : Option ObjectKind) → kind_of w.objects object.file pt_id ≡ k → IsTarget w object.file pt_id id settings.width k → AreasUsable (target_changes w device pt_id id object settings k)
         by_kind (Some kind.Ioas) space made =
             let automatic = automatic_hwpt w.objects object.file pt_id settings.width in
             let table = is_made w object.file pt_id id settings.width automatic sound.own_ids refl made space each.spaces in
+            let passed = attach_passed (view w) device pt_id object is space none in
+            let wide = sym (ap (narrows (view w) object.file pt_id) known) ∙ passed.wide in
+            let objects = with_hwpt object.file pt_id id settings.width automatic w.objects in
+            let stays = usable_attached w device settings object.file pt_id id automatic each table made known in
             record {
-              usable = all_map _ _ _ w.areas (λ a is. is)
-                  (of_all _ w.areas (λ a within. not_false _
-                  (usable_attached w device settings object.file pt_id id automatic a.file a.ioas a.span each table known
-                  (λ of_space. wide_areas w object.file pt_id settings a within wide of_space)
-                  (not_true _ (of_each (is_in_usable w) w.areas a u.usable within)))));
-              ranges = λ f i. wide_clear f i (is_of_space object.file pt_id f i) refl table;
+              usable = all_map _ _ _ w.areas (λ a is. is) (clear_areas w objects attachments object.file pt_id spans wide stays u.usable);
+              ranges = λ f i. clear_ranges w objects attachments object.file pt_id spans wide stays f i (u.ranges f i);
             }
-        by_kind k space never = u
+        by_kind (Some (kind.Hwpt ioas width automatic)) named same =
+            let passed = join_passed (view w) device pt_id ioas width automatic object is named none in
+            let wide = sym (ap (narrows (view w) object.file ioas) known) ∙ passed.wide in
+            let stays : StaysUsable w w.objects attachments object.file ioas spans = λ f i span wide clear.
+            usable_attachment w.settings w.objects w.attachments attachment settings ioas width automatic (rw same named) known
+            f i span (λ here. (or_false (meets (beyond settings.width) span) _ (wide here)).1) clear in
+            record {
+              usable = all_map _ _ _ w.areas (λ a is. is) (clear_areas w w.objects attachments object.file ioas spans wide stays u.usable);
+              ranges = λ f i. clear_ranges w w.objects attachments object.file ioas spans wide stays f i (u.ranges f i);
+            }
+        by_kind k named never = u
 usable_keeps at w (event.Detach device) reply.Done none answers sound u = attached_or_not (attachment_of w.attachments device)
   where
     attached_or_not : (a : Option Attachment) → AreasUsable (detach_changes w device a)

@@ -1,5 +1,6 @@
 pub mod AttachMoves
 pub mod AttachedPages
+pub mod KeepsBoundOnce
 pub mod KeepsDebts
 pub mod KeepsFits
 pub mod KeepsOwnMemory

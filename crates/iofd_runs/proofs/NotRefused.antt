@@ -1,21 +1,22 @@
 -- What it says of a world, or of what a server shows of one, that nothing refuses an event: a fact for each row of the event's table,
 -- by a name of its own.
-use Rattle.std.proofs.Common.{◌≡◌, ℕ, ◌^◌, Bool, true, false, ◌&&◌, ◌||◌, not, eqb, leb, is_none, is_some, Option, Some, None, List, ◌∷◌, length, refl}
+use Rattle.std.proofs.Common.{◌≡◌, ℕ, ◌^◌, Bool, true, false, ◌&&◌, ◌||◌, not, eqb, leb, is_none, is_some, Option, Some, None, List, ◌∷◌, length, refl, subst}
 use Rattle.std.specs.List.{list_any}
 use Rattle.iofd_words.specs.Allowed.{are_ranges}
 use Rattle.iofd_words.specs.Areas.{areas_meet, has_no_room, is_cut, is_everything, unmapped_span}
 use Rattle.iofd_words.specs.Attachments.{attachment_of}
 use Rattle.iofd_words.specs.Bounds.{Bounds}
-use Rattle.iofd_words.specs.Checks.{allow_iovas_checks, attach_checks, bind_checks, bound_attach_checks, checks, close_checks, destroy_checks, detach_checks, device_write_checks, flush_checks, ioas_alloc_checks, is_device_object, is_interrupt, is_outside_usable, is_used, lacks_attached_page, lacks_choice, lacks_mapped_page, lacks_room_for_hwpt, map_checks, narrows, overlaps, passes_limit_attached, passes_limit_mapped, refusal, target_checks, unmap_checks, unusable_in, user_access_checks, user_map_checks, user_unmap_checks, user_write_checks}
+use Rattle.iofd_words.specs.Checks.{allow_iovas_checks, attach_checks, bind_checks, bound_attach_checks, checks, close_checks, destroy_checks, detach_checks, device_write_checks, flush_checks, has_other_width, hwpt_alloc_checks, ioas_alloc_checks, is_attached, is_device_object, is_interrupt, is_outside_usable, is_used, lacks_attached_page, lacks_choice, lacks_mapped_page, lacks_room_for_hwpt, map_checks, narrows, narrows_by_width, overlaps, passes_limit_attached, passes_limit_mapped, refusal, target_checks, unbind_checks, unmap_checks, unusable_in, user_access_checks, user_map_checks, user_unmap_checks, user_write_checks}
 use Rattle.iofd_words.specs.Files.{device_of, is_device, is_user}
 use Rattle.iofd_words.specs.FirstTrue.{first_true}
-use Rattle.iofd_words.specs.Objects.{has_ioas, is_bound_device, is_full, kind_of, objects_of}
+use Rattle.iofd_words.specs.Objects.{device_under, has_ioas, is_bound_device, is_full, kind_of, objects_of, settings_under}
 use Rattle.iofd_words.specs.Pages.{crosses, is_above_sum, is_above_user, is_whole, page_of}
 use Rattle.iofd_words.specs.Ranges.{meets_some}
 use Rattle.iofd_words.specs.Rights.{is_fixed}
 use Rattle.iofd_words.specs.View.{View, view}
 use Rattle.iofd_words.specs.World.{World}
 use Rattle.iofd_words.specs.declared.event.Event.{Event}
+use Rattle.iofd_words.specs.declared.event.HwptRequest.{HwptRequest}
 use Rattle.iofd_words.specs.declared.event.MapRequest.{MapRequest}
 use Rattle.iofd_words.specs.declared.event.UnmapRequest.{UnmapRequest}
 use Rattle.iofd_words.specs.declared.numbers.DeviceNo.{DeviceNo}
@@ -27,6 +28,7 @@ use Rattle.iofd_words.specs.declared.refusal.Cause.TheVariants as cause
 use Rattle.iofd_words.specs.declared.rows.Object.{Object}
 use Rattle.iofd_words.specs.declared.rows.ObjectKind.{ObjectKind}
 use Rattle.iofd_words.specs.declared.rows.ObjectKind.TheVariants as kind
+use Rattle.iofd_words.specs.declared.width.Width.{Width}
 use Rattle.iofd_rows.proofs.Bools.{and_true, or_false}
 use Rattle.iofd_runs.proofs.Runs.{tests_false}
 
@@ -67,6 +69,31 @@ pub record ClosePassed (v : View) (file : FileNo) : Type 0 where
 pub close_passed : (v : View) (file : FileNo) → first_true (close_checks v file) ≡ None → ClosePassed v file
 unfolding close_checks
 close_passed v file none = let rows = close_checks v file in record { opened = not_not _ (tests_false rows 0 none); no_device = tests_false rows 1 none }
+
+-- ---- page tables
+
+pub record HwptPassed (v : View) (file : FileNo) (request : HwptRequest) : Type 0 where
+  pub opened : v.is_open file ≡ true
+  pub device : is_none (device_under v.objects file request.device) ≡ false
+  pub space : has_ioas v.objects file request.ioas ≡ true
+  pub wide : narrows_by_width v file request.ioas (settings_under v.settings v.objects file request.device) ≡ false
+  pub roomy : is_full v.objects file ≡ false
+  pub present : lacks_attached_page v file request.ioas ≡ false
+  pub within_limit : passes_limit_attached v file request.ioas ≡ false
+
+pub hwpt_passed : (v : View) (file : FileNo) (request : HwptRequest) → first_true (hwpt_alloc_checks v file request) ≡ None → HwptPassed v file request
+unfolding hwpt_alloc_checks
+hwpt_passed v file request none =
+    let rows = hwpt_alloc_checks v file request in
+    record {
+      opened = not_not _ (tests_false rows 0 none);
+      device = tests_false rows 1 none;
+      space = not_not _ (tests_false rows 2 none);
+      wide = tests_false rows 3 none;
+      roomy = tests_false rows 4 none;
+      present = tests_false rows 5 none;
+      within_limit = tests_false rows 6 none;
+    }
 
 -- ---- allowed ranges
 
@@ -202,33 +229,56 @@ bind_passed v file device none =
     let rows = bind_checks v file device in
     record { opened = not_not _ (tests_false rows 0 none); known = not_not _ (tests_false rows 1 none); unbound = tests_false rows 2 none; roomy = tests_false rows 3 none }
 
--- of a device that is bound to the object's file
+pub record UnbindPassed (v : View) (file : FileNo) (id : ObjId) : Type 0 where
+  pub opened : v.is_open file ≡ true
+  pub device : is_device_object (kind_of v.objects file id) ≡ true
+  pub unattached : is_attached v (kind_of v.objects file id) ≡ false
+
+pub unbind_passed : (v : View) (file : FileNo) (id : ObjId) → first_true (unbind_checks v file id) ≡ None → UnbindPassed v file id
+unfolding unbind_checks
+unbind_passed v file id none =
+    let rows = unbind_checks v file id in
+    record { opened = not_not _ (tests_false rows 0 none); device = not_not _ (tests_false rows 1 none); unattached = tests_false rows 2 none }
+
+-- of a device that is bound to the object's file, to an address space
 pub record AttachPassed (v : View) (device : DeviceNo) (pt_id : ObjId) (bound : Object) : Type 0 where
   pub unattached : is_some (attachment_of v.attachments device) ≡ false
-  pub space : kind_of v.objects bound.file pt_id ≡ Some kind.Ioas
   pub wide : narrows v bound.file pt_id (device_of v.settings device) ≡ false
   pub roomy : lacks_room_for_hwpt v bound.file pt_id (device_of v.settings device) ≡ false
   pub present : lacks_attached_page v bound.file pt_id ≡ false
   pub within_limit : passes_limit_attached v bound.file pt_id ≡ false
 
-pub attach_passed : (v : View) (device : DeviceNo) (pt_id : ObjId) (bound : Object) → v.binding_of device ≡ Some bound → first_true (attach_checks v device pt_id) ≡ None → AttachPassed v device pt_id bound
+-- to a page table
+pub record JoinPassed (v : View) (device : DeviceNo) (ioas : ObjId) (width : Width) (bound : Object) : Type 0 where
+  pub unattached : is_some (attachment_of v.attachments device) ≡ false
+  pub same_width : has_other_width (device_of v.settings device) width ≡ false
+  pub wide : narrows v bound.file ioas (device_of v.settings device) ≡ false
+
+-- the tests of what is named, and that the device isn't attached
+pub target_passed : (v : View) (device : DeviceNo) (pt_id : ObjId) (bound : Object) (k : Option ObjectKind) → v.binding_of device ≡ Some bound → kind_of v.objects bound.file pt_id ≡ k → first_true (attach_checks v device pt_id) ≡ None
+    → (is_some (attachment_of v.attachments device) ≡ false) × (first_true (target_checks v device pt_id bound.file k) ≡ None)
 unfolding attach_checks
-attach_passed v device pt_id bound is none =
+target_passed v device pt_id bound k is named none =
     let passed : first_true (bound_attach_checks v device pt_id bound.file) ≡ None = rw (is, attach_checks) at none in
     let unattached = tests_false (bound_attach_checks v device pt_id bound.file) 0 passed in
-    by_kind (kind_of v.objects bound.file pt_id) refl unattached (others (is_some (attachment_of v.attachments device)) unattached passed)
+    (unattached, subst (λ k. first_true (target_checks v device pt_id bound.file k) ≡ None) named (others (is_some (attachment_of v.attachments device)) unattached passed))
   where
     others : (first : Bool) → first ≡ false → first_true ((cause.Bound, first) ∷ target_checks v device pt_id bound.file (kind_of v.objects bound.file pt_id)) ≡ None → first_true (target_checks v device pt_id bound.file (kind_of v.objects bound.file pt_id)) ≡ None
     others true is passed = cc
     others false is passed = passed
 
-    by_kind : (k : Option ObjectKind) → kind_of v.objects bound.file pt_id ≡ k → is_some (attachment_of v.attachments device) ≡ false → first_true (target_checks v device pt_id bound.file k) ≡ None → AttachPassed v device pt_id bound
-    by_kind (Some kind.Ioas) is unattached passed =
-        let rows = target_checks v device pt_id bound.file (Some kind.Ioas) in
-        record { unattached = unattached; space = is; wide = tests_false rows 0 passed; roomy = tests_false rows 1 passed; present = tests_false rows 2 passed; within_limit = tests_false rows 3 passed }
-    by_kind (Some (kind.Hwpt ioas width automatic)) is unattached passed = cc
-    by_kind (Some (kind.Device other)) is unattached passed = cc
-    by_kind None is unattached passed = cc
+pub attach_passed : (v : View) (device : DeviceNo) (pt_id : ObjId) (bound : Object) → v.binding_of device ≡ Some bound → kind_of v.objects bound.file pt_id ≡ Some kind.Ioas → first_true (attach_checks v device pt_id) ≡ None → AttachPassed v device pt_id bound
+attach_passed v device pt_id bound is space none =
+    let parts = target_passed v device pt_id bound (Some kind.Ioas) is space none in
+    let rows = target_checks v device pt_id bound.file (Some kind.Ioas) in
+    record { unattached = parts.0; wide = tests_false rows 0 parts.1; roomy = tests_false rows 1 parts.1; present = tests_false rows 2 parts.1; within_limit = tests_false rows 3 parts.1 }
+
+pub join_passed : (v : View) (device : DeviceNo) (pt_id ioas : ObjId) (width : Width) (automatic : Bool) (bound : Object) → v.binding_of device ≡ Some bound → kind_of v.objects bound.file pt_id ≡ Some (kind.Hwpt ioas width automatic)
+    → first_true (attach_checks v device pt_id) ≡ None → JoinPassed v device ioas width bound
+join_passed v device pt_id ioas width automatic bound is table none =
+    let parts = target_passed v device pt_id bound (Some (kind.Hwpt ioas width automatic)) is table none in
+    let rows = target_checks v device pt_id bound.file (Some (kind.Hwpt ioas width automatic)) in
+    record { unattached = parts.0; same_width = tests_false rows 0 parts.1; wide = tests_false rows 1 parts.1 }
 
 pub record DetachPassed (v : View) (device : DeviceNo) : Type 0 where
   pub bound : is_none (v.binding_of device) ≡ false

@@ -4,7 +4,7 @@ use Rattle.std.specs.List.{filter, list_any}
 use Rattle.iofd_words.specs.Areas.{is_of}
 use Rattle.iofd_words.specs.Attachments.{has_device_on, ioas_of}
 use Rattle.iofd_words.specs.Checks.{is_used}
-use Rattle.iofd_words.specs.Objects.{is_hwpt_over, is_object, kind_of}
+use Rattle.iofd_words.specs.Objects.{is_bound_device, is_hwpt_over, is_object, kind_of, without_device_object}
 use Rattle.iofd_words.specs.View.{view}
 use Rattle.iofd_words.specs.World.{World}
 use Rattle.iofd_words.specs.declared.numbers.FileNo.{FileNo}
@@ -85,6 +85,49 @@ owed_destroyed w file id unused each =
           let (before, stays) = in_filter (λ area. not (is_of file id area)) w.areas area within in
           other_name w.objects file area.file id area.ioas kind.Ioas (not_true _ stays) (each.in_spaces area before);
     }
+
+-- ---- a device is unbound
+
+-- an object that is no device keeps its kind
+no_device : (objects : List Object) (file f : FileNo) (id i : ObjId) (k : ObjectKind) → is_bound_device k ≡ false
+    → kind_of objects f i ≡ Some k → kind_of (without_device_object file id objects) f i ≡ Some k
+no_device objects file f id i k other is =
+    kind_kept (λ object. not (is_object file id object && is_bound_device object.kind)) objects f i k
+    (λ object of_file of_id of_kind.
+    stays (is_object file id object) (is_bound_device object.kind) (ap is_bound_device of_kind ∙ other))
+    is
+  where
+    stays : (p q : Bool) → q ≡ false → not (p && q) ≡ true
+    stays true q is = not_false q is
+    stays false q is = refl
+
+pub owed_unbound : (objects : List Object) (attachments : List Attachment) (areas : List Area) (file : FileNo) (id : ObjId)
+    → EachOwed objects attachments areas → EachOwed (without_device_object file id objects) attachments areas
+owed_unbound objects attachments areas file id each = record {
+  once = each.once;
+  debtors = λ area within device owes.
+      let is = each.debtors area within device owes in
+      record {
+        a = is.a;
+        found = is.found;
+        of_file = is.of_file;
+        width = is.width;
+        automatic = is.automatic;
+        table = no_device objects file is.a.file id is.a.hwpt _ refl is.table;
+      };
+  tables = λ a within.
+      let is = each.tables a within in
+      record {
+        ioas = is.ioas;
+        width = is.width;
+        automatic = is.automatic;
+        table = no_device objects file a.file id a.hwpt _ refl is.table;
+      };
+  spaces = λ object within ioas over.
+      let before = (in_filter (λ object. not (is_object file id object && is_bound_device object.kind)) objects object within).0 in
+      no_device objects file object.file id ioas kind.Ioas refl (each.spaces object before ioas over);
+  in_spaces = λ area within. no_device objects file area.file id area.ioas kind.Ioas refl (each.in_spaces area within);
+}
 
 -- ---- a file is closed
 

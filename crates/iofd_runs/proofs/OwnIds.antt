@@ -2,13 +2,13 @@
 use Rattle.std.proofs.Common.{◌≡◌, ℕ, Bool, true, false, cond, ◌||◌, not, Option, Some, None, List, [], ◌∷◌, refl, sym, ◌∙◌, arith, is_some}
 use Rattle.std.specs.List.{filter, find, list_any}
 use Rattle.std.proofs.lemmas.Bool.Decides.{nat_tests}
-use Rattle.iofd_words.specs.After.{changed, map_changes, attach_changes, target_changes, detach_changes, settle, without_areas, attached, detached, with_hwpt}
+use Rattle.iofd_words.specs.After.{changed, map_changes, attach_changes, target_changes, detach_changes, hwpt_changes, made_hwpt, settle, without_areas, attached, detached, joined, with_hwpt}
 use Rattle.iofd_words.specs.Answers.{Answers, IsHwptFor, IsHwptOf, IsTarget}
 use Rattle.iofd_words.specs.Attachments.{attachment_of}
 use Rattle.iofd_words.specs.Checks.{refusal}
 use Rattle.iofd_words.specs.Files.{user_of, device_of}
 use Rattle.iofd_rows.specs.Ids.{have_own_ids}
-use Rattle.iofd_words.specs.Objects.{automatic_hwpt, binding_of, comes_before, is_fresh, is_object, kind_of, with_object}
+use Rattle.iofd_words.specs.Objects.{automatic_hwpt, binding_of, comes_before, is_fresh, is_object, kind_of, settings_under, with_object}
 use Rattle.iofd_words.specs.Settings.{DeviceSettings, is_between}
 use Rattle.iofd_words.specs.World.{World}
 use Rattle.iofd_words.specs.declared.event.Event.{Event}
@@ -99,7 +99,7 @@ own_ids-with_hwpt w file ioas id width (Some object) answers own = own
 own_ids-with_hwpt w file ioas id width None answers own = own_ids-with_object (record { file = file; id = id; kind = kind.Hwpt ioas width true }) w.objects (unused w.objects file id answers) own
 
 pub keeps_own_ids : {A : Type 0} → (at : ℕ) (w : World) (e : Event A) (answer : Reply) → refusal w e ≡ None → Answers w e answer → have_own_ids w.objects ≡ true → have_own_ids (changed at w e answer).objects ≡ true
-unfolding changed settle without_areas attached detached Answers
+unfolding changed settle without_areas attached detached joined Answers
 keeps_own_ids at w (event.IoasAlloc file) (reply.Id id) none answers own =
     own_ids-with_object (record { file = file; id = id; kind = kind.Ioas }) w.objects (unused w.objects file id answers) own
 keeps_own_ids at w (event.Map file request) (reply.Iova iova) none answers own = mapped (user_of w.settings file)
@@ -109,6 +109,14 @@ keeps_own_ids at w (event.Map file request) (reply.Iova iova) none answers own =
     mapped (Some user) = own
 keeps_own_ids at w (event.Unmap file request) (reply.Bytes count) none answers own = own
 keeps_own_ids at w (event.Unmap file request) (reply.Pending errno) none answers own = own
+keeps_own_ids at w (event.HwptAlloc file request) (reply.Id id) none answers own =
+    made (settings_under w.settings w.objects file request.device)
+  where
+    made : (settings : Option DeviceSettings)
+        → have_own_ids (hwpt_changes w file request.ioas id settings).objects ≡ true
+    made None = own
+    made (Some settings) =
+        own_ids-with_object (made_hwpt file request.ioas id settings) w.objects (unused w.objects file id answers) own
 keeps_own_ids at w (event.Destroy file id) reply.Done none answers own = own_ids-filter _ w.objects own
 keeps_own_ids at w (event.Close file) reply.Done none answers own = own_ids-filter _ w.objects own
 keeps_own_ids at w (event.UserMap user va) (reply.Frame frame) none answers own = own
@@ -117,6 +125,7 @@ keeps_own_ids at w (event.UserUnmap user va) reply.Done none answers own = own
 keeps_own_ids at w (event.UserWrite user va bytes) reply.Done none answers own = own
 keeps_own_ids at w (event.Bind file device) (reply.Id id) none answers own =
     own_ids-with_object (record { file = file; id = id; kind = kind.Device device }) w.objects (unused w.objects file id answers) own
+keeps_own_ids at w (event.Unbind file id) reply.Done none answers own = own_ids-filter _ w.objects own
 keeps_own_ids at w (event.Attach device pt_id) (reply.Id id) none answers own = bound (binding_of w.objects device) (device_of w.settings device) answers
   where
     bound : (object : Option Object) (settings : Option DeviceSettings) → IsHwptOf w pt_id id object settings → have_own_ids (attach_changes w device pt_id id object settings).objects ≡ true

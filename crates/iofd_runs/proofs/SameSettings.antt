@@ -1,11 +1,11 @@
 -- No event changes what a server was opened with.
 use Rattle.std.proofs.Common.{◌≡◌, ℕ, Option, Some, None, List, refl, ◌∙◌}
-use Rattle.iofd_words.specs.After.{changed, map_changes, attach_changes, target_changes, detach_changes, settle, without_areas, attached, detached}
+use Rattle.iofd_words.specs.After.{changed, map_changes, attach_changes, target_changes, detach_changes, hwpt_changes, settle, without_areas, attached, detached, joined}
 use Rattle.iofd_words.specs.Answers.{Answers}
 use Rattle.iofd_words.specs.Attachments.{attachment_of}
 use Rattle.iofd_words.specs.Checks.{refusal}
 use Rattle.iofd_words.specs.Files.{user_of, device_of}
-use Rattle.iofd_words.specs.Objects.{binding_of, kind_of}
+use Rattle.iofd_words.specs.Objects.{binding_of, kind_of, settings_under}
 use Rattle.iofd_words.specs.Settings.{DeviceSettings, Settings}
 use Rattle.iofd_words.specs.Tables.{with_tables}
 use Rattle.iofd_words.specs.World.{World}
@@ -21,7 +21,7 @@ use Rattle.iofd_words.specs.declared.rows.ObjectKind.{ObjectKind}
 use Rattle.iofd_words.specs.declared.rows.ObjectKind.TheVariants as kind
 
 pub changed_settings : {A : Type 0} → (at : ℕ) (w : World) (e : Event A) (answer : Reply) → (changed at w e answer).settings ≡ w.settings
-unfolding changed settle without_areas attached detached
+unfolding changed settle without_areas attached detached joined
 changed_settings at w (event.IoasAlloc file) (reply.Id id) = refl
 changed_settings at w (event.Map file request) (reply.Iova iova) = mapped (user_of w.settings file)
   where
@@ -30,6 +30,12 @@ changed_settings at w (event.Map file request) (reply.Iova iova) = mapped (user_
     mapped (Some user) = refl
 changed_settings at w (event.Unmap file request) (reply.Bytes count) = refl
 changed_settings at w (event.Unmap file request) (reply.Pending errno) = refl
+changed_settings at w (event.HwptAlloc file request) (reply.Id id) =
+    made (settings_under w.settings w.objects file request.device)
+  where
+    made : (settings : Option DeviceSettings) → (hwpt_changes w file request.ioas id settings).settings ≡ w.settings
+    made None = refl
+    made (Some settings) = refl
 changed_settings at w (event.Destroy file id) reply.Done = refl
 changed_settings at w (event.Close file) reply.Done = refl
 changed_settings at w (event.UserMap user va) (reply.Frame frame) = refl
@@ -37,6 +43,7 @@ changed_settings at w (event.AllowIovas file ioas ranges) reply.Done = refl
 changed_settings at w (event.UserUnmap user va) reply.Done = refl
 changed_settings at w (event.UserWrite user va bytes) reply.Done = refl
 changed_settings at w (event.Bind file device) (reply.Id id) = refl
+changed_settings at w (event.Unbind file id) reply.Done = refl
 changed_settings at w (event.Attach device pt_id) (reply.Id id) = bound (binding_of w.objects device) (device_of w.settings device)
   where
     bound : (object : Option Object) (settings : Option DeviceSettings) → (attach_changes w device pt_id id object settings).settings ≡ w.settings

@@ -1,5 +1,5 @@
 -- The world after an event that nothing refused, by the answer that the record has.
-use Rattle.std.specs.Prelude.{ℕ, ◌/◌, Bool, true, ◌==◌, ◌&&◌, not, Option, Some, None, List, [], ◌∷◌, ◌++◌, filter}
+use Rattle.std.specs.Prelude.{ℕ, ◌/◌, Bool, true, false, ◌==◌, ◌&&◌, not, Option, Some, None, List, [], ◌∷◌, ◌++◌, filter}
 use Rattle.std.specs.List.{list_any}
 use Rattle.iofd_words.specs.Allowed.{with_allowed, without_allowed}
 use Rattle.iofd_words.specs.Areas.{is_of, is_touched, with_area, with_leaving, all_paid}
@@ -7,7 +7,7 @@ use Rattle.iofd_words.specs.Attachments.{attachment_of, has_device_on, devices_o
 use Rattle.iofd_words.specs.Bounds.{Bounds}
 use Rattle.iofd_words.specs.Files.{user_of, device_of}
 use Rattle.iofd_words.specs.Frames.{frame_at, with_write, without_frame, without_page}
-use Rattle.iofd_words.specs.Objects.{automatic_hwpt, binding_of, is_automatic, is_object, kind_of, with_object, without_object}
+use Rattle.iofd_words.specs.Objects.{automatic_hwpt, binding_of, is_automatic, is_object, kind_of, settings_under, with_object, without_device_object, without_object}
 use Rattle.iofd_words.specs.Pages.{page_of, offset_of}
 use Rattle.iofd_words.specs.Pins.{pinned_pages, settled}
 use Rattle.iofd_words.specs.Rights.{is_writeable, rights_of}
@@ -16,6 +16,7 @@ use Rattle.iofd_words.specs.Span.{span_from}
 use Rattle.iofd_words.specs.World.{World}
 use Rattle.iofd_words.specs.declared.event.Event.{Event}
 use Rattle.iofd_words.specs.declared.event.Event.TheVariants as event
+use Rattle.iofd_words.specs.declared.event.HwptRequest.{HwptRequest}
 use Rattle.iofd_words.specs.declared.event.MapRequest.{MapRequest}
 use Rattle.iofd_words.specs.declared.event.UnmapRequest.{UnmapRequest}
 use Rattle.iofd_words.specs.declared.numbers.DeviceNo.{DeviceNo}
@@ -114,10 +115,18 @@ detached w device a =
       areas = all_paid device w.areas;
     }
 
--- a device is attached to what its file has under the id: an address space
+-- the device translates by a page table that is there
+unfoldable pub joined : World → DeviceNo → ObjId → Object → World
+joined w device id bound =
+    record w {
+      attachments = with_attachment (record { device = device; file = bound.file; hwpt = id }) w.attachments;
+      areas = all_paid device w.areas;
+    }
+
+-- a device is attached to what its file has under the id: an address space, or a page table
 abbrev pub target_changes : World → DeviceNo → ObjId → ObjId → Object → DeviceSettings → Option ObjectKind → World
 target_changes w device pt_id id bound settings (Some kind.Ioas) = settle w (attached w device pt_id id bound settings)
-target_changes w device pt_id id bound settings (Some (kind.Hwpt ioas width automatic)) = w
+target_changes w device pt_id id bound settings (Some (kind.Hwpt ioas width automatic)) = joined w device id bound
 target_changes w device pt_id id bound settings (Some (kind.Device other)) = w
 target_changes w device pt_id id bound settings None = w
 
@@ -131,6 +140,16 @@ attach_changes w device pt_id id (Some bound) (Some settings) =
 abbrev pub detach_changes : World → DeviceNo → Option Attachment → World
 detach_changes w device None = w
 detach_changes w device (Some a) = settle w (detached w device a)
+
+-- a page table of the device's width over the address space, which stays until it is destroyed
+abbrev pub made_hwpt : FileNo → ObjId → ObjId → DeviceSettings → Object
+made_hwpt file ioas id settings = record { file = file; id = id; kind = kind.Hwpt ioas settings.width false }
+
+-- a HWPT_ALLOC names a device of its file, and so one of the settings
+abbrev pub hwpt_changes : World → FileNo → ObjId → ObjId → Option DeviceSettings → World
+hwpt_changes w file ioas id None = w
+hwpt_changes w file ioas id (Some settings) =
+    settle w (record w { objects = with_object (made_hwpt file ioas id settings) w.objects })
 
 -- ---- the world after each event, by the kind of its answer; each other kind is no answer of the event, and leaves the world
 
@@ -151,6 +170,11 @@ unmapped w file request (reply.Bytes count) = settle w (without_areas (is_touche
 unmapped w file request (reply.Pending errno) =
     record w { areas = with_leaving w.areas (devices_of w.objects w.attachments file request.ioas) file request }
 unmapped w file request answer = w
+
+abbrev pub hwpt_allocated : World → FileNo → HwptRequest → Reply → World
+hwpt_allocated w file request (reply.Id id) =
+    hwpt_changes w file request.ioas id (settings_under w.settings w.objects file request.device)
+hwpt_allocated w file request answer = w
 
 abbrev pub destroyed : World → FileNo → ObjId → Reply → World
 destroyed w file id reply.Done =
@@ -194,6 +218,10 @@ device_bound w file device (reply.Id id) =
     record w { objects = with_object (record { file = file; id = id; kind = kind.Device device }) w.objects }
 device_bound w file device answer = w
 
+abbrev pub device_unbound : World → FileNo → ObjId → Reply → World
+device_unbound w file id reply.Done = record w { objects = without_device_object file id w.objects }
+device_unbound w file id answer = w
+
 abbrev pub device_attached : World → DeviceNo → ObjId → Reply → World
 device_attached w device pt_id (reply.Id id) =
     attach_changes w device pt_id id (binding_of w.objects device) (device_of w.settings device)
@@ -219,12 +247,14 @@ changed at w (event.IoasAlloc file) answer = allocated w file answer
 changed at w (event.AllowIovas file ioas ranges) answer = ranges_allowed w file ioas ranges answer
 changed at w (event.Map file request) answer = mapped at w file request answer
 changed at w (event.Unmap file request) answer = unmapped w file request answer
+changed at w (event.HwptAlloc file request) answer = hwpt_allocated w file request answer
 changed at w (event.Destroy file id) answer = destroyed w file id answer
 changed at w (event.Close file) answer = file_closed w file answer
 changed at w (event.UserMap user va) answer = user_mapped w user va answer
 changed at w (event.UserUnmap user va) answer = user_unmapped w user va answer
 changed at w (event.UserWrite user va bytes) answer = user_written w user va bytes answer
 changed at w (event.Bind file device) answer = device_bound w file device answer
+changed at w (event.Unbind file id) answer = device_unbound w file id answer
 changed at w (event.Attach device pt_id) answer = device_attached w device pt_id answer
 changed at w (event.Detach device) answer = device_detached w device answer
 changed at w (event.Flush device) answer = device_flushed w device answer

@@ -35,10 +35,10 @@ abbrev pub IsHwptFor : World → FileNo → ObjId → Option Object → Type 0
 IsHwptFor w file id (Some automatic) = id ≡ automatic.id
 IsHwptFor w file id None = IsTrue (is_fresh w.objects file id)
 
--- the page table, by what the file has under the id that the attachment names: an address space
+-- the page table, by what the file has under the id that the attachment names: an address space, or the page table itself
 abbrev pub IsTarget : World → FileNo → ObjId → ObjId → Width → Option ObjectKind → Type 0
 IsTarget w file pt_id id width (Some kind.Ioas) = IsHwptFor w file id (automatic_hwpt w.objects file pt_id width)
-IsTarget w file pt_id id width (Some (kind.Hwpt ioas of automatic)) = ⊥
+IsTarget w file pt_id id width (Some (kind.Hwpt ioas of automatic)) = id ≡ pt_id
 IsTarget w file pt_id id width (Some (kind.Device bound)) = ⊥
 IsTarget w file pt_id id width None = ⊥
 
@@ -94,6 +94,7 @@ Answers w (event.IoasAlloc file) answer = AnswersId (λ id. IsTrue (is_fresh w.o
 Answers w (event.AllowIovas file ioas ranges) answer = AnswersDone answer
 Answers w (event.Map file request) answer = AnswersIova (IsMappedAt w file request (is_fixed request.flags)) answer
 Answers w (event.Unmap file request) answer = UnmapAnswers w file request answer
+Answers w (event.HwptAlloc file request) answer = AnswersId (λ id. IsTrue (is_fresh w.objects file id)) answer
 Answers w (event.Destroy file id) answer = AnswersDone answer
 Answers w (event.Close file) answer = AnswersDone answer
 Answers w (event.UserMap user va) answer =
@@ -101,6 +102,7 @@ Answers w (event.UserMap user va) answer =
 Answers w (event.UserUnmap user va) answer = AnswersDone answer
 Answers w (event.UserWrite user va bytes) answer = AnswersDone answer
 Answers w (event.Bind file device) answer = AnswersId (λ id. IsTrue (is_fresh w.objects file id)) answer
+Answers w (event.Unbind file id) answer = AnswersDone answer
 Answers w (event.Attach device pt_id) answer =
     AnswersId (λ id. IsHwptOf w pt_id id (binding_of w.objects device) (device_of w.settings device)) answer
 Answers w (event.Detach device) answer = AnswersDone answer

@@ -8,7 +8,7 @@ use Rattle.iofd_words.specs.Attachments.{attachment_of, has_device_on}
 use Rattle.iofd_words.specs.Files.{is_user, is_device, limit_of, user_of, device_of}
 use Rattle.iofd_words.specs.Bounds.{Bounds}
 use Rattle.iofd_words.specs.FirstTrue.{first_true}
-use Rattle.iofd_words.specs.Objects.{kind_of, has_ioas, has_hwpt, automatic_hwpt, is_full, objects_of, is_bound_device}
+use Rattle.iofd_words.specs.Objects.{kind_of, has_ioas, has_hwpt, automatic_hwpt, is_full, objects_of, is_bound_device, device_in, device_under, settings_under}
 use Rattle.iofd_words.specs.Pages.{is_whole, page_of, is_above_sum, is_above_user, crosses}
 use Rattle.iofd_words.specs.Pins.{ObjectPage, unpinned_pages}
 use Rattle.iofd_words.specs.Ranges.{meets_some}
@@ -18,9 +18,11 @@ use Rattle.iofd_words.specs.Settings.{DeviceSettings}
 use Rattle.iofd_words.specs.Span.{holds, span_from}
 use Rattle.iofd_words.specs.Usable.{allowed_spans, beyond, interrupt_range, occupied, reserved_by, unusable}
 use Rattle.iofd_words.specs.View.{View, view}
+use Rattle.iofd_words.specs.Width.{bits_of}
 use Rattle.iofd_words.specs.World.{World}
 use Rattle.iofd_words.specs.declared.event.Event.{Event}
 use Rattle.iofd_words.specs.declared.event.Event.TheVariants as event
+use Rattle.iofd_words.specs.declared.event.HwptRequest.{HwptRequest}
 use Rattle.iofd_words.specs.declared.event.MapRequest.{MapRequest}
 use Rattle.iofd_words.specs.declared.event.UnmapRequest.{UnmapRequest}
 use Rattle.iofd_words.specs.declared.numbers.DeviceNo.{DeviceNo}
@@ -33,6 +35,7 @@ use Rattle.iofd_words.specs.declared.refusal.Cause.{Cause}
 use Rattle.iofd_words.specs.declared.refusal.Cause.TheVariants as cause
 use Rattle.iofd_words.specs.declared.rows.ObjectKind.{ObjectKind}
 use Rattle.iofd_words.specs.declared.rows.ObjectKind.TheVariants as kind
+use Rattle.iofd_words.specs.declared.width.Width.{Width}
 
 -- ---- parts of the tests
 
@@ -118,21 +121,41 @@ is_used v file id (Some kind.Ioas) = has_hwpt v.objects file id
 is_used v file id (Some (kind.Hwpt ioas width automatic)) = has_device_on v.attachments file id
 is_used v file id (Some (kind.Device device)) = false
 
+-- the device that the object binds is attached
+abbrev pub is_attached : View → Option ObjectKind → Bool
+is_attached v None = false
+is_attached v (Some kind) =
+    elim (device_in kind) [ Some device ↦ is_some (attachment_of v.attachments device) | None ↦ false ]
+
 abbrev pub is_device_object : Option ObjectKind → Bool
 is_device_object None = false
 is_device_object (Some kind) = is_bound_device kind
 
--- with the device attached, an area or an allowed range of the address space would lie outside what can be used
+-- without these spans an area or an allowed range of the address space would lie outside what can be used
+abbrev pub narrows_without : View → FileNo → ObjId → List Bounds → Bool
+narrows_without v file ioas spans =
+    list_any (meets_some (spans ++ unusable_in v file ioas))
+    (map (λ area. area.span) (v.areas_of file ioas) ++ v.allowed_of file ioas)
+
+-- with the device attached, one would
 abbrev pub narrows : View → FileNo → ObjId → Option DeviceSettings → Bool
 narrows v file ioas None = false
-narrows v file ioas (Some device) =
-    list_any (meets_some (beyond device.width ∷ reserved_by device ++ unusable_in v file ioas))
-    (map (λ area. area.span) (v.areas_of file ioas) ++ v.allowed_of file ioas)
+narrows v file ioas (Some device) = narrows_without v file ioas (beyond device.width ∷ reserved_by device)
+
+-- with a page table of the device's width one would: what the device reserves isn't kept before it is attached
+abbrev pub narrows_by_width : View → FileNo → ObjId → Option DeviceSettings → Bool
+narrows_by_width v file ioas None = false
+narrows_by_width v file ioas (Some device) = narrows_without v file ioas (beyond device.width ∷ [])
 
 -- an attachment would have to make a page table, and the file has no room for it
 abbrev pub lacks_room_for_hwpt : View → FileNo → ObjId → Option DeviceSettings → Bool
 lacks_room_for_hwpt v file ioas None = false
 lacks_room_for_hwpt v file ioas (Some device) = is_none (automatic_hwpt v.objects file ioas device.width) && is_full v.objects file
+
+-- the device's tables don't have this width
+abbrev pub has_other_width : Option DeviceSettings → Width → Bool
+has_other_width None width = false
+has_other_width (Some device) width = not (bits_of device.width == bits_of width)
 
 -- an x86 device's address of interrupts
 abbrev pub is_interrupt : Option DeviceSettings → ℕ → Bool
@@ -157,8 +180,7 @@ user_access_checks v user va len =
     ∷ (cause.Absent, is_none (v.frame_at user (page_of va)))
     ∷ []
 
--- those of Attach, of a device that isn't attached, by what its file has under the id: an address space. No page table may be
--- named yet.
+-- those of Attach, of a device that isn't attached, by what its file has under the id: an address space, or a page table
 abbrev pub target_checks : View → DeviceNo → ObjId → FileNo → Option ObjectKind → List (Cause × Bool)
 target_checks v device pt_id file (Some kind.Ioas) =
     (cause.Narrow, narrows v file pt_id (device_of v.settings device))
@@ -166,7 +188,10 @@ target_checks v device pt_id file (Some kind.Ioas) =
     ∷ (cause.Absent, lacks_attached_page v file pt_id)
     ∷ (cause.Account, passes_limit_attached v file pt_id)
     ∷ []
-target_checks v device pt_id file (Some (kind.Hwpt ioas width automatic)) = (cause.Id, true) ∷ []
+target_checks v device pt_id file (Some (kind.Hwpt ioas width automatic)) =
+    (cause.Width, has_other_width (device_of v.settings device) width)
+    ∷ (cause.Narrow, narrows v file ioas (device_of v.settings device))
+    ∷ []
 target_checks v device pt_id file (Some (kind.Device bound)) = (cause.Id, true) ∷ []
 target_checks v device pt_id file None = (cause.Id, true) ∷ []
 
@@ -216,6 +241,17 @@ unmap_checks v file request =
     ∷ (cause.Span, is_cut (unmapped_span request) (v.areas_of file request.ioas))
     ∷ []
 
+unfoldable pub hwpt_alloc_checks : View → FileNo → HwptRequest → List (Cause × Bool)
+hwpt_alloc_checks v file request =
+    (cause.Id, not (v.is_open file))
+    ∷ (cause.Id, is_none (device_under v.objects file request.device))
+    ∷ (cause.Id, not (has_ioas v.objects file request.ioas))
+    ∷ (cause.Narrow, narrows_by_width v file request.ioas (settings_under v.settings v.objects file request.device))
+    ∷ (cause.Full, is_full v.objects file)
+    ∷ (cause.Absent, lacks_attached_page v file request.ioas)
+    ∷ (cause.Account, passes_limit_attached v file request.ioas)
+    ∷ []
+
 unfoldable pub destroy_checks : View → FileNo → ObjId → List (Cause × Bool)
 destroy_checks v file id =
     (cause.Id, not (v.is_open file))
@@ -256,6 +292,13 @@ bind_checks v file device =
     ∷ (cause.Full, is_full v.objects file)
     ∷ []
 
+unfoldable pub unbind_checks : View → FileNo → ObjId → List (Cause × Bool)
+unbind_checks v file id =
+    (cause.Id, not (v.is_open file))
+    ∷ (cause.Id, not (is_device_object (kind_of v.objects file id)))
+    ∷ (cause.InUse, is_attached v (kind_of v.objects file id))
+    ∷ []
+
 unfoldable pub attach_checks : View → DeviceNo → ObjId → List (Cause × Bool)
 attach_checks v device pt_id =
     elim (v.binding_of device) [ None ↦ (cause.Id, true) ∷ [] | Some bound ↦ bound_attach_checks v device pt_id bound.file ]
@@ -280,12 +323,14 @@ checks v (event.IoasAlloc file) = ioas_alloc_checks v file
 checks v (event.AllowIovas file ioas ranges) = allow_iovas_checks v file ioas ranges
 checks v (event.Map file request) = map_checks v file request
 checks v (event.Unmap file request) = unmap_checks v file request
+checks v (event.HwptAlloc file request) = hwpt_alloc_checks v file request
 checks v (event.Destroy file id) = destroy_checks v file id
 checks v (event.Close file) = close_checks v file
 checks v (event.UserMap user va) = user_map_checks v user va
 checks v (event.UserUnmap user va) = user_unmap_checks v user va
 checks v (event.UserWrite user va bytes) = user_write_checks v user va bytes
 checks v (event.Bind file device) = bind_checks v file device
+checks v (event.Unbind file id) = unbind_checks v file id
 checks v (event.Attach device pt_id) = attach_checks v device pt_id
 checks v (event.Detach device) = detach_checks v device
 checks v (event.Flush device) = flush_checks v device

@@ -1,7 +1,8 @@
 -- The objects of a file (iommufd.rst, "User Objects").
 use Rattle.std.specs.Prelude.{◌-◌, ◌^◌, Bool, true, false, ◌==◌, ◌&&◌, ◌||◌, not, nat_le, nat_lt, Option, Some, None, is_some, List, [], ◌∷◌, length, filter, find, if◌then◌else◌}
 use Rattle.std.specs.List.{list_any}
-use Rattle.iofd_words.specs.Settings.{is_between}
+use Rattle.iofd_words.specs.Files.{device_of}
+use Rattle.iofd_words.specs.Settings.{Settings, DeviceSettings, is_between}
 use Rattle.iofd_words.specs.declared.numbers.FileNo.{FileNo}
 use Rattle.iofd_words.specs.declared.numbers.ObjId.{ObjId}
 use Rattle.iofd_words.specs.declared.numbers.DeviceNo.{DeviceNo}
@@ -55,6 +56,12 @@ is_bound_as device kind.Ioas = false
 is_bound_as device (kind.Hwpt ioas width automatic) = false
 is_bound_as device (kind.Device bound) = bound.0 == device.0
 
+-- the device that is bound by it
+abbrev pub device_in : ObjectKind → Option DeviceNo
+device_in kind.Ioas = None
+device_in (kind.Hwpt ioas width automatic) = None
+device_in (kind.Device device) = Some device
+
 -- ---- all objects
 
 -- the kind of a file's object, if it has one of this id
@@ -76,6 +83,15 @@ has_hwpt objects file ioas = list_any (λ object. object.file.0 == file.0 && is_
 abbrev pub automatic_hwpt : List Object → FileNo → ObjId → Width → Option Object
 automatic_hwpt objects file ioas width = find (λ object. object.file.0 == file.0 && is_automatic_over ioas width object.kind) objects
 
+-- the device that the file has under this id
+abbrev pub device_under : List Object → FileNo → ObjId → Option DeviceNo
+device_under objects file id = elim (kind_of objects file id) [ Some kind ↦ device_in kind | None ↦ None ]
+
+-- and what is set for it
+abbrev pub settings_under : Settings → List Object → FileNo → ObjId → Option DeviceSettings
+settings_under settings objects file id =
+    elim (device_under objects file id) [ Some device ↦ device_of settings device | None ↦ None ]
+
 -- the object by which a device is bound to a file
 abbrev pub binding_of : List Object → DeviceNo → Option Object
 binding_of objects device = find (λ object. is_bound_as device object.kind) objects
@@ -95,6 +111,11 @@ comes_before a b = nat_lt a.file.0 b.file.0 || (a.file.0 == b.file.0 && nat_lt a
 abbrev pub with_object : Object → List Object → List Object
 with_object object [] = object ∷ []
 with_object object (o ∷ os) = if comes_before object o then object ∷ o ∷ os else o ∷ with_object object os
+
+-- the file's device of this id goes
+abbrev pub without_device_object : FileNo → ObjId → List Object → List Object
+without_device_object file id objects =
+    filter (λ object. not (is_object file id object && is_bound_device object.kind)) objects
 
 abbrev pub without_object : FileNo → ObjId → List Object → List Object
 without_object file id objects = filter (λ object. not (is_object file id object)) objects

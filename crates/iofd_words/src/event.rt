@@ -29,6 +29,14 @@ pub struct UnmapRequest {
     pub length: u64,
 }
 
+/// What HWPT_ALLOC asks for (uapi header, `struct iommu_hwpt_alloc`): a page table of the device's width over an address space,
+/// both by their ids in the file.
+#[derive(Clone, Copy, PartialEq, Eq, Debug)]
+pub struct HwptRequest {
+    pub device: ObjId,
+    pub ioas: ObjId,
+}
+
 /// A step that is recorded. One with a list owns it.
 #[derive(Debug, Drop)]
 pub enum Event<A: Allocator = Global> {
@@ -40,6 +48,8 @@ pub enum Event<A: Allocator = Global> {
     Map(FileNo, MapRequest),
     /// IOAS_UNMAP: takes areas away.
     Unmap(FileNo, UnmapRequest),
+    /// HWPT_ALLOC: makes a hardware page table.
+    HwptAlloc(FileNo, HwptRequest),
     /// DESTROY: takes an object away.
     Destroy(FileNo, ObjId),
     /// Closes a file.
@@ -52,7 +62,9 @@ pub enum Event<A: Allocator = Global> {
     UserWrite(UserNo, u64, Burst),
     /// Binds a device to a file.
     Bind(FileNo, DeviceNo),
-    /// Attaches a device to the address space of this id.
+    /// Takes the device of this id away from its file.
+    Unbind(FileNo, ObjId),
+    /// Attaches a device to the address space or the hardware page table of this id.
     Attach(DeviceNo, ObjId),
     /// Ends a device's attachment.
     Detach(DeviceNo),
@@ -76,12 +88,14 @@ impl<A: Allocator + Copy> Event<A> {
             }
             Event::Map(file, request) => Event::Map(*file, *request),
             Event::Unmap(file, request) => Event::Unmap(*file, *request),
+            Event::HwptAlloc(file, request) => Event::HwptAlloc(*file, *request),
             Event::Destroy(file, id) => Event::Destroy(*file, *id),
             Event::Close(file) => Event::Close(*file),
             Event::UserMap(user, va) => Event::UserMap(*user, *va),
             Event::UserUnmap(user, va) => Event::UserUnmap(*user, *va),
             Event::UserWrite(user, va, bytes) => Event::UserWrite(*user, *va, *bytes),
             Event::Bind(file, device) => Event::Bind(*file, *device),
+            Event::Unbind(file, id) => Event::Unbind(*file, *id),
             Event::Attach(device, pt_id) => Event::Attach(*device, *pt_id),
             Event::Detach(device) => Event::Detach(*device),
             Event::Flush(device) => Event::Flush(*device),

@@ -1,7 +1,7 @@
 use Rattle.std.proofs.Common.{[], ◌∷◌, length, refl, arith}
 use Rattle.iofd_words.specs.Run.{IsRun, world_of}
 use Rattle.iofd_words.specs.World.{opening}
-use Rattle.iofd_laws.proofs.KeepsBound.{IsTidy, keeps_tidy, tabled_tidy}
+use Rattle.iofd_laws.proofs.KeepsBound.{IsTidy, are_bound, keeps_tidy, opening_tidy, tabled_tidy}
 use Rattle.iofd_runs.proofs.KeepsOwnMemory.{OwnPins, keeps_own_pins, later_own, tabled_own}
 use Rattle.iofd_runs.proofs.KeepsPins.{opening_pinned}
 use Rattle.iofd_laws.proofs.MemoryApart.{after_same_memory}
@@ -17,5 +17,5 @@ returns g c = λ settings before r other number run another has.
     in
     let lawful = lawful_at 0 (opening settings) before r [] run in
     let next = after_keeps_at OwnPins tabled_own later_own keeps_own_pins (length before) (world_of settings before) r lawful own in
-    let tidy = run_keeps IsTidy tabled_tidy keeps_tidy 0 (opening settings) before sooner (record { own_ids = refl; bound = record { attachments = refl; debts = refl } }) in
-    after_same_memory (length before) (world_of settings before) r other number own next tidy.bound another has
+    let tidy = run_keeps IsTidy tabled_tidy keeps_tidy 0 (opening settings) before sooner (opening_tidy settings) in
+    after_same_memory (length before) (world_of settings before) r other number own next (are_bound _ tidy) another has
