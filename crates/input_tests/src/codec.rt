@@ -5,8 +5,8 @@ use ioctl_codec::{
     encode_reply_to, round_trip, spellable_commands,
 };
 use iofd_words::{
-    Cause, Errno, Iova, IovaRange, MapFlags, MapRequest, NoMemory, ObjId, RangeList, Refusal,
-    Reply, Span, UnmapRequest,
+    Cause, Errno, HwptRequest, Iova, IovaRange, MapFlags, MapRequest, NoMemory, ObjId, RangeList,
+    Refusal, Reply, Span, UnmapRequest,
 };
 use linked_list_allocator::LocalHeap;
 use std::alloc::{AllocError, Allocator, Global};
@@ -37,8 +37,10 @@ const MAP_CHOSEN: &[u8] =
 
 const UNMAP: &[u8] = b"\x18\0\0\0\x01\0\0\0\0\0\0\0\0\0\0\0\xff\xff\xff\xff\xff\xff\xff\xff";
 
+const HWPT: &[u8] = b"\x18\0\0\0\0\0\0\0\x01\x02\x03\x04\x05\x06\x07\x08\0\0\0\0\0\0\0\0";
+
 // With the structures' numbers. The first byte of each is the structure's length.
-static CANONICAL: [(u32, &[u8]); 8] = [
+static CANONICAL: [(u32, &[u8]); 9] = [
     (0x3b80, DESTROY),
     (0x3b81, ALLOC),
     (0x3b82, ALLOW),
@@ -47,6 +49,7 @@ static CANONICAL: [(u32, &[u8]); 8] = [
     (0x3b85, MAP),
     (0x3b85, MAP_CHOSEN),
     (0x3b86, UNMAP),
+    (0x3b89, HWPT),
 ];
 
 fn map(flags: u32, length: u64, iova: u64) -> Command {
@@ -64,6 +67,13 @@ fn unmap(iova: u64, length: u64) -> Command {
         ioas: ObjId(1),
         iova: Iova(iova),
         length,
+    })
+}
+
+fn hwpt() -> Command {
+    Command::HwptAlloc(HwptRequest {
+        device: ObjId(0x0403_0201),
+        ioas: ObjId(0x0807_0605),
     })
 }
 
@@ -85,7 +95,7 @@ fn allow(alloc: Global) -> Result<Command, AllocError> {
 }
 
 // The commands that the canonical bytes are, in the same order.
-fn commands(alloc: Global) -> Result<[Command; 8], AllocError> {
+fn commands(alloc: Global) -> Result<[Command; 9], AllocError> {
     Ok([
         Command::Destroy(ObjId(1)),
         Command::IoasAlloc,
@@ -95,6 +105,7 @@ fn commands(alloc: Global) -> Result<[Command; 8], AllocError> {
         map(7, 0x2000, 0x1000),
         map(6, 0x2000, 0),
         unmap(0, u64::MAX),
+        hwpt(),
     ])
 }
 
@@ -113,8 +124,11 @@ const UNMAPPED: &[u8] = b"\x18\0\0\0\x01\0\0\0\0\0\0\0\0\0\0\0\0\x60\0\0\0\0\0\0
 
 const PART_UNMAPPED: &[u8] = b"\x18\0\0\0\x01\0\0\0\xff\x4f\0\0\0\0\0\0\0\x10\0\0\0\0\0\0";
 
+const HWPT_MADE: &[u8] =
+    b"\x18\0\0\0\0\0\0\0\x01\x02\x03\x04\x05\x06\x07\x08\x09\x0a\x0b\x0c\0\0\0\0";
+
 // What is written back for a reply; nothing for one that isn't good.
-fn replies(alloc: Global) -> Result<[(Command, Reply, &'static [u8]); 13], AllocError> {
+fn replies(alloc: Global) -> Result<[(Command, Reply, &'static [u8]); 16], AllocError> {
     let last = 0xffff_ffff_ffff_f000;
     Ok([
         (Command::Destroy(ObjId(1)), Reply::Done, DESTROY),
@@ -125,11 +139,14 @@ fn replies(alloc: Global) -> Result<[(Command, Reply, &'static [u8]); 13], Alloc
         (map(7, 0x1000, last), Reply::Iova(Iova(last)), LAST_MAPPED),
         (unmap(0, u64::MAX), Reply::Bytes(0x6000), UNMAPPED),
         (unmap(0x4fff, 0x1002), Reply::Bytes(0x1000), PART_UNMAPPED),
+        (hwpt(), Reply::Id(ObjId(0x0c0b_0a09)), HWPT_MADE),
         (Command::Destroy(ObjId(1)), BUSY, b""),
         (map(7, 0x2000, 0x1000), BUSY, b""),
         (unmap(0, u64::MAX), Reply::Pending(Errno::EAGAIN), b""),
         (Command::IoasAlloc, Reply::Done, b""),
         (Command::IoasIovaRanges(ranges(1)), Reply::Done, b""),
+        (hwpt(), Reply::Done, b""),
+        (hwpt(), BUSY, b""),
     ])
 }
 
@@ -139,7 +156,12 @@ const RESERVED_AND_COUNT: &[u8] = b"\x18\0\0\0\x01\0\0\0\x01\0\0\0\x01\0\0\0\0\0
 const RANGES_AND_ENTRY: &[u8] =
     b"\x20\0\0\0\x01\0\0\0\x01\0\0\0\0\0\0\0\0\0\0\0\0\0\0\0\0\0\0\0\0\0\0\0\0\0\0\0\0\0\0\0\0\0\0\0\0\0\0\0";
 
-static REFUSED: [(u32, &[u8], Cause); 11] = [
+// The flags and the reserved field of a HWPT_ALLOC are looked at behind its tail, and before what follows.
+const HWPT_AND_FLAG: &[u8] = b"\x18\0\0\0\0\0\0\x80\x01\0\0\0\x02\0\0\0\0\0\0\0\0\0\0\0\0";
+
+const HWPT_AND_TAIL: &[u8] = b"\x19\0\0\0\0\0\0\0\x01\0\0\0\x02\0\0\0\0\0\0\0\x01\0\0\0\x01";
+
+static REFUSED: [(u32, &[u8], Cause); 15] = [
     (0x3b81, b"\x10\0\0\0\0\0\0\0\0\0\0\0\x01\0\0\0", Cause::Tail),
     (0x3b81, b"\x08\0\0\0\0\0\0\0", Cause::Short),
     (0x3b87, ALLOC, Cause::Number),
@@ -156,6 +178,10 @@ static REFUSED: [(u32, &[u8], Cause); 11] = [
     ),
     (0x3b82, RESERVED_AND_COUNT, Cause::Unsupported),
     (0x3b84, RANGES_AND_ENTRY, Cause::Array),
+    (0x3b89, HWPT_AND_FLAG, Cause::Unsupported),
+    (0x3b89, HWPT_AND_TAIL, Cause::Tail),
+    (0x3b88, HWPT, Cause::Number),
+    (0x3b8a, HWPT, Cause::Number),
 ];
 
 // Canonical bytes, with another byte in a place.
@@ -187,6 +213,7 @@ fn is_same(a: &Command, b: &Command) -> bool {
         (Command::IoasIovaRanges(a), Command::IoasIovaRanges(b)) => a == b,
         (Command::IoasMap(a), Command::IoasMap(b)) => a == b,
         (Command::IoasUnmap(a), Command::IoasUnmap(b)) => a == b,
+        (Command::HwptAlloc(a), Command::HwptAlloc(b)) => a == b,
         _ => false,
     }
 }
@@ -285,11 +312,16 @@ const IGNORED_IOVA: &[u8] =
 const IGNORED_OUTPUT: &[u8] =
     b"\x20\0\0\0\x01\0\0\0\x01\0\0\0\0\0\0\0\xff\xff\xff\xff\xff\xff\xff\xff\xff\xff\xff\xff\xff\xff\xff\xff";
 
+// A HWPT_ALLOC with `out_hwpt_id`.
+const IGNORED_ID: &[u8] =
+    b"\x18\0\0\0\0\0\0\0\x01\x02\x03\x04\x05\x06\x07\x08\xff\xff\xff\xff\0\0\0\0";
+
 #[test]
 fn ignored_fields(rt: HostRuntime) {
     assert!(rt; reads(rt.alloc(), 0x3b85, IGNORED_IOVA, &map(6, 0x2000, 0)));
     let request = Command::IoasIovaRanges(ranges(1));
     assert!(rt; reads(rt.alloc(), 0x3b84, IGNORED_OUTPUT, &request));
+    assert!(rt; reads(rt.alloc(), 0x3b89, IGNORED_ID, &hwpt()));
 }
 
 // A structure of 16 bytes that are zero behind the known ones is read, and one of 12 is written back.
@@ -319,6 +351,27 @@ fn refusals(rt: HostRuntime) -> Result<(), Fail> {
     }
     for (place, row) in ONE_BYTE_OFF.iter().enumerate() {
         assert!(rt; refuses_byte(rt.alloc(), row)?, "byte of row {place}");
+    }
+    Ok(())
+}
+
+// Whether a HWPT_ALLOC is refused for each bit of the four bytes from this place on, set alone.
+fn refuses_each_bit(alloc: Global, from: usize) -> Result<bool, AllocError> {
+    for place in from..from.saturating_add(4) {
+        for bit in [1, 2, 4, 8, 16, 32, 64, 128] {
+            if !refuses_byte(alloc, &(0x3b89, HWPT, place, bit, Cause::Unsupported))? {
+                return Ok(false);
+            }
+        }
+    }
+    Ok(true)
+}
+
+// It knows no flag, and its last field is reserved.
+#[test]
+fn each_bit_of_flags_and_reserved_is_unsupported(rt: HostRuntime) -> Result<(), Fail> {
+    for place in [4, 20] {
+        assert!(rt; refuses_each_bit(rt.alloc(), place)?, "{place}");
     }
     Ok(())
 }

@@ -62,6 +62,7 @@ enum Said<'a> {
     UserRead(u16, u64, u8),
     UserWrite(u16, u64, &'a [u8]),
     Bind(u16, u16),
+    Unbind(u16, u32),
     Attach(u16, u32),
     Detach(u16),
     Flush(u16),
@@ -119,6 +120,7 @@ fn says(alloc: Global, step: &Step, said: Said) -> bool {
             user.0 == of && *at == va && burst.as_slice() == bytes
         }
         (Step::Bind(file, device), Said::Bind(to, of)) => file.0 == to && device.0 == of,
+        (Step::Unbind(file, id), Said::Unbind(of, at)) => file.0 == of && id.0 == at,
         (Step::Attach(device, space), Said::Attach(of, to)) => device.0 == of && space.0 == to,
         (Step::Detach(device), Said::Detach(of)) => device.0 == of,
         (Step::Flush(device), Said::Flush(of)) => device.0 == of,
@@ -172,7 +174,7 @@ fn steps_come_in_order(rt: HostRuntime) {
 }
 
 // Each with its first bad line.
-static BAD_SCRIPTS: [(&str, u64); 29] = [
+static BAD_SCRIPTS: [(&str, u64); 31] = [
     ("", 1),
     ("pool 8", 2),
     ("pool 8\n", 2),
@@ -199,17 +201,20 @@ static BAD_SCRIPTS: [(&str, u64); 29] = [
         "pool 16\nuser 8\nfile 1\ndevice 0100 57\ndevice 0018 39\nbegin\n",
         4,
     ),
-    ("pool 16\nuser 8\nfile 1\ndevice 0100 48\n", 4),
+    ("pool 16\nuser 8\nfile 1\ndevice 0100 48\n", 5),
     ("pool 16\nuser 8\nfile 1\ndevice 010 39\n", 4),
     (
         "pool 16\nuser 8\nfile 1\ndevice 0018 39\ndevice 0019 39\n",
-        5,
+        6,
     ),
     ("pool 16\nuser 8\nfile 1\nbegin\nbegin\n", 5),
     (
-        "pool 16\nuser 8\nuser 2\nfile 1\nfile 1\nfile 2\ndevice 0010 39 x86\ndevice 0018 39\ndevice 0100 48\nbegin\n",
-        8,
+        "pool 16\nuser 8\nuser 2\nfile 1\nfile 1\nfile 2\ndevice 0010 39 x86\ndevice 0018 39\ndevice 0100 64\nbegin\n",
+        9,
     ),
+    // The devices come behind all files.
+    ("pool 8\nuser 4\ndevice 0018 39\nfile 1\nbegin\n", 3),
+    ("pool 8\nuser 4\nfile 1\ndevice 0018 39\nfile 1\nbegin\n", 5),
     ("# \u{e9}\n", 1),
 ];
 
@@ -228,31 +233,38 @@ fn error<A: Allocator + Copy>(alloc: A, script: &str) -> Option<ScriptError> {
     read_script(alloc, script.as_bytes()).err()
 }
 
-// What stands behind `device`, and whether the device is then marked, and its reserved spans.
-static DEVICES: [(&str, bool, &[(u64, u64)]); 10] = [
-    ("0018 39", false, &[]),
-    ("0018 39 x86", true, &[]),
-    ("0018 39 4000-4fff", false, &[(0x4000, 0x4fff)]),
-    ("0018 39 x86 4000-4fff", true, &[(0x4000, 0x4fff)]),
-    ("0018 39 0-fff", false, &[(0, 0xfff)]),
-    ("0018 39 0-ffffffffffffffff", false, &[(0, u64::MAX)]),
+// What stands behind `device`, and its width then, whether it's marked, and its reserved spans.
+static DEVICES: [(&str, u8, bool, &[(u64, u64)]); 13] = [
+    ("0018 39", 39, false, &[]),
+    ("0018 39 x86", 39, true, &[]),
+    ("0018 48", 48, false, &[]),
+    ("0018 48 x86", 48, true, &[]),
+    ("0018 48 x86 4000-4fff", 48, true, &[(0x4000, 0x4fff)]),
+    ("0018 39 4000-4fff", 39, false, &[(0x4000, 0x4fff)]),
+    ("0018 39 x86 4000-4fff", 39, true, &[(0x4000, 0x4fff)]),
+    ("0018 39 0-fff", 39, false, &[(0, 0xfff)]),
+    ("0018 39 0-ffffffffffffffff", 39, false, &[(0, u64::MAX)]),
     (
         "0018 39 Fee00000-FEEFffff",
+        39,
         false,
         &[(0xfee0_0000, 0xfeef_ffff)],
     ),
     (
         "0018 39 x86 0000000000004000-0000000000004fff",
+        39,
         true,
         &[(0x4000, 0x4fff)],
     ),
     (
         "0018 39 9000-9fff 1000-2fff",
+        39,
         false,
         &[(0x9000, 0x9fff), (0x1000, 0x2fff)],
     ),
     (
         "0018 39 x86 1000-2fff 2000-3fff 1000-2fff",
+        39,
         true,
         &[(0x1000, 0x2fff), (0x2000, 0x3fff), (0x1000, 0x2fff)],
     ),
@@ -272,13 +284,13 @@ fn reserves(device: &DeviceConfig, spans: &[(u64, u64)]) -> bool {
 }
 
 #[test]
-fn a_device_line_says_its_mark_and_its_spans(rt: HostRuntime) -> Result<(), Fail> {
-    for (fields, x86, spans) in &DEVICES {
+fn a_device_line_says_its_width_its_mark_and_its_spans(rt: HostRuntime) -> Result<(), Fail> {
+    for (fields, bits, x86, spans) in &DEVICES {
         let text = with_device(rt.alloc(), fields)?;
         let (config, mut steps) = read_script(rt.alloc(), text.as_bytes())?;
         assert_eq!(rt; config.devices().len(), 1);
         let device = &config.devices()[0];
-        assert!(rt; device.source().0 == 0x18 && device.width().bits() == 39);
+        assert!(rt; device.source().0 == 0x18 && device.width().bits() == *bits);
         assert!(rt;
             device.is_x86() == *x86 && reserves(device, spans),
             "{fields}"
@@ -289,11 +301,17 @@ fn a_device_line_says_its_mark_and_its_spans(rt: HostRuntime) -> Result<(), Fail
 }
 
 // None of these may stand behind `device`.
-static BAD_DEVICES: [&str; 34] = [
+static BAD_DEVICES: [&str; 40] = [
     "",
     "0018",
-    "0018 48",
-    "0018 48 x86",
+    "0018 x86",
+    "0018 0",
+    "0018 38",
+    "0018 47",
+    "0018 57",
+    "0018 048",
+    "0018 480",
+    "0018 4 8",
     "0018 39 48",
     "0018 39 ",
     "0018 39 x86 ",
@@ -364,8 +382,121 @@ fn the_most_reserved_spans_are_read(rt: HostRuntime) -> Result<(), Fail> {
     Ok(())
 }
 
+// How many devices a script has, and its first bad line. Line 4 is that of the first device.
+static COUNTS: [(u32, Option<u64>); 6] = [
+    (0, None),
+    (1, None),
+    (2, None),
+    (256, None),
+    (257, Some(260)),
+    (300, Some(260)),
+];
+
+#[test]
+fn there_may_be_256_devices(rt: HostRuntime) -> Result<(), Fail> {
+    for (count, bad) in &COUNTS {
+        for fields in ["0018 39", "0018 48 x86 4000-4fff"] {
+            let text = with_devices(rt.alloc(), fields, *count)?;
+            assert!(rt; first_bad_line(text.as_bytes()) == *bad, "{count} {fields}");
+        }
+    }
+    Ok(())
+}
+
+// A script of so many devices that are alike.
+fn with_devices(alloc: Global, fields: &str, count: u32) -> Result<String, AllocError> {
+    let line = format!(in alloc; "device {fields}\n")?;
+    let devices = lines(alloc, &line, count)?;
+    format!(in alloc; "pool 8\nuser 4\nfile 1\n{devices}begin\n")
+}
+
+// A script of 256 devices with the source ids 0 to 255, those of 48 bits behind those of 39.
+fn with_all_devices(alloc: Global) -> Result<String, AllocError> {
+    let mut text = String::from_str(alloc, "pool 8\nuser 4\nfile 1\n")?;
+    for source in 0..256 {
+        let bits = if source < 100 { "39" } else { "48" };
+        let line = format!(in alloc; "device {source:04x} {bits}\n")?;
+        text.push_str(&line)?;
+    }
+    text.push_str("begin\n")?;
+    Ok(text)
+}
+
+// Whether these are the devices of that script, in their order.
+fn are_all(devices: &[DeviceConfig]) -> bool {
+    let mut numbered = (0..256).zip(devices);
+    let mut alike = numbered.all(|(source, device)| {
+        is_plain(device, source, if source < 100 { 39 } else { 48 })
+    });
+    devices.len() == 256 && alike
+}
+
+#[test]
+fn all_devices_are_read_in_their_order(rt: HostRuntime) -> Result<(), Fail> {
+    let text = with_all_devices(rt.alloc())?;
+    let (config, mut steps) = read_script(rt.alloc(), text.as_bytes())?;
+    assert!(rt; are_all(config.devices()));
+    assert!(rt; steps.next_step().is_none());
+    Ok(())
+}
+
+// Each device has a width, a mark and spans of its own.
+static THREE_DEVICES: &str = "pool 16
+user 8
+user 2
+file 1
+file 1
+file 2
+device 0010 39 x86
+# not this one
+device 0018 39 4000-4fff 9000-9fff
+
+device 0100 48
+begin
+bind 3 3
+";
+
+#[test]
+fn each_device_has_its_own_width_mark_and_spans(rt: HostRuntime) -> Result<(), Fail> {
+    let (config, mut steps) = read_script(rt.alloc(), THREE_DEVICES.as_bytes())?;
+    assert!(rt; config.files() == [UserNo(1), UserNo(1), UserNo(2)].as_slice());
+    assert!(rt; are_three(config.devices()));
+    assert!(rt; next_says(rt.alloc(), &mut steps, Said::Bind(3, 3)));
+    Ok(())
+}
+
+fn are_three(devices: &[DeviceConfig]) -> bool {
+    match devices {
+        [first, second, third] => {
+            first.source().0 == 0x10
+                && first.width().bits() == 39
+                && first.is_x86()
+                && first.reserved().is_empty()
+                && second.source().0 == 0x18
+                && second.width().bits() == 39
+                && !second.is_x86()
+                && reserves(second, &[(0x4000, 0x4fff), (0x9000, 0x9fff)])
+                && is_plain(third, 0x100, 48)
+        }
+        _ => false,
+    }
+}
+
+// The spans of one device don't count for another.
+#[test]
+fn each_device_has_at_most_16_reserved_spans(rt: HostRuntime) -> Result<(), Fail> {
+    for (count, bad) in [(16, None), (17, Some(5))] {
+        let most = lines(rt.alloc(), " 4000-4fff", 16)?;
+        let spans = lines(rt.alloc(), " 4000-4fff", count)?;
+        let fields = format!(in rt.alloc(); "0018 39{most}\ndevice 0019 48{spans}")?;
+        let text = with_device(rt.alloc(), &fields)?;
+        assert!(rt; first_bad_line(text.as_bytes()) == bad, "{count}");
+    }
+    Ok(())
+}
+
 // A script that is good but for one of these is bad at it.
-static BAD_STEPS: [&str; 51] = [
+static BAD_STEPS: [&str; 57] = [
     "access 1",
     "aattach 1 1 1",
     "adetach 1 1",
@@ -374,7 +505,13 @@ static BAD_STEPS: [&str; 51] = [
     "aread 1 1 1000 1",
     "awrite 1 1 1000 00",
     "notices 1 1",
-    "unbind 1 1",
+    "unbind",
+    "unbind 1",
+    "unbind 1 ",
+    "unbind 1 1 1",
+    "unbind 65536 1",
+    "unbind 1 4294967296",
+    "Unbind 1 1",
     "pool 8",
     "close",
     "close 1 ",
@@ -448,6 +585,17 @@ static NUMBERS: [(&str, Said<'static>); 5] = [
     ("ioctl 1 0000000000003B81 -", Said::Ioctl(1, 0x3b81, &[])),
 ];
 
+// At the ends of what a file, a device and an id may be.
+static BINDING_STEPS: [(&str, Said<'static>); 7] = [
+    ("bind 2 1", Said::Bind(2, 1)),
+    ("bind 65535 256", Said::Bind(65535, 256)),
+    ("unbind 2 1", Said::Unbind(2, 1)),
+    ("unbind 0 0", Said::Unbind(0, 0)),
+    ("unbind 65535 65536", Said::Unbind(65535, 65536)),
+    ("unbind 1 4294967295", Said::Unbind(1, u32::MAX)),
+    ("attach 256 4294967295", Said::Attach(256, u32::MAX)),
+];
+
 // At the ends of what a user, an address and the bytes may be.
 static MEMORY_STEPS: [(&str, Said<'static>); 9] = [
     ("uunmap 1 1000", Said::UserUnmap(1, 0x1000)),
@@ -482,6 +630,13 @@ fn line_says(alloc: Global, line: &str, said: Said) -> bool {
 #[test]
 fn numbers_have_zeros_before_them_and_either_case(rt: HostRuntime) {
     for (line, said) in &NUMBERS {
+        assert!(rt; line_says(rt.alloc(), line, *said), "{line}");
+    }
+}
+
+#[test]
+fn devices_are_bound_and_unbound(rt: HostRuntime) {
+    for (line, said) in &BINDING_STEPS {
         assert!(rt; line_says(rt.alloc(), line, *said), "{line}");
     }
 }

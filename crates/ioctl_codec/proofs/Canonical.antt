@@ -8,7 +8,7 @@ use Rattle.std.specs.Int.RustNames.{bit_and}
 use Rattle.iofd_words.specs.Rights.{has_flag}
 use Rattle.iofd_words.specs.declared.event.MapRequest.{MapRequest}
 use Rattle.ioctl_codec.specs.declared.command.Command.{Command}
-use Rattle.ioctl_codec.specs.declared.command.Command.TheVariants.{Destroy, IoasAlloc, IoasAllowIovas, IoasIovaRanges, IoasMap, IoasUnmap}
+use Rattle.ioctl_codec.specs.declared.command.Command.TheVariants.{Destroy, IoasAlloc, IoasAllowIovas, IoasIovaRanges, IoasMap, IoasUnmap, HwptAlloc}
 use Rattle.ioctl_codec.specs.Entries.{AreAddresses}
 use Rattle.ioctl_codec.specs.Layout.{AreOfWidth, are_allowed, carried, filled, spelled, length_of, structure_bytes}
 use Rattle.ioctl_codec.specs.Structures.{ioas_allow_iovas, ioas_map, map_values, structure_of, values_of, entries_of, is_spellable}
@@ -41,6 +41,7 @@ are_allowed-canonical (IoasMap m) e =
     let p = and-parts (has_known_flags m) (fixed || m.iova.0 == 0) e in
     are_allowed-map fixed m ∙ p.0
 are_allowed-canonical (IoasUnmap u) e = refl
+are_allowed-canonical (HwptAlloc r) e = refl
 
 carried-map : (fixed : Bool) (m : MapRequest) → (fixed || m.iova.0 == 0) ≡ true → carried (ioas_map fixed).fields (map_row fixed m) ≡ map_values m
 carried-map true m e = refl
@@ -56,6 +57,7 @@ carried-canonical (IoasMap m) e =
     let p = and-parts (has_known_flags m) (fixed || m.iova.0 == 0) e in
     carried-map fixed m p.1
 carried-canonical (IoasUnmap u) e = refl
+carried-canonical (HwptAlloc r) e = refl
 
 -- an address that isn't fixed is read as 0
 kept-map : (fixed : Bool) (m : MapRequest) (bytes : List ℕ) → read_values (ioas_map fixed) bytes ≡ map_values m → (fixed || m.iova.0 == 0) ≡ true
@@ -72,6 +74,7 @@ length_at_most (IoasAllowIovas ioas ranges) = lit≤ tt
 length_at_most (IoasIovaRanges r) = lit≤ tt
 length_at_most (IoasMap m) = lit≤ tt
 length_at_most (IoasUnmap u) = lit≤ tt
+length_at_most (HwptAlloc r) = lit≤ tt
 
 no_tail : {A : Type 0} (c : Command A) → replicate {A = ℕ} (length_of (structure_of c) - length_of (structure_of c)) 0 ≡ []
 no_tail (Destroy id) = refl
@@ -80,6 +83,7 @@ no_tail (IoasAllowIovas ioas ranges) = refl
 no_tail (IoasIovaRanges r) = refl
 no_tail (IoasMap m) = refl
 no_tail (IoasUnmap u) = refl
+no_tail (HwptAlloc r) = refl
 
 widths : {A : Type 0} (c : Command A) → FitsFields c → is_spellable c ≡ true → AreOfWidth (structure_of c).fields (canonical_row c)
 widths (Destroy id) fits spellable = fits
@@ -88,6 +92,7 @@ widths (IoasAllowIovas ioas ranges) fits spellable = (fits.0, (ltb-true (length 
 widths (IoasIovaRanges r) fits spellable = fits
 widths (IoasMap m) fits spellable = fits
 widths (IoasUnmap u) fits spellable = fits
+widths (HwptAlloc r) fits spellable = fits
 
 addresses : {A : Type 0} (c : Command A) → FitsFields c → AreAddresses (entries_of c)
 addresses (Destroy id) fits = tt
@@ -96,6 +101,7 @@ addresses (IoasAllowIovas ioas ranges) fits = fits.1
 addresses (IoasIovaRanges r) fits = tt
 addresses (IoasMap m) fits = tt
 addresses (IoasUnmap u) fits = tt
+addresses (HwptAlloc r) fits = tt
 
 -- a canonical spelling, the numbers of the structure and those of the entries being of their widths
 pub canonical_of : {A : Type 0} (c : Command A) → AreOfWidth (structure_of c).fields (canonical_row c) → AreAddresses (entries_of c) → is_spellable c ≡ true
@@ -141,6 +147,7 @@ spellable-if (IoasMap m) bytes numbers e values fits numbers_are =
     let fixed = has_flag m.flags.0 1 in
     and_both (has_known_flags m) (fixed || m.iova.0 == 0) (sym (are_allowed-map fixed m) ∙ e) (kept-map fixed m bytes values)
 spellable-if (IoasUnmap u) bytes numbers e values fits numbers_are = refl
+spellable-if (HwptAlloc r) bytes numbers e values fits numbers_are = refl
 
 pub spellable_from : {A : Type 0} (c : Command A) (nr : ℕ) (bytes : List ℕ) → Spells nr bytes c → is_spellable c ≡ true
 spellable_from c nr bytes spells =

@@ -5,11 +5,11 @@ use Rattle.std.specs.Prelude.{IfOk, slice_index}
 use Rattle.std.specs.Int.{w32, from_le_bytes}
 use Rattle.iofd_words.specs.Rights.{has_flag, is_fixed}
 use Rattle.ioctl_codec.specs.declared.command.Command.{Command}
-use Rattle.ioctl_codec.specs.declared.command.Command.TheVariants.{Destroy, IoasAlloc, IoasAllowIovas, IoasIovaRanges, IoasMap, IoasUnmap}
+use Rattle.ioctl_codec.specs.declared.command.Command.TheVariants.{Destroy, IoasAlloc, IoasAllowIovas, IoasIovaRanges, IoasMap, IoasUnmap, HwptAlloc}
 use Rattle.ioctl_codec.specs.declared.command.DecodeError.{DecodeError}
 use Rattle.ioctl_codec.specs.declared.command.DecodeError.TheVariants as errors
 use Rattle.ioctl_codec.specs.Layout.{Structure, IsLaidOut, entry_count}
-use Rattle.ioctl_codec.specs.Structures.{destroy, ioas_alloc, ioas_allow_iovas, ioas_iova_ranges, ioas_map, ioas_unmap, structure_of, values_of, entries_of}
+use Rattle.ioctl_codec.specs.Structures.{destroy, ioas_alloc, ioas_allow_iovas, ioas_iova_ranges, ioas_map, ioas_unmap, hwpt_alloc, structure_of, values_of, entries_of}
 use Rattle.iofd_words.specs.Bounds.{Bounds}
 use Rattle.ioctl_codec.specs.Entries.{AreAddresses, entries_at, entries_bytes}
 use Rattle.ioctl_codec.specs.Spelling.{Spells}
@@ -26,7 +26,8 @@ structure_in nr bytes =
     (cond (nr == 0x3B82) ioas_allow_iovas
     (cond (nr == 0x3B84) ioas_iova_ranges
     (cond (nr == 0x3B85) (ioas_map (has_flag (from_le_bytes w32 (take 4 (drop 4 bytes))) 1))
-    ioas_unmap))))
+    (cond (nr == 0x3B89) hwpt_alloc
+    ioas_unmap)))))
 
 structure-is : {A : Type 0} (c : Command A) (nr : ℕ) (bytes : List ℕ) → (structure_of c).number ≡ nr → values_of c ≡ read_values (structure_of c) bytes → structure_of c ≡ structure_in nr bytes
 unfolding structure_in read_numbers
@@ -38,6 +39,7 @@ structure-is (IoasMap m) nr bytes e values =
     let flags : m.flags.0 ≡ from_le_bytes w32 (take 4 (drop 4 bytes)) = ap (λ (vs : List ℕ). slice_index vs 0) values in
     subst (λ (n : ℕ). ioas_map (is_fixed m.flags) ≡ structure_in n bytes) e (ap (λ (n : ℕ). ioas_map (has_flag n 1)) flags)
 structure-is (IoasUnmap u) nr bytes e values = subst (λ (n : ℕ). ioas_unmap ≡ structure_in n bytes) e refl
+structure-is (HwptAlloc r) nr bytes e values = subst (λ (n : ℕ). hwpt_alloc ≡ structure_in n bytes) e refl
 
 -- both structures of a MAP have the same refusals
 pub refusal-map : (fixed : Bool) (bytes : List ℕ) → refusal_of (ioas_map true) bytes ≡ refusal_of (ioas_map fixed) bytes
@@ -52,6 +54,7 @@ refusal-number (IoasAllowIovas ioas ranges) nr bytes e = subst (λ (n : ℕ). re
 refusal-number (IoasIovaRanges r) nr bytes e = subst (λ (n : ℕ). refusal n bytes ≡ refusal_of ioas_iova_ranges bytes) e refl
 refusal-number (IoasMap m) nr bytes e = subst (λ (n : ℕ). refusal n bytes ≡ refusal_of (ioas_map (is_fixed m.flags)) bytes) e (refusal-map (has_flag m.flags.0 1) bytes)
 refusal-number (IoasUnmap u) nr bytes e = subst (λ (n : ℕ). refusal n bytes ≡ refusal_of ioas_unmap bytes) e refl
+refusal-number (HwptAlloc r) nr bytes e = subst (λ (n : ℕ). refusal n bytes ≡ refusal_of hwpt_alloc bytes) e refl
 
 structure-allow : (nr : ℕ) (bytes : List ℕ) → nr ≡ 0x3B82 → structure_in nr bytes ≡ ioas_allow_iovas
 unfolding structure_in
@@ -69,6 +72,7 @@ count_is (IoasAllowIovas ioas ranges) = refl
 count_is (IoasIovaRanges r) = refl
 count_is (IoasMap m) = count-map (is_fixed m.flags) (m.flags.0 ∷ m.ioas.0 ∷ m.user_va ∷ m.length ∷ m.iova.0 ∷ [])
 count_is (IoasUnmap u) = refl
+count_is (HwptAlloc r) = refl
 
 -- the command of a number, its values and its entries
 rebuilt : {A : Type 0} → ℕ → List ℕ → List Bounds → Command A
@@ -84,7 +88,8 @@ rebuilt nr values entries =
       length = slice_index values 3;
       iova = record { 0 = slice_index values 4 };
     }))
-    (IoasUnmap (record { ioas = record { 0 = slice_index values 0 }; iova = record { 0 = slice_index values 1 }; length = slice_index values 2 }))))))
+    (cond (nr == 0x3B89) (HwptAlloc (record { device = record { 0 = slice_index values 0 }; ioas = record { 0 = slice_index values 1 } }))
+    (IoasUnmap (record { ioas = record { 0 = slice_index values 0 }; iova = record { 0 = slice_index values 1 }; length = slice_index values 2 })))))))
 
 rebuilt-is : {A : Type 0} (c : Command A) → rebuilt (structure_of c).number (values_of c) (entries_of c) ≡ c
 unfolding rebuilt
@@ -94,6 +99,7 @@ rebuilt-is (IoasAllowIovas ioas ranges) = refl
 rebuilt-is (IoasIovaRanges r) = refl
 rebuilt-is (IoasMap m) = refl
 rebuilt-is (IoasUnmap u) = refl
+rebuilt-is (HwptAlloc r) = refl
 
 same_command : {A : Type 0} (c d : Command A) → (structure_of c).number ≡ (structure_of d).number → values_of c ≡ values_of d → entries_of c ≡ entries_of d → c ≡ d
 same_command {A} c d e f h =

@@ -6,7 +6,7 @@ use Rattle.iofd_words.specs.Rights.{is_fixed}
 use Rattle.iofd_words.specs.declared.event.MapRequest.{MapRequest}
 use Rattle.ioctl_codec.specs.Layout.{Role, Flags, Argument, Answered, Chosen, Count, Output, Ignored, Reserved, Structure, u32, u64}
 use Rattle.ioctl_codec.specs.declared.command.Command.{Command}
-use Rattle.ioctl_codec.specs.declared.command.Command.TheVariants.{Destroy, IoasAlloc, IoasAllowIovas, IoasIovaRanges, IoasMap, IoasUnmap}
+use Rattle.ioctl_codec.specs.declared.command.Command.TheVariants.{Destroy, IoasAlloc, IoasAllowIovas, IoasIovaRanges, IoasMap, IoasUnmap, HwptAlloc}
 
 -- id
 abbrev pub destroy : Structure
@@ -37,8 +37,12 @@ ioas_map fixed = record { number = 0x3B85; fields = u32 (Flags 7) ∷ u32 Argume
 abbrev pub ioas_unmap : Structure
 ioas_unmap = record { number = 0x3B86; fields = u32 Argument ∷ u64 Argument ∷ u64 Answered ∷ [] }
 
+-- flags (none is known), dev_id, pt_id (an address space), out_hwpt_id, reserved
+abbrev pub hwpt_alloc : Structure
+hwpt_alloc = record { number = 0x3B89; fields = u32 Reserved ∷ u32 Argument ∷ u32 Argument ∷ u32 Output ∷ u32 Reserved ∷ [] }
+
 abbrev pub structures : List Structure
-structures = destroy ∷ ioas_alloc ∷ ioas_allow_iovas ∷ ioas_iova_ranges ∷ ioas_map true ∷ ioas_unmap ∷ []
+structures = destroy ∷ ioas_alloc ∷ ioas_allow_iovas ∷ ioas_iova_ranges ∷ ioas_map true ∷ ioas_unmap ∷ hwpt_alloc ∷ []
 
 -- the structure of a command's number, if it's served (both of MAP have the same length and refusals)
 abbrev pub structure_at : ℕ → Option Structure
@@ -56,6 +60,7 @@ module _ {A : Type 0} where
   structure_of (IoasIovaRanges r) = ioas_iova_ranges
   structure_of (IoasMap m) = ioas_map (is_fixed m.flags)
   structure_of (IoasUnmap u) = ioas_unmap
+  structure_of (HwptAlloc r) = hwpt_alloc
 
   -- the entries that follow the structure
   abbrev pub entries_of : Command A → List Bounds
@@ -65,6 +70,7 @@ module _ {A : Type 0} where
   entries_of (IoasIovaRanges r) = []
   entries_of (IoasMap m) = []
   entries_of (IoasUnmap u) = []
+  entries_of (HwptAlloc r) = []
 
   -- what a command carries, in the order of the fields that carry it; a count is that of its entries
   abbrev pub values_of : Command A → List ℕ
@@ -74,6 +80,7 @@ module _ {A : Type 0} where
   values_of (IoasIovaRanges r) = r.ioas.0 ∷ r.places ∷ []
   values_of (IoasMap m) = map_values m
   values_of (IoasUnmap u) = u.ioas.0 ∷ u.iova.0 ∷ u.length ∷ []
+  values_of (HwptAlloc r) = r.device.0 ∷ r.ioas.0 ∷ []
 
   -- the commands that have a spelling
   abbrev pub is_spellable : Command A → Bool
@@ -83,3 +90,4 @@ module _ {A : Type 0} where
   is_spellable (IoasIovaRanges r) = true
   is_spellable (IoasMap m) = (bit_and m.flags.0 7 == m.flags.0) && (is_fixed m.flags || m.iova.0 == 0)
   is_spellable (IoasUnmap u) = true
+  is_spellable (HwptAlloc r) = true

@@ -5,9 +5,11 @@ ghost use Rattle.std.specs.Int.RustNames.{bit_and};
 ghost use Rattle.iofd_words.specs.Rights.{is_fixed};
 
 use crate::structure::{
-    DESTROY, IOAS_ALLOC, IOAS_ALLOW_IOVAS, IOAS_IOVA_RANGES, IOAS_MAP, IOAS_UNMAP,
+    DESTROY, HWPT_ALLOC, IOAS_ALLOC, IOAS_ALLOW_IOVAS, IOAS_IOVA_RANGES, IOAS_MAP, IOAS_UNMAP,
 };
-use iofd_words::{Iova, IovaRange, MapFlags, MapRequest, ObjId, RangeList, Refusal, UnmapRequest};
+use iofd_words::{
+    HwptRequest, Iova, IovaRange, MapFlags, MapRequest, ObjId, RangeList, Refusal, UnmapRequest,
+};
 use std::alloc::{Allocator, Global};
 
 // FIXED_IOVA, WRITEABLE and READABLE.
@@ -37,6 +39,8 @@ pub enum Command<A: Allocator = Global> {
     IoasMap(MapRequest),
     /// IOMMU_IOAS_UNMAP: takes areas away.
     IoasUnmap(UnmapRequest),
+    /// IOMMU_HWPT_ALLOC: makes a hardware page table.
+    HwptAlloc(HwptRequest),
 }
 
 impl<A: Allocator> Command<A> {
@@ -53,6 +57,7 @@ impl<A: Allocator> Command<A> {
             Command::IoasIovaRanges(_) => IOAS_IOVA_RANGES,
             Command::IoasMap(_) => IOAS_MAP,
             Command::IoasUnmap(_) => IOAS_UNMAP,
+            Command::HwptAlloc(_) => HWPT_ALLOC,
         }
     }
 
@@ -67,7 +72,8 @@ impl<A: Allocator> Command<A> {
             Command::Destroy(_)
             | Command::IoasAlloc
             | Command::IoasIovaRanges(_)
-            | Command::IoasUnmap(_) => true,
+            | Command::IoasUnmap(_)
+            | Command::HwptAlloc(_) => true,
         }
     }
 }

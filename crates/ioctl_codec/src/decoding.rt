@@ -4,7 +4,7 @@
 ghost use Rattle.std.specs.Prelude.{◌≡◌, ◌≢◌, ◌*◌, ◌<◌, ℕ, [], ◌∷◌, true, ◌&&◌, length, IfOk};
 ghost use Rattle.ioctl_codec.specs.Entries.{entries_at};
 ghost use Rattle.ioctl_codec.specs.Layout.{Flags, Reserved, is_allowed};
-ghost use Rattle.ioctl_codec.specs.Structures.{destroy, ioas_alloc, ioas_allow_iovas, ioas_iova_ranges, ioas_map, ioas_unmap, structure_of, values_of, entries_of};
+ghost use Rattle.ioctl_codec.specs.Structures.{destroy, hwpt_alloc, ioas_alloc, ioas_allow_iovas, ioas_iova_ranges, ioas_map, ioas_unmap, structure_of, values_of, entries_of};
 ghost use Rattle.ioctl_codec.specs.Spelling.{Spells};
 ghost use Rattle.ioctl_codec.specs.Refusals.{refusal_of, refusal, cause_of, refused_of, read_values, read_count, after_size, OnMemory, Gives, SpellsEntries};
 ghost use Rattle.ioctl_codec.specs.declared.command.Command.{Command};
@@ -14,12 +14,13 @@ use crate::command::{Command, DecodeError, RangesRequest, are_spellable, kept_io
 use crate::entries::read_entries;
 use crate::number::{u32_at, u64_at};
 use crate::structure::{
-    DESTROY, DESTROY_LENGTH, IOAS_ALLOC, IOAS_ALLOC_LENGTH, IOAS_ALLOW_IOVAS,
-    IOAS_ALLOW_IOVAS_LENGTH, IOAS_IOVA_RANGES, IOAS_IOVA_RANGES_LENGTH, IOAS_MAP, IOAS_MAP_LENGTH,
-    IOAS_UNMAP, IOAS_UNMAP_LENGTH,
+    DESTROY, DESTROY_LENGTH, HWPT_ALLOC, HWPT_ALLOC_LENGTH, IOAS_ALLOC, IOAS_ALLOC_LENGTH,
+    IOAS_ALLOW_IOVAS, IOAS_ALLOW_IOVAS_LENGTH, IOAS_IOVA_RANGES, IOAS_IOVA_RANGES_LENGTH, IOAS_MAP,
+    IOAS_MAP_LENGTH, IOAS_UNMAP, IOAS_UNMAP_LENGTH,
 };
 use iofd_words::{
-    Cause, Iova, MapFlags, MapRequest, NoMemory, ObjId, RangeList, Refusal, UnmapRequest,
+    Cause, HwptRequest, Iova, MapFlags, MapRequest, NoMemory, ObjId, RangeList, Refusal,
+    UnmapRequest,
 };
 use std::alloc::Allocator;
 
@@ -118,6 +119,33 @@ fn ioas_unmap_of<A: Allocator>(bytes: &[u8]) -> Result<Command<A>, Refusal>
     }))
 }
 
+// Whether a HWPT_ALLOC's flags, of which none is known, and its reserved field may be these.
+fn are_zero(flags: u32, reserved: u32) -> bool
+    ensures { result ≡ (is_allowed Reserved flags && is_allowed Reserved reserved) }
+{
+    flags == 0 && reserved == 0
+}
+
+// HWPT_ALLOC: flags, dev_id, pt_id, out_hwpt_id, reserved. The one before the last is ignored.
+fn hwpt_alloc_of<A: Allocator>(bytes: &[u8]) -> Result<Command<A>, Refusal>
+    ensures refused { cause_of result ≡ refusal_of hwpt_alloc bytes.now }
+    ensures structure { IfOk result (λ c. structure_of c ≡ hwpt_alloc) }
+    ensures values { IfOk result (λ c. values_of c ≡ read_values hwpt_alloc bytes.now) }
+    ensures entries { IfOk result (λ c. entries_of c ≡ []) }
+{
+    let (fields, after) = parts(bytes, HWPT_ALLOC_LENGTH)?;
+    let (flags, fields) = u32_at(fields);
+    let (device, fields) = u32_at(fields);
+    let (ioas, fields) = u32_at(fields);
+    let (_out_hwpt_id, fields) = u32_at(fields);
+    let (reserved, _) = u32_at(fields);
+    checked(are_zero(flags, reserved), 0, after)?;
+    Ok(Command::HwptAlloc(HwptRequest {
+        device: ObjId(device),
+        ioas: ObjId(ioas),
+    }))
+}
+
 // Reading by the command's number, where no entries follow the structure.
 fn read_alone<A: Allocator>(nr: u32, bytes: &[u8]) -> Result<Command<A>, Refusal>
     requires { nr ≢ 0x3b82 }
@@ -132,6 +160,7 @@ fn read_alone<A: Allocator>(nr: u32, bytes: &[u8]) -> Result<Command<A>, Refusal
         IOAS_IOVA_RANGES => ioas_iova_ranges_of(bytes),
         IOAS_MAP => ioas_map_of(bytes),
         IOAS_UNMAP => ioas_unmap_of(bytes),
+        HWPT_ALLOC => hwpt_alloc_of(bytes),
         _ => Err(Refusal {
             cause: Cause::Number,
         }),

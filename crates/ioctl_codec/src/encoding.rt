@@ -10,8 +10,8 @@ ghost use Rattle.ioctl_codec.specs.Spelling.{canonical, ranges_written_back, wri
 use crate::command::{Command, RangesRequest, count_of, kept_iova};
 use crate::entries::{put_ranges, put_spans};
 use crate::writing::{
-    put_destroy, put_ioas_alloc, put_ioas_allow_iovas, put_ioas_iova_ranges, put_ioas_map,
-    put_ioas_unmap,
+    put_destroy, put_hwpt_alloc, put_ioas_alloc, put_ioas_allow_iovas, put_ioas_iova_ranges,
+    put_ioas_map, put_ioas_unmap,
 };
 use iofd_words::{Iova, IovaRange, MapRequest, NoMemory, ObjId, Reply, Span, UnmapRequest};
 use std::alloc::Allocator;
@@ -75,6 +75,7 @@ fn put_command<A: Allocator>(out: &mut [u8; 64], command: &Command<A>) -> usize
         }
         Command::IoasMap(map) => put_map(out, *map),
         Command::IoasUnmap(unmap) => put_ioas_unmap(out, *unmap),
+        Command::HwptAlloc(request) => put_hwpt_alloc(out, *request, ObjId(0)),
     }
 }
 
@@ -163,9 +164,9 @@ pub fn encode_reply<A: Allocator, B: Allocator>(
 /// that is, at most 40. The rest of the buffer stays. It takes no memory.
 ///
 /// For a good reply it's the command's structure with the answer in its field: the new id of an
-/// IOAS_ALLOC in `out_ioas_id`, the address of a MAP in `iova`, the bytes that an UNMAP took away in
-/// `length`. Its size is the structure's own length, whatever size came in. The entries of an IOAS_ALLOW_IOVAS aren't
-/// written back. For any other reply, refused and pending ones among them, nothing is written; nor is it for an
+/// IOAS_ALLOC in `out_ioas_id`, that of a HWPT_ALLOC in `out_hwpt_id`, the address of a MAP in `iova`, the bytes that an
+/// UNMAP took away in `length`. Its size is the structure's own length, whatever size came in. The entries of an
+/// IOAS_ALLOW_IOVAS aren't written back. For any other reply, refused and pending ones among them, nothing is written; nor is it for an
 /// IOAS_IOVA_RANGES, for which `encode_ranges` does, nor for an IOAS_ALLOW_IOVAS with 2^32 ranges or more.
 #[tactic(auto, unfolding(crate::specs::Layout::structure_bytes))]
 pub fn encode_reply_to<A: Allocator>(
@@ -187,6 +188,7 @@ pub fn encode_reply_to<A: Allocator>(
         (Command::IoasUnmap(unmap), Reply::Bytes(length)) => {
             put_ioas_unmap(buffer, UnmapRequest { length, ..*unmap })
         }
+        (Command::HwptAlloc(request), Reply::Id(id)) => put_hwpt_alloc(buffer, *request, id),
         _ => 0,
     }
 }

@@ -12,6 +12,8 @@ pub const IOAS_MAP: u32 = 0x3b85;
 
 pub const IOAS_UNMAP: u32 = 0x3b86;
 
+pub const HWPT_ALLOC: u32 = 0x3b89;
+
 pub const DESTROY_LENGTH: u32 = 8;
 
 pub const IOAS_ALLOC_LENGTH: u32 = 12;
@@ -23,3 +25,5 @@ pub const IOAS_IOVA_RANGES_LENGTH: u32 = 32;
 pub const IOAS_MAP_LENGTH: u32 = 40;
 
 pub const IOAS_UNMAP_LENGTH: u32 = 24;
+
+pub const HWPT_ALLOC_LENGTH: u32 = 24;

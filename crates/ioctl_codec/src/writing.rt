@@ -3,13 +3,13 @@
 ghost use Rattle.std.specs.Prelude.{◌≡◌, ◌+◌, ◌^◌, ◌<◌, ◌≤◌, ◌++◌, [], ◌∷◌, take, drop, true, Some, None};
 ghost use Rattle.std.specs.Int.{w32, w64, to_le_bytes};
 ghost use Rattle.ioctl_codec.specs.Layout.{AreOfWidth, filled, structure_bytes};
-ghost use Rattle.ioctl_codec.specs.Structures.{destroy, ioas_alloc, ioas_allow_iovas, ioas_iova_ranges, ioas_map, ioas_unmap};
+ghost use Rattle.ioctl_codec.specs.Structures.{destroy, hwpt_alloc, ioas_alloc, ioas_allow_iovas, ioas_iova_ranges, ioas_map, ioas_unmap};
 
 use crate::structure::{
-    DESTROY_LENGTH, IOAS_ALLOC_LENGTH, IOAS_ALLOW_IOVAS_LENGTH, IOAS_IOVA_RANGES_LENGTH,
-    IOAS_MAP_LENGTH, IOAS_UNMAP_LENGTH,
+    DESTROY_LENGTH, HWPT_ALLOC_LENGTH, IOAS_ALLOC_LENGTH, IOAS_ALLOW_IOVAS_LENGTH,
+    IOAS_IOVA_RANGES_LENGTH, IOAS_MAP_LENGTH, IOAS_UNMAP_LENGTH,
 };
-use iofd_words::{MapRequest, ObjId, UnmapRequest};
+use iofd_words::{HwptRequest, MapRequest, ObjId, UnmapRequest};
 
 // Writes a number at a place, and answers the place behind it.
 fn put_u32(out: &mut [u8; 64], at: usize, number: u32) -> usize
@@ -111,4 +111,20 @@ pub fn put_ioas_unmap(out: &mut [u8; 64], unmap: UnmapRequest) -> usize
     let at = put_u32(out, at, unmap.ioas.0);
     let at = put_u64(out, at, unmap.iova.0);
     put_u64(out, at, unmap.length)
+}
+
+pub fn put_hwpt_alloc(out: &mut [u8; 64], request: HwptRequest, out_hwpt_id: ObjId) -> usize
+    ensures count { result ≡ 24 }
+    ensures bytes { out.new
+        ≡ structure_bytes hwpt_alloc (request.device.0 ∷ request.ioas.0 ∷ []) (Some out_hwpt_id.0)
+        ++ drop result out.old }
+    ensures fits { let fields = hwpt_alloc.fields in
+        AreOfWidth fields (filled fields (request.device.0 ∷ request.ioas.0 ∷ []) (Some out_hwpt_id.0)) }
+{
+    let at = put_u32(out, 0, HWPT_ALLOC_LENGTH);
+    let at = put_u32(out, at, 0);
+    let at = put_u32(out, at, request.device.0);
+    let at = put_u32(out, at, request.ioas.0);
+    let at = put_u32(out, at, out_hwpt_id.0);
+    put_u32(out, at, 0)
 }

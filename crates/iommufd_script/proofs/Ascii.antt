@@ -10,11 +10,11 @@ use Rattle.std.specs.List.{list_all, slice_split, join_with_byte}
 use Rattle.std.specs.Option.{option_and_then}
 use Rattle.std.specs.Str.{bytes_eq}
 use Rattle.std.specs.Str.Parse.{digits_value}
-use Rattle.iofd_words.specs.declared.width.Width.TheVariants.{Bits39}
+use Rattle.iofd_words.specs.declared.width.Width.TheVariants.{Bits39, Bits48}
 use Rattle.iofd_words.specs.FirstTrue.{first_true}
 use Rattle.iofd_words.specs.Settings.{is_between}
 use Rattle.iommufd_script.specs.Digits.{are_digits, number_of, decimal, hexadecimal, is_lower_digit, bytes_of, pairs}
-use Rattle.iommufd_script.specs.Fields.{fields, Kind, Decimal, Hex, Length, Source, AddressWidth, Bytes, Access, Mark, Spans, ValueOf, Makes, kept_if, span_from_to, span_of_parts, span_of, are_spans, spans_in, first_value, marked, next, read}
+use Rattle.iommufd_script.specs.Fields.{fields, Kind, Decimal, Hex, Length, Source, AddressWidth, Bytes, Access, Mark, Spans, ValueOf, Makes, kept_if, span_from_to, span_of_parts, span_of, are_spans, spans_in, first_value, width_of, marked, next, read}
 use Rattle.iommufd_script.specs.Grammar.{head_keyword, head_row, head_of, step_keyword, step_row, step_at}
 use Rattle.iommufd_script.specs.Lines.{is_skipped, step_line, head_or_step, worded, line_of}
 use Rattle.iommufd_script.specs.declared.keyword.HeadKeyword.{HeadKeyword}
@@ -109,6 +109,12 @@ bytes_plain text e = where_either (bytes_eq text (codes "-")) [] _ (same_plain t
     weaken is_lower_digit is_ascii lower_plain text both.1)
     e
 
+width_plain : (text : List ℕ) → is_some (width_of text) ≡ true → is_plain text ≡ true
+width_plain text e =
+    let is_48 = bytes_eq text (codes "48") in
+    where_either (bytes_eq text (codes "39")) Bits39 (cond is_48 (Some Bits48) None) (same_plain text (codes "39") refl)
+    (λ some. let kept = where_kept is_48 (Some Bits48) some in same_plain text (codes "48") refl kept.0) e
+
 both_ends : (first last : List ℕ) (low high : Option ℕ) → is_some (option_and_then (λ n. option_and_then (span_from_to n) high) low) ≡ true → (is_some low ≡ true) × (is_some high ≡ true)
 both_ends first last None high e = absurd cc
 both_ends first last (Some n) None e = absurd cc
@@ -159,9 +165,7 @@ next_plain Length texts got e rest =
 next_plain Source texts got e rest =
     first_plain (λ text. cond (eqb (length text) 4) (hexadecimal 16 text) None) texts got
     (λ text some. let kept = where_kept (eqb (length text) 4) (hexadecimal 16 text) some in hexadecimal_plain 16 text kept.1) e rest
-next_plain AddressWidth texts got e rest =
-    first_plain (λ text. cond (bytes_eq text (codes "39")) (Some Bits39) None) texts got
-    (λ text some. let kept = where_kept (bytes_eq text (codes "39")) (Some Bits39) some in same_plain text (codes "39") refl kept.0) e rest
+next_plain AddressWidth texts got e rest = first_plain width_of texts got width_plain e rest
 next_plain Bytes texts got e rest = first_plain bytes_of texts got bytes_plain e rest
 next_plain Access texts got e rest =
     first_plain (λ text. kept_if (λ bytes. is_between 1 64 (length bytes)) (bytes_of text)) texts got
@@ -200,7 +204,7 @@ head_names =
 step_names : List (StepKeyword × List ℕ)
 step_names =
     (step.Ioctl, codes "ioctl") ∷ (step.Close, codes "close") ∷ (step.UserMap, codes "umap") ∷ (step.UserUnmap, codes "uunmap") ∷ (step.UserRead, codes "uread")
-    ∷ (step.UserWrite, codes "uwrite") ∷ (step.Bind, codes "bind") ∷ (step.Attach, codes "attach") ∷ (step.Detach, codes "detach") ∷ (step.Flush, codes "flush")
+    ∷ (step.UserWrite, codes "uwrite") ∷ (step.Bind, codes "bind") ∷ (step.Unbind, codes "unbind") ∷ (step.Attach, codes "attach") ∷ (step.Detach, codes "detach") ∷ (step.Flush, codes "flush")
     ∷ (step.DeviceRead, codes "dread") ∷ (step.DeviceWrite, codes "dwrite") ∷ (step.FreeFrames, codes "free") ∷ (step.Held, codes "held") ∷ []
 
 head_plain : (word : List ℕ) → is_some (head_keyword word) ≡ true → is_plain word ≡ true

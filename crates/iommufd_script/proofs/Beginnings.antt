@@ -116,8 +116,8 @@ placed_behind p (heading.User limit) placed ok = placed
 placed_behind p (heading.File user) placed ok = λ some. omega arith
 placed_behind p (heading.Device source width x86 reserved) placed ok = λ some.
     let device : DeviceSettings = record { source = source; width = width; x86 = x86; reserved = reserved } in
-    let limits = and-parts (ltb 0 p.files && eqb p.devices 0) (is_device_in_limits device) ok in
-    let parts = and-parts (ltb 0 p.files) (eqb p.devices 0) limits.0 in
+    let limits = and-parts (ltb 0 p.files && ltb p.devices 256) (is_device_in_limits device) ok in
+    let parts = and-parts (ltb 0 p.files) (ltb p.devices 256) limits.0 in
     ltb-true 0 p.files parts.0
 placed_behind p heading.Begin placed ok = placed
 

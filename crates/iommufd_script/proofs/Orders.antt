@@ -122,14 +122,16 @@ files_run u f (user ∷ files) more h e =
     let count : f + 1 + length files ≡ f + length (user ∷ files) = omega arith in
     rw (parts.0, room) (next ∙ ap (λ (k : ℕ). run (at u k 0) more) count)
 
-devices_run : (u f : ℕ) (devices : List DeviceSettings) (more : List Line) → 0 < f → length devices ≤ 1 → list_all is_device_in_limits devices ≡ true
-    → run (at u f 0) (map device_line devices ++ more) ≡ run (at u f (length devices)) more
-devices_run u f [] more h few ok = refl
-devices_run u f (device ∷ []) more h few ok =
+devices_run : (u f d : ℕ) (devices : List DeviceSettings) (more : List Line) → 0 < f → d + length devices ≤ 256
+    → list_all is_device_in_limits devices ≡ true → run (at u f d) (map device_line devices ++ more) ≡ run (at u f (d + length devices)) more
+devices_run u f d [] more h few ok = ap (λ (k : ℕ). run (at u f k) more) (omega arith)
+devices_run u f d (device ∷ devices) more h few ok =
+    let parts = and-parts (is_device_in_limits device) (list_all is_device_in_limits devices) ok in
     let some : ltb 0 f ≡ true = lt-ltb 0 f h in
-    let limits = and-parts (is_device_in_limits device) true ok in
-    rw (some, limits.0) refl
-devices_run u f (device ∷ other ∷ devices) more h few ok = absurd (omega arith)
+    let room : ltb d 256 ≡ true = lt-ltb d 256 (omega arith) in
+    let next = devices_run u f (d + 1) devices more h (omega arith) parts.1 in
+    let count : d + 1 + length devices ≡ d + length (device ∷ devices) = omega arith in
+    rw (some, room, parts.0) (next ∙ ap (λ (k : ℕ). run (at u f k) more) count)
 
 stays : (b : Bool) (p : Place) (goes : Place → Bool) → b ≡ true → if_some (cond b (Some p) None) goes ≡ goes p
 stays true p goes e = refl
@@ -179,7 +181,7 @@ ends steps = line.Head heading.Begin ∷ map (λ step. line.Step step) steps
 
 head_run : (pool : ℕ) (users : List ℕ) (files : List UserNo) (devices : List DeviceSettings) (steps : List Step)
     → is_between 1 4096 pool ≡ true → length users ≤ 255 → 0 < length files → length files ≤ 1024
-    → list_all (λ user. is_between 1 (length users) user.0) files ≡ true → length devices ≤ 1 → list_all is_device_in_limits devices ≡ true
+    → list_all (λ user. is_between 1 (length users) user.0) files ≡ true → length devices ≤ 256 → list_all is_device_in_limits devices ≡ true
     → run start (line.Head (heading.Pool pool) ∷ (map user_line users ++ (map file_line files ++ (map device_line devices ++ ends steps)))) ≡ true
 head_run pool users files devices steps pool_ok few_users some few_files owned few_devices limits =
     let some_file : ltb 0 (length files) ≡ true = lt-ltb 0 (length files) some in
@@ -189,7 +191,9 @@ head_run pool users files devices steps pool_ok few_users some few_files owned f
     let nor_more : 0 + length files ≡ length files = omega arith in
     let first = users_run 0 users (map file_line files ++ rest) (omega (arith, few_users)) ∙ ap (λ (k : ℕ). run (at k 0 0) (map file_line files ++ rest)) no_more in
     let second = files_run (length users) 0 files rest (omega (arith, few_files)) owned ∙ ap (λ (k : ℕ). run (at (length users) k 0) rest) nor_more in
-    let third = devices_run (length users) (length files) devices (ends steps) some few_devices limits in
+    let nor_devices : 0 + length devices ≡ length devices = omega arith in
+    let third = devices_run (length users) (length files) 0 devices (ends steps) some (omega (arith, few_devices)) limits
+    ∙ ap (λ (k : ℕ). run (at (length users) (length files) k) (ends steps)) nor_devices in
     let last : run (at (length users) (length files) (length devices)) (ends steps) ≡ true = rw some_file (steps_run begun steps refl) in
     rw pool_ok (first ∙ (second ∙ (third ∙ last)))
 
@@ -215,6 +219,7 @@ record IsWithin (s : Settings) : Type 0 where
   users : is_between 1 255 (length s.users) ≡ true
   files : is_between 1 1024 (length s.files) ≡ true
   owned : list_all (λ user. is_between 1 (length s.users) user.0) s.files ≡ true
+  few_devices : nat_le (length s.devices) 256 ≡ true
   devices : list_all is_device_in_limits s.devices ≡ true
 
 pass : {A : Type 0} (k : A) (b : Bool) (others : Option A) → cond (not b) (Some k) others ≡ None → (b ≡ true) × (others ≡ None)
@@ -235,7 +240,7 @@ is_within s e =
     let both = and-parts (is_between 1 1024 (length s.files)) owned files.0 in
     let limits = pass field.Devices devices last files.1 in
     let each = and-parts (nat_le (length s.devices) 256) (list_all is_device_in_limits s.devices) limits.0 in
-    record { pool = pool.0; users = users.0; files = both.0; owned = both.1; devices = each.1 }
+    record { pool = pool.0; users = users.0; files = both.0; owned = both.1; few_devices = each.0; devices = each.1 }
 
 -- what a script of these settings and steps is read as
 record IsReadAs (texts : List (List ℕ)) (s : Settings) (steps : List Step) : Type 0 where
@@ -250,7 +255,10 @@ read_as texts s steps shape =
     let users = and-parts (leb 1 (length s.users)) (leb (length s.users) 255) inside.users in
     let files = and-parts (leb 1 (length s.files)) (leb (length s.files) 1024) inside.files in
     let some : 1 ≤ length s.files = leb-true 1 (length s.files) files.0 in
-    let goes = head_run s.pool s.users s.files s.devices steps inside.pool (leb-true (length s.users) 255 users.1) (omega (arith, some)) (leb-true (length s.files) 1024 files.1) inside.owned shape.one_device inside.devices in
+    let few_devices : length s.devices ≤ 256 = leb-true (length s.devices) 256 inside.few_devices in
+    let goes =
+    head_run s.pool s.users s.files s.devices steps inside.pool (leb-true (length s.users) 255 users.1) (omega (arith, some))
+    (leb-true (length s.files) 1024 files.1) inside.owned few_devices inside.devices in
     record {
       good = read.bad_is goes;
       set = ap (fold set_by nothing_set) read.heads_are ∙ head_set s steps shape.one_pass;

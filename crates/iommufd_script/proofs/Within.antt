@@ -34,7 +34,7 @@ record IsSet (p : Place) (s : Settings) : Type 0 where
   files_after : 0 < p.files → 0 < p.users
   owned : are_users (length s.users) s.files ≡ true
   devices_are : length s.devices ≡ p.devices
-  few_devices : p.devices ≤ 1
+  few_devices : p.devices ≤ 256
   devices : list_all is_device_in_limits s.devices ≡ true
   passes : s.passes ≡ 1
   devices_after : 0 < p.devices → 0 < p.files
@@ -135,9 +135,9 @@ device_heading device = heading.Device device.source device.width device.x86 dev
 kept_device : (p : Place) (s : Settings) (device : DeviceSettings) → IsSet p s → allows p (device_heading device) ≡ true
     → IsSet (behind p (device_heading device)) (set_by s (device_heading device))
 kept_device p s device set ok =
-    let limits = and-parts (ltb 0 p.files && eqb p.devices 0) (is_device_in_limits device) ok in
-    let parts = and-parts (ltb 0 p.files) (eqb p.devices 0) limits.0 in
-    let none : p.devices ≡ 0 = eqb-true p.devices 0 parts.1 in
+    let limits = and-parts (ltb 0 p.files && ltb p.devices 256) (is_device_in_limits device) ok in
+    let parts = and-parts (ltb 0 p.files) (ltb p.devices 256) limits.0 in
+    let room : p.devices < 256 = ltb-true p.devices 256 parts.1 in
     record {
       pool = set.pool;
       users_are = set.users_are;
@@ -229,7 +229,6 @@ grown_device p s device = simp (map-append, append_assoc)
 -- what reading the lines behind a place of the head comes to
 record IsRead (p : Place) (s : Settings) (l : Option Line) (texts : List (List ℕ)) (more : Option (List Line)) : Type 0 where
   outside : first_outside (fold set_by s (heading_before l (headings texts))) ≡ None
-  one_device : length (fold set_by s (heading_before l (headings texts))).devices ≤ 1
   one_pass : (fold set_by s (heading_before l (headings texts))).passes ≡ 1
   rest : List Line
   rest_is : more ≡ Some rest
@@ -274,7 +273,6 @@ read_more p s h texts grown read heads =
     let same : fold set_by s (heading_before (Some (line.Head h)) (headings texts)) ≡ fold set_by (set_by s h) (headings texts) = ap (fold set_by s) heads in
     record {
       outside = ap first_outside same ∙ read.outside;
-      one_device = subst (λ (t : Settings). length t.devices ≤ 1) (sym same) read.one_device;
       one_pass = ap (λ (t : Settings). t.passes) same ∙ read.one_pass;
       rest = line.Head h ∷ read.rest;
       rest_is = ap (option_map (λ others. line.Head h ∷ others)) read.rest_is;
@@ -302,7 +300,6 @@ by_heading n texts others p s heading.Begin head set ok good =
     let steps : List Line = map (λ step. line.Step step) (steps_in texts) in
     record {
       outside = within p s set some;
-      one_device = omega (arith, set.devices_are, set.few_devices);
       one_pass = set.passes;
       rest = line.Head heading.Begin ∷ steps;
       rest_is = ap (option_map (λ others. line.Head heading.Begin ∷ others)) (steps_alone n texts (behind p heading.Begin) refl good);
@@ -316,7 +313,6 @@ by_line n texts others p s (Some line.Skipped) head set good =
     let read = others p s head set good in
     record {
       outside = read.outside;
-      one_device = read.one_device;
       one_pass = read.one_pass;
       rest = read.rest;
       rest_is = ap (option_map (λ others. others)) read.rest_is;
@@ -334,7 +330,6 @@ good_lines n (text ∷ texts) p s head set good =
     let read = by_line n texts (good_lines (n + 1) texts) p s (line_of text) head set good in
     record {
       outside = read.outside;
-      one_device = read.one_device;
       one_pass = read.one_pass;
       rest = read.rest;
       rest_is = read.rest_is;
@@ -371,7 +366,6 @@ good_shape texts good =
     record {
       said_so = read.rest_is ∙ ap Some read.whole;
       within = read.outside;
-      one_device = read.one_device;
       one_pass = read.one_pass;
     }
 

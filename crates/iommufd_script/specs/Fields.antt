@@ -7,7 +7,7 @@ use denote.Ref.{Bor}
 use Rattle.iofd_words.specs.Bounds.{Bounds}
 use Rattle.iofd_words.specs.Settings.{is_between}
 use Rattle.iofd_words.specs.declared.width.Width.{Width}
-use Rattle.iofd_words.specs.declared.width.Width.TheVariants.{Bits39}
+use Rattle.iofd_words.specs.declared.width.Width.TheVariants.{Bits39, Bits48}
 use Rattle.iommufd_script.specs.Digits.{decimal, hexadecimal, bytes_of}
 
 -- two spaces, or one at an end, have an empty field beside them, which is of no kind
@@ -28,7 +28,7 @@ pub data Kind : Type 0 where
   Length : Kind
   -- the id of a device: four hexadecimal digits
   Source : Kind
-  -- the width of a device's addresses: 39 alone is served
+  -- the width of a device's addresses: 39 or 48
   AddressWidth : Kind
   -- bytes in lower-case hexadecimal, `-` for none
   Bytes : Kind
@@ -50,6 +50,10 @@ ValueOf Bytes = List ℕ
 ValueOf Access = List ℕ
 ValueOf Mark = Bool
 ValueOf Spans = List Bounds
+
+-- the width that a field names
+abbrev pub width_of : List ℕ → Option Width
+width_of text = if bytes_eq text (codes "39") then Some Bits39 else if bytes_eq text (codes "48") then Some Bits48 else None
 
 -- the value, if there is one and it passes
 abbrev pub kept_if : {A : Type 0} → (A → Bool) → Option A → Option A
@@ -102,7 +106,7 @@ next (Decimal bits) texts = first_value (decimal bits) texts
 next (Hex bits) texts = first_value (hexadecimal bits) texts
 next Length texts = first_value (λ text. kept_if (is_between 1 64) (decimal 64 text)) texts
 next Source texts = first_value (λ text. if length text == 4 then hexadecimal 16 text else None) texts
-next AddressWidth texts = first_value (λ text. if bytes_eq text (codes "39") then Some Bits39 else None) texts
+next AddressWidth texts = first_value width_of texts
 next Bytes texts = first_value bytes_of texts
 next Access texts = first_value (λ text. kept_if (λ bytes. is_between 1 64 (length bytes)) (bytes_of text)) texts
 next Mark texts = Some (marked texts)

@@ -53,6 +53,7 @@ step_keyword word = first_true (
     ∷ (step.UserRead, bytes_eq word (codes "uread"))
     ∷ (step.UserWrite, bytes_eq word (codes "uwrite"))
     ∷ (step.Bind, bytes_eq word (codes "bind"))
+    ∷ (step.Unbind, bytes_eq word (codes "unbind"))
     ∷ (step.Attach, bytes_eq word (codes "attach"))
     ∷ (step.Detach, bytes_eq word (codes "detach"))
     ∷ (step.Flush, bytes_eq word (codes "flush"))
@@ -86,7 +87,12 @@ step_row step.UserWrite = record {
 }
 -- file, device
 step_row step.Bind = record { kinds = Decimal 16 ∷ Decimal 16 ∷ []; makes = λ file device. made.Bind (record { 0 = file }) (record { 0 = device }) }
--- device, id of an address space
+-- file, id of a device's object
+step_row step.Unbind = record {
+  kinds = Decimal 16 ∷ Decimal 32 ∷ [];
+  makes = λ file id. made.Unbind (record { 0 = file }) (record { 0 = id });
+}
+-- device, id of an address space or of a page table
 step_row step.Attach = record { kinds = Decimal 16 ∷ Decimal 32 ∷ []; makes = λ device id. made.Attach (record { 0 = device }) (record { 0 = id }) }
 -- device
 step_row step.Detach = record { kinds = Decimal 16 ∷ []; makes = λ device. made.Detach (record { 0 = device }) }

@@ -16,14 +16,14 @@ abbrev pub start : Place
 start = record { pool = false; users = 0; files = 0; devices = 0; begun = false }
 
 -- whether such a line of the head may come here. One pool is first; then come 1 to 255 users, 1 to 1024 files
--- of these users, and at most one device, whose reserved spans are within their limits.
+-- of these users, and at most 256 devices, the reserved spans of each within their limits.
 abbrev pub allows : Place → HeadLine → Bool
 allows place (heading.Pool frames) = not place.pool && is_between 1 4096 frames
 allows place (heading.User limit) = place.pool && (place.files == 0) && nat_lt place.users 255
 allows place (heading.File user) = is_between 1 place.users user.0 && (place.devices == 0) && nat_lt place.files 1024
 allows place (heading.Device source width x86 reserved) =
     nat_lt 0 place.files
-    && (place.devices == 0)
+    && nat_lt place.devices 256
     && is_device_in_limits (record { source = source; width = width; x86 = x86; reserved = reserved })
 allows place heading.Begin = nat_lt 0 place.files
 

@@ -42,7 +42,6 @@ in_order settings steps =
 pub record IsScript (texts : List (List ℕ)) (settings : Settings) (steps : List Step) : Type 0 where
   pub said_so : said texts ≡ Some (in_order settings steps)
   pub within : first_outside settings ≡ None
-  pub one_device : length settings.devices ≤ 1
   pub one_pass : settings.passes ≡ 1
 
 -- the lines may still become a good script

@@ -1,7 +1,7 @@
 //! The fields of a line, taken from its front.
 
 ghost use Rattle.std.specs.Prelude.{◌≡◌, ◌==◌, [], ◌∷◌, MatchOption, if◌then◌else◌, Some, None, length};
-ghost use Rattle.iommufd_script.specs.Fields.{fields, fields_left, next, Decimal, Hex, Length, Source, AddressWidth, Bytes, Access, Mark, Spans};
+ghost use Rattle.iommufd_script.specs.Fields.{fields, fields_left, width_of, next, Decimal, Hex, Length, Source, AddressWidth, Bytes, Access, Mark, Spans};
 
 use crate::digits;
 use crate::hex_bytes::HexBytes;
@@ -151,11 +151,7 @@ impl<'a> Fields<'a> {
         ensures { result ≡ next AddressWidth self.entry }
     {
         let (field, others) = self.split()?;
-        if field == b"39".as_slice() {
-            Some((Width::Bits39, others))
-        } else {
-            None
-        }
+        Some((width_of(field)?, others))
     }
 
     // Bytes, or `-` for none.
@@ -193,5 +189,18 @@ impl<'a> Fields<'a> {
         ensures { result ≡ next Spans self.entry }
     {
         Some((SpanTexts::of(self)?, Fields { rest: None }))
+    }
+}
+
+// The width that a field names.
+fn width_of(field: &[u8]) -> Option<Width>
+    ensures { result ≡ width_of field.now }
+{
+    if field == b"39".as_slice() {
+        Some(Width::Bits39)
+    } else if field == b"48".as_slice() {
+        Some(Width::Bits48)
+    } else {
+        None
     }
 }

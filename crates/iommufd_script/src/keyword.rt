@@ -23,6 +23,7 @@ pub enum StepKeyword {
     UserRead,
     UserWrite,
     Bind,
+    Unbind,
     Attach,
     Detach,
     Flush,
@@ -69,6 +70,8 @@ pub fn step_keyword(word: &[u8]) -> Option<StepKeyword>
         Some(StepKeyword::UserWrite)
     } else if word == b"bind".as_slice() {
         Some(StepKeyword::Bind)
+    } else if word == b"unbind".as_slice() {
+        Some(StepKeyword::Unbind)
     } else if word == b"attach".as_slice() {
         Some(StepKeyword::Attach)
     } else if word == b"detach".as_slice() {

@@ -36,7 +36,9 @@ pub enum Step<'a> {
     UserWrite(UserNo, u64, Burst),
     /// Binds a device to a file.
     Bind(FileNo, DeviceNo),
-    /// Attaches a device to the address space of this id.
+    /// Takes the device of this id away from its file.
+    Unbind(FileNo, ObjId),
+    /// Attaches a device to the address space or the hardware page table of this id.
     Attach(DeviceNo, ObjId),
     /// Ends a device's attachment.
     Detach(DeviceNo),

@@ -39,7 +39,7 @@ fn file(fields: Fields<'_>) -> Option<HeadLine<'_>>
     fields.end(HeadLine::File(UserNo(user)))
 }
 
-// `device <4 hex digits> 39 [x86] [<x>-<x> ..]`
+// `device <4 hex digits> <39 or 48> [x86] [<x>-<x> ..]`
 fn device(fields: Fields<'_>) -> Option<HeadLine<'_>>
     ensures { result ≡ head_of head.Device fields.entry }
 {
@@ -136,6 +136,15 @@ fn bind<'a>(fields: Fields<'a>) -> Option<Step<'a>>
     fields.end(Step::Bind(FileNo(file), DeviceNo(device)))
 }
 
+// `unbind <file> <id>`
+fn unbind<'a>(fields: Fields<'a>) -> Option<Step<'a>>
+    ensures { result ≡ step_at step.Unbind fields.entry }
+{
+    let (file, fields) = fields.decimal_u16()?;
+    let (id, fields) = fields.decimal_u32()?;
+    fields.end(Step::Unbind(FileNo(file), ObjId(id)))
+}
+
 // `attach <device> <id>`
 fn attach<'a>(fields: Fields<'a>) -> Option<Step<'a>>
     ensures { result ≡ step_at step.Attach fields.entry }
@@ -209,6 +218,7 @@ fn step<'a>(keyword: StepKeyword, fields: Fields<'a>) -> Option<Step<'a>>
         StepKeyword::UserRead => uread(fields),
         StepKeyword::UserWrite => uwrite(fields),
         StepKeyword::Bind => bind(fields),
+        StepKeyword::Unbind => unbind(fields),
         StepKeyword::Attach => attach(fields),
         StepKeyword::Detach => detach(fields),
         StepKeyword::Flush => flush(fields),

@@ -41,7 +41,7 @@ impl Place {
                 user.0 >= 1 && user.0 <= self.users && self.devices == 0 && self.files < 1024
             }
             HeadLine::Device(_, _, _, reserved) => {
-                self.files > 0 && self.devices == 0 && reserved.are_in_limits()
+                self.files > 0 && self.devices < 256 && reserved.are_in_limits()
             }
             HeadLine::Begin => self.files > 0,
         }
