@@ -52,7 +52,7 @@ use Rattle.device_events.proofs.Flushed.{attached_to, shows_paid, unattached}
 use Rattle.server_state.proofs.MemoryReleased.{AreFewer, may_release, nothing_released, over_map, shown_after, translated_map}
 use Rattle.server_state.proofs.ObjectsGone.{objects-removed}
 use Rattle.server_state.proofs.PageTables.{has_hwpt_kept, tables_left}
-use Rattle.device_events.proofs.TableRows.{areas_removed, destroyable}
+use Rattle.server_state.proofs.TableRows.{areas_removed, destroyable}
 use Rattle.object_table.specs.Table.{Table, destroy_refusal, is_at, removed}
 use Rattle.object_table.specs.declared.kind.Kind.TheVariants as of_kind
 

@@ -1,14 +1,7 @@
-pub mod AttachAsks
-pub mod Attached
-pub mod AttachedShown
 pub mod Bound
 pub mod Detached
 pub mod DetachedShown
 pub mod DeviceReads
 pub mod DeviceWrites
 pub mod Flushed
-pub mod FullFile
-pub mod Narrowed
 pub mod NeverRefused
-pub mod Placed
-pub mod TableRows

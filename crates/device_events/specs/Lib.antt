@@ -1,4 +1,2 @@
 pub mod Attaching
-pub mod Narrow
 pub mod Outcomes
-pub mod Pinning

@@ -2,13 +2,10 @@
 #![tactic(auto)]
 
 pub mod access;
-pub mod attach;
 mod attachments;
 pub mod bind;
 pub mod detach;
 pub mod device_read;
 pub mod device_write;
 pub mod flush;
-mod narrow;
-mod pins;
 mod spaces;

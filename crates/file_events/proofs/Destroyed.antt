@@ -1,5 +1,5 @@
 -- An object that was destroyed: an address space with its areas, or a page table with pins.
-use Rattle.std.proofs.Common.{◌≡◌, ℕ, Bool, true, false, cond, ◌&&◌, ◌||◌, not, eqb, is_none, Option, Some, None, List, [], ◌∷◌, map, refl, sym, ◌∙◌, ap, subst, Vec, arith, ◌+◌}
+use Rattle.std.proofs.Common.{◌≡◌, ℕ, Bool, true, false, cond, ◌&&◌, not, eqb, is_none, Option, Some, None, List, [], map, refl, sym, ◌∙◌, ap, subst, Vec, arith, ◌+◌}
 use Rattle.iofd_words.specs.Allowed.{AllowedRanges, allowed_of, without_allowed}
 use Rattle.iofd_words.specs.Answers.{Answers}
 use Rattle.iofd_runs.proofs.KeepsPins.{keeps_pins}
@@ -13,7 +13,7 @@ use Rattle.memory_rows.specs.Shown.{over, translated}
 use Rattle.user_memory.specs.Changes.{never}
 use Rattle.user_memory.specs.Memory.{Memory}
 use Rattle.iofd_rows.specs.Pinned.{ArePinned}
-use Rattle.std.specs.List.{filter, list_all, list_any}
+use Rattle.std.specs.List.{filter, list_all}
 use Rattle.std.proofs.lemmas.Bool.Decides.{nat_tests}
 use Rattle.iofd_words.specs.After.{settle, without_areas, changed}
 use Rattle.iofd_words.specs.Areas.{areas_of, is_of}
@@ -36,14 +36,13 @@ use Rattle.iofd_words.specs.declared.width.Width.{Width}
 use Rattle.iofd_rows.proofs.Allowed.{allowed_without, is_of_space}
 use Rattle.iofd_rows.proofs.Bools.{and_true, clash}
 use Rattle.iofd_rows.proofs.Found.{all_filter}
-use Rattle.iofd_rows.proofs.ListTests.{filter_all}
 use Rattle.iofd_rows.proofs.PageTables.{hwpt_alike}
 use Rattle.server_state.proofs.AreasBecome.{own_at}
 use Rattle.server_state.proofs.Objects.{has_table}
 use Rattle.server_state.proofs.Orderly.{orderly}
 use Rattle.server_state.proofs.MemoryReleased.{AreFewer, may_release, nothing_released, shown_after}
 use Rattle.server_state.proofs.Objects.{areas_at_rows, areas_of_held, kind_at, kind_of_rows, value_at}
-use Rattle.file_events.proofs.SpacesGone.{any_without, areas-removed, found_without}
+use Rattle.file_events.proofs.SpacesGone.{any_without, areas-removed, areas_stay, found_without}
 use Rattle.server_state.proofs.ObjectsGone.{may_go, objects-removed}
 use Rattle.server_state.specs.Held.{is_proper, areas_at, object_of, objects_in}
 use Rattle.server_state.specs.Mapping.{own_areas}
@@ -56,24 +55,6 @@ use Rattle.server_state.specs.declared.held.Held.TheVariants as held
 use Rattle.server_state.specs.declared.state.State.{State}
 use Rattle.object_table.specs.Table.{Table, destroy_refusal, is_at, removed}
 use Rattle.object_table.specs.declared.kind.Kind.TheVariants as tablekind
-
--- ---- lists
-
-none_left : {X : Type 0} (p : X → Bool) (xs : List X) → filter p xs ≡ [] → list_any p xs ≡ false
-none_left p [] none = refl
-none_left p (x ∷ xs) none = by_test (p x) none (λ later. none_left p xs later)
-  where
-    by_test : (b : Bool) → cond b (x ∷ filter p xs) (filter p xs) ≡ [] → (filter p xs ≡ [] → list_any p xs ≡ false) → (b || list_any p xs) ≡ false
-    by_test true none later = cc
-    by_test false none later = later none
-
-none_pass : {X : Type 0} (p : X → Bool) (xs : List X) → list_any p xs ≡ false → list_all (λ x. not (p x)) xs ≡ true
-none_pass p [] none = refl
-none_pass p (x ∷ xs) none = by_test (p x) none (λ later. none_pass p xs later)
-  where
-    by_test : (b : Bool) → (b || list_any p xs) ≡ false → (list_any p xs ≡ false → list_all (λ x. not (p x)) xs ≡ true) → (not b && list_all (λ x. not (p x)) xs) ≡ true
-    by_test true none later = cc
-    by_test false none later = later none
 
 -- ---- what goes of the counts
 
@@ -109,7 +90,7 @@ module _ (w : World) (file : FileNo) (id : ObjId) (ids : have_own_ids w.objects 
   -- a page table, under whose id no area is
   module _ (ioas : ObjId) (width : Width) (automatic : Bool) (is_kind : kind_of w.objects file id ≡ Some (kind.Hwpt ioas width automatic)) (empty : areas_of w.areas file id ≡ []) where
     all_stay : stay ≡ w.areas
-    all_stay = filter_all (λ (area : Area). not (is_of file id area)) w.areas (none_pass (is_of file id) w.areas (none_left (is_of file id) w.areas empty))
+    all_stay = areas_stay w.areas file id empty
 
     -- other address spaces keep their page tables
     other_table : (f : FileNo) (i : ObjId) → (eqb f.0 file.0 && eqb i.0 ioas.0) ≡ false → has_hwpt left f i ≡ has_hwpt w.objects f i

@@ -3,3 +3,4 @@ pub mod Destroyed
 pub mod FileGone
 pub mod RowsCounted
 pub mod SpacesGone
+pub mod Unbound

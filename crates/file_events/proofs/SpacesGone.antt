@@ -1,6 +1,6 @@
 -- What an object that goes leaves of a world, and its areas of what is kept.
-use Rattle.std.proofs.Common.{◌≡◌, Bool, true, false, ◌&&◌, not, eqb, is_some, Option, Some, None, List, [], ◌∷◌, map, refl, sym, ◌∙◌, ap, arith}
-use Rattle.std.specs.List.{find, filter, list_any}
+use Rattle.std.proofs.Common.{◌≡◌, Bool, true, false, cond, ◌&&◌, ◌||◌, not, eqb, is_some, Option, Some, None, List, [], ◌∷◌, map, refl, sym, ◌∙◌, ap, arith}
+use Rattle.std.specs.List.{find, filter, list_all, list_any}
 use Rattle.std.proofs.lemmas.Bool.Decides.{nat_tests}
 use Rattle.iofd_words.specs.Areas.{areas_of, is_of}
 use Rattle.iofd_rows.specs.Ids.{have_own_ids}
@@ -13,7 +13,7 @@ use Rattle.iofd_words.specs.declared.rows.ObjectKind.{ObjectKind}
 use Rattle.iofd_rows.proofs.Bools.{and_true}
 use Rattle.iofd_rows.proofs.Each.{IsIn, in_found}
 use Rattle.iofd_rows.proofs.Found.{find-filter}
-use Rattle.iofd_rows.proofs.ListTests.{false_else}
+use Rattle.iofd_rows.proofs.ListTests.{false_else, filter_all}
 use Rattle.iofd_rows.proofs.Named.{file_is, id_is, kind_only}
 use Rattle.iofd_runs.proofs.OwnIds.{any_found}
 use Rattle.server_state.specs.Held.{areas_at, kind_in, object_of}
@@ -63,6 +63,27 @@ pub any_without : (p : Object → Bool) (objects : List Object) (file : FileNo) 
     → ((object : Object) → object.file ≡ file → object.kind ≡ k → p object ≡ false) → list_any p (without_object file id objects) ≡ list_any p objects
 any_without p objects file id k unique is_kind fails =
     any_found p (without_object file id objects) ∙ ap (λ (o : Option Object). is_some o) (found_without p objects file id k unique is_kind fails) ∙ sym (any_found p objects)
+
+none_left : {X : Type 0} (p : X → Bool) (xs : List X) → filter p xs ≡ [] → list_any p xs ≡ false
+none_left p [] none = refl
+none_left p (x ∷ xs) none = by_test (p x) none (λ later. none_left p xs later)
+  where
+    by_test : (b : Bool) → cond b (x ∷ filter p xs) (filter p xs) ≡ [] → (filter p xs ≡ [] → list_any p xs ≡ false) → (b || list_any p xs) ≡ false
+    by_test true none later = cc
+    by_test false none later = later none
+
+none_pass : {X : Type 0} (p : X → Bool) (xs : List X) → list_any p xs ≡ false → list_all (λ x. not (p x)) xs ≡ true
+none_pass p [] none = refl
+none_pass p (x ∷ xs) none = by_test (p x) none (λ later. none_pass p xs later)
+  where
+    by_test : (b : Bool) → (b || list_any p xs) ≡ false → (list_any p xs ≡ false → list_all (λ x. not (p x)) xs ≡ true) → (not b && list_all (λ x. not (p x)) xs) ≡ true
+    by_test true none later = cc
+    by_test false none later = later none
+
+-- what has no areas takes none with it
+pub areas_stay : (areas : List Area) (file : FileNo) (id : ObjId) → areas_of areas file id ≡ [] → filter (λ (area : Area). not (is_of file id area)) areas ≡ areas
+areas_stay areas file id empty =
+    filter_all (λ (area : Area). not (is_of file id area)) areas (none_pass (is_of file id) areas (none_left (is_of file id) areas empty))
 
 -- the areas of one address space go
 pub areas_here : (areas : List Area) (file : FileNo) (id : ObjId) → areas_of (filter (λ area. not (is_of file id area)) areas) file id ≡ []

@@ -101,7 +101,12 @@ pub fn commit<A: Allocator>(state: &mut State<A>, file: FileNo, id: ObjId) -> Re
 }
 
 /// Takes the object out of the table, if nothing there refuses it.
-fn remove<A: Allocator>(table: &mut ObjectTable<Held<A>, A>, file: FileNo, kind: Kind, id: ObjId)
+pub(crate) fn remove<A: Allocator>(
+    table: &mut ObjectTable<Held<A>, A>,
+    file: FileNo,
+    kind: Kind,
+    id: ObjId,
+)
     ensures rows { destroy_refusal table.old file kind id ≡ None → table.new.rows ≡ removed file id table.old.rows }
     ensures files { table.new.files ≡ table.old.files }
 {

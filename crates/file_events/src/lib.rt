@@ -4,3 +4,4 @@
 pub mod close;
 pub mod destroy;
 pub mod ioas_alloc;
+pub mod unbind;

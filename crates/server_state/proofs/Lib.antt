@@ -11,5 +11,6 @@ pub mod ObjectsMoved
 pub mod Orderly
 pub mod PageTables
 pub mod RoomHeld
+pub mod TableRows
 pub mod Users
 pub mod ViewShown

@@ -90,6 +90,22 @@ module _ (tables objects : List Object) (are : AreTables tables objects) where
       (λ o. put_first (is_page_table o.kind) (keeps o) (test o))
       ∙ sym (any-filter (λ (o : Object). is_page_table o.kind && test o) keeps objects)
 
+  -- of all objects some go that are no page tables
+  pub tables_stay : (keeps : Object → Bool)
+      → ((object : Object) → is_page_table object.kind ≡ true → keeps object ≡ true)
+      → AreTables tables (filter keeps objects)
+  tables_stay keeps stays test =
+      are test
+      ∙ any_same (λ (o : Object). is_page_table o.kind && test o)
+      (λ (o : Object). keeps o && (is_page_table o.kind && test o)) objects
+      (λ o. kept_too (is_page_table o.kind) (keeps o) (test o) (stays o))
+      ∙ sym (any-filter (λ (o : Object). is_page_table o.kind && test o) keeps objects)
+    where
+      kept_too : (a b c : Bool) → (a ≡ true → b ≡ true) → (a && c) ≡ (b && (a && c))
+      kept_too true b c stays = rw (stays refl) refl
+      kept_too false true c stays = refl
+      kept_too false false c stays = refl
+
 -- ---- of what is kept
 
 pub tables_shown : {A : Type 0} (w : World) (s : State A) → Shows w s → AreTables s.page_tables.items (objects_in s.objects)

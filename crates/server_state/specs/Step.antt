@@ -7,7 +7,7 @@ use Rattle.iofd_rows.specs.Debts.{DebtsAttached}
 use Rattle.iofd_runs.specs.Fits.{RowsFit}
 use Rattle.iofd_runs.specs.InUsable.{AreasUsable}
 use Rattle.iofd_runs.specs.Owned.{AreasOwned}
-use Rattle.iofd_rows.specs.Ids.{have_own_ids}
+use Rattle.iofd_rows.specs.Ids.{AreBoundOnce, have_own_ids}
 use Rattle.iofd_rows.specs.Pinned.{ArePinned, have_own_memory}
 use Rattle.iofd_words.specs.World.{World}
 use Rattle.iofd_words.specs.FirstTrue.{first_true}
@@ -31,6 +31,8 @@ pub record IsTidy (at : ℕ) (w : World) : Type 0 where
   pub own : have_own_memory w.areas ≡ true
   pub debts : DebtsAttached w
   pub ids : have_own_ids w.objects ≡ true
+  -- each device is bound by at most one object
+  pub once : AreBoundOnce w.objects
   pub fit : RowsFit w
   -- memory is of the users of its areas' files
   pub owned : AreasOwned w

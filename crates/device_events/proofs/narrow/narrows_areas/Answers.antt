@@ -1,7 +1,0 @@
-use Rattle.std.proofs.Common.{sym}
-use Rattle.device_events.proofs.Narrowed.{no_area}
-use Rattle.server_state.proofs.Objects.{no_space}
-use Rattle.device_events.proofs.narrow.narrows_areas.Goals as goal
-
-pub returns-in-None : goal.returns-in-None
-returns-in-None g c = sym (no_area c.args.settings.now _ (no_space c.args.table.now.rows c.args.file c.args.ioas c.in-None.ensures))

@@ -1,0 +1,211 @@
+-- What a page table that comes asks of the users' memory.
+use Rattle.std.proofs.Common.{◌≡◌, ℕ, ◌+◌, ◌≤◌, Bool, true, false, cond, ◌&&◌, ◌||◌, not, eqb, Option, Some, None, inl, inr, List, [], ◌∷◌, length, map, refl, sym, ◌∙◌, ap, arith}
+use Rattle.std.specs.Prelude.{is_none}
+use Rattle.std.specs.List.{filter, list_all, list_any, sum_by}
+use Rattle.std.proofs.Math.Path.{fun_ext}
+use Rattle.std.proofs.lemmas.Bool.Decides.{nat_tests}
+use Rattle.std.proofs.lemmas.List.Sums.{sum_by-cons}
+use Rattle.iofd_rows.specs.Pinned.{have_own_memory}
+use Rattle.iofd_rows.proofs.Bools.{and_true, both_true}
+use Rattle.iofd_rows.proofs.Each.{IsIn}
+use Rattle.iofd_runs.proofs.KeepsOwned.{owner}
+use Rattle.iofd_runs.specs.Owned.{AreasOwned}
+use Rattle.iofd_words.specs.Areas.{areas_of}
+use Rattle.iofd_words.specs.Files.{is_user, user_of}
+use Rattle.iofd_words.specs.Objects.{has_hwpt, with_object}
+use Rattle.iofd_words.specs.Pins.{unpinned_pages}
+use Rattle.iofd_words.specs.Settings.{Settings}
+use Rattle.iofd_words.specs.World.{World}
+use Rattle.iofd_words.specs.declared.numbers.FileNo.{FileNo}
+use Rattle.iofd_words.specs.declared.numbers.ObjId.{ObjId}
+use Rattle.iofd_words.specs.declared.numbers.UserNo.{UserNo}
+use Rattle.iofd_words.specs.declared.rows.Area.{Area}
+use Rattle.iofd_words.specs.declared.rows.MemoryObject.{MemoryObject}
+use Rattle.iofd_words.specs.declared.rows.Object.{Object}
+use Rattle.iofd_words.specs.declared.width.Width.TheVariants.{Bits39}
+use Rattle.hwpt_events.proofs.Gained.{table_gained}
+use Rattle.hwpt_events.specs.Making.{IsRoomy, made_object}
+use Rattle.iofd_words.specs.View.{View, view}
+use Rattle.server_state.proofs.ViewShown.{same_view}
+use Rattle.memory_rows.proofs.Gone.{few_translated}
+use Rattle.memory_rows.specs.Moves.{numbers_of}
+use Rattle.memory_rows.specs.Shown.{over, translated}
+use Rattle.user_memory.proofs.NewPages.{lacking_pages, newly_by_number}
+use Rattle.user_memory.specs.Invariant.{ObjectsTell}
+use Rattle.user_memory.specs.Memory.{Memory, are_different, are_of, frame_now, lacks_page, new_pages, pinned_frame, rows_at, rows_of}
+use Rattle.std.proofs.Common.{subst}
+use Rattle.iofd_rows.specs.Ids.{have_own_ids}
+use Rattle.iofd_words.specs.Checks.{passes_limit}
+use Rattle.memory_rows.proofs.FramesFollow.{is_backed}
+use Rattle.memory_rows.proofs.PinsFollow.{only_kept}
+use Rattle.memory_rows.specs.Moves.{MayPin, PinsAreKnown}
+use Rattle.user_memory.specs.Memory.{has_room}
+use Rattle.server_state.proofs.AreasBecome.{own_at}
+use Rattle.server_state.proofs.Orderly.{orderly}
+use Rattle.server_state.proofs.PageTables.{has_hwpt_kept, tables_shown}
+use Rattle.server_state.proofs.Limits.{room_there}
+use Rattle.server_state.specs.Held.{areas_at, is_proper, object_of, objects_in}
+use Rattle.server_state.specs.Mapping.{own_areas}
+use Rattle.server_state.specs.Seen.{seen}
+use Rattle.server_state.specs.Shows.{Shows}
+use Rattle.server_state.specs.Spaces.{IsOrderly}
+use Rattle.server_state.specs.Step.{IsTidy}
+use Rattle.server_state.specs.declared.held.Held.{Held}
+use Rattle.server_state.specs.declared.state.State.{State}
+use Rattle.object_table.specs.Table.{Row, Table}
+
+-- ---- the numbers of areas
+
+any_number : (number : ℕ) (areas : List Area) → list_any (λ n. eqb n number) (numbers_of areas) ≡ list_any (λ area. eqb area.memory number) areas
+any_number number [] = refl
+any_number number (a ∷ areas) = ap (λ b. eqb a.memory number || b) (any_number number areas)
+
+-- the rows of their objects, as the definitions have them
+pub rows_under : (m : Memory) (areas : List Area) → rows_at m (numbers_of areas) ≡ filter (λ row. list_any (λ area. eqb area.memory row.number) areas) (rows_of m)
+rows_under m areas = ap (λ (p : MemoryObject → Bool). filter p (rows_of m)) (fun_ext (λ (row : MemoryObject). any_number row.number areas))
+
+lacks_number : (m : Memory) (areas : List Area) → list_any (λ (area : Area). lacks_page m area.memory) areas ≡ list_any (lacks_page m) (numbers_of areas)
+lacks_number m [] = refl
+lacks_number m (a ∷ areas) = ap (λ b. lacks_page m a.memory || b) (lacks_number m areas)
+
+-- a page of theirs that is to be pinned isn't there
+pub lacks_under : (m : Memory) (areas : List Area) → ObjectsTell m.objects
+    → list_any (λ (area : Area). lacks_page m area.memory) areas ≡ list_any (λ page. is_none (frame_now m page)) (unpinned_pages (pinned_frame m) (filter (λ row. list_any (λ area. eqb area.memory row.number) areas) (rows_of m)))
+lacks_under m areas facts =
+    lacks_number m areas ∙ lacking_pages m (numbers_of areas) facts
+    ∙ ap (λ (rows : List MemoryObject). list_any (λ page. is_none (frame_now m page)) (unpinned_pages (pinned_frame m) rows)) (rows_under m areas)
+
+sum_numbers : (f : ℕ → ℕ) (areas : List Area) → sum_by (λ (area : Area). f area.memory) areas ≡ sum_by f (numbers_of areas)
+sum_numbers f [] = refl
+sum_numbers f (a ∷ areas) =
+    sum_by-cons (λ (area : Area). f area.memory) a areas ∙ ap (λ n. f a.memory + n) (sum_numbers f areas) ∙ sym (sum_by-cons f a.memory (numbers_of areas))
+
+different : (areas : List Area) → have_own_memory areas ≡ true → are_different (numbers_of areas) ≡ true
+different [] own = refl
+different (a ∷ areas) own =
+    let parts = and_true (not (list_any (λ (b : Area). eqb b.memory a.memory) areas)) (have_own_memory areas) own in
+    both_true _ _ (ap not (any_number a.memory areas) ∙ parts.0) (different areas parts.1)
+
+-- how many pages are to be pinned, where each area has an object of its own
+pub pages_under : (m : Memory) (areas : List Area) → ObjectsTell m.objects → have_own_memory areas ≡ true
+    → sum_by (λ (area : Area). new_pages m area.memory) areas ≡ length (unpinned_pages (pinned_frame m) (filter (λ row. list_any (λ area. eqb area.memory row.number) areas) (rows_of m)))
+pages_under m areas facts own =
+    sum_numbers (new_pages m) areas ∙ sym (newly_by_number m (numbers_of areas) facts (different areas own))
+    ∙ ap (λ (rows : List MemoryObject). length (unpinned_pages (pinned_frame m) rows)) (rows_under m areas)
+
+-- the areas of one address space have objects of their own, too
+pub own_within : (areas : List Area) (p : Area → Bool) → have_own_memory areas ≡ true → have_own_memory (filter p areas) ≡ true
+own_within [] p own = refl
+own_within (a ∷ areas) p own =
+    let parts = and_true (not (list_any (λ (b : Area). eqb b.memory a.memory) areas)) (have_own_memory areas) own in
+    by_test (p a) (fewer areas parts.0) (own_within areas p parts.1)
+  where
+    fewer : (xs : List Area) → not (list_any (λ (b : Area). eqb b.memory a.memory) xs) ≡ true → not (list_any (λ (b : Area). eqb b.memory a.memory) (filter p xs)) ≡ true
+    fewer [] none = refl
+    fewer (x ∷ xs) none = at_test (p x) (eqb x.memory a.memory) refl none (fewer xs)
+      where
+        at_test : (b c : Bool) → eqb x.memory a.memory ≡ c → not (c || list_any (λ (b : Area). eqb b.memory a.memory) xs) ≡ true → (not (list_any (λ (b : Area). eqb b.memory a.memory) xs) ≡ true → not (list_any (λ (b : Area). eqb b.memory a.memory) (filter p xs)) ≡ true)
+            → not (list_any (λ (b : Area). eqb b.memory a.memory) (cond b (x ∷ filter p xs) (filter p xs))) ≡ true
+        at_test b true is none rest = cc
+        at_test true false is none rest = rw is (rest none)
+        at_test false false is none rest = rest none
+
+    by_test : (b : Bool) → not (list_any (λ (c : Area). eqb c.memory a.memory) (filter p areas)) ≡ true → have_own_memory (filter p areas) ≡ true → have_own_memory (cond b (a ∷ filter p areas) (filter p areas)) ≡ true
+    by_test true none rest = both_true _ _ none rest
+    by_test false none rest = rest
+
+-- ---- whose they are
+
+pub all_own : (w : World) (file : FileNo) (ioas : ObjId) (user : UserNo) (rows : List MemoryObject) → AreasOwned w → user_of w.settings file ≡ Some user
+    → ((m : MemoryObject) → IsIn rows m → IsIn w.memory m) → are_of user (filter (λ row. list_any (λ area. eqb area.memory row.number) (areas_of w.areas file ioas)) rows) ≡ true
+all_own w file ioas user [] owned is within = refl
+all_own w file ioas user (m ∷ rows) owned is within =
+    by_test (list_any (λ (area : Area). eqb area.memory m.number) (areas_of w.areas file ioas)) refl (all_own w file ioas user rows owned is (λ x later. within x (inr later)))
+  where
+    turned : (a b : ℕ) → eqb a b ≡ true → eqb b a ≡ true
+    turned a b same = grind (arith, nat_tests)
+
+    by_user : (o : Option UserNo) → o ≡ Some user → elim o [ Some u ↦ eqb u.0 m.user.0 | None ↦ false ] ≡ true → eqb m.user.0 user.0 ≡ true
+    by_user None found of_user = cc
+    by_user (Some u) found of_user = let same : u ≡ user = cc in turned user.0 m.user.0 (rw same at of_user)
+
+    by_test : (b : Bool) → list_any (λ (area : Area). eqb area.memory m.number) (areas_of w.areas file ioas) ≡ b
+        → are_of user (filter (λ row. list_any (λ area. eqb area.memory row.number) (areas_of w.areas file ioas)) rows) ≡ true
+        → are_of user (cond b (m ∷ filter (λ row. list_any (λ area. eqb area.memory row.number) (areas_of w.areas file ioas)) rows) (filter (λ row. list_any (λ area. eqb area.memory row.number) (areas_of w.areas file ioas)) rows)) ≡ true
+    by_test true there rest = both_true _ _ (by_user (user_of w.settings file) is (owner w file ioas m owned (within m (inl refl)) there)) rest
+    by_test false there rest = rest
+
+-- ---- no areas
+
+none_left : {X : Type 0} (xs : List X) → filter (λ (x : X). false) xs ≡ []
+none_left [] = refl
+none_left (x ∷ xs) = none_left xs
+
+pub none_under : (m : Memory) → unpinned_pages (pinned_frame m) (filter (λ row. list_any (λ (area : Area). eqb area.memory row.number) []) (rows_of m)) ≡ []
+none_under m = ap (unpinned_pages (pinned_frame m)) (none_left (rows_of m))
+
+-- ---- the space is the areas'
+
+-- the translated areas and those of a space without a page table are some of all
+pub room_for_pins : (objects : List Object) (areas : List Area) (file : FileNo) (ioas : ObjId) → has_hwpt objects file ioas ≡ false → (n : ℕ) → translated objects areas n + over (areas_of areas file ioas) n ≤ over areas n
+room_for_pins objects areas file ioas none n =
+    let gained = table_gained objects areas file ioas (record { 0 = 0 }) Bits39 true none n in
+    let few = few_translated (with_object (made_object file ioas (record { 0 = 0 }) Bits39 true) objects) areas n in
+    omega (arith, gained, few)
+
+-- ---- where nothing refuses
+
+-- whether an address space is translated is known of the page tables that are kept
+pub translated_space : {A : Type 0} (w : World) (s : State A) (table : Table (Held A)) (kept : List Object) (file : FileNo) (ioas : ObjId) → Shows w s → kept ≡ s.page_tables.items → table.rows ≡ s.objects.rows → has_hwpt kept file ioas ≡ has_hwpt (objects_in table) file ioas
+translated_space w s table kept file ioas shows is rows =
+    ap (λ (tables : List Object). has_hwpt tables file ioas) is
+    ∙ has_hwpt_kept s.page_tables.items (objects_in s.objects) (tables_shown w s shows) file ioas
+    ∙ ap (λ (rows : List (Row (Held _))). has_hwpt (map object_of rows) file ioas) (sym rows)
+
+module _ {A : Type 0} where
+  -- the pins that are known
+  pub pins_known : (at : ℕ) (w : World) (s : State A) → IsTidy at w → Shows w s → PinsAreKnown s.memory
+  pins_known at w s tidy shows = record { invariant = shows.pins.invariant; only = only_kept at w s.memory tidy.pins shows.pins }
+
+  -- the areas of the address space may be pinned, where it has no page table
+  pub may_pin : (at : ℕ) (w : World) (s : State A) (table : Table (Held A)) (file : FileNo) (ioas : ObjId) (user : UserNo) → IsTidy at w → Shows w s → IsRoomy (view w) file ioas
+      → user_of s.config file ≡ Some user → is_user s.config user ≡ true
+      → table.rows ≡ s.objects.rows → has_hwpt (objects_in table) file ioas ≡ false
+      → MayPin user (own_areas table file ioas) s.memory s.pool.holds
+  may_pin at w s table file ioas user tidy shows roomy is_user_of known same none =
+      subst (λ (areas : List Area). MayPin user areas s.memory s.pool.holds) (sym space) (record {
+        own = ap (are_of user) (rows_under s.memory (areas_of w.areas file ioas)) ∙ ap (λ (rows : List MemoryObject). are_of user (filter (λ row. list_any (λ area. eqb area.memory row.number) (areas_of w.areas file ioas)) rows)) (sym shows.pins.rows)
+            ∙ all_own w file ioas user w.memory tidy.owned (ap (λ (settings : Settings). user_of settings file) shows.settings ∙ is_user_of) (λ m within. within);
+        present = ap (λ (rows : List MemoryObject). list_any (λ page. is_none (frame_now s.memory page)) (unpinned_pages (pinned_frame s.memory) rows)) (rows_under s.memory (areas_of w.areas file ioas))
+            ∙ ap (λ (areas : List Area). list_any (λ page. is_none (frame_now s.memory page)) (unpinned_pages (pinned_frame s.memory) (filter (λ row. list_any (λ area. eqb area.memory row.number) areas) (rows_of s.memory)))) (shows.objects.spaces file ioas)
+            ∙ rest _ _ unused asks.present;
+        room = ap (has_room s.memory user) (ap (λ (rows : List MemoryObject). length (unpinned_pages (pinned_frame s.memory) rows)) (rows_under s.memory (areas_of w.areas file ioas))
+            ∙ ap (λ (areas : List Area). length (unpinned_pages (pinned_frame s.memory) (filter (λ row. list_any (λ area. eqb area.memory row.number) areas) (rows_of s.memory)))) (shows.objects.spaces file ioas))
+            ∙ room_there w s user _ shows known (ap (λ (o : Option UserNo). passes_limit (seen s) o (length (unpinned_pages (pinned_frame s.memory) (filter (λ row. list_any (λ area. eqb area.memory row.number) (areas_at s.objects.rows file ioas)) (rows_of s.memory))))) (sym is_user_of) ∙ rest _ _ unused asks.within_limit);
+        areas = λ n. let all = room_for_pins w.objects w.areas file ioas unused_w n in let pins = shows.pins.tables n in let areas = shows.pins.areas n in omega (arith, all, pins, areas);
+        backed = is_backed w.settings.pool w.writes w.table_frames s.memory s.pool shows.frames;
+        invariant = shows.pins.invariant;
+        only = only_kept at w s.memory tidy.pins shows.pins;
+      })
+    where
+      objects : objects_in table ≡ objects_in s.objects
+      objects = ap (map object_of) same
+
+      unused : has_hwpt (objects_in s.objects) file ioas ≡ false
+      unused = ap (λ (rows : List Object). has_hwpt rows file ioas) (sym objects) ∙ none
+
+      unused_w : has_hwpt w.objects file ioas ≡ false
+      unused_w = ap (λ (rows : List Object). has_hwpt rows file ioas) shows.objects.rows ∙ unused
+
+      asks : IsRoomy (seen s) file ioas
+      asks = subst (λ (v : View). IsRoomy v file ioas) (sym (same_view w s shows)) roomy
+
+      rest : (b c : Bool) → b ≡ false → (not b && c) ≡ false → c ≡ false
+      rest true c is both = cc
+      rest false c is both = both
+
+      is_orderly : IsOrderly table
+      is_orderly = let old = orderly at w s tidy shows in record { proper = ap (list_all is_proper) same ∙ old.proper; ids = ap have_own_ids objects ∙ old.ids }
+
+      space : own_areas table file ioas ≡ areas_of w.areas file ioas
+      space = own_at table file ioas is_orderly ∙ ap (λ (rows : List (Row (Held A))). areas_at rows file ioas) same ∙ sym (shows.objects.spaces file ioas)

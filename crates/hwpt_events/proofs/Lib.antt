@@ -1,0 +1,9 @@
+pub mod Asks
+pub mod AttachedShown
+pub mod FullFile
+pub mod Gained
+pub mod HwptMade
+pub mod Made
+pub mod Narrowed
+pub mod NeverRefused
+pub mod Placed

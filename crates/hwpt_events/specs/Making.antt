@@ -1,0 +1,65 @@
+-- A page table that comes over an address space, and the one that is there for an attachment.
+use Rattle.std.specs.Prelude.{◌≡◌, ℕ, Bool, true, false, Option, Some, None, List, IsTrue}
+use Rattle.std.specs.Option.{option_map}
+use Rattle.iofd_words.specs.After.{settle}
+use Rattle.iofd_words.specs.Checks.{lacks_attached_page, passes_limit_attached}
+use Rattle.iofd_words.specs.Files.{device_of}
+use Rattle.iofd_words.specs.Objects.{automatic_hwpt, has_ioas, is_fresh, is_full, kind_of, with_object}
+use Rattle.iofd_words.specs.Settings.{Settings}
+use Rattle.iofd_words.specs.View.{View, view}
+use Rattle.iofd_words.specs.World.{World}
+use Rattle.iofd_words.specs.declared.numbers.DeviceNo.{DeviceNo}
+use Rattle.iofd_words.specs.declared.numbers.FileNo.{FileNo}
+use Rattle.iofd_words.specs.declared.numbers.ObjId.{ObjId}
+use Rattle.iofd_words.specs.declared.rows.Object.{Object}
+use Rattle.iofd_words.specs.declared.rows.ObjectKind.{ObjectKind}
+use Rattle.iofd_words.specs.declared.rows.ObjectKind.TheVariants as kind
+use Rattle.iofd_words.specs.declared.width.Width.{Width}
+use Rattle.server_state.specs.Shows.{Shows}
+use Rattle.server_state.specs.Step.{IsTidy}
+use Rattle.server_state.specs.declared.state.State.{State}
+
+-- the width of a device's addresses
+abbrev pub width_of : Settings → DeviceNo → Option Width
+width_of settings device = elim (device_of settings device) [ Some device ↦ Some device.width | None ↦ None ]
+
+-- the page table that is there for an attachment, by what is named: itself, or an automatic one of the width over it
+abbrev pub named_table : List Object → FileNo → ObjId → Width → Option ObjectKind → Option ObjId
+named_table objects file pt_id width (Some (kind.Hwpt ioas of automatic)) = Some pt_id
+named_table objects file pt_id width (Some kind.Ioas) = option_map (λ object. object.id) (automatic_hwpt objects file pt_id width)
+named_table objects file pt_id width (Some (kind.Device device)) = option_map (λ object. object.id) (automatic_hwpt objects file pt_id width)
+named_table objects file pt_id width None = option_map (λ object. object.id) (automatic_hwpt objects file pt_id width)
+
+abbrev pub table_there : List Object → FileNo → ObjId → Width → Option ObjId
+table_there objects file pt_id width = named_table objects file pt_id width (kind_of objects file pt_id)
+
+-- what a new page table asks: room in its file for one more object, and of the first over an address space that the pages it
+-- pins are there, and that its user may have so many pinned pages more
+pub record IsRoomy (v : View) (file : FileNo) (ioas : ObjId) : Type 0 where
+  pub opened : v.is_open file ≡ true
+  pub space : has_ioas v.objects file ioas ≡ true
+  pub roomy : is_full v.objects file ≡ false
+  pub present : lacks_attached_page v file ioas ≡ false
+  pub within_limit : passes_limit_attached v file ioas ≡ false
+
+abbrev pub made_object : FileNo → ObjId → ObjId → Width → Bool → Object
+made_object file ioas id width automatic = record { file = file; id = id; kind = kind.Hwpt ioas width automatic }
+
+-- the world with one more object, and the pins that follow
+abbrev pub with_table : World → Object → World
+with_table w object = settle w (record w { objects = with_object object w.objects })
+
+module _ {A : Type 0} where
+  -- a world of a run is shown in which one may come
+  pub record MayCome (file : FileNo) (ioas : ObjId) (s : State A) : Type 0 where
+    pub at : ℕ
+    pub world : World
+    pub tidy : IsTidy at world
+    pub shows : Shows world s
+    pub may : IsRoomy (view world) file ioas
+
+  -- one of this width came under an unused id, and the world with it is shown
+  abbrev pub IsMade : ℕ → FileNo → ObjId → Width → Bool → State A → ObjId → State A → Type 0
+  IsMade at file ioas width automatic old id new =
+      (w : World) → IsTidy at w → Shows w old → IsRoomy (view w) file ioas
+      → IsTrue (is_fresh w.objects file id) × Shows (with_table w (made_object file ioas id width automatic)) new

@@ -1,0 +1,93 @@
+//! HwptAlloc: a file gets a page table of a device's width over one of its address spaces.
+
+ghost use Rattle.std.specs.Prelude.{◌≡◌, ℕ, IfOk, OnErr};
+ghost use Rattle.std.specs.Option.{option_map};
+ghost use Rattle.iofd_words.specs.Checks.{hwpt_alloc_checks};
+ghost use Rattle.iofd_words.specs.FirstTrue.{first_true};
+ghost use Rattle.iofd_words.specs.Objects as objects;
+ghost use Rattle.iofd_words.specs.declared.event.Event.TheVariants as event;
+ghost use Rattle.server_state.specs.Held.{objects_in};
+ghost use Rattle.server_state.specs.Seen.{seen};
+ghost use Rattle.server_state.specs.Step.{IsGranted, IsKnown, ShowsSame, Steps};
+
+use crate::{making, narrow};
+use iofd_words::{Cause, DeviceNo, FileNo, HwptRequest, NoMemory, ObjId, ObjectKind, Reply};
+use object_table::ObjectTable;
+use server_state::{Held, State, lookups};
+use std::alloc::Allocator;
+
+/// Why it is refused, by the first row of the definitions that holds. None where nothing refuses it.
+#[tactic(auto, unfolding(iofd_words::specs::Checks::hwpt_alloc_checks))]
+pub fn refusal<A: Allocator>(state: &State<A>, file: FileNo, request: HwptRequest) -> Option<Cause>
+    requires { IsKnown state.now }
+    ensures { result ≡ first_true (hwpt_alloc_checks (seen state.now) file request) }
+{
+    if !state.objects.is_open(file) {
+        return Some(Cause::Id);
+    }
+    let Some(device) = device_under(&state.objects, file, request.device) else {
+        return Some(Cause::Id);
+    };
+    if !has_ioas(&state.objects, file, request.ioas) {
+        return Some(Cause::Id);
+    }
+    if narrow::narrows_by_width(state, device, file, request.ioas) {
+        return Some(Cause::Narrow);
+    }
+    if making::is_full(&state.objects, file) {
+        return Some(Cause::Full);
+    }
+    if making::lacks_page(state, file, request.ioas) {
+        return Some(Cause::Absent);
+    }
+    if making::passes_limit(state, file, request.ioas) {
+        return Some(Cause::Account);
+    }
+    None
+}
+
+/// The device that the file has under the id.
+fn device_under<A: Allocator>(
+    table: &ObjectTable<Held<A>, A>,
+    file: FileNo,
+    id: ObjId,
+) -> Option<DeviceNo>
+    ensures { result ≡ objects.device_under (objects_in table.now) file id }
+{
+    match lookups::kind_of(table, file, id) {
+        Some(ObjectKind::Device(device)) => Some(device),
+        _ => None,
+    }
+}
+
+/// Whether the file has an address space of this id.
+fn has_ioas<A: Allocator>(table: &ObjectTable<Held<A>, A>, file: FileNo, id: ObjId) -> bool
+    ensures { result ≡ objects.has_ioas (objects_in table.now) file id }
+{
+    matches!(lookups::kind_of(table, file, id), Some(ObjectKind::Ioas))
+}
+
+/// What it does where nothing refuses it: the file has one more page table, which stays until it is destroyed. The first
+/// one over an address space pins the pages of all its areas. The answer is its id.
+///
+/// The only error is want of memory. It leaves the world as it was.
+pub fn commit<A: Allocator + Copy>(
+    state: &mut State<A>,
+    file: FileNo,
+    request: HwptRequest,
+) -> Result<Reply, NoMemory>
+    requires { IsGranted (event.HwptAlloc file request) state.old }
+    ensures ok { IfOk result (λ reply. (at : ℕ) → Steps at (event.HwptAlloc file request) state.old reply state.new) }
+    ensures err { OnErr result (ShowsSame state.old state.new) }
+{
+    let Some(device) = device_under(&state.objects, file, request.device) else {
+        // Never: it was refused.
+        return Ok(Reply::Done);
+    };
+    let Some(width) = making::width_of(&state.config, device) else {
+        // Never: each bound device is one of the configuration.
+        return Ok(Reply::Done);
+    };
+    let id = making::make(state, file, request.ioas, width, false)?;
+    Ok(Reply::Id(id))
+}
