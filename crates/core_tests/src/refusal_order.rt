@@ -42,6 +42,8 @@ enum Step {
     Map(u16, u32, u32, u64, u64, u64),
     // UNMAP: file, address space, iova, length.
     Unmap(u16, u32, u64, u64),
+    // HWPT_ALLOC: file, device, address space.
+    Table(u16, u32, u32),
     // DESTROY: file, object.
     Destroy(u16, u32),
     // So many IOAS_ALLOC of file 1.
@@ -71,6 +73,8 @@ struct Chain {
 //   tables alone, the second of devices;
 // - close, Id and InUse: a file that isn't open has no device;
 // - bind, Id of the file and of the device are one answer; Id of the device and Bound: an unknown device isn't bound;
+// - unbind, Id and InUse: what is no device of the file isn't attached;
+// - HWPT_ALLOC, Id and Narrow: what isn't there has neither a width nor areas;
 // - attach, Id of the device and Bound: a device that isn't bound isn't attached.
 // A flush can be refused by Id alone.
 static CHAINS: [Chain; 18] = [
@@ -258,6 +262,11 @@ static CHAINS: [Chain; 18] = [
             (Line("attach 1 3"), "98 Narrow"),
             (Line("attach 1 4"), "98 Narrow"),
             (Line("attach 1 2"), "28 Full"),
+            (Table(1, 2, 3), "2 Id"),
+            (Table(1, 1, 1), "2 Id"),
+            (Table(1, 1, 3), "98 Narrow"),
+            (Table(1, 1, 4), "98 Narrow"),
+            (Table(1, 1, 2), "28 Full"),
         ],
     },
     Chain {
@@ -275,6 +284,8 @@ static CHAINS: [Chain; 18] = [
         asks: &[
             (Line("attach 1 9"), "2 Id"),
             (Line("attach 1 1"), "14 Absent"),
+            (Table(1, 2, 9), "2 Id"),
+            (Table(1, 2, 1), "14 Absent"),
         ],
     },
     Chain {
@@ -292,6 +303,8 @@ static CHAINS: [Chain; 18] = [
             // Of the first one's pages the user has one.
             (Line("attach 1 1"), "14 Absent"),
             (Line("attach 1 2"), "12 Account"),
+            (Table(3, 3, 1), "14 Absent"),
+            (Table(3, 3, 2), "12 Account"),
         ],
     },
     Chain {
@@ -376,6 +389,12 @@ fn put_step(script: &mut String, step: Step) -> Result<(), AllocError> {
             ioas.swap_bytes(),
             iova.swap_bytes(),
             length.swap_bytes()
+        ),
+        Table(file, device, ioas) => writeln!(
+            script,
+            "ioctl {file} 3b89 1800000000000000{:08x}{:08x}0000000000000000",
+            device.swap_bytes(),
+            ioas.swap_bytes()
         ),
         Destroy(file, id) => writeln!(script, "ioctl {file} 3b80 08000000{:08x}", id.swap_bytes()),
         Allocs(count) => put_allocs(script, count),

@@ -79,6 +79,7 @@ module _ {A : Type 0} where
   IsCommanded s file (command.IoasIovaRanges request) text after = IsRanges s file request text after
   IsCommanded s file (command.IoasMap request) text after = IsApplied s (event.Map file request) text after
   IsCommanded s file (command.IoasUnmap request) text after = IsApplied s (event.Unmap file request) text after
+  IsCommanded s file (command.HwptAlloc request) text after = IsApplied s (event.HwptAlloc file request) text after
 
   -- bytes that spell no command are refused
   pub record IsUndecoded (s : Server A) (number : ℕ) (bytes text : List ℕ) (after : Server A) : Type 0 where
@@ -119,6 +120,7 @@ module _ {A : Type 0} where
   IsAnswered s (step.UserWrite user va bytes) text after =
       IsApplied s (event.UserWrite user va bytes) text after
   IsAnswered s (step.Bind file device) text after = IsApplied s (event.Bind file device) text after
+  IsAnswered s (step.Unbind file id) text after = IsApplied s (event.Unbind file id) text after
   IsAnswered s (step.Attach device pt_id) text after = IsApplied s (event.Attach device pt_id) text after
   IsAnswered s (step.Detach device) text after = IsApplied s (event.Detach device) text after
   IsAnswered s (step.Flush device) text after = IsApplied s (event.Flush device) text after

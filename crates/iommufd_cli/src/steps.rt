@@ -38,6 +38,7 @@ pub fn answer_step<A: Allocator + Copy>(
             answer_event(core, Event::UserWrite(*user, *va, *bytes))
         }
         Step::Bind(file, device) => answer_event(core, Event::Bind(*file, *device)),
+        Step::Unbind(file, id) => answer_event(core, Event::Unbind(*file, *id)),
         Step::Attach(device, pt_id) => answer_event(core, Event::Attach(*device, *pt_id)),
         Step::Detach(device) => answer_event(core, Event::Detach(*device)),
         Step::Flush(device) => answer_event(core, Event::Flush(*device)),
@@ -83,6 +84,7 @@ fn command_of<A: Allocator>(event: Event<A>) -> Option<Command<A>>
         Event::AllowIovas(_, ioas, ranges) => Some(Command::IoasAllowIovas(ioas, ranges)),
         Event::Map(_, request) => Some(Command::IoasMap(request)),
         Event::Unmap(_, request) => Some(Command::IoasUnmap(request)),
+        Event::HwptAlloc(_, request) => Some(Command::HwptAlloc(request)),
         Event::Destroy(_, id) => Some(Command::Destroy(id)),
         _ => None,
     }
@@ -146,6 +148,7 @@ fn answer_command<A: Allocator + Copy>(
         Command::IoasIovaRanges(request) => answer_ranges(alloc, core, file, request),
         Command::IoasMap(request) => answer_event(core, Event::Map(file, request)),
         Command::IoasUnmap(request) => answer_event(core, Event::Unmap(file, request)),
+        Command::HwptAlloc(request) => answer_event(core, Event::HwptAlloc(file, request)),
     }
 }
 

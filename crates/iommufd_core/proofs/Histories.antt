@@ -1,6 +1,7 @@
 -- What one more record makes of a run.
 use Rattle.std.proofs.Common.{◌≡◌, ℕ, suc, ◌+◌, List, [], ◌∷◌, ◌++◌, length, refl, arith}
 use Rattle.iofd_runs.proofs.KeepsFits.{keeps_fit, tabled_fit}
+use Rattle.iofd_runs.proofs.KeepsBoundOnce.{DevicesOnce, keeps_once, opening_once, tabled_once}
 use Rattle.iofd_runs.proofs.KeepsOwnMemory.{OwnPins, keeps_own_pins, later_own, tabled_own}
 use Rattle.iofd_runs.proofs.KeepsOwned.{OwnedPins, keeps_owned_pins, later_owned, opening_owned, tabled_owned}
 use Rattle.iofd_runs.proofs.KeepsPins.{opening_pinned}
@@ -38,11 +39,13 @@ module _ {A : Type 0} where
       let pins = run_keeps_at OwnPins tabled_own later_own keeps_own_pins 0 (length records) (opening settings) records (omega arith) run (record { pins = opening_pinned settings; own = refl }) in
       let owned = run_keeps_at OwnedPins tabled_owned later_owned keeps_owned_pins 0 (length records)
       (opening settings) records (omega arith) run (opening_owned settings) in
+      let once = run_keeps DevicesOnce tabled_once keeps_once 0 (opening settings) records run (opening_once settings) in
       record {
         pins = pins.pins;
         own = pins.own;
         debts = usable.sound.debts;
         ids = usable.sound.own_ids;
+        once = once;
         fit = fit;
         owned = owned.areas;
         usable = usable.areas;

@@ -7,8 +7,9 @@ ghost use Rattle.server_state.specs.Seen.{seen};
 ghost use Rattle.iommufd_core.specs.Server.{takes_memory};
 ghost use Rattle.server_state.specs.Step.{Answered, ChosenSteps, IsCalled, IsGrantedFor, IsKnown, TidyShowsSame};
 
-use device_events::{attach, bind, detach, device_write, flush};
-use file_events::{close, destroy, ioas_alloc};
+use device_events::{bind, detach, device_write, flush};
+use file_events::{close, destroy, ioas_alloc, unbind};
+use hwpt_events::{attach, hwpt_alloc};
 use iofd_words::{Act, Cause, Event, NoMemory, Refusal, Reply};
 use memory_events::{allow_iovas, map, unmap, user_map, user_unmap, user_write};
 use server_state::State;
@@ -44,12 +45,14 @@ fn refusal<A: Allocator>(state: &State<A>, event: &Event<A>) -> Option<Cause>
         }
         Event::Map(file, request) => map::refusal(state, *file, *request),
         Event::Unmap(file, request) => unmap::refusal(state, *file, *request),
+        Event::HwptAlloc(file, request) => hwpt_alloc::refusal(state, *file, *request),
         Event::Destroy(file, id) => destroy::refusal(state, *file, *id),
         Event::Close(file) => close::refusal(state, *file),
         Event::UserMap(user, va) => user_map::refusal(state, *user, *va),
         Event::UserUnmap(user, va) => user_unmap::refusal(state, *user, *va),
         Event::UserWrite(user, va, bytes) => user_write::refusal(state, *user, *va, bytes),
         Event::Bind(file, device) => bind::refusal(state, *file, *device),
+        Event::Unbind(file, id) => unbind::refusal(state, *file, *id),
         Event::Attach(device, pt_id) => attach::refusal(state, *device, *pt_id),
         Event::Detach(device) => detach::refusal(state, *device),
         Event::Flush(device) => flush::refusal(state, *device),
@@ -77,12 +80,14 @@ fn commit<A: Allocator + Copy>(
         }
         Event::Map(file, request) => map::commit(state, at, *file, *request),
         Event::Unmap(file, request) => Ok(unmap::commit(state, *file, *request)),
+        Event::HwptAlloc(file, request) => hwpt_alloc::commit(state, *file, *request),
         Event::Destroy(file, id) => Ok(destroy::commit(state, *file, *id)),
         Event::Close(file) => Ok(close::commit(state, *file)),
         Event::UserMap(user, va) => user_map::commit(state, *user, *va),
         Event::UserUnmap(user, va) => Ok(user_unmap::commit(state, *user, *va)),
         Event::UserWrite(user, va, bytes) => Ok(user_write::commit(state, *user, *va, bytes)),
         Event::Bind(file, device) => bind::commit(state, *file, *device),
+        Event::Unbind(file, id) => Ok(unbind::commit(state, *file, *id)),
         Event::Attach(device, pt_id) => attach::commit(state, *device, *pt_id),
         Event::Detach(device) => Ok(detach::commit(state, *device)),
         Event::Flush(device) => Ok(flush::commit(state, *device)),

@@ -27,3 +27,6 @@ returns-in-Map-clause-ok g c =
 
 pub returns-in-AllowIovas-clause-err : goal.returns-in-AllowIovas-clause-err
 returns-in-AllowIovas-clause-err g c = on_err c.commit-in-AllowIovas.result _ _ (λ same w tidy shows. same w shows) c.commit-in-AllowIovas.ensures.err
+
+pub returns-in-HwptAlloc-clause-err : goal.returns-in-HwptAlloc-clause-err
+returns-in-HwptAlloc-clause-err g c = on_err c.commit-in-HwptAlloc.result _ _ (λ same w tidy shows. same w shows) c.commit-in-HwptAlloc.ensures.err
