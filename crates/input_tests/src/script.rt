@@ -163,14 +163,15 @@ fn a_head_says_the_configuration(rt: HostRuntime) -> Result<(), Fail> {
 }
 
 #[test]
-fn steps_come_in_order(rt: HostRuntime) {
-    let mut steps = Steps::of(WORKED.as_bytes());
+fn steps_come_in_order(rt: HostRuntime) -> Result<(), Fail> {
+    let mut steps = Steps::read(rt.alloc(), WORKED.as_bytes())?;
     for (place, said) in WORKED_STEPS.iter().enumerate() {
         assert!(rt; next_says(rt.alloc(), &mut steps, *said), "step {place}");
     }
     assert!(rt; steps.next_step().is_none() && steps.next_step().is_none());
     laws::good_scripts();
     laws::first_bad_lines();
+    Ok(())
 }
 
 // Each with its first bad line.
@@ -705,5 +706,8 @@ fn a_bad_line_is_told_without_memory(rt: HostRuntime) -> Result<(), Fail> {
     let _taken: Vec<u8, &LocalHeap> = Vec::with_capacity(&full, 1)?;
     assert!(rt; error(&full, WORKED) == Some(ScriptError::NoMemory));
     assert!(rt; error(&full, "pool 8\n") == Some(ScriptError::BadLine(2)));
+    // The first step has no place, and the line behind it is bad.
+    let bad = "pool 8\nuser 4\nfile 1\nbegin\nclose 1\nclose\n";
+    assert!(rt; error(&full, bad) == Some(ScriptError::BadLine(6)));
     Ok(())
 }

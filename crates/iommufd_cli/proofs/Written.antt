@@ -1,12 +1,12 @@
 -- What is written in turn.
-use Rattle.std.proofs.Common.{◌≡◌, ℕ, zero, suc, ◌<◌, Option, Some, None, List, [], ◌∷◌, ◌++◌, length, take, Result, Ok, Err, OnErr, inl, inr, refl, sym, ◌∙◌, ap, subst, arith}
+use Rattle.std.proofs.Common.{◌≡◌, ℕ, zero, suc, ◌<◌, Option, Some, None, List, [], ◌∷◌, ◌++◌, length, take, Result, Ok, Err, IfOk, OnErr, inl, inr, refl, sym, ◌∙◌, ap, subst, arith}
 use Rattle.std.proofs.lemmas.List.{append_assoc, append-nil}
 use Rattle.std.specs.Io.KnownBytes.{Appends}
 use Rattle.std.specs.Option.{IfSome, option_map}
 use Rattle.iofd_words.specs.Settings.{Settings}
 use Rattle.iommufd_cli.specs.Failures.{BeginsLines, BeginsRunText, BeginsText}
 use Rattle.iommufd_cli.specs.Output.{IsFront}
-use Rattle.iommufd_cli.specs.Session.{StepsText}
+use Rattle.iommufd_cli.specs.Session.{IsReadText, IsRunText, StepsText}
 use Rattle.iommufd_cli.specs.Steps.{IsAnswered}
 use Rattle.iommufd_core.specs.Server.{Server}
 use Rattle.iommufd_script.specs.Opening.{script_of}
@@ -65,6 +65,19 @@ module _ {A : Type 0} where
     | inl lines ↦ inr (inl (record { settings = settings; steps = steps; good = good; lines = lines }))
     | inr front ↦ inr (inr front)
   ]
+
+-- what is written for a head and steps is a text of the script that says them
+module _ {A : Type 0} where
+  pub read_text : (input out : List ℕ) (status : ℕ) (settings : Settings) (steps : List Step) → script_of input ≡ Ok (settings, steps) → IsRunText A settings steps out status
+      → IsReadText A input out status
+  read_text input out status settings steps good text = elim text [
+    | inl lines ↦ inr (inl (record { settings = settings; steps = steps; good = good; lines = lines.0; status_is = lines.1 }))
+    | inr without ↦ inr (inr (without, (settings, steps), good))
+  ]
+
+pub if_ok_weaker : {T E : Type 0} (r : Result T E) (P Q : T → Type 0) → ((x : T) → P x → Q x) → IfOk r P → IfOk r Q
+if_ok_weaker (Ok x) P Q more p = more x p
+if_ok_weaker (Err e) P Q more p = tt
 
 -- ---- reading
 

@@ -60,7 +60,7 @@ fn run_text<W: Write, A: Allocator + Copy>(alloc: A, text: &[u8], writer: &mut W
 fn run_script<W: Write, A: Allocator + Copy>(
     alloc: A,
     config: &Config<A>,
-    steps: &mut Steps<'_>,
+    steps: &mut Steps<'_, A>,
     writer: &mut W,
 ) -> io::Result<u8>
     ensures text { IfOk result (λ status.
@@ -106,7 +106,7 @@ fn told<W: Write>(writer: &mut W, line: Line) -> io::Result<u8>
 fn run_steps<W: Write, A: Allocator + Copy>(
     alloc: A,
     core: &mut Core<A>,
-    steps: &mut Steps<'_>,
+    steps: &mut Steps<'_, A>,
     writer: &mut W,
 ) -> io::Result<()>
     ensures text { OnOk result (Writes (StepsText core.old steps.old) (W.contents writer.old) (W.contents writer.new)) }

@@ -56,6 +56,11 @@ script_or settings steps (Some n) = Err n
 unfoldable pub script_of : List ℕ → Result (Settings × List Step) ℕ
 script_of text = script_or (settings_of text) (steps_of text) (first_bad_line text)
 
+-- the bad line that an error names
+abbrev pub bad_line_in : ScriptError → Option ℕ
+bad_line_in (errors.BadLine n) = Some n
+bad_line_in errors.NoMemory = None
+
 -- what a call answered for the script, where memory was there
 abbrev pub Answers : {T : Type 0} → (T → Settings × List Step) → Result T ScriptError → Result (Settings × List Step) ℕ → Type 0
 Answers view (Ok x) script = script ≡ Ok (view x)

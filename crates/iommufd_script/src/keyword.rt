@@ -1,6 +1,7 @@
 //! The words that lines begin with.
 
 ghost use Rattle.std.specs.Prelude.{◌≡◌};
+ghost use Rattle.std.specs.Str.{bytes_eq};
 ghost use Rattle.iommufd_script.specs.Grammar.{head_keyword, step_keyword};
 
 /// The words of the head.
@@ -33,19 +34,32 @@ pub enum StepKeyword {
     Held,
 }
 
+// Whether the word is this one. Most differ in their length or their first byte, so that no call compares them.
+fn is_word(word: &[u8], name: &[u8]) -> bool
+    ensures { result ≡ bytes_eq word.now name.now }
+{
+    if word.len() != name.len() {
+        return false;
+    }
+    if !word.is_empty() && word[0] != name[0] {
+        return false;
+    }
+    word == name
+}
+
 // The word of the head that this is.
 pub fn head_keyword(word: &[u8]) -> Option<HeadKeyword>
     ensures { result ≡ head_keyword word.now }
 {
-    if word == b"pool".as_slice() {
+    if is_word(word, b"pool") {
         Some(HeadKeyword::Pool)
-    } else if word == b"user".as_slice() {
+    } else if is_word(word, b"user") {
         Some(HeadKeyword::User)
-    } else if word == b"file".as_slice() {
+    } else if is_word(word, b"file") {
         Some(HeadKeyword::File)
-    } else if word == b"device".as_slice() {
+    } else if is_word(word, b"device") {
         Some(HeadKeyword::Device)
-    } else if word == b"begin".as_slice() {
+    } else if is_word(word, b"begin") {
         Some(HeadKeyword::Begin)
     } else {
         None
@@ -56,35 +70,35 @@ pub fn head_keyword(word: &[u8]) -> Option<HeadKeyword>
 pub fn step_keyword(word: &[u8]) -> Option<StepKeyword>
     ensures { result ≡ step_keyword word.now }
 {
-    if word == b"ioctl".as_slice() {
+    if is_word(word, b"ioctl") {
         Some(StepKeyword::Ioctl)
-    } else if word == b"close".as_slice() {
+    } else if is_word(word, b"close") {
         Some(StepKeyword::Close)
-    } else if word == b"umap".as_slice() {
+    } else if is_word(word, b"umap") {
         Some(StepKeyword::UserMap)
-    } else if word == b"uunmap".as_slice() {
+    } else if is_word(word, b"uunmap") {
         Some(StepKeyword::UserUnmap)
-    } else if word == b"uread".as_slice() {
+    } else if is_word(word, b"uread") {
         Some(StepKeyword::UserRead)
-    } else if word == b"uwrite".as_slice() {
+    } else if is_word(word, b"uwrite") {
         Some(StepKeyword::UserWrite)
-    } else if word == b"bind".as_slice() {
+    } else if is_word(word, b"bind") {
         Some(StepKeyword::Bind)
-    } else if word == b"unbind".as_slice() {
+    } else if is_word(word, b"unbind") {
         Some(StepKeyword::Unbind)
-    } else if word == b"attach".as_slice() {
+    } else if is_word(word, b"attach") {
         Some(StepKeyword::Attach)
-    } else if word == b"detach".as_slice() {
+    } else if is_word(word, b"detach") {
         Some(StepKeyword::Detach)
-    } else if word == b"flush".as_slice() {
+    } else if is_word(word, b"flush") {
         Some(StepKeyword::Flush)
-    } else if word == b"dread".as_slice() {
+    } else if is_word(word, b"dread") {
         Some(StepKeyword::DeviceRead)
-    } else if word == b"dwrite".as_slice() {
+    } else if is_word(word, b"dwrite") {
         Some(StepKeyword::DeviceWrite)
-    } else if word == b"free".as_slice() {
+    } else if is_word(word, b"free") {
         Some(StepKeyword::FreeFrames)
-    } else if word == b"held".as_slice() {
+    } else if is_word(word, b"held") {
         Some(StepKeyword::Held)
     } else {
         None

@@ -8,7 +8,7 @@ ghost use Rattle.iommufd_script.specs.Opening.{nothing_set, set_by, settings_of,
 use crate::error::ScriptError;
 use crate::line::{HeadLine, Line};
 use crate::parsing::parse_line;
-use crate::script::{Steps, first_bad_line};
+use crate::script::Steps;
 use crate::split::split_line;
 use iofd_words::{Config, DeviceConfig, NoMemory, UserNo};
 use std::alloc::Allocator;
@@ -100,21 +100,18 @@ fn opened<A: Allocator>(head: Head<A>) -> Config<A>
     }
 }
 
-/// Reads a script whole: what it opens a server with, and its steps, of which each is read from the text
-/// as it is taken.
+/// Reads a script whole: what it opens a server with, and its steps.
 ///
 /// The error is BadLine with the number of the first bad line (`first_bad_line`), whatever memory there
-/// is; else NoMemory where the memory for the head was refused.
+/// is; else NoMemory where the memory for the head or for the steps was refused.
 #[tactic(auto, using(crate::proofs::Within::good_settings), unfolding(crate::specs::Opening::script_of))]
 pub fn read_script<'a, A: Allocator + Copy>(
     alloc: A,
     text: &'a [u8],
-) -> Result<(Config<A>, Steps<'a>), ScriptError>
+) -> Result<(Config<A>, Steps<'a, A>), ScriptError>
     ensures { Answers (λ script. script) result (script_of text.now) }
 {
-    if let Some(number) = first_bad_line(text) {
-        return Err(ScriptError::BadLine(number));
-    }
+    let steps = Steps::read(alloc, text)?;
     let head = read_head(alloc, text)?;
-    Ok((opened(head), Steps::of(text)))
+    Ok((opened(head), steps))
 }

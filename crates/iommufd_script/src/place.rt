@@ -74,18 +74,19 @@ impl Place {
     }
 
     // The place behind a line; None where it may not come here, or isn't of the grammar.
-    pub fn after(self, line: Option<Line<'_>>) -> Option<Place>
-        ensures { result ≡ after self line.entry }
+    pub fn after(self, line: &Option<Line<'_>>) -> Option<Place>
+        ensures { result ≡ after self line.now }
     {
-        match line? {
-            Line::Skipped => Some(self),
-            Line::Head(heading) => {
-                if self.begun || !self.allows(&heading) {
+        match line {
+            None => None,
+            Some(Line::Skipped) => Some(self),
+            Some(Line::Head(heading)) => {
+                if self.begun || !self.allows(heading) {
                     return None;
                 }
-                Some(self.behind(&heading))
+                Some(self.behind(heading))
             }
-            Line::Step(_) => { if self.begun { Some(self) } else { None } }
+            Some(Line::Step(_)) => { if self.begun { Some(self) } else { None } }
         }
     }
 }

@@ -1,13 +1,18 @@
-//! A whole script: its first bad line, and its steps one by one.
+//! A whole script: its first bad line, and its steps.
 
-ghost use Rattle.std.specs.Prelude.{◌≡◌, ◌<◌, ◌^◌, [], ◌∷◌, MatchOption, length};
-ghost use Rattle.iommufd_script.specs.Script.{first_bad_line, steps_of};
+ghost use Rattle.std.specs.Prelude.{◌≡◌, ◌<◌, ◌^◌, [], ◌∷◌, ◌++◌, None, MatchOption, IfOk, IfErr, OnOk, length};
+ghost use Rattle.iommufd_script.specs.Opening.{bad_line_in};
+ghost use Rattle.iommufd_script.specs.Script.{first_bad_line, step_before, steps_of};
 
+use crate::error::ScriptError;
 use crate::line::{Line, Step};
 use crate::parsing::parse_line;
 use crate::place::Place;
 use crate::split::split_line;
+use iofd_words::NoMemory;
+use std::alloc::{Allocator, Global};
 use std::marker::Model;
+use std::vec::IntoIter;
 
 /// The first line, counted from 1, that isn't of the grammar or at which the head is out of order or
 /// breaks a limit; for a script that has no such line and ends before `begin`, the number of its lines
@@ -22,7 +27,7 @@ pub fn first_bad_line(text: &[u8]) -> Option<u64>
     while !rest.is_empty() {
         let (line, others) = split_line(rest);
         number += 1;
-        let Some(next) = place.after(parse_line(line)) else {
+        let Some(next) = place.after(&parse_line(line)) else {
             return Some(number);
         };
         place = next;
@@ -32,41 +37,84 @@ pub fn first_bad_line(text: &[u8]) -> Option<u64>
 }
 
 /// The steps of a script that are still to come, in order.
-#[derive(Debug, Drop)]
-pub struct Steps<'a> {
-    // From the beginning of a line on.
-    text: &'a [u8],
+#[derive(Drop)]
+pub struct Steps<'a, A: Allocator = Global> {
+    steps: IntoIter<Step<'a>, A>,
 }
 
-impl<'a> Model for Steps<'a> {
+impl<'a, A: Allocator> Model for Steps<'a, A> {
     ghost use Rattle.std.specs.Prelude.{List};
-    ghost use Rattle.iommufd_script.specs.Script.{steps_of};
+    ghost use Rattle.std.specs.Vec.Iter.{into_iter_items};
     ghost use Rattle.iommufd_script.specs.declared.line.Step.{Step};
 
     ghost Value = { List Step };
 
-    ghost view = { λ steps. steps_of steps.text.now };
+    ghost view = { λ steps. into_iter_items steps.steps };
 }
 
-impl<'a> Steps<'a> {
-    /// The steps of a script.
-    pub fn of(text: &'a [u8]) -> Steps<'a>
-        ensures { result ≡ steps_of text.now }
+impl<'a, A: Allocator> Steps<'a, A> {
+    /// The steps of a good script, in memory of this allocator. Their bytes stay in the text.
+    ///
+    /// The error is BadLine with the number of the first bad line (`first_bad_line`), whatever memory there is; else
+    /// NoMemory where the memory for the steps was refused.
+    #[tactic(auto, unfolding(crate::specs::Script::first_bad_line))]
+    pub fn read(alloc: A, text: &'a [u8]) -> Result<Steps<'a, A>, ScriptError>
+        ensures ok { IfOk result (λ steps. steps ≡ steps_of text.now) }
+        ensures good { IfOk result (λ _. first_bad_line text.now ≡ None) }
+        ensures err { IfErr result (λ error. bad_line_in error ≡ first_bad_line text.now) }
     {
-        Steps { text }
+        let mut steps = Vec::new(alloc);
+        let mut place = Place::start();
+        let mut number: u64 = 0;
+        let mut rest = text;
+        while !rest.is_empty() {
+            let (line, others) = split_line(rest);
+            number += 1;
+            let said = parse_line(line);
+            let Some(next) = place.after(&said) else {
+                return Err(ScriptError::BadLine(number));
+            };
+            if add_step(&mut steps, said).is_err() {
+                return Err(without_memory(text));
+            }
+            place = next;
+            rest = others;
+        }
+        if !place.begun {
+            return Err(ScriptError::BadLine(number + 1));
+        }
+        Ok(Steps {
+            steps: steps.into_iter(),
+        })
     }
 
     /// Takes the next step; None where no step is left. It takes no memory.
     pub fn next_step(&mut self) -> Option<Step<'a>>
         ensures { MatchOption result ((self.old ≡ []) × (self.new ≡ [])) (λ step. self.old ≡ step ∷ self.new) }
     {
-        while !self.text.is_empty() {
-            let (line, others) = split_line(self.text);
-            self.text = others;
-            if let Some(Line::Step(step)) = parse_line(line) {
-                return Some(step);
-            }
-        }
-        None
+        self.steps.next()
+    }
+}
+
+// Adds the step that a line says, if it says one.
+fn add_step<'a, A: Allocator>(
+    steps: &mut Vec<Step<'a>, A>,
+    line: Option<Line<'a>>,
+) -> Result<(), NoMemory>
+    ensures { OnOk result (steps.new.items ≡ steps.old.items ++ step_before line.entry []) }
+{
+    if let Some(Line::Step(step)) = line {
+        steps.push(step)?;
+    }
+    Ok(())
+}
+
+// Why a script isn't carried out for whose steps there is no memory.
+fn without_memory(text: &[u8]) -> ScriptError
+    ensures { bad_line_in result ≡ first_bad_line text.now }
+{
+    match first_bad_line(text) {
+        Some(number) => ScriptError::BadLine(number),
+        None => ScriptError::NoMemory,
     }
 }
