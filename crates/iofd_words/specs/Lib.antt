@@ -12,6 +12,7 @@ pub mod Files
 pub mod FirstTrue
 pub mod Fits
 pub mod Frames
+pub mod Levels
 pub mod Limits
 pub mod Look
 pub mod Objects
@@ -25,6 +26,7 @@ pub mod Room
 pub mod Run
 pub mod Settings
 pub mod Span
+pub mod TablePlaces
 pub mod Tables
 pub mod Usable
 pub mod View

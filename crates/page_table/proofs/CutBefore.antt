@@ -12,7 +12,7 @@ use Rattle.iofd_words.specs.declared.numbers.FrameNo.{FrameNo}
 use Rattle.frame_memory.specs.Pool.{FramePool, bytes_of}
 use Rattle.table_words.specs.Cut.{CanCut, Cuts, goes_below, is_below}
 use Rattle.table_words.specs.Entries.{WritesEntry}
-use Rattle.table_words.specs.Levels.{index_at, number_at}
+use Rattle.iofd_words.specs.Levels.{index_at, number_at}
 use Rattle.table_words.specs.Pruned.{goes, is_kept, is_used, is_wanted, left}
 use Rattle.table_words.specs.Rows.{MappedPage, TableRow, is_table, table_at}
 use Rattle.table_words.specs.Stands.{Stands}

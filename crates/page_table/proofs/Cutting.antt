@@ -8,7 +8,7 @@ use Rattle.iofd_words.specs.Pages.{page_of}
 use Rattle.iofd_words.specs.declared.numbers.FrameNo.{FrameNo}
 use Rattle.frame_memory.specs.Pool.{FramePool}
 use Rattle.table_words.specs.Entries.{WritesEntry, entry_at, table_entry}
-use Rattle.table_words.specs.Levels.{first_address, index_at, number_at}
+use Rattle.iofd_words.specs.Levels.{first_address, index_at, number_at}
 use Rattle.table_words.specs.Pruned.{is_used}
 use Rattle.table_words.specs.Rows.{MappedPage, TableRow, is_table, page_at, table_at}
 use Rattle.table_words.specs.Stands.{Stands}

@@ -6,7 +6,7 @@ use Rattle.iofd_words.specs.declared.numbers.FrameNo.{FrameNo}
 use Rattle.frame_memory.specs.Pool.{FramePool}
 use Rattle.table_words.specs.Entries.{WritesEntry, page_entry}
 use Rattle.table_words.specs.Extended.{Extends}
-use Rattle.table_words.specs.Levels.{levels_of}
+use Rattle.iofd_words.specs.Levels.{levels_of}
 use Rattle.table_words.specs.Mapped.{Becomes}
 use Rattle.table_words.specs.Reached.{EndsAt, IsLowest}
 use Rattle.table_words.specs.Rows.{MappedPage, TableRow, page_at, table_at, with_page, without_page}

@@ -14,7 +14,7 @@ use Rattle.iofd_words.specs.Pages.{page_of}
 use Rattle.iofd_words.specs.declared.numbers.FrameNo.{FrameNo}
 use Rattle.frame_memory.specs.Pool.{FramePool}
 use Rattle.table_words.specs.Cut.{goes_below, is_below}
-use Rattle.table_words.specs.Levels.{index_at, number_at}
+use Rattle.iofd_words.specs.Levels.{index_at, number_at}
 use Rattle.table_words.specs.Pruned.{goes, gone, is_wanted}
 use Rattle.table_words.specs.Rows.{MappedPage, TableRow, table_at}
 use Rattle.table_words.specs.Stands.{Stands}

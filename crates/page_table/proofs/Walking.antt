@@ -14,7 +14,7 @@ use Rattle.frame_memory.specs.Pool.{FramePool}
 use Rattle.page_table.specs.declared.walk.Walk.{Walk}
 use Rattle.page_table.specs.declared.walk.Walk.TheVariants as walk
 use Rattle.table_words.specs.Entries.{entry_at, page_entry}
-use Rattle.table_words.specs.Levels.{index_at}
+use Rattle.iofd_words.specs.Levels.{index_at}
 use Rattle.table_words.specs.Reached.{IsLowest}
 use Rattle.table_words.specs.Rows.{MappedPage, TableRow, page_at, table_at}
 use Rattle.table_words.specs.Stands.{Stands}

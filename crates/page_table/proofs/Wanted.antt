@@ -9,7 +9,7 @@ use Rattle.iofd_words.specs.Pages.{page_of}
 use Rattle.iofd_words.specs.declared.numbers.FrameNo.{FrameNo}
 use Rattle.frame_memory.specs.Pool.{FramePool}
 use Rattle.table_words.specs.Entries.{entry_at, page_entry, table_entry}
-use Rattle.table_words.specs.Levels.{index_at, number_at}
+use Rattle.iofd_words.specs.Levels.{index_at, number_at}
 use Rattle.table_words.specs.Needed.{goes_through}
 use Rattle.table_words.specs.Pruned.{is_kept, is_used, is_wanted}
 use Rattle.table_words.specs.Rows.{MappedPage, TableRow, page_at, table_at}

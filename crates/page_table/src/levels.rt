@@ -1,13 +1,13 @@
 //! The levels of tables, and which entry of each a page goes through.
 
 ghost use Rattle.std.specs.Prelude.{◌≡◌, ◌≤◌, ◌<◌, ◌^◌};
-ghost use Rattle.table_words.specs.Levels.{index_at, levels_of, number_at};
+ghost use Rattle.iofd_words.specs.Levels.{index_at, levels_of, number_at};
 ghost use Rattle.table_words.specs.Needed.{first_page};
 
 use iofd_words::Width;
 
 /// How many levels the tables of a width have: each takes 9 bits of an address, above the 12 of a page's offset.
-pub(crate) fn levels(width: Width) -> u8
+pub fn levels(width: Width) -> u8
     ensures value { result ≡ levels_of width }
     ensures some { 0 < result }
     ensures few { result ≤ 5 }
@@ -16,7 +16,7 @@ pub(crate) fn levels(width: Width) -> u8
 }
 
 /// Which of a level's tables the page goes through, counted from 0 by rising address.
-pub(crate) fn number(level: u8, page: u64) -> u64
+pub fn number(level: u8, page: u64) -> u64
     requires { level ≤ 5 }
     ensures { result ≡ number_at level page }
 {

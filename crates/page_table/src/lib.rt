@@ -7,7 +7,7 @@ mod descent;
 mod entry;
 mod extension;
 mod laws;
-mod levels;
+pub mod levels;
 mod prune;
 mod release;
 mod table;

@@ -4,7 +4,7 @@ ghost use Rattle.std.specs.Prelude.{ℕ, ◌≡◌, ◌≤◌, ◌<◌, ◌+◌,
 ghost use Rattle.std.specs.List.{count_by, range_with_len};
 ghost use Rattle.iofd_words.specs.Width.{bits_of};
 ghost use Rattle.frame_memory.specs.Pool.{free_count, given, least_free};
-ghost use Rattle.table_words.specs.Levels.{levels_of};
+ghost use Rattle.iofd_words.specs.Levels.{levels_of};
 ghost use Rattle.table_words.specs.Mapped.{Becomes, HasRoom, IsBelow, IsTable, root_row};
 ghost use Rattle.table_words.specs.Needed.{AreOrdered, is_absent, needed, needed_at};
 ghost use Rattle.table_words.specs.Pruned.{CanPrune, Prunes, gone, left};

@@ -3,24 +3,30 @@
 ghost use Rattle.std.specs.Prelude.{IsTrue};
 ghost use Rattle.table_words.specs.Mapped.{IsBelow, IsTable};
 
+use crate::spans::{cleared_span, mapped_span, needed_by_span};
 use frame_memory::Pool;
 use iofd_words::{Cause, FrameNo, NoMemory, PAGE_SIZE, Rights, Span, Width};
 use page_table::{Table, Walk};
 use std::alloc::Global;
 use std::test::Fail;
 
-const READ: u8 = 1;
+pub(crate) const READ: u8 = 1;
 
 const WRITE: u8 = 2;
 
-const BOTH: u8 = 3;
+pub(crate) const BOTH: u8 = 3;
 
 /// A call on a page table.
 #[derive(Clone, Copy)]
-enum Call {
+pub(crate) enum Call {
     /// With the page's number, its frame and its rights.
     Map(u64, u32, u8),
     Clear(u64),
+    /// With the first page, the pages' frames and their rights.
+    MapSpan(u64, &'static [FrameNo], u8),
+    /// With the first page and the number of pages.
+    ClearSpan(u64, u64),
+    NeedsSpan(u64, u64),
     Walk(u64),
     /// With the first and the last page of two spans.
     Needs(u64, u64, u64, u64),
@@ -37,7 +43,7 @@ enum Call {
 
 /// What a call answers.
 #[derive(Clone, Copy, PartialEq, Eq, Debug)]
-enum Answer {
+pub(crate) enum Answer {
     Done,
     Gives(u64),
     /// The frame and the rights.
@@ -185,6 +191,11 @@ fn asked(pool: &mut Pool, table: &mut Table, out: &mut Vec<FrameNo>, call: Call)
     match call {
         Call::Map(page, frame, rights) => mapped(pool, table, out, page, frame, rights),
         Call::Clear(page) => cleared(pool, table, page),
+        Call::MapSpan(first, frames, rights) => {
+            mapped_span(pool, table, out, first, frames, rights)
+        }
+        Call::ClearSpan(first, count) => cleared_span(pool, table, first, count),
+        Call::NeedsSpan(first, count) => needed_by_span(pool, table, first, count),
         Call::Walk(iova) => walked(table.walk(pool, iova)),
         Call::Needs(a, b, c, d) => needed_by_pages(pool, table, (a, b, c, d)),
         Call::Prunable(kept) => pruned_by_pages(pool, table, out, kept, false),
@@ -241,7 +252,7 @@ fn pool_of(alloc: Global, frames: u32, taken: u32) -> Result<Pool, NoMemory> {
 
 /// The first call that isn't answered so, over a page table in a pool of so many frames, of which so many are taken; or
 /// the number of calls, where its frames don't come back in the end.
-fn runs(
+pub(crate) fn runs(
     alloc: Global,
     frames: (u32, u32),
     width: Width,

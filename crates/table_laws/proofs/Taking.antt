@@ -10,7 +10,7 @@ use Rattle.iofd_words.specs.Bounds.{Bounds}
 use Rattle.iofd_words.specs.Pages.{page_of}
 use Rattle.iofd_words.specs.declared.numbers.FrameNo.{FrameNo}
 use Rattle.frame_memory.specs.Pool.{FramePool, free_count}
-use Rattle.table_words.specs.Levels.{first_address, levels_of, number_at}
+use Rattle.iofd_words.specs.Levels.{first_address, levels_of, number_at}
 use Rattle.table_words.specs.Needed.{first_page, goes_through, is_absent, needed, needed_at}
 use Rattle.table_words.specs.Mapped.{IsBelow}
 use Rattle.table_words.specs.Reached.{IsLowest}

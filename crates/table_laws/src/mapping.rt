@@ -3,7 +3,7 @@
 ghost use Rattle.std.specs.Prelude.{ℕ, ◌≡◌, ◌≤◌, ◌+◌, List};
 ghost use Rattle.iofd_words.specs.Bounds.{Bounds};
 ghost use Rattle.frame_memory.specs.Pool.{FramePool, free_count};
-ghost use Rattle.table_words.specs.Levels.{levels_of};
+ghost use Rattle.iofd_words.specs.Levels.{levels_of};
 ghost use Rattle.table_words.specs.Mapped.{IsBelow};
 ghost use Rattle.table_words.specs.Needed.{HasPage, needed};
 ghost use Rattle.table_words.specs.Rows.{MappedPage, TableRow};

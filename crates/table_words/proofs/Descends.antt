@@ -4,7 +4,7 @@ use Rattle.std.proofs.lemmas.Bool.Decides.{nat_tests}
 use Rattle.iofd_words.specs.declared.numbers.FrameNo.{FrameNo}
 use Rattle.frame_memory.specs.Pool.{FramePool}
 use Rattle.table_words.specs.Entries.{entry_at, table_entry}
-use Rattle.table_words.specs.Levels.{index_at}
+use Rattle.iofd_words.specs.Levels.{index_at}
 use Rattle.table_words.specs.Reached.{GoesThrough}
 use Rattle.table_words.specs.Rows.{MappedPage, TableRow, table_at}
 use Rattle.table_words.specs.Stands.{Stands}

@@ -7,7 +7,7 @@ use Rattle.iofd_words.specs.declared.numbers.FrameNo.{FrameNo}
 use Rattle.frame_memory.specs.Pool.{FramePool}
 use Rattle.table_words.specs.Entries.{entry_at}
 use Rattle.table_words.specs.Extended.{AddsTable, Extends}
-use Rattle.table_words.specs.Levels.{index_at}
+use Rattle.iofd_words.specs.Levels.{index_at}
 use Rattle.table_words.specs.Reached.{EndsAt, IsLowest}
 use Rattle.table_words.specs.Rows.{MappedPage, TableRow, table_at}
 use Rattle.table_words.specs.Stands.{Stands}

@@ -4,7 +4,7 @@ use Rattle.std.proofs.lemmas.Bool.{cases_eq, cond-false, cond-true, eq-eqb, ne_e
 use Rattle.iofd_words.specs.declared.numbers.FrameNo.{FrameNo}
 use Rattle.frame_memory.specs.Pool.{FramePool}
 use Rattle.table_words.specs.Entries.{entry_at, page_entry}
-use Rattle.table_words.specs.Levels.{index_at}
+use Rattle.iofd_words.specs.Levels.{index_at}
 use Rattle.table_words.specs.Rows.{MappedPage, TableRow, page_at, table_at}
 use Rattle.table_words.specs.Stands.{Stands}
 use Rattle.table_words.proofs.Lookups.{both_some, same_frame, some_is}

@@ -8,7 +8,7 @@ use Rattle.std.proofs.lemmas.Bool.Decides.{nat_tests}
 use Rattle.std.proofs.lemmas.List.Folds.{find-append}
 use Rattle.iofd_words.specs.declared.flags.Rights.{Rights}
 use Rattle.iofd_words.specs.declared.numbers.FrameNo.{FrameNo}
-use Rattle.table_words.specs.Levels.{first_address, number_at}
+use Rattle.iofd_words.specs.Levels.{first_address, number_at}
 use Rattle.table_words.specs.Rows.{MappedPage, TableRow, is_table, page_at, table_at, with_page, without_page}
 use Rattle.table_words.specs.Taken.{names}
 use Rattle.table_words.proofs.Numbers.{same_first}

@@ -16,7 +16,7 @@ use Rattle.iofd_words.specs.declared.numbers.FrameNo.{FrameNo}
 use Rattle.iofd_words.specs.declared.width.Width.{Width}
 use Rattle.iofd_words.specs.declared.width.Width.TheVariants.{Bits39, Bits48}
 use Rattle.frame_memory.specs.Pool.{FramePool}
-use Rattle.table_words.specs.Levels.{levels_of, number_at}
+use Rattle.iofd_words.specs.Levels.{levels_of, number_at}
 use Rattle.table_words.specs.Mapped.{IsBelow}
 use Rattle.table_words.specs.Needed.{AreOrdered, first_page, goes_through, is_absent, needed_at}
 use Rattle.table_words.specs.Reached.{IsLowest}

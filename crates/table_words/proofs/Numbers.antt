@@ -3,7 +3,7 @@ use Rattle.std.proofs.Common.{◌≡◌, ℕ, ◌+◌, ◌-◌, ◌*◌, ◌/◌
 use Rattle.std.proofs.lemmas.Nat.{pow-add, shl-shr, shr-shr}
 use Rattle.std.proofs.Math.Nat.{mul_assoc}
 use Rattle.iofd_words.specs.Pages.{page_of}
-use Rattle.table_words.specs.Levels.{first_address, index_at, number_at}
+use Rattle.iofd_words.specs.Levels.{first_address, index_at, number_at}
 
 pub number-up : (level page : ℕ) → number_at (level + 1) page ≡ number_at level page / 512
 unfolding number_at

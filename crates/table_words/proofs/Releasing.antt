@@ -9,7 +9,7 @@ use Rattle.std.proofs.lemmas.List.Sums.{sum_by-cons}
 use Rattle.iofd_words.specs.Pages.{page_of}
 use Rattle.iofd_words.specs.declared.numbers.FrameNo.{FrameNo}
 use Rattle.frame_memory.specs.Pool.{FramePool}
-use Rattle.table_words.specs.Levels.{first_address, number_at}
+use Rattle.iofd_words.specs.Levels.{first_address, number_at}
 use Rattle.table_words.specs.Released.{GivesBack, HasFewerHolds, Releases, times}
 use Rattle.table_words.specs.Rows.{MappedPage, TableRow, is_table}
 use Rattle.table_words.specs.Stands.{Stands}

@@ -6,7 +6,7 @@ use Rattle.std.proofs.lemmas.List.Sums.{count_by-le-length}
 use Rattle.iofd_words.specs.declared.numbers.FrameNo.{FrameNo}
 use Rattle.frame_memory.specs.Pool.{FramePool, bytes_of, given, least_free, word_at, zeros}
 use Rattle.table_words.specs.Entries.{entry_at, page_entry, table_entry}
-use Rattle.table_words.specs.Levels.{first_address, index_at, levels_of, number_at}
+use Rattle.iofd_words.specs.Levels.{first_address, index_at, levels_of, number_at}
 use Rattle.table_words.specs.Mapped.{Becomes, root_row}
 use Rattle.table_words.specs.Rows.{TableRow, is_table, page_at, table_at}
 use Rattle.table_words.specs.Stands.{Stands, TableRoot, TableStands}

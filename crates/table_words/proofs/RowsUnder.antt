@@ -9,7 +9,7 @@ use Rattle.std.proofs.lemmas.List.Sums.{sum_by-cons}
 use Rattle.iofd_words.specs.Pages.{page_of}
 use Rattle.iofd_words.specs.declared.numbers.FrameNo.{FrameNo}
 use Rattle.frame_memory.specs.Pool.{FramePool}
-use Rattle.table_words.specs.Levels.{first_address, index_at, number_at}
+use Rattle.iofd_words.specs.Levels.{first_address, index_at, number_at}
 use Rattle.table_words.specs.Rows.{MappedPage, TableRow, is_table, table_at}
 use Rattle.table_words.specs.Stands.{Stands}
 use Rattle.table_words.proofs.Lookups.{both_some, none_or_some, some_is, table_at-same, the_some}

@@ -5,7 +5,7 @@ use Rattle.std.proofs.lemmas.Bool.{cases_lt}
 use Rattle.std.proofs.lemmas.List.{get_or_past}
 use Rattle.iofd_words.specs.declared.numbers.FrameNo.{FrameNo}
 use Rattle.frame_memory.specs.Pool.{FramePool}
-use Rattle.table_words.specs.Levels.{index_at}
+use Rattle.iofd_words.specs.Levels.{index_at}
 use Rattle.table_words.specs.Rows.{MappedPage, TableRow, page_at, table_at}
 use Rattle.table_words.specs.Entries.{entry_at, page_entry}
 use Rattle.table_words.specs.SameTables.{SameTables}

@@ -5,7 +5,7 @@ use Rattle.iofd_words.specs.declared.numbers.FrameNo.{FrameNo}
 use Rattle.iofd_words.specs.declared.width.Width.{Width}
 use Rattle.iofd_words.specs.declared.width.Width.TheVariants.{Bits39, Bits48}
 use Rattle.frame_memory.specs.Pool.{FramePool}
-use Rattle.table_words.specs.Levels.{levels_of, number_at}
+use Rattle.iofd_words.specs.Levels.{levels_of, number_at}
 use Rattle.table_words.specs.Mapped.{IsBelow, IsTable}
 use Rattle.table_words.specs.Reached.{EndsAt, GoesThrough, IsLowest}
 use Rattle.table_words.specs.Rows.{MappedPage, TableRow, table_at}

@@ -6,7 +6,7 @@ use Rattle.iofd_words.specs.Bounds.{Bounds}
 use Rattle.iofd_words.specs.Pages.{page_of}
 use Rattle.iofd_words.specs.declared.numbers.FrameNo.{FrameNo}
 use Rattle.frame_memory.specs.Pool.{FramePool, bytes_of}
-use Rattle.table_words.specs.Levels.{number_at}
+use Rattle.iofd_words.specs.Levels.{number_at}
 use Rattle.table_words.specs.Pruned.{goes, left}
 use Rattle.table_words.specs.Rows.{MappedPage, TableRow, table_at}
 use Rattle.table_words.specs.Stands.{Stands}

@@ -3,7 +3,7 @@ use Rattle.std.specs.Prelude.{ℕ, ◌≡◌, ◌≢◌, ◌⊎◌, ◌<◌, ◌
 use Rattle.iofd_words.specs.declared.numbers.FrameNo.{FrameNo}
 use Rattle.frame_memory.specs.Pool.{FramePool, bytes_of, is_free, least_free}
 use Rattle.table_words.specs.Entries.{entry_at}
-use Rattle.table_words.specs.Levels.{index_at}
+use Rattle.iofd_words.specs.Levels.{index_at}
 use Rattle.table_words.specs.Rows.{MappedPage, TableRow, table_at}
 use Rattle.table_words.specs.Stands.{Stands}
 use Rattle.table_words.specs.Taken.{LeavesOthers, least_frames, rows_below}

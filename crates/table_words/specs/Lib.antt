@@ -1,7 +1,6 @@
 pub mod Cut
 pub mod Entries
 pub mod Extended
-pub mod Levels
 pub mod Mapped
 pub mod Needed
 pub mod Pruned

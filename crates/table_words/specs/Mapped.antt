@@ -3,7 +3,7 @@ use Rattle.std.specs.Prelude.{ℕ, ◌≤◌, ◌<◌, ◌*◌, ◌^◌, List}
 use Rattle.iofd_words.specs.Width.{bits_of}
 use Rattle.iofd_words.specs.declared.width.Width.{Width}
 use Rattle.frame_memory.specs.Pool.{FramePool}
-use Rattle.table_words.specs.Levels.{levels_of}
+use Rattle.iofd_words.specs.Levels.{levels_of}
 use Rattle.table_words.specs.Rows.{MappedPage, TableRow}
 use Rattle.table_words.specs.Stands.{TableRoot, TableStands}
 use Rattle.table_words.specs.Taken.{LeavesOthers, missing}

@@ -4,7 +4,7 @@ use Rattle.std.specs.List.{list_any}
 use Rattle.iofd_words.specs.Bounds.{Bounds}
 use Rattle.iofd_words.specs.Pages.{page_of}
 use Rattle.frame_memory.specs.Pool.{FramePool, bytes_of}
-use Rattle.table_words.specs.Levels.{levels_of, number_at}
+use Rattle.iofd_words.specs.Levels.{levels_of, number_at}
 use Rattle.table_words.specs.Needed.{goes_through}
 use Rattle.table_words.specs.Rows.{MappedPage, TableRow}
 use Rattle.table_words.specs.Stands.{TableRoot, TableStands}

@@ -3,7 +3,7 @@ use Rattle.std.specs.Prelude.{ℕ, Bool, ◌==◌, ◌&&◌, not, Option, List, 
 use Rattle.std.specs.Option.{option_map}
 use Rattle.iofd_words.specs.declared.flags.Rights.{Rights}
 use Rattle.iofd_words.specs.declared.numbers.FrameNo.{FrameNo}
-use Rattle.table_words.specs.Levels.{first_address}
+use Rattle.iofd_words.specs.Levels.{first_address}
 
 -- a table: its level, the first address that goes through it, and its frame
 pub record TableRow : Type 0 where

@@ -6,7 +6,7 @@ use Rattle.iofd_words.specs.declared.numbers.FrameNo.{FrameNo}
 use Rattle.iofd_words.specs.declared.width.Width.{Width}
 use Rattle.frame_memory.specs.Pool.{FramePool}
 use Rattle.table_words.specs.Entries.{entry_at, page_entry, table_entry}
-use Rattle.table_words.specs.Levels.{first_address, index_at, levels_of, number_at}
+use Rattle.iofd_words.specs.Levels.{first_address, index_at, levels_of, number_at}
 use Rattle.table_words.specs.Rows.{MappedPage, TableRow, is_table, page_at, table_at}
 
 -- what is seen of a page table: the width of the addresses that it translates, and the frame of its root

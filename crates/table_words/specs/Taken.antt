@@ -4,7 +4,7 @@ use Rattle.std.specs.List.{count_by, list_any, range_with_len}
 use Rattle.std.specs.Option.{option_map_or}
 use Rattle.iofd_words.specs.declared.numbers.FrameNo.{FrameNo}
 use Rattle.frame_memory.specs.Pool.{FramePool, bytes_of, least_free}
-use Rattle.table_words.specs.Levels.{first_address}
+use Rattle.iofd_words.specs.Levels.{first_address}
 use Rattle.table_words.specs.Rows.{TableRow, table_at}
 
 -- so many of the least free frames, in order

@@ -1,4 +1,4 @@
-use Rattle.table_words.specs.Levels.{levels_of}
+use Rattle.iofd_words.specs.Levels.{levels_of}
 use Rattle.table_words.proofs.Tables.{stands_still}
 use Rattle.page_table.proofs.laws.other_frames_leave_tables.Goals as goal
 

@@ -1,5 +1,5 @@
 use Rattle.std.proofs.Common.{rules}
-use Rattle.table_words.specs.Levels.{number_at}
+use Rattle.iofd_words.specs.Levels.{number_at}
 use Rattle.page_table.proofs.levels.number.Goals as goal
 
 pub returns : goal.returns

@@ -1,6 +1,6 @@
 use Rattle.std.proofs.Common.{◌≡◌, ◌≤◌, ℕ, Some, List, vec_capacity, vec_len}
 use Rattle.iofd_words.specs.declared.numbers.FrameNo.{FrameNo}
-use Rattle.table_words.specs.Levels.{number_at}
+use Rattle.iofd_words.specs.Levels.{number_at}
 use Rattle.table_words.specs.Rows.{MappedPage, TableRow, table_at}
 use Rattle.table_words.specs.Stands.{Stands}
 use Rattle.page_table.proofs.CutBefore.{CutsBefore}

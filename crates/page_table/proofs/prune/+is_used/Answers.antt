@@ -1,7 +1,7 @@
 use Rattle.std.proofs.Common.{◌≡◌, ◌-◌, ◌*◌, ◌+◌, ◌||◌, Bool, false, sym, ◌∙◌, ap, arith}
 use Rattle.std.proofs.lemmas.Bool.{false_from_ne_true}
 use Rattle.std.proofs.lemmas.Bool.Decides.{nat_tests}
-use Rattle.table_words.specs.Levels.{number_at}
+use Rattle.iofd_words.specs.Levels.{number_at}
 use Rattle.table_words.specs.Pruned.{is_used}
 use Rattle.table_words.proofs.RowsUnder.{child_page}
 use Rattle.table_words.proofs.Visiting.{entry_small, holds_within, next_holds}

@@ -1,5 +1,5 @@
 use Rattle.std.proofs.Common.{ℕ, ap, ◌∙◌}
-use Rattle.table_words.specs.Levels.{levels_of}
+use Rattle.iofd_words.specs.Levels.{levels_of}
 use Rattle.table_words.specs.Rows.{table_at}
 use Rattle.table_words.proofs.Tops.{at_top, ends_somewhere, goes_from_top}
 use Rattle.page_table.proofs.table.Table.lowest.Goals as goal

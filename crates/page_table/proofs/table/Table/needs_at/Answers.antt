@@ -3,7 +3,7 @@ use Rattle.std.specs.List.{list_any}
 use Rattle.std.proofs.lemmas.Bool.{false≢true}
 use Rattle.std.proofs.lemmas.List.{take_all}
 use Rattle.iofd_words.specs.Pages.{page_of}
-use Rattle.table_words.specs.Levels.{levels_of, number_at}
+use Rattle.iofd_words.specs.Levels.{levels_of, number_at}
 use Rattle.table_words.specs.Needed.{goes_through, needed_at}
 use Rattle.table_words.proofs.Needs.{before_more, bound, first_within, needed_more, next_is, next_number, nothing_needed, number_below, number_grows, overlaps, reached_more, span_below}
 use Rattle.page_table.proofs.table.Table.needs_at.Goals as goal

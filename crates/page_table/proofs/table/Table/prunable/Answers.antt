@@ -2,7 +2,7 @@ use Rattle.std.proofs.Common.{◌*◌, ◌-◌, ℕ, sym, ap, ◌∙◌}
 use Rattle.std.proofs.lemmas.Nat.{pow_pos}
 use Rattle.std.specs.List.{count_by}
 use Rattle.table_words.specs.Cut.{goes_below}
-use Rattle.table_words.specs.Levels.{levels_of}
+use Rattle.iofd_words.specs.Levels.{levels_of}
 use Rattle.table_words.specs.Rows.{table_at}
 use Rattle.page_table.proofs.Parting.{root_counted}
 use Rattle.table_words.proofs.Tops.{number-first, root_holds}

@@ -2,7 +2,7 @@ use Rattle.std.proofs.Common.{◌≤◌, ◌-◌, ◌*◌, ℕ, List, get_or, dr
 use Rattle.std.proofs.lemmas.Nat.{pow_pos}
 use Rattle.iofd_words.specs.declared.numbers.FrameNo.{FrameNo}
 use Rattle.table_words.specs.Cut.{Cuts}
-use Rattle.table_words.specs.Levels.{levels_of}
+use Rattle.iofd_words.specs.Levels.{levels_of}
 use Rattle.table_words.specs.Pruned.{gone}
 use Rattle.table_words.specs.Released.{HasFewerHolds, times}
 use Rattle.table_words.specs.Rows.{table_at}

@@ -1,6 +1,6 @@
 use Rattle.std.proofs.Common.{◌≤◌, ◌-◌, ℕ, List, get_or, length, drop, sym, ap, ◌∙◌, arith, subst}
 use Rattle.iofd_words.specs.declared.numbers.FrameNo.{FrameNo}
-use Rattle.table_words.specs.Levels.{levels_of}
+use Rattle.iofd_words.specs.Levels.{levels_of}
 use Rattle.table_words.specs.Released.{HasFewerHolds, times}
 use Rattle.table_words.specs.Under.{frames_under}
 use Rattle.table_words.proofs.FramesUnder.{all_counted}

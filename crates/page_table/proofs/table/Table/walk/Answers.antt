@@ -3,7 +3,7 @@ use Rattle.iofd_words.specs.Pages.{page_of}
 use Rattle.iofd_words.specs.Width.{bits_of}
 use Rattle.iofd_words.specs.declared.flags.Rights.{Rights}
 use Rattle.std.specs.Int.RustNames.{bit_and}
-use Rattle.table_words.specs.Levels.{levels_of}
+use Rattle.iofd_words.specs.Levels.{levels_of}
 use Rattle.page_table.proofs.Mapping.{ends_within}
 use Rattle.page_table.proofs.Walking.{absent_page, no_leaf, present_page, same_rights, walk_hit, walk_none}
 use Rattle.page_table.proofs.table.Table.walk.Goals as goal

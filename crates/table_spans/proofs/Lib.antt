@@ -1,0 +1,10 @@
+pub mod AreaTables
+pub mod ByLevel
+pub mod Lacking
+pub mod LeastFrames
+pub mod LevelNumbers
+pub mod OnePage
+pub mod SpanMapped
+pub mod SpanNeeds
+pub mod SpanPages
+pub mod SpanTables

@@ -1,0 +1,9 @@
+//! Spans of pages in one hardware page table, in the words of the definitions: how many tables a span lacks, how many
+//! the areas of an address space need, and spans that are mapped or cleared, page after page.
+#![tactic(auto)]
+
+mod mapping;
+mod needing;
+
+pub use mapping::{clear, map};
+pub use needing::{needs, tables_for};
