@@ -1,4 +1,5 @@
 pub mod AreasApart
+pub mod AreasRise
 pub mod Bound
 pub mod FilesApart
 pub mod FreshIds

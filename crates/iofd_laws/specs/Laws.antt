@@ -1,8 +1,8 @@
 -- What is true of every run, in the subject's words.
-use Rattle.std.specs.Prelude.{◌≡◌, ◌≢◌, ◌<◌, ℕ, Bool, true, false, ◌==◌, ◌&&◌, not, Option, Some, None, List, [], ◌∷◌, filter, find}
-use Rattle.std.specs.List.{list_any}
+use Rattle.std.specs.Prelude.{◌≡◌, ◌≢◌, ◌<◌, ℕ, Bool, true, false, ◌==◌, ◌&&◌, ◌||◌, not, nat_le, Option, Some, None, List, [], ◌∷◌, filter, find}
+use Rattle.std.specs.List.{list_all, list_any}
 use Rattle.iofd_words.specs.Allowed.{AllowedRanges}
-use Rattle.iofd_words.specs.Areas.{meets_area}
+use Rattle.iofd_words.specs.Areas.{is_of, meets_area}
 use Rattle.iofd_words.specs.Frames.{is_reached}
 use Rattle.iofd_words.specs.Objects.{binding_of, objects_of}
 use Rattle.iofd_words.specs.Pins.{ObjectPage, frame_now, held_by, pinned_frame}
@@ -25,6 +25,14 @@ use Rattle.iofd_words.specs.declared.rows.UserPage.{UserPage}
 abbrev pub are_apart : List Area → Bool
 are_apart [] = true
 are_apart (area ∷ areas) = not (meets_area areas area.file area.ioas area.span) && are_apart areas
+
+abbrev pub begins_before : Area → Area → Bool
+begins_before area other = not (is_of area.file area.ioas other) || nat_le area.span.first other.span.first
+
+-- the areas of an address space stand by rising start
+abbrev pub starts_rise : List Area → Bool
+starts_rise [] = true
+starts_rise (area ∷ areas) = list_all (begins_before area) areas && starts_rise areas
 
 -- ---- frames
 

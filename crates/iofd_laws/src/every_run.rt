@@ -5,7 +5,8 @@ ghost use Rattle.iofd_rows.specs.Debts.{DebtsAttached};
 ghost use Rattle.iofd_runs.specs.Fits.{RowsFit};
 ghost use Rattle.iofd_runs.specs.InUsable.{AreasUsable};
 ghost use Rattle.iofd_runs.specs.Owned.{AreasOwned};
-ghost use Rattle.iofd_laws.specs.Laws.{are_apart, have_own_frames, has_memory, held_in, IsOfAnother, SameMemory, WasFree, rows_of};
+ghost use Rattle.iofd_runs.specs.Rising.{objects_rise};
+ghost use Rattle.iofd_laws.specs.Laws.{are_apart, have_own_frames, has_memory, held_in, IsOfAnother, SameMemory, WasFree, rows_of, starts_rise};
 ghost use Rattle.iofd_rows.specs.Ids.{AreBoundOnce, have_own_ids};
 ghost use Rattle.iofd_laws.specs.Laws.{pin_moves};
 ghost use Rattle.iofd_rows.specs.Pinned.{ArePinned};
@@ -34,6 +35,12 @@ pub fn areas_never_overlap<A: Allocator>()
         IsTrue (are_apart (world_of settings records).areas) }
 {}
 
+/// In every run, the areas of an address space stand by rising start.
+pub fn areas_stand_by_start<A: Allocator>()
+    ensures { (settings : Settings) (records : List (Record A)) → IsRun settings records →
+        IsTrue (starts_rise (world_of settings records).areas) }
+{}
+
 /// In every run, a frame is the page of at most one user page.
 pub fn user_pages_have_own_frames<A: Allocator>()
     ensures { (settings : Settings) (records : List (Record A)) → IsRun settings records →
@@ -50,6 +57,12 @@ pub fn only_free_frames_are_given_out<A: Allocator>()
 pub fn ids_are_unique<A: Allocator>()
     ensures { (settings : Settings) (records : List (Record A)) → IsRun settings records →
         IsTrue (have_own_ids (world_of settings records).objects) }
+{}
+
+/// In every run, the objects stand by rising file, and those of one file by rising id.
+pub fn objects_stand_by_file_and_id<A: Allocator>()
+    ensures { (settings : Settings) (records : List (Record A)) → IsRun settings records →
+        IsTrue (objects_rise (world_of settings records).objects) }
 {}
 
 /// In every run, a device is bound by at most one object, and so to at most one file.

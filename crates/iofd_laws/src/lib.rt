@@ -6,10 +6,11 @@ mod every_run;
 mod worked_script;
 
 pub use every_run::{
-    areas_never_overlap, debtors_are_attached, every_access_has_an_answer,
-    every_event_has_an_answer, files_are_apart, ids_are_unique, memory_of_files_is_apart,
-    only_free_frames_are_given_out, pins_are_those_of_pinned_pages, pins_keep_their_frames,
-    rows_fit, user_pages_have_own_frames,
+    areas_are_of_the_files_user, areas_are_usable, areas_never_overlap, areas_stand_by_start,
+    debtors_are_attached, devices_are_bound_once, every_access_has_an_answer,
+    every_event_has_an_answer, files_are_apart, ids_are_unique, limits_are_kept,
+    memory_of_files_is_apart, objects_stand_by_file_and_id, only_free_frames_are_given_out,
+    pins_are_those_of_pinned_pages, pins_keep_their_frames, rows_fit, user_pages_have_own_frames,
 };
 pub use worked_script::{
     altered_scripts_are_no_runs, owed_flush_leaves_both_answers, worked_script_is_a_run,

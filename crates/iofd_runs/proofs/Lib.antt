@@ -6,6 +6,7 @@ pub mod KeepsFits
 pub mod KeepsOwnMemory
 pub mod KeepsOwned
 pub mod KeepsPins
+pub mod KeepsRising
 pub mod KeepsUsable
 pub mod Known
 pub mod MappedAt
@@ -14,6 +15,7 @@ pub mod NotRefused
 pub mod ObjectsGo
 pub mod OwnIds
 pub mod PinnedAccess
+pub mod RisingLists
 pub mod Runs
 pub mod SamePages
 pub mod SameSettings

@@ -1,3 +1,4 @@
 pub mod Fits
 pub mod InUsable
 pub mod Owned
+pub mod Rising
