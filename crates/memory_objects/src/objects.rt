@@ -1,6 +1,6 @@
 //! All memory objects, by number.
 
-ghost use Rattle.std.specs.Prelude.{ℕ, ◌≡◌, ◌==◌, ◌+◌, ◌<◌, ◌≤◌, ◌^◌, ◌&&◌, ◌++◌, ◌∷◌, [], false, None, find, length, if◌then◌else◌, IsTrue, IfSome, OnOk, OnErr};
+ghost use Rattle.std.specs.Prelude.{ℕ, ◌≡◌, ◌==◌, ◌+◌, ◌<◌, ◌≤◌, ◌^◌, ◌&&◌, ◌++◌, ◌∷◌, [], false, None, find, length, slice_get, if◌then◌else◌, IsTrue, IfSome, OnOk, OnErr};
 ghost use Rattle.std.specs.List.{list_all};
 ghost use Rattle.std.specs.List.Sorted.{IsNonDecreasing};
 ghost use Rattle.std.specs.Option.{option_map};
@@ -109,6 +109,19 @@ impl<A: Allocator> MemoryObjects<A> {
         match lookups::object_at(&self.entries, number) {
             Some(entry) => entry.pages.frame(index),
             None => None,
+        }
+    }
+
+    /// The frames at which the pages of the object of this number are pinned, in order: those of all its pages, and
+    /// none where no page table pins it or there is no such object. It costs one look-up, and takes no memory.
+    pub fn frames(&self, number: u64) -> &[FrameNo]
+        ensures each { (index : ℕ) → slice_get result.now index ≡ pinned_frame self.now.objects number index }
+        ensures count { IfSome (object_at self.now.objects number) (λ object. length result.now
+            ≡ (if object.pages.pages.table_pins == 0 then 0 else object.pages.pages.count)) }
+    {
+        match lookups::object_at(&self.entries, number) {
+            Some(entry) if entry.pages.table_pins() > 0 => entry.pages.frames(),
+            _ => &[],
         }
     }
 

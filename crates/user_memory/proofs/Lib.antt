@@ -7,6 +7,7 @@ pub mod Moves
 pub mod NewPages
 pub mod Opened
 pub mod Pinned
+pub mod PinnedFrames
 pub mod PinsNamed
 pub mod Removed
 pub mod Settled

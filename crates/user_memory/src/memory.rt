@@ -1,6 +1,6 @@
 //! The users' memory.
 
-ghost use Rattle.std.specs.Prelude.{ℕ, ◌≡◌, ◌==◌, ◌&&◌, ◌<◌, ◌≤◌, ◌+◌, ◌*◌, ◌^◌, [], false, true, None, length, nat_lt, is_some, if◌then◌else◌, IsTrue, IsSome, IfOk, IfSome, OnOk, OnErr};
+ghost use Rattle.std.specs.Prelude.{ℕ, ◌≡◌, ◌==◌, ◌&&◌, ◌<◌, ◌≤◌, ◌+◌, ◌*◌, ◌^◌, [], false, true, None, find, length, nat_lt, slice_get, is_some, if◌then◌else◌, IsTrue, IsSome, IfOk, IfSome, OnOk, OnErr};
 ghost use Rattle.std.specs.List.{list_all, list_any};
 ghost use Rattle.iofd_words.specs.Checks as checks;
 ghost use Rattle.iofd_words.specs.Files.{numbered};
@@ -141,6 +141,18 @@ impl<A: Allocator> UserMemory<A> {
         ensures { result ≡ pinned_frame self.now (record { memory = number; index = index }) }
     {
         self.objects.frame(number, index)
+    }
+
+    /// The frames at which the pages of the object of this number are pinned, in order: those of all its pages, and
+    /// none where no page table pins it or there is no such object. It costs one look-up, and takes no memory.
+    pub fn frames(&self, number: u64) -> &[FrameNo]
+        ensures each { (index : ℕ) → slice_get result.now index
+            ≡ pinned_frame self.now (record { memory = number; index = index }) }
+        ensures count { 0 < table_pins self.now number → IfSome (find (λ row. row.number == number) (rows_of self.now))
+            (λ row. length result.now ≡ row.count) }
+        ensures none { table_pins self.now number ≡ 0 → result.now ≡ [] }
+    {
+        self.objects.frames(number)
     }
 
     /// Whether no page of the object is pinned, and one isn't in its user's memory.

@@ -4,7 +4,7 @@ ghost use Rattle.std.specs.Prelude.{◌≤◌};
 ghost use Rattle.user_memory_tests.specs.Told.{Told};
 
 use frame_memory::Pool;
-use iofd_words::{MemoryObject, UserNo};
+use iofd_words::{FrameNo, MemoryObject, UserNo};
 use linked_list_allocator::LocalHeap;
 use std::alloc::{AllocError, Allocator, Global};
 use std::test::Fail;
@@ -26,6 +26,8 @@ enum Call {
     Unpin(usize),
     Remove(usize),
     Frame(u64, u64),
+    /// Whether the object's pages are pinned at these frames.
+    FramesAre(u64, &'static [FrameNo]),
     LacksPage(u64),
     NewPages(u64),
     HasRoom(u128),
@@ -164,6 +166,7 @@ fn asked<A: Allocator + Copy>(bench: &mut Bench<A>, call: Call) -> Answer {
         Call::Frame(number, index) => told(
             bench.memory.frame(number, index).map(|f| u64::from(f.0)),
         ),
+        Call::FramesAre(number, frames) => Answer::Is(bench.memory.frames(number) == frames),
         Call::LacksPage(number) => Answer::Is(bench.memory.lacks_page(number)),
         Call::NewPages(number) => Answer::Gives(bench.memory.new_pages(number)),
         Call::HasRoom(count) => Answer::Is(bench.memory.has_room(USER, count)),
@@ -202,7 +205,7 @@ fn opened<A: Allocator + Copy>(alloc: A, frames: Global, count: u32) -> Result<B
     })
 }
 
-static ROWS: [(Call, Answer); 44] = [
+static ROWS: [(Call, Answer); 48] = [
     // two pages of the user, and one object of both
     (Call::LacksPage(0), Answer::Is(false)),
     (Call::Held, Answer::Gives(0)),
@@ -217,6 +220,7 @@ static ROWS: [(Call, Answer); 44] = [
     (Call::HasPages(0x10000, 3), Answer::Is(false)),
     (Call::Add(2, false), Answer::Done),
     (Call::Frame(0, 0), Answer::Nothing),
+    (Call::FramesAre(0, &[]), Answer::Is(true)),
     (Call::NewPages(0), Answer::Gives(2)),
     // pinned, it keeps its frames whatever the user does
     (Call::Pin(0), Answer::Done),
@@ -230,10 +234,16 @@ static ROWS: [(Call, Answer); 44] = [
     (Call::FreeFrames, Answer::Gives(3)),
     (Call::Map(0x10000), Answer::Gives(2)),
     (Call::Frame(0, 0), Answer::Gives(0)),
+    (
+        Call::FramesAre(0, &[FrameNo(0), FrameNo(1)]),
+        Answer::Is(true),
+    ),
     (Call::LacksPage(0), Answer::Is(false)),
     // a second object is pinned at the frames that the pages are now; a third passes the limit
     (Call::Add(1, true), Answer::Done),
     (Call::Frame(1, 0), Answer::Gives(2)),
+    (Call::FramesAre(1, &[FrameNo(2)]), Answer::Is(true)),
+    (Call::FramesAre(2, &[]), Answer::Is(true)),
     (Call::Held, Answer::Gives(3)),
     (Call::Add(1, true), Answer::Barred),
     (Call::HasRoom(0), Answer::Is(true)),
