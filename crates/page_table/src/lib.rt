@@ -15,5 +15,6 @@ mod visit;
 mod walk;
 
 pub use laws::{lookups_tell_pages, other_frames_leave_tables, table_frames_are_held};
+pub use release::sort_from;
 pub use table::Table;
 pub use walk::Walk;

@@ -17,7 +17,7 @@ fn sort_by_number(frames: &mut [FrameNo])
 }
 
 /// Puts the frames from this place on in order, by rising number. Those before it stay.
-pub(crate) fn sort_from<A: Allocator>(frames: &mut Vec<FrameNo, A>, start: usize)
+pub fn sort_from<A: Allocator>(frames: &mut Vec<FrameNo, A>, start: usize)
     requires { start ≤ vec_len frames.old }
     ensures front { take start frames.new.items ≡ take start frames.old.items }
     ensures same { IsPermutation (drop start frames.old.items) (drop start frames.new.items) }

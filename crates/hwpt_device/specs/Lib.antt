@@ -1,0 +1,5 @@
+pub mod Kept
+pub mod OverSpans
+pub mod PageTables
+pub mod Removed
+pub mod SameFrames

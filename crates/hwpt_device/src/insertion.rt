@@ -1,0 +1,50 @@
+//! Where a page table stands among others, by rising file and id.
+
+ghost use Rattle.std.specs.Prelude.{◌≡◌, ◌<◌, ◌≤◌, length, position, IfSome, vec_len, vec_capacity};
+ghost use Rattle.std.specs.List.{insert};
+ghost use Rattle.iofd_words.specs.Objects as objects;
+ghost use Rattle.hwpt_device.specs.PageTables.{Hwpt, with_hwpt};
+
+use crate::hwpt::Hwpt;
+use iofd_words::Object;
+use std::alloc::Allocator;
+
+/// Adds a page table, by rising file and id, where there is room. It takes no memory.
+pub(crate) fn insert<A: Allocator>(tables: &mut Vec<Hwpt, A>, hwpt: Hwpt)
+    requires { vec_len tables.old < vec_capacity tables.old }
+    ensures items { tables.new.items ≡ with_hwpt hwpt tables.old.items }
+    ensures capacity { vec_capacity tables.new ≡ vec_capacity tables.old }
+{
+    let place = place_of(tables, &hwpt.object);
+    tables.insert(place, hwpt).unwrap();
+}
+
+/// Before which page table one with this object stands.
+#[tactic(auto, using(crate::proofs::Placed::placed_before, crate::proofs::Placed::placed_last))]
+fn place_of(tables: &[Hwpt], object: &Object) -> usize
+    ensures within { result ≤ length tables.now }
+    ensures value { (hwpt : Hwpt) → hwpt.object ≡ object.now →
+        insert tables.now result hwpt ≡ with_hwpt hwpt tables.now }
+{
+    match first_after(tables, object) {
+        Some(place) => place,
+        None => tables.len(),
+    }
+}
+
+/// Where the first that comes after the object stands.
+fn first_after(tables: &[Hwpt], object: &Object) -> Option<usize>
+    ensures value { result ≡ position (λ h. objects.comes_before object.now h.object) tables.now }
+    ensures within { IfSome result (λ place. place < length tables.now) }
+{
+    tables
+        .iter()
+        .position(|hwpt| comes_before(object, &hwpt.object))
+}
+
+/// Whether the first is of a file before the other's, or of the same and has a lower id.
+fn comes_before(object: &Object, other: &Object) -> bool
+    ensures { result ≡ objects.comes_before object.now other.now }
+{
+    object.file.0 < other.file.0 || object.file == other.file && object.id.0 < other.id.0
+}
