@@ -16,7 +16,7 @@ const FIRST: FileNo = FileNo(1);
 
 const SECOND: FileNo = FileNo(2);
 
-/// A pool of two frames, a user with two files, and a device of width 39.
+/// A pool of five frames, which is two pages and the tables that one page takes, a user with two files, and a device of width 39.
 fn config(alloc: Global) -> Result<Config, Fail> {
     let device = DeviceConfig::new(
         SourceId(0x18),
@@ -28,7 +28,7 @@ fn config(alloc: Global) -> Result<Config, Fail> {
     let files = vec![in alloc; UserNo(1), UserNo(1)]?;
     let mut devices = Vec::new(alloc);
     devices.push(device)?;
-    Ok(Config::new(2, users, files, devices, 1)?)
+    Ok(Config::new(5, users, files, devices, 1)?)
 }
 
 /// An event of the script, with what stands in all of them left out.
@@ -131,7 +131,7 @@ static SCRIPT: [(Step, Reply); 27] = [
     (Step::Bind, Reply::Id(ObjId(2))),
     (Step::Attach, Reply::Id(ObjId(3))),
     (Step::Write, Reply::Passed(FrameNo(0))),
-    (Step::Page(0x11000), Reply::Frame(FrameNo(1))),
+    (Step::Page(0x11000), Reply::Frame(FrameNo(4))),
     (Step::Page(0x12000), NO_FRAME),
     (Step::Map(0x5000), Reply::Iova(Iova(0x5000))),
     (Step::Unmap, Reply::Pending(Errno::EAGAIN)),
@@ -140,7 +140,7 @@ static SCRIPT: [(Step, Reply); 27] = [
     (Step::Unmap, Reply::Bytes(0x1000)),
     (Step::GiveUp(0x11000), Reply::Done),
     (Step::GiveUp(0x11000), ABSENT),
-    (Step::Page(0x12000), Reply::Frame(FrameNo(1))),
+    (Step::Page(0x12000), Reply::Frame(FrameNo(4))),
     (Step::UserWrite, Reply::Done),
     (Step::Destroy(SECOND, 2), UNKNOWN),
     (Step::Destroy(SECOND, 1), Reply::Done),
@@ -352,7 +352,7 @@ fn apply_at_last<'a>(
 #[test]
 fn a_refused_growth_changes_nothing(rt: HostRuntime) -> Result<(), Fail> {
     let config = config(rt.alloc())?;
-    let heap = LocalHeap::new(rt.alloc(), 30720)?;
+    let heap = LocalHeap::new(rt.alloc(), 43008)?;
     assert!(rt; is_refused(rt.alloc(), &heap, &config)?);
     let mut core = Core::new(&heap, &config)?;
     let mut refused_steps = 0u32;

@@ -5,9 +5,9 @@ use iommufd_cli::session;
 use std::alloc::{AllocError, Global};
 use std::test::Fail;
 
-// Two frames, a user who may have as many pinned pages as there are areas, two files of that user, a user who may have
+// 256 frames, a user who may have as many pinned pages as there are areas, two files of that user, a user who may have
 // one, its file, which is file 3, and a device.
-const HEAD: &str = "pool 2\nuser 65535\nuser 1\nfile 1\nfile 1\nfile 2\ndevice 0018 39\nbegin\n";
+const HEAD: &str = "pool 256\nuser 65535\nuser 1\nfile 1\nfile 1\nfile 2\ndevice 0018 39\nbegin\n";
 
 // Two pages from here on lead above 2^64.
 const LAST_PAGE: u64 = 0xffff_ffff_ffff_f000;
@@ -48,6 +48,8 @@ enum Step {
     Destroy(u16, u32),
     // So many IOAS_ALLOC of file 1.
     Allocs(u32),
+    // So many pages of user 1, side by side from 0x10000000 on.
+    Pages(u32),
     // So many MAPs of the user's page at 0x10000 into address space 1 of file 1, side by side from iova 0 on.
     Maps(u32),
 }
@@ -77,7 +79,7 @@ struct Chain {
 // - HWPT_ALLOC, Id and Narrow: what isn't there has neither a width nor areas;
 // - attach, Id of the device and Bound: a device that isn't bound isn't attached.
 // A flush can be refused by Id alone.
-static CHAINS: [Chain; 18] = [
+static CHAINS: [Chain; 20] = [
     Chain {
         what: "a closed file",
         before: &[Line("bind 1 1"), Line("close 2")],
@@ -211,7 +213,7 @@ static CHAINS: [Chain; 18] = [
     },
     Chain {
         what: "umap with no free frame",
-        before: &[Line("umap 1 10000"), Line("umap 1 11000")],
+        before: &[Line("umap 1 10000"), Pages(255)],
         asks: &[
             (Line("umap 3 10001"), "2 Id"),
             (Line("umap 1 10001"), "22 Align"),
@@ -308,6 +310,42 @@ static CHAINS: [Chain; 18] = [
         ],
     },
     Chain {
+        what: "attach to address spaces whose tables need three frames, where two are free",
+        before: &[
+            Alloc(3),
+            Alloc(3),
+            Line("umap 2 10000"),
+            Line("umap 2 11000"),
+            Map(3, ALL, 1, 0x10000, 0x2000, 0x1000),
+            Map(3, ALL, 2, 0x10000, 0x1000, 0x1000),
+            Line("bind 3 1"),
+            Pages(252),
+        ],
+        asks: &[
+            // Of the first one's pages the user may have one pinned.
+            (Line("attach 1 1"), "12 Account"),
+            (Line("attach 1 2"), "12 Frames"),
+            (Table(3, 3, 1), "12 Account"),
+            (Table(3, 3, 2), "12 Frames"),
+        ],
+    },
+    Chain {
+        what: "MAP of a page whose tables need two frames, where one is free",
+        before: &[
+            Alloc(3),
+            Line("umap 2 10000"),
+            Line("umap 2 11000"),
+            Line("bind 3 1"),
+            Line("attach 1 1"),
+            Pages(252),
+        ],
+        asks: &[
+            (Map(3, ALL, 1, 0x10000, 0x2000, 0x1000), "12 Account"),
+            (Map(3, ALL, 1, 0x10000, 0x1000, 0x1000), "12 Frames"),
+            (Map(3, CHOSEN, 1, 0x10000, 0x1000, 0), "12 Frames"),
+        ],
+    },
+    Chain {
         what: "a device that isn't bound",
         before: &[],
         asks: &[
@@ -398,6 +436,7 @@ fn put_step(script: &mut String, step: Step) -> Result<(), AllocError> {
         ),
         Destroy(file, id) => writeln!(script, "ioctl {file} 3b80 08000000{:08x}", id.swap_bytes()),
         Allocs(count) => put_allocs(script, count),
+        Pages(count) => put_pages(script, count),
         Maps(count) => put_maps(script, count),
     }
 }
@@ -439,6 +478,14 @@ fn put_map(
 fn put_allocs(script: &mut String, count: u32) -> Result<(), AllocError> {
     for _ in 0..count {
         put_alloc(script, 1)?;
+    }
+    Ok(())
+}
+
+fn put_pages(script: &mut String, count: u32) -> Result<(), AllocError> {
+    for page in 0..count {
+        let va = 0x1000_0000 + u64::from(page) * 0x1000;
+        writeln!(script, "umap 1 {va:x}")?;
     }
     Ok(())
 }

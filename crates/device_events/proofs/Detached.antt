@@ -1,6 +1,6 @@
 -- An attachment that ends: its page table may go with it, and the pins of its address space with the page table.
 use Rattle.std.proofs.Common.{◌≡◌, ℕ, Bool, true, false, ◌&&◌, ◌||◌, not, eqb, Option, Some, None, List, [], ◌∷◌, refl, sym, ◌∙◌, ap, arith, inl, inr}
-use Rattle.std.specs.List.{filter, list_any}
+use Rattle.std.specs.List.{filter, list_all, list_any}
 use Rattle.std.proofs.lemmas.Bool.Decides.{nat_tests}
 use Rattle.iofd_words.specs.After.{goes_with}
 use Rattle.iofd_words.specs.Attachments.{has_device_on, ioas_of, ioas_of_attachment}
@@ -15,7 +15,7 @@ use Rattle.iofd_words.specs.declared.rows.Object.{Object}
 use Rattle.iofd_words.specs.declared.rows.ObjectKind.{ObjectKind}
 use Rattle.iofd_words.specs.declared.rows.ObjectKind.TheVariants as kind
 use Rattle.iofd_rows.proofs.Bools.{and_true, both_true}
-use Rattle.iofd_rows.proofs.Each.{IsIn, of_any}
+use Rattle.iofd_rows.proofs.Each.{IsIn, of_all, of_any}
 use Rattle.iofd_rows.proofs.Found.{find-filter, none_both}
 use Rattle.iofd_rows.proofs.ListTests.{alike, any-filter}
 use Rattle.iofd_rows.proofs.Named.{file_is, id_is, kind_only}
@@ -61,6 +61,14 @@ pub none_goes : (objects : List Object) (others : List Attachment) (a : Attachme
 none_goes objects others a own busy =
     filter_same_on (λ object. not (goes_with others a object)) (λ object. not false) objects (λ object within. ap not (goes_is objects others a own object within ∙ ap (λ b. is_object a.file a.hwpt object && b) busy ∙ never (is_object a.file a.hwpt object)))
     ∙ filter_true objects
+  where
+    never : (b : Bool) → (b && false) ≡ false
+    never true = refl
+    never false = refl
+
+pub none_of : (objects : List Object) (others : List Attachment) (a : Attachment) → have_own_ids objects ≡ true → is_idle objects others a.file a.hwpt ≡ false → list_all (λ object. not (goes_with others a object)) objects ≡ true
+none_of objects others a own busy =
+    of_all (λ object. not (goes_with others a object)) objects (λ object within. ap not (goes_is objects others a own object within ∙ ap (λ b. is_object a.file a.hwpt object && b) busy ∙ never (is_object a.file a.hwpt object)))
   where
     never : (b : Bool) → (b && false) ≡ false
     never true = refl

@@ -1,5 +1,5 @@
 -- What is kept after an attachment ended shows the world after it.
-use Rattle.std.proofs.Common.{◌≡◌, ℕ, Bool, true, false, not, Option, Some, None, List, map, refl, sym, ◌∙◌, ap, subst, ◌+◌, arith, Vec}
+use Rattle.std.proofs.Common.{◌≡◌, ℕ, Bool, true, false, not, eqb, Option, Some, None, List, [], map, refl, sym, ◌∙◌, ap, subst, ◌+◌, arith, Vec}
 use Rattle.iofd_rows.specs.Ids.{have_own_ids}
 use Rattle.iofd_words.specs.Checks.{detach_checks}
 use Rattle.iofd_words.specs.FirstTrue.{first_true}
@@ -11,17 +11,18 @@ use Rattle.iofd_runs.proofs.OwnIds.{own_ids-filter}
 use Rattle.frame_memory.specs.Pool.{FramePool}
 use Rattle.iofd_rows.specs.Pinned.{ArePinned}
 use Rattle.memory_rows.proofs.FramesFollow.{translated_same}
-use Rattle.memory_rows.proofs.Gone.{all_have, table_lost}
+use Rattle.memory_rows.proofs.Gone.{all_have, released_none, table_lost}
 use Rattle.memory_rows.specs.Moves.{IsReleased, MayRelease}
-use Rattle.memory_rows.specs.Shown.{over, translated}
+use Rattle.memory_rows.specs.Shown.{FramesShown, over, tables_in, translated}
 use Rattle.user_memory.specs.Changes.{never}
 use Rattle.user_memory.specs.Memory.{Memory}
 use Rattle.std.specs.Prelude.{is_none}
-use Rattle.std.specs.List.{list_all}
-use Rattle.iofd_words.specs.After.{changed, detach_changes, detached, settle}
+use Rattle.std.specs.List.{filter, list_all}
+use Rattle.std.specs.List.Sorted.{IsNonDecreasingBy, IsPermutation}
+use Rattle.iofd_words.specs.After.{changed, detach_changes, detached, goes_with, settle}
 use Rattle.iofd_words.specs.Areas.{all_paid, areas_of, paid, with_phase}
 use Rattle.iofd_words.specs.Attachments.{attachment_of, ioas_of_attachment, without_attachment}
-use Rattle.iofd_words.specs.Objects.{has_hwpt, is_object, kind_of, without_object}
+use Rattle.iofd_words.specs.Objects.{has_hwpt, kind_of, without_object}
 use Rattle.iofd_words.specs.View.{view}
 use Rattle.iofd_words.specs.World.{World}
 use Rattle.iofd_words.specs.declared.event.Event.TheVariants as event
@@ -39,19 +40,41 @@ use Rattle.iofd_rows.proofs.Paid.{paid_areas_of}
 use Rattle.server_state.specs.Held.{areas_at, is_proper, object_of, objects_in, space_of}
 use Rattle.server_state.specs.Mapping.{own_areas}
 use Rattle.device_events.specs.Attaching.{is_idle}
-use Rattle.server_state.specs.Shows.{Shows}
+use Rattle.server_state.specs.Choice.{AreFramesChosen, IsChosen}
+use Rattle.server_state.specs.Leads.{leads_of}
+use Rattle.server_state.specs.Shows.{ObjectsShown, Shows, TablesShown}
 use Rattle.server_state.specs.Spaces.{HasAreas, IsOrderly}
 use Rattle.server_state.specs.Step.{IsTidy}
-use Rattle.server_state.specs.Tables.{AreTables}
+use Rattle.server_state.specs.Tables.{has_own_width, page_tables_among}
 use Rattle.server_state.specs.declared.held.Held.{Held}
 use Rattle.server_state.specs.declared.state.State.{State}
 use Rattle.server_state.proofs.AreasBecome.{own_at}
-use Rattle.device_events.proofs.Detached.{all_stay, bindings_stay, left_of, none_goes, one_goes, others_stay}
+use Rattle.device_events.proofs.Detached.{all_stay, bindings_stay, left_of, none_goes, none_of, one_goes, others_stay}
+use Rattle.device_events.proofs.PaidLeads.{paid_leads}
+use Rattle.device_events.proofs.ReleasedAfter.{may_release_after, shown_after_it, tables_stand_after}
+use Rattle.device_events.proofs.TableGone.{given_rows, named_rows, orphan_rows, tables_kept, tests_kept}
+use Rattle.device_events.proofs.TablesUnreached.{unreached}
+use Rattle.device_events.proofs.Walked.{found_hwpt}
+use Rattle.hwpt_device.specs.PageTables.{AllStand, Hwpt, IfAllStand, PageTables, hwpt_of, objects_of}
+use Rattle.hwpt_device.specs.Removed.{rows_found, without_hwpt, without_tables}
+use Rattle.iofd_rows.proofs.Each.{IsIn, in_found}
+use Rattle.iofd_rows.proofs.Moves.{device_is}
+use Rattle.iofd_runs.proofs.StillTabled.{leaves_table, none_after}
+use Rattle.iofd_words.specs.TablePlaces.{is_table_of}
+use Rattle.iofd_words.specs.Tables.{MovesTables, is_orphan, missing_tables, tables_after, with_tables}
+use Rattle.iofd_words.specs.declared.numbers.FrameNo.{FrameNo}
+use Rattle.iofd_words.specs.declared.rows.TableFrame.{TableFrame}
+use Rattle.server_state.proofs.GivenBack.{times_in}
+use Rattle.server_state.proofs.GivenMoves.{gives, tables_left as tables_beside}
+use Rattle.server_state.proofs.GivenShown.{given_shown}
+use Rattle.server_state.proofs.Still.{still}
+use Rattle.table_words.specs.Released.{GivesBack, Releases}
+use Rattle.table_words.specs.Rows.{TableRow}
 use Rattle.server_state.proofs.Objects.{has_table}
 use Rattle.device_events.proofs.Flushed.{attached_to, shows_paid, unattached}
-use Rattle.server_state.proofs.MemoryReleased.{AreFewer, may_release, nothing_released, over_map, shown_after, translated_map}
+use Rattle.server_state.proofs.MemoryReleased.{AreFewer, nothing_released, over_map, translated_map}
 use Rattle.server_state.proofs.ObjectsGone.{objects-removed}
-use Rattle.server_state.proofs.PageTables.{has_hwpt_kept, tables_left}
+use Rattle.server_state.proofs.PageTables.{has_hwpt_kept}
 use Rattle.server_state.proofs.TableRows.{areas_removed, destroyable}
 use Rattle.object_table.specs.Table.{Table, destroy_refusal, is_at, removed}
 use Rattle.object_table.specs.declared.kind.Kind.TheVariants as of_kind
@@ -118,56 +141,19 @@ module _ {A : Type 0} where
       let over : ioas_of_attachment (objects_in s.objects) a ≡ Some ioas = rw shows.objects.rows at end.over in
       rw (found, over, space_of) refl
 
-  -- the attachment is gone, and the page table stays
-  pub shows_detached : (at : ℕ) (w : World) (s new : State A) (device : DeviceNo) (a : Attachment) (file : FileNo) (ioas : ObjId) → IsTidy at w → Shows w s → first_true (detach_checks (view w) device) ≡ None
-      → attachment_of s.attachments.items device ≡ Some a
-      → space_of (objects_in s.objects) (attachment_of s.attachments.items device) ≡ Some (file, ioas)
-      → (IsOrderly s.objects → HasAreas a.file ioas (all_paid device (areas_at s.objects.rows a.file ioas)) s.objects new.objects)
-      → new.attachments.items ≡ without_attachment device s.attachments.items
-      → is_idle (objects_in new.objects) new.attachments.items a.file a.hwpt ≡ false
-      → Shows (changed {A = A} at w (event.Detach device) reply.Done) (record s { objects = new.objects; attachments = new.attachments })
-  unfolding changed settle detached Answers
-  shows_detached at w s new device a file ioas tidy shows none found space paid without busy =
-      let end = ending w s device a file ioas shows found space in
-      let paid_shown = shows_paid at w s device a.file ioas new.objects tidy shows (space_here w s device a ioas shows found end) paid in
-      let others : new.attachments.items ≡ without_attachment device w.attachments = rw (← shows.devices.attached) at without in
-      let busy_w : is_idle w.objects (without_attachment device w.attachments) a.file a.hwpt ≡ false = rw (← others, paid_shown.objects.rows) busy in
-      let left = none_goes w.objects (without_attachment device w.attachments) a tidy.ids busy_w in
-      let same = fewer_none w device (left_of (without_attachment device w.attachments) a w.objects) (λ f i. ap (λ (l : List Object). has_hwpt l f i) left) in
-      let next = next_pins at w device a tidy none end.found in
-      let after = shown_after at w s tidy shows never never (left_of (without_attachment device w.attachments) a w.objects) (all_paid device w.areas) same (at + 1) (settle w (detached w device a)) s.memory s.pool next refl refl (all_have (all_paid device w.areas) w.memory next.used) refl refl (nothing_released at w s tidy shows (left_of (without_attachment device w.attachments) a w.objects) (all_paid device w.areas) same) in
-      let P = λ (o : Option Attachment). Shows (detach_changes w device o) (record s { objects = new.objects; attachments = new.attachments }) in
-      subst P (sym end.found) (record {
-        settings = shows.settings;
-        objects = record {
-          rows = left ∙ paid_shown.objects.rows;
-          proper = paid_shown.objects.proper;
-          spaces = paid_shown.objects.spaces;
-          files = paid_shown.objects.files;
-        };
-        devices = record {
-          bindings = λ d. bindings_stay w.objects (without_attachment device w.attachments) a d ∙ shows.devices.bindings d;
-          attached = sym others;
-          tables = subst (AreTables s.page_tables.items) (sym left) shows.devices.tables;
-        };
-        limits = after.limits;
-        allowed = shows.allowed;
-        users = after.users;
-        pins = after.pins;
-        frames = after.frames;
-      })
+  -- what a step with this world, these frames given back and this state says
+  abbrev IsStep : ℕ → World → DeviceNo → Option FrameNo → List FrameNo → State A → Type 0
+  IsStep at w device via given new =
+      Answers {A = A} w (event.Detach device) reply.Done × IsChosen {A = A} w (event.Detach device) via reply.Done
+      × MovesTables {A = A} w (changed {A = A} at w (event.Detach device) reply.Done) (event.Detach device) reply.Done [] given
+      × AreFramesChosen w (changed {A = A} at w (event.Detach device) reply.Done) [] given
+      × Shows (with_tables [] given (changed {A = A} at w (event.Detach device) reply.Done)) new
 
-  -- the page table goes with the attachment
-  module _ (at : ℕ) (w : World) (s : State A) (new : Table (Held A)) (attachments : Vec Attachment A) (device : DeviceNo) (a : Attachment) (file : FileNo) (ioas : ObjId) (table : Table (Held A)) (tidy : IsTidy at w) (shows : Shows w s) (none : first_true (detach_checks (view w) device) ≡ None)
+  module _ (at : ℕ) (w : World) (s : State A) (attachments : Vec Attachment A) (device : DeviceNo) (a : Attachment) (file : FileNo) (ioas : ObjId) (table : Table (Held A)) (tidy : IsTidy at w) (shows : Shows w s) (none : first_true (detach_checks (view w) device) ≡ None)
       (found : attachment_of s.attachments.items device ≡ Some a)
       (space : space_of (objects_in s.objects) (attachment_of s.attachments.items device) ≡ Some (file, ioas))
       (pays : IsOrderly s.objects → HasAreas a.file ioas (all_paid device (areas_at s.objects.rows a.file ioas)) s.objects table)
-      (without : attachments.items ≡ without_attachment device s.attachments.items)
-      (idle : is_idle (objects_in table) attachments.items a.file a.hwpt ≡ true)
-      (dropped : destroy_refusal table a.file of_kind.Hwpt a.hwpt ≡ None → new.rows ≡ removed a.file a.hwpt table.rows)
-      (files : new.files ≡ table.files)
-      (page_tables : Vec Object A)
-      (kept : page_tables.items ≡ without_object a.file a.hwpt s.page_tables.items) where
+      (without : attachments.items ≡ without_attachment device s.attachments.items) where
     end : Ending w device a ioas
     end = ending w s device a file ioas shows found space
 
@@ -177,97 +163,229 @@ module _ {A : Type 0} where
     others : attachments.items ≡ without_attachment device w.attachments
     others = rw (← shows.devices.attached) at without
 
+    -- the objects that are left
     abbrev left : List Object
     left = left_of (without_attachment device w.attachments) a w.objects
 
-    one_left : left ≡ without_object a.file a.hwpt w.objects
-    one_left = one_goes w.objects (without_attachment device w.attachments) a tidy.ids (idle_in w.objects others paid_shown.objects.rows)
-      where
-        idle_in : (objects : List Object) → attachments.items ≡ without_attachment device w.attachments → objects ≡ objects_in table → is_idle objects (without_attachment device w.attachments) a.file a.hwpt ≡ true
-        idle_in objects same rows = ap (λ (l : List Attachment). is_idle objects l a.file a.hwpt) (sym same) ∙ ap (λ (l : List Object). is_idle l attachments.items a.file a.hwpt) rows ∙ idle
+    -- the world after it, but for the frames of tables
+    ends : changed {A = A} at w (event.Detach device) reply.Done ≡ settle w (detached w device a)
+    unfolding changed
+    ends = ap (detach_changes w device) end.found
 
-    tables_here : AreTables page_tables.items left
-    tables_here =
-        subst (AreTables page_tables.items) (sym one_left)
-        (subst (λ tables. AreTables tables (without_object a.file a.hwpt w.objects)) (sym kept)
-        (tables_left s.page_tables.items w.objects shows.devices.tables (λ o. not (is_object a.file a.hwpt o))))
+    -- these rows of tables are left, and the page tables that are kept stand with them where the frames of the others were given back
+    module _ (areas_gone pins_gone : ℕ → ℕ) (rows : List TableFrame) (kept : PageTables) (before : FramePool) (new : Table (Held A)) (memory : Memory) (pool : FramePool)
+        (objects : ObjectsShown w.settings w.closed left (all_paid device w.areas) new)
+        (fewer : AreFewer areas_gone pins_gone w left (all_paid device w.areas))
+        (frames : FramesShown w.settings.pool w.writes rows s.memory before)
+        (tables : TablesShown (record w { objects = left; table_frames = rows }) kept before)
+        (released : IsReleased areas_gone pins_gone s.memory memory before pool) where
+      pub shows_ended : Shows (record (settle w (detached w device a)) { table_frames = rows }) (record s { objects = new; page_tables = kept; attachments = attachments; memory = memory; pool = pool })
+      unfolding settle detached
+      shows_ended =
+          let next = next_pins at w device a tidy none end.found in
+          let has = all_have (all_paid device w.areas) w.memory next.used in
+          let after =
+          shown_after_it at w s tidy shows areas_gone pins_gone left (all_paid device w.areas) fewer rows before frames (at + 1) (settle w (detached w device a)) memory pool next refl refl has refl refl released in
+          record {
+            settings = shows.settings;
+            limits = after.limits;
+            allowed = shows.allowed;
+            objects = objects;
+            devices = record {
+              bindings = λ d. bindings_stay w.objects (without_attachment device w.attachments) a d ∙ shows.devices.bindings d;
+              attached = sym others;
+            };
+            users = after.users;
+            pins = after.pins;
+            frames = after.frames;
+            tables = record {
+              tables = tables.tables;
+              widths = tables.widths;
+              stand =
+                  tables_stand_after at w s tidy shows areas_gone pins_gone left (all_paid device w.areas) fewer rows before frames (at + 1) (settle w (detached w device a)) memory pool next refl refl has refl refl released
+                  kept.tables tables.tables (λ f i page. paid_leads w.pins device w.areas f i page) tables.stand;
+            };
+          }
 
-    -- whether others translate the address space is known of those that are kept
-    same_left : has_hwpt left a.file ioas ≡ has_hwpt page_tables.items a.file ioas
-    same_left = sym (has_hwpt_kept page_tables.items left tables_here a.file ioas)
+    -- ---- the page table stays
 
-    kind_table : (width : Width) (automatic : Bool) → kind_of w.objects a.file a.hwpt ≡ Some (kind.Hwpt ioas width automatic) → kind_of (objects_in table) a.file a.hwpt ≡ Some (kind.Hwpt ioas width automatic)
-    kind_table width automatic kind_w = sym (ap (λ (objects : List Object). kind_of objects a.file a.hwpt) paid_shown.objects.rows) ∙ kind_w
-
-    rows : new.rows ≡ removed a.file a.hwpt table.rows
-    rows = let (width, automatic, kind_w) = table_of w.objects a ioas end.over in dropped (destroyable table a.file a.hwpt ioas width automatic paid_shown.objects.proper (kind_table width automatic kind_w))
-
-    objects : left ≡ map object_of new.rows
-    objects = one_left ∙ ap (without_object a.file a.hwpt) paid_shown.objects.rows ∙ sym (objects-removed table.rows a.file a.hwpt) ∙ ap (map object_of) (sym rows)
-
-    areas : (f : FileNo) (i : ObjId) → areas_of (all_paid device w.areas) f i ≡ areas_at new.rows f i
-    areas f i =
-        let (width, automatic, kind_w) = table_of w.objects a ioas end.over in
-        paid_shown.objects.spaces f i ∙ sym (areas_removed table.rows a.file a.hwpt ioas width automatic (kind_table width automatic kind_w) f i) ∙ ap (λ rows. areas_at rows f i) (sym rows)
-
-    proper : list_all is_proper new.rows ≡ true
-    proper = ap (list_all is_proper) rows ∙ all_filter is_proper (λ row. not (is_at a.file a.hwpt row)) table.rows paid_shown.objects.proper
-
-    had : has_hwpt w.objects a.file ioas ≡ true
-    had = let (width, automatic, kind_w) = table_of w.objects a ioas end.over in has_table w.objects a.file a.hwpt ioas width automatic kind_w
-
-    -- the areas that aren't translated any more
-    own_left : own_areas new a.file ioas ≡ all_paid device (areas_of w.areas a.file ioas)
-    own_left =
-        own_at new a.file ioas (record { proper = proper; ids = ap have_own_ids (sym objects) ∙ own_ids-filter _ w.objects tidy.ids })
-        ∙ sym (areas a.file ioas) ∙ paid_areas_of device w.areas a.file ioas
-
-    shows_after : (areas_gone pins_gone : ℕ → ℕ) (memory : Memory) (pool : FramePool) → AreFewer areas_gone pins_gone w left (all_paid device w.areas) → IsReleased areas_gone pins_gone s.memory memory s.pool pool
-        → Shows (changed {A = A} at w (event.Detach device) reply.Done) (record s { objects = new; page_tables = page_tables; attachments = attachments; memory = memory; pool = pool })
+    pub shows_detached : (via : Option FrameNo) (given : List FrameNo) → given ≡ [] → is_idle (objects_in table) attachments.items a.file a.hwpt ≡ false
+        → IsStep at w device via given (record s { objects = table; attachments = attachments })
     unfolding changed settle detached Answers
-    shows_after areas_gone pins_gone memory pool fewer released =
-        let next = next_pins at w device a tidy none end.found in
-        let after = shown_after at w s tidy shows areas_gone pins_gone left (all_paid device w.areas) fewer (at + 1) (settle w (detached w device a)) memory pool next refl refl (all_have (all_paid device w.areas) w.memory next.used) refl refl released in
-        let P = λ (o : Option Attachment). Shows (detach_changes w device o) (record s { objects = new; page_tables = page_tables; attachments = attachments; memory = memory; pool = pool }) in
-        subst P (sym end.found) (record {
-          settings = shows.settings;
-          objects = record {
-            rows = objects;
-            proper = proper;
-            spaces = areas;
-            files = λ number. rw files (paid_shown.objects.files number);
-          };
-          devices = record {
-            bindings = λ d. bindings_stay w.objects (without_attachment device w.attachments) a d ∙ shows.devices.bindings d;
-            attached = sym others;
-            tables = tables_here;
-          };
-          limits = after.limits;
-          allowed = shows.allowed;
-          users = after.users;
-          pins = after.pins;
-          frames = after.frames;
-        })
+    shows_detached via given nothing busy =
+        let busy_w : is_idle w.objects (without_attachment device w.attachments) a.file a.hwpt ≡ false = rw (← others, paid_shown.objects.rows) busy in
+        let stays = none_goes w.objects (without_attachment device w.attachments) a tidy.ids busy_w in
+        let fewer = fewer_none w device left (λ f i. ap (λ (l : List Object). has_hwpt l f i) stays) in
+        let shown =
+        shows_ended never never w.table_frames s.page_tables s.pool table s.memory s.pool
+        (record { rows = stays ∙ paid_shown.objects.rows; proper = paid_shown.objects.proper; spaces = paid_shown.objects.spaces; files = paid_shown.objects.files })
+        fewer shows.frames
+        (record { tables = shows.tables.tables ∙ ap page_tables_among (sym stays); widths = shows.tables.widths; stand = shows.tables.stand })
+        (nothing_released at w s tidy shows left (all_paid device w.areas) fewer)
+        in
+        let of : a.device ≡ device = device_is a.device device (in_found (λ (b : Attachment). eqb b.device.0 device.0) w.attachments a end.found).1 in
+        let leaves : leaves_table w.objects w.attachments (Some a) ≡ true =
+        ap (λ (d : DeviceNo). list_all (λ object. not (goes_with (without_attachment d w.attachments) a object)) w.objects) of
+        ∙ none_of w.objects (without_attachment device w.attachments) a tidy.ids busy_w
+        in
+        let takes : leaves_table w.objects w.attachments (attachment_of w.attachments device) ≡ true = ap (leaves_table w.objects w.attachments) end.found ∙ leaves in
+        subst (λ (l : List FrameNo). IsStep at w device via l (record s { objects = table; attachments = attachments })) (sym nothing)
+        (still {A = A} at (event.Detach device) via reply.Done (record s { objects = table; attachments = attachments }) w tidy tt tt
+        (subst (λ (v : World). Shows v (record s { objects = table; attachments = attachments })) (sym ends) shown)
+        tt takes)
 
-    -- and another one stays
-    pub shows_dropped : has_hwpt page_tables.items a.file ioas ≡ true → Shows (changed {A = A} at w (event.Detach device) reply.Done) (record s { objects = new; page_tables = page_tables; attachments = attachments })
-    shows_dropped more =
-        let fewer = fewer_none w device left (all_stay w (without_attachment device w.attachments) a ioas tidy.ids end.over had (same_left ∙ more)) in
-        shows_after never never s.memory s.pool fewer (nothing_released at w s tidy shows left (all_paid device w.areas) fewer)
+    -- ---- the page table goes with the attachment
 
-    -- it was the last one
-    fewer_last : has_hwpt page_tables.items a.file ioas ≡ false → AreFewer never (over (own_areas new a.file ioas)) w left (all_paid device w.areas)
-    fewer_last last = record {
-      over_left = λ n. let is = over_paid device w.areas n in omega (arith, is);
-      translated_left =
-          λ n. ap (λ k. translated left (all_paid device w.areas) n + k) (ap (λ l. over l n) own_left ∙ over_paid device (areas_of w.areas a.file ioas) n)
-          ∙ ap (λ k. k + over (areas_of w.areas a.file ioas) n) (translated_paid left device w.areas n)
-          ∙ table_lost w.objects left w.areas a.file ioas had (same_left ∙ last) (others_stay w (without_attachment device w.attachments) a ioas tidy.ids end.over) n;
-    }
+    module _ (new : Table (Held A))
+        (idle : is_idle (objects_in table) attachments.items a.file a.hwpt ≡ true)
+        (dropped : destroy_refusal table a.file of_kind.Hwpt a.hwpt ≡ None → new.rows ≡ removed a.file a.hwpt table.rows)
+        (files : new.files ≡ table.files)
+        (kept : PageTables) (before : FramePool)
+        (is_kept : kept.tables ≡ without_hwpt a.file a.hwpt s.page_tables.tables)
+        (stand : IfAllStand s.pool s.page_tables.tables (λ frames leads. AllStand before (without_tables a.file a.hwpt frames) leads kept.tables))
+        (releases : IfAllStand s.pool s.page_tables.tables (λ frames leads. Releases (rows_found frames (hwpt_of s.page_tables.tables a.file a.hwpt)) s.pool before)) where
+      one_left : left ≡ without_object a.file a.hwpt w.objects
+      one_left = one_goes w.objects (without_attachment device w.attachments) a tidy.ids (idle_in w.objects others paid_shown.objects.rows)
+        where
+          idle_in : (objects : List Object) → attachments.items ≡ without_attachment device w.attachments → objects ≡ objects_in table → is_idle objects (without_attachment device w.attachments) a.file a.hwpt ≡ true
+          idle_in objects same rows = ap (λ (l : List Attachment). is_idle objects l a.file a.hwpt) (sym same) ∙ ap (λ (l : List Object). is_idle l attachments.items a.file a.hwpt) rows ∙ idle
 
-    pub may_unpin : has_hwpt page_tables.items a.file ioas ≡ false → MayRelease never (over (own_areas new a.file ioas)) s.memory s.pool.holds
-    may_unpin last = may_release at w s tidy shows never (over (own_areas new a.file ioas)) left (all_paid device w.areas) (fewer_last last)
+      -- what the page table is
+      of_world : (width : Width) × (automatic : Bool) × (kind_of w.objects a.file a.hwpt ≡ Some (kind.Hwpt ioas width automatic))
+      of_world = table_of w.objects a ioas end.over
 
-    pub shows_last : (memory : Memory) (pool : FramePool) → has_hwpt page_tables.items a.file ioas ≡ false → IsReleased never (over (own_areas new a.file ioas)) s.memory memory s.pool pool
-        → Shows (changed {A = A} at w (event.Detach device) reply.Done) (record s { objects = new; page_tables = page_tables; attachments = attachments; memory = memory; pool = pool })
-    shows_last memory pool last released = shows_after never (over (own_areas new a.file ioas)) memory pool (fewer_last last) released
+      kind_table : (width : Width) (automatic : Bool) → kind_of w.objects a.file a.hwpt ≡ Some (kind.Hwpt ioas width automatic) → kind_of (objects_in table) a.file a.hwpt ≡ Some (kind.Hwpt ioas width automatic)
+      kind_table width automatic kind_w = sym (ap (λ (objects : List Object). kind_of objects a.file a.hwpt) paid_shown.objects.rows) ∙ kind_w
+
+      rows : new.rows ≡ removed a.file a.hwpt table.rows
+      rows = let (width, automatic, kind_w) = of_world in dropped (destroyable table a.file a.hwpt ioas width automatic paid_shown.objects.proper (kind_table width automatic kind_w))
+
+      objects : left ≡ map object_of new.rows
+      objects = one_left ∙ ap (without_object a.file a.hwpt) paid_shown.objects.rows ∙ sym (objects-removed table.rows a.file a.hwpt) ∙ ap (map object_of) (sym rows)
+
+      areas : (f : FileNo) (i : ObjId) → areas_of (all_paid device w.areas) f i ≡ areas_at new.rows f i
+      areas f i =
+          let (width, automatic, kind_w) = of_world in
+          paid_shown.objects.spaces f i ∙ sym (areas_removed table.rows a.file a.hwpt ioas width automatic (kind_table width automatic kind_w) f i) ∙ ap (λ rows. areas_at rows f i) (sym rows)
+
+      proper : list_all is_proper new.rows ≡ true
+      proper = ap (list_all is_proper) rows ∙ all_filter is_proper (λ row. not (is_at a.file a.hwpt row)) table.rows paid_shown.objects.proper
+
+      objects_shown : ObjectsShown w.settings w.closed left (all_paid device w.areas) new
+      objects_shown = record { rows = objects; proper = proper; spaces = areas; files = λ number. rw files (paid_shown.objects.files number) }
+
+      had : has_hwpt w.objects a.file ioas ≡ true
+      had = let (width, automatic, kind_w) = of_world in has_table w.objects a.file a.hwpt ioas width automatic kind_w
+
+      -- the areas that aren't translated any more
+      own_left : own_areas new a.file ioas ≡ all_paid device (areas_of w.areas a.file ioas)
+      own_left =
+          own_at new a.file ioas (record { proper = proper; ids = ap have_own_ids (sym objects) ∙ own_ids-filter _ w.objects tidy.ids })
+          ∙ sym (areas a.file ioas) ∙ paid_areas_of device w.areas a.file ioas
+
+      -- ---- its tables
+
+      -- the rows of the other page tables
+      abbrev others_rows : List TableFrame
+      others_rows = without_tables a.file a.hwpt w.table_frames
+
+      its_place : (h : Hwpt) × (hwpt_of s.page_tables.tables a.file a.hwpt ≡ Some h)
+      its_place =
+          let (width, automatic, kind_w) = of_world in
+          let (h, is, of_file, of_kind) = found_hwpt w.objects s.page_tables.tables a (kind.Hwpt ioas width automatic) shows.tables.tables kind_w refl in
+          (h, is)
+
+      frames_left : FramesShown w.settings.pool w.writes others_rows s.memory before
+      frames_left =
+          let (h, is) = its_place in
+          given_shown w.settings.pool w.writes w.table_frames (is_table_of a.file a.hwpt) (rows_found w.table_frames (hwpt_of s.page_tables.tables a.file a.hwpt)) s.memory s.pool before shows.frames
+          (unreached w s shows tidy.tabled.owned)
+          (named_rows w.table_frames s.page_tables.tables a.file a.hwpt h is)
+          (releases w.table_frames (leads_of w) shows.tables.stand)
+
+      tables_left : TablesShown (record w { objects = left; table_frames = others_rows }) kept before
+      tables_left = record {
+        tables =
+            ap (map (λ (h : Hwpt). h.object)) is_kept
+            ∙ tables_kept w.objects s.page_tables.tables shows.tables.tables shows.tables.stand.own a.file a.hwpt
+            ∙ ap page_tables_among (sym one_left);
+        widths = ap (list_all has_own_width) is_kept ∙ tests_kept w.objects s.page_tables.tables shows.tables.tables shows.tables.stand.own a.file a.hwpt has_own_width shows.tables.widths;
+        stand = stand w.table_frames (leads_of w) shows.tables.stand;
+      }
+
+      -- whether others translate the address space is known of those that are kept
+      same_left : has_hwpt left a.file ioas ≡ has_hwpt (objects_of kept) a.file ioas
+      same_left = sym (has_hwpt_kept (objects_of kept) left tables_left.tables a.file ioas)
+
+      module _ (listed given : List FrameNo) (nothing : listed ≡ []) (gives_back : IfAllStand s.pool s.page_tables.tables (λ frames leads. GivesBack (rows_found frames (hwpt_of s.page_tables.tables a.file a.hwpt)) listed given)) where
+        back : GivesBack (rows_found w.table_frames (hwpt_of s.page_tables.tables a.file a.hwpt)) [] given
+        back =
+            subst (λ (l : List FrameNo). GivesBack (rows_found w.table_frames (hwpt_of s.page_tables.tables a.file a.hwpt)) l given) nothing
+            (gives_back w.table_frames (leads_of w) shows.tables.stand)
+
+        -- its frames are given back, and no others
+        given_once : (f : ℕ) → times_in given f ≡ tables_in (filter (is_table_of a.file a.hwpt) w.table_frames) f
+        given_once = let (h, is) = its_place in given_rows w.table_frames s.page_tables.tables a.file a.hwpt h is given (subst (λ (l : List FrameNo). IsPermutation (map (λ (row : TableRow). row.frame) (rows_found w.table_frames (hwpt_of s.page_tables.tables a.file a.hwpt))) l) (sym back.is) back.same)
+
+        sorted : IsNonDecreasingBy (λ (f : FrameNo). f.0) given
+        sorted = subst (IsNonDecreasingBy (λ (f : FrameNo). f.0)) (sym back.is) back.rising
+
+        orphans : (t : TableFrame) → IsIn w.table_frames t → is_orphan left t ≡ is_table_of a.file a.hwpt t
+        orphans t within = ap (λ (l : List Object). is_orphan l t) one_left ∙ orphan_rows w.objects w.table_frames tidy.tabled.owned a.file a.hwpt t within
+
+        none_missing : missing_tables left (all_paid device w.areas) w.table_frames ≡ []
+        unfolding changed settle detached
+        none_missing =
+            subst (λ (v : World). missing_tables v.objects v.areas w.table_frames ≡ []) ends
+            (none_after {A = A} at w (event.Detach device) reply.Done tt tidy.tabled.needed)
+
+        moved : MovesTables {A = A} w (settle w (detached w device a)) (event.Detach device) reply.Done [] given × AreFramesChosen w (settle w (detached w device a)) [] given
+        unfolding settle detached
+        moved =
+            gives {A = A} w (settle w (detached w device a)) (event.Detach device) reply.Done (is_table_of a.file a.hwpt) given shows.frames.once given_once sorted orphans refl
+            (own_ids-filter _ w.objects tidy.ids) none_missing
+
+        rows_after : tables_after [] given (settle w (detached w device a)) ≡ others_rows
+        unfolding settle detached
+        rows_after = tables_beside {A = A} w (settle w (detached w device a)) (event.Detach device) reply.Done (is_table_of a.file a.hwpt) given shows.frames.once given_once sorted orphans refl
+
+        step : (via : Option FrameNo) (memory : Memory) (pool : FramePool)
+            → Shows (record (settle w (detached w device a)) { table_frames = others_rows }) (record s { objects = new; page_tables = kept; attachments = attachments; memory = memory; pool = pool })
+            → IsStep at w device via given (record s { objects = new; page_tables = kept; attachments = attachments; memory = memory; pool = pool })
+        unfolding with_tables Answers
+        step via memory pool shown =
+            let to : State A = record s { objects = new; page_tables = kept; attachments = attachments; memory = memory; pool = pool } in
+            let Left : World → Type 0 = λ (v : World).
+            MovesTables {A = A} w v (event.Detach device) reply.Done [] given × AreFramesChosen w v [] given × Shows (with_tables [] given v) to in
+            let of_rows : List TableFrame → Type 0 = λ (rows : List TableFrame). Shows (record (settle w (detached w device a)) { table_frames = rows }) to in
+            let here : Left (settle w (detached w device a)) = (moved.0, moved.1, subst of_rows (sym rows_after) shown) in
+            let (moves, chosen, after) = subst Left (sym ends) here in
+            (tt, tt, moves, chosen, after)
+
+        -- and another one over the address space stays
+        pub shows_dropped : (via : Option FrameNo) → has_hwpt (objects_of kept) a.file ioas ≡ true → IsStep at w device via given (record s { objects = new; page_tables = kept; attachments = attachments; pool = before })
+        shows_dropped via more =
+            let fewer = fewer_none w device left (all_stay w (without_attachment device w.attachments) a ioas tidy.ids end.over had (same_left ∙ more)) in
+            step via s.memory before
+            (shows_ended never never others_rows kept before new s.memory before objects_shown fewer frames_left tables_left
+            (released_none never never s.memory before (may_release_after at w s tidy shows never never left (all_paid device w.areas) fewer others_rows before frames_left)))
+
+      -- it was the last one
+      fewer_last : has_hwpt (objects_of kept) a.file ioas ≡ false → AreFewer never (over (own_areas new a.file ioas)) w left (all_paid device w.areas)
+      fewer_last last = record {
+        over_left = λ n. let is = over_paid device w.areas n in omega (arith, is);
+        translated_left =
+            λ n. ap (λ k. translated left (all_paid device w.areas) n + k) (ap (λ l. over l n) own_left ∙ over_paid device (areas_of w.areas a.file ioas) n)
+            ∙ ap (λ k. k + over (areas_of w.areas a.file ioas) n) (translated_paid left device w.areas n)
+            ∙ table_lost w.objects left w.areas a.file ioas had (same_left ∙ last) (others_stay w (without_attachment device w.attachments) a ioas tidy.ids end.over) n;
+      }
+
+      pub may_unpin : has_hwpt (objects_of kept) a.file ioas ≡ false → MayRelease never (over (own_areas new a.file ioas)) s.memory before.holds
+      may_unpin last = may_release_after at w s tidy shows never (over (own_areas new a.file ioas)) left (all_paid device w.areas) (fewer_last last) others_rows before frames_left
+
+      pub shows_last : (listed given : List FrameNo) → listed ≡ [] → IfAllStand s.pool s.page_tables.tables (λ frames leads. GivesBack (rows_found frames (hwpt_of s.page_tables.tables a.file a.hwpt)) listed given)
+          → (via : Option FrameNo) (memory : Memory) (pool : FramePool) → has_hwpt (objects_of kept) a.file ioas ≡ false → IsReleased never (over (own_areas new a.file ioas)) s.memory memory before pool
+          → IsStep at w device via given (record s { objects = new; page_tables = kept; attachments = attachments; memory = memory; pool = pool })
+      shows_last listed given nothing gives_back via memory pool last released =
+          step listed given nothing gives_back via memory pool
+          (shows_ended never (over (own_areas new a.file ioas)) others_rows kept before new memory pool objects_shown (fewer_last last) frames_left tables_left released)

@@ -1,12 +1,13 @@
 -- What a device's read is answered.
-use Rattle.std.proofs.Common.{◌≡◌, ℕ, Some, None, List, [], ◌∷◌, map, Contains, refl, sym, ◌∙◌, arith, is_some, cond, ◌||◌, Bool, true, false}
+use Rattle.std.proofs.Common.{◌≡◌, ℕ, Some, None, List, [], ◌∷◌, map, Contains, refl, sym, ◌∙◌, arith, is_some, cond, ◌||◌, not, Bool, true, false}
 use Rattle.iofd_words.specs.declared.record.Record.{Record}
 use Rattle.device_events.proofs.DeviceWrites.{given_is, contained_map}
 use Rattle.server_state.specs.Choice.{IsLooked, is_denial, is_fault}
-use Rattle.std.specs.List.{find, list_any}
+use Rattle.std.specs.List.{find, list_all, list_any}
 use Rattle.iofd_words.specs.FirstTrue.{first_true}
 use Rattle.iofd_words.specs.Look.{lawful_answers, query_checks, read_answer, answers_in}
 use Rattle.iofd_words.specs.Policy.{Outcome, outcomes, Passes, Denied}
+use Rattle.iofd_words.specs.Tables.{is_orphan}
 use Rattle.iofd_words.specs.View.{view}
 use Rattle.iofd_words.specs.World.{World}
 use Rattle.iofd_words.specs.declared.fault.AccessKind.TheVariants.{Read}
@@ -50,17 +51,17 @@ chosen_read at w records device iova len o tidy is =
       },
     )
 
-module _ {A : Type 0} (w : World) (records : List (Record A)) (s : State A) (shows : Shows w s) (q : Query) where
+module _ {A : Type 0} (w : World) (records : List (Record A)) (s : State A) (shows : Shows w s) (owned : list_all (λ table. not (is_orphan w.objects table)) w.table_frames ≡ true) (q : Query) where
   pub refused_read : (cause : Cause) → Some cause ≡ first_true (query_checks (seen s) q)
       → IsLooked (answers_in w records q) (answer.Refused (record { cause = cause }))
   unfolding answers_in
   refused_read cause is =
-      let first : first_true (query_checks (view w) q) ≡ Some cause = sym (same_query_refusal w s shows q) ∙ sym is in
+      let first : first_true (query_checks (view w) q) ≡ Some cause = sym (same_query_refusal w s shows owned q) ∙ sym is in
       let alone : IsLooked (answer.Refused (record { cause = cause }) ∷ []) (answer.Refused (record { cause = cause })) = record { is_lawful = (0, omega arith, refl); is_fault_else = λ has. cc } in
       rw (first, answers_in) alone
 
   pub answered_read : None ≡ first_true (query_checks (seen s) q) → answers_in w records q ≡ lawful_answers w records q
   unfolding answers_in
   answered_read is =
-      let first : first_true (query_checks (view w) q) ≡ None = sym (same_query_refusal w s shows q) ∙ sym is in
+      let first : first_true (query_checks (view w) q) ≡ None = sym (same_query_refusal w s shows owned q) ∙ sym is in
       rw (first, answers_in) refl

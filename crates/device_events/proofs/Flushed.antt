@@ -17,6 +17,8 @@ use Rattle.iofd_rows.proofs.Each.{in_found}
 use Rattle.iofd_rows.proofs.Named.{file_is, id_is}
 use Rattle.iofd_rows.proofs.Owed.{each_owed}
 use Rattle.iofd_rows.proofs.Paid.{paid_areas_of, pays_none, pays_own}
+use Rattle.device_events.proofs.PaidLeads.{paid_leads}
+use Rattle.server_state.proofs.LeadsStay.{spaces_alike}
 use Rattle.server_state.proofs.MemoryReleased.{pins_changed}
 use Rattle.server_state.specs.Held.{areas_at, objects_in, space_of}
 use Rattle.server_state.specs.Shows.{Shows}
@@ -109,6 +111,13 @@ module _ {A : Type 0} where
         users = shows.users;
         pins = pins_changed w.objects w.areas w.memory w.pins s.memory (λ (area : Area). with_phase (paid device area.phase) area) (λ area. refl) (λ area. refl) (λ area. refl) shows.pins;
         frames = shows.frames;
+        tables = record {
+          tables = shows.tables.tables;
+          widths = shows.tables.widths;
+          stand =
+              spaces_alike w (record w { areas = all_paid device w.areas }) w.objects s.page_tables.tables s.pool w.table_frames shows.tables.tables
+              (λ f i page has. paid_leads w.pins device w.areas f i page) shows.tables.stand;
+        };
       }
 
   -- a device that isn't attached owes nothing

@@ -1,7 +1,13 @@
 pub mod Bound
+pub mod ByWalk
 pub mod Detached
 pub mod DetachedShown
 pub mod DeviceReads
 pub mod DeviceWrites
 pub mod Flushed
 pub mod NeverRefused
+pub mod PaidLeads
+pub mod ReleasedAfter
+pub mod TableGone
+pub mod TablesUnreached
+pub mod Walked

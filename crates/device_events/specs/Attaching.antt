@@ -1,5 +1,5 @@
 -- What goes with a device's attachment.
-use Rattle.std.specs.Prelude.{Bool, false, ◌&&◌, not, Option, Some, None, List}
+use Rattle.std.specs.Prelude.{Bool, false, ◌&&◌, not, Some, None, List}
 use Rattle.iofd_words.specs.Attachments.{has_device_on}
 use Rattle.iofd_words.specs.Objects.{is_automatic, kind_of}
 use Rattle.iofd_words.specs.declared.numbers.FileNo.{FileNo}

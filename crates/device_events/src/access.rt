@@ -14,6 +14,7 @@ ghost use Rattle.server_state.specs.Held.{areas_at};
 ghost use Rattle.server_state.specs.Choice.{is_pass_at};
 ghost use Rattle.device_events.specs.Outcomes.{given_outcome, outcome_told, outcomes_of, passes_at};
 ghost use Rattle.server_state.specs.Seen.{seen};
+ghost use Rattle.server_state.specs.Step.{IsKnown};
 ghost use Rattle.user_memory.specs.Memory.{pinned_frame};
 
 use iofd_words::{
@@ -21,6 +22,7 @@ use iofd_words::{
     ObjId, ObjectKind, PAGE_SIZE, Phase,
 };
 use object_table::ObjectTable;
+use page_table::Walk;
 use server_state::accesses::crosses;
 use server_state::{Held, State, lookups};
 use std::alloc::Allocator;
@@ -89,7 +91,7 @@ fn of_device<A: Allocator>(
 }
 
 /// The frame at which the access passes, or why it is denied: at the cached frame, if there is one; else
-/// where the policy lets it pass, and while the device owes the area a flush it is denied.
+/// where the device's page table leads with that right. It costs the levels of the page table, and looks at no area.
 pub(crate) fn given<A: Allocator>(
     state: &State<A>,
     device: DeviceNo,
@@ -97,15 +99,22 @@ pub(crate) fn given<A: Allocator>(
     kind: AccessKind,
     cached: Option<FrameNo>,
 ) -> Result<FrameNo, FaultReason>
+    requires { IsKnown state.now }
     ensures { outcome_told result ≡ given_outcome cached (policy.access_outcomes (seen state.now) device address kind) }
 {
     if let Some(frame) = cached {
         return Ok(frame);
     }
-    match of_device(state, device, address, kind) {
-        Some(Access::Passes(frame)) => Ok(frame),
-        Some(Access::Denied(reason)) | Some(Access::Either(_, reason)) => Err(reason),
-        None => Err(FaultReason::WriteDenied),
+    let Some(attachment) = state.attachment_of(device) else {
+        return Err(FaultReason::NoContext);
+    };
+    if is_beyond(&state.config, device, address) {
+        return Err(FaultReason::BeyondWidth);
+    }
+    let Attachment { file, hwpt, .. } = *attachment;
+    match state.page_tables.walk(&state.pool, file, hwpt, address) {
+        Walk::Hit { frame, rights } if rights.allow(kind) => Ok(frame),
+        _ => Err(kind.denied()),
     }
 }
 

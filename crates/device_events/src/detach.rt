@@ -1,6 +1,7 @@
 //! Detach: a device translates no more.
 
-ghost use Rattle.std.specs.Prelude.{◌≡◌, ℕ, Some, None, false};
+ghost use Rattle.std.specs.Prelude.{◌≡◌, ℕ, Option, Some, None, false, [], IfOk, OnErr};
+ghost use Rattle.iofd_words.specs.declared.numbers.FrameNo.{FrameNo};
 ghost use Rattle.iofd_words.specs.Checks.{detach_checks};
 ghost use Rattle.iofd_words.specs.FirstTrue.{first_true};
 ghost use Rattle.iofd_words.specs.Objects as objects;
@@ -8,14 +9,16 @@ ghost use Rattle.iofd_words.specs.declared.event.Event.TheVariants as event;
 ghost use Rattle.server_state.specs.Held.{objects_in};
 ghost use Rattle.device_events.specs.Attaching.{is_idle};
 ghost use Rattle.server_state.specs.Seen.{seen};
-ghost use Rattle.server_state.specs.Step.{IsGranted, Steps};
+ghost use Rattle.server_state.specs.Step.{IsGranted, MovingSteps, ShowsSame};
 ghost use Rattle.object_table.specs.Table.{destroy_refusal, removed};
 ghost use Rattle.object_table.specs.declared.kind.Kind.TheVariants as of_kind;
 
 use crate::{attachments, spaces};
-use iofd_words::{Attachment, Cause, DeviceNo, FileNo, ObjId, ObjectKind, Reply};
+use iofd_words::{
+    Attachment, Cause, DeviceNo, FileNo, FrameNo, NoMemory, ObjId, ObjectKind, Reply,
+};
 use object_table::{Kind, ObjectTable};
-use server_state::{Held, State, lookups, page_tables, release};
+use server_state::{Held, State, lookups, release};
 use std::alloc::Allocator;
 
 /// Why it is refused, by the first row of the definitions that holds. None where nothing refuses it.
@@ -32,25 +35,36 @@ pub fn refusal<A: Allocator>(state: &State<A>, device: DeviceNo) -> Option<Cause
     None
 }
 
-/// What it does where nothing refuses it: the device owes no area a flush any more, and an automatic page
-/// table goes with its last device. It takes no memory.
-pub fn commit<A: Allocator>(state: &mut State<A>, device: DeviceNo) -> Reply
-    requires { IsGranted (event.Detach device) state.old }
-    ensures { (at : ℕ) → Steps at (event.Detach device) state.old result state.new }
+/// What it does where nothing refuses it: the device owes no area a flush any more, and an automatic page table goes with
+/// its last device. The frames of its tables are given back, and are listed by rising number.
+///
+/// The only error is want of memory for that list. It leaves the world as it was.
+pub fn commit<A: Allocator>(
+    state: &mut State<A>,
+    device: DeviceNo,
+    given: &mut Vec<FrameNo, A>,
+) -> Result<Reply, NoMemory>
+    requires granted { IsGranted (event.Detach device) state.old }
+    requires none { given.old.items ≡ [] }
+    ensures ok { IfOk result (λ reply. (at : ℕ) (via : Option FrameNo) →
+        MovingSteps at (event.Detach device) via state.old reply [] given.new.items state.new) }
+    ensures err { OnErr result (ShowsSame state.old state.new) }
+    ensures none_err { OnErr result (given.new.items ≡ []) }
 {
     let Some(attachment) = state.attachment_of(device) else {
-        return Reply::Done;
+        return Ok(Reply::Done);
     };
     let Attachment { file, hwpt, .. } = *attachment;
     let Some((_, ioas)) = state.space_of(device) else {
-        return Reply::Done;
+        return Ok(Reply::Done);
     };
+    state.reserve_given(file, hwpt, given)?;
     spaces::pay(&mut state.objects, file, ioas, device);
     attachments::remove(&mut state.attachments, device);
     if is_idle(&state.objects, &state.attachments, file, hwpt) {
         drop_table(&mut state.objects, file, hwpt);
-        page_tables::remove(&mut state.page_tables, file, hwpt);
-        if !page_tables::has_over(&state.page_tables, file, ioas) {
+        state.page_tables.remove(&mut state.pool, file, hwpt, given);
+        if !state.page_tables.has_over(file, ioas) {
             release::unpin_space(
                 &state.objects,
                 file,
@@ -60,7 +74,7 @@ pub fn commit<A: Allocator>(state: &mut State<A>, device: DeviceNo) -> Reply
             );
         }
     }
-    Reply::Done
+    Ok(Reply::Done)
 }
 
 /// Whether the page table is an automatic one that no device is on.

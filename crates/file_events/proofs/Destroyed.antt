@@ -1,5 +1,5 @@
 -- An object that was destroyed: an address space with its areas, or a page table with pins.
-use Rattle.std.proofs.Common.{◌≡◌, ℕ, Bool, true, false, cond, ◌&&◌, not, eqb, is_none, Option, Some, None, List, [], map, refl, sym, ◌∙◌, ap, subst, Vec, arith, ◌+◌}
+use Rattle.std.proofs.Common.{◌≡◌, ℕ, Bool, true, false, cond, ◌&&◌, ltb, not, eqb, is_none, Option, Some, None, List, [], map, refl, sym, ◌∙◌, ap, subst, arith, ◌+◌}
 use Rattle.iofd_words.specs.Allowed.{AllowedRanges, allowed_of, without_allowed}
 use Rattle.iofd_words.specs.Answers.{Answers}
 use Rattle.iofd_runs.proofs.KeepsPins.{keeps_pins}
@@ -7,9 +7,9 @@ use Rattle.iofd_runs.proofs.NotRefused.{destroy_passed}
 use Rattle.iofd_runs.proofs.OwnIds.{own_ids-filter}
 use Rattle.frame_memory.specs.Pool.{FramePool}
 use Rattle.memory_rows.proofs.FramesFollow.{translated_same}
-use Rattle.memory_rows.proofs.Gone.{objects_left, over_parts, table_lost, translated_parts, translated_space}
+use Rattle.memory_rows.proofs.Gone.{objects_left, over_parts, released_none, table_lost, translated_parts, translated_space}
 use Rattle.memory_rows.specs.Moves.{IsReleased, MayRelease, if_translated}
-use Rattle.memory_rows.specs.Shown.{over, translated}
+use Rattle.memory_rows.specs.Shown.{over, tables_in, translated}
 use Rattle.user_memory.specs.Changes.{never}
 use Rattle.user_memory.specs.Memory.{Memory}
 use Rattle.iofd_rows.specs.Pinned.{ArePinned}
@@ -20,7 +20,7 @@ use Rattle.iofd_words.specs.Areas.{areas_of, is_of}
 use Rattle.iofd_words.specs.Checks.{destroy_checks, is_device_object, is_used}
 use Rattle.iofd_rows.specs.Ids.{have_own_ids}
 use Rattle.iofd_words.specs.FirstTrue.{first_true}
-use Rattle.iofd_words.specs.Objects.{has_hwpt, is_bound_as, is_bound_device, is_hwpt_over, is_object, kind_of, without_object}
+use Rattle.iofd_words.specs.Objects.{has_hwpt, is_bound_as, is_bound_device, is_hwpt, is_hwpt_over, is_object, kind_of, without_object}
 use Rattle.iofd_words.specs.View.{view}
 use Rattle.iofd_words.specs.World.{World}
 use Rattle.iofd_words.specs.declared.event.Event.TheVariants as event
@@ -35,21 +35,43 @@ use Rattle.iofd_words.specs.declared.rows.ObjectKind.TheVariants as kind
 use Rattle.iofd_words.specs.declared.width.Width.{Width}
 use Rattle.iofd_rows.proofs.Allowed.{allowed_without, is_of_space}
 use Rattle.iofd_rows.proofs.Bools.{and_true, clash}
+use Rattle.iofd_rows.proofs.Each.{IsIn, in_filter, of_all}
 use Rattle.iofd_rows.proofs.Found.{all_filter}
+use Rattle.iofd_rows.proofs.ListTests.{false_else, filter_all}
+use Rattle.iofd_rows.proofs.Named.{file_is, id_is, kind_only}
 use Rattle.iofd_rows.proofs.PageTables.{hwpt_alike}
 use Rattle.server_state.proofs.AreasBecome.{own_at}
 use Rattle.server_state.proofs.Objects.{has_table}
 use Rattle.server_state.proofs.Orderly.{orderly}
-use Rattle.server_state.proofs.MemoryReleased.{AreFewer, may_release, nothing_released, shown_after}
+use Rattle.server_state.proofs.MemoryReleased.{AreFewer}
 use Rattle.server_state.proofs.Objects.{areas_at_rows, areas_of_held, kind_at, kind_of_rows, value_at}
-use Rattle.file_events.proofs.SpacesGone.{any_without, areas-removed, areas_stay, found_without}
+use Rattle.file_events.proofs.SpacesGone.{any_without, areas-removed, areas_elsewhere, areas_stay, found_without}
 use Rattle.server_state.proofs.ObjectsGone.{may_go, objects-removed}
 use Rattle.server_state.specs.Held.{is_proper, areas_at, object_of, objects_in}
 use Rattle.server_state.specs.Mapping.{own_areas}
 use Rattle.server_state.specs.Shows.{Shows}
 use Rattle.server_state.specs.Step.{IsTidy}
-use Rattle.server_state.specs.Tables.{AreTables}
-use Rattle.server_state.proofs.PageTables.{has_hwpt_kept, tables_left}
+use Rattle.server_state.specs.Tables.{has_own_width, page_tables_among}
+use Rattle.server_state.specs.Choice.{AreFramesChosen, IsChosen}
+use Rattle.server_state.specs.Leads.{leads_of}
+use Rattle.server_state.proofs.GivenShown.{given_shown}
+use Rattle.server_state.proofs.PageTables.{has_hwpt_kept}
+use Rattle.server_state.proofs.Still.{still}
+use Rattle.file_events.proofs.FreedOver.{freed, may_free, tables_freed, tables_lead}
+use Rattle.file_events.proofs.GivesBackMoves.{gives_back}
+use Rattle.file_events.proofs.TablesGone.{none_reach, of_one, one_counted, orphans_are, rows_named}
+use Rattle.file_events.proofs.TablesLeft.{among_left, one_left, one_widths}
+use Rattle.hwpt_device.proofs.Counted.{rows_in_frame}
+use Rattle.hwpt_device.specs.PageTables.{AllStand, Hwpt, IfAllStand, PageTables, hwpt_of, objects_of}
+use Rattle.hwpt_device.specs.Removed.{rows_found, without_hwpt, without_tables}
+use Rattle.iofd_words.specs.TablePlaces.{is_table_of}
+use Rattle.iofd_words.specs.Tables.{MovesTables, with_tables}
+use Rattle.iofd_words.specs.declared.numbers.FrameNo.{FrameNo}
+use Rattle.iofd_words.specs.declared.rows.TableFrame.{TableFrame}
+use Rattle.memory_rows.specs.Shown.{FramesShown}
+use Rattle.server_state.specs.Spaces.{is_space}
+use Rattle.table_words.specs.Released.{GivesBack, Releases}
+use Rattle.table_words.specs.Rows.{TableRow}
 use Rattle.server_state.specs.declared.held.Held.{Held}
 use Rattle.server_state.specs.declared.held.Held.TheVariants as held
 use Rattle.server_state.specs.declared.state.State.{State}
@@ -73,6 +95,15 @@ module _ (w : World) (file : FileNo) (id : ObjId) (ids : have_own_ids w.objects 
         fails : (b : Bool) → (b && false) ≡ false
         fails true = refl
         fails false = refl
+
+    -- an address space with page tables is another one, and keeps its areas
+    others_stay : (f : FileNo) (i : ObjId) → has_hwpt left f i ≡ true → areas_of stay f i ≡ areas_of w.areas f i
+    others_stay f i has = areas_elsewhere w.areas file id f i (false_else (is_space file id f i) never_here)
+      where
+        never_here : is_space file id f i ≡ true → ⊥
+        never_here is =
+            let names = and_true (eqb f.0 file.0) (eqb i.0 id.0) is in
+            clash (has_hwpt w.objects file id) unused (hwpt_alike w.objects f file i id names.0 names.1 ∙ (sym (same_tables f i) ∙ has))
 
     no_pins : (n : ℕ) → translated w.objects (areas_of w.areas file id) n ≡ 0
     no_pins n = translated_space w.objects file id (is_of file id) w.areas (λ area is. is) n ∙ ap (λ (b : Bool). if_translated b (areas_of w.areas file id) n) unused
@@ -125,6 +156,21 @@ module _ (w : World) (file : FileNo) (id : ObjId) (ids : have_own_ids w.objects 
                 sym (hwpt_alike left f file i ioas names.0 names.1) ∙ more ∙ sym had ∙ hwpt_alike w.objects f file i ioas names.0 names.1
             by_space false is = other_table f i is
 
+-- an object that is no page table leaves the page tables
+no_table_goes : (objects : List Object) (file : FileNo) (id : ObjId) → have_own_ids objects ≡ true → (k : ObjectKind) → kind_of objects file id ≡ Some k → is_hwpt k ≡ false → page_tables_among (without_object file id objects) ≡ page_tables_among objects
+no_table_goes objects file id ids k is_kind other =
+    among_left (λ (o : Object). not (is_object file id o)) objects
+    ∙ filter_all (λ (o : Object). not (is_object file id o)) (page_tables_among objects)
+    (of_all (λ (o : Object). not (is_object file id o)) (page_tables_among objects) (λ o within. by_name o (in_filter (λ (x : Object). is_hwpt x.kind) objects o within) (is_object file id o) refl))
+  where
+    by_name : (o : Object) → IsIn objects o × (is_hwpt o.kind ≡ true) → (b : Bool) → is_object file id o ≡ b → not b ≡ true
+    by_name o within false is = refl
+    by_name o within true is =
+        let names = and_true (eqb o.file.0 file.0) (eqb o.id.0 id.0) is in
+        let here : kind_of objects file id ≡ Some o.kind = rw (← file_is o.file file names.0, ← id_is o.id id names.1) (kind_only objects o ids within.0) in
+        let same : o.kind ≡ k = (let both : Some o.kind ≡ Some k = sym here ∙ is_kind in cc) in
+        absurd (clash (is_hwpt k) other (ap is_hwpt (sym same) ∙ within.1))
+
 -- ---- what is kept
 
 -- the world after it
@@ -158,15 +204,19 @@ module _ {A : Type 0} where
       shows.objects.spaces file id ∙ areas_at_rows s.objects.rows file id
       ∙ no_areas_in (value_at s.objects.rows file id) ioas width automatic (sym (kind_of_rows s.objects.rows file id) ∙ ap (λ (l : List Object). kind_of l file id) (sym shows.objects.rows) ∙ is_kind)
 
-  pub shows_destroyed : (at : ℕ) (w : World) (s : State A) (file : FileNo) (id : ObjId) (k : ObjectKind) (table : Table (Held A)) (areas pins : ℕ → ℕ) (memory : Memory) (pool : FramePool) (allowed : List AllowedRanges) (tables : Vec Object A) → IsTidy at w → Shows w s → first_true (destroy_checks (view w) file id) ≡ None
+  -- the object is gone, where page tables have these rows in the pool before memory objects are let go of
+  pub shows_destroyed : (at : ℕ) (w : World) (s : State A) (file : FileNo) (id : ObjId) (k : ObjectKind) (table : Table (Held A)) (areas pins : ℕ → ℕ) (memory : Memory) (before pool : FramePool) (allowed : List AllowedRanges) (kept : List TableFrame) (tables : PageTables) → IsTidy at w → Shows w s → first_true (destroy_checks (view w) file id) ≡ None
       → kind_of w.objects file id ≡ Some k → is_bound_device k ≡ false → table.rows ≡ removed file id s.objects.rows → table.files ≡ s.objects.files
+      → FramesShown w.settings.pool w.writes kept s.memory before → AllStand before kept (leads_of w) tables.tables
+      → objects_of tables ≡ page_tables_among (without_object file id w.objects) → list_all has_own_width tables.tables ≡ true
+      → ((f : FileNo) (i : ObjId) → has_hwpt (without_object file id w.objects) f i ≡ true → areas_of (filter (λ (area : Area). not (is_of file id area)) w.areas) f i ≡ areas_of w.areas f i)
       → AreFewer areas pins w (without_object file id w.objects) (filter (λ (area : Area). not (is_of file id area)) w.areas)
-      → IsReleased areas pins s.memory memory s.pool pool → allowed ≡ without_allowed file id s.allowed → tables.items ≡ without_object file id s.page_tables.items
-      → Shows (gone w file id) (record s { objects = table; allowed = allowed; page_tables = tables; memory = memory; pool = pool })
+      → IsReleased areas pins s.memory memory before pool → allowed ≡ without_allowed file id s.allowed
+      → Shows (record (gone w file id) { table_frames = kept }) (record s { objects = table; allowed = allowed; page_tables = tables; memory = memory; pool = pool })
   unfolding settle without_areas changed Answers
-  shows_destroyed at w s file id k table areas pins memory pool allowed tables tidy shows none is_kind no_device rows files fewer released forgets kept =
+  shows_destroyed at w s file id k table areas pins memory before pool allowed kept tables tidy shows none is_kind no_device rows files shown stand are widths stay fewer released forgets =
       let next : ArePinned (at + 1) (gone w file id) = keeps_pins {A = A} at w (event.Destroy file id) reply.Done none tt tidy.pins in
-      let after = shown_after at w s tidy shows areas pins (without_object file id w.objects) (filter (λ (area : Area). not (is_of file id area)) w.areas) fewer (at + 1) (gone w file id) memory pool next refl refl (objects_left (is_of file id) w.areas w.memory) refl refl released in
+      let after = freed at w s tidy shows kept tables.tables before shown stand areas pins (without_object file id w.objects) (filter (λ (area : Area). not (is_of file id area)) w.areas) fewer (at + 1) (gone w file id) memory pool next refl refl (objects_left (is_of file id) w.areas w.memory) refl refl released in
       record {
         settings = shows.settings;
         objects = record {
@@ -178,19 +228,34 @@ module _ {A : Type 0} where
         devices = record {
           bindings = λ device. found_without (λ (o : Object). is_bound_as device o.kind) w.objects file id k tidy.ids is_kind (λ object of_file of_kind. rw of_kind (unbound k device no_device)) ∙ shows.devices.bindings device;
           attached = shows.devices.attached;
-          tables = subst (λ kept. AreTables kept (without_object file id w.objects)) (sym kept) (tables_left s.page_tables.items w.objects shows.devices.tables (λ o. not (is_object file id o)));
         };
         limits = after.limits;
         allowed = λ f i. allowed_without file id w.allowed f i ∙ ap (cond (is_of_space file id f i) []) (shows.allowed f i) ∙ sym (allowed_without file id s.allowed f i) ∙ ap (λ (rows : List AllowedRanges). allowed_of rows f i) (sym forgets);
         users = after.users;
         pins = after.pins;
         frames = after.frames;
+        tables = record {
+          tables = are;
+          widths = widths;
+          stand =
+              tables_lead at w s tidy shows kept tables.tables before shown stand areas pins (without_object file id w.objects) (filter (λ (area : Area). not (is_of file id area)) w.areas) fewer (at + 1) (gone w file id) memory pool next refl refl (objects_left (is_of file id) w.areas w.memory) refl refl released
+              pool kept tables.tables are stay
+              (tables_freed at w s tidy shows kept tables.tables before shown stand areas pins (without_object file id w.objects) (filter (λ (area : Area). not (is_of file id area)) w.areas) fewer (at + 1) (gone w file id) memory pool next refl refl (objects_left (is_of file id) w.areas w.memory) refl refl released);
+        };
       }
     where
       unbound : (k : ObjectKind) (device : DeviceNo) → is_bound_device k ≡ false → is_bound_as device k ≡ false
       unbound kind.Ioas device other = refl
       unbound (kind.Hwpt ioas width automatic) device other = refl
       unbound (kind.Device bound) device other = cc
+
+  -- what the record takes and gives, and what is shown after it
+  abbrev Moves : ℕ → World → FileNo → ObjId → Option FrameNo → List FrameNo → State A → Type 0
+  Moves at w file id via given new =
+      Answers {A = A} w (event.Destroy file id) reply.Done × IsChosen {A = A} w (event.Destroy file id) via reply.Done
+      × MovesTables {A = A} w (changed {A = A} at w (event.Destroy file id) reply.Done) (event.Destroy file id) reply.Done [] given
+      × AreFramesChosen w (changed {A = A} at w (event.Destroy file id) reply.Done) [] given
+      × Shows (with_tables [] given (changed {A = A} at w (event.Destroy file id) reply.Done)) new
 
   -- ---- the three ways
 
@@ -209,18 +274,36 @@ module _ {A : Type 0} where
         (own_at s.objects file id (orderly at w s tidy shows) ∙ sym (shows.objects.spaces file id))
 
     pub space_may : MayRelease (over (own_areas s.objects file id)) never s.memory s.pool.holds
-    space_may = may_release at w s tidy shows (over (own_areas s.objects file id)) never (without_object file id w.objects) (filter (λ (area : Area). not (is_of file id area)) w.areas) goes
+    space_may =
+        may_free at w s tidy shows w.table_frames s.page_tables.tables s.pool shows.frames shows.tables.stand
+        (over (own_areas s.objects file id)) never (without_object file id w.objects) (filter (λ (area : Area). not (is_of file id area)) w.areas) goes
 
-    pub space_destroyed : (table : Table (Held A)) (memory : Memory) (pool : FramePool) (allowed : List AllowedRanges) (tables : Vec Object A) → (destroy_refusal s.objects file tablekind.Ioas id ≡ None → table.rows ≡ removed file id s.objects.rows) → table.files ≡ s.objects.files
-        → IsReleased (over (own_areas s.objects file id)) never s.memory memory s.pool pool → allowed ≡ without_allowed file id s.allowed → tables.items ≡ without_object file id s.page_tables.items
-        → Shows (gone w file id) (record s { objects = table; allowed = allowed; page_tables = tables; memory = memory; pool = pool })
-    space_destroyed table memory pool allowed tables rows files released forgets kept =
-        shows_destroyed at w s file id kind.Ioas table (over (own_areas s.objects file id)) never memory pool allowed tables tidy shows none space_kind refl (rows (may_go s.objects file id kind.Ioas shows.objects.proper is_kind)) files goes released forgets kept
+    -- the page tables are the same
+    same_among : page_tables_among (without_object file id w.objects) ≡ page_tables_among w.objects
+    same_among = no_table_goes w.objects file id tidy.ids kind.Ioas space_kind refl
+
+    pub space_destroyed : (table : Table (Held A)) (memory : Memory) (pool : FramePool) (allowed : List AllowedRanges) → (destroy_refusal s.objects file tablekind.Ioas id ≡ None → table.rows ≡ removed file id s.objects.rows) → table.files ≡ s.objects.files
+        → IsReleased (over (own_areas s.objects file id)) never s.memory memory s.pool pool → allowed ≡ without_allowed file id s.allowed
+        → Shows (gone w file id) (record s { objects = table; allowed = allowed; memory = memory; pool = pool })
+    unfolding settle without_areas
+    space_destroyed table memory pool allowed rows files released forgets =
+        shows_destroyed at w s file id kind.Ioas table (over (own_areas s.objects file id)) never memory s.pool pool allowed w.table_frames s.page_tables tidy shows none space_kind refl (rows (may_go s.objects file id kind.Ioas shows.objects.proper is_kind)) files
+        shows.frames shows.tables.stand (shows.tables.tables ∙ sym same_among) shows.tables.widths
+        (others_stay w file id tidy.ids space_kind (unused w file id kind.Ioas none space_kind) (own_areas s.objects file id) (own_at s.objects file id (orderly at w s tidy shows) ∙ sym (shows.objects.spaces file id)))
+        goes released forgets
+
+    pub space_moves : (via : Option FrameNo) (given : List FrameNo) (new : State A) → given ≡ [] → Shows (gone w file id) new → Moves at w file id via given new
+    unfolding changed Answers
+    space_moves via given new is after =
+        subst (λ (fs : List FrameNo). Moves at w file id via fs new) (sym is)
+        (still {A = A} at (event.Destroy file id) via reply.Done new w tidy tt tt after tt (ap (λ (o : Option ObjectKind). elim o as (λ _. Bool) [ Some k ↦ is_hwpt k | None ↦ false ]) space_kind))
 
   -- a page table
   module _ (at : ℕ) (w : World) (s : State A) (file : FileNo) (id ioas : ObjId) (width : Width) (automatic : Bool) (table : Table (Held A)) (tidy : IsTidy at w) (shows : Shows w s) (none : first_true (destroy_checks (view w) file id) ≡ None)
       (is_kind : kind_of (objects_in s.objects) file id ≡ Some (kind.Hwpt ioas width automatic)) (may : destroy_refusal s.objects file tablekind.Hwpt id ≡ None → table.rows ≡ removed file id s.objects.rows) (files : table.files ≡ s.objects.files)
-      (tables : Vec Object A) (kept : tables.items ≡ without_object file id s.page_tables.items) where
+      (tables : PageTables) (between : FramePool) (kept : tables.tables ≡ without_hwpt file id s.page_tables.tables)
+      (stands : IfAllStand s.pool s.page_tables.tables (λ frames leads. AllStand between (without_tables file id frames) leads tables.tables))
+      (releases : IfAllStand s.pool s.page_tables.tables (λ frames leads. Releases (rows_found frames (hwpt_of s.page_tables.tables file id)) s.pool between)) where
     of_world : kind_of w.objects file id ≡ Some (kind.Hwpt ioas width automatic)
     of_world = kind_shown w s file id (kind.Hwpt ioas width automatic) shows is_kind
 
@@ -244,32 +327,80 @@ module _ {A : Type 0} where
         ∙ sym (areas-removed w.areas s.objects.rows file id shows.objects.spaces file ioas)
         ∙ ap (λ (l : List Area). areas_of l file ioas) (all_stay w file id tidy.ids ioas width automatic of_world empty)
 
-    tables_here : AreTables tables.items (without_object file id w.objects)
-    tables_here = subst (λ kept. AreTables kept (without_object file id w.objects)) (sym kept) (tables_left s.page_tables.items w.objects shows.devices.tables (λ o. not (is_object file id o)))
+    tables_here : objects_of tables ≡ page_tables_among (without_object file id w.objects)
+    tables_here = ap (map (λ (h : Hwpt). h.object)) kept ∙ one_left w.objects s.page_tables.tables shows.tables.tables shows.tables.widths file id shows.tables.stand.own
+
+    widths_here : list_all has_own_width tables.tables ≡ true
+    widths_here = ap (list_all has_own_width) kept ∙ one_widths w.objects s.page_tables.tables shows.tables.tables shows.tables.widths file id shows.tables.stand.own
 
     -- whether others translate the address space is known of those that are kept
-    same_left : has_hwpt (without_object file id w.objects) file ioas ≡ has_hwpt tables.items file ioas
-    same_left = sym (has_hwpt_kept tables.items (without_object file id w.objects) tables_here file ioas)
+    same_left : has_hwpt (without_object file id w.objects) file ioas ≡ has_hwpt (objects_of tables) file ioas
+    same_left = sym (has_hwpt_kept (objects_of tables) (without_object file id w.objects) tables_here file ioas)
 
-    loses : has_hwpt tables.items file ioas ≡ false → AreFewer never (over (own_areas table file ioas)) w (without_object file id w.objects) (filter (λ (area : Area). not (is_of file id area)) w.areas)
+    -- ---- the frames of its tables
+
+    abbrev table_rows : List TableRow
+    table_rows = rows_found w.table_frames (hwpt_of s.page_tables.tables file id)
+
+    counted : (f : ℕ) → rows_in_frame table_rows f ≡ tables_in (filter (is_table_of file id) w.table_frames) f
+    counted f = one_counted w.objects s.page_tables.tables shows.tables.tables file id w.table_frames (kind.Hwpt ioas width automatic) of_world refl f
+
+    frames_between : FramesShown w.settings.pool w.writes (without_tables file id w.table_frames) s.memory between
+    frames_between =
+        given_shown w.settings.pool w.writes w.table_frames (is_table_of file id) table_rows s.memory s.pool between shows.frames
+        (none_reach w.settings.pool w.writes w.objects w.table_frames (leads_of w) s.page_tables.tables s.memory s.pool shows.tables.tables tidy.tabled.owned shows.frames shows.tables.stand)
+        (λ f. rows_named table_rows f ∙ ap (ltb 0) (counted f))
+        (releases w.table_frames (leads_of w) shows.tables.stand)
+
+    stand_between : AllStand between (without_tables file id w.table_frames) (leads_of w) tables.tables
+    stand_between = stands w.table_frames (leads_of w) shows.tables.stand
+
+    areas_kept : (f : FileNo) (i : ObjId) → has_hwpt (without_object file id w.objects) f i ≡ true → areas_of (filter (λ (area : Area). not (is_of file id area)) w.areas) f i ≡ areas_of w.areas f i
+    areas_kept f i has = ap (λ (l : List Area). areas_of l f i) (all_stay w file id tidy.ids ioas width automatic of_world empty)
+
+    -- ---- the pins of its address space
+
+    loses : has_hwpt (objects_of tables) file ioas ≡ false → AreFewer never (over (own_areas table file ioas)) w (without_object file id w.objects) (filter (λ (area : Area). not (is_of file id area)) w.areas)
     loses last = last_fewer w file id tidy.ids ioas width automatic of_world empty (own_areas table file ioas) own_kept (same_left ∙ last)
 
-    pub last_may : has_hwpt tables.items file ioas ≡ false → MayRelease never (over (own_areas table file ioas)) s.memory s.pool.holds
-    last_may last = may_release at w s tidy shows never (over (own_areas table file ioas)) (without_object file id w.objects) (filter (λ (area : Area). not (is_of file id area)) w.areas) (loses last)
+    pub last_may : has_hwpt (objects_of tables) file ioas ≡ false → MayRelease never (over (own_areas table file ioas)) s.memory between.holds
+    last_may last =
+        may_free at w s tidy shows (without_tables file id w.table_frames) tables.tables between frames_between stand_between
+        never (over (own_areas table file ioas)) (without_object file id w.objects) (filter (λ (area : Area). not (is_of file id area)) w.areas) (loses last)
+
+    shown_kept : (areas pins : ℕ → ℕ) (memory : Memory) (pool : FramePool) (allowed : List AllowedRanges)
+        → AreFewer areas pins w (without_object file id w.objects) (filter (λ (area : Area). not (is_of file id area)) w.areas)
+        → IsReleased areas pins s.memory memory between pool → allowed ≡ without_allowed file id s.allowed
+        → Shows (record (gone w file id) { table_frames = without_tables file id w.table_frames }) (record s { objects = table; allowed = allowed; page_tables = tables; memory = memory; pool = pool })
+    shown_kept areas pins memory pool allowed fewer released forgets =
+        shows_destroyed at w s file id (kind.Hwpt ioas width automatic) table areas pins memory between pool allowed (without_tables file id w.table_frames) tables tidy shows none of_world refl rows files
+        frames_between stand_between tables_here widths_here areas_kept fewer released forgets
 
     -- the pins of the space's areas went with its last page table
-    pub last_destroyed : (memory : Memory) (pool : FramePool) (allowed : List AllowedRanges) → has_hwpt tables.items file ioas ≡ false → IsReleased never (over (own_areas table file ioas)) s.memory memory s.pool pool → allowed ≡ without_allowed file id s.allowed
-        → Shows (gone w file id) (record s { objects = table; allowed = allowed; page_tables = tables; memory = memory; pool = pool })
-    last_destroyed memory pool allowed last released forgets =
-        shows_destroyed at w s file id (kind.Hwpt ioas width automatic) table never (over (own_areas table file ioas)) memory pool allowed tables tidy shows none of_world refl rows files (loses last) released forgets kept
+    pub last_destroyed : (memory : Memory) (pool : FramePool) (allowed : List AllowedRanges) → has_hwpt (objects_of tables) file ioas ≡ false → IsReleased never (over (own_areas table file ioas)) s.memory memory between pool → allowed ≡ without_allowed file id s.allowed
+        → Shows (record (gone w file id) { table_frames = without_tables file id w.table_frames }) (record s { objects = table; allowed = allowed; page_tables = tables; memory = memory; pool = pool })
+    last_destroyed memory pool allowed last released forgets = shown_kept never (over (own_areas table file ioas)) memory pool allowed (loses last) released forgets
 
-    pub other_destroyed : (allowed : List AllowedRanges) → has_hwpt tables.items file ioas ≡ true → allowed ≡ without_allowed file id s.allowed
-        → Shows (gone w file id) (record s { objects = table; allowed = allowed; page_tables = tables })
+    pub other_destroyed : (allowed : List AllowedRanges) → has_hwpt (objects_of tables) file ioas ≡ true → allowed ≡ without_allowed file id s.allowed
+        → Shows (record (gone w file id) { table_frames = without_tables file id w.table_frames }) (record s { objects = table; allowed = allowed; page_tables = tables; pool = between })
     other_destroyed allowed more forgets =
         let fewer = other_fewer w file id tidy.ids ioas width automatic of_world empty (same_left ∙ more) in
-        shows_destroyed at w s file id (kind.Hwpt ioas width automatic) table never never s.memory s.pool allowed tables tidy shows none of_world refl rows files fewer
-        (nothing_released at w s tidy shows (without_object file id w.objects) (filter (λ (area : Area). not (is_of file id area)) w.areas) fewer)
-        forgets kept
+        shown_kept never never s.memory between allowed fewer
+        (released_none never never s.memory between
+        (may_free at w s tidy shows (without_tables file id w.table_frames) tables.tables between frames_between stand_between
+        never never (without_object file id w.objects) (filter (λ (area : Area). not (is_of file id area)) w.areas) fewer))
+        forgets
+
+    -- and the record gives the frames back
+    pub table_moves : (via : Option FrameNo) (out given : List FrameNo) (new : State A) → out ≡ []
+        → IfAllStand s.pool s.page_tables.tables (λ frames leads. GivesBack (rows_found frames (hwpt_of s.page_tables.tables file id)) out given)
+        → Shows (record (gone w file id) { table_frames = without_tables file id w.table_frames }) new → Moves at w file id via given new
+    unfolding changed settle without_areas Answers
+    table_moves via out given new none_out gives after =
+        gives_back {A = A} at w s new (event.Destroy file id) via reply.Done (is_table_of file id) table_rows given tidy shows none tt tt
+        (orphans_are (λ (o : Object). not (is_object file id o)) (is_table_of file id) w.objects w.table_frames (of_one file id) tidy.tabled.owned)
+        (subst (λ (l : List FrameNo). GivesBack table_rows l given) none_out (gives w.table_frames (leads_of w) shows.tables.stand)) counted
+        tt after
 
   -- ---- what was refused
 

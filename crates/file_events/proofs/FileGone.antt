@@ -1,15 +1,32 @@
 -- A file that was closed: all its objects, areas and attachments are gone.
-use Rattle.std.proofs.Common.{◌≡◌, ◌≢◌, ℕ, zero, suc, ◌-◌, ◌<◌, Vec, Bool, true, false, cond, ◌&&◌, ◌||◌, not, eqb, ltb, is_some, None, List, [], ◌∷◌, ◌++◌, map, get_or, set, refl, sym, ◌∙◌, ap, subst, arith, get_or-set_other, ◌+◌}
+use Rattle.std.proofs.Common.{◌≡◌, ◌≢◌, ℕ, zero, suc, ◌-◌, ◌<◌, Vec, Bool, true, false, cond, ◌&&◌, ◌||◌, not, eqb, ltb, is_some, None, List, [], ◌∷◌, ◌++◌, map, Option, get_or, set, refl, sym, ◌∙◌, ap, subst, arith, get_or-set_other, ◌+◌, ◌≤◌, length}
 use Rattle.iofd_runs.proofs.KeepsPins.{keeps_pins}
 use Rattle.iofd_runs.proofs.NotRefused.{close_passed}
 use Rattle.frame_memory.specs.Pool.{FramePool}
 use Rattle.memory_rows.proofs.Counts.{count_alike, count_within}
 use Rattle.memory_rows.proofs.Gone.{objects_left, over_parts, translated_parts}
 use Rattle.memory_rows.specs.Moves.{IsReleased, MayRelease}
-use Rattle.memory_rows.specs.Shown.{over, translated}
+use Rattle.memory_rows.specs.Shown.{over, tables_in, translated}
 use Rattle.user_memory.specs.Memory.{Memory}
 use Rattle.server_state.proofs.Orderly.{orderly}
-use Rattle.server_state.proofs.MemoryReleased.{AreFewer, may_release, shown_after}
+use Rattle.server_state.proofs.MemoryReleased.{AreFewer}
+use Rattle.file_events.proofs.FreedOver.{freed, may_free, tables_freed, tables_lead}
+use Rattle.file_events.proofs.GivesBackMoves.{gives_back}
+use Rattle.file_events.proofs.TablesGone.{file_counted, none_reach, of_file, orphans_are, rows_named}
+use Rattle.file_events.proofs.TablesLeft.{file_left, file_widths}
+use Rattle.hwpt_device.proofs.Counted.{rows_in_frame}
+use Rattle.hwpt_device.specs.PageTables.{AllStand, Hwpt, IfAllStand, PageTables, objects_of as objects_kept}
+use Rattle.hwpt_device.specs.Removed.{CanRemoveFile, rows_of_file, without_file, without_tables_of}
+use Rattle.iofd_rows.specs.Pinned.{ArePinned}
+use Rattle.iofd_words.specs.Tables.{MovesTables, with_tables}
+use Rattle.iofd_words.specs.World.{World}
+use Rattle.iofd_words.specs.declared.numbers.FrameNo.{FrameNo}
+use Rattle.iofd_words.specs.declared.rows.TableFrame.{TableFrame}
+use Rattle.server_state.proofs.GivenShown.{given_shown}
+use Rattle.server_state.specs.Choice.{AreFramesChosen, IsChosen}
+use Rattle.server_state.specs.Leads.{leads_of}
+use Rattle.table_words.specs.Released.{GivesBack, Releases}
+use Rattle.table_words.specs.Rows.{TableRow}
 use Rattle.file_events.proofs.RowsCounted.{file_over, file_translated}
 use Rattle.file_events.specs.FileAreas.{areas_of_rows, translated_of}
 use Rattle.iofd_words.specs.Allowed.{AllowedRanges, allowed_of}
@@ -25,7 +42,6 @@ use Rattle.iofd_words.specs.Files as files
 use Rattle.iofd_words.specs.FirstTrue.{first_true}
 use Rattle.iofd_words.specs.Objects.{has_hwpt, is_bound_as, is_bound_device, objects_of}
 use Rattle.iofd_words.specs.View.{view}
-use Rattle.iofd_words.specs.World.{World}
 use Rattle.iofd_words.specs.declared.event.Event.TheVariants as event
 use Rattle.iofd_words.specs.declared.reply.Reply.TheVariants as reply
 use Rattle.iofd_words.specs.declared.numbers.DeviceNo.{DeviceNo}
@@ -37,15 +53,14 @@ use Rattle.iofd_words.specs.declared.rows.Object.{Object}
 use Rattle.iofd_words.specs.declared.rows.ObjectKind.{ObjectKind}
 use Rattle.iofd_words.specs.declared.rows.ObjectKind.TheVariants as kind
 use Rattle.iofd_rows.proofs.Allowed.{allowed_closed}
-use Rattle.iofd_rows.proofs.Bools.{and_true, both_true}
+use Rattle.iofd_rows.proofs.Bools.{and_true, both_true, clash}
 use Rattle.iofd_rows.proofs.Found.{all_filter, find-filter}
 use Rattle.iofd_rows.proofs.ListTests.{any-filter, none_stronger}
 use Rattle.file_events.proofs.SpacesGone.{device_rows}
 use Rattle.server_state.specs.Held.{is_proper, areas_at, kind_in, object_of, objects_in, table_kind}
 use Rattle.server_state.specs.Shows.{Shows}
 use Rattle.server_state.specs.Step.{IsTidy}
-use Rattle.server_state.specs.Tables.{AreTables}
-use Rattle.server_state.proofs.PageTables.{tables_left}
+use Rattle.server_state.specs.Tables.{has_own_width, page_tables_among}
 use Rattle.server_state.specs.declared.held.Held.{Held}
 use Rattle.server_state.specs.declared.state.State.{State}
 use Rattle.object_table.specs.Table.{Row, Table, close_refusal, closed, is_of_file, is_open, is_same_kind, keeps_file_open, rows_of}
@@ -197,8 +212,8 @@ module _ {A : Type 0} where
 
     -- ---- what goes of the counts
 
-    abbrev of_file : Area → Bool
-    of_file area = eqb area.file.0 file.0
+    abbrev is_in : Area → Bool
+    is_in area = eqb area.file.0 file.0
 
     abbrev left : List Object
     left = filter (λ (o : Object). not (eqb o.file.0 file.0)) w.objects
@@ -220,43 +235,114 @@ module _ {A : Type 0} where
 
     fewer : AreFewer (over (areas_of_rows (rows_of s.objects file))) (over (translated_of (objects_in s.objects) (rows_of s.objects file))) w left stay
     fewer = record {
-      over_left = λ n. ap (λ k. over stay n + k) (sym (file_over w.areas s.objects.rows file (orderly at w s tidy shows).ids shows.objects.spaces n)) ∙ over_parts of_file w.areas n;
+      over_left = λ n. ap (λ k. over stay n + k) (sym (file_over w.areas s.objects.rows file (orderly at w s tidy shows).ids shows.objects.spaces n)) ∙ over_parts is_in w.areas n;
       translated_left =
           λ n. ap (λ k. k + over (translated_of (objects_in s.objects) (rows_of s.objects file)) n) (tables_stay n)
           ∙ ap (λ k. translated w.objects stay n + k) (sym (file_translated w.areas s.objects.rows file (orderly at w s tidy shows).ids shows.objects.spaces (objects_in s.objects) n))
-          ∙ ap (λ (l : List Object). translated w.objects stay n + translated l (filter of_file w.areas) n) (sym shows.objects.rows)
-          ∙ translated_parts w.objects of_file w.areas n;
+          ∙ ap (λ (l : List Object). translated w.objects stay n + translated l (filter is_in w.areas) n) (sym shows.objects.rows)
+          ∙ translated_parts w.objects is_in w.areas n;
     }
 
     pub areas_may : MayRelease (over (areas_of_rows (rows_of s.objects file))) (over (translated_of (objects_in s.objects) (rows_of s.objects file))) s.memory s.pool.holds
-    areas_may = may_release at w s tidy shows (over (areas_of_rows (rows_of s.objects file))) (over (translated_of (objects_in s.objects) (rows_of s.objects file))) left stay fewer
+    areas_may =
+        may_free at w s tidy shows w.table_frames s.page_tables.tables s.pool shows.frames shows.tables.stand
+        (over (areas_of_rows (rows_of s.objects file))) (over (translated_of (objects_in s.objects) (rows_of s.objects file))) left stay fewer
 
-    pub shows_closed : (table : Table (Held A)) (attachments : Vec Attachment A) (memory : Memory) (pool : FramePool) (allowed : List AllowedRanges) (tables : Vec Object A) → (close_refusal s.objects file ≡ None → table ≡ closed s.objects file)
-        → attachments.items ≡ filter (λ (a : Attachment). not (eqb a.file.0 file.0)) s.attachments.items
-        → IsReleased (over (areas_of_rows (rows_of s.objects file))) (over (translated_of (objects_in s.objects) (rows_of s.objects file))) s.memory memory s.pool pool → allowed ≡ filter (λ (row : AllowedRanges). not (eqb row.file.0 file.0)) s.allowed
-        → tables.items ≡ filter (λ (o : Object). not (eqb o.file.0 file.0)) s.page_tables.items
-        → Shows (changed {A = A} at w (event.Close file) reply.Done) (record s { objects = table; allowed = allowed; page_tables = tables; attachments = attachments; memory = memory; pool = pool })
-    unfolding changed settle without_areas Answers
-    shows_closed table attachments memory pool allowed tables closes detached released forgets kept =
-        let is = closes may_close in
-        let next = keeps_pins {A = A} at w (event.Close file) reply.Done none tt tidy.pins in
-        let after = shown_after at w s tidy shows (over (areas_of_rows (rows_of s.objects file))) (over (translated_of (objects_in s.objects) (rows_of s.objects file))) left stay fewer (at + 1) (changed {A = A} at w (event.Close file) reply.Done) memory pool next refl refl (objects_left of_file w.areas w.memory) refl refl released in
-        record {
-          settings = shows.settings;
-          objects = record {
-            rows = ap (filter (λ (o : Object). not (eqb o.file.0 file.0))) shows.objects.rows ∙ sym (objects-closed s.objects.rows file) ∙ ap objects_in (sym is);
-            proper = rw is (all_filter is_proper (λ row. not (is_of_file file row)) s.objects.rows shows.objects.proper);
-            spaces = λ f i. areas-closed w.areas s.objects.rows file shows.objects.spaces f i ∙ ap (λ (t : Table (Held A)). areas_at t.rows f i) (sym is);
-            files = λ number. ap (λ (t : Table (Held A)). is_open t number) is ∙ files_left number;
-          };
-          devices = record {
-            bindings = λ device. bound_left device ∙ shows.devices.bindings device;
-            attached = ap (filter (λ (a : Attachment). not (eqb a.file.0 file.0))) shows.devices.attached ∙ sym detached;
-            tables = subst (λ kept. AreTables kept left) (sym kept) (tables_left s.page_tables.items w.objects shows.devices.tables (λ o. not (eqb o.file.0 file.0)));
-          };
-          limits = after.limits;
-          allowed = λ f i. allowed_closed file w.allowed f i ∙ ap (cond (eqb f.0 file.0) []) (shows.allowed f i) ∙ sym (allowed_closed file s.allowed f i) ∙ ap (λ (rows : List AllowedRanges). allowed_of rows f i) (sym forgets);
-          users = after.users;
-          pins = after.pins;
-          frames = after.frames;
-        }
+    -- a file with a page table is another one
+    areas_kept : (f : FileNo) (i : ObjId) → has_hwpt left f i ≡ true → areas_of stay f i ≡ areas_of w.areas f i
+    areas_kept f i has = by_file (eqb f.0 file.0) refl
+      where
+        none_here : (objects : List Object) → eqb f.0 file.0 ≡ true → has_hwpt (filter (λ (o : Object). not (eqb o.file.0 file.0)) objects) f i ≡ false
+        none_here [] is = refl
+        none_here (o ∷ objects) is = let rest = none_here objects is in grind (arith, nat_tests)
+
+        by_file : (b : Bool) → eqb f.0 file.0 ≡ b → areas_of stay f i ≡ areas_of w.areas f i
+        by_file true is = absurd (clash (has_hwpt left f i) (none_here w.objects is) has)
+        by_file false is = areas_other w.areas file f i is
+
+    -- ---- the memory is let go of
+
+    module _ (memory : Memory) (between : FramePool) (released : IsReleased (over (areas_of_rows (rows_of s.objects file))) (over (translated_of (objects_in s.objects) (rows_of s.objects file))) s.memory memory s.pool between) where
+      next : ArePinned (at + 1) (changed {A = A} at w (event.Close file) reply.Done)
+      unfolding Answers
+      next = keeps_pins {A = A} at w (event.Close file) reply.Done none tt tidy.pins
+
+      stand_between : AllStand between w.table_frames (leads_of w) s.page_tables.tables
+      unfolding changed settle without_areas
+      stand_between =
+          tables_freed at w s tidy shows w.table_frames s.page_tables.tables s.pool shows.frames shows.tables.stand
+          (over (areas_of_rows (rows_of s.objects file))) (over (translated_of (objects_in s.objects) (rows_of s.objects file))) left stay fewer
+          (at + 1) (changed {A = A} at w (event.Close file) reply.Done) memory between next refl refl (objects_left is_in w.areas w.memory) refl refl released
+
+      -- and there is room for the frames of the file's page tables still
+      pub can_remove : (room : ℕ) → IfAllStand s.pool s.page_tables.tables (λ frames leads. length (rows_of_file frames file s.page_tables.tables) ≤ room) → CanRemoveFile between s.page_tables.tables file room
+      can_remove room enough = record { frames = w.table_frames; leads = leads_of w; stand = stand_between; enough = enough w.table_frames (leads_of w) shows.tables.stand }
+
+      -- ---- the page tables go
+
+      module _ (tables : PageTables) (pool : FramePool) (kept : tables.tables ≡ without_file file s.page_tables.tables)
+          (stands : IfAllStand between s.page_tables.tables (λ frames leads. AllStand pool (without_tables_of file frames) leads tables.tables))
+          (releases : IfAllStand between s.page_tables.tables (λ frames leads. Releases (rows_of_file frames file s.page_tables.tables) between pool)) where
+        abbrev table_rows : List TableRow
+        table_rows = rows_of_file w.table_frames file s.page_tables.tables
+
+        counted : (f : ℕ) → rows_in_frame table_rows f ≡ tables_in (filter (λ (t : TableFrame). eqb t.file.0 file.0) w.table_frames) f
+        counted f = file_counted w.objects s.page_tables.tables shows.tables.tables shows.tables.stand.own file w.table_frames tidy.tabled.owned f
+
+        pub shows_closed : (table : Table (Held A)) (attachments : Vec Attachment A) (allowed : List AllowedRanges) → (close_refusal s.objects file ≡ None → table ≡ closed s.objects file)
+            → attachments.items ≡ filter (λ (a : Attachment). not (eqb a.file.0 file.0)) s.attachments.items
+            → allowed ≡ filter (λ (row : AllowedRanges). not (eqb row.file.0 file.0)) s.allowed
+            → Shows (record (changed {A = A} at w (event.Close file) reply.Done) { table_frames = without_tables_of file w.table_frames }) (record s { objects = table; allowed = allowed; page_tables = tables; attachments = attachments; memory = memory; pool = pool })
+        unfolding changed settle without_areas
+        shows_closed table attachments allowed closes detached forgets =
+            let is = closes may_close in
+            let after = freed at w s tidy shows w.table_frames s.page_tables.tables s.pool shows.frames shows.tables.stand
+            (over (areas_of_rows (rows_of s.objects file))) (over (translated_of (objects_in s.objects) (rows_of s.objects file))) left stay fewer
+            (at + 1) (changed {A = A} at w (event.Close file) reply.Done) memory between next refl refl (objects_left is_in w.areas w.memory) refl refl released in
+            let are : objects_kept tables ≡ page_tables_among left = ap (map (λ (h : Hwpt). h.object)) kept ∙ file_left w.objects s.page_tables.tables shows.tables.tables shows.tables.widths file in
+            record {
+              settings = shows.settings;
+              objects = record {
+                rows = ap (filter (λ (o : Object). not (eqb o.file.0 file.0))) shows.objects.rows ∙ sym (objects-closed s.objects.rows file) ∙ ap objects_in (sym is);
+                proper = rw is (all_filter is_proper (λ row. not (is_of_file file row)) s.objects.rows shows.objects.proper);
+                spaces = λ f i. areas-closed w.areas s.objects.rows file shows.objects.spaces f i ∙ ap (λ (t : Table (Held A)). areas_at t.rows f i) (sym is);
+                files = λ number. ap (λ (t : Table (Held A)). is_open t number) is ∙ files_left number;
+              };
+              devices = record {
+                bindings = λ device. bound_left device ∙ shows.devices.bindings device;
+                attached = ap (filter (λ (a : Attachment). not (eqb a.file.0 file.0))) shows.devices.attached ∙ sym detached;
+              };
+              limits = after.limits;
+              allowed = λ f i. allowed_closed file w.allowed f i ∙ ap (cond (eqb f.0 file.0) []) (shows.allowed f i) ∙ sym (allowed_closed file s.allowed f i) ∙ ap (λ (rows : List AllowedRanges). allowed_of rows f i) (sym forgets);
+              users = after.users;
+              pins = after.pins;
+              frames =
+                  given_shown w.settings.pool w.writes w.table_frames (λ (t : TableFrame). eqb t.file.0 file.0) table_rows memory between pool after.frames
+                  (none_reach w.settings.pool w.writes w.objects w.table_frames (leads_of w) s.page_tables.tables memory between shows.tables.tables tidy.tabled.owned after.frames stand_between)
+                  (λ f. rows_named table_rows f ∙ ap (ltb 0) (counted f))
+                  (releases w.table_frames (leads_of w) stand_between);
+              tables = record {
+                tables = are;
+                widths = ap (list_all has_own_width) kept ∙ file_widths w.objects s.page_tables.tables shows.tables.tables shows.tables.widths file;
+                stand =
+                    tables_lead at w s tidy shows w.table_frames s.page_tables.tables s.pool shows.frames shows.tables.stand
+                    (over (areas_of_rows (rows_of s.objects file))) (over (translated_of (objects_in s.objects) (rows_of s.objects file))) left stay fewer
+                    (at + 1) (changed {A = A} at w (event.Close file) reply.Done) memory between next refl refl (objects_left is_in w.areas w.memory) refl refl released
+                    pool (without_tables_of file w.table_frames) tables.tables are areas_kept (stands w.table_frames (leads_of w) stand_between);
+              };
+            }
+
+        -- and the record gives the frames back
+        pub close_moves : (via : Option FrameNo) (out given : List FrameNo) (new : State A) → out ≡ []
+            → IfAllStand between s.page_tables.tables (λ frames leads. GivesBack (rows_of_file frames file s.page_tables.tables) out given)
+            → Shows (record (changed {A = A} at w (event.Close file) reply.Done) { table_frames = without_tables_of file w.table_frames }) new
+            → Answers {A = A} w (event.Close file) reply.Done × IsChosen {A = A} w (event.Close file) via reply.Done
+            × MovesTables {A = A} w (changed {A = A} at w (event.Close file) reply.Done) (event.Close file) reply.Done [] given
+            × AreFramesChosen w (changed {A = A} at w (event.Close file) reply.Done) [] given
+            × Shows (with_tables [] given (changed {A = A} at w (event.Close file) reply.Done)) new
+        unfolding changed settle without_areas Answers
+        close_moves via out given new none_out gives after =
+            gives_back {A = A} at w s new (event.Close file) via reply.Done (λ (t : TableFrame). eqb t.file.0 file.0) table_rows given tidy shows none tt tt
+            (orphans_are (λ (o : Object). not (eqb o.file.0 file.0)) (λ (t : TableFrame). eqb t.file.0 file.0) w.objects w.table_frames (of_file file) tidy.tabled.owned)
+            (subst (λ (l : List FrameNo). GivesBack table_rows l given) none_out (gives w.table_frames (leads_of w) stand_between)) counted
+            tt after

@@ -1,6 +1,12 @@
 pub mod Allocated
 pub mod Destroyed
 pub mod FileGone
+pub mod FramesCounted
+pub mod FreedOver
+pub mod GivesBackMoves
+pub mod PinsLeft
 pub mod RowsCounted
 pub mod SpacesGone
+pub mod TablesGone
+pub mod TablesLeft
 pub mod Unbound

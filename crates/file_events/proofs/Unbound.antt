@@ -5,7 +5,7 @@ use Rattle.std.proofs.lemmas.Bool.Decides.{nat_tests}
 use Rattle.iofd_words.specs.Areas.{areas_of}
 use Rattle.iofd_words.specs.Checks.{is_device_object, unbind_checks}
 use Rattle.iofd_words.specs.FirstTrue.{first_true}
-use Rattle.iofd_words.specs.Objects.{binding_of, is_bound_as, is_bound_device, is_ioas, is_object, kind_of, without_device_object, without_object}
+use Rattle.iofd_words.specs.Objects.{binding_of, is_bound_as, is_bound_device, is_hwpt, is_ioas, is_object, kind_of, without_device_object, without_object}
 use Rattle.iofd_words.specs.View.{view}
 use Rattle.iofd_words.specs.World.{World}
 use Rattle.iofd_words.specs.declared.numbers.DeviceNo.{DeviceNo}
@@ -29,12 +29,11 @@ use Rattle.file_events.proofs.SpacesGone.{areas-removed, areas_stay, found_witho
 use Rattle.object_table.specs.Table.{Table, destroy_refusal, is_at, removed}
 use Rattle.object_table.specs.declared.kind.Kind.TheVariants as of_kind
 use Rattle.server_state.proofs.ObjectsGone.{may_go, objects-removed}
-use Rattle.server_state.proofs.PageTables.{tables_stay}
+use Rattle.file_events.proofs.TablesLeft.{among_stay}
 use Rattle.server_state.proofs.TableRows.{areas_of_other}
 use Rattle.server_state.specs.Held.{areas_at, is_proper, object_of, objects_in}
 use Rattle.server_state.specs.Shows.{Shows}
 use Rattle.server_state.specs.Step.{IsTidy}
-use Rattle.server_state.specs.Tables.{is_page_table}
 use Rattle.server_state.specs.declared.held.Held.{Held}
 use Rattle.server_state.specs.declared.state.State.{State}
 
@@ -69,11 +68,11 @@ only_device objects file id device own is_kind =
     by_name o within false is = refl
 
 -- no page table goes
-stay_tables : (file : FileNo) (id : ObjId) (object : Object) → is_page_table object.kind ≡ true
+stay_tables : (file : FileNo) (id : ObjId) (object : Object) → is_hwpt object.kind ≡ true
     → not (is_object file id object && is_bound_device object.kind) ≡ true
 stay_tables file id object table = by_kind object.kind (is_object file id object) table
   where
-    by_kind : (k : ObjectKind) (named : Bool) → is_page_table k ≡ true → not (named && is_bound_device k) ≡ true
+    by_kind : (k : ObjectKind) (named : Bool) → is_hwpt k ≡ true → not (named && is_bound_device k) ≡ true
     by_kind k false table = refl
     by_kind kind.Ioas true table = refl
     by_kind (kind.Hwpt ioas width automatic) true table = refl
@@ -168,9 +167,6 @@ module _ {A : Type 0} where
               tidy.ids tidy.once of_world shows.devices.bindings d
               ∙ ap (λ (l : List Object). binding_of l d) (sym left);
           attached = shows.devices.attached;
-          tables =
-              tables_stay s.page_tables.items w.objects shows.devices.tables
-              (λ o. not (is_object file id o && is_bound_device o.kind)) (stay_tables file id);
         };
         limits = shows.limits;
         allowed = shows.allowed;
@@ -179,6 +175,13 @@ module _ {A : Type 0} where
             pins_moved w.objects left_objects w.areas w.areas w.memory w.pins s.memory shows.pins (λ number. refl)
             (translated_same w.objects left_objects w.areas (hwpt-unbound w.objects file id));
         frames = shows.frames;
+        tables = record {
+          tables =
+              shows.tables.tables
+              ∙ sym (among_stay (λ o. not (is_object file id o && is_bound_device o.kind)) w.objects (stay_tables file id));
+          widths = shows.tables.widths;
+          stand = shows.tables.stand;
+        };
       }
 
   -- what is no device was refused

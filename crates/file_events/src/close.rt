@@ -1,24 +1,29 @@
 //! Close: a file goes, with all that it has.
 
-ghost use Rattle.std.specs.Prelude.{◌≡◌, ℕ, not, ◌==◌, filter, None};
+ghost use Rattle.std.specs.Prelude.{◌≡◌, ◌≤◌, ◌-◌, ℕ, not, ◌==◌, filter, length, Option, None, [], IfOk, OnErr, OnOk};
+ghost use Rattle.std.specs.Prelude.{vec_capacity, vec_len};
 ghost use Rattle.std.specs.List.{list_any};
 ghost use Rattle.iofd_words.specs.Checks.{close_checks};
 ghost use Rattle.iofd_words.specs.FirstTrue.{first_true};
 ghost use Rattle.iofd_words.specs.Objects.{objects_of, is_bound_device};
 ghost use Rattle.iofd_words.specs.declared.event.Event.TheVariants as event;
+ghost use Rattle.iofd_words.specs.declared.numbers.FrameNo.{FrameNo};
+ghost use Rattle.hwpt_device.specs.PageTables.{IfAllStand, objects_of as objects_kept};
+ghost use Rattle.hwpt_device.specs.Removed.{rows_of_file};
 ghost use Rattle.object_table.specs.Table.{close_refusal, closed, rows_of};
 ghost use Rattle.server_state.specs.Held.{kind_in, objects_in};
 ghost use Rattle.file_events.specs.FileAreas.{areas_of_rows, translated_of};
 ghost use Rattle.memory_rows.specs.Moves.{IsReleased, MayRelease};
 ghost use Rattle.memory_rows.specs.Shown.{over};
 ghost use Rattle.server_state.specs.Seen.{seen};
-ghost use Rattle.server_state.specs.Step.{IsGranted, Steps};
-ghost use Rattle.server_state.specs.Tables.{AreTables};
+ghost use Rattle.server_state.specs.Step.{IsGranted, IsKnown, MovingSteps, ShowsSame};
+ghost use Rattle.server_state.specs.Tables.{page_tables_among};
 
 use frame_memory::Pool;
-use iofd_words::{Attachment, Cause, FileNo, Object, Reply};
+use hwpt_device::PageTables;
+use iofd_words::{Attachment, Cause, FileNo, FrameNo, NoMemory, Reply};
 use object_table::ObjectTable;
-use server_state::{Held, State, page_tables, release};
+use server_state::{Held, State, release};
 use std::alloc::Allocator;
 use user_memory::UserMemory;
 
@@ -50,11 +55,22 @@ fn is_device<A: Allocator>(held: &Held<A>) -> bool
 }
 
 /// What it does where nothing refuses it: the file's objects, allowed ranges and attachments go, and its areas with their memory
-/// objects and the pins of their pages.
-pub fn commit<A: Allocator>(state: &mut State<A>, file: FileNo) -> Reply
-    requires { IsGranted (event.Close file) state.old }
-    ensures { (at : ℕ) → Steps at (event.Close file) state.old result state.new }
+/// objects and the pins of their pages. Its page tables give the frames of their tables back, which are listed by rising number.
+///
+/// The only error is want of memory for that list. It leaves the world as it was.
+pub fn commit<A: Allocator>(
+    state: &mut State<A>,
+    file: FileNo,
+    given: &mut Vec<FrameNo, A>,
+) -> Result<Reply, NoMemory>
+    requires granted { IsGranted (event.Close file) state.old }
+    requires none { given.old.items ≡ [] }
+    ensures ok { IfOk result (λ reply. (at : ℕ) (via : Option FrameNo) →
+        MovingSteps at (event.Close file) via state.old reply [] given.new.items state.new) }
+    ensures err { OnErr result (ShowsSame state.old state.new) }
+    ensures none_err { OnErr result (given.new.items ≡ []) }
 {
+    reserve_given(state, file, given)?;
     state.allowed.remove_file(file);
     remove_areas(
         &state.objects,
@@ -64,20 +80,54 @@ pub fn commit<A: Allocator>(state: &mut State<A>, file: FileNo) -> Reply
         &mut state.pool,
     );
     detach_all(&mut state.attachments, file);
-    page_tables::remove_file(&mut state.page_tables, file);
+    state.page_tables.remove_file(&mut state.pool, file, given);
     close_table(&mut state.objects, file);
-    Reply::Done
+    Ok(Reply::Done)
+}
+
+/// Takes memory for the numbers of the frames that the file's page tables give back where they go. None are listed yet.
+fn reserve_given<A: Allocator>(
+    state: &State<A>,
+    file: FileNo,
+    given: &mut Vec<FrameNo, A>,
+) -> Result<(), NoMemory>
+    requires { IsKnown state.now }
+    ensures same { given.new.items ≡ given.old.items }
+    ensures room { OnOk result (IfAllStand state.now.pool state.now.page_tables.tables (λ frames leads.
+        length (rows_of_file frames file state.now.page_tables.tables) ≤ vec_capacity given.new - vec_len given.new)) }
+{
+    let count = frames_of(state, file);
+    given.reserve(count as usize)?;
+    Ok(())
+}
+
+/// How many frames the tables of the file's page tables are in. It visits each entry of each table above the last level.
+fn frames_of<A: Allocator>(state: &State<A>, file: FileNo) -> u64
+    requires { IsKnown state.now }
+    ensures { IfAllStand state.now.pool state.now.page_tables.tables (λ frames leads.
+        result ≡ length (rows_of_file frames file state.now.page_tables.tables)) }
+{
+    // Its clause says that the pool has few frames, so that the sum fits.
+    let _ = state.pool.len();
+    let mut count = 0;
+    for hwpt in state.page_tables.as_slice() {
+        let object = hwpt.object();
+        if object.file == file {
+            count += state.page_tables.frames(&state.pool, file, object.id);
+        }
+    }
+    count
 }
 
 /// The areas of all address spaces of the file go.
 fn remove_areas<A: Allocator>(
     table: &ObjectTable<Held<A>, A>,
-    tables: &[Object],
+    tables: &PageTables<A>,
     file: FileNo,
     memory: &mut UserMemory<A>,
     pool: &mut Pool<A>,
 )
-    requires tables { AreTables tables.now (objects_in table.now) }
+    requires tables { objects_kept tables.now ≡ page_tables_among (objects_in table.now) }
     requires may { MayRelease (over (areas_of_rows (rows_of table.now file))) (over (translated_of (objects_in table.now) (rows_of table.now file)))
         memory.old pool.old.holds }
     ensures { IsReleased (over (areas_of_rows (rows_of table.now file))) (over (translated_of (objects_in table.now) (rows_of table.now file)))
@@ -85,7 +135,7 @@ fn remove_areas<A: Allocator>(
 {
     for object in table.iter(file) {
         if let Held::Ioas(areas) = object.value {
-            let translated = page_tables::has_over(tables, file, object.id);
+            let translated = tables.has_over(file, object.id);
             release::remove(areas.iter(), translated, memory, pool);
         }
     }

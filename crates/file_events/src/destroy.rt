@@ -1,17 +1,18 @@
 //! Destroy: an object of a file goes.
 
-ghost use Rattle.std.specs.Prelude.{◌≡◌, ℕ, Some, None};
+ghost use Rattle.std.specs.Prelude.{◌≡◌, ℕ, Option, Some, None, [], IfOk, OnErr};
 ghost use Rattle.iofd_words.specs.Attachments.{has_device_on};
 ghost use Rattle.iofd_words.specs.Checks.{destroy_checks, is_device_object, is_used};
 ghost use Rattle.iofd_words.specs.FirstTrue.{first_true};
 ghost use Rattle.iofd_words.specs.declared.event.Event.TheVariants as event;
+ghost use Rattle.iofd_words.specs.declared.numbers.FrameNo.{FrameNo};
 ghost use Rattle.object_table.specs.Table.{destroy_refusal, removed};
 ghost use Rattle.server_state.specs.Seen.{seen};
-ghost use Rattle.server_state.specs.Step.{IsGranted, IsKnown, Steps};
+ghost use Rattle.server_state.specs.Step.{IsGranted, IsKnown, MovingSteps, ShowsSame};
 
-use iofd_words::{Attachment, Cause, FileNo, ObjId, ObjectKind, Reply};
+use iofd_words::{Attachment, Cause, FileNo, FrameNo, NoMemory, ObjId, ObjectKind, Reply};
 use object_table::{Kind, ObjectTable};
-use server_state::{Held, State, lookups, page_tables, release};
+use server_state::{Held, State, lookups, release};
 use std::alloc::Allocator;
 
 /// Why it is refused, by the first row of the definitions that holds. None where nothing refuses it.
@@ -61,13 +62,25 @@ fn is_device(kind: ObjectKind) -> bool
 }
 
 /// What it does where nothing refuses it. An address space goes with its allowed ranges, and with its areas and their
-/// memory objects, of which no page is pinned; a page table goes, and with the last one over an address space the pins of its areas' pages.
-pub fn commit<A: Allocator>(state: &mut State<A>, file: FileNo, id: ObjId) -> Reply
-    requires { IsGranted (event.Destroy file id) state.old }
-    ensures { (at : ℕ) → Steps at (event.Destroy file id) state.old result state.new }
+/// memory objects, of which no page is pinned. A page table gives the frames of its tables back, which are listed by
+/// rising number, and with the last one over an address space the pins of its areas' pages go.
+///
+/// The only error is want of memory for that list. It leaves the world as it was.
+pub fn commit<A: Allocator>(
+    state: &mut State<A>,
+    file: FileNo,
+    id: ObjId,
+    given: &mut Vec<FrameNo, A>,
+) -> Result<Reply, NoMemory>
+    requires granted { IsGranted (event.Destroy file id) state.old }
+    requires none { given.old.items ≡ [] }
+    ensures ok { IfOk result (λ reply. (at : ℕ) (via : Option FrameNo) →
+        MovingSteps at (event.Destroy file id) via state.old reply [] given.new.items state.new) }
+    ensures err { OnErr result (ShowsSame state.old state.new) }
+    ensures none_err { OnErr result (given.new.items ≡ []) }
 {
+    state.reserve_given(file, id, given)?;
     state.allowed.remove(file, id);
-    page_tables::remove(&mut state.page_tables, file, id);
     match lookups::kind_of(&state.objects, file, id) {
         Some(ObjectKind::Ioas) => {
             // It was refused while it had a page table: so no page of its areas is pinned for it.
@@ -83,7 +96,8 @@ pub fn commit<A: Allocator>(state: &mut State<A>, file: FileNo, id: ObjId) -> Re
         }
         Some(ObjectKind::Hwpt { ioas, .. }) => {
             remove(&mut state.objects, file, Kind::Hwpt, id);
-            if !page_tables::has_over(&state.page_tables, file, ioas) {
+            state.page_tables.remove(&mut state.pool, file, id, given);
+            if !state.page_tables.has_over(file, ioas) {
                 release::unpin_space(
                     &state.objects,
                     file,
@@ -97,7 +111,7 @@ pub fn commit<A: Allocator>(state: &mut State<A>, file: FileNo, id: ObjId) -> Re
         Some(ObjectKind::Device(_)) => (),
         None => (),
     }
-    Reply::Done
+    Ok(Reply::Done)
 }
 
 /// Takes the object out of the table, if nothing there refuses it.

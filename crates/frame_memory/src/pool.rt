@@ -55,6 +55,7 @@ impl<A: Allocator> Pool<A> {
     pub fn len(&self) -> usize
         ensures value { result ≡ length self.now.holds }
         ensures few { result ≤ 4096 }
+        ensures bytes { length self.now.bytes ≡ length self.now.holds }
     {
         self.frames.len()
     }

@@ -60,13 +60,19 @@ levels_few : (width : Width) → levels_of width - 1 ≤ 3
 levels_few Bits39 = omega arith
 levels_few Bits48 = omega arith
 
-pub lacked_few : (rows : List TableRow) (width : Width) (span : Bounds) → IsOfPages width span → length (spans.lacked rows (levels_of width) (pages_in span)) ≤ 2 ^ 38
-lacked_few rows width span of_pages =
+-- each page lacks at most three
+pub lacked_thrice : (rows : List TableRow) (width : Width) (span : Bounds) → length (spans.lacked rows (levels_of width) (pages_in span)) ≤ 3 * (size_of span / 4096)
+lacked_thrice rows width span =
     let fewer = fewer_lacking (spans.has_row rows) (flat_map (places_from (levels_of width - 1)) (pages_in span)) in
     let places = places_counted (levels_of width - 1) (pages_in span) (levels_few width) in
     let pages = length-range_with_len (page_of span.first) (size_of span / 4096) in
+    omega (arith, fewer, places, pages)
+
+pub lacked_few : (rows : List TableRow) (width : Width) (span : Bounds) → IsOfPages width span → length (spans.lacked rows (levels_of width) (pages_in span)) ≤ 2 ^ 38
+lacked_few rows width span of_pages =
+    let thrice = lacked_thrice rows width span in
     let few = pages_few width span of_pages.below in
-    omega (arith, fewer, places, pages, few)
+    omega (arith, thrice, few)
 
 -- the root is there
 pub lacked_places : (pool : FramePool) (frames : List TableFrame) (leads : ℕ → Option MappedPage) (h : Hwpt) (span : Bounds) → HwptStands pool frames leads h

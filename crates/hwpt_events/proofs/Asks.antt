@@ -22,7 +22,9 @@ use Rattle.iofd_words.specs.declared.numbers.UserNo.{UserNo}
 use Rattle.iofd_words.specs.declared.rows.Area.{Area}
 use Rattle.iofd_words.specs.declared.rows.MemoryObject.{MemoryObject}
 use Rattle.iofd_words.specs.declared.rows.Object.{Object}
+use Rattle.iofd_words.specs.declared.width.Width.{Width}
 use Rattle.iofd_words.specs.declared.width.Width.TheVariants.{Bits39}
+use Rattle.hwpt_device.specs.PageTables.{Hwpt, objects_of}
 use Rattle.hwpt_events.proofs.Gained.{table_gained}
 use Rattle.hwpt_events.specs.Making.{IsRoomy, made_object}
 use Rattle.iofd_words.specs.View.{View, view}
@@ -156,10 +158,11 @@ room_for_pins objects areas file ioas none n =
 -- ---- where nothing refuses
 
 -- whether an address space is translated is known of the page tables that are kept
-pub translated_space : {A : Type 0} (w : World) (s : State A) (table : Table (Held A)) (kept : List Object) (file : FileNo) (ioas : ObjId) → Shows w s → kept ≡ s.page_tables.items → table.rows ≡ s.objects.rows → has_hwpt kept file ioas ≡ has_hwpt (objects_in table) file ioas
-translated_space w s table kept file ioas shows is rows =
-    ap (λ (tables : List Object). has_hwpt tables file ioas) is
-    ∙ has_hwpt_kept s.page_tables.items (objects_in s.objects) (tables_shown w s shows) file ioas
+pub translated_space : {A : Type 0} (w : World) (s : State A) (table : Table (Held A)) (tables : List Hwpt) (file : FileNo) (ioas : ObjId) → Shows w s → tables ≡ s.page_tables.tables → table.rows ≡ s.objects.rows
+    → has_hwpt (map (λ (h : Hwpt). h.object) tables) file ioas ≡ has_hwpt (objects_in table) file ioas
+translated_space w s table tables file ioas shows is rows =
+    ap (λ (l : List Hwpt). has_hwpt (map (λ (h : Hwpt). h.object) l) file ioas) is
+    ∙ has_hwpt_kept (objects_of s.page_tables) (objects_in s.objects) (tables_shown w s shows) file ioas
     ∙ ap (λ (rows : List (Row (Held _))). has_hwpt (map object_of rows) file ioas) (sym rows)
 
 module _ {A : Type 0} where
@@ -168,11 +171,11 @@ module _ {A : Type 0} where
   pins_known at w s tidy shows = record { invariant = shows.pins.invariant; only = only_kept at w s.memory tidy.pins shows.pins }
 
   -- the areas of the address space may be pinned, where it has no page table
-  pub may_pin : (at : ℕ) (w : World) (s : State A) (table : Table (Held A)) (file : FileNo) (ioas : ObjId) (user : UserNo) → IsTidy at w → Shows w s → IsRoomy (view w) file ioas
+  pub may_pin : (at : ℕ) (w : World) (s : State A) (table : Table (Held A)) (file : FileNo) (ioas : ObjId) (width : Width) (user : UserNo) → IsTidy at w → Shows w s → IsRoomy (view w) file ioas width
       → user_of s.config file ≡ Some user → is_user s.config user ≡ true
       → table.rows ≡ s.objects.rows → has_hwpt (objects_in table) file ioas ≡ false
       → MayPin user (own_areas table file ioas) s.memory s.pool.holds
-  may_pin at w s table file ioas user tidy shows roomy is_user_of known same none =
+  may_pin at w s table file ioas width user tidy shows roomy is_user_of known same none =
       subst (λ (areas : List Area). MayPin user areas s.memory s.pool.holds) (sym space) (record {
         own = ap (are_of user) (rows_under s.memory (areas_of w.areas file ioas)) ∙ ap (λ (rows : List MemoryObject). are_of user (filter (λ row. list_any (λ area. eqb area.memory row.number) (areas_of w.areas file ioas)) rows)) (sym shows.pins.rows)
             ∙ all_own w file ioas user w.memory tidy.owned (ap (λ (settings : Settings). user_of settings file) shows.settings ∙ is_user_of) (λ m within. within);
@@ -197,8 +200,8 @@ module _ {A : Type 0} where
       unused_w : has_hwpt w.objects file ioas ≡ false
       unused_w = ap (λ (rows : List Object). has_hwpt rows file ioas) shows.objects.rows ∙ unused
 
-      asks : IsRoomy (seen s) file ioas
-      asks = subst (λ (v : View). IsRoomy v file ioas) (sym (same_view w s shows)) roomy
+      asks : IsRoomy (seen s) file ioas width
+      asks = subst (λ (v : View). IsRoomy v file ioas width) (sym (same_view w s shows tidy.tabled.owned)) roomy
 
       rest : (b c : Bool) → b ≡ false → (not b && c) ≡ false → c ≡ false
       rest true c is both = cc

@@ -1,5 +1,5 @@
 -- What is kept after an attachment came shows the world after it.
-use Rattle.std.proofs.Common.{◌≡◌, ℕ, ◌+◌, true, false, is_some, Option, Some, None, List, Vec, refl, sym, ◌∙◌, ap, subst}
+use Rattle.std.proofs.Common.{◌≡◌, ℕ, ◌+◌, Bool, true, false, ◌&&◌, ◌||◌, not, is_none, is_some, Option, Some, None, List, [], length, Vec, refl, sym, ◌∙◌, ap, subst}
 use Rattle.std.specs.List.{find}
 use Rattle.std.specs.Prelude.{IsTrue}
 use Rattle.std.specs.Option.{option_map}
@@ -7,7 +7,7 @@ use Rattle.iofd_words.specs.After.{attach_changes, attached, changed, device_att
 use Rattle.iofd_words.specs.Answers.{Answers, IsHwptFor, IsHwptOf, IsTarget}
 use Rattle.iofd_words.specs.Areas.{all_paid}
 use Rattle.iofd_words.specs.Attachments.{attachment_of, with_attachment}
-use Rattle.iofd_words.specs.Checks.{attach_checks, lacks_room_for_hwpt}
+use Rattle.iofd_words.specs.Checks.{attach_checks, lacks_attached_frames, lacks_room_for_hwpt}
 use Rattle.iofd_words.specs.Files.{device_of}
 use Rattle.iofd_words.specs.FirstTrue.{first_true}
 use Rattle.iofd_words.specs.Objects.{automatic_hwpt, binding_of, is_bound_as, is_fresh, is_full, is_ioas, kind_of}
@@ -33,8 +33,17 @@ use Rattle.iofd_runs.proofs.Known.{bound_known}
 use Rattle.iofd_runs.proofs.NotRefused.{attach_passed, target_passed}
 use Rattle.memory_rows.proofs.PinsFollow.{only_kept, pins_follow}
 use Rattle.memory_rows.proofs.Released.{settles_none}
-use Rattle.hwpt_events.specs.Making.{IsRoomy, MayCome, made_object, named_table, table_there, width_of, with_table}
+use Rattle.hwpt_events.specs.Making.{IsRoomy, MayCome, lacks_tables, made_object, missing_with, named_table, table_there, width_of, with_table}
+use Rattle.iofd_runs.proofs.StillTabled.{finds_table, owned_after}
+use Rattle.iofd_words.specs.Tables.{MovesTables, with_tables}
+use Rattle.iofd_words.specs.declared.numbers.FrameNo.{FrameNo}
+use Rattle.hwpt_events.proofs.MovesMade.{moves_made}
+use Rattle.hwpt_events.proofs.Narrowed.{wide_attached}
+use Rattle.server_state.proofs.LeadsStay.{leads_alike, spaces_alike}
+use Rattle.server_state.proofs.Still.{still}
+use Rattle.server_state.specs.Choice.{AreFramesChosen, IsChosen, least_free}
 use Rattle.server_state.specs.Held.{objects_in}
+use Rattle.server_state.specs.Leads.{object_page}
 use Rattle.server_state.specs.Shows.{Shows}
 use Rattle.server_state.specs.Step.{IsGrantedAt, IsTidy}
 use Rattle.server_state.specs.declared.state.State.{State}
@@ -124,6 +133,18 @@ space_named w device pt_id bound width none binding absent = by_kind (kind_of w.
         never : {X : Type 0} {x : X} → Some x ≡ None → ⊥
         never is = cc
 
+-- the page table is found
+finds : (w : World) (pt_id id : ObjId) (bound : Object) (d : DeviceSettings) (k : Option ObjectKind) → named_table w.objects bound.file pt_id d.width k ≡ Some id
+    → (not (elim k [ Some kind ↦ is_ioas kind | None ↦ false ]) || is_some (automatic_hwpt w.objects bound.file pt_id d.width)) ≡ true
+finds w pt_id id bound d (Some (kind.Hwpt ioas of automatic)) found = refl
+finds w pt_id id bound d (Some kind.Ioas) found = by_found (automatic_hwpt w.objects bound.file pt_id d.width) found
+  where
+    by_found : (o : Option Object) → option_map (λ (object : Object). object.id) o ≡ Some id → is_some o ≡ true
+    by_found None is = cc
+    by_found (Some object) is = refl
+finds w pt_id id bound d (Some (kind.Device other)) found = refl
+finds w pt_id id bound d None found = refl
+
 module _ {A : Type 0} where
   -- it is shown, where the world after is by what the id names
   attached_by : (at : ℕ) (w : World) (s : State A) (device : DeviceNo) (pt_id id : ObjId) (bound : Object) (d : DeviceSettings) (k : Option ObjectKind) → IsTidy at w → first_true (attach_checks (view w) device pt_id) ≡ None
@@ -144,10 +165,11 @@ module _ {A : Type 0} where
     limits = shows.limits;
     allowed = shows.allowed;
     objects = shows.objects;
-    devices = record { bindings = shows.devices.bindings; attached = ap (with_attachment a) shows.devices.attached ∙ sym added; tables = shows.devices.tables };
+    devices = record { bindings = shows.devices.bindings; attached = ap (with_attachment a) shows.devices.attached ∙ sym added };
     users = shows.users;
     pins = shows.pins;
     frames = shows.frames;
+    tables = record { tables = shows.tables.tables; widths = shows.tables.widths; stand = shows.tables.stand };
   }
 
   -- room for one more is not seen
@@ -157,10 +179,11 @@ module _ {A : Type 0} where
     limits = shows.limits;
     allowed = shows.allowed;
     objects = shows.objects;
-    devices = record { bindings = shows.devices.bindings; attached = shows.devices.attached ∙ sym same; tables = shows.devices.tables };
+    devices = record { bindings = shows.devices.bindings; attached = shows.devices.attached ∙ sym same };
     users = shows.users;
     pins = shows.pins;
     frames = shows.frames;
+    tables = shows.tables;
   }
 
   -- ---- by a page table that is there
@@ -183,6 +206,10 @@ module _ {A : Type 0} where
       → Shows (grown w device bound.file pt_id id width (Some object) w.areas) (record s { attachments = attachments })
   automatic_shown at w s attachments device pt_id id bound object width tidy shows none binding added next =
       let seen = more_attached w s attachments (record { device = device; file = bound.file; hwpt = id }) shows added in
+      let left = grown w device bound.file pt_id id width (Some object) w.areas in
+      let pins = pins_follow at (at + 1) w left s.memory s.memory s.pool s.pool tidy.pins next shows.pins refl shows.users.pages shows.pins.rows
+      shows.pins.areas shows.pins.tables
+      (settles_none s.memory s.pool shows.pins.invariant (only_kept at w s.memory tidy.pins shows.pins)) in
       record {
         settings = seen.settings;
         limits = seen.limits;
@@ -190,20 +217,24 @@ module _ {A : Type 0} where
         objects = seen.objects;
         devices = seen.devices;
         users = seen.users;
-        pins =
-            pins_follow at (at + 1) w (grown w device bound.file pt_id id width (Some object) w.areas) s.memory s.memory s.pool s.pool tidy.pins next shows.pins refl shows.users.pages shows.pins.rows
-            shows.pins.areas shows.pins.tables
-            (settles_none s.memory s.pool shows.pins.invariant (only_kept at w s.memory tidy.pins shows.pins));
+        pins = pins;
         frames = seen.frames;
+        tables = record {
+          tables = shows.tables.tables;
+          widths = shows.tables.widths;
+          stand = spaces_alike w left w.objects s.page_tables.tables s.pool w.table_frames shows.tables.tables
+              (λ f i page has. leads_alike w left f i page refl (λ a found. pins.frames (object_page page a) ∙ sym (shows.pins.frames (object_page page a))))
+              shows.tables.stand;
+        };
       }
 
-  pub shows_there : (at : ℕ) (w : World) (s : State A) (attachments : Vec Attachment A) (device : DeviceNo) (pt_id id : ObjId) (bound : Object) (width : Width) → IsTidy at w → Shows w s → first_true (attach_checks (view w) device pt_id) ≡ None
+  there_shown : (at : ℕ) (w : World) (s : State A) (attachments : Vec Attachment A) (device : DeviceNo) (pt_id id : ObjId) (bound : Object) (width : Width) → IsTidy at w → Shows w s → first_true (attach_checks (view w) device pt_id) ≡ None
       → find (λ object. is_bound_as device object.kind) s.bindings.items ≡ Some bound
       → width_of s.config device ≡ Some width
       → table_there (objects_in s.objects) bound.file pt_id width ≡ Some id
       → attachments.items ≡ with_attachment (record { device = device; file = bound.file; hwpt = id }) s.attachments.items
       → Answers {A = A} w (event.Attach device pt_id) (reply.Id id) × Shows (changed {A = A} at w (event.Attach device pt_id) (reply.Id id)) (record s { attachments = attachments })
-  shows_there at w s attachments device pt_id id bound width tidy shows none binding wide there added =
+  there_shown at w s attachments device pt_id id bound width tidy shows none binding wide there added =
       let binding_w : binding_of w.objects device ≡ Some bound = shows.devices.bindings device ∙ binding in
       let (d, known, same) = width_found (device_of w.settings device) width (ap (λ settings. width_of settings device) shows.settings ∙ wide) in
       let there_w : table_there w.objects bound.file pt_id d.width ≡ Some id = ap (table_there w.objects bound.file pt_id) same ∙ ap (λ (objects : List Object). table_there objects bound.file pt_id width) shows.objects.rows ∙ there in
@@ -232,6 +263,26 @@ module _ {A : Type 0} where
           never : {X : Type 0} {x : X} → Some x ≡ None → ⊥
           never is = cc
 
+  -- so none is made, and no frame moves
+  pub shows_there : (at : ℕ) (w : World) (s : State A) (attachments : Vec Attachment A) (device : DeviceNo) (pt_id id : ObjId) (bound : Object) (width : Width) (via : Option FrameNo) → IsTidy at w → Shows w s → first_true (attach_checks (view w) device pt_id) ≡ None
+      → find (λ object. is_bound_as device object.kind) s.bindings.items ≡ Some bound
+      → width_of s.config device ≡ Some width
+      → table_there (objects_in s.objects) bound.file pt_id width ≡ Some id
+      → attachments.items ≡ with_attachment (record { device = device; file = bound.file; hwpt = id }) s.attachments.items
+      → Answers {A = A} w (event.Attach device pt_id) (reply.Id id) × IsChosen {A = A} w (event.Attach device pt_id) via (reply.Id id)
+      × MovesTables {A = A} w (changed {A = A} at w (event.Attach device pt_id) (reply.Id id)) (event.Attach device pt_id) (reply.Id id) [] []
+      × AreFramesChosen w (changed {A = A} at w (event.Attach device pt_id) (reply.Id id)) [] []
+      × Shows (with_tables [] [] (changed {A = A} at w (event.Attach device pt_id) (reply.Id id))) (record s { attachments = attachments })
+  shows_there at w s attachments device pt_id id bound width via tidy shows none binding wide there added =
+      let (answers, shown) = there_shown at w s attachments device pt_id id bound width tidy shows none binding wide there added in
+      let binding_w : binding_of w.objects device ≡ Some bound = shows.devices.bindings device ∙ binding in
+      let (d, known, same) = width_found (device_of w.settings device) width (ap (λ settings. width_of settings device) shows.settings ∙ wide) in
+      let there_w : table_there w.objects bound.file pt_id d.width ≡ Some id = ap (table_there w.objects bound.file pt_id) same ∙ ap (λ (objects : List Object). table_there objects bound.file pt_id width) shows.objects.rows ∙ there in
+      let makes : finds_table w.objects pt_id (binding_of w.objects device) (device_of w.settings device) ≡ true =
+      ap (λ (o : Option Object). finds_table w.objects pt_id o (device_of w.settings device)) binding_w ∙ ap (finds_table w.objects pt_id (Some bound)) known
+      ∙ finds w pt_id id bound d (kind_of w.objects bound.file pt_id) there_w in
+      still {A = A} at (event.Attach device pt_id) via (reply.Id id) (record s { attachments = attachments }) w tidy answers tt shown makes tt
+
   -- ---- by a new page table
 
   -- one may come there
@@ -239,7 +290,7 @@ module _ {A : Type 0} where
       → find (λ object. is_bound_as device object.kind) s.bindings.items ≡ Some bound
       → width_of s.config device ≡ Some width
       → table_there (objects_in s.objects) bound.file pt_id width ≡ None
-      → IsRoomy (view w) bound.file pt_id
+      → IsRoomy (view w) bound.file pt_id width
   attach_roomy at w s device pt_id bound width tidy shows none binding wide absent =
       let binding_w : binding_of w.objects device ≡ Some bound = shows.devices.bindings device ∙ binding in
       let (d, known, same) = width_found (device_of w.settings device) width (ap (λ settings. width_of settings device) shows.settings ∙ wide) in
@@ -248,9 +299,11 @@ module _ {A : Type 0} where
       record {
         opened = (bound_known w.settings w.closed w.objects device bound tidy.fit.known binding_w).0;
         space = ap (λ (k : Option ObjectKind). elim k [ Some kind ↦ is_ioas kind | None ↦ false ]) space;
+        wide = wide_attached (view w) bound.file pt_id width (device_of w.settings device) (ap (λ settings. width_of settings device) shows.settings ∙ wide) passed.wide;
         roomy = by_device d known same lacking passed.roomy;
         present = passed.present;
         within_limit = passed.within_limit;
+        frames = by_frames d known same lacking passed.frames;
       }
     where
       by_device : (d : DeviceSettings) → device_of w.settings device ≡ Some d → d.width ≡ width → automatic_hwpt w.objects bound.file pt_id width ≡ None → lacks_room_for_hwpt (view w) bound.file pt_id (device_of w.settings device) ≡ false → is_full w.objects bound.file ≡ false
@@ -258,12 +311,22 @@ module _ {A : Type 0} where
           let here : lacks_room_for_hwpt (view w) bound.file pt_id (Some d) ≡ false = sym (ap (lacks_room_for_hwpt (view w) bound.file pt_id) known) ∙ room in
           rw (same, lacking) at here
 
+      by_frames : (d : DeviceSettings) → device_of w.settings device ≡ Some d → d.width ≡ width → automatic_hwpt w.objects bound.file pt_id width ≡ None → lacks_attached_frames (view w) bound.file pt_id (device_of w.settings device) ≡ false → lacks_tables (view w) bound.file pt_id width ≡ false
+      by_frames d known same lacking frames =
+          let here : lacks_attached_frames (view w) bound.file pt_id (Some d) ≡ false = sym (ap (lacks_attached_frames (view w) bound.file pt_id) known) ∙ frames in
+          let makes : is_none (automatic_hwpt w.objects bound.file pt_id d.width) ≡ true = ap (λ (o : Option Object). is_none o) (ap (automatic_hwpt w.objects bound.file pt_id) same ∙ lacking) in
+          ap (lacks_tables (view w) bound.file pt_id) (sym same) ∙ of_both (is_none (automatic_hwpt w.objects bound.file pt_id d.width)) (lacks_tables (view w) bound.file pt_id d.width) makes here
+        where
+          of_both : (b c : Bool) → b ≡ true → (b && c) ≡ false → c ≡ false
+          of_both true c is both = both
+          of_both false c is both = cc
+
   pub may_come : (at : ℕ) (s : State A) (attachments : Vec Attachment A) (device : DeviceNo) (pt_id : ObjId) (bound : Object) (width : Width) → IsGrantedAt at (event.Attach device pt_id) s
       → find (λ object. is_bound_as device object.kind) s.bindings.items ≡ Some bound
       → width_of s.config device ≡ Some width
       → table_there (objects_in s.objects) bound.file pt_id width ≡ None
       → attachments.items ≡ s.attachments.items
-      → MayCome bound.file pt_id (record s { attachments = attachments })
+      → MayCome bound.file pt_id width (record s { attachments = attachments })
   may_come at s attachments device pt_id bound width granted binding wide absent same = record {
     at = at;
     world = granted.world;
@@ -272,19 +335,24 @@ module _ {A : Type 0} where
     may = attach_roomy at granted.world s device pt_id bound width granted.tidy granted.shows granted.none binding wide absent;
   }
 
-  pub shows_new : (at : ℕ) (w : World) (s made : State A) (attachments : Vec Attachment A) (device : DeviceNo) (pt_id id : ObjId) (bound : Object) (width : Width) → IsTidy at w → Shows w s → first_true (attach_checks (view w) device pt_id) ≡ None
+  pub shows_new : (at : ℕ) (w : World) (s made : State A) (attachments : Vec Attachment A) (device : DeviceNo) (pt_id id : ObjId) (bound : Object) (width : Width) (via : Option FrameNo) (taken : List FrameNo) → IsTidy at w → Shows w s → first_true (attach_checks (view w) device pt_id) ≡ None
       → find (λ object. is_bound_as device object.kind) s.bindings.items ≡ Some bound
       → width_of s.config device ≡ Some width
       → table_there (objects_in s.objects) bound.file pt_id width ≡ None
-      → IsTrue (is_fresh w.objects bound.file id) × Shows (with_table w (made_object bound.file pt_id id width true)) made
+      → IsTrue (is_fresh w.objects bound.file id) × (taken ≡ least_free w (length taken)) × (length taken ≡ length (missing_with w (made_object bound.file pt_id id width true)))
+      × Shows (with_tables taken [] (with_table w (made_object bound.file pt_id id width true))) made
       → attachments.items ≡ with_attachment (record { device = device; file = bound.file; hwpt = id }) made.attachments.items
-      → Answers {A = A} w (event.Attach device pt_id) (reply.Id id) × Shows (changed {A = A} at w (event.Attach device pt_id) (reply.Id id)) (record made { attachments = attachments })
-  unfolding settle
-  shows_new at w s made attachments device pt_id id bound width tidy shows none binding wide absent (fresh, with) added =
+      → Answers {A = A} w (event.Attach device pt_id) (reply.Id id) × IsChosen {A = A} w (event.Attach device pt_id) via (reply.Id id)
+      × MovesTables {A = A} w (changed {A = A} at w (event.Attach device pt_id) (reply.Id id)) (event.Attach device pt_id) (reply.Id id) taken []
+      × AreFramesChosen w (changed {A = A} at w (event.Attach device pt_id) (reply.Id id)) taken []
+      × Shows (with_tables taken [] (changed {A = A} at w (event.Attach device pt_id) (reply.Id id))) (record made { attachments = attachments })
+  unfolding settle changed Answers with_tables
+  shows_new at w s made attachments device pt_id id bound width via taken tidy shows none binding wide absent (fresh, chosen, many, with) added =
       let binding_w : binding_of w.objects device ≡ Some bound = shows.devices.bindings device ∙ binding in
       let (d, known, same) = width_found (device_of w.settings device) width (ap (λ settings. width_of settings device) shows.settings ∙ wide) in
       let (space, lacking) = space_named w device pt_id bound width none binding_w (ap (λ (objects : List Object). table_there objects bound.file pt_id width) shows.objects.rows ∙ absent) in
       let lacking_d : automatic_hwpt w.objects bound.file pt_id d.width ≡ None = ap (automatic_hwpt w.objects bound.file pt_id) same ∙ lacking in
+      let roomy = attach_roomy at w s device pt_id bound width tidy shows none binding wide absent in
       let a : Attachment = record { device = device; file = bound.file; hwpt = id } in
       let table : World = with_table w (made_object bound.file pt_id id width true) in
       let is : settle w (attached w device pt_id id bound d) ≡ record table { attachments = with_attachment a w.attachments } =
@@ -292,8 +360,15 @@ module _ {A : Type 0} where
       ∙ ap (λ (o : Option Object). grown w device bound.file pt_id id d.width o (all_paid device w.areas)) lacking_d
       ∙ ap (λ (v : Width). grown w device bound.file pt_id id v None (all_paid device w.areas)) same
       ∙ ap (grown w device bound.file pt_id id width None) (unpaid at w device pt_id bound tidy none binding_w) in
-      attached_by at w (record made { attachments = attachments }) device pt_id id bound d (Some kind.Ioas) tidy none binding_w known space (subst (IsHwptFor w bound.file id) (sym lacking_d) fresh)
-      (λ next. subst (λ v. Shows v (record made { attachments = attachments })) (sym is) (more_attached table made attachments a with added))
+      let target : IsTarget w bound.file pt_id id d.width (Some kind.Ioas) = subst (IsHwptFor w bound.file id) (sym lacking_d) fresh in
+      let (answers, to) = is_target w device pt_id id bound d (Some kind.Ioas) binding_w known space target in
+      let left : World = device_attached w device pt_id (reply.Id id) in
+      let left_is : left ≡ record table { attachments = with_attachment a w.attachments } = to ∙ is in
+      let owned = owned_after {A = A} at w (event.Attach device pt_id) (reply.Id id) answers tt tidy.tabled.owned in
+      let moves = moves_made {A = A} at w s tidy shows bound.file pt_id id width true roomy fresh taken chosen many left (event.Attach device pt_id) (reply.Id id)
+      (ap (λ (v : World). v.objects) left_is) (ap (λ (v : World). v.areas) left_is) (ap (λ (v : World). v.table_frames) left_is) owned in
+      let shown = more_attached (with_tables taken [] table) made attachments a with added in
+      (answers, tt, moves.0, moves.1, subst (λ v. Shows (with_tables taken [] v) (record made { attachments = attachments })) (sym left_is) shown)
 
   -- a device that isn't bound was refused
   pub never_loose : {X : Type 0} (w : World) (s : State A) (device : DeviceNo) (pt_id : ObjId) → Shows w s → first_true (attach_checks (view w) device pt_id) ≡ None → find (λ object. is_bound_as device object.kind) s.bindings.items ≡ None → X

@@ -1,8 +1,8 @@
 -- Areas and allowed ranges lie in addresses that can be used: so a device narrows just those that it leaves out itself.
-use Rattle.std.proofs.Common.{◌≡◌, Bool, true, false, ◌||◌, eqb, List, [], ◌∷◌, ◌++◌, map, refl, ap, ◌∙◌, inl, inr}
+use Rattle.std.proofs.Common.{◌≡◌, Bool, true, false, ◌||◌, eqb, Option, Some, None, sym, List, [], ◌∷◌, ◌++◌, map, refl, ap, ◌∙◌, inl, inr}
 use Rattle.std.specs.List.{list_any}
 use Rattle.std.proofs.lemmas.List.Folds.{list_any-append}
-use Rattle.iofd_rows.proofs.Bools.{and_true, clash, not_true, or_none}
+use Rattle.iofd_rows.proofs.Bools.{and_true, clash, not_true, or_false, or_none}
 use Rattle.iofd_rows.proofs.Each.{IsIn, in_filter, of_any, of_each}
 use Rattle.iofd_rows.proofs.ListTests.{false_else}
 use Rattle.iofd_rows.proofs.Named.{file_is, id_is}
@@ -10,10 +10,11 @@ use Rattle.iofd_runs.specs.InUsable.{AreasUsable, is_in_usable}
 use Rattle.iofd_words.specs.Allowed.{allowed_of}
 use Rattle.iofd_words.specs.Areas.{areas_of, is_of}
 use Rattle.iofd_words.specs.Bounds.{Bounds}
-use Rattle.iofd_words.specs.Checks.{narrows_without, unusable_in}
+use Rattle.iofd_words.specs.Checks.{narrows, narrows_by_width, narrows_without, unusable_in}
 use Rattle.iofd_words.specs.Ranges.{meets_some}
+use Rattle.iofd_words.specs.Settings.{DeviceSettings}
 use Rattle.iofd_words.specs.Span.{meets}
-use Rattle.iofd_words.specs.Usable.{beyond, unusable}
+use Rattle.iofd_words.specs.Usable.{beyond, reserved_by, unusable}
 use Rattle.iofd_words.specs.View.{View, view}
 use Rattle.iofd_words.specs.World.{World}
 use Rattle.iofd_words.specs.declared.numbers.FileNo.{FileNo}
@@ -66,6 +67,37 @@ world_narrows w file ioas spans usable =
     ∙ ap (λ b. b || list_any (meets_some bars) (allowed_of w.allowed file ioas)) areas
     ∙ ap (λ b. list_any (λ (a : Area). meets_some spans a.span) (areas_of w.areas file ioas) || b) ranges
 
+-- ---- where nothing is left out
+
+module _ (v : View) (file : FileNo) (ioas : ObjId) (width : Width) where
+  fewer : (spans : List Bounds) (areas : List Area) → list_any (λ (a : Area). meets_some (beyond width ∷ spans) a.span) areas ≡ false → list_any (λ (a : Area). meets (beyond width) a.span) areas ≡ false
+  fewer spans [] none = refl
+  fewer spans (a ∷ areas) none =
+      let parts = or_false (meets_some (beyond width ∷ spans) a.span) (list_any (λ (x : Area). meets_some (beyond width ∷ spans) x.span) areas) none in
+      let here = or_false (meets (beyond width) a.span) (meets_some spans a.span) parts.0 in
+      rw (here.0, fewer spans areas parts.1) refl
+
+  -- no area reaches beyond the width
+  pub wide_enough : (spans : List Bounds) → narrows_without v file ioas (beyond width ∷ spans) ≡ false → list_any (λ (a : Area). meets (beyond width) a.span) (v.areas_of file ioas) ≡ false
+  wide_enough spans none =
+      let bars : List Bounds = spans ++ unusable_in v file ioas in
+      let all = sym (list_any-append (meets_some (beyond width ∷ bars)) (map (λ (a : Area). a.span) (v.areas_of file ioas)) (v.allowed_of file ioas)) ∙ none in
+      let areas = or_false (list_any (meets_some (beyond width ∷ bars)) (map (λ (a : Area). a.span) (v.areas_of file ioas))) (list_any (meets_some (beyond width ∷ bars)) (v.allowed_of file ioas)) all in
+      fewer bars (v.areas_of file ioas) (sym (any-spans (meets_some (beyond width ∷ bars)) (v.areas_of file ioas)) ∙ areas.0)
+
+  -- by a device's settings
+  pub wide_by_width : (o : Option DeviceSettings) → elim o as (λ _. Option Width) [ Some d ↦ Some d.width | None ↦ None ] ≡ Some width → narrows_by_width v file ioas o ≡ false → list_any (λ (a : Area). meets (beyond width) a.span) (v.areas_of file ioas) ≡ false
+  wide_by_width None wide none = cc
+  wide_by_width (Some d) wide none =
+      let same : d.width ≡ width = cc in
+      wide_enough [] (ap (λ (of : Width). narrows_without v file ioas (beyond of ∷ [])) (sym same) ∙ none)
+
+  pub wide_attached : (o : Option DeviceSettings) → elim o as (λ _. Option Width) [ Some d ↦ Some d.width | None ↦ None ] ≡ Some width → narrows v file ioas o ≡ false → list_any (λ (a : Area). meets (beyond width) a.span) (v.areas_of file ioas) ≡ false
+  wide_attached None wide none = cc
+  wide_attached (Some d) wide none =
+      let same : d.width ≡ width = cc in
+      wide_enough (reserved_by d) (ap (λ (of : Width). narrows_without v file ioas (beyond of ∷ reserved_by d)) (sym same) ∙ none)
+
 -- ---- one test after the other
 
 pub either_first : (here one other : Bool) → here ≡ one → here ≡ true → here ≡ (one || other)
@@ -85,7 +117,7 @@ module _ {A : Type 0} (s : State A) (file : FileNo) (ioas : ObjId) where
       → narrows_without (seen s) file ioas spans ≡ (list_any (λ (a : Area). meets_some spans a.span) (areas_at s.objects.rows file ioas) || list_any (meets_some spans) (allowed_of s.allowed file ioas))
   known_narrows spans known =
       let w = known.world in
-      ap (λ (v : View). narrows_without v file ioas spans) (same_view w s known.shows)
+      ap (λ (v : View). narrows_without v file ioas spans) (same_view w s known.shows known.tidy.tabled.owned)
       ∙ world_narrows w file ioas spans known.tidy.usable
       ∙ ap (λ (areas : List Area). list_any (λ (a : Area). meets_some spans a.span) areas || list_any (meets_some spans) (allowed_of w.allowed file ioas)) (known.shows.objects.spaces file ioas)
       ∙ ap (λ (ranges : List Bounds). list_any (λ (a : Area). meets_some spans a.span) (areas_at s.objects.rows file ioas) || list_any (meets_some spans) ranges) (known.shows.allowed file ioas)

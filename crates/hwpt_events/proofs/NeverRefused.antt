@@ -25,8 +25,8 @@ use Rattle.server_state.proofs.NeverFull.{takes_object}
 
 module _ {A : Type 0} where
   -- the file takes one more object
-  pub never_full : (w : World) (s : State A) (file : FileNo) (ioas : ObjId) (error : ReserveError) (r : Refusal) → Shows w s → IsRoomy (view w) file ioas → error ≡ Refused r → IsWhy (insert_refusal s.objects file) error → ⊥
-  never_full w s file ioas error r shows roomy = takes_object w s file error r shows roomy.opened roomy.roomy
+  pub never_full : (w : World) (s : State A) (file : FileNo) (ioas : ObjId) (width : Width) (error : ReserveError) (r : Refusal) → Shows w s → IsRoomy (view w) file ioas width → error ≡ Refused r → IsWhy (insert_refusal s.objects file) error → ⊥
+  never_full w s file ioas width error r shows roomy = takes_object w s file error r shows roomy.opened roomy.roomy
 
   -- a bound device has a width
   pub never_unset : (at : ℕ) (w : World) (s : State A) (device : DeviceNo) (bound : Object) → IsTidy at w → Shows w s → find (λ object. is_bound_as device object.kind) s.bindings.items ≡ Some bound → width_of s.config device ≡ None → ⊥
@@ -40,8 +40,8 @@ module _ {A : Type 0} where
       by_device (Some d) unset there = cc
 
   -- and it has a user
-  pub never_userless : (w : World) (s : State A) (file : FileNo) (ioas : ObjId) → Shows w s → IsRoomy (view w) file ioas → files.user_of s.config file ≡ None → ⊥
-  never_userless w s file ioas shows roomy lacks =
+  pub never_userless : (w : World) (s : State A) (file : FileNo) (ioas : ObjId) (width : Width) → Shows w s → IsRoomy (view w) file ioas width → files.user_of s.config file ≡ None → ⊥
+  never_userless w s file ioas width shows roomy lacks =
       let lacks_w : files.user_of w.settings file ≡ None = ap (λ settings. files.user_of settings file) shows.settings ∙ lacks in
       by_user (files.user_of w.settings file) lacks_w (opened_user (files.user_of w.settings file) _ roomy.opened)
     where

@@ -1,3 +1,4 @@
+pub mod Filling
 pub mod Making
 pub mod Narrow
 pub mod Pinning

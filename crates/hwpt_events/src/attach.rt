@@ -1,20 +1,22 @@
 //! Attach: a device translates by a page table.
 
-ghost use Rattle.std.specs.Prelude.{◌≡◌, ℕ, Bool, Some, IfOk, OnErr};
-ghost use Rattle.iofd_words.specs.Checks.{attach_checks, has_other_width, lacks_room_for_hwpt, target_checks};
+ghost use Rattle.std.specs.Prelude.{◌≡◌, ℕ, Bool, false, Option, Some, [], IfOk, OnErr};
+ghost use Rattle.iofd_words.specs.Checks.{attach_checks, has_other_width, lacks_attached_frames, lacks_room_for_hwpt};
+ghost use Rattle.iofd_words.specs.Checks.{narrows, target_checks};
 ghost use Rattle.iofd_words.specs.FirstTrue.{first_true};
 ghost use Rattle.iofd_words.specs.Files.{device_of};
 ghost use Rattle.iofd_words.specs.Objects as objects;
 ghost use Rattle.iofd_words.specs.declared.event.Event.TheVariants as event;
+ghost use Rattle.iofd_words.specs.declared.numbers.FrameNo.{FrameNo};
 ghost use Rattle.server_state.specs.Held.{objects_in};
 ghost use Rattle.hwpt_events.specs.Making.{table_there, width_of};
 ghost use Rattle.server_state.specs.Seen.{seen};
-ghost use Rattle.server_state.specs.Step.{IsGranted, IsKnown, ShowsSame, Steps};
+ghost use Rattle.server_state.specs.Step.{IsGranted, IsKnown, MovingSteps, ShowsSame};
 
 use crate::making::width_of;
 use crate::{attachments, making, narrow};
 use iofd_words::{
-    Attachment, Cause, Config, DeviceNo, FileNo, NoMemory, ObjId, ObjectKind, Reply, Width,
+    Attachment, Cause, Config, DeviceNo, FileNo, FrameNo, NoMemory, ObjId, ObjectKind, Reply, Width,
 };
 use object_table::ObjectTable;
 use server_state::{Held, State, lookups};
@@ -108,20 +110,28 @@ fn refusal_by_space<A: Allocator>(
     if making::passes_limit(state, file, ioas) {
         return Some(Cause::Account);
     }
+    if lacks_frames(state, device, file, ioas) {
+        return Some(Cause::Frames);
+    }
     None
 }
 
-/// What it does where nothing refuses it: the device translates by the page table that is named, or by the automatic one
-/// of its width over the address space that is, which is made where there is none yet. The answer is the page table's id.
-/// The only error is want of memory, which changes nothing.
+/// What it does where nothing refuses it: the device translates by the page table that is named, or by the automatic
+/// one of its width over the address space that is, which is made where there is none yet. The tables of one that is
+/// made are in the least free frames: they are named in `taken`, which is empty before. The answer is the page table's
+/// id. The only error is want of memory, which changes nothing.
 pub fn commit<A: Allocator + Copy>(
     state: &mut State<A>,
     device: DeviceNo,
     pt_id: ObjId,
+    taken: &mut Vec<FrameNo, A>,
 ) -> Result<Reply, NoMemory>
-    requires { IsGranted (event.Attach device pt_id) state.old }
-    ensures ok { IfOk result (λ reply. (at : ℕ) → Steps at (event.Attach device pt_id) state.old reply state.new) }
+    requires granted { IsGranted (event.Attach device pt_id) state.old }
+    requires empty { taken.old.items ≡ [] }
+    ensures ok { IfOk result (λ reply. (at : ℕ) (via : Option FrameNo) →
+        MovingSteps at (event.Attach device pt_id) via state.old reply taken.new.items [] state.new) }
     ensures err { OnErr result (ShowsSame state.old state.new) }
+    ensures none { OnErr result (taken.new.items ≡ []) }
 {
     let Some(bound) = state.binding_of(device) else {
         return Ok(Reply::Done);
@@ -136,7 +146,7 @@ pub fn commit<A: Allocator + Copy>(
         attachments::insert(&mut state.attachments, Attachment { device, file, hwpt });
         return Ok(Reply::Id(hwpt));
     }
-    let hwpt = making::make(state, file, pt_id, width, true)?;
+    let hwpt = making::make(state, file, pt_id, width, true, taken)?;
     attachments::insert(&mut state.attachments, Attachment { device, file, hwpt });
     Ok(Reply::Id(hwpt))
 }
@@ -164,6 +174,20 @@ fn lacks_room<A: Allocator>(state: &State<A>, device: DeviceNo, file: FileNo, io
     match width_of(&state.config, device) {
         Some(width) => lookups::automatic_hwpt(&state.objects, file, ioas, width).is_none()
             && making::is_full(&state.objects, file),
+        None => false,
+    }
+}
+
+/// Whether a page table would have to be made that has more tables than frames are free. No area reaches beyond the
+/// device's width.
+fn lacks_frames<A: Allocator>(state: &State<A>, device: DeviceNo, file: FileNo, ioas: ObjId) -> bool
+    requires known { IsKnown state.now }
+    requires within { narrows (seen state.now) file ioas (device_of state.now.config device) ≡ false }
+    ensures { result ≡ lacks_attached_frames (seen state.now) file ioas (device_of state.now.config device) }
+{
+    match width_of(&state.config, device) {
+        Some(width) => lookups::automatic_hwpt(&state.objects, file, ioas, width).is_none()
+            && making::lacks_frames(state, file, ioas, width),
         None => false,
     }
 }

@@ -4,6 +4,7 @@
 
 pub mod attach;
 mod attachments;
+mod filling;
 pub mod hwpt_alloc;
 mod making;
 mod narrow;

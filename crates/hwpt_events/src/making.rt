@@ -1,38 +1,53 @@
 //! A page table that comes: what it asks of its file and of the pages that it pins, and how it is made.
 
-ghost use Rattle.std.specs.Prelude.{◌≡◌, ℕ, false, IfOk, OnErr, OnOk};
+ghost use Rattle.std.specs.Prelude.{◌≡◌, ◌<◌, ◌≤◌, ◌+◌, ℕ, false, [], length, IfOk, IsSome, OnErr, OnOk, nat_lt};
+ghost use Rattle.std.specs.Prelude.{vec_capacity, vec_len};
 ghost use Rattle.iofd_words.specs.Checks.{lacks_attached_page, passes_limit_attached};
+ghost use Rattle.iofd_words.specs.TablePlaces.{lacking, live_pages, places_of};
+ghost use Rattle.object_table.specs.Table.{reserved_id};
+ghost use Rattle.server_state.specs.declared.held.Held.TheVariants as held;
 ghost use Rattle.iofd_words.specs.Objects as objects;
 ghost use Rattle.iofd_words.specs.Objects.{has_hwpt};
-ghost use Rattle.server_state.specs.Held.{objects_in};
+ghost use Rattle.server_state.specs.Held.{areas_at, objects_in};
 ghost use Rattle.server_state.specs.Mapping.{own_areas};
-ghost use Rattle.hwpt_events.specs.Making.{IsMade, MayCome};
+ghost use Rattle.hwpt_events.specs.Making.{IsMade, MayCome, made_object};
 ghost use Rattle.hwpt_events.specs.Making as words;
+ghost use Rattle.hwpt_events.specs.Making.{lacks_tables};
+ghost use Rattle.iofd_words.specs.Span.{meets};
+ghost use Rattle.iofd_words.specs.Usable.{beyond};
+ghost use Rattle.std.specs.List.{list_any};
 ghost use Rattle.hwpt_events.specs.Pinning.{Stays, newly_translated};
 ghost use Rattle.memory_rows.specs.Moves.{ArePinnedMore, MayPin, PinsAreKnown};
 ghost use Rattle.server_state.specs.Seen.{seen};
 ghost use Rattle.server_state.specs.Step.{IsKnown, ShowsSame};
 
-use crate::pins;
+use crate::{filling, pins};
 use frame_memory::Pool;
-use iofd_words::{Config, DeviceNo, FileNo, NoMemory, ObjId, Object, ObjectKind, UserNo, Width};
+use iofd_words::{
+    Config, DeviceNo, FileNo, FrameNo, NoMemory, ObjId, Object, ObjectKind, UserNo, Width,
+};
 use object_table::{Kind, ObjectTable, ReserveError};
-use server_state::{Held, State, accounts, area_changes, lookups, page_tables};
+use server_state::{Held, State, accounts, area_changes, lookups};
 use std::alloc::Allocator;
 use user_memory::UserMemory;
 
-/// Makes a page table of this width over the address space, and answers its id. The first one pins the pages of all areas.
-/// The only error is want of memory, which changes nothing.
+/// Makes a page table of this width over the address space, and answers its id. The first one pins the pages of all
+/// areas. It maps the live ones, with its tables in the least free frames, which are named in `taken`. The only error
+/// is want of memory, which changes nothing.
 pub(crate) fn make<A: Allocator + Copy>(
     state: &mut State<A>,
     file: FileNo,
     ioas: ObjId,
     width: Width,
     automatic: bool,
+    taken: &mut Vec<FrameNo, A>,
 ) -> Result<ObjId, NoMemory>
-    requires { MayCome file ioas state.old }
-    ensures ok { IfOk result (λ id. (at : ℕ) → IsMade at file ioas width automatic state.old id state.new) }
+    requires may { MayCome file ioas width state.old }
+    requires empty { taken.old.items ≡ [] }
+    ensures ok { IfOk result (λ id. (at : ℕ) →
+        IsMade at file ioas width automatic state.old id taken.new.items state.new) }
     ensures err { OnErr result (ShowsSame state.old state.new) }
+    ensures none { OnErr result (taken.new.items ≡ []) }
     ensures attachments { state.new.attachments ≡ state.old.attachments }
     ensures config { state.new.config ≡ state.old.config }
 {
@@ -40,14 +55,8 @@ pub(crate) fn make<A: Allocator + Copy>(
         // Each file has a user.
         unreachable!()
     };
-    let translated = page_tables::has_over(&state.page_tables, file, ioas);
-    state.page_tables.reserve(1)?;
-    match state.objects.reserve(file) {
-        Ok(_) => (),
-        // The file is open and not full.
-        Err(ReserveError::Refused(_)) => unreachable!(),
-        Err(ReserveError::Memory(no_memory)) => return Err(no_memory),
-    }
+    reserve(state, file, ioas, width, taken)?;
+    let translated = state.page_tables.has_over(file, ioas);
     pin_space(
         state.alloc,
         &state.objects,
@@ -58,13 +67,28 @@ pub(crate) fn make<A: Allocator + Copy>(
         &mut state.memory,
         &mut state.pool,
     )?;
-    let table = Held::Hwpt {
-        ioas,
-        width,
-        automatic,
-    };
+    let table = held_table(ioas, width, automatic);
     let id = state.objects.insert_reserved(file, Kind::Hwpt, table);
-    state.page_tables.push_reserved(Object {
+    filling::add(
+        &state.objects,
+        ioas,
+        table_object(file, ioas, id, width, automatic),
+        width,
+        &state.memory,
+        &mut state.page_tables,
+        &mut state.pool,
+        taken,
+    );
+    // Its clause says that the pool has bytes for each frame.
+    let _ = state.pool.len();
+    Ok(id)
+}
+
+/// What the page table is as an object of its file.
+fn table_object(file: FileNo, ioas: ObjId, id: ObjId, width: Width, automatic: bool) -> Object
+    ensures { result ≡ made_object file ioas id width automatic }
+{
+    Object {
         file,
         id,
         kind: ObjectKind::Hwpt {
@@ -72,8 +96,49 @@ pub(crate) fn make<A: Allocator + Copy>(
             width,
             automatic,
         },
-    });
-    Ok(id)
+    }
+}
+
+/// What the file holds of it.
+fn held_table<A: Allocator>(ioas: ObjId, width: Width, automatic: bool) -> Held<A>
+    ensures { result ≡ held.Hwpt ioas width automatic }
+{
+    Held::Hwpt {
+        ioas,
+        width,
+        automatic,
+    }
+}
+
+/// Takes memory for one more page table, for the numbers of its frames, and for one more object of the file, which is
+/// open and not full. It changes nothing else, on an error neither.
+fn reserve<A: Allocator + Copy>(
+    state: &mut State<A>,
+    file: FileNo,
+    ioas: ObjId,
+    width: Width,
+    taken: &mut Vec<FrameNo, A>,
+) -> Result<(), NoMemory>
+    requires { MayCome file ioas width state.old }
+    ensures rows { state.new.objects.rows ≡ state.old.objects.rows }
+    ensures files { state.new.objects.files ≡ state.old.objects.files }
+    ensures tables { state.new.page_tables.tables ≡ state.old.page_tables.tables }
+    ensures others { state.new ≡ record state.old { objects = state.new.objects; page_tables = state.new.page_tables } }
+    ensures numbers { taken.new.items ≡ taken.old.items }
+    ensures table_room { OnOk result (0 < state.new.page_tables.room) }
+    ensures frame_room { OnOk result (vec_len taken.old + length (lacking (λ place. false) (places_of width
+        (live_pages (areas_at state.old.objects.rows file ioas)))) ≤ vec_capacity taken.new) }
+    ensures object_room { OnOk result (IsSome (reserved_id state.new.objects file)) }
+{
+    let count = state.tables_for_new(file, ioas, width);
+    taken.reserve(count as usize)?;
+    state.page_tables.reserve()?;
+    match state.objects.reserve(file) {
+        Ok(_) => Ok(()),
+        // The file is open and not full.
+        Err(ReserveError::Refused(_)) => unreachable!(),
+        Err(ReserveError::Memory(no_memory)) => Err(no_memory),
+    }
 }
 
 /// Pins the pages of all areas of the address space, for its first page table; where it is translated already they are
@@ -92,7 +157,8 @@ fn pin_space<A: Allocator + Copy>(
     requires known { PinsAreKnown memory.old }
     requires may { has_hwpt (objects_in table.now) file ioas ≡ false
         → MayPin user (own_areas table.now file ioas) memory.old pool.old.holds }
-    ensures ok { OnOk result (ArePinnedMore (newly_translated (objects_in table.now) file ioas (own_areas table.now file ioas))
+    ensures ok { OnOk result (ArePinnedMore
+        (newly_translated (objects_in table.now) file ioas (own_areas table.now file ioas))
         memory.old memory.new pool.old pool.new) }
     ensures err { OnErr result (Stays memory.old memory.new pool.old pool.new) }
 {
@@ -153,4 +219,20 @@ pub(crate) fn passes_limit<A: Allocator>(state: &State<A>, file: FileNo, ioas: O
     state.memory.objects_told();
     let count = pins::new_pages(areas, &state.memory);
     accounts::passes_limit(state, file, count)
+}
+
+/// Whether a new page table of this width over the address space would have more tables than frames are free. No area
+/// reaches beyond the width.
+pub(crate) fn lacks_frames<A: Allocator>(
+    state: &State<A>,
+    file: FileNo,
+    ioas: ObjId,
+    width: Width,
+) -> bool
+    requires known { IsKnown state.now }
+    requires within { list_any (λ area. meets (beyond width) area.span)
+        (areas_at state.now.objects.rows file ioas) ≡ false }
+    ensures { result ≡ lacks_tables (seen state.now) file ioas width }
+{
+    state.tables_for_new(file, ioas, width) > u64::from(state.pool.free_count())
 }

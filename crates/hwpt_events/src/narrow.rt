@@ -38,8 +38,8 @@ pub(crate) fn narrows<A: Allocator>(
         || narrows_allowed(settings, &state.allowed, file, ioas)
 }
 
-/// Whether with a page table of the device's width an area or an allowed range of the address space would lie outside what
-/// can be used.
+/// Whether with a page table of the device's width an area or an allowed range of the address space would lie outside
+/// what can be used.
 pub(crate) fn narrows_by_width<A: Allocator>(
     state: &State<A>,
     device: DeviceNo,

@@ -1,11 +1,15 @@
-pub mod AreasApart
 pub mod AreasRise
 pub mod Bound
+pub mod DueFrames
 pub mod FilesApart
+pub mod FreeFrames
 pub mod FreshIds
 pub mod KeepsBound
 pub mod KeepsFrames
 pub mod KeepsLimits
 pub mod MemoryApart
 pub mod OwnFrames
+pub mod OwnTables
+pub mod ServedAreas
 pub mod SomeAnswer
+pub mod SomeRecord

@@ -1,5 +1,5 @@
 -- Each page in a user's memory has a frame of its own.
-use Rattle.std.proofs.Common.{◌≡◌, ℕ, zero, suc, ◌<◌, Bool, true, false, cond, ◌||◌, not, eqb, Option, Some, None, List, [], ◌∷◌, ◌++◌, map, Contains, refl, sym, ◌∙◌, subst, arith, IsTrue}
+use Rattle.std.proofs.Common.{◌≡◌, ℕ, zero, suc, ◌<◌, Bool, true, false, cond, ◌||◌, not, eqb, Option, Some, None, List, [], ◌∷◌, ◌++◌, map, Contains, refl, sym, ◌∙◌, subst, arith, IsTrue, inl, inr}
 use Rattle.std.specs.List.{filter, list_any}
 use Rattle.std.proofs.lemmas.Bool.Decides.{nat_tests}
 use Rattle.iofd_words.specs.After.{changed, map_changes, hwpt_changes, attach_changes, target_changes, detach_changes, settle, without_areas, attached, detached, joined}
@@ -11,7 +11,7 @@ use Rattle.iofd_words.specs.Frames.{is_free, is_reached}
 use Rattle.iofd_laws.specs.Laws.{have_own_frames, WasFree}
 use Rattle.iofd_words.specs.Objects.{binding_of, kind_of, settings_under}
 use Rattle.iofd_words.specs.Policy.{Outcome, Passes, Denied, outcomes}
-use Rattle.iofd_words.specs.Run.{IsAnswer, Lawful}
+use Rattle.iofd_words.specs.Run.{IsAnswer, Lawful, MovesFrames}
 use Rattle.iofd_words.specs.Settings.{DeviceSettings}
 use Rattle.iofd_words.specs.World.{World}
 use Rattle.iofd_words.specs.declared.event.Event.{Event}
@@ -31,17 +31,18 @@ use Rattle.iofd_words.specs.declared.rows.ObjectKind.TheVariants as kind
 use Rattle.iofd_words.specs.declared.rows.Pin.{Pin}
 use Rattle.iofd_words.specs.declared.rows.TableFrame.{TableFrame}
 use Rattle.iofd_words.specs.declared.rows.UserPage.{UserPage}
+use Rattle.iofd_rows.proofs.Each.{IsIn, of_each}
 use Rattle.iofd_rows.proofs.Bools.{or_false, and_true, both_false, both_true, not_true, not_false}
 
 -- ---- a free frame is reached by nobody
 
-free_parts : (pool : ℕ) (pages : List UserPage) (pins : List Pin) (tables : List TableFrame) (frame : ℕ) → IsTrue (is_free pool pages pins tables frame) → (frame < pool) × (is_reached pages pins tables frame ≡ false)
+pub free_parts : (pool : ℕ) (pages : List UserPage) (pins : List Pin) (tables : List TableFrame) (frame : ℕ) → IsTrue (is_free pool pages pins tables frame) → (frame < pool) × (is_reached pages pins tables frame ≡ false)
 free_parts pool pages pins tables frame free = grind (arith, nat_tests)
 
-no_page : (pages : List UserPage) (pins : List Pin) (tables : List TableFrame) (frame : ℕ) → is_reached pages pins tables frame ≡ false → list_any (λ (p : UserPage). eqb p.frame.0 frame) pages ≡ false
+pub no_page : (pages : List UserPage) (pins : List Pin) (tables : List TableFrame) (frame : ℕ) → is_reached pages pins tables frame ≡ false → list_any (λ (p : UserPage). eqb p.frame.0 frame) pages ≡ false
 no_page pages pins tables frame free = grind (arith, nat_tests)
 
-flipped : (m n : ℕ) → eqb m n ≡ false → eqb n m ≡ false
+pub flipped : (m n : ℕ) → eqb m n ≡ false → eqb n m ≡ false
 flipped m n is = grind (arith, nat_tests)
 
 refused_frame : (cause : Cause) (frame : FrameNo) → reply.Refused (record { cause = cause }) ≡ reply.Frame frame → ⊥
@@ -133,23 +134,40 @@ keeps_own_frames at w e answer none answers own = own
 -- ---- a frame that is given out was free
 
 -- a write is not answered with a frame that is given out
-never_written : (w : World) (device : DeviceNo) (address : ℕ) (os : List Outcome) (frame : FrameNo) → Contains (map (write_reply w device address) os) (reply.Frame frame) → ⊥
+pub never_written : (w : World) (device : DeviceNo) (address : ℕ) (os : List Outcome) (frame : FrameNo) → Contains (map (write_reply w device address) os) (reply.Frame frame) → ⊥
 never_written w device address [] frame (k, within, is) = absurd (omega (arith, within))
 never_written w device address (Passes f ∷ os) frame (zero, within, is) = cc
 never_written w device address (Denied reason ∷ os) frame (zero, within, is) = cc
 never_written w device address (o ∷ os) frame (suc k, within, is) = never_written w device address os frame (k, omega (arith, within), is)
 
-given_free : {A : Type 0} → (w : World) (e : Event A) (frame : FrameNo) → Answers w e (reply.Frame frame) → WasFree w frame
+pub given_free : {A : Type 0} → (w : World) (e : Event A) (frame : FrameNo) → Answers w e (reply.Frame frame) → WasFree w frame
 unfolding Answers
 given_free w (event.UserMap user va) frame answers = free_parts w.settings.pool w.user_pages w.pins w.table_frames frame.0 answers
 given_free w (event.DeviceWrite device iova bytes) frame answers =
     absurd (never_written w device iova.0 (outcomes w device iova.0 Write) frame answers)
 given_free w e frame answers = absurd answers
 
-pub lawful_frame : {A : Type 0} (w : World) (r : Record A) (frame : FrameNo) → Lawful w r → r.reply ≡ reply.Frame frame → WasFree w frame
+-- what a list contains is in it
+pub is_in : {X : Type 0} (xs : List X) (x : X) → Contains xs x → IsIn xs x
+is_in [] x (k, within, is) = absurd (omega (arith, within))
+is_in (y ∷ ys) x (zero, within, is) = inl is
+is_in (y ∷ ys) x (suc k, within, is) = inr (is_in ys x (k, omega (arith, within), is))
+
+pub lawful_frame : {A : Type 0} (at : ℕ) (w : World) (r : Record A) (frame : FrameNo) → Lawful at w r → r.reply ≡ reply.Frame frame → WasFree w frame
 unfolding Lawful
-lawful_frame {A = A} w r frame lawful is = by_answer (refusal w r.event) lawful.0
+lawful_frame {A = A} at w r frame lawful is = by_answer (refusal w r.event) lawful.0
   where
     by_answer : (o : Option Cause) → IsAnswer w r o → WasFree w frame
     by_answer (Some cause) answer = let other = sym answer ∙ is in absurd (refused_frame cause frame other)
     by_answer None answer = given_free w r.event frame (subst (Answers w r.event) is answer)
+
+-- nor was one that is taken for a table reached
+pub lawful_taken : {A : Type 0} (at : ℕ) (w : World) (r : Record A) (frame : FrameNo) → Lawful at w r → Contains r.taken frame → WasFree w frame
+unfolding Lawful
+lawful_taken {A = A} at w r frame lawful has = by_answer (refusal w r.event) lawful.1
+  where
+    by_answer : (o : Option Cause) → MovesFrames at w r o → WasFree w frame
+    by_answer (Some cause) moves = absurd (is_in [] frame (subst (λ taken. Contains taken frame) moves.0 has))
+    by_answer None moves =
+        free_parts w.settings.pool w.user_pages w.pins w.table_frames frame.0
+        (of_each (λ (f : FrameNo). is_free w.settings.pool w.user_pages w.pins w.table_frames f.0) r.taken frame moves.free (is_in r.taken frame has))

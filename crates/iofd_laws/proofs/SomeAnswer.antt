@@ -1,19 +1,23 @@
 -- Every event that nothing refuses has a lawful answer.
-use Rattle.std.proofs.Common.{◌≡◌, ℕ, ◌+◌, Bool, true, false, cond, ◌&&◌, ◌||◌, not, eqb, is_some, is_none, Option, Some, None, List, [], ◌∷◌, map, Contains, refl, sym, ◌∙◌, ap, arith}
-use Rattle.std.specs.List.{count_by, list_any, range_with_len}
+use Rattle.std.proofs.Common.{◌≡◌, ℕ, ◌+◌, Bool, true, false, cond, ◌&&◌, not, eqb, ltb, inl, inr, subst, is_some, is_none, Option, Some, None, List, [], ◌∷◌, map, Contains, refl, sym, ◌∙◌, ap, arith}
+use Rattle.std.specs.List.{count_by, filter, list_any, range_with_len}
 use Rattle.std.proofs.lemmas.Bool.{not-false}
 use Rattle.std.proofs.lemmas.List.Sums.{sum_by-cons}
 use Rattle.iofd_runs.specs.Fits.{RowsFit}
 use Rattle.iofd_rows.specs.Pinned.{ArePinned}
-use Rattle.iofd_rows.proofs.Bools.{not_false}
+use Rattle.iofd_rows.proofs.Bools.{clash, not_false}
+use Rattle.iofd_rows.proofs.Each.{IsIn, in_filter}
+use Rattle.iofd_rows.proofs.ListTests.{false_else}
+use Rattle.iofd_rows.proofs.Unusable.{none_of}
 use Rattle.iofd_laws.proofs.FreshIds.{fresh_id}
 use Rattle.iofd_runs.proofs.Known.{bound_known}
 use Rattle.iofd_runs.proofs.NotRefused.{alloc_passed, attach_passed, bind_passed, hwpt_passed, map_passed, target_passed, user_map_passed}
+use Rattle.iofd_runs.proofs.StillTabled.{in_kept}
 use Rattle.iofd_runs.proofs.PinnedAccess.{some_outcome}
 use Rattle.iofd_words.specs.Answers.{Answers, IsHwptFor, IsHwptOf, IsMappedAt, IsTarget, UnmapAnswers, write_reply}
 use Rattle.iofd_words.specs.Areas.{is_waiting, touched_bytes}
 use Rattle.iofd_words.specs.Attachments.{devices_of}
-use Rattle.iofd_words.specs.Checks.{attach_checks, choices, has_choice, lacks_choice, lacks_room_for_hwpt, may_choose, refusal, taken_spans}
+use Rattle.iofd_words.specs.Checks.{attach_checks, choices, has_choice, lacks_choice, lacks_room_for_hwpt, least, mapped_start, may_choose, refusal, taken_spans}
 use Rattle.iofd_words.specs.Files.{device_of}
 use Rattle.iofd_words.specs.FirstTrue.{first_true}
 use Rattle.iofd_words.specs.Frames.{is_free}
@@ -49,13 +53,30 @@ counted {X = X} p (x ∷ xs) some = by_test (p x) refl (ap (λ n. eqb n 0) (sym 
     by_test true is some later = (x, is)
     by_test false is some later = let same : 0 + count_by p xs ≡ count_by p xs = omega arith in later (ap (λ n. eqb n 0) (sym same) ∙ some)
 
-one_of : {X : Type 0} (p : X → Bool) (xs : List X) → list_any p xs ≡ true → (x : X) × (p x ≡ true)
-one_of p [] some = cc
-one_of {X = X} p (x ∷ xs) some = by_test (p x) refl some (one_of p xs)
+-- the least of some numbers is one of them
+least_in : (n : ℕ) (numbers : List ℕ) → (m : ℕ) × (least (n ∷ numbers) ≡ Some m) × IsIn (n ∷ numbers) m
+least_in n [] = (n, refl, inl refl)
+least_in n (x ∷ numbers) = let (m, is, within) = least_in x numbers in by_order m is within (ltb m n) refl
   where
-    by_test : (b : Bool) → p x ≡ b → (b || list_any p xs) ≡ true → (list_any p xs ≡ true → (y : X) × (p y ≡ true)) → (y : X) × (p y ≡ true)
-    by_test true is some later = (x, is)
-    by_test false is some later = later some
+    of_rest : (m : ℕ) → least (x ∷ numbers) ≡ Some m → (b : Bool) → ltb m n ≡ b → least (n ∷ x ∷ numbers) ≡ Some (cond b m n)
+    of_rest m is b less = ap (λ (o : Option ℕ). elim o [ Some other ↦ Some (cond (ltb other n) other n) | None ↦ Some n ]) is ∙ ap (λ b. Some (cond b m n)) less
+
+    by_order : (m : ℕ) → least (x ∷ numbers) ≡ Some m → IsIn (x ∷ numbers) m → (b : Bool) → ltb m n ≡ b → (k : ℕ) × (least (n ∷ x ∷ numbers) ≡ Some k) × IsIn (n ∷ x ∷ numbers) k
+    by_order m is within true less = (m, of_rest m is true less, inr within)
+    by_order m is within false less = (n, of_rest m is false less, inl refl)
+
+-- the least that passes, where some do
+least_one : (p : ℕ → Bool) (numbers : List ℕ) → list_any p numbers ≡ true → (n : ℕ) × (least (filter p numbers) ≡ Some n) × (p n ≡ true)
+least_one p numbers some = by_list (filter p numbers) refl
+  where
+    by_list : (passing : List ℕ) → filter p numbers ≡ passing → (n : ℕ) × (least (filter p numbers) ≡ Some n) × (p n ≡ true)
+    by_list [] is = absurd (clash _ (any_none is) some)
+      where
+        any_none : filter p numbers ≡ [] → list_any p numbers ≡ false
+        any_none none = none_of p numbers (λ n within. false_else (p n) (λ passes. subst (λ list. IsIn list n) none (in_kept p numbers n within passes)))
+    by_list (x ∷ passing) is =
+        let (n, least_is, within) = least_in x passing in
+        (n, ap least is ∙ least_is, (in_filter p numbers n (subst (λ list. IsIn list n) (sym is) within)).1)
 
 first_of_map : {X Y : Type 0} (f : X → Y) (xs : List X) → (xs ≡ [] → ⊥) → (y : Y) × Contains (map f xs) y
 first_of_map f [] some = absurd (some refl)
@@ -75,15 +96,16 @@ module _ (at : ℕ) (w : World) (pins : ArePinned at w) (fits : RowsFit w) where
       by_test true waits = (reply.Pending EAGAIN, (waits, refl))
       by_test false waits = (reply.Bytes (touched_bytes w.areas file request), (not_false _ waits, refl))
 
-  -- the fixed address, or one that may be chosen
-  map_answer : (file : FileNo) (request : MapRequest) → lacks_choice (view w) file request ≡ false → (iova : Iova) × IsMappedAt w file request (is_fixed request.flags) iova
+  -- the fixed address, or the least that may be chosen
+  pub map_answer : (file : FileNo) (request : MapRequest) → lacks_choice (view w) file request ≡ false → (iova : Iova) × IsMappedAt w file request (is_fixed request.flags) iova × (mapped_start (view w) file request ≡ Some iova.0)
   map_answer file request chosen = by_flag (is_fixed request.flags) chosen
     where
-      by_flag : (fixed : Bool) → (not fixed && not (has_choice (view w) file request)) ≡ false → (iova : Iova) × IsMappedAt w file request fixed iova
-      by_flag true chosen = (request.iova, refl)
+      by_flag : (fixed : Bool) → (not fixed && not (has_choice (view w) file request)) ≡ false
+          → (iova : Iova) × IsMappedAt w file request fixed iova × (cond fixed (Some request.iova.0) (least (filter (may_choose (view w) file request) (starts_to_try (choices (view w) file request) (taken_spans (view w) file request)))) ≡ Some iova.0)
+      by_flag true chosen = (request.iova, refl, refl)
       by_flag false chosen =
-          let one = one_of (may_choose (view w) file request) (starts_to_try (choices (view w) file request) (taken_spans (view w) file request)) (not-false (has_choice (view w) file request) chosen) in
-          (record { 0 = one.0 }, one.1)
+          let (start, is, may) = least_one (may_choose (view w) file request) (starts_to_try (choices (view w) file request) (taken_spans (view w) file request)) (not-false (has_choice (view w) file request) chosen) in
+          (record { 0 = start }, may, is)
 
   -- a page table over the address space: the automatic one that is there, or a new one
   table_id : (file : FileNo) (o : Option Object) → (is_none o ≡ true → is_full w.objects file ≡ false) → (id : ObjId) × IsHwptFor w file id o
@@ -122,7 +144,7 @@ module _ (at : ℕ) (w : World) (pins : ArePinned at w) (fits : RowsFit w) where
       let (id, fresh) = fresh_id w.objects file (alloc_passed (view w) file none).roomy in
       (reply.Id id, fresh)
   some_answer (event.Map file request) none =
-      let (iova, at) = map_answer file request (map_passed (view w) file request none).chosen in
+      let (iova, at, is) = map_answer file request (map_passed (view w) file request none).chosen in
       (reply.Iova iova, at)
   some_answer (event.Unmap file request) none = unmap_answer file request
   some_answer (event.HwptAlloc file request) none =

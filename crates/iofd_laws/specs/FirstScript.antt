@@ -1,6 +1,7 @@
 -- A whole script, worked by hand: two files, one device, a mapped page, a write, and an UNMAP that waits for
--- a flush. Its records are a run; a few that differ from them in one place are not.
-use Rattle.std.specs.Prelude.{ℕ, false, List, [], ◌∷◌, ◌++◌}
+-- a flush. Its records are a run; a few that differ from them in one place are not. The device's page table, of width 39
+-- with one mapped page, has three tables: the root, one of level 2 and one of level 1.
+use Rattle.std.specs.Prelude.{ℕ, false, List, [], ◌∷◌, ◌++◌, map}
 use Rattle.std.specs.declared.alloc.Global.{Global}
 use Rattle.iofd_words.specs.Settings.{Settings}
 use Rattle.iofd_words.specs.declared.event.Event.{Event}
@@ -10,6 +11,7 @@ use Rattle.iofd_words.specs.declared.fault.FaultReason.{FaultReason}
 use Rattle.iofd_words.specs.declared.fault.FaultReason.TheVariants.{NoContext, BeyondWidth, ReadDenied}
 use Rattle.iofd_words.specs.declared.numbers.DeviceNo.{DeviceNo}
 use Rattle.iofd_words.specs.declared.numbers.FileNo.{FileNo}
+use Rattle.iofd_words.specs.declared.numbers.FrameNo.{FrameNo}
 use Rattle.iofd_words.specs.declared.numbers.ObjId.{ObjId}
 use Rattle.iofd_words.specs.declared.query.Answer.{Answer}
 use Rattle.iofd_words.specs.declared.query.Answer.TheVariants as answer
@@ -34,8 +36,16 @@ id n = record { 0 = n }
 abbrev device : DeviceNo
 device = record { 0 = 1 }
 
+abbrev frames : List ℕ → List FrameNo
+frames numbers = map (λ n. record { 0 = n }) numbers
+
+-- a record that takes frames for tables and gives frames of tables back
+abbrev moving : Event Global → Reply → List ℕ → List ℕ → Record Global
+moving e r taken given =
+    record { pass = record { 0 = 0 }; event = e; reply = r; taken = frames taken; given = frames given }
+
 abbrev step : Event Global → Reply → Record Global
-step e r = record { pass = record { 0 = 0 }; event = e; reply = r; taken = []; given = [] }
+step e r = moving e r [] []
 
 abbrev refused : Cause → Reply
 refused cause = reply.Refused (record { cause = cause })
@@ -73,9 +83,13 @@ bound =
     ∷ step (event.Bind (file 1) device) (reply.Id (id 2))
     ∷ []
 
+-- the attachment makes a page table, whose tables lie in these frames
+abbrev pub attach : List ℕ → Record Global
+attach taken = moving (event.Attach device (id 1)) (reply.Id (id 3)) taken []
+
 -- up to the device's write
 abbrev pub beginning : List (Record Global)
-beginning = bound ++ step (event.Attach device (id 1)) (reply.Id (id 3)) ∷ step write (reply.Passed (record { 0 = 0 })) ∷ []
+beginning = bound ++ attach (1 ∷ 2 ∷ 3 ∷ []) ∷ step write (reply.Passed (record { 0 = 0 })) ∷ []
 
 -- the UNMAP that waits for the flush
 abbrev pub unmapping : List (Record Global)
@@ -85,6 +99,10 @@ unmapping =
     ∷ step unmap_page (reply.Bytes 0x1000)
     ∷ []
 
+-- the device is detached; its page table goes, and its tables' frames with it
+abbrev pub detach : List ℕ → Record Global
+detach given = moving (event.Detach device) reply.Done [] given
+
 -- each file may destroy what is its own and unused
 abbrev pub ending : List (Record Global)
 ending =
@@ -92,7 +110,7 @@ ending =
     ∷ step (event.Destroy (file 2) (id 1)) reply.Done
     ∷ step (event.Destroy (file 2) (id 1)) (refused cause.Id)
     ∷ step (event.Destroy (file 1) (id 1)) (refused cause.InUse)
-    ∷ step (event.Detach device) reply.Done
+    ∷ detach (1 ∷ 2 ∷ 3 ∷ [])
     ∷ step (event.Destroy (file 1) (id 1)) reply.Done
     ∷ []
 
@@ -160,3 +178,22 @@ wrong_cause =
     step
     (event.Map (file 1) (record { flags = record { 0 = 7 }; ioas = id 9; user_va = 0x10000; length = 0x1000; iova = record { 0 = 0x1001 } }))
     (refused cause.Id)
+
+-- ---- frames of tables
+
+-- the UNMAP gives the two lower tables back, which no area needs any more, and the detachment the root
+abbrev pub lower_first : List (Record Global)
+lower_first =
+    step unmap_page (reply.Pending EAGAIN)
+    ∷ step (event.Flush device) reply.Done
+    ∷ moving unmap_page (reply.Bytes 0x1000) [] (2 ∷ 3 ∷ [])
+    ∷ detach (1 ∷ [])
+    ∷ []
+
+-- the UNMAP waits, and gives a table back already
+abbrev pub given_early : Record Global
+given_early = moving unmap_page (reply.Pending EAGAIN) [] (3 ∷ [])
+
+-- the device is detached with its area mapped still: all three tables go; here one is kept
+abbrev pub table_kept : Record Global
+table_kept = detach (1 ∷ 2 ∷ [])

@@ -1,31 +1,41 @@
 -- What is true of every run, in the subject's words.
-use Rattle.std.specs.Prelude.{◌≡◌, ◌≢◌, ◌<◌, ℕ, Bool, true, false, ◌==◌, ◌&&◌, ◌||◌, not, nat_le, Option, Some, None, List, [], ◌∷◌, filter, find}
+use Rattle.std.specs.Prelude.{◌≡◌, ◌≢◌, ◌<◌, ◌≤◌, ℕ, Contains, IsTrue, Bool, true, false, nat_le, nat_lt, ◌||◌, ◌==◌, ◌&&◌, not, Option, Some, None, List, [], ◌∷◌, filter, find}
 use Rattle.std.specs.List.{list_all, list_any}
 use Rattle.iofd_words.specs.Allowed.{AllowedRanges}
+use Rattle.iofd_words.specs.Answers.{Answers}
 use Rattle.iofd_words.specs.Areas.{is_of, meets_area}
 use Rattle.iofd_words.specs.Frames.{is_reached}
-use Rattle.iofd_words.specs.Objects.{binding_of, objects_of}
+use Rattle.iofd_words.specs.Levels.{first_address, levels_of}
+use Rattle.iofd_words.specs.Objects.{binding_of, kind_of, objects_of}
+use Rattle.iofd_words.specs.Pages.{page_of}
 use Rattle.iofd_words.specs.Pins.{ObjectPage, frame_now, held_by, pinned_frame}
+use Rattle.iofd_words.specs.Rights.{is_fixed}
+use Rattle.iofd_words.specs.Run.{Lawful}
+use Rattle.iofd_words.specs.Span.{holds}
+use Rattle.iofd_words.specs.TablePlaces.{has_table, is_live, root_place}
+use Rattle.iofd_words.specs.Tables.{is_orphan}
 use Rattle.iofd_words.specs.World.{World}
 use Rattle.iofd_words.specs.declared.event.Event.{Event}
 use Rattle.iofd_words.specs.declared.event.Event.TheVariants as event
 use Rattle.iofd_words.specs.declared.numbers.DeviceNo.{DeviceNo}
 use Rattle.iofd_words.specs.declared.numbers.FileNo.{FileNo}
 use Rattle.iofd_words.specs.declared.numbers.FrameNo.{FrameNo}
+use Rattle.iofd_words.specs.declared.numbers.ObjId.{ObjId}
 use Rattle.iofd_words.specs.declared.numbers.UserNo.{UserNo}
+use Rattle.iofd_words.specs.declared.record.Record.{Record}
 use Rattle.iofd_words.specs.declared.rows.Area.{Area}
 use Rattle.iofd_words.specs.declared.rows.Attachment.{Attachment}
 use Rattle.iofd_words.specs.declared.rows.MemoryObject.{MemoryObject}
 use Rattle.iofd_words.specs.declared.rows.Object.{Object}
+use Rattle.iofd_words.specs.declared.rows.ObjectKind.TheVariants as kind
+use Rattle.iofd_words.specs.declared.rows.Pin.{Pin}
+use Rattle.iofd_words.specs.declared.rows.TableFrame.{TableFrame}
 use Rattle.iofd_words.specs.declared.rows.UserPage.{UserPage}
+use Rattle.iofd_words.specs.declared.width.Width.{Width}
 
 -- ---- areas
 
--- no area meets a later one of its address space, live or leaving
-abbrev pub are_apart : List Area → Bool
-are_apart [] = true
-are_apart (area ∷ areas) = not (meets_area areas area.file area.ioas area.span) && are_apart areas
-
+-- the other begins no lower, where both are of one address space
 abbrev pub begins_before : Area → Area → Bool
 begins_before area other = not (is_of area.file area.ioas other) || nat_le area.span.first other.span.first
 
@@ -44,6 +54,39 @@ have_own_frames (page ∷ pages) = not (list_any (λ p. p.frame.0 == page.frame.
 -- a frame that a record gives out was a frame of the pool that no user, no pin and no page table had
 abbrev pub WasFree : World → FrameNo → Type 0
 WasFree w frame = (frame.0 < w.settings.pool) × (is_reached w.user_pages w.pins w.table_frames frame.0 ≡ false)
+
+-- ---- tables
+
+-- no frame is that of a later table too
+abbrev pub tables_differ : List TableFrame → Bool
+tables_differ [] = true
+tables_differ (table ∷ tables) = not (list_any (λ other. other.frame.0 == table.frame.0) tables) && tables_differ tables
+
+-- the table's frame is neither a user's page nor a pin's
+abbrev pub is_alone : List UserPage → List Pin → TableFrame → Bool
+is_alone pages pins table =
+    not (list_any (λ p. p.frame.0 == table.frame.0) pages) && not (list_any (λ pin. pin.frame.0 == table.frame.0) pins)
+
+pub record TablesAlone (w : World) : Type 0 where
+  -- each table's frame is one of the pool
+  pub pool : list_all (λ table. nat_lt table.frame.0 w.settings.pool) w.table_frames ≡ true
+  pub differ : tables_differ w.table_frames ≡ true
+  pub alone : list_all (is_alone w.user_pages w.pins) w.table_frames ≡ true
+
+-- which tables the page tables have
+pub record TablesServe (w : World) : Type 0 where
+  -- each page table has its root
+  pub roots : (file : FileNo) (id ioas : ObjId) (width : Width) (automatic : Bool)
+      → kind_of w.objects file id ≡ Some (kind.Hwpt ioas width automatic)
+      → IsTrue (has_table w.table_frames file id (root_place width))
+  -- and on each level below it the table through which an address of a live area of its address space goes
+  pub below : (file : FileNo) (id ioas : ObjId) (width : Width) (automatic : Bool) (area : Area) (address level : ℕ)
+      → kind_of w.objects file id ≡ Some (kind.Hwpt ioas width automatic)
+      → Contains w.areas area → IsTrue (is_of file ioas area && is_live area.phase) → IsTrue (holds area.span address)
+      → 1 ≤ level → level < levels_of width
+      → IsTrue (has_table w.table_frames file id (record { level = level; first = first_address level (page_of address) }))
+  -- each row is of a page table that is there
+  pub owned : list_all (λ table. not (is_orphan w.objects table)) w.table_frames ≡ true
 
 -- ---- files
 
@@ -124,3 +167,15 @@ pin_moves page old new =
 -- how many pinned pages a user has
 abbrev pub held_in : World → UserNo → ℕ
 held_in w user = held_by (pinned_frame w.pins) w.memory user
+
+-- ---- records
+
+-- a record of this event may be made at this position: with an answer of the event, and with frames for the tables
+-- that it needs
+abbrev pub HasRecord : {A : Type 0} → ℕ → World → Event A → Type 0
+HasRecord {A = A} at w e = (r : Record A) × (r.event ≡ e) × Answers w e r.reply × Lawful at w r
+
+-- a MAP that leaves its address to the server
+abbrev pub chooses_address : {A : Type 0} → Event A → Bool
+chooses_address (event.Map file request) = not (is_fixed request.flags)
+chooses_address e = false

@@ -1,15 +1,18 @@
 //! What is true of every run, each the contract of a function that does nothing.
 
-ghost use Rattle.std.specs.Prelude.{◌≡◌, ◌≢◌, ◌≤◌, ℕ, Some, None, List, [], ◌∷◌, ◌++◌, length, IsTrue};
+ghost use Rattle.std.specs.Prelude.{◌≡◌, ◌≢◌, ◌≤◌, ℕ, false, Some, None, List, [], ◌∷◌, ◌++◌, length, Contains, IsTrue};
 ghost use Rattle.iofd_rows.specs.Debts.{DebtsAttached};
+ghost use Rattle.iofd_runs.specs.Apart.{are_apart};
 ghost use Rattle.iofd_runs.specs.Fits.{RowsFit};
 ghost use Rattle.iofd_runs.specs.InUsable.{AreasUsable};
 ghost use Rattle.iofd_runs.specs.Owned.{AreasOwned};
 ghost use Rattle.iofd_runs.specs.Rising.{objects_rise};
-ghost use Rattle.iofd_laws.specs.Laws.{are_apart, have_own_frames, has_memory, held_in, IsOfAnother, SameMemory, WasFree, rows_of, starts_rise};
+ghost use Rattle.iofd_laws.specs.Laws.{chooses_address, have_own_frames, has_memory, held_in, HasRecord};
+ghost use Rattle.iofd_laws.specs.Laws.{IsOfAnother, SameMemory, TablesAlone, TablesServe, WasFree, rows_of, starts_rise};
 ghost use Rattle.iofd_rows.specs.Ids.{AreBoundOnce, have_own_ids};
 ghost use Rattle.iofd_laws.specs.Laws.{pin_moves};
 ghost use Rattle.iofd_rows.specs.Pinned.{ArePinned};
+ghost use Rattle.iofd_words.specs.After.{changed};
 ghost use Rattle.iofd_words.specs.Answers.{Answers};
 ghost use Rattle.iofd_words.specs.Checks.{refusal};
 ghost use Rattle.iofd_words.specs.Files.{limit_of};
@@ -17,6 +20,7 @@ ghost use Rattle.iofd_words.specs.Pins.{ObjectPage};
 ghost use Rattle.iofd_words.specs.Policy.{outcomes};
 ghost use Rattle.iofd_words.specs.Run.{IsRun, after, world_of};
 ghost use Rattle.iofd_words.specs.Settings.{Settings};
+ghost use Rattle.iofd_words.specs.Tables.{MovesTables};
 ghost use Rattle.iofd_words.specs.declared.event.Event.{Event};
 ghost use Rattle.iofd_words.specs.declared.fault.AccessKind.{AccessKind};
 ghost use Rattle.iofd_words.specs.declared.numbers.DeviceNo.{DeviceNo};
@@ -24,6 +28,7 @@ ghost use Rattle.iofd_words.specs.declared.numbers.FileNo.{FileNo};
 ghost use Rattle.iofd_words.specs.declared.numbers.FrameNo.{FrameNo};
 ghost use Rattle.iofd_words.specs.declared.numbers.UserNo.{UserNo};
 ghost use Rattle.iofd_words.specs.declared.record.Record.{Record};
+ghost use Rattle.iofd_words.specs.declared.refusal.Cause.TheVariants as cause;
 ghost use Rattle.iofd_words.specs.declared.reply.Reply.{Reply};
 ghost use Rattle.iofd_words.specs.declared.reply.Reply.TheVariants as reply;
 
@@ -47,10 +52,29 @@ pub fn user_pages_have_own_frames<A: Allocator>()
         IsTrue (have_own_frames (world_of settings records).user_pages) }
 {}
 
-/// In every run, a frame that is given out is one of the pool that no user and no pin had.
+/// In every run, a frame that is given out, to a user or for a table, is one of the pool that no user, no pin and no
+/// page table had.
 pub fn only_free_frames_are_given_out<A: Allocator>()
-    ensures { (settings : Settings) (before : List (Record A)) (r : Record A) (later : List (Record A)) (frame : FrameNo) →
+    ensures to_users { (settings : Settings) (before : List (Record A)) (r : Record A) (later : List (Record A))
+        (frame : FrameNo) →
         IsRun settings (before ++ r ∷ later) → r.reply ≡ reply.Frame frame → WasFree (world_of settings before) frame }
+    ensures for_tables { (settings : Settings) (before : List (Record A)) (r : Record A) (later : List (Record A))
+        (frame : FrameNo) →
+        IsRun settings (before ++ r ∷ later) → Contains r.taken frame → WasFree (world_of settings before) frame }
+{}
+
+/// In every run, a frame that holds a table is one of the pool and holds no other table, and no user's page and no pin
+/// has it.
+pub fn tables_have_own_frames<A: Allocator>()
+    ensures { (settings : Settings) (records : List (Record A)) → IsRun settings records →
+        TablesAlone (world_of settings records) }
+{}
+
+/// In every run, each page table has its root, and on each level below it the table through which an address of a live
+/// area of its address space goes; and each table is of a page table that is there.
+pub fn page_tables_have_what_they_need<A: Allocator>()
+    ensures { (settings : Settings) (records : List (Record A)) → IsRun settings records →
+        TablesServe (world_of settings records) }
 {}
 
 /// In every run, an id is that of at most one object of a file.
@@ -91,10 +115,24 @@ pub fn every_access_has_an_answer<A: Allocator>()
         IsRun settings records → outcomes (world_of settings records) device address right ≢ [] }
 {}
 
-/// In every run, an event that nothing refuses has a lawful answer.
+/// In every run, an event that nothing refuses has a lawful record: an answer, and frames for the tables that it needs.
+/// So where the pool has too few frames, that is always told by a refusal.
 pub fn every_event_has_an_answer<A: Allocator>()
     ensures { (settings : Settings) (records : List (Record A)) (event : Event A) → IsRun settings records →
-        refusal (world_of settings records) event ≡ None → (answer : Reply) × Answers (world_of settings records) event answer }
+        refusal (world_of settings records) event ≡ None →
+        HasRecord (length records) (world_of settings records) event }
+{}
+
+/// In every run, an event that is refused for want of frames could not be carried out: with none of its answers are
+/// there frames for all tables that would be needed then, or one for a user. Of a MAP that leaves its address to the
+/// server this isn't said: at another address than the least it might need fewer tables.
+pub fn refusals_for_frames_are_due<A: Allocator>()
+    ensures { (settings : Settings) (records : List (Record A)) (event : Event A) (answer : Reply)
+        (taken given : List FrameNo) → IsRun settings records →
+        refusal (world_of settings records) event ≡ Some cause.Frames → chooses_address event ≡ false →
+        Answers (world_of settings records) event answer →
+        MovesTables (world_of settings records) (changed (length records) (world_of settings records) event answer)
+        event answer taken given → ⊥ }
 {}
 
 /// In every run, each area begins at a page, is of whole pages and no longer than a user's memory, attachments rise by

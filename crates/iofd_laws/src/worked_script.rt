@@ -11,6 +11,11 @@ pub fn worked_script_is_a_run()
     ensures { IsRun script.settings script.whole }
 {}
 
+/// The tables that no area needs any more may go with the UNMAP that answers its bytes, before their page table.
+pub fn lower_tables_may_go_first()
+    ensures { IsRun script.settings (script.beginning ++ script.lower_first) }
+{}
+
 /// While the device owes its flush, its write may pass and may be denied.
 pub fn owed_flush_leaves_both_answers()
     ensures passed { IsRun script.settings (script.beginning ++ script.still_owed ++ script.write_passed ∷ []) }
@@ -45,4 +50,12 @@ pub fn altered_scripts_are_no_runs()
     ensures too_early { IsRun script.settings (script.beginning ++ script.too_early ∷ []) → ⊥ }
     // of two causes that apply the second is answered
     ensures wrong_cause { IsRun script.settings (script.beginning ++ script.wrong_cause ∷ []) → ⊥ }
+    // a table lies in the frame of a user's page
+    ensures users_frame { IsRun script.settings (script.bound ++ script.attach (0 ∷ 1 ∷ 2 ∷ []) ∷ []) → ⊥ }
+    // a page table has too few tables
+    ensures too_few { IsRun script.settings (script.bound ++ script.attach (1 ∷ 2 ∷ []) ∷ []) → ⊥ }
+    // an UNMAP that waits gives a table back
+    ensures given_early { IsRun script.settings (script.beginning ++ script.given_early ∷ []) → ⊥ }
+    // a table stays where its page table goes
+    ensures table_kept { IsRun script.settings (script.beginning ++ script.table_kept ∷ []) → ⊥ }
 {}

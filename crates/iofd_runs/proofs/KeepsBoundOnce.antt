@@ -1,6 +1,5 @@
 -- Every event keeps each device bound by at most one object.
-use Rattle.std.proofs.Common.{◌≡◌, ℕ, ◌≤◌, ◌&&◌, Bool, true, false, eqb, not, is_some, Option, Some, None, List, [], ◌∷◌, refl, ap, sym, ◌∙◌, arith}
-use Rattle.std.specs.List.{filter}
+use Rattle.std.proofs.Common.{◌≡◌, ℕ, ◌&&◌, true, false, eqb, not, is_some, Option, Some, None, List, refl, ap, sym, ◌∙◌, arith}
 use Rattle.std.proofs.lemmas.Bool.{eqb-true}
 use Rattle.iofd_words.specs.After.{attach_changes, changed, detach_changes, goes_with, hwpt_changes, joined, map_changes, settle, target_changes, with_hwpt, without_areas, attached, detached}
 use Rattle.iofd_words.specs.Answers.{Answers}
@@ -28,7 +27,6 @@ use Rattle.iofd_words.specs.declared.rows.ObjectKind.{ObjectKind}
 use Rattle.iofd_words.specs.declared.rows.ObjectKind.TheVariants as kind
 use Rattle.iofd_words.specs.declared.width.Width.{Width}
 use Rattle.iofd_rows.specs.Ids.{AreBoundOnce}
-use Rattle.iofd_rows.proofs.Bools.{clash}
 use Rattle.iofd_rows.proofs.BoundOnce.{once-filter, once-with_object}
 use Rattle.iofd_runs.proofs.NotRefused.{bind_passed}
 

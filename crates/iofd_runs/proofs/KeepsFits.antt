@@ -1,5 +1,5 @@
--- Areas are of whole pages, attachments rise by device, frames are of the pool, and objects and devices are known.
-use Rattle.std.proofs.Common.{◌≡◌, ℕ, ◌+◌, ◌<◌, ◌≤◌, ◌^◌, Bool, true, false, cond, ◌&&◌, not, eqb, ltb, is_some, Option, Some, None, List, [], ◌∷◌, refl, arith, ◌++◌, IsTrue}
+-- Areas are of whole pages and give some right, attachments rise by device, frames are of the pool, and objects and devices are known.
+use Rattle.std.proofs.Common.{◌≡◌, ℕ, ◌+◌, ◌<◌, ◌≤◌, ◌^◌, Bool, true, false, cond, ◌&&◌, ◌||◌, not, eqb, ltb, is_some, Option, Some, None, List, [], ◌∷◌, refl, arith, ◌++◌, IsTrue}
 use Rattle.std.specs.List.{filter, list_all, find, filter_map, list_any}
 use Rattle.std.proofs.lemmas.Bool.Decides.{nat_tests}
 use Rattle.iofd_words.specs.After.{changed, map_changes, attach_changes, target_changes, detach_changes, hwpt_changes, made_hwpt, settle, without_areas, attached, detached, joined, mapped_area}
@@ -8,13 +8,13 @@ use Rattle.iofd_words.specs.Areas.{all_paid}
 use Rattle.iofd_words.specs.Attachments.{attachment_of, with_attachment}
 use Rattle.iofd_words.specs.Checks.{map_checks, refusal}
 use Rattle.iofd_words.specs.Files.{device_of, is_device, is_open, user_of}
-use Rattle.iofd_runs.specs.Fits.{RowsFit, begins_at_page, devices_rise, is_of_pages}
+use Rattle.iofd_runs.specs.Fits.{RowsFit, begins_at_page, devices_rise, has_rights, is_of_pages}
 use Rattle.iofd_words.specs.FirstTrue.{first_true}
 use Rattle.iofd_words.specs.Frames.{frame_at, is_free}
 use Rattle.iofd_words.specs.Objects.{automatic_hwpt, binding_of, kind_of, settings_under}
 use Rattle.iofd_words.specs.Pages.{is_above_user, page_of}
 use Rattle.iofd_words.specs.Pins.{ObjectPage, frame_now, is_page, pin_now, settled}
-use Rattle.iofd_words.specs.Rights.{is_fixed}
+use Rattle.iofd_words.specs.Rights.{is_fixed, is_readable, is_writeable}
 use Rattle.iofd_words.specs.Settings.{DeviceSettings}
 use Rattle.iofd_words.specs.Span.{size_of, span_from}
 use Rattle.iofd_words.specs.Tables.{with_tables}
@@ -63,6 +63,15 @@ mapped_pages at w file request iova none =
 
 mapped_start : (at : ℕ) (w : World) (file : FileNo) (request : MapRequest) (iova : Iova) → IsMappedAt w file request (is_fixed request.flags) iova → first_true (map_checks (view w) file request) ≡ None → begins_at_page (mapped_area at file request iova) ≡ true
 mapped_start at w file request iova is none = (lies_at w file request iova none is).whole
+
+some_rights : (reads writes : Bool) → not (reads || writes) ≡ false → (ltb 0 (cond reads 1 0 + cond writes 2 0) && ltb (cond reads 1 0 + cond writes 2 0) 4) ≡ true
+some_rights true true some = refl
+some_rights true false some = refl
+some_rights false true some = refl
+some_rights false false some = cc
+
+mapped_rights : (at : ℕ) (w : World) (file : FileNo) (request : MapRequest) (iova : Iova) → first_true (map_checks (view w) file request) ≡ None → has_rights (mapped_area at file request iova) ≡ true
+mapped_rights at w file request iova none = some_rights (is_readable request.flags) (is_writeable request.flags) (map_passed (view w) file request none).right
 
 -- ---- one more attachment
 
@@ -113,42 +122,43 @@ all_both : {X : Type 0} (p : X → Bool) (xs ys : List X) → list_all p xs ≡ 
 all_both p [] ys first second = second
 all_both p (x ∷ xs) ys first second = let parts = and_true (p x) (list_all p xs) first in both_true _ _ parts.0 (all_both p xs ys parts.1 second)
 
-frame_below : (pool : ℕ) (pages : List UserPage) (user : UserNo) (page : ℕ) (frame : FrameNo) → list_all (λ (p : UserPage). ltb p.frame.0 pool) pages ≡ true → frame_at pages user page ≡ Some frame → ltb frame.0 pool ≡ true
-frame_below pool pages user page frame all at = by_found (find (λ (p : UserPage). eqb p.user.0 user.0 && eqb p.page page) pages) refl
+frame_passes : (q : ℕ → Bool) (pages : List UserPage) (user : UserNo) (page : ℕ) (frame : FrameNo) → list_all (λ (p : UserPage). q p.frame.0) pages ≡ true → frame_at pages user page ≡ Some frame → q frame.0 ≡ true
+frame_passes q pages user page frame all at = by_found (find (λ (p : UserPage). eqb p.user.0 user.0 && eqb p.page page) pages) refl
   where
     none : None ≡ Some frame → ⊥
     none is = cc
 
-    by_found : (o : Option UserPage) → find (λ (p : UserPage). eqb p.user.0 user.0 && eqb p.page page) pages ≡ o → ltb frame.0 pool ≡ true
+    by_found : (o : Option UserPage) → find (λ (p : UserPage). eqb p.user.0 user.0 && eqb p.page page) pages ≡ o → q frame.0 ≡ true
     by_found None found = absurd (none (rw (found, frame_at) at at))
     by_found (Some p) found =
         let same : Some p.frame ≡ Some frame = rw (found, frame_at) at at in
         let is : p.frame ≡ frame = cc in
-        rw (← is) (found_passes (λ (p : UserPage). ltb p.frame.0 pool) (λ (p : UserPage). eqb p.user.0 user.0 && eqb p.page page) pages p all found).0
+        rw (← is) (found_passes (λ (p : UserPage). q p.frame.0) (λ (p : UserPage). eqb p.user.0 user.0 && eqb p.page page) pages p all found).0
 
-module _ (pool : ℕ) (memory : List MemoryObject) (pages : List UserPage) (all : list_all (λ (p : UserPage). ltb p.frame.0 pool) pages ≡ true) where
-  now_below : (page : ObjectPage) (frame : FrameNo) → frame_now memory pages page ≡ Some frame → ltb frame.0 pool ≡ true
-  now_below page frame now = by_found (find (λ (m : MemoryObject). eqb m.number page.memory) memory) refl
+-- what holds of the frames of users' pages and of pins holds of those of pins that are settled
+module _ (q : ℕ → Bool) (memory : List MemoryObject) (pages : List UserPage) (all : list_all (λ (p : UserPage). q p.frame.0) pages ≡ true) where
+  now_passes : (page : ObjectPage) (frame : FrameNo) → frame_now memory pages page ≡ Some frame → q frame.0 ≡ true
+  now_passes page frame now = by_found (find (λ (m : MemoryObject). eqb m.number page.memory) memory) refl
     where
       none : None ≡ Some frame → ⊥
       none is = cc
 
-      by_found : (o : Option MemoryObject) → find (λ (m : MemoryObject). eqb m.number page.memory) memory ≡ o → ltb frame.0 pool ≡ true
+      by_found : (o : Option MemoryObject) → find (λ (m : MemoryObject). eqb m.number page.memory) memory ≡ o → q frame.0 ≡ true
       by_found None found = absurd (none (rw (found, frame_now) at now))
-      by_found (Some m) found = frame_below pool pages m.user (page_of m.va + page.index) frame all (rw (found, frame_now) at now)
+      by_found (Some m) found = frame_passes q pages m.user (page_of m.va + page.index) frame all (rw (found, frame_now) at now)
 
-  new_below : (new : List ObjectPage) → list_all (λ (pin : Pin). ltb pin.frame.0 pool) (filter_map (pin_now memory pages) new) ≡ true
-  new_below [] = refl
-  new_below (page ∷ new) = by_frame (frame_now memory pages page) refl (new_below new)
+  new_pass : (new : List ObjectPage) → list_all (λ (pin : Pin). q pin.frame.0) (filter_map (pin_now memory pages) new) ≡ true
+  new_pass [] = refl
+  new_pass (page ∷ new) = by_frame (frame_now memory pages page) refl (new_pass new)
     where
-      by_frame : (o : Option FrameNo) → frame_now memory pages page ≡ o → list_all (λ (pin : Pin). ltb pin.frame.0 pool) (filter_map (pin_now memory pages) new) ≡ true
-          → list_all (λ (pin : Pin). ltb pin.frame.0 pool) (filter_map (pin_now memory pages) (page ∷ new)) ≡ true
+      by_frame : (o : Option FrameNo) → frame_now memory pages page ≡ o → list_all (λ (pin : Pin). q pin.frame.0) (filter_map (pin_now memory pages) new) ≡ true
+          → list_all (λ (pin : Pin). q pin.frame.0) (filter_map (pin_now memory pages) (page ∷ new)) ≡ true
       by_frame None now rest = rw (now, pin_now, filter_map) rest
-      by_frame (Some frame) now rest = rw (now, pin_now, filter_map) (both_true _ _ (now_below page frame now) rest)
+      by_frame (Some frame) now rest = rw (now, pin_now, filter_map) (both_true _ _ (now_passes page frame now) rest)
 
-  settled_below : (before after : List ObjectPage) (pins : List Pin) → list_all (λ (pin : Pin). ltb pin.frame.0 pool) pins ≡ true → list_all (λ (pin : Pin). ltb pin.frame.0 pool) (settled before after memory pages pins) ≡ true
-  settled_below before after pins below =
-      all_both (λ (pin : Pin). ltb pin.frame.0 pool) _ _ (all_filter (λ (pin : Pin). ltb pin.frame.0 pool) _ pins below) (new_below (filter (λ page. not (list_any (is_page page) before)) after))
+  pub settled_frames : (before after : List ObjectPage) (pins : List Pin) → list_all (λ (pin : Pin). q pin.frame.0) pins ≡ true → list_all (λ (pin : Pin). q pin.frame.0) (settled before after memory pages pins) ≡ true
+  settled_frames before after pins below =
+      all_both (λ (pin : Pin). q pin.frame.0) _ _ (all_filter (λ (pin : Pin). q pin.frame.0) _ pins below) (new_pass (filter (λ page. not (list_any (is_page page) before)) after))
 
 free_below : (pool : ℕ) (pages : List UserPage) (pins : List Pin) (tables : List TableFrame) (frame : ℕ) → IsTrue (is_free pool pages pins tables frame) → ltb frame pool ≡ true
 free_below pool pages pins tables frame free = (and_true (ltb frame pool) _ free).0
@@ -157,14 +167,14 @@ free_below pool pages pins tables frame free = (and_true (ltb frame pool) _ free
 
 pub keeps_fit : {A : Type 0} → (at : ℕ) (w : World) (e : Event A) (answer : Reply) → refusal w e ≡ None → Answers w e answer → RowsFit w → RowsFit (changed at w e answer)
 unfolding changed settle without_areas attached detached joined Answers
-keeps_fit at w (event.IoasAlloc file) (reply.Id id) none answers fits = record { pages = fits.pages; starts = fits.starts; rise = fits.rise; user_frames = fits.user_frames; pin_frames = fits.pin_frames; known = known_one (is_known w.settings w.closed) (record { file = file; id = id; kind = kind.Ioas }) w.objects (both_true _ _ (alloc_open w file none) refl) fits.known; attached = fits.attached }
+keeps_fit at w (event.IoasAlloc file) (reply.Id id) none answers fits = record { pages = fits.pages; starts = fits.starts; rights = fits.rights; rise = fits.rise; user_frames = fits.user_frames; pin_frames = fits.pin_frames; known = known_one (is_known w.settings w.closed) (record { file = file; id = id; kind = kind.Ioas }) w.objects (both_true _ _ (alloc_open w file none) refl) fits.known; attached = fits.attached }
 keeps_fit at w (event.Map file request) (reply.Iova iova) none answers fits = mapped (user_of w.settings file)
   where
     mapped : (user : Option UserNo) → RowsFit (map_changes at w file request iova user)
     mapped None = fits
-    mapped (Some user) = record { pages = all-with_area is_of_pages (mapped_area at file request iova) w.areas (mapped_pages at w file request iova none) fits.pages; starts = all-with_area begins_at_page (mapped_area at file request iova) w.areas (mapped_start at w file request iova answers none) fits.starts; rise = fits.rise; user_frames = fits.user_frames; pin_frames = settled_below w.settings.pool _ w.user_pages fits.user_frames _ _ w.pins fits.pin_frames; known = fits.known; attached = fits.attached }
-keeps_fit at w (event.Unmap file request) (reply.Bytes count) none answers fits = record { pages = all_filter is_of_pages _ w.areas fits.pages; starts = all_filter begins_at_page _ w.areas fits.starts; rise = fits.rise; user_frames = fits.user_frames; pin_frames = settled_below w.settings.pool _ w.user_pages fits.user_frames _ _ w.pins fits.pin_frames; known = fits.known; attached = fits.attached }
-keeps_fit at w (event.Unmap file request) (reply.Pending errno) none answers fits = record { pages = all_map is_of_pages is_of_pages _ w.areas (λ area is. is) fits.pages; starts = all_map begins_at_page begins_at_page _ w.areas (λ area is. is) fits.starts; rise = fits.rise; user_frames = fits.user_frames; pin_frames = fits.pin_frames; known = fits.known; attached = fits.attached }
+    mapped (Some user) = record { pages = all-with_area is_of_pages (mapped_area at file request iova) w.areas (mapped_pages at w file request iova none) fits.pages; starts = all-with_area begins_at_page (mapped_area at file request iova) w.areas (mapped_start at w file request iova answers none) fits.starts; rights = all-with_area has_rights (mapped_area at file request iova) w.areas (mapped_rights at w file request iova none) fits.rights; rise = fits.rise; user_frames = fits.user_frames; pin_frames = settled_frames (λ n. ltb n w.settings.pool) _ w.user_pages fits.user_frames _ _ w.pins fits.pin_frames; known = fits.known; attached = fits.attached }
+keeps_fit at w (event.Unmap file request) (reply.Bytes count) none answers fits = record { pages = all_filter is_of_pages _ w.areas fits.pages; starts = all_filter begins_at_page _ w.areas fits.starts; rights = all_filter has_rights _ w.areas fits.rights; rise = fits.rise; user_frames = fits.user_frames; pin_frames = settled_frames (λ n. ltb n w.settings.pool) _ w.user_pages fits.user_frames _ _ w.pins fits.pin_frames; known = fits.known; attached = fits.attached }
+keeps_fit at w (event.Unmap file request) (reply.Pending errno) none answers fits = record { pages = all_map is_of_pages is_of_pages _ w.areas (λ area is. is) fits.pages; starts = all_map begins_at_page begins_at_page _ w.areas (λ area is. is) fits.starts; rights = all_map has_rights has_rights _ w.areas (λ area is. is) fits.rights; rise = fits.rise; user_frames = fits.user_frames; pin_frames = fits.pin_frames; known = fits.known; attached = fits.attached }
 keeps_fit at w (event.HwptAlloc file request) (reply.Id id) none answers fits =
     made (settings_under w.settings w.objects file request.device)
   where
@@ -175,18 +185,20 @@ keeps_fit at w (event.HwptAlloc file request) (reply.Id id) none answers fits =
         record {
           pages = fits.pages;
           starts = fits.starts;
+          rights = fits.rights;
           rise = fits.rise;
           user_frames = fits.user_frames;
-          pin_frames = settled_below w.settings.pool _ w.user_pages fits.user_frames _ _ w.pins fits.pin_frames;
+          pin_frames = settled_frames (λ n. ltb n w.settings.pool) _ w.user_pages fits.user_frames _ _ w.pins fits.pin_frames;
           known = known_one (is_known w.settings w.closed) (made_hwpt file request.ioas id settings) w.objects (both_true _ _ opened refl) fits.known;
           attached = fits.attached;
         }
-keeps_fit at w (event.Destroy file id) reply.Done none answers fits = record { pages = all_filter is_of_pages _ w.areas fits.pages; starts = all_filter begins_at_page _ w.areas fits.starts; rise = fits.rise; user_frames = fits.user_frames; pin_frames = settled_below w.settings.pool _ w.user_pages fits.user_frames _ _ w.pins fits.pin_frames; known = all_filter (is_known w.settings w.closed) _ w.objects fits.known; attached = fits.attached }
-keeps_fit at w (event.Close file) reply.Done none answers fits = record { pages = all_filter is_of_pages _ w.areas fits.pages; starts = all_filter begins_at_page _ w.areas fits.starts; rise = rise-filter _ w.attachments fits.rise; user_frames = fits.user_frames; pin_frames = settled_below w.settings.pool _ w.user_pages fits.user_frames _ _ w.pins fits.pin_frames; known = known_closed w.settings w.closed file w.objects fits.known; attached = all_filter _ _ w.attachments fits.attached }
+keeps_fit at w (event.Destroy file id) reply.Done none answers fits = record { pages = all_filter is_of_pages _ w.areas fits.pages; starts = all_filter begins_at_page _ w.areas fits.starts; rights = all_filter has_rights _ w.areas fits.rights; rise = fits.rise; user_frames = fits.user_frames; pin_frames = settled_frames (λ n. ltb n w.settings.pool) _ w.user_pages fits.user_frames _ _ w.pins fits.pin_frames; known = all_filter (is_known w.settings w.closed) _ w.objects fits.known; attached = fits.attached }
+keeps_fit at w (event.Close file) reply.Done none answers fits = record { pages = all_filter is_of_pages _ w.areas fits.pages; starts = all_filter begins_at_page _ w.areas fits.starts; rights = all_filter has_rights _ w.areas fits.rights; rise = rise-filter _ w.attachments fits.rise; user_frames = fits.user_frames; pin_frames = settled_frames (λ n. ltb n w.settings.pool) _ w.user_pages fits.user_frames _ _ w.pins fits.pin_frames; known = known_closed w.settings w.closed file w.objects fits.known; attached = all_filter _ _ w.attachments fits.attached }
 keeps_fit at w (event.UserMap user va) (reply.Frame frame) none answers fits =
     record {
       pages = fits.pages;
       starts = fits.starts;
+      rights = fits.rights;
       rise = fits.rise;
       user_frames = all_both (λ (p : UserPage). ltb p.frame.0 w.settings.pool) w.user_pages _ fits.user_frames (both_true _ _ (free_below w.settings.pool w.user_pages w.pins w.table_frames frame.0 answers) refl);
       pin_frames = fits.pin_frames;
@@ -194,11 +206,12 @@ keeps_fit at w (event.UserMap user va) (reply.Frame frame) none answers fits =
       attached = fits.attached;
     }
 keeps_fit at w (event.AllowIovas file ioas ranges) reply.Done none answers fits =
-    record { pages = fits.pages; starts = fits.starts; rise = fits.rise; user_frames = fits.user_frames; pin_frames = fits.pin_frames; known = fits.known; attached = fits.attached }
+    record { pages = fits.pages; starts = fits.starts; rights = fits.rights; rise = fits.rise; user_frames = fits.user_frames; pin_frames = fits.pin_frames; known = fits.known; attached = fits.attached }
 keeps_fit at w (event.UserUnmap user va) reply.Done none answers fits =
     record {
       pages = fits.pages;
       starts = fits.starts;
+      rights = fits.rights;
       rise = fits.rise;
       user_frames = all_filter (λ (p : UserPage). ltb p.frame.0 w.settings.pool) _ w.user_pages fits.user_frames;
       pin_frames = fits.pin_frames;
@@ -209,17 +222,19 @@ keeps_fit at w (event.UserWrite user va bytes) reply.Done none answers fits =
     record {
       pages = fits.pages;
       starts = fits.starts;
+      rights = fits.rights;
       rise = fits.rise;
       user_frames = fits.user_frames;
       pin_frames = fits.pin_frames;
       known = fits.known;
       attached = fits.attached;
     }
-keeps_fit at w (event.Bind file device) (reply.Id id) none answers fits = record { pages = fits.pages; starts = fits.starts; rise = fits.rise; user_frames = fits.user_frames; pin_frames = fits.pin_frames; known = known_one (is_known w.settings w.closed) (record { file = file; id = id; kind = kind.Device device }) w.objects (both_true _ _ (bind_open w file device none) (bind_device w file device none)) fits.known; attached = fits.attached }
+keeps_fit at w (event.Bind file device) (reply.Id id) none answers fits = record { pages = fits.pages; starts = fits.starts; rights = fits.rights; rise = fits.rise; user_frames = fits.user_frames; pin_frames = fits.pin_frames; known = known_one (is_known w.settings w.closed) (record { file = file; id = id; kind = kind.Device device }) w.objects (both_true _ _ (bind_open w file device none) (bind_device w file device none)) fits.known; attached = fits.attached }
 keeps_fit at w (event.Unbind file id) reply.Done none answers fits =
     record {
       pages = fits.pages;
       starts = fits.starts;
+      rights = fits.rights;
       rise = fits.rise;
       user_frames = fits.user_frames;
       pin_frames = fits.pin_frames;
@@ -248,6 +263,7 @@ keeps_fit at w (event.Attach device pt_id) (reply.Id id) none answers fits = bou
             record {
               pages = all_map is_of_pages is_of_pages _ w.areas (λ area is. is) fits.pages;
               starts = all_map begins_at_page begins_at_page _ w.areas (λ area is. is) fits.starts;
+              rights = all_map has_rights has_rights _ w.areas (λ area is. is) fits.rights;
               rise = rise-with_attachment attachment w.attachments free fits.rise;
               user_frames = fits.user_frames;
               pin_frames = below;
@@ -261,7 +277,7 @@ keeps_fit at w (event.Attach device pt_id) (reply.Id id) none answers fits = bou
             let automatic = automatic_hwpt w.objects object.file pt_id settings.width in
             fit _ _ (attach_passed (view w) device pt_id object is named none).unattached
             (known_hwpt w.settings w.closed object.file pt_id id settings.width automatic w.objects here.0 fits.known)
-            (settled_below w.settings.pool _ w.user_pages fits.user_frames _ _ w.pins fits.pin_frames)
+            (settled_frames (λ n. ltb n w.settings.pool) _ w.user_pages fits.user_frames _ _ w.pins fits.pin_frames)
         by_kind (Some (kind.Hwpt ioas width automatic)) named =
             let free = (join_passed (view w) device pt_id ioas width automatic object is named none).unattached in
             fit w.objects w.pins free fits.known fits.pin_frames
@@ -270,12 +286,12 @@ keeps_fit at w (event.Detach device) reply.Done none answers fits = attached_or_
   where
     attached_or_not : (a : Option Attachment) → RowsFit (detach_changes w device a)
     attached_or_not None = fits
-    attached_or_not (Some a) = record { pages = all_map is_of_pages is_of_pages _ w.areas (λ area is. is) fits.pages; starts = all_map begins_at_page begins_at_page _ w.areas (λ area is. is) fits.starts; rise = rise-filter _ w.attachments fits.rise; user_frames = fits.user_frames; pin_frames = settled_below w.settings.pool _ w.user_pages fits.user_frames _ _ w.pins fits.pin_frames; known = all_filter (is_known w.settings w.closed) _ w.objects fits.known; attached = all_filter _ _ w.attachments fits.attached }
-keeps_fit at w (event.Flush device) reply.Done none answers fits = record { pages = all_map is_of_pages is_of_pages _ w.areas (λ area is. is) fits.pages; starts = all_map begins_at_page begins_at_page _ w.areas (λ area is. is) fits.starts; rise = fits.rise; user_frames = fits.user_frames; pin_frames = fits.pin_frames; known = fits.known; attached = fits.attached }
-keeps_fit at w (event.DeviceWrite device iova bytes) (reply.Passed frame) none answers fits = record { pages = fits.pages; starts = fits.starts; rise = fits.rise; user_frames = fits.user_frames; pin_frames = fits.pin_frames; known = fits.known; attached = fits.attached }
+    attached_or_not (Some a) = record { pages = all_map is_of_pages is_of_pages _ w.areas (λ area is. is) fits.pages; starts = all_map begins_at_page begins_at_page _ w.areas (λ area is. is) fits.starts; rights = all_map has_rights has_rights _ w.areas (λ area is. is) fits.rights; rise = rise-filter _ w.attachments fits.rise; user_frames = fits.user_frames; pin_frames = settled_frames (λ n. ltb n w.settings.pool) _ w.user_pages fits.user_frames _ _ w.pins fits.pin_frames; known = all_filter (is_known w.settings w.closed) _ w.objects fits.known; attached = all_filter _ _ w.attachments fits.attached }
+keeps_fit at w (event.Flush device) reply.Done none answers fits = record { pages = all_map is_of_pages is_of_pages _ w.areas (λ area is. is) fits.pages; starts = all_map begins_at_page begins_at_page _ w.areas (λ area is. is) fits.starts; rights = all_map has_rights has_rights _ w.areas (λ area is. is) fits.rights; rise = fits.rise; user_frames = fits.user_frames; pin_frames = fits.pin_frames; known = fits.known; attached = fits.attached }
+keeps_fit at w (event.DeviceWrite device iova bytes) (reply.Passed frame) none answers fits = record { pages = fits.pages; starts = fits.starts; rights = fits.rights; rise = fits.rise; user_frames = fits.user_frames; pin_frames = fits.pin_frames; known = fits.known; attached = fits.attached }
 keeps_fit at w e answer none answers fits = fits
 
 -- the frames of tables are no part of it
 pub tabled_fit : (w : World) (taken given : List FrameNo) → RowsFit w → RowsFit (with_tables taken given w)
 unfolding with_tables
-tabled_fit w taken given fits = record { pages = fits.pages; starts = fits.starts; rise = fits.rise; user_frames = fits.user_frames; pin_frames = fits.pin_frames; known = fits.known; attached = fits.attached }
+tabled_fit w taken given fits = record { pages = fits.pages; starts = fits.starts; rights = fits.rights; rise = fits.rise; user_frames = fits.user_frames; pin_frames = fits.pin_frames; known = fits.known; attached = fits.attached }

@@ -1,5 +1,6 @@
 pub mod AttachMoves
 pub mod AttachedPages
+pub mod KeepsApart
 pub mod KeepsBoundOnce
 pub mod KeepsDebts
 pub mod KeepsFits
@@ -8,9 +9,11 @@ pub mod KeepsOwned
 pub mod KeepsPins
 pub mod KeepsRising
 pub mod KeepsUsable
+pub mod KeepsTabled
 pub mod Known
 pub mod MappedAt
 pub mod MappedPages
+pub mod MissingTables
 pub mod NotRefused
 pub mod ObjectsGo
 pub mod OwnIds
@@ -19,3 +22,6 @@ pub mod RisingLists
 pub mod Runs
 pub mod SamePages
 pub mod SameSettings
+pub mod SameTables
+pub mod StillTabled
+pub mod TableCounts

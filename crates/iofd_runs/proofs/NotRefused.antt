@@ -6,13 +6,13 @@ use Rattle.iofd_words.specs.Allowed.{are_ranges}
 use Rattle.iofd_words.specs.Areas.{areas_meet, has_no_room, is_cut, is_everything, unmapped_span}
 use Rattle.iofd_words.specs.Attachments.{attachment_of}
 use Rattle.iofd_words.specs.Bounds.{Bounds}
-use Rattle.iofd_words.specs.Checks.{allow_iovas_checks, attach_checks, bind_checks, bound_attach_checks, checks, close_checks, destroy_checks, detach_checks, device_write_checks, flush_checks, has_other_width, hwpt_alloc_checks, ioas_alloc_checks, is_attached, is_device_object, is_interrupt, is_outside_usable, is_used, lacks_attached_page, lacks_choice, lacks_mapped_page, lacks_room_for_hwpt, map_checks, narrows, narrows_by_width, overlaps, passes_limit_attached, passes_limit_mapped, refusal, target_checks, unbind_checks, unmap_checks, unusable_in, user_access_checks, user_map_checks, user_unmap_checks, user_write_checks}
+use Rattle.iofd_words.specs.Checks.{allow_iovas_checks, attach_checks, bind_checks, bound_attach_checks, checks, close_checks, destroy_checks, detach_checks, device_write_checks, flush_checks, has_other_width, hwpt_alloc_checks, ioas_alloc_checks, is_attached, is_device_object, is_interrupt, is_outside_usable, is_used, lacks_attached_frames, lacks_attached_page, lacks_choice, lacks_mapped_frames, lacks_mapped_page, lacks_new_tables, lacks_room_for_hwpt, map_checks, narrows, narrows_by_width, overlaps, passes_limit_attached, passes_limit_mapped, refusal, target_checks, unbind_checks, unmap_checks, unusable_in, user_access_checks, user_map_checks, user_unmap_checks, user_write_checks}
 use Rattle.iofd_words.specs.Files.{device_of, is_device, is_user}
 use Rattle.iofd_words.specs.FirstTrue.{first_true}
 use Rattle.iofd_words.specs.Objects.{device_under, has_ioas, is_bound_device, is_full, kind_of, objects_of, settings_under}
 use Rattle.iofd_words.specs.Pages.{crosses, is_above_sum, is_above_user, is_whole, page_of}
 use Rattle.iofd_words.specs.Ranges.{meets_some}
-use Rattle.iofd_words.specs.Rights.{is_fixed}
+use Rattle.iofd_words.specs.Rights.{is_fixed, is_readable, is_writeable}
 use Rattle.iofd_words.specs.View.{View, view}
 use Rattle.iofd_words.specs.World.{World}
 use Rattle.iofd_words.specs.declared.event.Event.{Event}
@@ -80,6 +80,7 @@ pub record HwptPassed (v : View) (file : FileNo) (request : HwptRequest) : Type 
   pub roomy : is_full v.objects file ≡ false
   pub present : lacks_attached_page v file request.ioas ≡ false
   pub within_limit : passes_limit_attached v file request.ioas ≡ false
+  pub frames : lacks_new_tables v file request.ioas (settings_under v.settings v.objects file request.device) ≡ false
 
 pub hwpt_passed : (v : View) (file : FileNo) (request : HwptRequest) → first_true (hwpt_alloc_checks v file request) ≡ None → HwptPassed v file request
 unfolding hwpt_alloc_checks
@@ -93,6 +94,7 @@ hwpt_passed v file request none =
       roomy = tests_false rows 4 none;
       present = tests_false rows 5 none;
       within_limit = tests_false rows 6 none;
+      frames = tests_false rows 7 none;
     }
 
 -- ---- allowed ranges
@@ -113,6 +115,7 @@ allow_passed v file ioas ranges none =
 
 pub record MapPassed (v : View) (file : FileNo) (request : MapRequest) : Type 0 where
   pub opened : v.is_open file ≡ true
+  pub right : not (is_readable request.flags || is_writeable request.flags) ≡ false
   pub user_sum : is_above_sum request.user_va request.length ≡ false
   pub sum : (is_fixed request.flags && is_above_sum request.iova.0 request.length) ≡ false
   pub some : eqb request.length 0 ≡ false
@@ -127,6 +130,7 @@ pub record MapPassed (v : View) (file : FileNo) (request : MapRequest) : Type 0 
   pub chosen : lacks_choice v file request ≡ false
   pub present : lacks_mapped_page v file request ≡ false
   pub within_limit : passes_limit_mapped v file request ≡ false
+  pub frames : lacks_mapped_frames v file request ≡ false
 
 pub map_passed : (v : View) (file : FileNo) (request : MapRequest) → first_true (map_checks v file request) ≡ None → MapPassed v file request
 unfolding map_checks
@@ -138,6 +142,7 @@ map_passed v file request none =
     let places = or_false (has_no_room (v.areas_of file request.ioas)) (lacks_choice v file request) (tests_false rows 9 none) in
     record {
       opened = not_not _ (tests_false rows 0 none);
+      right = tests_false rows 1 none;
       user_sum = sums.0;
       sum = sums.1;
       some = aligned.0;
@@ -152,6 +157,7 @@ map_passed v file request none =
       chosen = places.1;
       present = tests_false rows 10 none;
       within_limit = tests_false rows 11 none;
+      frames = tests_false rows 12 none;
     }
 
 pub record UnmapPassed (v : View) (file : FileNo) (request : UnmapRequest) : Type 0 where
@@ -247,6 +253,7 @@ pub record AttachPassed (v : View) (device : DeviceNo) (pt_id : ObjId) (bound : 
   pub roomy : lacks_room_for_hwpt v bound.file pt_id (device_of v.settings device) ≡ false
   pub present : lacks_attached_page v bound.file pt_id ≡ false
   pub within_limit : passes_limit_attached v bound.file pt_id ≡ false
+  pub frames : lacks_attached_frames v bound.file pt_id (device_of v.settings device) ≡ false
 
 -- to a page table
 pub record JoinPassed (v : View) (device : DeviceNo) (ioas : ObjId) (width : Width) (bound : Object) : Type 0 where
@@ -271,7 +278,7 @@ pub attach_passed : (v : View) (device : DeviceNo) (pt_id : ObjId) (bound : Obje
 attach_passed v device pt_id bound is space none =
     let parts = target_passed v device pt_id bound (Some kind.Ioas) is space none in
     let rows = target_checks v device pt_id bound.file (Some kind.Ioas) in
-    record { unattached = parts.0; wide = tests_false rows 0 parts.1; roomy = tests_false rows 1 parts.1; present = tests_false rows 2 parts.1; within_limit = tests_false rows 3 parts.1 }
+    record { unattached = parts.0; wide = tests_false rows 0 parts.1; roomy = tests_false rows 1 parts.1; present = tests_false rows 2 parts.1; within_limit = tests_false rows 3 parts.1; frames = tests_false rows 4 parts.1 }
 
 pub join_passed : (v : View) (device : DeviceNo) (pt_id ioas : ObjId) (width : Width) (automatic : Bool) (bound : Object) → v.binding_of device ≡ Some bound → kind_of v.objects bound.file pt_id ≡ Some (kind.Hwpt ioas width automatic)
     → first_true (attach_checks v device pt_id) ≡ None → JoinPassed v device ioas width bound

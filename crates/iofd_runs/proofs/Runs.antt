@@ -4,8 +4,8 @@ use Rattle.iofd_words.specs.After.{changed}
 use Rattle.iofd_words.specs.Answers.{Answers}
 use Rattle.iofd_words.specs.Checks.{refusal}
 use Rattle.iofd_words.specs.FirstTrue.{first_true}
-use Rattle.iofd_words.specs.Run.{IsAnswer, Lawful, after, after_answer, IsRunFrom, world_from}
-use Rattle.iofd_words.specs.Tables.{with_tables}
+use Rattle.iofd_words.specs.Run.{IsAnswer, Lawful, MovesFrames, after, after_answer, IsRunFrom, world_from}
+use Rattle.iofd_words.specs.Tables.{MovesTables, with_tables}
 use Rattle.iofd_words.specs.World.{World}
 use Rattle.iofd_words.specs.declared.event.Event.{Event}
 use Rattle.iofd_words.specs.declared.numbers.FrameNo.{FrameNo}
@@ -19,7 +19,7 @@ module _ {A : Type 0} (P : World → Type 0) (tables : (w : World) (taken given 
   by_answer at w r (Some cause) is answers p = p
   by_answer at w r None is answers p = tables (changed at w r.event r.reply) r.taken r.given (keeps at w r.event r.reply is answers p)
 
-  pub after_keeps : (at : ℕ) (w : World) (r : Record A) → Lawful w r → P w → P (after at w r)
+  pub after_keeps : (at : ℕ) (w : World) (r : Record A) → Lawful at w r → P w → P (after at w r)
   unfolding Lawful after
   after_keeps at w r lawful p = by_answer at w r (refusal w r.event) refl lawful.0 p
 
@@ -33,7 +33,7 @@ module _ {A : Type 0} (P : ℕ → World → Type 0) (tables : (at : ℕ) (w : W
   by_answer_at at w r (Some cause) is answers p = later at w p
   by_answer_at at w r None is answers p = tables (at + 1) (changed at w r.event r.reply) r.taken r.given (keeps at w r.event r.reply is answers p)
 
-  pub after_keeps_at : (at : ℕ) (w : World) (r : Record A) → Lawful w r → P at w → P (at + 1) (after at w r)
+  pub after_keeps_at : (at : ℕ) (w : World) (r : Record A) → Lawful at w r → P at w → P (at + 1) (after at w r)
   unfolding Lawful after
   after_keeps_at at w r lawful p = by_answer_at at w r (refusal w r.event) refl lawful.0 p
 
@@ -41,10 +41,26 @@ module _ {A : Type 0} (P : ℕ → World → Type 0) (tables : (at : ℕ) (w : W
   run_keeps_at at end w [] is run p = let same : at ≡ end = omega (arith, is) in subst (λ (n : ℕ). P n w) same p
   run_keeps_at at end w (r ∷ rs) is run p = run_keeps_at (at + 1) end (after at w r) rs (omega (arith, is)) run.1 (after_keeps_at at w r run.0 p)
 
+-- a step that keeps P, which may speak of the frames of tables too, where nothing refuses keeps it
+module _ {A : Type 0} (P : World → Type 0) (keeps : (at : ℕ) (w : World) (e : Event A) (answer : Reply) (taken given : List FrameNo) → refusal w e ≡ None → Answers w e answer → MovesTables w (changed at w e answer) e answer taken given → P w → P (with_tables taken given (changed at w e answer))) where
+  by_moves : (at : ℕ) (w : World) (r : Record A) (o : Option Cause) → refusal w r.event ≡ o → IsAnswer w r o → MovesFrames at w r o → P w → P (after_answer at w r o)
+  by_moves at w r (Some cause) is answers moves p = p
+  by_moves at w r None is answers moves p = keeps at w r.event r.reply r.taken r.given is answers moves p
+
+  pub after_keeps_tables : (at : ℕ) (w : World) (r : Record A) → Lawful at w r → P w → P (after at w r)
+  unfolding Lawful after
+  after_keeps_tables at w r lawful p = by_moves at w r (refusal w r.event) refl lawful.0 lawful.1 p
+
+  pub run_keeps_tables : (at : ℕ) (w : World) (records : List (Record A)) → IsRunFrom at w records → P w → P (world_from at w records)
+  run_keeps_tables at w [] run p = p
+  run_keeps_tables at w (r ∷ rs) run p = run_keeps_tables (at + 1) (after at w r) rs run.1 (after_keeps_tables at w r run.0 p)
+
 -- a record of a run is lawful in the world that those before it have left
-pub lawful_at : {A : Type 0} (at : ℕ) (w : World) (before : List (Record A)) (r : Record A) (later : List (Record A)) → IsRunFrom at w (before ++ r ∷ later) → Lawful (world_from at w before) r
-lawful_at at w [] r later run = run.0
-lawful_at at w (b ∷ before) r later run = lawful_at (at + 1) (after at w b) before r later run.1
+pub lawful_at : {A : Type 0} (at : ℕ) (w : World) (before : List (Record A)) (r : Record A) (later : List (Record A)) → IsRunFrom at w (before ++ r ∷ later) → Lawful (at + length before) (world_from at w before) r
+lawful_at at w [] r later run = let same : at ≡ at + 0 = omega (arith) in subst (λ (n : ℕ). Lawful n w r) same run.0
+lawful_at at w (b ∷ before) r later run =
+    let same : at + 1 + length before ≡ at + suc (length before) = omega (arith) in
+    subst (λ (n : ℕ). Lawful n (world_from (at + 1) (after at w b) before) r) same (lawful_at (at + 1) (after at w b) before r later run.1)
 
 -- a beginning of a run is a run
 pub run_beginning : {A : Type 0} (at : ℕ) (w : World) (before later : List (Record A)) → IsRunFrom at w (before ++ later) → IsRunFrom at w before

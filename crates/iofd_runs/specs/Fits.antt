@@ -1,4 +1,4 @@
--- Where areas begin and how long they are, in which order attachments stand, and that rows name frames, files and devices that there are.
+-- Where areas begin, how long they are and which rights they give, in which order attachments stand, and that rows name frames, files and devices that there are.
 use Rattle.std.specs.Prelude.{◌≡◌, ◌^◌, Bool, true, ◌&&◌, nat_le, nat_lt, List, [], ◌∷◌}
 use Rattle.std.specs.List.{list_all}
 use Rattle.iofd_words.specs.Files.{is_device, is_open}
@@ -19,6 +19,10 @@ is_of_pages area = is_whole (size_of area.span) && nat_le (size_of area.span) (2
 abbrev pub begins_at_page : Area → Bool
 begins_at_page area = is_whole area.span.first
 
+-- the area gives some right, and none but to read and to write
+abbrev pub has_rights : Area → Bool
+has_rights area = nat_lt 0 area.rights.0 && nat_lt area.rights.0 4
+
 -- each attachment's device is below those of the later ones
 abbrev pub devices_rise : List Attachment → Bool
 devices_rise [] = true
@@ -33,6 +37,7 @@ is_known_device settings (kind.Device device) = is_device settings device
 pub record RowsFit (w : World) : Type 0 where
   pub pages : list_all is_of_pages w.areas ≡ true
   pub starts : list_all begins_at_page w.areas ≡ true
+  pub rights : list_all has_rights w.areas ≡ true
   pub rise : devices_rise w.attachments ≡ true
   -- the frames of user pages and of pins are frames of the pool
   pub user_frames : list_all (λ p. nat_lt p.frame.0 w.settings.pool) w.user_pages ≡ true

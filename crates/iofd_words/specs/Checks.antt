@@ -1,6 +1,6 @@
 -- The refusals of each event, in their order, by what they read of a world: the first test that is true gives the cause. A closed
 -- or unknown file comes before all.
-use Rattle.std.specs.Prelude.{ℕ, ◌+◌, ◌/◌, ◌^◌, Bool, true, false, ◌==◌, ◌&&◌, ◌||◌, not, nat_le, nat_lt, Option, Some, None, is_some, is_none, List, [], ◌∷◌, ◌++◌, filter, length, map}
+use Rattle.std.specs.Prelude.{ℕ, ◌+◌, ◌/◌, ◌^◌, Bool, true, false, ◌==◌, ◌&&◌, ◌||◌, not, nat_le, nat_lt, Option, Some, None, is_some, is_none, List, [], ◌∷◌, ◌++◌, filter, length, map, sum_by, if◌then◌else◌}
 use Rattle.std.specs.List.{list_any, list_all, range_with_len}
 use Rattle.iofd_words.specs.Allowed.{are_ranges}
 use Rattle.iofd_words.specs.Areas.{areas_meet, has_no_room, is_cut, is_everything, unmapped_span}
@@ -8,7 +8,7 @@ use Rattle.iofd_words.specs.Attachments.{attachment_of, has_device_on}
 use Rattle.iofd_words.specs.Files.{is_user, is_device, limit_of, user_of, device_of}
 use Rattle.iofd_words.specs.Bounds.{Bounds}
 use Rattle.iofd_words.specs.FirstTrue.{first_true}
-use Rattle.iofd_words.specs.Objects.{kind_of, has_ioas, has_hwpt, automatic_hwpt, is_full, objects_of, is_bound_device, device_in, device_under, settings_under}
+use Rattle.iofd_words.specs.Objects.{kind_of, has_ioas, has_hwpt, automatic_hwpt, is_full, is_hwpt_over, objects_of, is_bound_device, device_in, device_under, settings_under}
 use Rattle.iofd_words.specs.Pages.{is_whole, page_of, is_above_sum, is_above_user, crosses}
 use Rattle.iofd_words.specs.Pins.{ObjectPage, unpinned_pages}
 use Rattle.iofd_words.specs.Ranges.{meets_some}
@@ -16,6 +16,7 @@ use Rattle.iofd_words.specs.Rights.{is_fixed, is_readable, is_writeable}
 use Rattle.iofd_words.specs.Room.{fits, starts_to_try}
 use Rattle.iofd_words.specs.Settings.{DeviceSettings}
 use Rattle.iofd_words.specs.Span.{holds, span_from}
+use Rattle.iofd_words.specs.TablePlaces.{lacking, live_pages, pages_in, places_of}
 use Rattle.iofd_words.specs.Usable.{allowed_spans, beyond, interrupt_range, occupied, reserved_by, unusable}
 use Rattle.iofd_words.specs.View.{View, view}
 use Rattle.iofd_words.specs.Width.{bits_of}
@@ -114,6 +115,48 @@ passes_limit_attached v file ioas =
     not (has_hwpt v.objects file ioas)
     && passes_limit v (user_of v.settings file) (length (newly_pinned v file ioas))
 
+-- how many tables an object lacks to map these pages, where it is a page table over the address space
+abbrev pub tables_lacked : View → FileNo → ObjId → List ℕ → ObjectKind → ℕ
+tables_lacked v file id pages kind.Ioas = 0
+tables_lacked v file id pages (kind.Hwpt ioas width automatic) = length (lacking (v.has_table file id) (places_of width pages))
+tables_lacked v file id pages (kind.Device device) = 0
+
+-- all page tables of the address space together
+abbrev pub tables_to_map : View → FileNo → ObjId → Bounds → ℕ
+tables_to_map v file ioas span =
+    sum_by (λ object. tables_lacked v file object.id (pages_in span) object.kind)
+    (filter (λ object. object.file.0 == file.0 && is_hwpt_over ioas object.kind) v.objects)
+
+-- where a MAP's area comes to lie: at the fixed address, or at the least that may be chosen
+abbrev pub least : List ℕ → Option ℕ
+least [] = None
+least (n ∷ numbers) = elim (least numbers) [ Some other ↦ Some (if nat_lt other n then other else n) | None ↦ Some n ]
+
+abbrev pub mapped_start : View → FileNo → MapRequest → Option ℕ
+mapped_start v file request =
+    if is_fixed request.flags then Some request.iova.0
+    else least (filter (may_choose v file request) (starts_to_try (choices v file request) (taken_spans v file request)))
+
+-- fewer frames are free than the page tables lack tables to map the area there
+abbrev pub lacks_mapped_frames : View → FileNo → MapRequest → Bool
+lacks_mapped_frames v file request =
+    elim (mapped_start v file request) [
+      | Some start ↦ nat_lt v.free_count (tables_to_map v file request.ioas (span_from start request.length))
+      | None ↦ false
+    ]
+
+-- or than a new page table of this width has, which maps all live areas of the address space
+abbrev pub lacks_new_tables : View → FileNo → ObjId → Option DeviceSettings → Bool
+lacks_new_tables v file ioas None = false
+lacks_new_tables v file ioas (Some device) =
+    nat_lt v.free_count (length (lacking (λ place. false) (places_of device.width (live_pages (v.areas_of file ioas)))))
+
+-- or than the page table has that an attachment would make
+abbrev pub lacks_attached_frames : View → FileNo → ObjId → Option DeviceSettings → Bool
+lacks_attached_frames v file ioas None = false
+lacks_attached_frames v file ioas (Some device) =
+    is_none (automatic_hwpt v.objects file ioas device.width) && lacks_new_tables v file ioas (Some device)
+
 -- others stand on the object: page tables on an address space, devices on a page table
 abbrev pub is_used : View → FileNo → ObjId → Option ObjectKind → Bool
 is_used v file id None = false
@@ -187,6 +230,7 @@ target_checks v device pt_id file (Some kind.Ioas) =
     ∷ (cause.Full, lacks_room_for_hwpt v file pt_id (device_of v.settings device))
     ∷ (cause.Absent, lacks_attached_page v file pt_id)
     ∷ (cause.Account, passes_limit_attached v file pt_id)
+    ∷ (cause.Frames, lacks_attached_frames v file pt_id (device_of v.settings device))
     ∷ []
 target_checks v device pt_id file (Some (kind.Hwpt ioas width automatic)) =
     (cause.Width, has_other_width (device_of v.settings device) width)
@@ -229,6 +273,7 @@ map_checks v file request =
     ∷ (cause.Full, has_no_room (v.areas_of file request.ioas) || lacks_choice v file request)
     ∷ (cause.Absent, lacks_mapped_page v file request)
     ∷ (cause.Account, passes_limit_mapped v file request)
+    ∷ (cause.Frames, lacks_mapped_frames v file request)
     ∷ []
 
 unfoldable pub unmap_checks : View → FileNo → UnmapRequest → List (Cause × Bool)
@@ -250,6 +295,7 @@ hwpt_alloc_checks v file request =
     ∷ (cause.Full, is_full v.objects file)
     ∷ (cause.Absent, lacks_attached_page v file request.ioas)
     ∷ (cause.Account, passes_limit_attached v file request.ioas)
+    ∷ (cause.Frames, lacks_new_tables v file request.ioas (settings_under v.settings v.objects file request.device))
     ∷ []
 
 unfoldable pub destroy_checks : View → FileNo → ObjId → List (Cause × Bool)

@@ -22,6 +22,11 @@ is_ioas kind.Ioas = true
 is_ioas (kind.Hwpt ioas width automatic) = false
 is_ioas (kind.Device device) = false
 
+abbrev pub is_hwpt : ObjectKind → Bool
+is_hwpt kind.Ioas = false
+is_hwpt (kind.Hwpt ioas width automatic) = true
+is_hwpt (kind.Device device) = false
+
 -- a hardware page table over the address space
 abbrev pub is_hwpt_over : ObjId → ObjectKind → Bool
 is_hwpt_over ioas kind.Ioas = false

@@ -15,9 +15,14 @@ abbrev pub IsAnswer : {A : Type 0} → World → Record A → Option Cause → T
 IsAnswer w r (Some cause) = r.reply ≡ reply.Refused (record { cause = cause })
 IsAnswer w r None = Answers w r.event r.reply
 
--- the record is one that may be made in this world
-unfoldable pub Lawful : {A : Type 0} → World → Record A → Type 0
-Lawful w r = IsAnswer w r (refusal w r.event) × MovesTables w r.taken r.given
+-- a refused event moves no table frames; else they are those that the world after it lacks, or doesn't need any more
+abbrev pub MovesFrames : {A : Type 0} → ℕ → World → Record A → Option Cause → Type 0
+MovesFrames at w r (Some cause) = (r.taken ≡ []) × (r.given ≡ [])
+MovesFrames at w r None = MovesTables w (changed at w r.event r.reply) r.event r.reply r.taken r.given
+
+-- the record is one that may be made in this world, at this position
+unfoldable pub Lawful : {A : Type 0} → ℕ → World → Record A → Type 0
+Lawful at w r = IsAnswer w r (refusal w r.event) × MovesFrames at w r (refusal w r.event)
 
 -- a refused event leaves the world as it was
 abbrev pub after_answer : {A : Type 0} → ℕ → World → Record A → Option Cause → World
@@ -31,7 +36,7 @@ after at w r = after_answer at w r (refusal w r.event)
 -- each record is lawful in the world that those before it have left
 abbrev pub IsRunFrom : {A : Type 0} → ℕ → World → List (Record A) → Type 0
 IsRunFrom at w [] = Unit {0}
-IsRunFrom at w (r ∷ rs) = Lawful w r × IsRunFrom (at + 1) (after at w r) rs
+IsRunFrom at w (r ∷ rs) = Lawful at w r × IsRunFrom (at + 1) (after at w r) rs
 
 abbrev pub world_from : {A : Type 0} → ℕ → World → List (Record A) → World
 world_from at w [] = w

@@ -10,6 +10,8 @@ use Rattle.iofd_words.specs.Objects as object
 use Rattle.iofd_words.specs.Pins as pin
 use Rattle.iofd_words.specs.Pins.{ObjectPage}
 use Rattle.iofd_words.specs.Settings.{Settings}
+use Rattle.iofd_words.specs.TablePlaces as places
+use Rattle.iofd_words.specs.TablePlaces.{TablePlace}
 use Rattle.iofd_words.specs.World.{World}
 use Rattle.iofd_words.specs.declared.numbers.DeviceNo.{DeviceNo}
 use Rattle.iofd_words.specs.declared.numbers.FileNo.{FileNo}
@@ -44,6 +46,8 @@ pub record View : Type 0 where
   pub held_by : UserNo → ℕ
   -- how many frames nobody reaches
   pub free_count : ℕ
+  -- the page table of this id has this table
+  pub has_table : FileNo → ObjId → TablePlace → Bool
 
 -- what they read of this world
 abbrev pub view : World → View
@@ -62,4 +66,5 @@ view w =
       pinned_frame = pin.pinned_frame w.pins;
       held_by = pin.held_by (pin.pinned_frame w.pins) w.memory;
       free_count = frame.free_count w.settings.pool w.user_pages w.pins w.table_frames;
+      has_table = places.has_table w.table_frames;
     }

@@ -1,37 +1,45 @@
--- The record of an event that is refused, and of one that is carried out.
-use Rattle.std.proofs.Common.{◌≡◌, ℕ, Some, None, Result, Ok, Err, refl, sym, subst, []}
-use Rattle.server_state.specs.declared.state.State.{State}
-use Rattle.server_state.specs.Shows.{Shows}
+-- The record of an event that is refused, and of one that is carried out, with the frames of tables that it moves or doesn't.
+use Rattle.std.proofs.Common.{◌≡◌, ℕ, Option, Some, None, Result, Ok, Err, List, refl, sym, subst, []}
 use Rattle.std.specs.Result.{IfOk, OnErr}
 use Rattle.iofd_words.specs.After.{changed}
 use Rattle.iofd_words.specs.Answers.{Answers}
 use Rattle.iofd_words.specs.Checks.{refusal}
-use Rattle.iofd_words.specs.Run.{IsAnswer, Lawful, after, after_answer}
-use Rattle.iofd_words.specs.Tables.{with_tables}
+use Rattle.iofd_words.specs.Run.{IsAnswer, Lawful, MovesFrames, after, after_answer}
+use Rattle.iofd_words.specs.Tables.{MovesTables, with_tables}
 use Rattle.iofd_words.specs.World.{World}
 use Rattle.iofd_words.specs.declared.event.Event.{Event}
+use Rattle.iofd_words.specs.declared.numbers.FrameNo.{FrameNo}
 use Rattle.iofd_words.specs.declared.numbers.PassNo.{PassNo}
 use Rattle.iofd_words.specs.declared.refusal.Cause.{Cause}
 use Rattle.iofd_words.specs.declared.reply.Reply.{Reply}
 use Rattle.iofd_words.specs.declared.reply.Reply.TheVariants as reply
-use Rattle.server_state.specs.Step.{recorded}
+use Rattle.iofd_runs.proofs.StillTabled.{MakesNone, TakesNone}
+use Rattle.server_state.proofs.Still.{chosen_moves}
+use Rattle.server_state.specs.Choice.{IsChosen}
+use Rattle.server_state.specs.Step.{ChosenSteps, MovingSteps, Steps, recorded}
+use Rattle.server_state.specs.declared.state.State.{State}
 
 module _ (A : Type 0) (at : ℕ) (w : World) (pass : PassNo) (e : Event A) where
-  pub refused_lawful : (cause : Cause) → refusal w e ≡ Some cause → Lawful w (recorded {A = A} pass e (reply.Refused (record { cause = cause })))
+  pub refused_lawful : (cause : Cause) → refusal w e ≡ Some cause → Lawful at w (recorded {A = A} pass e (reply.Refused (record { cause = cause })) [] [])
   unfolding Lawful
-  refused_lawful cause is = (subst (IsAnswer w (recorded {A = A} pass e (reply.Refused (record { cause = cause })))) (sym is) refl, (refl, refl))
+  refused_lawful cause is =
+      let told = recorded {A = A} pass e (reply.Refused (record { cause = cause })) [] [] in
+      (subst (IsAnswer w told) (sym is) refl, subst (MovesFrames at w told) (sym is) (refl, refl))
 
-  pub refused_after : (cause : Cause) (answer : Reply) → refusal w e ≡ Some cause → after at w (recorded {A = A} pass e answer) ≡ w
+  pub refused_after : (cause : Cause) (answer : Reply) → refusal w e ≡ Some cause → after at w (recorded {A = A} pass e answer [] []) ≡ w
   unfolding after
   refused_after cause answer is = rw (is, after_answer) refl
 
-  pub answered_lawful : (answer : Reply) → refusal w e ≡ None → Answers w e answer → Lawful w (recorded {A = A} pass e answer)
-  unfolding Lawful
-  answered_lawful answer is answers = (subst (IsAnswer w (recorded {A = A} pass e answer)) (sym is) answers, (refl, refl))
+  module _ (answer : Reply) (taken given : List FrameNo) (none : refusal w e ≡ None) where
+    pub answered_lawful : Answers w e answer → MovesTables w (changed at w e answer) e answer taken given → Lawful at w (recorded {A = A} pass e answer taken given)
+    unfolding Lawful
+    answered_lawful answers moves =
+        let told = recorded {A = A} pass e answer taken given in
+        (subst (IsAnswer w told) (sym none) answers, subst (MovesFrames at w told) (sym none) moves)
 
-  pub answered_after : (answer : Reply) → refusal w e ≡ None → after at w (recorded {A = A} pass e answer) ≡ with_tables [] [] (changed at w e answer)
-  unfolding after
-  answered_after answer is = rw (is, after_answer) refl
+    pub answered_after : after at w (recorded {A = A} pass e answer taken given) ≡ with_tables taken given (changed at w e answer)
+    unfolding after
+    answered_after = rw (none, after_answer) refl
 
 -- of an answer, what follows from what is known of it
 pub if_ok : {X E : Type 0} (r : Result X E) (P Q : X → Type 0) → ((x : X) → P x → Q x) → IfOk r P → IfOk r Q
@@ -42,23 +50,12 @@ pub on_err : {X E : Type 0} (r : Result X E) (P Q : Type 0) → (P → Q) → On
 on_err (Ok x) P Q weaker known = known
 on_err (Err e) P Q weaker known = weaker known
 
--- no table is moved: what is shown is shown
-pub tabled_shown : {A : Type 0} (w : World) (s : State A) → Shows w s → Shows (with_tables [] [] w) s
-unfolding with_tables
-tabled_shown w s shows = record {
-  settings = shows.settings;
-  limits = shows.limits;
-  allowed = shows.allowed;
-  objects = shows.objects;
-  devices = shows.devices;
-  users = shows.users;
-  pins = shows.pins;
-  frames = record {
-    size = shows.frames.size;
-    count = shows.frames.count;
-    full = shows.frames.full;
-    holds = shows.frames.holds;
-    written = shows.frames.written;
-    no_tables = rw shows.frames.no_tables refl;
-  };
-}
+-- a commit that moves no frames of tables
+module _ {A : Type 0} (at : ℕ) (e : Event A) (via : Option FrameNo) (old new : State A) (answer : Reply) (taken given : List FrameNo) (no_taken : taken ≡ []) (no_given : given ≡ []) (makes : (w : World) → MakesNone w e) (takes : (w : World) → TakesNone w e) where
+  pub none_moved : ChosenSteps at e via old answer new → MovingSteps at e via old answer taken given new
+  none_moved steps = rw (no_taken, no_given) (chosen_moves at e via answer new old steps makes (λ w tidy none. takes w))
+
+  -- and of which there is one answer, or the server's is any
+  pub none_chosen : Steps at e old answer new → ((w : World) → IsChosen w e via answer) → MovingSteps at e via old answer taken given new
+  none_chosen steps chosen =
+      none_moved (λ w tidy shows none may. let (answers, after) = steps w tidy shows none in (answers, chosen w, after))

@@ -3,6 +3,7 @@ use Rattle.std.proofs.Common.{◌≡◌, ℕ, suc, Bool, true, false, ◌||◌, 
 use Rattle.std.specs.List.{list_any}
 use Rattle.std.proofs.lemmas.Bool.Decides.{nat_tests}
 use Rattle.iofd_rows.proofs.Bools.{and_true}
+use Rattle.iofd_words.specs.After.{changed}
 use Rattle.iofd_words.specs.Checks.{refusal}
 use Rattle.iofd_words.specs.Policy.{Outcome, Passes, Denied, outcomes}
 use Rattle.iofd_words.specs.Run.{Lawful, after, after_answer, world_of}
@@ -18,7 +19,7 @@ use Rattle.iofd_words.specs.declared.refusal.Cause.{Cause}
 use Rattle.iofd_words.specs.declared.reply.Reply.{Reply}
 use Rattle.iofd_runs.proofs.SameSettings.{changed_settings}
 use Rattle.iommufd_core.proofs.Histories.{run_more, tidy_run, world_more}
-use Rattle.server_state.specs.Choice.{IsChosen, MayUse}
+use Rattle.server_state.specs.Choice.{AreFramesChosen, IsChosen, MayUse}
 use Rattle.iommufd_core.specs.History.{History, may_apply, world}
 use Rattle.server_state.specs.Choice.{is_pass_at}
 use Rattle.server_state.specs.Step.{recorded}
@@ -71,20 +72,28 @@ module _ {A : Type 0} (old new : State A) (records : List (Record A)) (kept : Is
         shows = subst (λ settings. Shows (world_of settings records) new) (sym config) (stays (world_of old.config records) (tidy_run old.config records kept.run) kept.shows);
       }
 
-  module _ (pass : PassNo) (e : Event A) (via : Option FrameNo) (answer : Reply) (may : MayUse (world_of old.config records) e via) (answered : Answered (length records) e via old answer new) where
-    told : Lawful (world_of old.config records) (recorded {A = A} pass e answer) × (refusal (world_of old.config records) e ≡ None → IsChosen (world_of old.config records) e via answer)
-        × Shows (after (length records) (world_of old.config records) (recorded {A = A} pass e answer)) new
+  module _ (pass : PassNo) (e : Event A) (via : Option FrameNo) (answer : Reply) (taken given : List FrameNo) (may : MayUse (world_of old.config records) e via) (answered : Answered (length records) e via old answer taken given new) where
+    told : Lawful (length records) (world_of old.config records) (recorded {A = A} pass e answer taken given)
+        × (refusal (world_of old.config records) e ≡ None
+        → IsChosen (world_of old.config records) e via answer × AreFramesChosen (world_of old.config records) (changed (length records) (world_of old.config records) e answer) taken given)
+        × Shows (after (length records) (world_of old.config records) (recorded {A = A} pass e answer taken given)) new
     told = answered pass (world_of old.config records) (tidy_run old.config records kept.run) kept.shows (λ none. may)
 
     pub applied_config : new.config ≡ old.config
-    applied_config = same_config (after (length records) (world_of old.config records) (recorded pass e answer)) kept.shows told.2 (after_settings (length records) (world_of old.config records) (recorded pass e answer))
+    applied_config =
+        same_config (after (length records) (world_of old.config records) (recorded pass e answer taken given)) kept.shows told.2
+        (after_settings (length records) (world_of old.config records) (recorded pass e answer taken given))
 
-    pub applied_kept : IsKept new (records ++ recorded pass e answer ∷ [])
+    pub applied_kept : IsKept new (records ++ recorded pass e answer taken given ∷ [])
     applied_kept =
         record {
-          run = rw applied_config (run_more old.config records (recorded pass e answer) kept.run told.0);
-          shows = subst (λ settings. Shows (world_of settings (records ++ recorded pass e answer ∷ [])) new) (sym applied_config) (rw (world_more old.config records (recorded pass e answer)) told.2);
+          run = rw applied_config (run_more old.config records (recorded pass e answer taken given) kept.run told.0);
+          shows = subst (λ settings. Shows (world_of settings (records ++ recorded pass e answer taken given ∷ [])) new) (sym applied_config)
+              (rw (world_more old.config records (recorded pass e answer taken given)) told.2);
         }
 
     pub applied_chosen : refusal (world_of old.config records) e ≡ None → IsChosen (world_of old.config records) e via answer
-    applied_chosen none = told.1 none
+    applied_chosen none = (told.1 none).0
+
+    pub applied_frames : refusal (world_of old.config records) e ≡ None → AreFramesChosen (world_of old.config records) (changed (length records) (world_of old.config records) e answer) taken given
+    applied_frames none = (told.1 none).1

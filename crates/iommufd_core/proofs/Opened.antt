@@ -46,12 +46,12 @@ unfolding frame_size
 frames_opened pool m pages objects = record {
   size = length-replicate pool 0;
   count = length-replicate pool zeros;
-  full = λ frame within. ap (λ (l : List ℕ). length l) (get_or-replicate pool frame zeros [] within)
+  full = λ frame within some. ap (λ (l : List ℕ). length l) (get_or-replicate pool frame zeros [] within)
       ∙ length-replicate {A = ℕ} 4096 0;
-  holds = λ frame. none_held pool frame ∙ sym (none_reached frame);
-  written = λ frame offset within below. ap (λ (l : List ℕ). slice_index l offset)
+  holds = λ frame. none_held pool frame ∙ sym (rw (none_reached frame) refl);
+  once = λ frame. omega arith;
+  written = λ frame offset within below some. ap (λ (l : List ℕ). slice_index l offset)
       (get_or-replicate pool frame zeros [] within) ∙ get_or-replicate 4096 offset 0 0 below;
-  no_tables = refl;
 }
   where
     none_held : (count frame : ℕ) → slice_index (replicate {A = ℕ} count 0) frame ≡ 0

@@ -1,6 +1,8 @@
 -- What a core is seen as: what it was opened with, and its records.
 use Rattle.std.specs.Prelude.{◌≡◌, ℕ, Bool, true, false, ◌&&◌, Option, Some, None, is_none, List, [], ◌∷◌, ◌++◌, length}
 use Rattle.std.specs.List.{list_any}
+use Rattle.iofd_words.specs.After.{changed}
+use Rattle.iofd_words.specs.Checks.{refusal}
 use Rattle.iofd_words.specs.FirstTrue.{first_true}
 use Rattle.iofd_words.specs.Look.{query_checks}
 use Rattle.iofd_words.specs.Policy.{outcomes}
@@ -19,7 +21,7 @@ use Rattle.iofd_words.specs.declared.query.Query.TheVariants.{DeviceRead}
 use Rattle.iofd_words.specs.declared.numbers.Iova.{Iova}
 use Rattle.iofd_words.specs.declared.record.Record.{Record}
 use Rattle.iofd_words.specs.declared.reply.Reply.{Reply}
-use Rattle.server_state.specs.Choice.{is_pass_at}
+use Rattle.server_state.specs.Choice.{AreFramesChosen, is_pass_at}
 
 pub record History (A : Type 0) : Type 0 where
   pub settings : Settings
@@ -35,13 +37,15 @@ module _ {A : Type 0} where
   abbrev pub world : History A → World
   world h = world_of h.settings h.records
 
-  -- one more record, of this caller and event and with this reply; which table frames it took and gave back is as its steps allow
+  -- one more record, of this caller and event and with this reply; for new tables it took the least free frames
   pub record HasOneMore (caller : PassNo) (e : Event A) (answer : Reply) (old new : History A) : Type 0 where
     pub made : Record A
     pub records : new ≡ record old { records = old.records ++ made ∷ [] }
     pub pass : made.pass ≡ caller
     pub event : made.event ≡ e
     pub reply : made.reply ≡ answer
+    pub frames : refusal (world old) e ≡ None
+        → AreFramesChosen (world old) (changed (length old.records) (world old) e answer) made.taken made.given
 
   -- an act may be applied: it has no cached frame, or is a device's write that may pass at that frame
   abbrev pub may_apply : History A → Event A → Option FrameNo → Bool

@@ -64,8 +64,8 @@ impl<A: Allocator + Copy> Core<A> {
         })
     }
 
-    /// Applies an event: exactly one record is appended, of this caller, with the event and its reply, at the
-    /// position that the stamp names. Without a cached frame a device's write that may pass or be denied, since
+    /// Applies an event: exactly one record is appended, of this caller, with the event, its reply and the frames that
+    /// it took for tables and gave back, at the position that the stamp names. Without a cached frame a device's write that may pass or be denied, since
     /// a flush is owed, is denied; with one it passes there.
     ///
     /// NoMemory comes only where a growth was really refused, and leaves everything as it was.
@@ -78,7 +78,7 @@ impl<A: Allocator + Copy> Core<A> {
             checks.refusal (world self.old.history) act.now.event ≡ None → IsChosen (world self.old.history) act.now.event act.now.via stamp.reply) }
 
         // Want of memory comes only where the record has no place, or the list that the event carries, or to an event that
-        // nothing refuses and by which something comes. It changes nothing.
+        // nothing refuses and by which something comes or page tables go. It changes nothing.
         ensures memory { OnErr result (MayWant self.old act.now.event) }
         ensures unchanged { OnErr result (self.new.history ≡ self.old.history) }
     {
@@ -90,15 +90,17 @@ impl<A: Allocator + Copy> Core<A> {
         let Ok(event) = act.event.copied(alloc) else {
             return Err(NoMemory);
         };
-        let Ok(reply) = events::answer(&mut self.state, at, act) else {
+        let mut taken = Vec::new(alloc);
+        let mut given = Vec::new(alloc);
+        let Ok(reply) = events::answer(&mut self.state, at, act, &mut taken, &mut given) else {
             return Err(NoMemory);
         };
         self.records.push_reserved(Record {
             pass,
             event,
             reply,
-            taken: FrameList::new(Vec::new(alloc)),
-            given: FrameList::new(Vec::new(alloc)),
+            taken: FrameList::new(taken),
+            given: FrameList::new(given),
         });
         Ok(Stamp { at, reply })
     }

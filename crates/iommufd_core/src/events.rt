@@ -1,35 +1,40 @@
 //! Each event, refused or carried out.
 
-ghost use Rattle.std.specs.Prelude.{◌≡◌, None, IfOk, IsTrue, OnErr};
+ghost use Rattle.std.specs.Prelude.{◌≡◌, None, [], IfOk, IsTrue, OnErr};
 ghost use Rattle.iofd_words.specs.Checks.{checks};
 ghost use Rattle.iofd_words.specs.FirstTrue.{first_true};
 ghost use Rattle.server_state.specs.Seen.{seen};
 ghost use Rattle.iommufd_core.specs.Server.{takes_memory};
-ghost use Rattle.server_state.specs.Step.{Answered, ChosenSteps, IsCalled, IsGrantedFor, IsKnown, TidyShowsSame};
+ghost use Rattle.server_state.specs.Step.{Answered, IsCalled, IsGrantedFor, IsKnown, MovingSteps, TidyShowsSame};
 
 use device_events::{bind, detach, device_write, flush};
 use file_events::{close, destroy, ioas_alloc, unbind};
 use hwpt_events::{attach, hwpt_alloc};
-use iofd_words::{Act, Cause, Event, NoMemory, Refusal, Reply};
+use iofd_words::{Act, Cause, Event, FrameNo, NoMemory, Refusal, Reply};
 use memory_events::{allow_iovas, map, unmap, user_map, user_unmap, user_write};
 use server_state::State;
 use std::alloc::Allocator;
 
-/// Answers the event, at this position, and carries it out if nothing refuses it. An error leaves the world
-/// as it was.
+/// Answers the event, at this position, and carries it out if nothing refuses it. The frames that it takes for tables
+/// and gives back are listed, each list in the order of its record. An error leaves the world as it was.
 pub(crate) fn answer<A: Allocator + Copy>(
     state: &mut State<A>,
     at: u64,
     act: &Act<A>,
+    taken: &mut Vec<FrameNo, A>,
+    given: &mut Vec<FrameNo, A>,
 ) -> Result<Reply, NoMemory>
-    requires { IsCalled at act.now.event act.now.via state.old }
-    ensures ok { IfOk result (λ reply. Answered at act.now.event act.now.via state.old reply state.new) }
+    requires called { IsCalled at act.now.event act.now.via state.old }
+    requires none_taken { taken.old.items ≡ [] }
+    requires none_given { given.old.items ≡ [] }
+    ensures ok { IfOk result (λ reply.
+        Answered at act.now.event act.now.via state.old reply taken.new.items given.new.items state.new) }
     ensures err { OnErr result (TidyShowsSame at state.old state.new) }
     ensures memory { OnErr result ((first_true (checks (seen state.old) act.now.event) ≡ None) × IsTrue (takes_memory act.now.event)) }
 {
     match refusal(state, &act.event) {
         Some(cause) => Ok(Reply::Refused(Refusal { cause })),
-        None => commit(state, at, act),
+        None => commit(state, at, act, taken, given),
     }
 }
 
@@ -67,9 +72,14 @@ fn commit<A: Allocator + Copy>(
     state: &mut State<A>,
     at: u64,
     act: &Act<A>,
+    taken: &mut Vec<FrameNo, A>,
+    given: &mut Vec<FrameNo, A>,
 ) -> Result<Reply, NoMemory>
-    requires { IsGrantedFor at act.now.event act.now.via state.old }
-    ensures ok { IfOk result (λ reply. ChosenSteps at act.now.event act.now.via state.old reply state.new) }
+    requires granted { IsGrantedFor at act.now.event act.now.via state.old }
+    requires none_taken { taken.old.items ≡ [] }
+    requires none_given { given.old.items ≡ [] }
+    ensures ok { IfOk result (λ reply.
+        MovingSteps at act.now.event act.now.via state.old reply taken.new.items given.new.items state.new) }
     ensures err { OnErr result (TidyShowsSame at state.old state.new) }
     ensures memory { OnErr result (IsTrue (takes_memory act.now.event)) }
 {
@@ -78,18 +88,18 @@ fn commit<A: Allocator + Copy>(
         Event::AllowIovas(file, ioas, ranges) => {
             allow_iovas::commit(state, *file, *ioas, ranges)
         }
-        Event::Map(file, request) => map::commit(state, at, *file, *request),
+        Event::Map(file, request) => map::commit(state, at, *file, *request, taken),
         Event::Unmap(file, request) => Ok(unmap::commit(state, *file, *request)),
-        Event::HwptAlloc(file, request) => hwpt_alloc::commit(state, *file, *request),
-        Event::Destroy(file, id) => Ok(destroy::commit(state, *file, *id)),
-        Event::Close(file) => Ok(close::commit(state, *file)),
+        Event::HwptAlloc(file, request) => hwpt_alloc::commit(state, *file, *request, taken),
+        Event::Destroy(file, id) => destroy::commit(state, *file, *id, given),
+        Event::Close(file) => close::commit(state, *file, given),
         Event::UserMap(user, va) => user_map::commit(state, *user, *va),
         Event::UserUnmap(user, va) => Ok(user_unmap::commit(state, *user, *va)),
         Event::UserWrite(user, va, bytes) => Ok(user_write::commit(state, *user, *va, bytes)),
         Event::Bind(file, device) => bind::commit(state, *file, *device),
         Event::Unbind(file, id) => Ok(unbind::commit(state, *file, *id)),
-        Event::Attach(device, pt_id) => attach::commit(state, *device, *pt_id),
-        Event::Detach(device) => Ok(detach::commit(state, *device)),
+        Event::Attach(device, pt_id) => attach::commit(state, *device, *pt_id, taken),
+        Event::Detach(device) => detach::commit(state, *device, given),
         Event::Flush(device) => Ok(flush::commit(state, *device)),
         Event::DeviceWrite(device, iova, bytes) => {
             Ok(device_write::commit(state, *device, *iova, bytes, act.via))

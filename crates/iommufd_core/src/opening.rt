@@ -5,6 +5,7 @@ ghost use Rattle.iofd_words.specs.World.{opening};
 ghost use Rattle.server_state.specs.Shows.{Shows};
 
 use frame_memory::Pool;
+use hwpt_device::PageTables;
 use iofd_words::{Config, NoMemory};
 use iova_ranges::AllowedTable;
 use object_table::ObjectTable;
@@ -28,7 +29,7 @@ pub(crate) fn opened<A: Allocator + Copy, B: Allocator>(
         objects: ObjectTable::new(alloc, files)?,
         allowed: AllowedTable::new(alloc),
         bindings: Vec::new(alloc),
-        page_tables: Vec::new(alloc),
+        page_tables: PageTables::new(alloc),
         attachments: Vec::new(alloc),
         memory: UserMemory::new(alloc, config.users())?,
         pool: Pool::new(alloc, pool)?,

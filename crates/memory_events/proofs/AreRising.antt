@@ -1,11 +1,10 @@
 -- Ranges by rising address have no address in common.
-use Rattle.std.proofs.Common.{◌≡◌, ℕ, Bool, true, false, ◌&&◌, not, ltb, leb, List, [], ◌∷◌, refl, arith}
+use Rattle.std.proofs.Common.{◌≡◌, ℕ, true, false, ◌&&◌, ltb, leb, List, [], ◌∷◌, refl, arith}
 use Rattle.std.proofs.lemmas.Bool.Decides.{nat_tests}
-use Rattle.iofd_rows.proofs.Bools.{and_true, both_false, both_true}
+use Rattle.iofd_rows.proofs.Bools.{and_true, both_false}
 use Rattle.iofd_words.specs.Allowed.{are_ranges}
 use Rattle.iofd_words.specs.Bounds.{Bounds}
 use Rattle.iofd_words.specs.Ranges.{meets_some}
-use Rattle.iofd_words.specs.Span.{meets}
 use Rattle.memory_events.specs.Rising.{are_rising, ends_below}
 
 -- what ends below the first of them meets none

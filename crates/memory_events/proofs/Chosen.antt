@@ -2,13 +2,13 @@
 use Rattle.std.proofs.Common.{◌≡◌, ℕ, ◌+◌, ◌-◌, ◌%◌, ◌<◌, ◌≤◌, Bool, true, false, ◌&&◌, ◌||◌, not, leb, Option, Some, None, find, is_none, is_some, List, [], ◌∷◌, map, MatchOption, refl, ap, sym, ◌∙◌, ⊎_elim, arith}
 use Rattle.std.specs.List.{list_any}
 use Rattle.std.proofs.lemmas.Bool.Decides.{nat_tests}
-use Rattle.std.proofs.lemmas.Bool.{cases_Bool, cases_lt}
+use Rattle.std.proofs.lemmas.Bool.{cases_lt}
 use Rattle.std.proofs.lemmas.List.Folds.{list_any-append}
 use Rattle.area_map.proofs.Found.{meets_none, meets_some}
 use Rattle.area_map.specs.Areas.{AreKept}
-use Rattle.iofd_rows.proofs.Bools.{both_false, both_true, clash}
+use Rattle.iofd_rows.proofs.Bools.{and_true, both_false, both_true, clash}
 use Rattle.iofd_rows.proofs.Each.{in_found, of_any}
-use Rattle.iofd_rows.proofs.ListTests.{false_else, or_left, or_right}
+use Rattle.iofd_rows.proofs.ListTests.{any_weaker, false_else, or_left, or_right}
 use Rattle.iofd_words.specs.Areas.{areas_meet}
 use Rattle.iofd_words.specs.Bounds.{Bounds}
 use Rattle.iofd_words.specs.Checks.{choices, has_choice, may_choose, taken_spans}
@@ -79,13 +79,13 @@ module _ (v : View) (file : FileNo) (request : MapRequest) where
     pub whole : start % 4096 ≡ 0
 
   -- what a choice is
-  record IsChoice (x : ℕ) : Type 0 where
-    sum : is_above_sum x request.length ≡ false
-    whole : x % 4096 ≡ 0
-    inside : is_covered_by (choices v file request) (span_from x request.length) ≡ true
-    free : ranges.meets_some taken (span_from x request.length) ≡ false
+  pub record IsChoice (x : ℕ) : Type 0 where
+    pub sum : is_above_sum x request.length ≡ false
+    pub whole : x % 4096 ≡ 0
+    pub inside : is_covered_by (choices v file request) (span_from x request.length) ≡ true
+    pub free : ranges.meets_some taken (span_from x request.length) ≡ false
 
-  parts : (x : ℕ) → may_choose v file request x ≡ true → IsChoice x
+  pub parts : (x : ℕ) → may_choose v file request x ≡ true → IsChoice x
   parts x may = record { sum = grind (arith, nat_tests); whole = grind (arith, nat_tests); inside = grind (arith, nat_tests); free = grind (arith, nat_tests) }
 
   -- what is taken and meets the span stands in its way
@@ -159,23 +159,20 @@ module _ (v : View) (file : FileNo) (request : MapRequest) where
   is_least start searched x may =
       ⊎_elim (λ (before : x < start). absurd (clash _ (searched.below x before) may)) (λ (from : start ≤ x). from) (cases_lt x start)
 
-  -- where an address may be chosen, one of those that are tried may
-  pub is_there : (start : ℕ) → may_choose v file request start ≡ true → has_choice v file request ≡ true
-  is_there start may =
+  -- where an address may be chosen, one of those that are tried may and isn't above it
+  pub tried_below : (start : ℕ) → may_choose v file request start ≡ true → list_any (λ s. leb s start && may_choose v file request s) (starts_to_try (choices v file request) taken) ≡ true
+  tried_below start may =
       let sum = (parts start may).sum in
       let fit : fits request.length (choices v file request) taken start ≡ true = grind (arith, nat_tests) in
-      weaker (starts_to_try (choices v file request) taken) sum (start_found request.length (choices v file request) taken start fit)
+      any_weaker (λ s. leb s start && fits request.length (choices v file request) taken s) (λ s. leb s start && may_choose v file request s) (starts_to_try (choices v file request) taken) (λ s is. below s sum is)
+      (start_found request.length (choices v file request) taken start fit)
     where
-      below : (s : ℕ) → is_above_sum start request.length ≡ false → (leb s start && fits request.length (choices v file request) taken s) ≡ true → may_choose v file request s ≡ true
+      below : (s : ℕ) → is_above_sum start request.length ≡ false → (leb s start && fits request.length (choices v file request) taken s) ≡ true → (leb s start && may_choose v file request s) ≡ true
       below s sum is = grind (arith, nat_tests)
 
-      weaker : (starts : List ℕ) → is_above_sum start request.length ≡ false → list_any (λ s. leb s start && fits request.length (choices v file request) taken s) starts ≡ true → list_any (may_choose v file request) starts ≡ true
-      weaker [] sum some = some
-      weaker (s ∷ starts) sum some =
-          ⊎_elim
-          (λ (here : (leb s start && fits request.length (choices v file request) taken s) ≡ true). rw (below s sum here) refl)
-          (λ (other : (leb s start && fits request.length (choices v file request) taken s) ≡ false). or_right (may_choose v file request s) _ (weaker starts sum (rw other at some)))
-          (cases_Bool (leb s start && fits request.length (choices v file request) taken s))
+  pub is_there : (start : ℕ) → may_choose v file request start ≡ true → has_choice v file request ≡ true
+  is_there start may =
+      any_weaker (λ s. leb s start && may_choose v file request s) (may_choose v file request) (starts_to_try (choices v file request) taken) (λ s both. (and_true (leb s start) (may_choose v file request s) both).1) (tried_below start may)
 
   -- each step of the search goes on
   pub rises : (start : ℕ) (one : Bounds) → IsInTheWay v file request (span_from start request.length) one → start < whole_from (one.last + 1)

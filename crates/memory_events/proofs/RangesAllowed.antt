@@ -21,6 +21,7 @@ shows_rows w s allowed rows shows same =
       users = shows.users;
       pins = shows.pins;
       frames = shows.frames;
+      tables = record { tables = shows.tables.tables; widths = shows.tables.widths; stand = shows.tables.stand };
     }
 
 pub shows_allowed : {A : Type 0} (w : World) (s : State A) (file : FileNo) (ioas : ObjId) (ranges : List Bounds) (rows : List AllowedRanges) → Shows w s → rows ≡ without_allowed file ioas s.allowed ++ record { file = file; ioas = ioas; spans = ranges } ∷ []

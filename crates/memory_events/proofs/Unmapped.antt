@@ -1,9 +1,7 @@
 -- The world after an UNMAP is shown.
-use Rattle.std.proofs.Common.{◌≡◌, ℕ, ◌+◌, ◌*◌, ◌<◌, ◌≤◌, leb, Bool, true, false, cond, not, eqb, Option, None, is_some, List, [], ◌∷◌, length, map, refl, sym, ◌∙◌, ap, arith}
+use Rattle.std.proofs.Common.{◌≡◌, ℕ, ◌+◌, ◌*◌, ◌<◌, ◌≤◌, leb, Bool, true, false, cond, not, eqb, Option, None, is_some, List, [], ◌∷◌, get_or, length, map, refl, subst, sym, ◌∙◌, ap, arith}
 use Rattle.std.specs.List.{filter, list_all, list_any}
-use Rattle.std.specs.Prelude.{Result, Ok, Err}
-use Rattle.std.specs.Result.{OkIff}
-use Rattle.area_map.specs.Areas.{AreKept, areas_outside, areas_within, bytes_of, marked}
+use Rattle.area_map.specs.Areas.{AreApart, AreKept, areas_outside, areas_within, bytes_of, marked}
 use Rattle.std.proofs.lemmas.Bool.Decides.{nat_tests}
 use Rattle.std.proofs.lemmas.List.Sums.{sum_by-cons}
 use Rattle.area_map.proofs.Kept.{length-filter-le}
@@ -24,9 +22,12 @@ use Rattle.iofd_words.specs.Objects.{has_hwpt}
 use Rattle.frame_memory.specs.Pool.{FramePool}
 use Rattle.memory_rows.proofs.Gone.{objects_left, over_parts, translated_parts, translated_space}
 use Rattle.memory_rows.specs.Moves.{IsReleased, MayRelease, if_translated}
-use Rattle.memory_rows.specs.Shown.{over, translated}
-use Rattle.user_memory.specs.Memory.{Memory}
+use Rattle.memory_rows.specs.Shown.{FramesShown, over, translated}
+use Rattle.memory_rows.proofs.FramesFollow.{frames_follow}
+use Rattle.memory_rows.proofs.Named.{settles_named}
+use Rattle.user_memory.specs.Memory.{Memory, reached}
 use Rattle.iofd_words.specs.Pages.{is_above_sum, is_whole}
+use Rattle.iofd_words.specs.Pins.{pinned_frame}
 use Rattle.iofd_words.specs.Span.{lies_in, size_of}
 use Rattle.iofd_words.specs.View.{view}
 use Rattle.iofd_words.specs.World.{World}
@@ -34,15 +35,24 @@ use Rattle.iofd_words.specs.declared.event.Event.TheVariants as event
 use Rattle.iofd_words.specs.declared.reply.Reply.TheVariants as reply
 use Rattle.iofd_words.specs.declared.event.UnmapRequest.{UnmapRequest}
 use Rattle.iofd_words.specs.declared.numbers.FileNo.{FileNo}
+use Rattle.iofd_words.specs.declared.numbers.ObjId.{ObjId}
 use Rattle.iofd_words.specs.declared.rows.Area.{Area}
 use Rattle.iofd_words.specs.declared.rows.Attachment.{Attachment}
 use Rattle.iofd_words.specs.declared.rows.Object.{Object}
 use Rattle.server_state.proofs.Orderly.{orderly}
 use Rattle.server_state.proofs.AreasBecome.{areas_become, own_at}
-use Rattle.server_state.proofs.MemoryReleased.{AreFewer, may_release, pins_changed, shown_after}
+use Rattle.server_state.proofs.MemoryReleased.{AreFewer, AreShown, may_release, pins_changed, shown_after}
+use Rattle.hwpt_device.specs.PageTables.{AllStand, IfAllStand, KeepsOthers, PageTables}
+use Rattle.memory_events.proofs.LeavingAreas.{leads_marked, leads_outside}
+use Rattle.memory_events.proofs.PinsLeft.{leads_left, released_over}
+use Rattle.memory_events.proofs.SpacesCleared.{left_space, space_left, spaces_cleared}
+use Rattle.memory_events.proofs.TablesUnreached.{frames_cleared}
 use Rattle.memory_events.proofs.Touched.{AreAlike, alike, leaving_other, leaving_own, left_other, left_own, met_marked, met_within, touched_own, unmet_outside, waits_filtered}
 use Rattle.server_state.specs.Held.{areas_at, objects_in}
-use Rattle.server_state.specs.Shows.{Shows}
+use Rattle.memory_events.specs.Cleared.{cleared}
+use Rattle.server_state.proofs.TablesFollow.{tables_follow}
+use Rattle.server_state.specs.Leads.{leads_in, leads_of, space_leads}
+use Rattle.server_state.specs.Shows.{Shows, TablesShown}
 use Rattle.server_state.specs.Spaces.{HasAreas, IsOrderly}
 use Rattle.server_state.specs.Step.{IsTidy}
 use Rattle.server_state.specs.Mapping.{own_areas, some_waits}
@@ -86,33 +96,87 @@ module _ {A : Type 0} where
           let devices = devices_of w.objects w.attachments file request.ioas in
           rw (is_span, is_attached, own_shown) (waits_filtered file request devices w.areas ∙ ap (list_any (λ (a : Area). not (eqb (length (owed_by devices a.phase)) 0))) (met_within (unmapped_span request) (areas_of w.areas file request.ioas) are))
 
+      -- ---- the touched areas' pages lead nowhere
+
+      -- no two areas have an address in common
+      apart : AreApart (areas_of w.areas file request.ioas)
+      apart = let here : AreKept (areas_of w.areas file request.ioas) = rw own_shown at kept in here.apart
+
+      module _ (span : Bounds) (is_span : span ≡ unmapped_span request) where
+        -- the touched areas
+        abbrev within : List Area
+        within = areas_within span (own_areas s.objects file request.ioas)
+
+        within_is : areas_within (unmapped_span request) (areas_of w.areas file request.ioas) ≡ areas_within span (own_areas s.objects file request.ioas)
+        within_is = rw (is_span, own_shown) refl
+
+        -- as they begin to leave
+        leads_pending : (owed : List ℕ) (f : FileNo) (i : ObjId) (page : ℕ) → space_leads w.pins (with_leaving w.areas owed file request) f i page ≡ left_space w file request.ioas within f i page
+        leads_pending owed =
+            subst (λ (gone : List Area). (f : FileNo) (i : ObjId) (page : ℕ) → space_leads w.pins (with_leaving w.areas owed file request) f i page ≡ left_space w file request.ioas gone f i page) within_is
+            (space_left w file request.ioas (areas_within (unmapped_span request) (areas_of w.areas file request.ioas)) (with_leaving w.areas owed file request)
+            (λ page.
+            ap (λ (l : List Area). leads_in (pinned_frame w.pins) l page) (leaving_own file request owed w.areas ∙ met_marked (unmapped_span request) owed (areas_of w.areas file request.ioas) are)
+            ∙ leads_marked page (pinned_frame w.pins) (unmapped_span request) owed (areas_of w.areas file request.ioas) apart)
+            (leaving_other file request owed w.areas))
+
+        -- as they go
+        leads_gone : (f : FileNo) (i : ObjId) (page : ℕ) → space_leads w.pins (filter (λ (a : Area). not (is_touched file request a)) w.areas) f i page ≡ left_space w file request.ioas within f i page
+        leads_gone =
+            subst (λ (gone : List Area). (f : FileNo) (i : ObjId) (page : ℕ) → space_leads w.pins (filter (λ (a : Area). not (is_touched file request a)) w.areas) f i page ≡ left_space w file request.ioas gone f i page) within_is
+            (space_left w file request.ioas (areas_within (unmapped_span request) (areas_of w.areas file request.ioas)) (filter (λ (a : Area). not (is_touched file request a)) w.areas)
+            (λ page.
+            ap (λ (l : List Area). leads_in (pinned_frame w.pins) l page) (left_own file request w.areas ∙ unmet_outside (unmapped_span request) (areas_of w.areas file request.ioas) are)
+            ∙ leads_outside page (pinned_frame w.pins) (unmapped_span request) (areas_of w.areas file request.ioas) apart)
+            (left_other file request w.areas))
+
       -- the touched areas are on their way out
-      pub shows_pending : (span : Bounds) (attached : List ℕ) (t : Table (Held A)) → span ≡ unmapped_span request → attached ≡ devices_of w.objects w.attachments file request.ioas
-          → (IsOrderly s.objects → HasAreas file request.ioas (map (marked span attached) (areas_at s.objects.rows file request.ioas)) s.objects t)
-          → Shows (record w { areas = with_leaving w.areas (devices_of w.objects w.attachments file request.ioas) file request }) (record s { objects = t })
-      shows_pending span attached t is_span is_attached marks =
-          let devices = devices_of w.objects w.attachments file request.ioas in
-          let has : HasAreas file request.ioas (map (marked (unmapped_span request) (devices_of w.objects w.attachments file request.ioas)) (areas_at s.objects.rows file request.ioas)) s.objects t = rw (is_span, is_attached) at (marks (orderly at w s tidy shows)) in
-          record {
-            settings = shows.settings;
-            objects = record {
-              rows = shows.objects.rows ∙ sym has.objects;
-              proper = has.proper;
-              spaces =
-                  areas_become (with_leaving w.areas devices file request) w s file request.ioas (map (marked (unmapped_span request) devices) (areas_at s.objects.rows file request.ioas)) t shows has
-                  (leaving_own file request devices w.areas ∙ met_marked (unmapped_span request) devices (areas_of w.areas file request.ioas) are ∙ ap (map (marked (unmapped_span request) devices)) (shows.objects.spaces file request.ioas))
-                  (leaving_other file request devices w.areas);
-              files = λ number. rw has.files (shows.objects.files number);
-            };
-            devices = shows.devices;
-            limits = shows.limits;
-            allowed = shows.allowed;
-            users = shows.users;
-            pins =
-                pins_changed w.objects w.areas w.memory w.pins s.memory (λ (area : Area). with_phase (cond (is_touched file request area) (leaving devices area.phase) area.phase) area)
-                (λ area. refl) (λ area. refl) (λ area. refl) shows.pins;
-            frames = shows.frames;
-          }
+      module _ (span : Bounds) (is_span : span ≡ unmapped_span request) (clears : FramePool) (holds : clears.holds ≡ s.pool.holds) (bytes : length clears.bytes ≡ length clears.holds)
+          (stand : IfAllStand s.pool s.page_tables.tables (λ rows leads. AllStand clears rows (cleared file request.ioas (areas_within span (own_areas s.objects file request.ioas)) leads) s.page_tables.tables))
+          (others : IfAllStand s.pool s.page_tables.tables (λ rows leads. KeepsOthers rows s.pool clears)) where
+        -- the frames once the pages are cleared
+        cleared_shown : FramesShown w.settings.pool w.writes w.table_frames s.memory clears
+        cleared_shown = frames_cleared w s shows tidy.tabled.owned clears holds bytes (others w.table_frames (leads_of w) shows.tables.stand)
+
+        cleared_stand : AllStand clears w.table_frames (cleared file request.ioas (areas_within span (own_areas s.objects file request.ioas)) (leads_of w)) s.page_tables.tables
+        cleared_stand = stand w.table_frames (leads_of w) shows.tables.stand
+
+        pub shows_pending : (attached : List ℕ) (t : Table (Held A)) (kept_tables : PageTables) → attached ≡ devices_of w.objects w.attachments file request.ioas
+            → (IsOrderly s.objects → HasAreas file request.ioas (map (marked span attached) (areas_at s.objects.rows file request.ioas)) s.objects t)
+            → kept_tables ≡ s.page_tables
+            → Shows (record w { areas = with_leaving w.areas (devices_of w.objects w.attachments file request.ioas) file request }) (record s { objects = t; page_tables = kept_tables; pool = clears })
+        shows_pending attached t kept_tables is_attached marks same_tables =
+            let devices = devices_of w.objects w.attachments file request.ioas in
+            let has : HasAreas file request.ioas (map (marked (unmapped_span request) (devices_of w.objects w.attachments file request.ioas)) (areas_at s.objects.rows file request.ioas)) s.objects t = rw (is_span, is_attached) at (marks (orderly at w s tidy shows)) in
+            let new : World = record w { areas = with_leaving w.areas (devices_of w.objects w.attachments file request.ioas) file request } in
+            let tables : TablesShown (record w { areas = with_leaving w.areas (devices_of w.objects w.attachments file request.ioas) file request }) s.page_tables clears = record {
+              tables = shows.tables.tables;
+              widths = shows.tables.widths;
+              stand =
+                  spaces_cleared w new file request.ioas (areas_within span (own_areas s.objects file request.ioas)) w.objects s.page_tables.tables clears w.table_frames shows.tables.tables
+                  (λ f i page has. leads_pending span is_span devices f i page) cleared_stand;
+            } in
+            record {
+              settings = shows.settings;
+              objects = record {
+                rows = shows.objects.rows ∙ sym has.objects;
+                proper = has.proper;
+                spaces =
+                    areas_become (with_leaving w.areas devices file request) w s file request.ioas (map (marked (unmapped_span request) devices) (areas_at s.objects.rows file request.ioas)) t shows has
+                    (leaving_own file request devices w.areas ∙ met_marked (unmapped_span request) devices (areas_of w.areas file request.ioas) are ∙ ap (map (marked (unmapped_span request) devices)) (shows.objects.spaces file request.ioas))
+                    (leaving_other file request devices w.areas);
+                files = λ number. rw has.files (shows.objects.files number);
+              };
+              devices = shows.devices;
+              limits = shows.limits;
+              allowed = shows.allowed;
+              users = shows.users;
+              pins =
+                  pins_changed w.objects w.areas w.memory w.pins s.memory (λ (area : Area). with_phase (cond (is_touched file request area) (leaving devices area.phase) area.phase) area)
+                  (λ area. refl) (λ area. refl) (λ area. refl) shows.pins;
+              frames = cleared_shown;
+              tables = subst (λ (kept : PageTables). TablesShown (record w { areas = with_leaving w.areas (devices_of w.objects w.attachments file request.ioas) file request }) kept clears) (sym same_tables) tables;
+            }
 
       -- the touched areas are those of the address space that lie in the span
       pub touched_within : (span : Bounds) → span ≡ unmapped_span request → touched w.areas file request ≡ areas_within span (own_areas s.objects file request.ioas)
@@ -140,36 +204,76 @@ module _ {A : Type 0} where
               ∙ translated_parts w.objects (is_touched file request) w.areas n;
         }
 
-        pub may_remove : MayRelease (over going) (if_translated is_translated going) s.memory s.pool.holds
-        may_remove = may_release at w s tidy shows (over going) (if_translated is_translated going) w.objects stay fewer
+        pub may_remove : (holds : List ℕ) → holds ≡ s.pool.holds → MayRelease (over going) (if_translated is_translated going) s.memory holds
+        may_remove holds same = rw same (may_release at w s tidy shows (over going) (if_translated is_translated going) w.objects stay fewer)
 
-        pub shows_removed : (t : Table (Held A)) (memory : Memory) (pool : FramePool)
-            → ArePinned (at + 1) (settle w (without_areas (is_touched file request) w))
-            → (IsOrderly s.objects → HasAreas file request.ioas (areas_outside span (areas_at s.objects.rows file request.ioas)) s.objects t)
-            → IsReleased (over going) (if_translated is_translated going) s.memory memory s.pool pool
-            → Shows (settle w (without_areas (is_touched file request) w)) (record s { objects = t; memory = memory; pool = pool })
-        unfolding settle without_areas
-        shows_removed t memory pool next removes released =
-            let has : HasAreas file request.ioas (areas_outside (unmapped_span request) (areas_at s.objects.rows file request.ioas)) s.objects t = rw is_span at (removes (orderly at w s tidy shows)) in
-            let shown = shown_after at w s tidy shows (over going) (if_translated is_translated going) w.objects stay fewer (at + 1) (settle w (without_areas (is_touched file request) w)) memory pool next refl refl (objects_left (is_touched file request) w.areas w.memory) refl refl released in
-            record {
-              settings = shows.settings;
-              limits = shown.limits;
-              allowed = shows.allowed;
-              objects = record {
-                rows = shows.objects.rows ∙ sym has.objects;
-                proper = has.proper;
-                spaces =
-                    areas_become stay w s file request.ioas (areas_outside (unmapped_span request) (areas_at s.objects.rows file request.ioas)) t shows has
-                    (left_own file request w.areas ∙ unmet_outside (unmapped_span request) (areas_of w.areas file request.ioas) are ∙ ap (areas_outside (unmapped_span request)) (shows.objects.spaces file request.ioas))
-                    (left_other file request w.areas);
-                files = λ number. rw has.files (shows.objects.files number);
-              };
-              devices = shows.devices;
-              users = shown.users;
-              pins = shown.pins;
-              frames = shown.frames;
-            }
+        module _ (clears : FramePool) (holds : clears.holds ≡ s.pool.holds) (bytes : length clears.bytes ≡ length clears.holds)
+            (stand : IfAllStand s.pool s.page_tables.tables (λ rows leads. AllStand clears rows (cleared file request.ioas (areas_within span (own_areas s.objects file request.ioas)) leads) s.page_tables.tables))
+            (others : IfAllStand s.pool s.page_tables.tables (λ rows leads. KeepsOthers rows s.pool clears))
+            (memory : Memory) (pool : FramePool) (next : ArePinned (at + 1) (settle w (without_areas (is_touched file request) w)))
+            (released : IsReleased (over going) (if_translated is_translated going) s.memory memory clears pool) where
+          abbrev new : World
+          new = settle w (without_areas (is_touched file request) w)
+
+          -- by the holds alone
+          over_kept : IsReleased (over going) (if_translated is_translated going) s.memory memory s.pool (record pool { bytes = s.pool.bytes })
+          over_kept = released_over (over going) (if_translated is_translated going) s.memory memory s.pool clears pool holds released
+
+          named : (f : ℕ) → 0 < reached memory f → 0 < reached s.memory f
+          named f some = settles_named s.memory memory clears pool released.settles f some
+
+          shown : AreShown new w.writes w.table_frames w.user_pages w.settings memory (record pool { bytes = s.pool.bytes })
+          unfolding settle without_areas
+          shown =
+              shown_after at w s tidy shows (over going) (if_translated is_translated going) w.objects stay fewer (at + 1) (settle w (without_areas (is_touched file request) w)) memory (record pool { bytes = s.pool.bytes }) next refl refl
+              (objects_left (is_touched file request) w.areas w.memory) refl refl over_kept
+
+          frames_left : FramesShown w.settings.pool w.writes w.table_frames memory pool
+          frames_left =
+              frames_follow w.settings.pool w.writes w.table_frames s.memory memory clears pool (cleared_shown span is_span clears holds bytes stand others)
+              released.settles.holds released.settles.bytes named
+
+          -- the page tables stand, and the pages that are left lead where they did
+          tables_left : AllStand pool w.table_frames (leads_of new) s.page_tables.tables
+          unfolding settle without_areas
+          tables_left =
+              let gone = areas_within span (own_areas s.objects file request.ioas) in
+              spaces_cleared w new file request.ioas gone w.objects s.page_tables.tables pool w.table_frames shows.tables.tables
+              (λ f i page has.
+              leads_left at w new s.memory memory clears pool (over going) (if_translated is_translated going) stay tidy.pins shows.pins shown.pins refl refl fewer released f i page has
+              ∙ leads_gone span is_span f i page)
+              (tables_follow w.settings.pool w.writes w.writes w.table_frames (cleared file request.ioas gone (leads_of w)) s.page_tables.tables s.memory memory clears pool
+              (cleared_stand span is_span clears holds bytes stand others) (cleared_shown span is_span clears holds bytes stand others) frames_left
+              (λ f held some. named f some)
+              (λ f held none. ap (λ (all : List (List ℕ)). get_or all f []) released.settles.bytes))
+
+          pub shows_removed : (t : Table (Held A)) (kept_tables : PageTables)
+              → (IsOrderly s.objects → HasAreas file request.ioas (areas_outside span (areas_at s.objects.rows file request.ioas)) s.objects t)
+              → kept_tables ≡ s.page_tables
+              → Shows (settle w (without_areas (is_touched file request) w)) (record s { objects = t; page_tables = kept_tables; memory = memory; pool = pool })
+          unfolding settle without_areas
+          shows_removed t kept_tables removes same_tables =
+              let has : HasAreas file request.ioas (areas_outside (unmapped_span request) (areas_at s.objects.rows file request.ioas)) s.objects t = rw is_span at (removes (orderly at w s tidy shows)) in
+              let tables : TablesShown (settle w (without_areas (is_touched file request) w)) s.page_tables pool = record { tables = shows.tables.tables; widths = shows.tables.widths; stand = tables_left } in
+              record {
+                settings = shows.settings;
+                limits = shown.limits;
+                allowed = shows.allowed;
+                objects = record {
+                  rows = shows.objects.rows ∙ sym has.objects;
+                  proper = has.proper;
+                  spaces =
+                      areas_become stay w s file request.ioas (areas_outside (unmapped_span request) (areas_at s.objects.rows file request.ioas)) t shows has
+                      (left_own file request w.areas ∙ unmet_outside (unmapped_span request) (areas_of w.areas file request.ioas) are ∙ ap (areas_outside (unmapped_span request)) (shows.objects.spaces file request.ioas))
+                      (left_other file request w.areas);
+                  files = λ number. rw has.files (shows.objects.files number);
+                };
+                devices = shows.devices;
+                users = shown.users;
+                pins = shown.pins;
+                frames = frames_left;
+                tables = subst (λ (kept : PageTables). TablesShown (settle w (without_areas (is_touched file request) w)) kept pool) (sym same_tables) tables;
+              }
 
 -- ---- how many bytes go
 
@@ -195,11 +299,6 @@ bytes_fit at w s file request span tidy shows kept =
     let fewer = length-filter-le (λ (a : Area). lies_in a.span span) own in
     let most = kept.few in
     omega (arith, few, fewer, most)
-
--- a number that fits is converted
-pub converted : {T E P : Type 0} (r : Result T E) (v : T) → OkIff r P v → P → ((x : T) → r ≡ Ok x → ⊥) → ⊥
-converted (Ok x) v is fits never = never x refl
-converted (Err e) v is fits never = is fits
 
 -- ---- where nothing refuses
 

@@ -1,3 +1,5 @@
+pub mod AreaMapped
+pub mod Cleared
 pub mod LeftOut
 pub mod Place
 pub mod Rising

@@ -1,26 +1,16 @@
 -- Where a MAP puts its area.
-use Rattle.std.specs.Prelude.{◌≡◌, ℕ, ◌≤◌, Bool, true, false, None}
-use Rattle.iofd_words.specs.After.{changed}
-use Rattle.iofd_words.specs.Answers.{Answers}
+use Rattle.std.specs.Prelude.{◌≡◌, ℕ, ◌≤◌, Bool, true, false}
 use Rattle.iofd_words.specs.Bounds.{Bounds}
-use Rattle.iofd_words.specs.Checks.{choices, has_choice, taken_spans, map_checks, may_choose}
-use Rattle.iofd_words.specs.FirstTrue.{first_true}
+use Rattle.iofd_words.specs.Checks.{choices, has_choice, taken_spans, may_choose}
 use Rattle.iofd_words.specs.Objects.{has_ioas}
 use Rattle.iofd_words.specs.Pages.{is_above_sum}
 use Rattle.iofd_words.specs.Ranges.{meets_some}
 use Rattle.iofd_words.specs.Rights.{is_fixed}
 use Rattle.iofd_words.specs.Room.{is_covered_by}
 use Rattle.iofd_words.specs.Span.{span_from}
-use Rattle.iofd_words.specs.View.{View, view}
-use Rattle.iofd_words.specs.World.{World}
-use Rattle.iofd_words.specs.declared.event.Event.TheVariants as event
+use Rattle.iofd_words.specs.View.{View}
 use Rattle.iofd_words.specs.declared.event.MapRequest.{MapRequest}
 use Rattle.iofd_words.specs.declared.numbers.FileNo.{FileNo}
-use Rattle.iofd_words.specs.declared.reply.Reply.{Reply}
-use Rattle.server_state.specs.Choice.{IsLeastMapped}
-use Rattle.server_state.specs.Shows.{Shows}
-use Rattle.server_state.specs.Step.{IsTidy}
-use Rattle.server_state.specs.declared.state.State.{State}
 
 -- nothing stands in the way of the span: it lies in the allowed ranges, can be used, and meets no area
 pub record IsClear (v : View) (file : FileNo) (request : MapRequest) (span : Bounds) : Type 0 where
@@ -54,10 +44,3 @@ HasNoPlaceBy v file request false = has_ioas v.objects file request.ioas ≡ tru
 
 abbrev pub HasNoPlace : View → FileNo → MapRequest → Type 0
 HasNoPlace v file request = HasNoPlaceBy v file request (is_fixed request.flags)
-
--- the step is one of the definitions, with the least address where one is chosen
-abbrev pub LeastSteps : {A : Type 0} → ℕ → FileNo → MapRequest → State A → Reply → State A → Type 0
-LeastSteps {A = A} at file request old reply new =
-    (w : World) → IsTidy at w → Shows w old → first_true (map_checks (view w) file request) ≡ None
-    → Answers {A = A} w (event.Map file request) reply × IsLeastMapped w file request (is_fixed request.flags) reply
-    × Shows (changed {A = A} at w (event.Map file request) reply) new

@@ -9,12 +9,32 @@ ghost use Rattle.server_state.specs.Held.{objects_in};
 
 use iofd_words::{Attachment, Config, DeviceSet, FileNo, ObjId};
 use object_table::ObjectTable;
-use server_state::{Held, lookups};
+use server_state::{Held, State, lookups};
 use std::alloc::Allocator;
 
 /// The devices that are attached to the file's address space of this id. None where some attachment is of a device that
 /// there isn't.
 pub(crate) fn attached_to<A: Allocator>(
+    state: &State<A>,
+    file: FileNo,
+    ioas: ObjId,
+) -> Option<DeviceSet>
+    ensures none { IfNone result
+        (list_all (λ a. files.is_device state.now.config a.device) state.now.attachments.items ≡ false) }
+    ensures some { IfSome result (λ devices. devices_rise state.now.attachments.items ≡ true
+        → devices ≡ devices_of (objects_in state.now.objects) state.now.attachments.items file ioas) }
+{
+    attached_by(
+        &state.config,
+        &state.objects,
+        &state.attachments,
+        file,
+        ioas,
+    )
+}
+
+/// The same, by these attachments.
+fn attached_by<A: Allocator>(
     config: &Config<A>,
     table: &ObjectTable<Held<A>, A>,
     attachments: &[Attachment],

@@ -3,8 +3,10 @@
 
 pub mod allow_iovas;
 mod choice;
+mod clearing;
 mod devices;
 pub mod map;
+mod mapping;
 pub mod unmap;
 pub mod usable_ranges;
 pub mod user_access;

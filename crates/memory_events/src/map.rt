@@ -1,25 +1,27 @@
 //! MAP: pages of a user's memory at a fixed address, or at one that the server chooses.
 
-ghost use Rattle.std.specs.Prelude.{◌≡◌, ◌==◌, ◌&&◌, ◌||◌, not, true, false, IfOk, OnErr, MatchOption, [], ◌∷◌, ◌/◌, ◌≤◌, ◌^◌, if◌then◌else◌};
+ghost use Rattle.std.specs.Prelude.{◌≡◌, ◌==◌, ◌&&◌, ◌||◌, not, true, false, IfOk, OnErr, MatchOption, Option, [], ◌∷◌, ◌/◌, ◌≤◌, ◌^◌, if◌then◌else◌};
 ghost use Rattle.iofd_words.specs.After.{mapped_area, memory_object};
 ghost use Rattle.iofd_words.specs.Areas.{areas_meet, has_no_room};
-ghost use Rattle.iofd_words.specs.Checks.{map_checks, is_outside_usable, lacks_choice, lacks_mapped_page, mapped_span, passes_limit_mapped, unusable_in};
+ghost use Rattle.iofd_words.specs.Checks.{map_checks, is_outside_usable, lacks_choice, lacks_mapped_frames, lacks_mapped_page, mapped_span, passes_limit_mapped, unusable_in};
 ghost use Rattle.iofd_words.specs.FirstTrue.{first_true};
+ghost use Rattle.iofd_words.specs.Objects.{has_ioas};
 ghost use Rattle.iofd_words.specs.Pages.{is_above_sum, is_above_user, is_whole};
 ghost use Rattle.iofd_words.specs.Ranges.{meets_some};
 ghost use Rattle.iofd_words.specs.Rights.{is_fixed};
 ghost use Rattle.iofd_words.specs.Span.{span_from};
 ghost use Rattle.iofd_words.specs.declared.event.Event.TheVariants as event;
-ghost use Rattle.memory_events.specs.Place.{HasNoPlace, IsPlace, LeastSteps};
-ghost use Rattle.server_state.specs.Held.{areas_at};
+ghost use Rattle.iofd_words.specs.declared.numbers.FrameNo.{FrameNo};
+ghost use Rattle.memory_events.specs.Place.{HasNoPlace, IsPlace};
+ghost use Rattle.server_state.specs.Held.{areas_at, objects_in};
 ghost use Rattle.server_state.specs.Seen.{seen};
-ghost use Rattle.server_state.specs.Step.{IsGrantedAt, IsKnown, TidyShowsSame};
+ghost use Rattle.server_state.specs.Step.{IsGrantedAt, IsKnown, MovingSteps, TidyShowsSame};
 
-use crate::choice;
+use crate::{choice, mapping};
 use area_map::Areas;
 use iofd_words::{
-    Area, Cause, FileNo, Iova, MapRequest, MemoryObject, NoMemory, PAGE_SIZE, Phase, Reply, Span,
-    USER_END, UserNo,
+    Area, Cause, FileNo, FrameNo, Iova, MapRequest, MemoryObject, NoMemory, PAGE_SIZE, Phase,
+    Reply, Span, USER_END, UserNo,
 };
 use server_state::{State, accounts, area_changes, lookups};
 use std::alloc::Allocator;
@@ -55,8 +57,9 @@ pub fn refusal<A: Allocator>(state: &State<A>, file: FileNo, request: MapRequest
 }
 
 /// What it does where nothing refuses it: the area comes, with a memory object whose number is `at`, the position
-/// of the record, and where a page table translates the area its pages are pinned. An address that isn't fixed is the
-/// least that may be chosen.
+/// of the record. Where page tables translate the area its pages are pinned, and mapped in each of them: the tables
+/// that they lack are in the least free frames, which are named in `taken`, empty before. An address that isn't fixed
+/// is the least that may be chosen.
 ///
 /// The only error is want of memory. It leaves the world as it was.
 pub fn commit<A: Allocator + Copy>(
@@ -64,10 +67,14 @@ pub fn commit<A: Allocator + Copy>(
     at: u64,
     file: FileNo,
     request: MapRequest,
+    taken: &mut Vec<FrameNo, A>,
 ) -> Result<Reply, NoMemory>
-    requires { IsGrantedAt at (event.Map file request) state.old }
-    ensures ok { IfOk result (λ reply. LeastSteps at file request state.old reply state.new) }
+    requires granted { IsGrantedAt at (event.Map file request) state.old }
+    requires empty { taken.old.items ≡ [] }
+    ensures ok { IfOk result (λ reply. (via : Option FrameNo) →
+        MovingSteps at (event.Map file request) via state.old reply taken.new.items [] state.new) }
     ensures err { OnErr result (TidyShowsSame at state.old state.new) }
+    ensures none { OnErr result (taken.new.items ≡ []) }
 {
     // Nothing refuses it: so the file has a user, and there is a place.
     let Some(user) = accounts::user_of(&state.config, file) else {
@@ -79,9 +86,21 @@ pub fn commit<A: Allocator + Copy>(
     let area = mapped_area(at, file, request, span);
     let object = memory_object(at, user, request);
     let pinned = state.has_hwpt(file, request.ioas);
+    let count = state.tables_to_map(file, request.ioas, span);
+    taken.reserve(count as usize)?;
     area_changes::reserve(&mut state.objects, file, request.ioas)?;
     state.memory.add(&mut state.pool, object, pinned)?;
+    mapping::map_area(
+        &area,
+        pinned,
+        &state.memory,
+        &mut state.page_tables,
+        &mut state.pool,
+        taken,
+    );
     area_changes::insert(&mut state.objects, file, request.ioas, area);
+    // Its clause says that the pool has bytes for each frame.
+    let _ = state.pool.len();
     Ok(Reply::Iova(Iova(span.first())))
 }
 
@@ -146,6 +165,9 @@ fn refusal_by_areas<A: Allocator>(
     requires known { IsKnown state.now }
     requires some { (request.length == 0) ≡ false }
     requires sum { (is_fixed request.flags && is_above_sum request.iova.0 request.length) ≡ false }
+    requires whole { is_whole request.length ≡ true }
+    requires starts { (is_fixed request.flags && not (is_whole request.iova.0)) ≡ false }
+    requires space { has_ioas (objects_in state.now.objects) file request.ioas ≡ true }
     requires here { areas_at state.now.objects.rows file request.ioas ≡ areas.now.areas }
     ensures { result ≡ first_true (
         (Cause.Reserved, is_outside_usable (seen state.now) file request)
@@ -153,6 +175,7 @@ fn refusal_by_areas<A: Allocator>(
         ∷ (Cause.Full, has_no_room areas.now.areas || lacks_choice (seen state.now) file request)
         ∷ (Cause.Absent, lacks_mapped_page (seen state.now) file request)
         ∷ (Cause.Account, passes_limit_mapped (seen state.now) file request)
+        ∷ (Cause.Frames, lacks_mapped_frames (seen state.now) file request)
         ∷ []) }
 {
     if is_outside_usable(state, file, request) {
@@ -169,6 +192,9 @@ fn refusal_by_areas<A: Allocator>(
     }
     if passes_limit(state, file, request) {
         return Some(Cause::Account);
+    }
+    if lacks_frames(state, file, request) {
+        return Some(Cause::Frames);
     }
     None
 }
@@ -298,4 +324,26 @@ fn passes_limit<A: Allocator>(state: &State<A>, file: FileNo, request: MapReques
     }
     let count = u128::from(request.length / PAGE_SIZE);
     accounts::passes_limit(state, file, count)
+}
+
+/// Whether the page tables of the address space lack more tables for the span than frames are free.
+fn lacks_frames<A: Allocator>(state: &State<A>, file: FileNo, request: MapRequest) -> bool
+    requires known { IsKnown state.now }
+    requires some { (request.length == 0) ≡ false }
+    requires sum { (is_fixed request.flags && is_above_sum request.iova.0 request.length) ≡ false }
+    requires whole { is_whole request.length ≡ true }
+    requires starts { (is_fixed request.flags && not (is_whole request.iova.0)) ≡ false }
+    requires space { has_ioas (objects_in state.now.objects) file request.ioas ≡ true }
+    requires usable { is_outside_usable (seen state.now) file request ≡ false }
+    ensures { result ≡ lacks_mapped_frames (seen state.now) file request }
+{
+    if !state.has_hwpt(file, request.ioas) {
+        return false;
+    }
+    match place_of(state, file, request) {
+        Some(span) => {
+            state.tables_to_map(file, request.ioas, span) > u64::from(state.pool.free_count())
+        }
+        None => false,
+    }
 }

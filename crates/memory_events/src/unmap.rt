@@ -1,19 +1,22 @@
 //! UNMAP: areas go, or are on their way out until devices have flushed.
 
-ghost use Rattle.std.specs.Prelude.{◌≡◌, ◌<◌, ◌&&◌, ◌∷◌, [], ℕ, false, not, IfSome, IsSome};
+ghost use Rattle.std.specs.Prelude.{◌≡◌, ◌<◌, ◌^◌, ◌&&◌, ◌∷◌, [], ℕ, false, not, IfSome, IsSome};
+ghost use Rattle.area_map.specs.Areas.{areas_within, bytes_of};
 ghost use Rattle.iofd_words.specs.Areas.{areas_meet, is_cut, is_everything, unmapped_span};
 ghost use Rattle.iofd_words.specs.Checks.{unmap_checks};
 ghost use Rattle.iofd_words.specs.FirstTrue.{first_true};
 ghost use Rattle.iofd_words.specs.Pages.{is_above_sum};
 ghost use Rattle.iofd_words.specs.declared.event.Event.TheVariants as event;
+ghost use Rattle.server_state.specs.Mapping.{own_areas};
 ghost use Rattle.server_state.specs.Seen.{seen};
 ghost use Rattle.server_state.specs.Step.{IsGranted, Steps};
 
-use crate::devices;
 use crate::map::is_above_sum;
+use crate::{clearing, devices};
 use area_map::Areas;
-use iofd_words::{Cause, Errno, FileNo, Reply, Span, UnmapRequest};
-use server_state::{State, area_changes, lookups, release};
+use iofd_words::{Cause, Errno, FileNo, ObjId, Reply, Span, UnmapRequest};
+use object_table::ObjectTable;
+use server_state::{Held, State, area_changes, lookups, release};
 use std::alloc::Allocator;
 
 /// Why it is refused, by the first row of the definitions that holds. None where nothing refuses it.
@@ -56,8 +59,9 @@ fn refusal_by_areas<A: Allocator>(
     None
 }
 
-/// What it does where nothing refuses it. Where a device still has to flush before all areas that it names may go,
-/// they are on their way out, and the reply is EAGAIN. Else they go, with their memory objects and pins, and the reply is
+/// What it does where nothing refuses it. In the page tables of the address space the pages of the areas that it names
+/// lead nowhere from then on; their tables stay. Where a device still has to flush before all these areas may go, they
+/// are on their way out, and the reply is EAGAIN. Else they go, with their memory objects and pins, and the reply is
 /// how many bytes they had. It takes no memory.
 pub fn commit<A: Allocator>(state: &mut State<A>, file: FileNo, request: UnmapRequest) -> Reply
     requires { IsGranted (event.Unmap file request) state.old }
@@ -68,26 +72,24 @@ pub fn commit<A: Allocator>(state: &mut State<A>, file: FileNo, request: UnmapRe
         return Reply::Done;
     };
     let ioas = request.ioas;
-    let Some(attached) = devices::attached_to(
-        &state.config,
-        &state.objects,
-        &state.attachments,
-        file,
-        ioas,
-    ) else {
+    let Some(attached) = devices::attached_to(state, file, ioas) else {
         // Never: each attached device is one of the configuration.
         return Reply::Done;
     };
+    let translated = state.has_hwpt(file, ioas);
+    clearing::clear_within(
+        &state.objects,
+        file,
+        ioas,
+        span,
+        &mut state.page_tables,
+        &mut state.pool,
+    );
     if area_changes::some_waits(&state.objects, file, ioas, span, &attached) {
         area_changes::mark_leaving(&mut state.objects, file, ioas, span, &attached);
         return Reply::Pending(Errno::EAGAIN);
     }
-    let Ok(bytes) = u64::try_from(area_changes::bytes_within(&state.objects, file, ioas, span))
-    else {
-        // Never: 65,535 areas of at most 2^48 bytes have fewer than 2^64.
-        return Reply::Done;
-    };
-    let translated = state.has_hwpt(file, ioas);
+    let bytes = bytes_within(&state.objects, file, ioas, span);
     release::remove_within(
         &state.objects,
         file,
@@ -99,6 +101,19 @@ pub fn commit<A: Allocator>(state: &mut State<A>, file: FileNo, request: UnmapRe
     );
     area_changes::remove(&mut state.objects, file, ioas, span);
     Reply::Bytes(bytes)
+}
+
+/// How many bytes the areas of the address space that lie in the span have: at most 65,535 areas of at most 2^48 bytes.
+fn bytes_within<A: Allocator>(
+    table: &ObjectTable<Held<A>, A>,
+    file: FileNo,
+    ioas: ObjId,
+    span: Span,
+) -> u64
+    requires { bytes_of (areas_within span (own_areas table.now file ioas)) < 2 ^ 64 }
+    ensures { result ≡ bytes_of (areas_within span (own_areas table.now file ioas)) }
+{
+    area_changes::bytes_within(table, file, ioas, span) as u64
 }
 
 /// Whether it names every address, the last one too.

@@ -25,7 +25,7 @@ use Rattle.iofd_words.specs.declared.rows.Pin.{Pin}
 use Rattle.iofd_words.specs.declared.rows.TableFrame.{TableFrame}
 use Rattle.iofd_words.specs.declared.rows.UserPage.{UserPage}
 use Rattle.memory_rows.proofs.PinsFollow.{any_count, count-cons}
-use Rattle.memory_rows.specs.Shown.{FramesShown, PinsShown, UsersShown, over, translated}
+use Rattle.memory_rows.specs.Shown.{FramesShown, PinsShown, UsersShown, over, tables_in, translated}
 use Rattle.memory_objects.specs.Objects.{pins_on}
 use Rattle.user_memory.specs.Changes.{HoldsFollow, SameObjects}
 use Rattle.user_memory.specs.Memory.{IsBacked, Memory, reached}
@@ -36,28 +36,28 @@ eqb_same n = grind (arith, nat_tests)
 -- ---- holds and bytes
 
 module _ (pool : ℕ) (writes : List FrameWrite) (tables : List TableFrame) (old new : Memory) (before after : FramePool) (shown : FramesShown pool writes tables old before) where
-  pub holds_follow : HoldsFollow old new before after → (f : ℕ) → slice_index after.holds f ≡ reached new f
-  holds_follow follow f = left (slice_index after.holds f) (reached old f) (slice_index before.holds f) (reached new f) (follow.holds f) (shown.holds f)
+  pub holds_follow : HoldsFollow old new before after → (f : ℕ) → slice_index after.holds f ≡ reached new f + tables_in tables f
+  holds_follow follow f = left (slice_index after.holds f) (reached old f) (slice_index before.holds f) (reached new f) (tables_in tables f) (follow.holds f) (shown.holds f)
     where
-      left : (h r k s : ℕ) → h + r ≡ k + s → k ≡ r → h ≡ s
-      left h r k s sum same = omega (arith, sum, same)
+      left : (h r k s t : ℕ) → h + r ≡ k + s → k ≡ r + t → h ≡ s + t
+      left h r k s t sum same = omega (arith, sum, same)
 
-  -- no byte changes
-  pub frames_follow : HoldsFollow old new before after → after.bytes ≡ before.bytes → FramesShown pool writes tables new after
-  frames_follow follow bytes = record {
+  -- no byte changes, and no frame is named that wasn't
+  pub frames_follow : HoldsFollow old new before after → after.bytes ≡ before.bytes → ((f : ℕ) → 0 < reached new f → 0 < reached old f) → FramesShown pool writes tables new after
+  frames_follow follow bytes named = record {
     size = follow.count ∙ shown.size;
     count = ap length bytes ∙ shown.count;
-    full = λ f within. ap (λ (all : List (List ℕ)). length (get_or all f [])) bytes ∙ shown.full f within;
+    full = λ f within reached. ap (λ (all : List (List ℕ)). length (get_or all f [])) bytes ∙ shown.full f within (named f reached);
     holds = holds_follow follow;
-    written = λ f offset within below. ap (λ (all : List (List ℕ)). get_or (get_or all f []) offset 0) bytes ∙ shown.written f offset within below;
-    no_tables = shown.no_tables;
+    once = shown.once;
+    written = λ f offset within below reached. ap (λ (all : List (List ℕ)). get_or (get_or all f []) offset 0) bytes ∙ shown.written f offset within below (named f reached);
   }
 
 -- the holds are those that memory makes, and few
 pub is_backed : (pool : ℕ) (writes : List FrameWrite) (tables : List TableFrame) (m : Memory) (frames : FramePool) → FramesShown pool writes tables m frames → IsBacked m frames.holds
 is_backed pool writes tables m frames shown = record {
   least = λ f. let same = shown.holds f in omega (arith, same);
-  most = λ f. let same = shown.holds f in omega (arith, same);
+  most = λ f. let same = shown.holds f in let few = shown.once f in omega (arith, same, few);
 }
 
 -- the memory objects are the same
@@ -306,35 +306,37 @@ module _ (pool : ℕ) (writes : List FrameWrite) (tables : List TableFrame) (old
   in_bytes : frame < length before.bytes
   in_bytes = let same = shown.count in omega (arith, within, same)
 
+  -- no other frame is named that wasn't
   pub given_shown : HoldsFollow old new before (given before frame)
+      → ((f : ℕ) → f ≢ frame → 0 < reached new f → 0 < reached old f)
       → FramesShown pool (without_frame frame writes) tables new (given before frame)
-  given_shown follow = record {
+  given_shown follow named = record {
     size = follow.count ∙ shown.size;
     count = length-set before.bytes frame zeros ∙ shown.count;
-    full = λ f below. at_full f below (cases_eq f frame);
+    full = λ f below reached. at_full f below reached (cases_eq f frame);
     holds = holds_follow pool writes tables old new before (given before frame) shown follow;
-    written = λ f offset below few. at_byte f offset below few (cases_eq f frame);
-    no_tables = shown.no_tables;
+    once = shown.once;
+    written = λ f offset below few reached. at_byte f offset below few reached (cases_eq f frame);
   }
     where
-      at_full : (f : ℕ) → f < pool → (f ≡ frame) ⊎ (f ≢ frame) → length (bytes_of (given before frame) f) ≡ 4096
-      at_full f below (inl same) = ap (λ (n : ℕ). length (bytes_of (given before frame) n)) same
+      at_full : (f : ℕ) → f < pool → 0 < reached new f → (f ≡ frame) ⊎ (f ≢ frame) → length (bytes_of (given before frame) f) ≡ 4096
+      at_full f below reached (inl same) = ap (λ (n : ℕ). length (bytes_of (given before frame) n)) same
           ∙ ap (λ (l : List ℕ). length l) (get_or-set_same before.bytes frame zeros [] in_bytes)
           ∙ length-replicate frame_size 0 ∙ frame_size-is
-      at_full f below (inr differ) = ap (λ (l : List ℕ). length l)
-          (get_or-set_other before.bytes frame f zeros [] differ) ∙ shown.full f below
+      at_full f below reached (inr differ) = ap (λ (l : List ℕ). length l)
+          (get_or-set_other before.bytes frame f zeros [] differ) ∙ shown.full f below (named f differ reached)
 
-      at_byte : (f offset : ℕ) → f < pool → offset < 4096 → (f ≡ frame) ⊎ (f ≢ frame)
+      at_byte : (f offset : ℕ) → f < pool → offset < 4096 → 0 < reached new f → (f ≡ frame) ⊎ (f ≢ frame)
           → slice_index (bytes_of (given before frame) f) offset ≡ byte_at (without_frame frame writes) f offset
-      at_byte f offset below few (inl same) =
+      at_byte f offset below few reached (inl same) =
           ap (λ (n : ℕ). slice_index (bytes_of (given before frame) n) offset) same
           ∙ ap (λ (l : List ℕ). slice_index l offset) (get_or-set_same before.bytes frame zeros [] in_bytes)
           ∙ get_or-replicate frame_size offset 0 0 (omega (arith, few, frame_size-is))
           ∙ sym (gone_byte frame offset writes)
           ∙ ap (λ (n : ℕ). byte_at (without_frame frame writes) n offset) (sym same)
-      at_byte f offset below few (inr differ) =
+      at_byte f offset below few reached (inr differ) =
           ap (λ (l : List ℕ). slice_index l offset) (get_or-set_other before.bytes frame f zeros [] differ)
-          ∙ shown.written f offset below few
+          ∙ shown.written f offset below few (named f differ reached)
           ∙ sym (other_byte frame f offset (unlike f differ) writes)
         where
           unlike : (f : ℕ) → f ≢ frame → eqb frame f ≡ false
@@ -387,6 +389,7 @@ length-spliced xs ys a room =
 module _ (pool : ℕ) (writes : List FrameWrite) (tables : List TableFrame) (kept : Memory) (before : FramePool)
     (place offset : ℕ) (bytes : List ℕ)
     (shown : FramesShown pool writes tables kept before) (within : place < pool) (room : offset + length bytes ≤ 4096)
+    (named : 0 < reached kept place)
   where
     written_here : bytes_of (written before place offset bytes) place
         ≡ splice (bytes_of before place) offset (offset + length bytes) bytes
@@ -398,7 +401,7 @@ module _ (pool : ℕ) (writes : List FrameWrite) (tables : List TableFrame) (kep
         (splice (bytes_of before place) offset (offset + length bytes) bytes) [] differ
 
     fits : offset + length bytes ≤ length (bytes_of before place)
-    fits = let full = shown.full place within in omega (arith, room, full)
+    fits = let full = shown.full place within named in omega (arith, room, full)
 
     pub written_shown : FramesShown pool (record { frame = place; offset = offset; bytes = bytes } ∷ writes) tables kept
         (written before place offset bytes)
@@ -406,37 +409,37 @@ module _ (pool : ℕ) (writes : List FrameWrite) (tables : List TableFrame) (kep
       size = shown.size;
       count = length-set before.bytes place (splice (bytes_of before place) offset (offset + length bytes) bytes)
           ∙ shown.count;
-      full = λ f below. at_full f below (cases_eq f place);
+      full = λ f below reached. at_full f below reached (cases_eq f place);
       holds = shown.holds;
-      written = λ f o below few. at_byte f o below few (cases_eq f place);
-      no_tables = shown.no_tables;
+      once = shown.once;
+      written = λ f o below few reached. at_byte f o below few reached (cases_eq f place);
     }
       where
-        at_full : (f : ℕ) → f < pool → (f ≡ place) ⊎ (f ≢ place)
+        at_full : (f : ℕ) → f < pool → 0 < reached kept f → (f ≡ place) ⊎ (f ≢ place)
             → length (bytes_of (written before place offset bytes) f) ≡ 4096
-        at_full f below (inl same) =
+        at_full f below reached (inl same) =
             ap (λ (n : ℕ). length (bytes_of (written before place offset bytes) n)) same
             ∙ ap (λ (l : List ℕ). length l) written_here
             ∙ length-spliced (bytes_of before place) bytes offset fits
-            ∙ shown.full place within
-        at_full f below (inr differ) = ap (λ (l : List ℕ). length l) (written_elsewhere f differ) ∙ shown.full f below
+            ∙ shown.full place within named
+        at_full f below reached (inr differ) = ap (λ (l : List ℕ). length l) (written_elsewhere f differ) ∙ shown.full f below reached
 
-        at_byte : (f o : ℕ) → f < pool → o < 4096 → (f ≡ place) ⊎ (f ≢ place)
+        at_byte : (f o : ℕ) → f < pool → o < 4096 → 0 < reached kept f → (f ≡ place) ⊎ (f ≢ place)
             → slice_index (bytes_of (written before place offset bytes) f) o
             ≡ byte_at (record { frame = place; offset = offset; bytes = bytes } ∷ writes) f o
-        at_byte f o below few (inl same) =
+        at_byte f o below few reached (inl same) =
             let itself : eqb place f ≡ true = ap (λ (n : ℕ). eqb place n) same ∙ eqb_same place in
             ap (λ (n : ℕ). slice_index (bytes_of (written before place offset bytes) n) o) same
             ∙ ap (λ (l : List ℕ). slice_index l o) written_here
             ∙ spliced_byte (bytes_of before place) bytes offset o fits
             ∙ ap (λ (n : ℕ). if leb offset o && ltb o (offset + length bytes) then slice_index bytes (o - offset) else n)
-            (ap (λ (n : ℕ). slice_index (bytes_of before n) o) (sym same) ∙ shown.written f o below few)
+            (ap (λ (n : ℕ). slice_index (bytes_of before n) o) (sym same) ∙ shown.written f o below few reached)
             ∙ ap (λ (b : Bool). if b && leb offset o && ltb o (offset + length bytes) then slice_index bytes
             (o - offset) else byte_at writes f o) (sym itself)
-        at_byte f o below few (inr differ) =
+        at_byte f o below few reached (inr differ) =
             let not_it : eqb place f ≡ false = unlike f differ in
             ap (λ (l : List ℕ). slice_index l o) (written_elsewhere f differ)
-            ∙ shown.written f o below few
+            ∙ shown.written f o below few reached
             ∙ ap (λ (b : Bool). if b && leb offset o && ltb o (offset + length bytes) then slice_index bytes
             (o - offset) else byte_at writes f o) (sym not_it)
           where
@@ -459,9 +462,9 @@ by_index value (x ∷ xs) a (suc n) long each =
 
 pub read_shown : (pool : ℕ) (writes : List FrameWrite) (tables : List TableFrame) (kept : Memory) (frames : FramePool)
     (f offset count : ℕ)
-    → FramesShown pool writes tables kept frames → f < pool → offset + count ≤ 4096
+    → FramesShown pool writes tables kept frames → f < pool → offset + count ≤ 4096 → 0 < reached kept f
     → bytes_at frames f offset count ≡ frame.bytes_at writes f offset count
-read_shown pool writes tables kept frames f offset count shown within room =
+read_shown pool writes tables kept frames f offset count shown within room named =
     by_index (byte_at writes f) (bytes_at frames f offset count) offset count long each
   where
     all : List ℕ
@@ -469,7 +472,7 @@ read_shown pool writes tables kept frames f offset count shown within room =
 
     enough : count ≤ length (drop offset (bytes_of frames f))
     enough =
-        let full = shown.full f within in
+        let full = shown.full f within named in
         let rest = length-drop offset (bytes_of frames f) in
         omega (arith, room, full, rest)
 
@@ -487,7 +490,7 @@ read_shown pool writes tables kept frames f offset count shown within room =
         ap (λ (l : List ℕ). slice_index l k) part
         ∙ get_or-take count (drop offset (bytes_of frames f)) k 0 below
         ∙ get_or-drop offset (bytes_of frames f) k 0
-        ∙ shown.written f (offset + k) within (omega (arith, below, room))
+        ∙ shown.written f (offset + k) within (omega (arith, below, room)) named
 
 -- ---- free frames
 
@@ -533,21 +536,26 @@ module _ (pool : ℕ) (writes : List FrameWrite) (tables : List TableFrame) (use
   -- a frame is free just where no hold stands on it
   pub free_alike : (f : ℕ) → frame.is_free pool user_pages pins tables f ≡ is_free frames.holds f
   free_alike f =
-      ap (λ (l : List TableFrame). frame.is_free pool user_pages pins l f) shown.no_tables
-      ∙ ap (λ (b : Bool). ltb f pool && not (b || list_any (λ (pin : Pin). eqb pin.frame.0 f) pins || false))
+      ap (λ (b : Bool). ltb f pool && not (b || list_any (λ (pin : Pin). eqb pin.frame.0 f) pins || is_table))
       (any_count (λ (page : UserPage). eqb page.frame.0 f) user_pages
       ∙ ap (ltb 0) (users.counts (λ (page : UserPage). eqb page.frame.0 f)))
       ∙ ap (λ (b : Bool). ltb f pool && not (ltb 0 (count_by (λ (page : UserPage). eqb page.frame.0 f)
-      kept.pages) || b || false)) (pinned.names f)
+      kept.pages) || b || is_table)) (pinned.names f)
+      ∙ ap (λ (b : Bool). ltb f pool && not (ltb 0 (count_by (λ (page : UserPage). eqb page.frame.0 f)
+      kept.pages) || ltb 0 (pins_on kept.objects f) || b)) (any_count (λ (table : TableFrame). eqb table.frame.0 f) tables)
       ∙ ap (λ (b : Bool). ltb f pool && b) (none_left (count_by (λ (page : UserPage). eqb page.frame.0 f) kept.pages)
-      (pins_on kept.objects f))
+      (pins_on kept.objects f) (tables_in tables f))
       ∙ ap (λ (n : ℕ). ltb f pool && eqb n 0) (sym (shown.holds f))
       ∙ ap (λ (n : ℕ). ltb f n && eqb (slice_index frames.holds f) 0) (sym shown.size)
     where
-      none_left : (a b : ℕ) → not (ltb 0 a || ltb 0 b || false) ≡ eqb (a + b) 0
-      none_left zero zero = refl
-      none_left zero (suc b) = search (arith, nat_tests)
-      none_left (suc a) b = search (arith, nat_tests)
+      is_table : Bool
+      is_table = list_any (λ (table : TableFrame). eqb table.frame.0 f) tables
+
+      none_left : (a b c : ℕ) → not (ltb 0 a || ltb 0 b || ltb 0 c) ≡ eqb (a + b + c) 0
+      none_left zero zero zero = refl
+      none_left zero zero (suc c) = search (arith, nat_tests)
+      none_left zero (suc b) c = search (arith, nat_tests)
+      none_left (suc a) b c = search (arith, nat_tests)
 
   unheld : (f : ℕ) → f < length frames.holds → frame.is_free pool user_pages pins tables f
       ≡ eqb (slice_index frames.holds f) 0

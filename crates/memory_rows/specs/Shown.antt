@@ -1,6 +1,6 @@
 -- When the users' memory and a pool show the rows of a world: users' pages, memory objects with their areas, pins, and
 -- the bytes of frames.
-use Rattle.std.specs.Prelude.{◌≡◌, ◌==◌, ◌&&◌, ◌<◌, ℕ, Bool, nat_lt, List, [], length, slice_index}
+use Rattle.std.specs.Prelude.{◌≡◌, ◌==◌, ◌&&◌, ◌<◌, ◌≤◌, ◌+◌, ℕ, Bool, nat_lt, List, length, slice_index}
 use Rattle.std.specs.List.{count_by, list_any}
 use Rattle.frame_memory.specs.Pool.{FramePool, bytes_of}
 use Rattle.iofd_words.specs.Frames.{FrameWrite, byte_at, frame_at}
@@ -39,12 +39,18 @@ pub record PinsShown (objects : List Object) (all_areas : List Area) (memory_obj
   pub names : (frame : ℕ) → list_any (λ pin. pin.frame.0 == frame) pins ≡ nat_lt 0 (pins_on kept.objects frame)
   pub invariant : MemoryInvariant kept.objects
 
--- each frame has a hold for each page and each pin that names it, and each byte is what was written there last. No frame
--- holds a table.
+-- how many tables are in the frame
+abbrev pub tables_in : List TableFrame → ℕ → ℕ
+tables_in tables frame = count_by (λ table. table.frame.0 == frame) tables
+
+-- each frame has a hold for each page, each pin and each table that names it, and no two tables are in one. Where a page or a
+-- pin names it each byte is what was written there last; the bytes of a table's frame are its page table's, and those of a free
+-- one nobody's.
 pub record FramesShown (pool : ℕ) (writes : List FrameWrite) (tables : List TableFrame) (kept : Memory) (frames : FramePool) : Type 0 where
   pub size : length frames.holds ≡ pool
   pub count : length frames.bytes ≡ pool
-  pub full : (frame : ℕ) → frame < pool → length (bytes_of frames frame) ≡ 4096
-  pub holds : (frame : ℕ) → slice_index frames.holds frame ≡ reached kept frame
-  pub written : (frame offset : ℕ) → frame < pool → offset < 4096 → slice_index (bytes_of frames frame) offset ≡ byte_at writes frame offset
-  pub no_tables : tables ≡ []
+  pub full : (frame : ℕ) → frame < pool → 0 < reached kept frame → length (bytes_of frames frame) ≡ 4096
+  pub holds : (frame : ℕ) → slice_index frames.holds frame ≡ reached kept frame + tables_in tables frame
+  pub once : (frame : ℕ) → tables_in tables frame ≤ 1
+  pub written : (frame offset : ℕ) → frame < pool → offset < 4096 → 0 < reached kept frame
+      → slice_index (bytes_of frames frame) offset ≡ byte_at writes frame offset

@@ -25,7 +25,7 @@ use Rattle.iofd_words.specs.declared.rows.ObjectKind.TheVariants as kind
 use Rattle.server_state.proofs.PageTables.{any_kept, over_is_table}
 use Rattle.server_state.specs.Choice.{first_of}
 use Rattle.server_state.specs.Reach.{IsOneOf}
-use Rattle.server_state.specs.Tables.{AreTables}
+use Rattle.server_state.specs.Tables.{page_tables_among}
 
 pub none_found : {X : Type 0} (p : X → Bool) (xs : List X) → find p xs ≡ None → list_any p xs ≡ false
 none_found p xs none = any_found p xs ∙ ap (λ o. is_some o) none
@@ -81,7 +81,7 @@ module _ (settings : Settings) (objects : List Object) (attachments : List Attac
 
 -- ---- page tables
 
-module _ (tables objects : List Object) (are : AreTables tables objects) (file : FileNo) (ioas : ObjId) (span : Bounds) where
+module _ (tables objects : List Object) (are : tables ≡ page_tables_among objects) (file : FileNo) (ioas : ObjId) (span : Bounds) where
   abbrev over : Object → Bool
   over o = eqb o.file.0 file.0 && is_hwpt_over ioas o.kind
 

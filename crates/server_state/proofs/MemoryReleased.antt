@@ -1,6 +1,6 @@
 -- Areas that go, or page tables: what they may let go of, and the memory objects, pins and frames that are shown
 -- afterwards.
-use Rattle.std.proofs.Common.{◌≡◌, ℕ, ◌+◌, ◌≤◌, ◌&&◌, eqb, ltb, List, map, sym, ◌∙◌, ap, arith}
+use Rattle.std.proofs.Common.{◌≡◌, ℕ, ◌+◌, ◌≤◌, ◌&&◌, eqb, ltb, List, [], get_or, map, sym, ◌∙◌, ap, arith}
 use Rattle.std.specs.List.{count_by, filter}
 use Rattle.frame_memory.specs.Pool.{FramePool}
 use Rattle.iofd_rows.specs.Pinned.{ArePinned}
@@ -21,11 +21,15 @@ use Rattle.iofd_words.specs.declared.rows.UserPage.{UserPage}
 use Rattle.memory_rows.proofs.Counts.{count_map}
 use Rattle.memory_rows.proofs.FramesFollow as frames
 use Rattle.memory_rows.proofs.Gone.{few_translated, released_none, rows_left}
+use Rattle.hwpt_device.specs.PageTables.{AllStand}
+use Rattle.memory_rows.proofs.Named.{settles_named}
 use Rattle.memory_rows.proofs.PinsFollow.{only_kept, pins_follow}
 use Rattle.memory_rows.specs.Moves.{IsReleased, MayRelease}
 use Rattle.memory_rows.specs.Shown.{FramesShown, PinsShown, UsersShown, over, translated}
 use Rattle.user_memory.specs.Changes.{never}
 use Rattle.user_memory.specs.Memory.{Memory, areas_over, rows_of, table_pins}
+use Rattle.server_state.proofs.TablesFollow.{tables_follow}
+use Rattle.server_state.specs.Leads.{leads_of}
 use Rattle.server_state.specs.Shows.{Shows}
 use Rattle.server_state.specs.Step.{IsTidy}
 use Rattle.server_state.specs.declared.state.State.{State}
@@ -91,12 +95,25 @@ module _ {A : Type 0} (at : ℕ) (w : World) (s : State A) (tidy : IsTidy at w) 
           (λ n. tables n ∙ ap (λ l. translated l left n) (sym same_objects) ∙ ap (λ l. translated new.objects l n) (sym same_areas))
           released.settles
 
+      frames_after : FramesShown w.settings.pool w.writes w.table_frames after pool
+      frames_after =
+          frames.frames_follow w.settings.pool w.writes w.table_frames s.memory after s.pool pool shows.frames released.settles.holds released.settles.bytes
+          (λ f named. settles_named s.memory after s.pool pool released.settles f named)
+
+      -- and all page tables stand
+      pub tables_stand : AllStand pool w.table_frames (leads_of w) s.page_tables.tables
+      tables_stand =
+          tables_follow w.settings.pool w.writes w.writes w.table_frames (leads_of w) s.page_tables.tables s.memory after s.pool pool
+          shows.tables.stand shows.frames frames_after
+          (λ f held named. settles_named s.memory after s.pool pool released.settles f named)
+          (λ f held none. ap (λ (all : List (List ℕ)). get_or all f []) released.settles.bytes)
+
       pub shown_after : AreShown new w.writes w.table_frames w.user_pages w.settings after pool
       shown_after = record {
         limits = released.settles.limits ∙ shows.limits;
         users = record { pages = pages_after; counts = λ test. shows.users.counts test ∙ ap (count_by test) (sym released.settles.pages) };
         pins = pins_after;
-        frames = frames.frames_follow w.settings.pool w.writes w.table_frames s.memory after s.pool pool shows.frames released.settles.holds released.settles.bytes;
+        frames = frames_after;
       }
 
   -- nothing is let go of

@@ -3,7 +3,7 @@ use Rattle.std.proofs.Common.{◌≡◌, ◌<◌, ◌^◌, is_some, Vec, Bool, t
 use Rattle.std.specs.List.{find, filter, list_all}
 use Rattle.std.specs.Option.{option_map}
 use Rattle.std.proofs.lemmas.Bool.Decides.{nat_tests}
-use Rattle.iofd_words.specs.Objects.{binding_of, is_bound_as, is_fresh, is_full, kind_of, objects_of, with_object}
+use Rattle.iofd_words.specs.Objects.{binding_of, comes_before, is_bound_as, is_fresh, is_full, is_hwpt, kind_of, objects_of, with_object}
 use Rattle.iofd_words.specs.World.{World}
 use Rattle.iofd_words.specs.declared.numbers.DeviceNo.{DeviceNo}
 use Rattle.iofd_words.specs.declared.numbers.FileNo.{FileNo}
@@ -14,13 +14,22 @@ use Rattle.iofd_rows.proofs.Bools.{and_true, both_true}
 use Rattle.iofd_rows.proofs.PageTables.{same_hwpt}
 use Rattle.memory_rows.proofs.FramesFollow.{pins_moved, translated_same}
 use Rattle.server_state.proofs.Objects.{kind_at, kind_of_rows}
-use Rattle.server_state.proofs.PageTables.{over_no_other, tables_beside}
+use Rattle.server_state.proofs.PageTables.{over_no_other}
 use Rattle.server_state.specs.Held.{is_proper, areas_at, areas_in, object_of}
 use Rattle.server_state.specs.Shows.{Shows}
-use Rattle.server_state.specs.Tables.{is_page_table}
+use Rattle.server_state.specs.Tables.{page_tables_among}
 use Rattle.server_state.specs.declared.held.Held.{Held}
 use Rattle.server_state.specs.declared.state.State.{State}
 use Rattle.object_table.specs.Table.{Row, Table, inserted, is_at, is_of_file, stands_before}
+
+-- an object that is no page table comes among page tables
+pub tables_beside : (object : Object) (objects : List Object) → is_hwpt object.kind ≡ false → page_tables_among (with_object object objects) ≡ page_tables_among objects
+tables_beside object [] other = rw other refl
+tables_beside object (o ∷ objects) other = by_order (comes_before object o) (tables_beside object objects other)
+  where
+    by_order : (b : Bool) → page_tables_among (with_object object objects) ≡ page_tables_among objects → page_tables_among (cond b (object ∷ o ∷ objects) (o ∷ with_object object objects)) ≡ page_tables_among (o ∷ objects)
+    by_order true rest = rw other refl
+    by_order false rest = ap (λ (l : List Object). cond (is_hwpt o.kind) (o ∷ l) l) rest
 
 module _ {A : Type 0} where
   -- ---- how many there are
@@ -59,7 +68,7 @@ module _ {A : Type 0} where
 
   -- one that no other id is like, in its file
   pub shows_inserted : (w : World) (s : State A) (row : Row (Held A)) (table : Table (Held A)) (bindings : Vec Object A) → Shows w s → is_proper row ≡ true → areas_in row.value ≡ [] → find (is_at row.file row.id) s.objects.rows ≡ None
-      → is_page_table (object_of row).kind ≡ false
+      → is_hwpt (object_of row).kind ≡ false
       → table.rows ≡ inserted row s.objects.rows → table.files ≡ s.objects.files
       → ((device : DeviceNo) → binding_of (with_object (object_of row) w.objects) device ≡ find (λ object. is_bound_as device object.kind) bindings.items)
       → Shows (record w { objects = with_object (object_of row) w.objects }) (record s { objects = table; bindings = bindings })
@@ -72,7 +81,7 @@ module _ {A : Type 0} where
           spaces = λ file id. shows.objects.spaces file id ∙ sym (areas-inserted row s.objects.rows file id none unused) ∙ ap (λ l. areas_at l file id) (sym rows);
           files = λ number. rw files (shows.objects.files number);
         };
-        devices = record { bindings = bound; attached = shows.devices.attached; tables = tables_beside s.page_tables.items w.objects shows.devices.tables (object_of row) no_table };
+        devices = record { bindings = bound; attached = shows.devices.attached };
         limits = shows.limits;
         allowed = shows.allowed;
         users = shows.users;
@@ -81,6 +90,7 @@ module _ {A : Type 0} where
             (translated_same w.objects (with_object (object_of row) w.objects) w.areas
             (λ file ioas. same_hwpt (object_of row) w.objects file ioas (over_no_other ioas (object_of row).kind no_table)));
         frames = shows.frames;
+        tables = record { tables = shows.tables.tables ∙ sym (tables_beside (object_of row) w.objects no_table); widths = shows.tables.widths; stand = shows.tables.stand };
       }
 
   no_kind : (o : Option (Row (Held A))) → o ≡ None → is_some (kind_at (option_map (λ (row : Row (Held A)). row.value) o)) ≡ false

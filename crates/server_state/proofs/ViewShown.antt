@@ -1,6 +1,6 @@
 -- What is kept gives the view of the world that is shown: so the same refuses an event, and the same may come of an access.
-use Rattle.std.proofs.Common.{◌≡◌, ℕ, ◌+◌, List, Option, Some, None, sym, ap, refl, eqb, ◌∙◌}
-use Rattle.std.specs.List.{find, range_with_len}
+use Rattle.std.proofs.Common.{◌≡◌, ℕ, ◌+◌, List, Option, Some, None, true, not, sym, ap, refl, eqb, ◌∙◌}
+use Rattle.std.specs.List.{find, list_all, range_with_len}
 use Rattle.std.proofs.Math.Path.{fun_ext}
 use Rattle.iofd_words.specs.Allowed.{allowed_of}
 use Rattle.iofd_words.specs.Areas as area
@@ -20,12 +20,16 @@ use Rattle.iofd_words.specs.FirstTrue.{first_true}
 use Rattle.iofd_words.specs.Look.{query_checks}
 use Rattle.iofd_words.specs.Objects as object
 use Rattle.iofd_words.specs.Policy.{access_outcomes, outcomes}
+use Rattle.iofd_words.specs.TablePlaces.{has_table}
+use Rattle.iofd_words.specs.Tables.{is_orphan}
 use Rattle.iofd_words.specs.View.{View, view}
 use Rattle.iofd_words.specs.World.{World}
 use Rattle.iofd_words.specs.declared.event.Event.{Event}
 use Rattle.iofd_words.specs.declared.fault.AccessKind.{AccessKind}
 use Rattle.iofd_words.specs.declared.numbers.DeviceNo.{DeviceNo}
 use Rattle.iofd_words.specs.declared.query.Query.{Query}
+use Rattle.hwpt_device.specs.Kept.{has_kept}
+use Rattle.server_state.proofs.TablesTold.{tables_told}
 use Rattle.server_state.specs.Held.{areas_at}
 use Rattle.server_state.specs.Seen.{seen}
 use Rattle.server_state.specs.Shows.{Shows}
@@ -47,54 +51,58 @@ module _ {A : Type 0} (w : World) (s : State A) (shows : Shows w s) where
       least_alike w.settings.pool w.writes w.table_frames w.user_pages w.objects w.areas w.memory w.pins s.memory
       s.pool shows.users shows.pins shows.frames
 
-  pub same_view : seen s ≡ view w
-  same_view =
-      let is_open : table.is_open s.objects ≡ file.is_open w.settings w.closed = fun_ext shows.objects.files in
-      let bindings : object.binding_of s.bindings.items ≡ object.binding_of w.objects = fun_ext (λ d. sym (shows.devices.bindings d)) in
-      let areas : areas_at s.objects.rows ≡ area.areas_of w.areas = fun_ext (λ f. fun_ext (λ ioas. sym (shows.objects.spaces f ioas))) in
-      let allowed : allowed_of s.allowed ≡ allowed_of w.allowed = fun_ext (λ f. fun_ext (λ ioas. sym (shows.allowed f ioas))) in
-      let pinned : kept.pinned_frame s.memory ≡ pin.pinned_frame w.pins =
-      fun_ext (λ page. sym (shows.pins.frames page)) in
-      let pages : frame.frame_at s.memory.pages ≡ frame.frame_at w.user_pages =
-      fun_ext (λ user. fun_ext (λ page. sym (shows.users.pages user page))) in
-      let now : kept.frame_now s.memory ≡ pin.frame_now w.memory w.user_pages =
-      fun_ext (λ page.
-      ap (λ (rows : List MemoryObject). pin.frame_now rows s.memory.pages page) (sym shows.pins.rows)
-      ∙ ap (λ (at : UserNo → ℕ → Option FrameNo). elim (find (λ (m : MemoryObject). eqb m.number page.memory)
-      w.memory) as (λ _. Option FrameNo) [ Some m ↦ at m.user (page_of m.va + page.index) | None ↦ None ]) pages)
-      in
-      let held : kept.held_by s.memory ≡ pin.held_by (pin.pinned_frame w.pins) w.memory =
-      fun_ext (λ user.
-      ap (λ (rows : List MemoryObject). pin.held_by (kept.pinned_frame s.memory) rows user) (sym shows.pins.rows)
-      ∙ ap (λ (at : ObjectPage → Option FrameNo). pin.held_by at w.memory user) pinned)
-      in
-      rw (
-        is_open,
-        bindings,
-        areas,
-        allowed,
-        held,
-        now,
-        pinned,
-        pages,
-        same_count,
-        ← shows.settings,
-        ← shows.objects.rows,
-        ← shows.devices.attached,
-        ← shows.pins.rows,
-      )
-      refl
+  -- the page tables that are there have their rows
+  module _ (owned : list_all (λ table. not (is_orphan w.objects table)) w.table_frames ≡ true) where
+    pub same_view : seen s ≡ view w
+    same_view =
+        let is_open : table.is_open s.objects ≡ file.is_open w.settings w.closed = fun_ext shows.objects.files in
+        let bindings : object.binding_of s.bindings.items ≡ object.binding_of w.objects = fun_ext (λ d. sym (shows.devices.bindings d)) in
+        let areas : areas_at s.objects.rows ≡ area.areas_of w.areas = fun_ext (λ f. fun_ext (λ ioas. sym (shows.objects.spaces f ioas))) in
+        let allowed : allowed_of s.allowed ≡ allowed_of w.allowed = fun_ext (λ f. fun_ext (λ ioas. sym (shows.allowed f ioas))) in
+        let pinned : kept.pinned_frame s.memory ≡ pin.pinned_frame w.pins =
+        fun_ext (λ page. sym (shows.pins.frames page)) in
+        let pages : frame.frame_at s.memory.pages ≡ frame.frame_at w.user_pages =
+        fun_ext (λ user. fun_ext (λ page. sym (shows.users.pages user page))) in
+        let now : kept.frame_now s.memory ≡ pin.frame_now w.memory w.user_pages =
+        fun_ext (λ page.
+        ap (λ (rows : List MemoryObject). pin.frame_now rows s.memory.pages page) (sym shows.pins.rows)
+        ∙ ap (λ (at : UserNo → ℕ → Option FrameNo). elim (find (λ (m : MemoryObject). eqb m.number page.memory)
+        w.memory) as (λ _. Option FrameNo) [ Some m ↦ at m.user (page_of m.va + page.index) | None ↦ None ]) pages)
+        in
+        let told : has_kept s.pool s.page_tables.tables ≡ has_table w.table_frames = fun_ext (λ f. fun_ext (λ i. fun_ext (tables_told w s.page_tables s.pool shows.tables owned f i))) in
+        let held : kept.held_by s.memory ≡ pin.held_by (pin.pinned_frame w.pins) w.memory =
+        fun_ext (λ user.
+        ap (λ (rows : List MemoryObject). pin.held_by (kept.pinned_frame s.memory) rows user) (sym shows.pins.rows)
+        ∙ ap (λ (at : ObjectPage → Option FrameNo). pin.held_by at w.memory user) pinned)
+        in
+        rw (
+          is_open,
+          bindings,
+          areas,
+          allowed,
+          held,
+          now,
+          pinned,
+          pages,
+          same_count,
+          told,
+          ← shows.settings,
+          ← shows.objects.rows,
+          ← shows.devices.attached,
+          ← shows.pins.rows,
+        )
+        refl
 
-  -- what refuses an event is what refuses it in the world
-  pub same_refusal : {E : Type 0} → (e : Event E) → first_true (checks (seen s) e) ≡ refusal w e
-  same_refusal e = ap (λ (v : View). first_true (checks v e)) same_view
+    -- what refuses an event is what refuses it in the world
+    pub same_refusal : {E : Type 0} → (e : Event E) → first_true (checks (seen s) e) ≡ refusal w e
+    same_refusal e = ap (λ (v : View). first_true (checks v e)) same_view
 
-  -- and a question
-  pub same_query_refusal : (q : Query) → first_true (query_checks (seen s) q) ≡ first_true (query_checks (view w) q)
-  same_query_refusal q = ap (λ (v : View). first_true (query_checks v q)) same_view
+    -- and a question
+    pub same_query_refusal : (q : Query) → first_true (query_checks (seen s) q) ≡ first_true (query_checks (view w) q)
+    same_query_refusal q = ap (λ (v : View). first_true (query_checks v q)) same_view
 
-  -- what may come of an access is what may come of it in the world
-  pub same_outcomes : (device : DeviceNo) (address : ℕ) (kind : AccessKind)
-      → access_outcomes (seen s) device address kind ≡ outcomes w device address kind
-  unfolding outcomes
-  same_outcomes device address kind = ap (λ (v : View). access_outcomes v device address kind) same_view
+    -- what may come of an access is what may come of it in the world
+    pub same_outcomes : (device : DeviceNo) (address : ℕ) (kind : AccessKind)
+        → access_outcomes (seen s) device address kind ≡ outcomes w device address kind
+    unfolding outcomes
+    same_outcomes device address kind = ap (λ (v : View). access_outcomes v device address kind) same_view

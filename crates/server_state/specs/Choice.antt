@@ -1,12 +1,14 @@
--- Which of the lawful answers is given: where a flush is owed the fault, to a user's new page the least free frame, and to a MAP without a
--- fixed address the least that may be chosen.
-use Rattle.std.specs.Prelude.{◌≡◌, ℕ, ◌≤◌, ◌==◌, Bool, true, false, Option, Some, None, List, [], ◌∷◌, find, Contains}
-use Rattle.std.specs.List.{list_any}
+-- Which of the lawful answers is given: where a flush is owed the fault, to a user's new page and to each new table the least free
+-- frame, and to a MAP without a fixed address the least that may be chosen.
+use Rattle.std.specs.Prelude.{◌≡◌, ℕ, ◌≤◌, ◌==◌, Bool, true, false, Option, Some, None, List, [], ◌∷◌, ◌&&◌, filter, find, length, map, take, Contains}
+use Rattle.std.specs.List.{list_all, list_any, range_with_len}
 use Rattle.std.specs.Option.{option_map}
 use Rattle.iofd_words.specs.Answers.{write_reply}
 use Rattle.iofd_words.specs.Checks.{may_choose}
+use Rattle.iofd_words.specs.Frames.{is_free}
 use Rattle.iofd_words.specs.Policy.{Outcome, Passes, Denied, outcomes}
 use Rattle.iofd_words.specs.Rights.{is_fixed}
+use Rattle.iofd_words.specs.Tables.{is_orphan}
 use Rattle.iofd_words.specs.View.{view}
 use Rattle.iofd_words.specs.World.{World}
 use Rattle.iofd_words.specs.declared.event.MapRequest.{MapRequest}
@@ -87,3 +89,16 @@ IsChosen w (event.Detach device) via answer = Unit {0}
 IsChosen w (event.Flush device) via answer = Unit {0}
 IsChosen w (event.DeviceWrite device iova bytes) via answer =
     WriteChosen (without_cache (outcomes w device iova.0 Write)) via (write_reply w device iova.0) answer
+
+-- ---- frames of tables
+
+-- so many of the frames that nobody reaches, from the least on
+abbrev pub least_free : World → ℕ → List FrameNo
+least_free w count =
+    map (λ frame. record { 0 = frame })
+    (take count (filter (is_free w.settings.pool w.user_pages w.pins w.table_frames) (range_with_len 0 w.settings.pool)))
+
+-- new tables get the least free frames in turn, and only the tables of page tables that are gone give theirs back
+pub record AreFramesChosen (w left : World) (new old : List FrameNo) : Type 0 where
+  pub taken : new ≡ least_free w (length new)
+  pub given : list_all (λ frame. list_any (λ table. table.frame.0 == frame.0 && is_orphan left.objects table) w.table_frames) old ≡ true

@@ -1,5 +1,6 @@
 pub mod Choice
 pub mod Held
+pub mod Leads
 pub mod Mapping
 pub mod Pages
 pub mod Reach

@@ -1,5 +1,6 @@
 -- What is kept, as the view that the refusals and the policy read. It is that of the world that is shown.
 use Rattle.frame_memory.specs.Pool.{free_count}
+use Rattle.hwpt_device.specs.Kept.{has_kept}
 use Rattle.iofd_words.specs.Allowed.{allowed_of}
 use Rattle.iofd_words.specs.Frames.{frame_at}
 use Rattle.iofd_words.specs.Objects as object
@@ -25,4 +26,5 @@ seen s =
       pinned_frame = pinned_frame s.memory;
       held_by = held_by s.memory;
       free_count = free_count s.pool.holds;
+      has_table = has_kept s.pool s.page_tables.tables;
     }

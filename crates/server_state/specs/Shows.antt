@@ -1,4 +1,5 @@
--- When what is kept shows a world: each question of the world has its answer there. Eight groups: the settings, the limits of users, and the lists of rows.
+-- When what is kept shows a world: each question of the world has its answer there. Nine groups: the settings, the limits of users,
+-- the lists of rows, and the page tables in their frames.
 use Rattle.std.specs.Prelude.{◌≡◌, true, List, map}
 use Rattle.std.specs.List.{list_all}
 use Rattle.iofd_words.specs.Allowed.{allowed_of}
@@ -15,8 +16,11 @@ use Rattle.iofd_words.specs.declared.rows.Attachment.{Attachment}
 use Rattle.iofd_words.specs.declared.rows.Object.{Object}
 use Rattle.server_state.specs.Held.{object_of, is_proper, areas_at}
 use Rattle.server_state.specs.declared.held.Held.{Held}
-use Rattle.server_state.specs.Tables.{AreTables}
+use Rattle.server_state.specs.Leads.{leads_of}
+use Rattle.server_state.specs.Tables.{has_own_width, page_tables_among}
 use Rattle.server_state.specs.declared.state.State.{State}
+use Rattle.frame_memory.specs.Pool.{FramePool}
+use Rattle.hwpt_device.specs.PageTables.{AllStand, PageTables, objects_of}
 use Rattle.memory_rows.specs.Shown.{FramesShown, PinsShown, UsersShown}
 use Rattle.object_table.specs.Table.{Table, is_open}
 
@@ -28,11 +32,17 @@ pub record ObjectsShown {A : Type 0} (settings : Settings) (closed : List FileNo
   pub spaces : (f : FileNo) (ioas : ObjId) → areas_of areas f ioas ≡ areas_at table.rows f ioas
   pub files : (number : FileNo) → is_open table number ≡ file.is_open settings closed number
 
--- by which object a device is bound, by which page table it translates, and the page tables
-pub record DevicesShown (objects : List Object) (attachments : List Attachment) (kept_bindings : List Object) (kept_attachments : List Attachment) (kept_tables : List Object) : Type 0 where
+-- by which object a device is bound, and by which page table it translates
+pub record DevicesShown (objects : List Object) (attachments : List Attachment) (kept_bindings : List Object) (kept_attachments : List Attachment) : Type 0 where
   pub bindings : (device : DeviceNo) → binding_of objects device ≡ binding_of kept_bindings device
   pub attached : attachments ≡ kept_attachments
-  pub tables : AreTables kept_tables objects
+
+-- the page tables are those among the objects, of the widths that these have, and each stands in the pool with its
+-- rows, and leads its pages as the world has it
+pub record TablesShown (w : World) (kept : PageTables) (pool : FramePool) : Type 0 where
+  pub tables : objects_of kept ≡ page_tables_among w.objects
+  pub widths : list_all has_own_width kept.tables ≡ true
+  pub stand : AllStand pool w.table_frames (leads_of w) kept.tables
 
 pub record Shows {A : Type 0} (w : World) (s : State A) : Type 0 where
   pub settings : w.settings ≡ s.config
@@ -40,7 +50,8 @@ pub record Shows {A : Type 0} (w : World) (s : State A) : Type 0 where
   -- each address space has its allowed ranges
   pub allowed : (file : FileNo) (ioas : ObjId) → allowed_of w.allowed file ioas ≡ allowed_of s.allowed file ioas
   pub objects : ObjectsShown w.settings w.closed w.objects w.areas s.objects
-  pub devices : DevicesShown w.objects w.attachments s.bindings.items s.attachments.items s.page_tables.items
+  pub devices : DevicesShown w.objects w.attachments s.bindings.items s.attachments.items
   pub users : UsersShown w.user_pages s.memory.pages
   pub pins : PinsShown w.objects w.areas w.memory w.pins s.memory
   pub frames : FramesShown w.settings.pool w.writes w.table_frames s.memory s.pool
+  pub tables : TablesShown w s.page_tables s.pool

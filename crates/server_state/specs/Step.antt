@@ -1,12 +1,15 @@
 -- What one step does to what is kept.
-use Rattle.std.specs.Prelude.{[], ◌≡◌, ℕ, true, Option, None}
+use Rattle.std.specs.Prelude.{◌≡◌, ℕ, true, Option, None, List}
 use Rattle.iofd_words.specs.After.{changed}
 use Rattle.iofd_words.specs.Answers.{Answers}
 use Rattle.iofd_words.specs.Checks.{refusal}
 use Rattle.iofd_rows.specs.Debts.{DebtsAttached}
+use Rattle.iofd_runs.specs.Apart.{are_apart}
 use Rattle.iofd_runs.specs.Fits.{RowsFit}
 use Rattle.iofd_runs.specs.InUsable.{AreasUsable}
 use Rattle.iofd_runs.specs.Owned.{AreasOwned}
+use Rattle.iofd_runs.specs.Rising.{objects_rise}
+use Rattle.iofd_runs.specs.Tabled.{AreTabled}
 use Rattle.iofd_rows.specs.Ids.{AreBoundOnce, have_own_ids}
 use Rattle.iofd_rows.specs.Pinned.{ArePinned, have_own_memory}
 use Rattle.iofd_words.specs.World.{World}
@@ -19,8 +22,9 @@ use Rattle.iofd_words.specs.declared.numbers.FrameNo.{FrameNo}
 use Rattle.iofd_words.specs.declared.record.Record.{Record}
 use Rattle.iofd_words.specs.declared.reply.Reply.{Reply}
 use Rattle.iofd_words.specs.Run.{Lawful, after}
+use Rattle.iofd_words.specs.Tables.{MovesTables, with_tables}
 use Rattle.iofd_words.specs.declared.numbers.PassNo.{PassNo}
-use Rattle.server_state.specs.Choice.{IsChosen, MayUse}
+use Rattle.server_state.specs.Choice.{AreFramesChosen, IsChosen, MayUse}
 use Rattle.server_state.specs.Shows.{Shows}
 use Rattle.server_state.specs.declared.state.State.{State}
 
@@ -31,17 +35,21 @@ pub record IsTidy (at : ℕ) (w : World) : Type 0 where
   pub own : have_own_memory w.areas ≡ true
   pub debts : DebtsAttached w
   pub ids : have_own_ids w.objects ≡ true
+  pub rise : objects_rise w.objects ≡ true
   -- each device is bound by at most one object
   pub once : AreBoundOnce w.objects
   pub fit : RowsFit w
   -- memory is of the users of its areas' files
   pub owned : AreasOwned w
-  -- areas lie in addresses that can be used
+  -- areas of an address space have no address in common, and lie in addresses that can be used
+  pub apart : are_apart w.areas ≡ true
   pub usable : AreasUsable w
+  -- each page table has the tables that it needs
+  pub tabled : AreTabled w
 
--- a record that took and gave back no table frames
-abbrev pub recorded : {A : Type 0} → PassNo → Event A → Reply → Record A
-recorded pass event reply = record { pass = pass; event = event; reply = reply; taken = []; given = [] }
+-- a record that took and gave back these frames for tables
+abbrev pub recorded : {A : Type 0} → PassNo → Event A → Reply → List FrameNo → List FrameNo → Record A
+recorded pass event reply taken given = record { pass = pass; event = event; reply = reply; taken = taken; given = given }
 
 module _ {A : Type 0} where
   -- a world of a run is shown
@@ -84,7 +92,7 @@ module _ {A : Type 0} where
     pub known : IsKnown s
     pub none : first_true (query_checks (view known.world) query) ≡ None
 
-  -- an event that nothing refuses is answered so, and the world after it is shown
+  -- an event that nothing refuses, and that moves no frames of tables, is answered so, and the world after it is shown
   abbrev pub Steps : ℕ → Event A → State A → Reply → State A → Type 0
   Steps at event old reply new =
       (w : World) → IsTidy at w → Shows w old → refusal w event ≡ None → Answers w event reply × Shows (changed at w event reply) new
@@ -103,10 +111,20 @@ module _ {A : Type 0} where
       (w : World) → IsTidy at w → Shows w old → refusal w event ≡ None → MayUse w event via
       → Answers w event reply × IsChosen w event via reply × Shows (changed at w event reply) new
 
-  -- whatever the event: its record is one that may be made, its reply is the one that is chosen, and the world
-  -- after it is shown
-  abbrev pub Answered : ℕ → Event A → Option FrameNo → State A → Reply → State A → Type 0
-  Answered at event via old reply new =
+  -- the same of one that takes and gives back these frames, which are those that are chosen
+  abbrev pub MovingSteps : ℕ → Event A → Option FrameNo → State A → Reply → List FrameNo → List FrameNo → State A → Type 0
+  MovingSteps at event via old reply taken given new =
+      (w : World) → IsTidy at w → Shows w old → refusal w event ≡ None → MayUse w event via
+      → Answers w event reply × IsChosen w event via reply
+      × MovesTables w (changed at w event reply) event reply taken given
+      × AreFramesChosen w (changed at w event reply) taken given
+      × Shows (with_tables taken given (changed at w event reply)) new
+
+  -- whatever the event: its record is one that may be made, its reply and its frames are those that are chosen, and the
+  -- world after it is shown
+  abbrev pub Answered : ℕ → Event A → Option FrameNo → State A → Reply → List FrameNo → List FrameNo → State A → Type 0
+  Answered at event via old reply taken given new =
       (pass : PassNo) (w : World) → IsTidy at w → Shows w old → (refusal w event ≡ None → MayUse w event via)
-      → Lawful w (recorded {A = A} pass event reply) × (refusal w event ≡ None → IsChosen w event via reply)
-      × Shows (after at w (recorded {A = A} pass event reply)) new
+      → Lawful at w (recorded {A = A} pass event reply taken given)
+      × (refusal w event ≡ None → IsChosen w event via reply × AreFramesChosen w (changed at w event reply) taken given)
+      × Shows (after at w (recorded {A = A} pass event reply taken given)) new

@@ -1,16 +1,23 @@
 -- The page tables, kept beside the other objects.
-use Rattle.std.specs.Prelude.{◌≡◌, Bool, true, false, ◌&&◌, List}
-use Rattle.std.specs.List.{list_any}
+use Rattle.std.specs.Prelude.{Bool, false, ◌==◌, List, filter}
+use Rattle.hwpt_device.specs.PageTables.{Hwpt}
+use Rattle.iofd_words.specs.Objects.{is_hwpt}
+use Rattle.iofd_words.specs.Width.{bits_of}
 use Rattle.iofd_words.specs.declared.rows.Object.{Object}
 use Rattle.iofd_words.specs.declared.rows.ObjectKind.{ObjectKind}
 use Rattle.iofd_words.specs.declared.rows.ObjectKind.TheVariants as kind
+use Rattle.iofd_words.specs.declared.width.Width.{Width}
 
-abbrev pub is_page_table : ObjectKind → Bool
-is_page_table kind.Ioas = false
-is_page_table (kind.Hwpt ioas width automatic) = true
-is_page_table (kind.Device device) = false
+-- those among the objects, in their order
+abbrev pub page_tables_among : List Object → List Object
+page_tables_among objects = filter (λ object. is_hwpt object.kind) objects
 
--- the first are the page tables among the others, in any order: each test holds of one of them just where it holds of a page table
-abbrev pub AreTables : List Object → List Object → Type 0
-AreTables tables objects =
-    (test : Object → Bool) → list_any test tables ≡ list_any (λ object. is_page_table object.kind && test object) objects
+-- a page table of this width
+abbrev pub is_hwpt_of : Width → ObjectKind → Bool
+is_hwpt_of width kind.Ioas = false
+is_hwpt_of width (kind.Hwpt ioas own automatic) = bits_of own == bits_of width
+is_hwpt_of width (kind.Device device) = false
+
+-- its tables translate addresses of its object's width
+abbrev pub has_own_width : Hwpt → Bool
+has_own_width h = is_hwpt_of h.table.width h.object.kind

@@ -5,11 +5,12 @@
 pub mod accesses;
 pub mod accounts;
 pub mod area_changes;
+pub mod frames;
 mod held;
 pub mod lookups;
-pub mod page_tables;
 pub mod release;
 mod state;
+pub mod tables;
 pub mod usable;
 
 pub use held::Held;

@@ -11,7 +11,6 @@ ghost use Rattle.server_state.specs.Held.{areas_at, object_of, kind_in, objects_
 ghost use Rattle.server_state.specs.Step.{IsKnown};
 
 use crate::held::Held;
-use crate::page_tables;
 use crate::state::State;
 use area_map::Areas;
 use iofd_words::{Attachment, DeviceNo, FileNo, ObjId, Object, ObjectKind, Width};
@@ -137,7 +136,7 @@ impl<A: Allocator> State<A> {
         requires { IsKnown self.now }
         ensures { result ≡ objects.has_hwpt (objects_in self.now.objects) file ioas }
     {
-        page_tables::has_over(&self.page_tables, file, ioas)
+        self.page_tables.has_over(file, ioas)
     }
 
     /// The attachment of the device.

@@ -2,6 +2,7 @@
 
 use crate::held::Held;
 use frame_memory::Pool;
+use hwpt_device::PageTables;
 use iofd_words::{Attachment, Config, Object};
 use iova_ranges::AllowedTable;
 use object_table::ObjectTable;
@@ -22,8 +23,8 @@ pub struct State<A: Allocator = Global> {
     pub allowed: AllowedTable<A>,
     /// The objects by which devices are bound.
     pub bindings: Vec<Object, A>,
-    /// The page tables of all files, in any order: what asks for them goes over these alone.
-    pub page_tables: Vec<Object, A>,
+    /// The page tables of all files: what asks for them goes over these alone.
+    pub page_tables: PageTables<A>,
     /// By which page table each device translates, by rising device.
     pub attachments: Vec<Attachment, A>,
     /// The users' pages and accounts, and the memory objects with their pins.

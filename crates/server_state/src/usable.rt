@@ -1,6 +1,6 @@
 //! Which addresses of an address space may be used.
 
-ghost use Rattle.std.specs.Prelude.{◌≡◌, false, find, MatchOption};
+ghost use Rattle.std.specs.Prelude.{◌≡◌, false, find, map, MatchOption};
 ghost use Rattle.std.specs.List.{list_any};
 ghost use Rattle.std.specs.Option.{option_copied};
 ghost use Rattle.iofd_rows.specs.Reached as reached;
@@ -12,11 +12,12 @@ ghost use Rattle.server_state.specs.Choice.{first_of};
 ghost use Rattle.server_state.specs.Held.{objects_in};
 ghost use Rattle.server_state.specs.Reach.{IsOneOf};
 ghost use Rattle.server_state.specs.Step.{IsKnown};
-ghost use Rattle.server_state.specs.Tables.{AreTables};
+ghost use Rattle.server_state.specs.Tables.{page_tables_among};
 
 use crate::held::Held;
 use crate::lookups;
 use crate::state::State;
+use hwpt_device::Hwpt;
 use iofd_words::{Attachment, Config, DeviceNo, FileNo, ObjId, Object, ObjectKind, Span};
 use object_table::ObjectTable;
 use std::alloc::Allocator;
@@ -30,7 +31,7 @@ impl<A: Allocator> State<A> {
             (meets_some (usable.unusable self.now.config (objects_in self.now.objects) self.now.attachments.items file ioas) span ≡ false)
             (IsOneOf (usable.unusable self.now.config (objects_in self.now.objects) self.now.attachments.items file ioas) span) }
     {
-        match beyond_meeting(&self.objects, &self.page_tables, file, ioas, span) {
+        match beyond_meeting(&self.objects, self.page_tables.as_slice(), file, ioas, span) {
             Some(one) => Some(one),
             None => kept_meeting(
                 &self.config,
@@ -47,29 +48,29 @@ impl<A: Allocator> State<A> {
 /// The addresses beyond a page table over the file's address space of this id, where they meet the span.
 fn beyond_meeting<A: Allocator>(
     table: &ObjectTable<Held<A>, A>,
-    tables: &[Object],
+    tables: &[Hwpt],
     file: FileNo,
     ioas: ObjId,
     span: Span,
 ) -> Option<Span>
-    requires { AreTables tables.now (objects_in table.now) }
+    requires { map (λ h. h.object) tables.now ≡ page_tables_among (objects_in table.now) }
     ensures { MatchOption result
         (list_any (reached.ends_in file ioas span) (objects_in table.now) ≡ false)
         (IsOneOf (usable.beyond_tables (objects_in table.now) file ioas) span) }
 {
     match table_ending_in(tables, file, ioas, span) {
-        Some(object) => beyond(object.kind),
+        Some(hwpt) => beyond(hwpt.object().kind),
         None => None,
     }
 }
 
 /// The first page table over the address space that doesn't translate all of the span.
-fn table_ending_in(tables: &[Object], file: FileNo, ioas: ObjId, span: Span) -> Option<&Object>
-    ensures { option_copied result ≡ find (reached.ends_in file ioas span) tables.now }
+fn table_ending_in(tables: &[Hwpt], file: FileNo, ioas: ObjId, span: Span) -> Option<&Hwpt>
+    ensures { option_copied result ≡ find (λ h. reached.ends_in file ioas span h.object) tables.now }
 {
     tables
         .iter()
-        .find(|object| is_end_in(object, file, ioas, span))
+        .find(|hwpt| is_end_in(hwpt.object(), file, ioas, span))
 }
 
 /// Whether the object is a page table over the address space that doesn't translate all of the span.

@@ -41,12 +41,12 @@ static LINES: [&str; 16] = [
     "ok beef\n",
     "ok\n",
     "14 Absent\n",
-    "ok 7\n",
+    "ok 4\n",
     "fault 6 source 0018 page 2 read\n",
     "11 Pending\n",
     "ok\n",
     "0 180000000100000000100000000000000010000000000000\n",
-    "ok 8\n",
+    "ok 5\n",
 ];
 
 // The first lines, one behind the other.

@@ -10,7 +10,7 @@ use Rattle.iofd_words.specs.declared.query.Query.TheVariants as query
 use Rattle.server_state.specs.Choice.{IsLooked}
 use Rattle.iofd_runs.proofs.Runs.{tests_false}
 use Rattle.device_events.proofs.DeviceReads.{chosen_read}
-use Rattle.device_events.proofs.DeviceWrites.{pass_in_pool}
+use Rattle.device_events.proofs.DeviceWrites.{pass_in_pool, pass_named}
 use Rattle.memory_rows.proofs.UserAccess.{short}
 use Rattle.server_state.proofs.ViewShown.{same_outcomes}
 use Rattle.device_events.specs.Outcomes.{given_outcome}
@@ -23,7 +23,8 @@ read-requires-clause-frame g c =
     let w = known.world in
     let frame = c.in-Ok.frame in
     let told : Passes c.in-Ok.frame ≡ given_outcome None (outcomes w c.args.device c.args.iova.0 Read) =
-    c.in-Ok.ensures ∙ ap (given_outcome None) (same_outcomes w c.args.state.now known.shows c.args.device
+    c.in-Ok.ensures ∙ ap (given_outcome None) (same_outcomes w c.args.state.now known.shows
+    known.tidy.tabled.owned c.args.device
     c.args.iova.0 Read)
     in
     let chosen = chosen_read {A = g.row.A.Denot} known.at w [] c.args.device c.args.iova c.args.len (Passes frame)
@@ -50,11 +51,12 @@ returns-in-Some g c = λ at w records tidy shows none.
     let frame = c.in-Ok.frame in
     let iova = c.args.iova in
     let size = short iova.0 c.args.len (tests_false (query_checks (view w) (query.DeviceRead c.args.device iova c.args.len)) 1 none) in
-    let told : Passes frame ≡ given_outcome None (outcomes w c.args.device iova.0 Read) = c.in-Ok.ensures ∙ ap (given_outcome None) (same_outcomes w c.args.state.now shows c.args.device iova.0 Read) in
+    let told : Passes frame ≡ given_outcome None (outcomes w c.args.device iova.0 Read) = c.in-Ok.ensures ∙ ap (given_outcome None) (same_outcomes w c.args.state.now shows tidy.tabled.owned c.args.device iova.0 Read) in
     let chosen = chosen_read at w records c.args.device iova c.args.len (Passes frame) tidy told in
     let within = pass_in_pool w tidy.fit.pin_frames c.args.device iova.0 Read frame chosen.0 in
     let bytes = read_shown w.settings.pool w.writes w.table_frames c.args.state.now.memory c.args.state.now.pool
-    frame.0 (iova.0 % 4096) c.args.len shows.frames within size.within in
+    frame.0 (iova.0 % 4096) c.args.len shows.frames within size.within
+    (pass_named w c.args.state.now shows c.args.device iova.0 Read frame chosen.0) in
     let is : c.in-Some.bytes ≡ bytes_at w.writes frame.0 (iova.0 % 4096) c.args.len = c.in-Some.ensures.value
     ∙ (rw c.from.ensures at c.read.ensures.bytes) ∙ bytes in
     subst (λ b. IsLooked (lawful_answers w records (query.DeviceRead c.args.device iova c.args.len)) (answer.Read b)) (sym is) chosen.1
@@ -68,7 +70,7 @@ returns-in-None g c = λ at w records tidy shows none.
 
 pub returns-in-Err : goal.returns-in-Err
 returns-in-Err g c = λ at w records tidy shows none.
-    let told = c.in-Err.ensures ∙ ap (given_outcome None) (same_outcomes w c.args.state.now shows c.args.device c.args.iova.0 Read) in
+    let told = c.in-Err.ensures ∙ ap (given_outcome None) (same_outcomes w c.args.state.now shows tidy.tabled.owned c.args.device c.args.iova.0 Read) in
     let chosen = chosen_read at w records c.args.device c.args.iova c.args.len _ tidy told in
     let fault = c.denied-in-Err.ensures ∙ ap (λ settings. answer.Fault (fault_of settings c.args.device c.args.iova.0 Read c.in-Err.reason)) (sym shows.settings) in
     rw fault chosen.1

@@ -2,6 +2,7 @@ use Rattle.std.proofs.Common.{ap, refl, subst, sym, ◌∙◌, []}
 use Rattle.iofd_rows.proofs.ListTests.{all_pass}
 use Rattle.memory_rows.proofs.Gone.{leaving_first, leaving_last}
 use Rattle.memory_rows.specs.Shown.{over}
+use Rattle.hwpt_device.specs.PageTables.{objects_of}
 use Rattle.object_table.specs.Rows.{row_shown}
 use Rattle.object_table.specs.Table.{is_of_file, rows_of}
 use Rattle.file_events.proofs.RowsCounted.{AreClosing, other_passed, space_gone, space_may}
@@ -23,12 +24,12 @@ loop-object-init g c =
 pub remove-requires : goal.remove-requires
 remove-requires g c =
     space_may (objects_in c.args.table.now) c.args.file (rows_of c.args.table.now c.args.file) c.loop-object.object-iterator c.next.new.self (row_shown c.in-Some.object) c.args.memory.now c.loop-object.memory c.args.pool.now c.loop-object.pool c.in-Some.ensures.steps c.loop-object.invariant
-    c.iter.result c.has_over-translated.result (c.iter.ensures.areas ∙ sym (ap areas_in c.in-Ioas.is)) (c.has_over-translated.ensures ∙ has_hwpt_kept c.args.tables.now (objects_in c.args.table.now) c.requires.tables c.args.file c.in-Some.object.id)
+    c.iter.result c.has_over-translated.result (c.iter.ensures.areas ∙ sym (ap areas_in c.in-Ioas.is)) (c.has_over-translated.ensures ∙ has_hwpt_kept (objects_of c.args.tables.now) (objects_in c.args.table.now) c.requires.tables c.args.file c.in-Some.object.id)
 
 pub loop-object-preserved-in-Ioas : goal.loop-object-preserved-in-Ioas
 loop-object-preserved-in-Ioas g c =
     space_gone (objects_in c.args.table.now) c.args.file (rows_of c.args.table.now c.args.file) c.loop-object.object-iterator c.next.new.self (row_shown c.in-Some.object) c.args.memory.now c.loop-object.memory c.args.pool.now c.loop-object.pool c.in-Some.ensures.steps c.loop-object.invariant
-    c.iter.result c.has_over-translated.result (c.iter.ensures.areas ∙ sym (ap areas_in c.in-Ioas.is)) (c.has_over-translated.ensures ∙ has_hwpt_kept c.args.tables.now (objects_in c.args.table.now) c.requires.tables c.args.file c.in-Some.object.id)
+    c.iter.result c.has_over-translated.result (c.iter.ensures.areas ∙ sym (ap areas_in c.in-Ioas.is)) (c.has_over-translated.ensures ∙ has_hwpt_kept (objects_of c.args.tables.now) (objects_in c.args.table.now) c.requires.tables c.args.file c.in-Some.object.id)
     c.remove.new.memory c.remove.new.pool c.remove.ensures
 
 pub loop-object-preserved : goal.loop-object-preserved

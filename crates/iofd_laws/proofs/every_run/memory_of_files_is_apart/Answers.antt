@@ -1,5 +1,5 @@
-use Rattle.std.proofs.Common.{[], ◌∷◌, length, refl, arith}
-use Rattle.iofd_words.specs.Run.{IsRun, world_of}
+use Rattle.std.proofs.Common.{◌≡◌, ◌+◌, subst, [], ◌∷◌, length, refl, arith}
+use Rattle.iofd_words.specs.Run.{IsRun, Lawful, world_of}
 use Rattle.iofd_words.specs.World.{opening}
 use Rattle.iofd_laws.proofs.KeepsBound.{IsTidy, are_bound, keeps_tidy, opening_tidy, tabled_tidy}
 use Rattle.iofd_runs.proofs.KeepsOwnMemory.{OwnPins, keeps_own_pins, later_own, tabled_own}
@@ -15,7 +15,8 @@ returns g c = λ settings before r other number run another has.
     let own : OwnPins (length before) (world_of settings before) =
     run_keeps_at OwnPins tabled_own later_own keeps_own_pins 0 (length before) (opening settings) before (omega arith) sooner (record { pins = opening_pinned settings; own = refl })
     in
-    let lawful = lawful_at 0 (opening settings) before r [] run in
+    let at : 0 + length before ≡ length before = omega arith in
+    let lawful : Lawful (length before) (world_of settings before) r = subst (λ n. Lawful n (world_of settings before) r) at (lawful_at 0 (opening settings) before r [] run) in
     let next = after_keeps_at OwnPins tabled_own later_own keeps_own_pins (length before) (world_of settings before) r lawful own in
     let tidy = run_keeps IsTidy tabled_tidy keeps_tidy 0 (opening settings) before sooner (opening_tidy settings) in
     after_same_memory (length before) (world_of settings before) r other number own next (are_bound _ tidy) another has

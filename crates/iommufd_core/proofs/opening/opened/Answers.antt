@@ -18,7 +18,6 @@ returns-clause-shows g c =
       devices = record {
         bindings = λ device. rw c.new-3.ensures.items refl;
         attached = sym c.new-5.ensures.items;
-        tables = λ test. rw c.new-4.ensures.items refl;
       };
       limits = c.in_ok-new-2.ensures.limits ∙ c.users.ensures;
       allowed = λ file ioas. rw c.new-2.ensures refl;
@@ -27,6 +26,15 @@ returns-clause-shows g c =
       frames = rw (c.in_ok-new-3.ensures, c.pool-pool.ensures.value)
           (frames_opened c.args.config.now.pool c.in_ok-new-2.field-0 c.in_ok-new-2.ensures.pages
           c.in_ok-new-2.ensures.objects);
+      tables = record {
+        tables = rw c.new-4.ensures refl;
+        widths = rw c.new-4.ensures refl;
+        stand = rw c.new-4.ensures (record {
+          own = refl;
+          each = λ h within. absurd within;
+          held = λ frame. omega arith;
+        });
+      };
     }
 
 -- the pool of a configuration within its limits

@@ -6,7 +6,7 @@ use Rattle.iofd_rows.proofs.Each.{in_found}
 use Rattle.iofd_runs.proofs.NotRefused.{user_map_passed}
 use Rattle.iofd_words.specs.After.{changed}
 use Rattle.iofd_words.specs.Answers.{Answers}
-use Rattle.iofd_words.specs.Frames.{is_free}
+use Rattle.iofd_words.specs.Frames.{is_free, without_frame}
 use Rattle.iofd_words.specs.Pages.{page_of}
 use Rattle.iofd_words.specs.View.{view}
 use Rattle.iofd_words.specs.declared.numbers.FrameNo.{FrameNo}
@@ -14,6 +14,8 @@ use Rattle.iofd_words.specs.declared.reply.Reply.TheVariants as reply
 use Rattle.server_state.proofs.ViewShown.{same_least}
 use Rattle.memory_rows.proofs.Counts.{count_found}
 use Rattle.memory_rows.proofs.FramesFollow.{given_shown, least_within, pins_same, users_more}
+use Rattle.memory_events.proofs.UsersNamed.{more_named, tables_given}
+use Rattle.server_state.specs.Leads.{leads_of}
 use Rattle.memory_events.proofs.user_map.commit.Goals as goal
 
 none_of : {X : Type 0} (o : Option X) → is_some o ≡ false → o ≡ None
@@ -63,8 +65,10 @@ returns-clause-ok g c = λ at via w tidy shows none may.
     let held = least_within old.pool.holds frame.0 told.least in
     let size = shows.frames.size in
     let within : c.in_ok-frame.frame.0 < w.settings.pool = omega (arith, held, size) in
-    let given_out = given_shown w.settings.pool w.writes w.table_frames old.memory c.map_page.new.self old.pool
-    frame.0 shows.frames within in (
+    let more = more_named old.memory c.map_page.new.self (user_page c.args.user (page_of c.args.va) frame) told.pages
+    c.map_page.ensures.objects in
+    let frames = given_shown w.settings.pool w.writes w.table_frames old.memory c.map_page.new.self old.pool
+    frame.0 shows.frames within (rw c.in_ok-frame.ensures.pool at c.in_ok-frame.ensures.holds) more in (
       free,
       ap (λ (o : Option ℕ). option_map reply.Frame (elim o as (λ _.
           Option FrameNo) [ Some number ↦ Some (record { 0 = number }) | None ↦ None ])) least,
@@ -78,7 +82,13 @@ returns-clause-ok g c = λ at via w tidy shows none may.
             (user_page c.args.user (page_of c.args.va) frame) shows.users told.pages;
         pins = pins_same w.objects w.areas w.memory w.pins old.memory c.map_page.new.self shows.pins
             c.map_page.ensures.objects;
-        frames = rw c.in_ok-frame.ensures.pool (given_out (rw c.in_ok-frame.ensures.pool at
-            c.in_ok-frame.ensures.holds));
+        frames = rw c.in_ok-frame.ensures.pool frames;
+        tables = record {
+          tables = shows.tables.tables;
+          widths = shows.tables.widths;
+          stand = rw c.in_ok-frame.ensures.pool (tables_given w.settings.pool w.writes
+              (without_frame frame.0 w.writes) w.table_frames (leads_of w) old.page_tables.tables old.memory
+              c.map_page.new.self old.pool frame.0 shows.tables.stand shows.frames frames told.least more);
+        };
       },
     )

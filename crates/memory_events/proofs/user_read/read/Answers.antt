@@ -7,6 +7,7 @@ use Rattle.iofd_words.specs.declared.query.Answer.TheVariants as answer
 use Rattle.memory_rows.proofs.UserAccess.{page_in_pool, short}
 use Rattle.server_state.specs.Choice.{IsLooked}
 use Rattle.memory_rows.proofs.FramesFollow.{read_shown}
+use Rattle.memory_events.proofs.UsersNamed.{page_named}
 use Rattle.memory_events.proofs.user_read.read.Goals as goal
 
 pub read-requires-clause-frame : goal.read-requires-clause-frame
@@ -30,8 +31,9 @@ returns-in-Some-new g c = λ at w records tidy shows none.
     ∙ sym c.frame_at.ensures ∙ c.in-Some.is in
     let within = page_in_pool w tidy.fit.user_frames user (page_of va) frame found in
     let size = short va len (user_access_passed (view w) user va len none).short in
+    let named = page_named c.args.state.now.memory user (page_of va) frame (sym c.frame_at.ensures ∙ c.in-Some.is) in
     let bytes = read_shown w.settings.pool w.writes w.table_frames c.args.state.now.memory c.args.state.now.pool
-    frame.0 (va % 4096) len shows.frames within size.within in
+    frame.0 (va % 4096) len shows.frames within size.within named in
     let is : c.in-Some-new.bytes ≡ bytes_at w.writes frame.0 (va % 4096) len = c.in-Some-new.ensures.value
     ∙ (rw c.from.ensures at c.read.ensures.bytes) ∙ bytes in
     let alone : IsLooked (answer.Read (bytes_at w.writes frame.0 (va % 4096) len) ∷ [])

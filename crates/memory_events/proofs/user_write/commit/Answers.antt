@@ -1,4 +1,4 @@
-use Rattle.std.proofs.Common.{◌≡◌, ◌%◌, true, false, Option, Some, None, is_none, length, ◌∙◌, ap, sym, arith}
+use Rattle.std.proofs.Common.{◌≡◌, ◌%◌, true, false, Option, Some, None, is_none, ◌∷◌, length, ◌∙◌, ap, sym, arith}
 use Rattle.frame_memory.specs.Pool.{written}
 use Rattle.iofd_runs.proofs.NotRefused.{user_write_passed}
 use Rattle.iofd_words.specs.After.{changed}
@@ -9,6 +9,8 @@ use Rattle.iofd_words.specs.View.{view}
 use Rattle.iofd_words.specs.declared.numbers.FrameNo.{FrameNo}
 use Rattle.memory_rows.proofs.UserAccess.{page_in_pool, short}
 use Rattle.memory_rows.proofs.FramesFollow.{written_shown}
+use Rattle.memory_events.proofs.UsersNamed.{page_named, tables_written}
+use Rattle.server_state.specs.Leads.{leads_of}
 use Rattle.memory_events.proofs.user_write.commit.Goals as goal
 
 never : true ≡ false → ⊥
@@ -59,7 +61,10 @@ returns-in-Some g c = λ at w tidy shows none.
     let passed = user_write_passed (view w) user va bytes none in
     let in_page = (short va (length bytes) passed.short).within in
     let put : c.write.new.self ≡ written old.pool frame.0 (va % 4096) bytes =
-    rw c.as_slice.ensures.value at c.write.ensures.new in (
+    rw c.as_slice.ensures.value at c.write.ensures.new in
+    let named = page_named old.memory user (page_of va) frame (sym c.frame_at.ensures ∙ c.in-Some.is) in
+    let frames = written_shown w.settings.pool w.writes w.table_frames old.memory old.pool frame.0 (va % 4096) bytes
+    shows.frames within in_page named in (
       tt,
       record {
         settings = shows.settings;
@@ -69,7 +74,14 @@ returns-in-Some g c = λ at w tidy shows none.
         devices = shows.devices;
         users = shows.users;
         pins = shows.pins;
-        frames = rw (put, found) (written_shown w.settings.pool w.writes w.table_frames old.memory old.pool frame.0
-            (va % 4096) bytes shows.frames within in_page);
+        frames = rw (put, found) frames;
+        tables = record {
+          tables = shows.tables.tables;
+          widths = shows.tables.widths;
+          stand = rw put (tables_written w.settings.pool w.writes
+              (record { frame = frame.0; offset = va % 4096; bytes = bytes } ∷ w.writes) w.table_frames (leads_of w)
+              old.page_tables.tables old.memory old.memory old.pool frame.0 shows.tables.stand shows.frames (va % 4096)
+              bytes frames named);
+        };
       },
     )

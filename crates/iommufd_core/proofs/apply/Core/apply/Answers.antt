@@ -1,6 +1,6 @@
 use Rattle.std.proofs.Common.{◌≡◌, length, inr, refl, ◌∙◌, ap, subst, sym}
 use Rattle.iofd_words.specs.Run.{world_of}
-use Rattle.iommufd_core.proofs.Applied.{may_use, unchanged_config, unchanged_kept, applied_config, applied_kept, applied_chosen}
+use Rattle.iommufd_core.proofs.Applied.{may_use, unchanged_config, unchanged_kept, applied_chosen, applied_config, applied_frames, applied_kept}
 use Rattle.iommufd_core.proofs.Histories.{tidy_run}
 use Rattle.server_state.specs.Choice.{MayUse}
 use Rattle.iommufd_core.specs.History.{HasOneMore}
@@ -32,11 +32,13 @@ invariant_of-self-2 g c =
     let new = c.answer.new.state in
     let records = c.self.inside.records.items in
     let act = c.args.act.now in
+    let taken = c.answer.new.taken.items in
+    let given = c.answer.new.given.items in
     let at : c.len-at.result ≡ length records = c.len-at.ensures ∙ c.self.inside.records.ok.0 in
-    let answered = subst (λ n. Answered n act.event act.via old c.in-Ok-answer.reply new) at c.in-Ok-answer.ensures.ok in
+    let answered = subst (λ n. Answered n act.event act.via old c.in-Ok-answer.reply taken given new) at c.in-Ok-answer.ensures.ok in
     let may : MayUse (world_of old.config records) act.event act.via = may_use (record { settings = old.config; records = records }) act.event act.via (rw (← c.self.view_is) at c.requires) in
-    let kept = applied_kept old new records c.self.invariant c.args.pass act.event act.via c.in-Ok-answer.reply may answered in
-    rw (c.push_reserved.ensures.items, c.reserve.ensures.items, c.in-Ok.ensures.ok, c.new-2.ensures, c.new.ensures.items, c.new-4.ensures, c.new-3.ensures.items) kept
+    let kept = applied_kept old new records c.self.invariant c.args.pass act.event act.via c.in-Ok-answer.reply taken given may answered in
+    rw (c.push_reserved.ensures.items, c.reserve.ensures.items, c.in-Ok.ensures.ok, c.new.ensures, c.new-2.ensures) kept
 
 pub returns-clause-record : goal.returns-clause-record
 returns-clause-record g c =
@@ -44,16 +46,19 @@ returns-clause-record g c =
     let new = c.answer.new.state in
     let records = c.self.inside.records.items in
     let act = c.args.act.now in
+    let taken = c.answer.new.taken.items in
+    let given = c.answer.new.given.items in
     let at : c.len-at.result ≡ length records = c.len-at.ensures ∙ c.self.inside.records.ok.0 in
-    let answered = subst (λ n. Answered n act.event act.via old c.in-Ok-answer.reply new) at c.in-Ok-answer.ensures.ok in
+    let answered = subst (λ n. Answered n act.event act.via old c.in-Ok-answer.reply taken given new) at c.in-Ok-answer.ensures.ok in
     let may : MayUse (world_of old.config records) act.event act.via = may_use (record { settings = old.config; records = records }) act.event act.via (rw (← c.self.view_is) at c.requires) in
-    let config = applied_config old new records c.self.invariant c.args.pass act.event act.via c.in-Ok-answer.reply may answered in
+    let config = applied_config old new records c.self.invariant c.args.pass act.event act.via c.in-Ok-answer.reply taken given may answered in
     let is : HasOneMore c.args.pass act.event c.in-Ok-answer.reply (record { settings = old.config; records = records }) (record { settings = new.config; records = c.push_reserved.new.self.items }) = record {
-      made = recorded c.args.pass act.event c.in-Ok-answer.reply;
-      records = rw (config, c.push_reserved.ensures.items, c.reserve.ensures.items, c.in-Ok.ensures.ok, c.new-2.ensures, c.new.ensures.items, c.new-4.ensures, c.new-3.ensures.items) refl;
+      made = recorded c.args.pass act.event c.in-Ok-answer.reply taken given;
+      records = rw (config, c.push_reserved.ensures.items, c.reserve.ensures.items, c.in-Ok.ensures.ok, c.new.ensures, c.new-2.ensures) refl;
       pass = refl;
       event = refl;
       reply = refl;
+      frames = applied_frames old new records c.self.invariant c.args.pass act.event act.via c.in-Ok-answer.reply taken given may answered;
     } in
     rw (← c.self.view_is) is
 
@@ -65,20 +70,22 @@ returns-clause-chosen g c =
     let old = c.self.inside.state in
     let records = c.self.inside.records.items in
     let act = c.args.act.now in
+    let taken = c.answer.new.taken.items in
+    let given = c.answer.new.given.items in
     let at : c.len-at.result ≡ length records = c.len-at.ensures ∙ c.self.inside.records.ok.0 in
-    let answered = subst (λ n. Answered n act.event act.via old c.in-Ok-answer.reply c.answer.new.state) at c.in-Ok-answer.ensures.ok in
+    let answered = subst (λ n. Answered n act.event act.via old c.in-Ok-answer.reply taken given c.answer.new.state) at c.in-Ok-answer.ensures.ok in
     let may : MayUse (world_of old.config records) act.event act.via = may_use (record { settings = old.config; records = records }) act.event act.via (rw (← c.self.view_is) at c.requires) in
-    rw (← c.self.view_is) (applied_chosen old c.answer.new.state records c.self.invariant c.args.pass act.event act.via c.in-Ok-answer.reply may answered)
+    rw (← c.self.view_is) (applied_chosen old c.answer.new.state records c.self.invariant c.args.pass act.event act.via c.in-Ok-answer.reply taken given may answered)
 
 pub returns-in_default-answer-clause-memory : goal.returns-in_default-answer-clause-memory
 returns-in_default-answer-clause-memory g c =
     let old = c.self.inside.state in
     let records = c.self.inside.records.items in
     let wants = c.in_default-answer.ensures.memory in
-    rw (← c.self.view_is) (inr (sym (same_refusal (world_of old.config records) old c.self.invariant.shows c.args.act.now.event) ∙ wants.0, wants.1))
+    rw (← c.self.view_is) (inr (sym (same_refusal (world_of old.config records) old c.self.invariant.shows (tidy_run old.config records c.self.invariant.run).tabled.owned c.args.act.now.event) ∙ wants.0, wants.1))
 
-pub answer-requires : goal.answer-requires
-answer-requires g c =
+pub answer-requires-clause-called : goal.answer-requires-clause-called
+answer-requires-clause-called g c =
     let state = c.self.inside.state in
     let records = c.self.inside.records.items in
     let act = c.args.act.now in
@@ -93,3 +100,9 @@ answer-requires g c =
       may = λ none. may;
     } in
     subst (λ n. IsCalled n act.event act.via state) (sym at) called
+
+pub answer-requires-clause-none_taken : goal.answer-requires-clause-none_taken
+answer-requires-clause-none_taken g c = c.new-taken.ensures.items
+
+pub answer-requires-clause-none_given : goal.answer-requires-clause-none_given
+answer-requires-clause-none_given g c = c.new-given.ensures.items

@@ -1,8 +1,11 @@
+use Rattle.std.proofs.Common.{ap, ◌∙◌}
+use Rattle.hwpt_device.specs.PageTables.{PageTables, objects_of}
+use Rattle.iofd_words.specs.Objects.{has_hwpt}
 use Rattle.server_state.proofs.PageTables.{has_hwpt_kept, tables_known}
 use Rattle.server_state.specs.Held.{objects_in}
 use Rattle.server_state.proofs.state.State.has_hwpt.Goals as goal
 
 pub returns : goal.returns
 returns g c =
-    rw (c.has_over.ensures, c.deref.ensures.value)
-    (has_hwpt_kept c.args.self.now.page_tables.items (objects_in c.args.self.now.objects) (tables_known c.args.self.now c.requires) c.args.file c.args.ioas)
+    rw c.has_over.ensures
+    (has_hwpt_kept (objects_of c.args.self.now.page_tables) (objects_in c.args.self.now.objects) (tables_known c.args.self.now c.requires) c.args.file c.args.ioas)

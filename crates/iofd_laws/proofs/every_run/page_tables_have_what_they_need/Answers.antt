@@ -1,0 +1,15 @@
+use Rattle.std.proofs.Common.{refl}
+use Rattle.iofd_words.specs.Run.{IsRun, world_of}
+use Rattle.iofd_words.specs.World.{opening}
+use Rattle.iofd_runs.specs.Fits.{RowsFit}
+use Rattle.iofd_runs.proofs.KeepsFits.{keeps_fit, tabled_fit}
+use Rattle.iofd_runs.proofs.KeepsTabled.{HasTables, keeps_tables, opening_tables}
+use Rattle.iofd_runs.proofs.Runs.{run_keeps, run_keeps_tables}
+use Rattle.iofd_laws.proofs.ServedAreas.{serves}
+use Rattle.iofd_laws.proofs.every_run.page_tables_have_what_they_need.Goals as goal
+
+pub returns : goal.returns
+unfolding IsRun world_of
+returns g c = λ settings records run.
+    let fits : RowsFit (world_of settings records) = run_keeps RowsFit tabled_fit keeps_fit 0 (opening settings) records run (record { pages = refl; starts = refl; rights = refl; rise = refl; user_frames = refl; pin_frames = refl; known = refl; attached = refl }) in
+    serves (world_of settings records) fits (run_keeps_tables HasTables keeps_tables 0 (opening settings) records run (opening_tables settings)).tables

@@ -1,9 +1,0 @@
-use Rattle.std.proofs.Common.{not, rules}
-use borrow.Author.Tests.{tests}
-use Rattle.std.proofs.lemmas.Fn.{filter_same}
-use Rattle.iofd_words.specs.Objects.{is_object}
-use Rattle.iofd_words.specs.declared.rows.Object.{Object}
-use Rattle.server_state.proofs.page_tables.remove.Goals as goal
-
-pub returns : goal.returns
-returns g c = filter_same _ (λ (object : Object). not (is_object c.args.file c.args.id object)) _ (λ x b f k. search (rules, tests)) _ _ c.retain.ensures.filtered
