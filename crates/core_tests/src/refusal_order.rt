@@ -79,7 +79,7 @@ struct Chain {
 // - HWPT_ALLOC, Id and Narrow: what isn't there has neither a width nor areas;
 // - attach, Id of the device and Bound: a device that isn't bound isn't attached.
 // A flush can be refused by Id alone.
-static CHAINS: [Chain; 20] = [
+static MEMORY_CHAINS: [Chain; 9] = [
     Chain {
         what: "a closed file",
         before: &[Line("bind 1 1"), Line("close 2")],
@@ -242,6 +242,10 @@ static CHAINS: [Chain; 20] = [
             (Line("uwrite 1 10fff be"), "14 Absent"),
         ],
     },
+];
+
+// Those of devices, and of files that are full of objects.
+static DEVICE_CHAINS: [Chain; 11] = [
     Chain {
         what: "bind of a bound device",
         before: &[Line("bind 1 1")],
@@ -535,7 +539,15 @@ fn is_answered(alloc: Global, chain: &Chain) -> Result<bool, Fail> {
 
 #[test]
 fn the_first_refusal_that_applies_is_the_answer(rt: HostRuntime) -> Result<(), Fail> {
-    for chain in &CHAINS {
+    for chain in &MEMORY_CHAINS {
+        assert!(rt; is_answered(rt.alloc(), chain)?, "{}", chain.what);
+    }
+    Ok(())
+}
+
+#[test]
+fn so_it_is_for_devices(rt: HostRuntime) -> Result<(), Fail> {
+    for chain in &DEVICE_CHAINS {
         assert!(rt; is_answered(rt.alloc(), chain)?, "{}", chain.what);
     }
     Ok(())
