@@ -1,8 +1,10 @@
-//! Tests of the core through public calls: events with their replies, and the orders of refusals by scripts. They stand here,
-//! since the gate proves a crate that has tests once more for them.
+//! Tests of the core through public calls: events with their replies, and growths refused in turn. They stand here, since the
+//! gate proves a crate that has tests once more for them.
 #![tactic(auto)]
 
 #[cfg(test)]
 mod events;
 #[cfg(test)]
-mod refusal_order;
+mod growth;
+#[cfg(test)]
+mod steps;

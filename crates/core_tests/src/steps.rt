@@ -1,0 +1,154 @@
+//! Steps of the tests, and what a core answers to them.
+
+use iofd_words::{
+    Act, Burst, Cause, Config, DeviceConfig, DeviceNo, Event, FileNo, HwptRequest, Iova, IovaRange,
+    MapFlags, MapRequest, NoMemory, ObjId, PassNo, Query, RangeList, Refusal, Reply, SourceId,
+    SpanList, UnmapRequest, UserNo, Width,
+};
+use iommufd_core::{Core, Stamp};
+use std::alloc::{Allocator, Global};
+use std::test::Fail;
+
+/// A device of width 39.
+pub(crate) const NARROW: DeviceNo = DeviceNo(1);
+
+/// A device of width 48.
+pub(crate) const WIDE: DeviceNo = DeviceNo(2);
+
+pub(crate) const FIRST: FileNo = FileNo(1);
+
+pub(crate) const SECOND: FileNo = FileNo(2);
+
+/// A pool of so many frames, a user with two files, and both devices.
+pub(crate) fn config(alloc: Global, pool: u32) -> Result<Config, Fail> {
+    let users = vec![in alloc; 4]?;
+    let files = vec![in alloc; UserNo(1), UserNo(1)]?;
+    let mut devices = Vec::new(alloc);
+    for (source, width) in [(0x18, Width::Bits39), (0x100, Width::Bits48)] {
+        let reserved = SpanList::new(Vec::new(alloc));
+        devices.push(DeviceConfig::new(SourceId(source), width, false, reserved))?;
+    }
+    Ok(Config::new(pool, users, files, devices, 1)?)
+}
+
+/// An event, with what stands in all of them left out. Address space 1 of the first file is meant where none is named.
+#[derive(Clone, Copy)]
+pub(crate) enum Step {
+    Alloc(FileNo),
+    /// The first 16 pages and the first of 2^30 are allowed.
+    Allow,
+    /// The user's page at this address is mapped.
+    Page(u64),
+    /// The user gives up its page at this address.
+    GiveUp(u64),
+    /// The user writes the last two bytes of its page at 0x10000.
+    UserWrite,
+    /// A MAP of the user's page at 0x10000 to this address.
+    Map(u64),
+    /// An UNMAP of the page at 0x1000.
+    Unmap,
+    /// A page table for the device of this id.
+    Table(u32),
+    Bind(DeviceNo),
+    /// The device is attached to the object of this id.
+    Attach(DeviceNo, u32),
+    /// The narrow device writes the last two bytes of the page at 0x1000.
+    Write,
+    Flush(DeviceNo),
+    Detach(DeviceNo),
+    Destroy(FileNo, u32),
+    Close(FileNo),
+}
+
+const REQUEST: MapRequest = MapRequest {
+    flags: MapFlags(7),
+    ioas: ObjId(1),
+    user_va: 0x10000,
+    length: 0x1000,
+    iova: Iova(0x1000),
+};
+
+const UNMAP: UnmapRequest = UnmapRequest {
+    ioas: ObjId(1),
+    iova: Iova(0x1000),
+    length: 0x1000,
+};
+
+fn map(iova: u64) -> MapRequest {
+    MapRequest {
+        iova: Iova(iova),
+        ..REQUEST
+    }
+}
+
+fn table(device: u32) -> HwptRequest {
+    HwptRequest {
+        device: ObjId(device),
+        ioas: ObjId(1),
+    }
+}
+
+const ALLOWED: [IovaRange; 2] = [
+    IovaRange {
+        start: 0,
+        last: 0xffff,
+    },
+    IovaRange {
+        start: 0x4000_0000,
+        last: 0x4000_0fff,
+    },
+];
+
+fn allowed<A: Allocator>(alloc: A) -> Result<RangeList<A>, Fail> {
+    let mut ranges = Vec::with_capacity(alloc, ALLOWED.len())?;
+    ranges.extend_from_slice(&ALLOWED)?;
+    Ok(RangeList::new(ranges))
+}
+
+/// The event of a step, its list in memory of this allocator.
+pub(crate) fn event<A: Allocator>(alloc: A, step: Step) -> Result<Event<A>, Fail> {
+    let bytes = Burst::new(&[0xbe, 0xef]).ok_or("two bytes")?;
+    Ok(match step {
+        Step::Alloc(file) => Event::IoasAlloc(file),
+        Step::Allow => Event::AllowIovas(FIRST, ObjId(1), allowed(alloc)?),
+        Step::Page(va) => Event::UserMap(UserNo(1), va),
+        Step::GiveUp(va) => Event::UserUnmap(UserNo(1), va),
+        Step::UserWrite => Event::UserWrite(UserNo(1), 0x10ffe, bytes),
+        Step::Map(iova) => Event::Map(FIRST, map(iova)),
+        Step::Unmap => Event::Unmap(FIRST, UNMAP),
+        Step::Table(device) => Event::HwptAlloc(FIRST, table(device)),
+        Step::Bind(device) => Event::Bind(FIRST, device),
+        Step::Attach(device, id) => Event::Attach(device, ObjId(id)),
+        Step::Write => Event::DeviceWrite(NARROW, Iova(0x1ffe), bytes),
+        Step::Flush(device) => Event::Flush(device),
+        Step::Detach(device) => Event::Detach(device),
+        Step::Destroy(file, id) => Event::Destroy(file, ObjId(id)),
+        Step::Close(file) => Event::Close(file),
+    })
+}
+
+pub(crate) const UNKNOWN: Reply = Reply::Refused(Refusal { cause: Cause::Id });
+
+pub(crate) const IN_USE: Reply = Reply::Refused(Refusal {
+    cause: Cause::InUse,
+});
+
+pub(crate) const NO_FRAME: Reply = Reply::Refused(Refusal {
+    cause: Cause::Frames,
+});
+
+/// What a read of the narrow device asks.
+pub(crate) fn read(iova: u64, len: u8) -> Query {
+    Query::DeviceRead {
+        device: NARROW,
+        iova: Iova(iova),
+        len,
+    }
+}
+
+pub(crate) fn apply<A: Allocator + Copy>(
+    core: &mut Core<A>,
+    event: Event<A>,
+) -> Result<Stamp, NoMemory> {
+    core.apply(PassNo(0), &Act { event, via: None })
+}
