@@ -116,8 +116,8 @@ fn says(alloc: Global, step: &Step, said: Said) -> bool {
         (Step::UserRead(user, at, count), Said::UserRead(of, va, bytes)) => {
             user.0 == of && *at == va && *count == bytes
         }
-        (Step::UserWrite(user, at, burst), Said::UserWrite(of, va, bytes)) => {
-            user.0 == of && *at == va && burst.as_slice() == bytes
+        (Step::UserWrite(user, at, digits), Said::UserWrite(of, va, bytes)) => {
+            user.0 == of && *at == va && digits.burst().as_slice() == bytes
         }
         (Step::Bind(file, device), Said::Bind(to, of)) => file.0 == to && device.0 == of,
         (Step::Unbind(file, id), Said::Unbind(of, at)) => file.0 == of && id.0 == at,
@@ -127,8 +127,8 @@ fn says(alloc: Global, step: &Step, said: Said) -> bool {
         (Step::DeviceRead(device, iova, count), Said::Read(of, at, bytes)) => {
             device.0 == of && iova.0 == at && *count == bytes
         }
-        (Step::DeviceWrite(device, iova, burst), Said::Write(of, at, bytes)) => {
-            device.0 == of && iova.0 == at && burst.as_slice() == bytes
+        (Step::DeviceWrite(device, iova, digits), Said::Write(of, at, bytes)) => {
+            device.0 == of && iova.0 == at && digits.burst().as_slice() == bytes
         }
         (Step::FreeFrames, Said::FreeFrames) => true,
         (Step::Held(user), Said::Held(of)) => user.0 == of,

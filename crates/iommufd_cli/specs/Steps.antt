@@ -1,5 +1,5 @@
 -- One step of a session: the line that it is answered with, and the server behind it.
-use Rattle.std.specs.Prelude.{◌≡◌, ◌⊎◌, ◌<◌, ℕ, Some, None, List, length}
+use Rattle.std.specs.Prelude.{◌≡◌, ◌⊎◌, ◌<◌, ℕ, Option, Some, None, List, Vec, length}
 use Rattle.iofd_words.specs.Bounds.{Bounds}
 use Rattle.iofd_words.specs.Checks.{refusal}
 use Rattle.iofd_words.specs.FirstTrue.{first_true}
@@ -21,8 +21,6 @@ use Rattle.ioctl_codec.specs.declared.command.Command.{Command}
 use Rattle.ioctl_codec.specs.declared.command.Command.TheVariants as command
 use Rattle.ioctl_codec.specs.declared.command.RangesRequest.{RangesRequest}
 use Rattle.iommufd_cli.specs.Replies.{answer_text, event_text, line, memory_text, ranges_text, refusal_text}
-use Rattle.iommufd_cli.specs.declared.step_line.StepLine.{StepLine}
-use Rattle.iommufd_cli.specs.declared.step_line.StepLine.TheVariants as step_line
 use Rattle.server_state.specs.Choice.{IsChosen, IsLooked}
 use Rattle.iommufd_core.specs.History.{HasOneMore, world}
 use Rattle.iommufd_core.specs.Server.{MayWant, Server}
@@ -30,10 +28,10 @@ use Rattle.iommufd_script.specs.declared.line.Step.{Step}
 use Rattle.iommufd_script.specs.declared.line.Step.TheVariants as step
 
 module _ {A : Type 0} where
-  -- the bytes of a line
-  abbrev pub text_of : StepLine A → List ℕ
-  text_of (step_line.Short line) = line
-  text_of (step_line.Long bytes) = bytes.items
+  -- the bytes of an answer: those of the long line where there is one, and else of the one in place
+  abbrev pub text_of : Option (Vec ℕ A) → List ℕ → List ℕ
+  text_of (Some long) line = long.items
+  text_of None line = line
 
   -- the event is recorded with this reply, which is the one that is chosen, as caller 0's
   pub record IsRecorded (s : Server A) (e : Event A) (reply : Reply) (after : Server A) : Type 0 where

@@ -9,16 +9,11 @@ mod names;
 mod output;
 mod replies;
 mod run;
-mod step_line;
 mod steps;
 
 pub use command_line::{Choice, choose};
 pub use fault::{CliFault, InputFault};
 pub use line::Line;
-pub use replies::{
-    answer_line, bad_line, ioctl_line, memory_line, no_memory_line, ranges_line, refusal_line,
-    reply_line,
-};
+pub use replies::{bad_line, no_memory_line, ranges_line};
 pub use run::session;
-pub use step_line::StepLine;
 pub use steps::answer_step;

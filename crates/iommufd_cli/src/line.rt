@@ -32,13 +32,20 @@ impl Line {
     pub const MAX: usize = 192;
 
     /// A line of no bytes.
-    pub(crate) fn new() -> Line
+    pub fn new() -> Line
         ensures { result ≡ [] }
     {
         Line {
             bytes: [0; Line::MAX],
             len: 0,
         }
+    }
+
+    /// Forgets the bytes, so that another line can be written in place.
+    pub(crate) fn clear(&mut self)
+        ensures { self.new ≡ [] }
+    {
+        self.len = 0;
     }
 
     /// The line's bytes.

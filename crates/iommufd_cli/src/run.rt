@@ -5,6 +5,7 @@ ghost use Rattle.std.specs.Io.KnownBytes.{Appends};
 ghost use Rattle.iommufd_cli.specs.Failures.{BeginsLines, BeginsRunText, BeginsText, IsReadFault, IsWithin, Leaves};
 ghost use Rattle.iommufd_cli.specs.Output.{IsFinal, IsFront, Writes};
 ghost use Rattle.iommufd_cli.specs.Session.{IsReadText, IsRunText, IsText, StepsText};
+ghost use Rattle.iommufd_cli.specs.Steps.{text_of};
 
 use crate::fault::{CliFault, InputFault};
 use crate::line::Line;
@@ -37,7 +38,7 @@ pub fn session<R: Read, W: Write, A: Allocator + Copy>(
 {
     let written = match read_all(alloc, reader)? {
         Some(bytes) => run_text(alloc, &bytes, writer),
-        None => told(writer, no_memory_line()),
+        None => told(writer, &no_memory_line()),
     };
     written.map_err(CliFault::Output)
 }
@@ -51,8 +52,8 @@ fn run_text<W: Write, A: Allocator + Copy>(alloc: A, text: &[u8], writer: &mut W
 {
     match read_script(alloc, text) {
         Ok((config, mut steps)) => run_script(alloc, &config, &mut steps, writer),
-        Err(ScriptError::BadLine(number)) => told(writer, bad_line(number)),
-        Err(ScriptError::NoMemory) => told(writer, no_memory_line()),
+        Err(ScriptError::BadLine(number)) => told(writer, &bad_line(number)),
+        Err(ScriptError::NoMemory) => told(writer, &no_memory_line()),
     }
 }
 
@@ -73,7 +74,7 @@ fn run_script<W: Write, A: Allocator + Copy>(
             run_steps(alloc, &mut core, steps, writer)?;
             Ok(0)
         }
-        Err(_) => told(writer, no_memory_line()),
+        Err(_) => told(writer, &no_memory_line()),
     }
 }
 
@@ -93,9 +94,9 @@ fn read_all<R: Read, A: Allocator>(alloc: A, reader: &mut R) -> Result<Option<Ve
 }
 
 // One line alone, and status 1.
-fn told<W: Write>(writer: &mut W, line: Line) -> io::Result<u8>
-    ensures text { IfOk result (λ status. (status ≡ 1) × Appends (W.contents writer.old) (W.contents writer.new) line) }
-    ensures begun { OnErr result (Writes (λ out. IsFront out line) (W.contents writer.old) (W.contents writer.new)) }
+fn told<W: Write>(writer: &mut W, line: &Line) -> io::Result<u8>
+    ensures text { IfOk result (λ status. (status ≡ 1) × Appends (W.contents writer.old) (W.contents writer.new) line.now) }
+    ensures begun { OnErr result (Writes (λ out. IsFront out line.now) (W.contents writer.old) (W.contents writer.new)) }
     ensures retried { IfErr result IsFinal }
 {
     put(writer, line.as_slice())?;
@@ -113,9 +114,20 @@ fn run_steps<W: Write, A: Allocator + Copy>(
     ensures begun { OnErr result (Writes (BeginsLines core.old steps.old) (W.contents writer.old) (W.contents writer.new)) }
     ensures retried { IfErr result IsFinal }
 {
+    let mut line = Line::new();
     while let Some(step) = steps.next_step() {
-        let answer = answer_step(alloc, core, &step);
-        put(writer, answer.as_slice())?;
+        let long = answer_step(alloc, core, &step, &mut line);
+        put(writer, answered(&long, &line))?;
     }
     Ok(())
+}
+
+// The bytes that a step is answered with: the long line where there is one, and else the one in place.
+fn answered<'a, A: Allocator>(long: &'a Option<Vec<u8, A>>, line: &'a Line) -> &'a [u8]
+    ensures { result.now ≡ text_of long.now line.now }
+{
+    match long {
+        Some(text) => text.as_slice(),
+        None => line.as_slice(),
+    }
 }

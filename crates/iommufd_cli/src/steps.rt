@@ -5,8 +5,7 @@ ghost use Rattle.iommufd_cli.specs.Replies.{command_of, event_text, line, memory
 ghost use Rattle.iommufd_cli.specs.Steps.{IsAnswered, IsApplied, IsAsked, IsCommanded, IsDecoded, IsIoctl, IsRanges, text_of};
 
 use crate::line::Line;
-use crate::replies::{answer_line, ioctl_line, memory_line, ranges_line, refusal_line, reply_line};
-use crate::step_line::StepLine;
+use crate::replies::ranges_line;
 use ioctl_codec::{Command, DecodeError, RangesRequest, decode};
 use iofd_words::{Act, Event, FileNo, PassNo, Query, Reply, Span};
 use iommufd_core::{Core, RangesError};
@@ -16,62 +15,69 @@ use std::alloc::Allocator;
 /// The caller that a session's records have.
 const CALLER: PassNo = PassNo(0);
 
-/// Carries out a step of the script, and answers the line for it: what the reply tells, or `12 Memory` where
-/// memory was wanting, and then nothing has changed.
+/// Carries out a step of the script, and writes the line for it, in place of what `out` had: what the reply tells, or
+/// `12 Memory` where memory was wanting, and then nothing has changed. A line of ranges, which may be long, is
+/// answered in memory, and `out` is none then.
 pub fn answer_step<A: Allocator + Copy>(
     alloc: A,
     core: &mut Core<A>,
     step: &Step<'_>,
-) -> StepLine<A>
-    ensures { IsAnswered core.old step.now (text_of result) core.new }
+    out: &mut Line,
+) -> Option<Vec<u8, A>>
+    ensures { IsAnswered core.old step.now (text_of result out.new) core.new }
 {
     match step {
-        Step::Ioctl(file, number, bytes) => answer_ioctl(alloc, core, *file, *number, bytes),
-        Step::Close(file) => answer_event(core, Event::Close(*file)),
-        Step::UserMap(user, va) => answer_event(core, Event::UserMap(*user, *va)),
-        Step::UserUnmap(user, va) => answer_event(core, Event::UserUnmap(*user, *va)),
+        Step::Ioctl(file, number, bytes) => answer_ioctl(alloc, core, *file, *number, bytes, out),
+        Step::Close(file) => answer_event(core, Event::Close(*file), out),
+        Step::UserMap(user, va) => answer_event(core, Event::UserMap(*user, *va), out),
+        Step::UserUnmap(user, va) => answer_event(core, Event::UserUnmap(*user, *va), out),
         Step::UserRead(user, va, len) => {
             let (user, va, len) = (*user, *va, *len);
-            answer_query(core, &Query::UserRead { user, va, len })
+            answer_query(core, &Query::UserRead { user, va, len }, out)
         }
         Step::UserWrite(user, va, bytes) => {
-            answer_event(core, Event::UserWrite(*user, *va, *bytes))
+            answer_event(core, Event::UserWrite(*user, *va, bytes.burst()), out)
         }
-        Step::Bind(file, device) => answer_event(core, Event::Bind(*file, *device)),
-        Step::Unbind(file, id) => answer_event(core, Event::Unbind(*file, *id)),
-        Step::Attach(device, pt_id) => answer_event(core, Event::Attach(*device, *pt_id)),
-        Step::Detach(device) => answer_event(core, Event::Detach(*device)),
-        Step::Flush(device) => answer_event(core, Event::Flush(*device)),
+        Step::Bind(file, device) => answer_event(core, Event::Bind(*file, *device), out),
+        Step::Unbind(file, id) => answer_event(core, Event::Unbind(*file, *id), out),
+        Step::Attach(device, pt_id) => answer_event(core, Event::Attach(*device, *pt_id), out),
+        Step::Detach(device) => answer_event(core, Event::Detach(*device), out),
+        Step::Flush(device) => answer_event(core, Event::Flush(*device), out),
         Step::DeviceRead(device, iova, len) => {
             let (device, iova, len) = (*device, *iova, *len);
-            answer_query(core, &Query::DeviceRead { device, iova, len })
+            answer_query(core, &Query::DeviceRead { device, iova, len }, out)
         }
         Step::DeviceWrite(device, iova, bytes) => {
-            answer_event(core, Event::DeviceWrite(*device, *iova, *bytes))
+            answer_event(core, Event::DeviceWrite(*device, *iova, bytes.burst()), out)
         }
-        Step::FreeFrames => answer_query(core, &Query::FreeFrames),
-        Step::Held(user) => answer_query(core, &Query::Held(*user)),
+        Step::FreeFrames => answer_query(core, &Query::FreeFrames, out),
+        Step::Held(user) => answer_query(core, &Query::Held(*user), out),
     }
 }
 
-// The line for an event.
-fn answer_event<A: Allocator + Copy>(core: &mut Core<A>, event: Event<A>) -> StepLine<A>
-    ensures { IsApplied core.old event (text_of result) core.new }
+// The line for an event: always a short one.
+fn answer_event<A: Allocator + Copy>(
+    core: &mut Core<A>,
+    event: Event<A>,
+    out: &mut Line,
+) -> Option<Vec<u8, A>>
+    ensures { IsApplied core.old event (text_of result out.new) core.new }
 {
     let act = Act { event, via: None };
     match core.apply(CALLER, &act) {
-        Ok(stamp) => StepLine::Short(event_line(act.event, &stamp.reply)),
-        Err(_) => StepLine::Short(memory_line()),
+        Ok(stamp) => tell_event(act.event, &stamp.reply, out),
+        Err(_) => out.tell_memory(),
     }
+    None
 }
 
 // The line for a reply to an event: one that is a command's is told as an ioctl's.
-fn event_line<A: Allocator>(event: Event<A>, reply: &Reply) -> Line
-    ensures { result ≡ line (event_text event reply.now) }
+fn tell_event<A: Allocator>(event: Event<A>, reply: &Reply, out: &mut Line)
+    ensures { out.new ≡ line (event_text event reply.now) }
 {
     match command_of(event) {
-        Some(command) => ioctl_line(&command, reply),
-        None => reply_line(reply),
+        Some(command) => out.tell_ioctl(&command, reply),
+        None => out.tell_reply(reply),
     }
 }
 
@@ -90,11 +96,12 @@ fn command_of<A: Allocator>(event: Event<A>) -> Option<Command<A>>
     }
 }
 
-// The line for a question.
-fn answer_query<A: Allocator>(core: &Core<A>, query: &Query) -> StepLine<A>
-    ensures { IsAsked core.now query.now (text_of result) core.now }
+// The line for a question: always a short one.
+fn answer_query<A: Allocator>(core: &Core<A>, query: &Query, out: &mut Line) -> Option<Vec<u8, A>>
+    ensures { IsAsked core.now query.now (text_of result out.new) core.now }
 {
-    StepLine::Short(answer_line(&core.look(query)))
+    out.tell_answer(&core.look(query));
+    None
 }
 
 // The line for an ioctl.
@@ -104,13 +111,15 @@ fn answer_ioctl<A: Allocator + Copy>(
     file: FileNo,
     number: u32,
     bytes: &HexBytes<'_>,
-) -> StepLine<A>
-    ensures { IsIoctl core.old file number bytes.now (text_of result) core.new }
+    out: &mut Line,
+) -> Option<Vec<u8, A>>
+    ensures { IsIoctl core.old file number bytes.now (text_of result out.new) core.new }
 {
     match bytes.to_vec(alloc) {
-        Ok(bytes) => answer_bytes(alloc, core, file, number, &bytes),
-        Err(_) => StepLine::Short(memory_line()),
+        Ok(bytes) => return answer_bytes(alloc, core, file, number, &bytes, out),
+        Err(_) => out.tell_memory(),
     }
+    None
 }
 
 // The line for an ioctl whose bytes are at hand.
@@ -120,14 +129,16 @@ fn answer_bytes<A: Allocator + Copy>(
     file: FileNo,
     number: u32,
     bytes: &[u8],
-) -> StepLine<A>
-    ensures { IsDecoded core.old file number bytes.now (text_of result) core.new }
+    out: &mut Line,
+) -> Option<Vec<u8, A>>
+    ensures { IsDecoded core.old file number bytes.now (text_of result out.new) core.new }
 {
     match decode(alloc, number, bytes) {
-        Ok(command) => answer_command(alloc, core, file, command),
-        Err(DecodeError::Refused(refusal)) => StepLine::Short(refusal_line(refusal)),
-        Err(DecodeError::Memory) => StepLine::Short(memory_line()),
+        Ok(command) => return answer_command(alloc, core, file, command, out),
+        Err(DecodeError::Refused(refusal)) => out.tell_refusal(refusal),
+        Err(DecodeError::Memory) => out.tell_memory(),
     }
+    None
 }
 
 // The line for a command of a file.
@@ -136,19 +147,20 @@ fn answer_command<A: Allocator + Copy>(
     core: &mut Core<A>,
     file: FileNo,
     command: Command<A>,
-) -> StepLine<A>
-    ensures { IsCommanded core.old file command (text_of result) core.new }
+    out: &mut Line,
+) -> Option<Vec<u8, A>>
+    ensures { IsCommanded core.old file command (text_of result out.new) core.new }
 {
     match command {
-        Command::Destroy(id) => answer_event(core, Event::Destroy(file, id)),
-        Command::IoasAlloc => answer_event(core, Event::IoasAlloc(file)),
+        Command::Destroy(id) => answer_event(core, Event::Destroy(file, id), out),
+        Command::IoasAlloc => answer_event(core, Event::IoasAlloc(file), out),
         Command::IoasAllowIovas(ioas, ranges) => {
-            answer_event(core, Event::AllowIovas(file, ioas, ranges))
+            answer_event(core, Event::AllowIovas(file, ioas, ranges), out)
         }
-        Command::IoasIovaRanges(request) => answer_ranges(alloc, core, file, request),
-        Command::IoasMap(request) => answer_event(core, Event::Map(file, request)),
-        Command::IoasUnmap(request) => answer_event(core, Event::Unmap(file, request)),
-        Command::HwptAlloc(request) => answer_event(core, Event::HwptAlloc(file, request)),
+        Command::IoasIovaRanges(request) => answer_ranges(alloc, core, file, request, out),
+        Command::IoasMap(request) => answer_event(core, Event::Map(file, request), out),
+        Command::IoasUnmap(request) => answer_event(core, Event::Unmap(file, request), out),
+        Command::HwptAlloc(request) => answer_event(core, Event::HwptAlloc(file, request), out),
     }
 }
 
@@ -158,14 +170,16 @@ fn answer_ranges<A: Allocator + Copy>(
     core: &Core<A>,
     file: FileNo,
     request: RangesRequest,
-) -> StepLine<A>
-    ensures { IsRanges core.now file request (text_of result) core.now }
+    out: &mut Line,
+) -> Option<Vec<u8, A>>
+    ensures { IsRanges core.now file request (text_of result out.new) core.now }
 {
     match core.ranges(file, request.ioas) {
-        Ok(ranges) => told_ranges(alloc, request, ranges.spans()),
-        Err(RangesError::Refused(refusal)) => StepLine::Short(refusal_line(refusal)),
-        Err(RangesError::Memory) => StepLine::Short(memory_line()),
+        Ok(ranges) => return told_ranges(alloc, request, ranges.spans(), out),
+        Err(RangesError::Refused(refusal)) => out.tell_refusal(refusal),
+        Err(RangesError::Memory) => out.tell_memory(),
     }
+    None
 }
 
 // The line that tells these ranges, or that there is no memory for it.
@@ -173,12 +187,14 @@ fn told_ranges<A: Allocator + Copy>(
     alloc: A,
     request: RangesRequest,
     ranges: &[Span],
-) -> StepLine<A>
+    out: &mut Line,
+) -> Option<Vec<u8, A>>
     requires { length ranges.now < 2 ^ 32 }
-    ensures { (text_of result ≡ line (ranges_text request ranges.now)) ⊎ (text_of result ≡ line memory_text) }
+    ensures { (text_of result out.new ≡ line (ranges_text request ranges.now)) ⊎ (text_of result out.new ≡ line memory_text) }
 {
     match ranges_line(alloc, request, ranges) {
-        Ok(text) => StepLine::Long(text),
-        Err(_) => StepLine::Short(memory_line()),
+        Ok(text) => return Some(text),
+        Err(_) => out.tell_memory(),
     }
+    None
 }

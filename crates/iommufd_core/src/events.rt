@@ -38,8 +38,8 @@ pub(crate) fn answer<A: Allocator + Copy>(
     }
 }
 
-/// Why the event is refused, if it is. It takes no memory.
-fn refusal<A: Allocator>(state: &State<A>, event: &Event<A>) -> Option<Cause>
+/// Why the event is refused, if it is. It wants for no memory.
+fn refusal<A: Allocator + Copy>(state: &State<A>, event: &Event<A>) -> Option<Cause>
     requires { IsKnown state.now }
     ensures { result ≡ first_true (checks (seen state.now) event.now) }
 {

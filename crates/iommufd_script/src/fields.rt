@@ -3,11 +3,12 @@
 ghost use Rattle.std.specs.Prelude.{◌≡◌, ◌==◌, [], ◌∷◌, MatchOption, if◌then◌else◌, Some, None, length};
 ghost use Rattle.iommufd_script.specs.Fields.{fields, fields_left, width_of, next, Decimal, Hex, Length, Source, AddressWidth, Bytes, Access, Mark, Spans};
 
+use crate::access_bytes::AccessBytes;
 use crate::digits;
 use crate::hex_bytes::HexBytes;
 use crate::span_texts::SpanTexts;
 use crate::split::split_at_byte;
-use iofd_words::{Burst, Width};
+use iofd_words::Width;
 use std::marker::Model;
 
 // The fields that are left of a line. There may be none, and a field may be empty.
@@ -58,21 +59,14 @@ impl<'a> Fields<'a> {
         }
     }
 
-    // Whether no field is left.
-    fn is_empty(&self) -> bool
-        ensures { result ≡ (length self.now == 0) }
-    {
-        match self.rest {
-            None => true,
-            Some(_) => false,
-        }
-    }
-
     // What was made of a line's fields, if none is left.
     pub fn end<T: Drop>(self, made: T) -> Option<T>
         ensures { result ≡ (if length self.entry == 0 then Some made else None) }
     {
-        if self.is_empty() { Some(made) } else { None }
+        match self.rest {
+            None => Some(made),
+            Some(_) => None,
+        }
     }
 
     // A decimal number below 2^16.
@@ -165,12 +159,13 @@ impl<'a> Fields<'a> {
 
     // The bytes of one access, 1 to 64.
     #[tactic(auto, unfolding(crate::specs::Fields::next))]
-    pub fn access(self) -> Option<(Burst, Fields<'a>)>
+    pub fn access(self) -> Option<(AccessBytes<'a>, Fields<'a>)>
         ensures { result ≡ next Access self.entry }
     {
         let (field, others) = self.split()?;
-        Some((HexBytes::of(field)?.to_burst()?, others))
+        Some((AccessBytes::of(HexBytes::of(field)?)?, others))
     }
+
     // Whether the mark `x86` is the first field, which is taken then.
     #[tactic(auto, unfolding(crate::specs::Fields::next))]
     pub fn mark(self) -> (bool, Fields<'a>)

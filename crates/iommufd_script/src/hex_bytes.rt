@@ -1,13 +1,11 @@
 //! Bytes that a script spells in hexadecimal.
 
-ghost use Rattle.std.specs.Prelude.{◌≡◌, ◌==◌, ◌%◌, ◌/◌, ◌&&◌, ◌≤◌, Some, IfOk, OnErr, IfSome, IsSome, ◌↔◌, length, nat_lt, slice_index, if◌then◌else◌, None, true, ◌<◌, ◌+◌, ◌*◌};
+ghost use Rattle.std.specs.Prelude.{◌≡◌, ◌==◌, ◌%◌, ◌/◌, ◌&&◌, ◌≤◌, Some, IfOk, OnErr, length, nat_lt, slice_index, if◌then◌else◌, None, true, ◌<◌, ◌+◌, ◌*◌};
 ghost use Rattle.std.specs.Char.{digit_value};
 ghost use Rattle.std.specs.List.{list_all};
-ghost use Rattle.iofd_words.specs.Settings.{is_between};
 ghost use Rattle.iommufd_script.specs.Digits.{bytes_of, is_lower_digit, pairs};
-ghost use Rattle.iommufd_script.specs.Fields.{kept_if};
 
-use iofd_words::{Burst, NoMemory};
+use iofd_words::NoMemory;
 use std::alloc::Allocator;
 use std::marker::Model;
 
@@ -38,15 +36,9 @@ fn are_lower_digits(text: &[u8]) -> bool
 {
     let mut all = true;
     for c in text {
-        all &= is_lower_digit(*c);
+        all &= matches!(*c, b'0'..=b'9' | b'a'..=b'f');
     }
     all
-}
-
-fn is_lower_digit(c: u8) -> bool
-    ensures { result ≡ is_lower_digit c }
-{
-    matches!(c, b'0'..=b'9' | b'a'..=b'f')
 }
 
 // The four bits of a hexadecimal digit. A letter's low bits count from 1, and bit 6 is set in letters alone; so no
@@ -65,16 +57,6 @@ fn byte_of(high: u8, low: u8) -> u8
     ensures { result ≡ 16 * digit_value high + digit_value low }
 {
     bits_of(high) * 16 + bits_of(low)
-}
-
-// The byte at a place of those that the digits are.
-#[tactic(auto, using(crate::proofs::Pairs::pair_at, crate::proofs::Pairs::lower_small))]
-fn pair_at(digits: &[u8], i: usize) -> u8
-    requires within { 2 * i + 1 < length digits.now }
-    requires lower { list_all is_lower_digit digits.now ≡ true }
-    ensures { result ≡ slice_index (pairs digits.now) i }
-{
-    byte_of(digits[2 * i], digits[2 * i + 1])
 }
 
 impl<'a> HexBytes<'a> {
@@ -101,12 +83,13 @@ impl<'a> HexBytes<'a> {
     }
 
     // The byte at a place.
-    #[tactic(auto, using(crate::proofs::Pairs::length_pairs))]
-    fn byte_at(&self, i: usize) -> u8
+    #[tactic(auto, using(crate::proofs::Pairs::length_pairs, crate::proofs::Pairs::pair_at, crate::proofs::Pairs::lower_small))]
+    pub fn byte_at(&self, i: usize) -> u8
         requires { i < length self.now }
         ensures { result ≡ slice_index self.now i }
     {
-        pair_at(self.digits, i)
+        let digits = self.digits;
+        byte_of(digits[2 * i], digits[2 * i + 1])
     }
 
     /// They, in memory of this allocator. The error comes only where the memory was refused; no bytes need none.
@@ -123,20 +106,5 @@ impl<'a> HexBytes<'a> {
             vec[i] = self.byte_at(i);
         }
         Ok(vec)
-    }
-
-    // They, as the bytes of one access; None where they aren't 1 to 64.
-    pub fn to_burst(&self) -> Option<Burst>
-        ensures { result ≡ (if is_between 1 64 (length self.now) then Some self.now else None) }
-    {
-        let len = self.len();
-        if len > Burst::MAX {
-            return None;
-        }
-        let mut bytes = [0; 64];
-        for i in 0..len {
-            bytes[i] = self.byte_at(i);
-        }
-        Burst::new(&bytes[..len])
     }
 }

@@ -38,13 +38,7 @@ pub enum StepKeyword {
 fn is_word(word: &[u8], name: &[u8]) -> bool
     ensures { result ≡ bytes_eq word.now name.now }
 {
-    if word.len() != name.len() {
-        return false;
-    }
-    if !word.is_empty() && word[0] != name[0] {
-        return false;
-    }
-    word == name
+    word.len() == name.len() && (word.is_empty() || word[0] == name[0]) && word == name
 }
 
 // The word of the head that this is.

@@ -1,6 +1,7 @@
 //! A script: its lines, the head that they open a server with, and its steps.
 #![tactic(auto)]
 
+mod access_bytes;
 mod digits;
 mod error;
 mod fields;
@@ -15,6 +16,7 @@ mod script;
 mod span_texts;
 mod split;
 
+pub use access_bytes::AccessBytes;
 pub use error::ScriptError;
 pub use hex_bytes::HexBytes;
 pub use line::{HeadLine, Line, Step};

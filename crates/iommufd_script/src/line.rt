@@ -1,8 +1,9 @@
 //! What the lines of a script say.
 
+use crate::access_bytes::AccessBytes;
 use crate::hex_bytes::HexBytes;
 use crate::span_texts::SpanTexts;
-use iofd_words::{Burst, DeviceNo, FileNo, Iova, ObjId, SourceId, UserNo, Width};
+use iofd_words::{DeviceNo, FileNo, Iova, ObjId, SourceId, UserNo, Width};
 
 /// A line of the head.
 #[derive(Debug, Drop)]
@@ -33,7 +34,7 @@ pub enum Step<'a> {
     /// A user reads so many bytes of its memory, 1 to 64.
     UserRead(UserNo, u64, u8),
     /// A user writes these bytes to its memory.
-    UserWrite(UserNo, u64, Burst),
+    UserWrite(UserNo, u64, AccessBytes<'a>),
     /// Binds a device to a file.
     Bind(FileNo, DeviceNo),
     /// Takes the device of this id away from its file.
@@ -47,7 +48,7 @@ pub enum Step<'a> {
     /// A device reads so many bytes, 1 to 64.
     DeviceRead(DeviceNo, Iova, u8),
     /// A device writes these bytes.
-    DeviceWrite(DeviceNo, Iova, Burst),
+    DeviceWrite(DeviceNo, Iova, AccessBytes<'a>),
     /// How many frames are free.
     FreeFrames,
     /// How many pinned pages a user has.

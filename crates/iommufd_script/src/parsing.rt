@@ -50,13 +50,6 @@ fn device(fields: Fields<'_>) -> Option<HeadLine<'_>>
     fields.end(HeadLine::Device(SourceId(source), width, x86, reserved))
 }
 
-// `begin`
-fn begin(fields: Fields<'_>) -> Option<HeadLine<'_>>
-    ensures { result ≡ head_of head.Begin fields.entry }
-{
-    fields.end(HeadLine::Begin)
-}
-
 // A line of the head, by its word and the fields behind it.
 #[tactic(auto)]
 fn head_line(keyword: HeadKeyword, fields: Fields<'_>) -> Option<HeadLine<'_>>
@@ -67,7 +60,7 @@ fn head_line(keyword: HeadKeyword, fields: Fields<'_>) -> Option<HeadLine<'_>>
         HeadKeyword::User => user(fields),
         HeadKeyword::File => file(fields),
         HeadKeyword::Device => device(fields),
-        HeadKeyword::Begin => begin(fields),
+        HeadKeyword::Begin => fields.end(HeadLine::Begin),
     }
 }
 
@@ -190,13 +183,6 @@ fn dwrite<'a>(fields: Fields<'a>) -> Option<Step<'a>>
     fields.end(Step::DeviceWrite(DeviceNo(device), Iova(iova), bytes))
 }
 
-// `free`
-fn free<'a>(fields: Fields<'a>) -> Option<Step<'a>>
-    ensures { result ≡ step_at step.FreeFrames fields.entry }
-{
-    fields.end(Step::FreeFrames)
-}
-
 // `held <user>`
 fn held<'a>(fields: Fields<'a>) -> Option<Step<'a>>
     ensures { result ≡ step_at step.Held fields.entry }
@@ -224,7 +210,7 @@ fn step<'a>(keyword: StepKeyword, fields: Fields<'a>) -> Option<Step<'a>>
         StepKeyword::Flush => flush(fields),
         StepKeyword::DeviceRead => dread(fields),
         StepKeyword::DeviceWrite => dwrite(fields),
-        StepKeyword::FreeFrames => free(fields),
+        StepKeyword::FreeFrames => fields.end(Step::FreeFrames),
         StepKeyword::Held => held(fields),
     }
 }

@@ -52,25 +52,15 @@ impl Place {
         requires { IsTrue (allows self line.now) }
         ensures { result ≡ behind self line.now }
     {
+        let mut next = self;
         match line {
-            HeadLine::Pool(_) => Place { pool: true, ..self },
-            HeadLine::User(_) => Place {
-                users: self.users + 1,
-                ..self
-            },
-            HeadLine::File(_) => Place {
-                files: self.files + 1,
-                ..self
-            },
-            HeadLine::Device(_, _, _, _) => Place {
-                devices: self.devices + 1,
-                ..self
-            },
-            HeadLine::Begin => Place {
-                begun: true,
-                ..self
-            },
+            HeadLine::Pool(_) => next.pool = true,
+            HeadLine::User(_) => next.users += 1,
+            HeadLine::File(_) => next.files += 1,
+            HeadLine::Device(_, _, _, _) => next.devices += 1,
+            HeadLine::Begin => next.begun = true,
         }
+        next
     }
 
     // The place behind a line; None where it may not come here, or isn't of the grammar.

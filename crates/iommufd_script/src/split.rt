@@ -1,6 +1,6 @@
 //! Text, split at single bytes.
 
-ghost use Rattle.std.specs.Prelude.{◌≡◌, ◌≢◌, ◌==◌, ◌≤◌, ◌<◌, ◌+◌, ℕ, [], ◌∷◌, MatchOption, length, not, slice_index};
+ghost use Rattle.std.specs.Prelude.{◌≡◌, ◌==◌, ◌≤◌, ◌<◌, ◌+◌, [], ◌∷◌, MatchOption, length, not};
 ghost use Rattle.std.specs.List.{position_or_len, prefix_len, slice_split};
 ghost use Rattle.std.specs.Simd.Lanes.{chunk};
 ghost use Rattle.iommufd_script.specs.Lines.{lines};
@@ -25,14 +25,12 @@ fn count_before(text: &[u8], at: usize, byte: u8) -> usize
     }
 }
 
-// Where the first such byte is, or the text's length, if none comes before this place.
-fn first_place_from(text: &[u8], start: usize, byte: u8) -> usize
-    requires start { start ≤ length text.now }
-    requires before { (k : ℕ) → k < start → slice_index text.now k ≢ byte }
+// Where the first such byte of a short text is, or the text's length.
+fn first_place_of_few(text: &[u8], byte: u8) -> usize
     ensures place { result ≡ position_or_len (λ c. c == byte) text.now }
     ensures within { result ≤ length text.now }
 {
-    for i in start..text.len() {
+    for i in 0..text.len() {
         if text[i] == byte {
             return i;
         }
@@ -45,6 +43,9 @@ pub fn first_place(text: &[u8], byte: u8) -> usize
     ensures place { result ≡ position_or_len (λ c. c == byte) text.now }
     ensures within { result ≤ length text.now }
 {
+    if text.len() < STRIDE {
+        return first_place_of_few(text, byte);
+    }
     let mut start = 0;
     while text.len() - start >= STRIDE {
         let before = count_before(text, start, byte);
@@ -53,7 +54,9 @@ pub fn first_place(text: &[u8], byte: u8) -> usize
         }
         start += STRIDE;
     }
-    first_place_from(text, start, byte)
+    // The text's last stride overlaps the one before, and spares a look at each byte.
+    let last = text.len() - STRIDE;
+    last + count_before(text, last, byte)
 }
 
 // The part before the first such byte, and the text behind it; None where there is no such byte.

@@ -10,6 +10,7 @@ ghost use Rattle.iova_ranges.specs.Gaps.{IsGap, IsSetOf};
 ghost use Rattle.iova_ranges.specs.Ranges.{AllIn};
 
 use crate::RangeSet;
+use crate::sorting::by_start;
 use iofd_words::{FileNo, IovaRange, NoMemory, ObjId, RangeList, Span};
 use std::alloc::{Allocator, Global};
 use std::marker::Model;
@@ -92,8 +93,18 @@ impl<A: Allocator> AllowedRow<A> {
     }
 }
 
-// The set of the numbers of these ranges.
-fn set_of<A: Allocator>(alloc: A, ranges: &[IovaRange]) -> Result<RangeSet<A>, NoMemory>
+// The set of the numbers of these ranges. They are added by rising start, so that no span of the set has to move.
+fn set_of<A: Allocator + Copy>(alloc: A, ranges: &[IovaRange]) -> Result<RangeSet<A>, NoMemory>
+    ensures set { IfOk result (λ set. IsSetOf set.spans ranges.now) }
+    ensures memory { OnErr result (0 < length ranges.now) }
+{
+    let sorted = by_start(alloc, ranges)?;
+    let set = set_in_order(alloc, &sorted)?;
+    Ok(set)
+}
+
+// The same, the ranges added as they stand.
+fn set_in_order<A: Allocator>(alloc: A, ranges: &[IovaRange]) -> Result<RangeSet<A>, NoMemory>
     ensures set { IfOk result (λ set. IsSetOf set.spans ranges.now) }
     ensures memory { OnErr result (0 < length ranges.now) }
 {

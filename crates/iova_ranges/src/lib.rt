@@ -13,9 +13,11 @@ mod lookups;
 mod range_set;
 mod removing;
 mod reserved;
+mod sorting;
 
 pub use allowed::Allowed;
 pub use allowed_ranges::{AllowedRow, AllowedTable};
 pub use fitting::starts_rise;
 pub use range_set::RangeSet;
 pub use reserved::{Reserved, ReservedSpan};
+pub use sorting::by_start;

@@ -18,6 +18,7 @@ pub mod MissingMapped
 pub mod PagesCleared
 pub mod PinsLeft
 pub mod RangesAllowed
+pub mod RangesSorted
 pub mod SpacesCleared
 pub mod StartTold
 pub mod TablesUnreached

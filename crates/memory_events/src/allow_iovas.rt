@@ -12,13 +12,14 @@ ghost use Rattle.server_state.specs.Seen.{seen};
 ghost use Rattle.server_state.specs.Step.{IsKnown, ShowsSame, Steps};
 
 use iofd_words::{Cause, FileNo, IovaRange, NoMemory, ObjId, RangeList, Reply, Span};
-use iova_ranges::AllowedRow;
+use iova_ranges::{AllowedRow, by_start};
 use server_state::{State, lookups};
 use std::alloc::Allocator;
 
-/// Why it is refused, by the first row of the definitions that holds. None where nothing refuses it.
+/// Why it is refused, by the first row of the definitions that holds. None where nothing refuses it. The memory in which
+/// it sorts the ranges is given back.
 #[tactic(auto, unfolding(iofd_words::specs::Checks::allow_iovas_checks))]
-pub fn refusal<A: Allocator>(
+pub fn refusal<A: Allocator + Copy>(
     state: &State<A>,
     file: FileNo,
     ioas: ObjId,
@@ -33,7 +34,7 @@ pub fn refusal<A: Allocator>(
     let Some(_) = lookups::areas_of(&state.objects, file, ioas) else {
         return Some(Cause::Id);
     };
-    if !are_ranges(ranges) {
+    if !are_ranges(state.alloc, ranges) {
         return Some(Cause::List);
     }
     if meet_unusable(state, file, ioas, ranges) {
@@ -43,11 +44,21 @@ pub fn refusal<A: Allocator>(
 }
 
 /// Whether each range begins below its last address, and no two have an address in common. Ranges by rising address take
-/// one pass; others are compared each with each.
-fn are_ranges(ranges: &[IovaRange]) -> bool
+/// one pass.
+fn are_ranges<A: Allocator>(alloc: A, ranges: &[IovaRange]) -> bool
     ensures { result ≡ are_ranges ranges.now }
 {
-    are_rising(ranges) || are_apart(ranges)
+    are_rising(ranges) || are_ranges_unordered(alloc, ranges)
+}
+
+/// The same of ranges in any order: they are sorted, or compared each with each where there is no memory for that.
+fn are_ranges_unordered<A: Allocator>(alloc: A, ranges: &[IovaRange]) -> bool
+    ensures { result ≡ are_ranges ranges.now }
+{
+    match by_start(alloc, ranges) {
+        Ok(sorted) => are_rising(&sorted),
+        Err(NoMemory) => are_apart(ranges),
+    }
 }
 
 /// Whether each range begins below its last address, and ends below the next one.
@@ -74,7 +85,7 @@ fn ends_below(range: IovaRange, others: &[IovaRange]) -> bool
     }
 }
 
-/// The same of ranges in any order.
+/// The same, by comparing each with each.
 fn are_apart(ranges: &[IovaRange]) -> bool
     ensures { result ≡ are_ranges ranges.now }
 {

@@ -11,11 +11,12 @@ use frame_memory::Pool;
 use iofd_words::{FrameNo, Rights};
 use std::alloc::Allocator;
 
-/// A table that was reached from the root: its level, its frame, and the rights that all entries on the way gave.
+/// A table that was reached from the root: its frame, its level, and the rights that all entries on the way gave. The
+/// frame stands first so that it all fits a machine word.
 #[derive(Clone, Copy, PartialEq, Eq, Debug)]
 pub(crate) struct Reached {
-    pub(crate) level: u8,
     pub(crate) frame: FrameNo,
+    pub(crate) level: u8,
     pub(crate) rights: Rights,
 }
 
@@ -33,17 +34,17 @@ pub(crate) fn descend<A: Allocator>(pool: &Pool<A>, from: Reached, page: u64) ->
         Stands pool.now levels root rows pages → table_at rows from.level page ≡ Some from.frame →
         IsLowest rows result.level page result.frame }
 {
-    if from.level == 1 {
-        return from;
+    let mut reached = from;
+    while reached.level > 1 {
+        let entry = Entry::read(pool, reached.frame, reached.level, page);
+        if !entry.is_present() {
+            return reached;
+        }
+        reached = Reached {
+            frame: entry.frame(),
+            level: reached.level - 1,
+            rights: Rights(reached.rights.0 & entry.rights().0),
+        };
     }
-    let entry = Entry::read(pool, from.frame, from.level, page);
-    if !entry.is_present() {
-        return from;
-    }
-    let next = Reached {
-        level: from.level - 1,
-        frame: entry.frame(),
-        rights: Rights(from.rights.0 & entry.rights().0),
-    };
-    descend(pool, next, page)
+    reached
 }

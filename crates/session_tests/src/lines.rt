@@ -5,10 +5,7 @@ use iofd_words::{
     AccessKind, Answer, Burst, Cause, Errno, Fault, FaultReason, FrameNo, Iova, IovaRange,
     MapFlags, MapRequest, ObjId, RangeList, Refusal, Reply, SourceId, Span, UnmapRequest,
 };
-use iommufd_cli::{
-    Line, answer_line, bad_line, ioctl_line, memory_line, no_memory_line, ranges_line,
-    refusal_line, reply_line,
-};
+use iommufd_cli::{Line, bad_line, no_memory_line, ranges_line};
 use std::test::Fail;
 
 const MAP: MapRequest = MapRequest {
@@ -91,8 +88,15 @@ const DENIED_READ: Fault = Fault {
     reason: FaultReason::ReadDenied,
 };
 
-fn is(line: Line, text: &str) -> bool {
+fn is(line: &Line, text: &str) -> bool {
     line.as_slice() == text.as_bytes()
+}
+
+// Whether the line of the reply is this text.
+fn tells_reply(reply: &Reply, text: &str) -> bool {
+    let mut line = Line::new();
+    line.tell_reply(reply);
+    is(&line, text)
 }
 
 // What a step that isn't an ioctl answers, and its line.
@@ -125,14 +129,14 @@ static PAGES: [(u64, &str); 4] = [
 #[test]
 fn steps(rt: HostRuntime) {
     for (reply, text) in &REPLIES {
-        assert!(rt; is(reply_line(reply), text), "{text}");
+        assert!(rt; tells_reply(reply, text), "{text}");
     }
     for (page, text) in &PAGES {
         let fault = Fault {
             page: *page,
             ..UNATTACHED
         };
-        assert!(rt; is(reply_line(&Reply::Fault(fault)), text), "{text}");
+        assert!(rt; tells_reply(&Reply::Fault(fault), text), "{text}");
     }
 }
 
@@ -174,7 +178,9 @@ static BARE: [(Reply, &str); 3] = [
 
 // Whether the command's line for the reply is this text.
 fn tells(command: &Command, reply: &Reply, text: &str) -> bool {
-    is(ioctl_line(command, reply), text)
+    let mut line = Line::new();
+    line.tell_ioctl(command, reply);
+    is(&line, text)
 }
 
 // Whether each of the bare replies has its line.
@@ -270,20 +276,27 @@ fn answers(rt: HostRuntime) {
         cause: Cause::Cross,
     };
     assert!(rt;
-        is(
-            answer_line(&Answer::Fault(DENIED_READ)),
+        tells_answer(
+            &Answer::Fault(DENIED_READ),
             "fault 6 source 0018 page 2 read\n"
         )
     );
-    assert!(rt; is(answer_line(&Answer::Refused(crossing)), "22 Cross\n"));
-    assert!(rt; is(answer_line(&Answer::Count(0)), "ok 0\n"));
-    assert!(rt; is(answer_line(&Answer::Count(4096)), "ok 4096\n"));
+    assert!(rt; tells_answer(&Answer::Refused(crossing), "22 Cross\n"));
+    assert!(rt; tells_answer(&Answer::Count(0), "ok 0\n"));
+    assert!(rt; tells_answer(&Answer::Count(4096), "ok 4096\n"));
+}
+
+// Whether the line of the answer is this text.
+fn tells_answer(answer: &Answer, text: &str) -> bool {
+    let mut line = Line::new();
+    line.tell_answer(answer);
+    is(&line, text)
 }
 
 // Whether the line of a read that gives the bytes is this text.
 fn spells(bytes: &[u8], text: &str) -> bool {
     match Burst::new(bytes) {
-        Some(burst) => is(answer_line(&Answer::Read(burst)), text),
+        Some(burst) => tells_answer(&Answer::Read(burst), text),
         None => false,
     }
 }
@@ -301,15 +314,19 @@ fn bytes_read(rt: HostRuntime) {
 
 #[test]
 fn refusals(rt: HostRuntime) {
+    let mut line = Line::new();
     for (cause, text) in &REFUSALS {
-        assert!(rt; is(refusal_line(Refusal { cause: *cause }), text), "{text}");
+        line.tell_refusal(Refusal { cause: *cause });
+        assert!(rt; is(&line, text), "{text}");
     }
 }
 
 #[test]
 fn whole_outputs(rt: HostRuntime) {
-    assert!(rt; is(memory_line(), "12 Memory\n"));
-    assert!(rt; is(no_memory_line(), "no memory\n"));
-    assert!(rt; is(bad_line(8), "bad line 8\n"));
-    assert!(rt; is(bad_line(u64::MAX), "bad line 18446744073709551615\n"));
+    let mut line = bad_line(8);
+    assert!(rt; is(&line, "bad line 8\n"));
+    line.tell_memory();
+    assert!(rt; is(&line, "12 Memory\n"));
+    assert!(rt; is(&no_memory_line(), "no memory\n"));
+    assert!(rt; is(&bad_line(u64::MAX), "bad line 18446744073709551615\n"));
 }

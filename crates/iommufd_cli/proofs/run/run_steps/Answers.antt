@@ -12,27 +12,27 @@ loop-step-init g c = ([], [], refl, appends_none _, λ others rest text. text)
 pub loop-step-preserved : goal.loop-step-preserved
 loop-step-preserved g c =
     let (first, out, split, written, leads) = c.loop-step.invariant in
-    let line = text_of c.answer_step-answer.result in
+    let line = text_of c.answer_step-long.result c.answer_step-long.new.out in
     let step = c.in-Some.step in
-    let more = subst (λ text. Appends (g.W.Write.contents c.loop-step.writer) (g.W.Write.contents c.put.new.writer) text) c.as_slice.ensures c.in_ok-put.ensures.ok in (
+    let more = subst (λ text. Appends (g.W.Write.contents c.loop-step.writer) (g.W.Write.contents c.put.new.writer) text) c.answered.ensures c.in_ok-put.ensures.ok in (
       first ++ step ∷ [],
       out ++ line,
       split_on _ first _ _ step split c.in-Some.ensures,
       appends_more _ _ _ out line written more,
-      leads_on _ _ _ first step out line leads c.answer_step-answer.ensures,
+      leads_on _ _ _ first step out line leads c.answer_step-long.ensures,
     )
 
 pub loop-step-preserved-in_ok-put : goal.loop-step-preserved-in_ok-put
 loop-step-preserved-in_ok-put g c =
     let (first, out, split, written, leads) = c.loop-step.invariant in
-    let line = text_of c.answer_step-answer.result in
+    let line = text_of c.answer_step-long.result c.answer_step-long.new.out in
     let step = c.in-Some.step in
-    let more = subst (λ text. Appends (g.W.Write.contents c.loop-step.writer) (g.W.Write.contents c.put.new.writer) text) c.as_slice.ensures c.in_ok-put.ensures.ok in (
+    let more = subst (λ text. Appends (g.W.Write.contents c.loop-step.writer) (g.W.Write.contents c.put.new.writer) text) c.answered.ensures c.in_ok-put.ensures.ok in (
       first ++ step ∷ [],
       out ++ line,
       split_on _ first _ _ step split c.in-Some.ensures,
       appends_more _ _ _ out line written more,
-      leads_on _ _ _ first step out line leads c.answer_step-answer.ensures,
+      leads_on _ _ _ first step out line leads c.answer_step-long.ensures,
     )
 
 pub returns-clause-text : goal.returns-clause-text
@@ -43,9 +43,9 @@ returns-clause-text g c =
 pub returns-in_err-put-clause-begun : goal.returns-in_err-put-clause-begun
 returns-in_err-put-clause-begun g c =
     let (first, out, split, written, leads) = c.loop-step.invariant in
-    let line = text_of c.answer_step-answer.result in
+    let line = text_of c.answer_step-long.result c.answer_step-long.new.out in
     let (front, is_front, more) = c.in_err-put.ensures.err in
-    let short = subst (λ text. IsFront front text) c.as_slice.ensures is_front in
+    let short = subst (λ text. IsFront front text) c.answered.ensures is_front in
     let all : Writes (BeginsLines c.args.core.now c.args.steps.now) (g.W.Write.contents c.args.writer.now) (g.W.Write.contents c.put.new.writer) =
-    (out ++ front, begun_text _ _ _ _ first _ _ c.in-Some.step out line front leads split c.in-Some.ensures c.answer_step-answer.ensures short, appends_more _ _ _ out front written more) in
+    (out ++ front, begun_text _ _ _ _ first _ _ c.in-Some.step out line front leads split c.in-Some.ensures c.answer_step-long.ensures short, appends_more _ _ _ out front written more) in
     on_err c.from_residual.result all
