@@ -3,8 +3,9 @@ use Rattle.std.proofs.Common.{◌≡◌, ℕ, Bool, true, false, cond, ◌&&◌,
 use Rattle.std.specs.Prelude.{map}
 use Rattle.std.specs.List.{filter, list_all}
 use Rattle.std.proofs.lemmas.Bool.Decides.{nat_tests}
-use Rattle.iofd_words.specs.After.{changed, map_changes, hwpt_changes, attach_changes, target_changes, detach_changes, settle, without_areas, attached, detached, joined, mapped_area}
+use Rattle.iofd_words.specs.After.{changed, copy_changes, map_changes, hwpt_changes, attach_changes, target_changes, detach_changes, settle, without_areas, attached, detached, joined, mapped_area}
 use Rattle.iofd_words.specs.Attachments.{attachment_of}
+use Rattle.iofd_words.specs.Copies.{placed_as}
 use Rattle.iofd_words.specs.Files.{user_of, device_of}
 use Rattle.iofd_words.specs.Objects.{binding_of, kind_of, settings_under}
 use Rattle.iofd_words.specs.Settings.{DeviceSettings}
@@ -27,6 +28,7 @@ use Rattle.iofd_words.specs.declared.rows.Phase.{Phase}
 use Rattle.iofd_rows.proofs.Bools.{and_true, both_true}
 use Rattle.iofd_rows.proofs.Found.{all_filter, all_weaker}
 use Rattle.iofd_rows.proofs.OwnMemory.{all-with_area}
+use Rattle.iofd_runs.proofs.CopySource.{source_area}
 
 -- ---- one more area
 
@@ -80,6 +82,11 @@ keeps_rise at w (event.Map file request) (reply.Iova iova) none answers rise = m
     mapped : (user : Option UserNo) → starts_rise (map_changes at w file request iova user).areas ≡ true
     mapped None = rise
     mapped (Some user) = rise-with_area (mapped_area at file request iova) w.areas rise
+keeps_rise at w (event.Copy file request) (reply.Iova iova) none answers rise = copied (source_area w file request)
+  where
+    copied : (source : Option Area) → starts_rise (copy_changes w file request iova source).areas ≡ true
+    copied None = rise
+    copied (Some source) = rise-with_area (mapped_area source.memory file (placed_as request) iova) w.areas rise
 keeps_rise at w (event.Unmap file request) (reply.Bytes count) none answers rise = rise-filter _ w.areas rise
 keeps_rise at w (event.Unmap file request) (reply.Pending errno) none answers rise = rise-map _ w.areas ∙ rise
 keeps_rise at w (event.HwptAlloc file request) (reply.Id id) none answers rise = made (settings_under w.settings w.objects file request.device)

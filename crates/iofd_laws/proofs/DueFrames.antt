@@ -2,9 +2,10 @@
 use Rattle.std.proofs.Common.{◌≡◌, ℕ, zero, suc, ◌+◌, ◌<◌, ◌≤◌, Bool, true, false, cond, ◌&&◌, ◌||◌, not, eqb, ltb, is_none, is_some, Option, Some, None, List, [], ◌∷◌, length, refl, ap, sym, ◌∙◌, subst, arith, inl}
 use Rattle.std.specs.List.{count_by, filter, list_all, list_any, range_with_len}
 use Rattle.std.proofs.lemmas.Bool.Decides.{nat_tests}
-use Rattle.iofd_words.specs.After.{attach_changes, attached, changed, hwpt_changes, map_changes, settle, target_changes}
+use Rattle.iofd_words.specs.After.{attach_changes, attached, changed, copy_changes, hwpt_changes, map_changes, settle, target_changes}
 use Rattle.iofd_words.specs.Answers.{Answers, IsHwptFor, IsHwptOf, IsMappedAt, IsTarget}
-use Rattle.iofd_words.specs.Checks.{allow_iovas_checks, attach_checks, bind_checks, bound_attach_checks, checks, close_checks, destroy_checks, detach_checks, device_write_checks, flush_checks, hwpt_alloc_checks, ioas_alloc_checks, lacks_attached_frames, lacks_mapped_frames, lacks_new_tables, map_checks, mapped_start, refusal, tables_to_map, target_checks, unbind_checks, unmap_checks, user_map_checks, user_unmap_checks, user_write_checks}
+use Rattle.iofd_words.specs.Checks.{allow_iovas_checks, attach_checks, bind_checks, bound_attach_checks, checks, close_checks, copy_checks, destroy_checks, detach_checks, device_write_checks, flush_checks, hwpt_alloc_checks, ioas_alloc_checks, lacks_attached_frames, lacks_mapped_frames, lacks_new_tables, map_checks, mapped_start, refusal, tables_to_map, target_checks, unbind_checks, unmap_checks, user_map_checks, user_unmap_checks, user_write_checks}
+use Rattle.iofd_words.specs.Copies.{placed_as}
 use Rattle.iofd_words.specs.Files.{device_of, is_open, user_of}
 use Rattle.iofd_words.specs.FirstTrue.{first_true}
 use Rattle.iofd_words.specs.Frames.{free_count, is_free}
@@ -15,6 +16,7 @@ use Rattle.iofd_words.specs.Span.{span_from}
 use Rattle.iofd_words.specs.Tables.{MovesTables, are_different, is_among, kept_tables, may_go, missing_tables}
 use Rattle.iofd_words.specs.View.{view}
 use Rattle.iofd_words.specs.World.{World}
+use Rattle.iofd_words.specs.declared.event.CopyRequest.{CopyRequest}
 use Rattle.iofd_words.specs.declared.event.Event.{Event}
 use Rattle.iofd_words.specs.declared.event.Event.TheVariants as event
 use Rattle.iofd_words.specs.declared.event.HwptRequest.{HwptRequest}
@@ -29,6 +31,7 @@ use Rattle.iofd_words.specs.declared.refusal.Cause.{Cause}
 use Rattle.iofd_words.specs.declared.refusal.Cause.TheVariants as cause
 use Rattle.iofd_words.specs.declared.reply.Reply.{Reply}
 use Rattle.iofd_words.specs.declared.reply.Reply.TheVariants as reply
+use Rattle.iofd_words.specs.declared.rows.Area.{Area}
 use Rattle.iofd_words.specs.declared.rows.Object.{Object}
 use Rattle.iofd_words.specs.declared.rows.ObjectKind.{ObjectKind}
 use Rattle.iofd_words.specs.declared.rows.ObjectKind.TheVariants as kind
@@ -38,8 +41,10 @@ use Rattle.iofd_rows.proofs.Each.{IsIn, in_filter, of_all, of_each}
 use Rattle.iofd_rows.proofs.Found.{all_filter}
 use Rattle.iofd_rows.proofs.ListTests.{filter_all}
 use Rattle.iofd_rows.proofs.PageCounts.{count-cons}
+use Rattle.iofd_runs.proofs.CopySource.{source_area}
 use Rattle.iofd_runs.proofs.KeepsTabled.{HasTables}
 use Rattle.iofd_runs.proofs.MissingTables.{is_owned}
+use Rattle.iofd_runs.proofs.Runs.{test_at}
 use Rattle.iofd_runs.proofs.StillTabled.{none_given}
 use Rattle.iofd_laws.proofs.OwnTables.{all_none, none_all, none_goes}
 use Rattle.iofd_laws.proofs.SomeRecord.{attached_owned, attached_tables, made_owned, made_tables, mapped_tables}
@@ -67,23 +72,26 @@ frames_row ((name, test) ∷ rows) is = by_test test is (frames_row rows)
         either true rest = rest
         either false rest = rest
 
--- the first row has another cause, and is true
-abbrev refuses_first : List (Cause × Bool) → Bool
-refuses_first [] = false
-refuses_first (row ∷ rows) = not (is_frames row.0) && row.1
+-- the row at this place and those before it have other causes
+abbrev are_other : List (Cause × Bool) → ℕ → Bool
+are_other [] place = true
+are_other (row ∷ rows) zero = not (is_frames row.0)
+are_other (row ∷ rows) (suc place) = not (is_frames row.0) && are_other rows place
 
--- then it would have refused
-first_passed : (rows : List (Cause × Bool)) → first_true rows ≡ Some cause.Frames → refuses_first rows ≡ false
-first_passed [] is = refl
-first_passed ((name, test) ∷ rows) is = by_test test is
+-- so it didn't refuse
+row_passed : (rows : List (Cause × Bool)) (place : ℕ) → first_true rows ≡ Some cause.Frames → are_other rows place ≡ true → test_at rows place ≡ false
+row_passed [] place is other = refl
+row_passed (row ∷ rows) place is other = by_test (λ at found others. row_passed rows at found others) row.0 row.1 place is other
   where
-    by_test : (b : Bool) → cond b (Some name) (first_true rows) ≡ Some cause.Frames → (not (is_frames name) && b) ≡ false
-    by_test true found = let same : name ≡ cause.Frames = cc in rw same refl
-    by_test false found = either (not (is_frames name))
-      where
-        either : (a : Bool) → (a && false) ≡ false
-        either true = refl
-        either false = refl
+    refused : (name : Cause) → name ≡ cause.Frames → not (is_frames name) ≡ true → ⊥
+    refused name same other = let never = rw same at other in cc
+
+    by_test : ((at : ℕ) → first_true rows ≡ Some cause.Frames → are_other rows at ≡ true → test_at rows at ≡ false) → (name : Cause) (test : Bool) (at : ℕ)
+        → cond test (Some name) (first_true rows) ≡ Some cause.Frames → are_other ((name, test) ∷ rows) at ≡ true → test_at ((name, test) ∷ rows) at ≡ false
+    by_test later name true zero found other = let same : name ≡ cause.Frames = cc in absurd (refused name same other)
+    by_test later name true (suc at) found other = let same : name ≡ cause.Frames = cc in absurd (refused name same (and_true (not (is_frames name)) (are_other rows at) other).0)
+    by_test later name false zero found other = refl
+    by_test later name false (suc at) found other = later at found (and_true (not (is_frames name)) (are_other rows at) other).1
 
 -- ---- no more frames than there are
 
@@ -182,6 +190,18 @@ module _ (w : World) where
 above : (a b : ℕ) → ltb a b ≡ true → a < b
 above a b is = search (is, arith, nat_tests)
 
+-- an area at a fixed address, for whose tables frames lack
+fixed_more : (w : World) (file : FileNo) (request : MapRequest) (iova : Iova) → lacks_mapped_frames (view w) file request ≡ true → is_fixed request.flags ≡ true → iova ≡ request.iova → count w < tables_to_map (view w) file request.ioas (span_from iova.0 request.length)
+fixed_more w file request iova lacks fixed at_iova =
+    above _ _ (sym (ap (λ (o : Option ℕ). elim o [ Some at ↦ ltb (count w) (tables_to_map (view w) file request.ioas (span_from at request.length)) | None ↦ false ]) start) ∙ lacks)
+  where
+    start : mapped_start (view w) file request ≡ Some iova.0
+    start = same (is_fixed request.flags) _ fixed
+      where
+        same : (b : Bool) (o : Option ℕ) → b ≡ true → cond b (Some request.iova.0) o ≡ Some iova.0
+        same true o is = ap (λ (i : Iova). Some i.0) (sym at_iova)
+        same false o is = cc
+
 -- ---- each event
 
 module _ {A : Type 0} (at : ℕ) (w : World) (has : HasTables w) (taken given : List FrameNo) where
@@ -193,16 +213,6 @@ module _ {A : Type 0} (at : ℕ) (w : World) (has : HasTables w) (taken given : 
       lacks : lacks_mapped_frames (view w) file request ≡ true
       lacks = sym (or_none (lacks_mapped_frames (view w) file request)) ∙ frames_row (map_checks (view w) file request) refused
 
-      start : mapped_start (view w) file request ≡ Some iova.0
-      start = same (is_fixed request.flags) _ fixed
-        where
-          same : (b : Bool) (o : Option ℕ) → b ≡ true → cond b (Some request.iova.0) o ≡ Some iova.0
-          same true o is = ap (λ (i : Iova). Some i.0) (sym at_iova)
-          same false o is = cc
-
-      more : ltb (count w) (tables_to_map (view w) file request.ioas (span_from iova.0 request.length)) ≡ true
-      more = sym (ap (λ (o : Option ℕ). elim o [ Some at ↦ ltb (count w) (tables_to_map (view w) file request.ioas (span_from at request.length)) | None ↦ false ]) start) ∙ lacks
-
       by_user : (user : Option UserNo) → user_of w.settings file ≡ user → MovesTables {A = A} w (map_changes at w file request iova user) (event.Map file request) (reply.Iova iova) taken given → ⊥
       by_user None is moves = never (sym (ap (λ (o : Option UserNo). is_some o) is) ∙ is_true)
         where
@@ -211,10 +221,27 @@ module _ {A : Type 0} (at : ℕ) (w : World) (has : HasTables w) (taken given : 
           not_not false is = cc
 
           is_true : is_some (user_of w.settings file) ≡ true
-          is_true = (and_true (is_some (user_of w.settings file)) (not (list_any (λ (f : FileNo). eqb f.0 file.0) w.closed)) (not_not (is_open w.settings w.closed file) (first_passed (map_checks (view w) file request) refused))).0
+          is_true = (and_true (is_some (user_of w.settings file)) (not (list_any (λ (f : FileNo). eqb f.0 file.0) w.closed)) (not_not (is_open w.settings w.closed file) (row_passed (map_checks (view w) file request) 0 refused refl))).0
       by_user (Some user) is moves =
           overdrawn w {A = A} (map_changes at w file request iova (Some user)) (event.Map file request) (reply.Iova iova) taken given moves refl has.tables.owned (λ table. refl)
-          (subst (λ n. count w < n) (sym (mapped_tables w has at file request iova)) (above _ _ more))
+          (subst (λ n. count w < n) (sym (mapped_tables w has at file request iova)) (fixed_more w file request iova lacks fixed at_iova))
+
+  copy_due : (file : FileNo) (request : CopyRequest) (iova : Iova) → first_true (copy_checks (view w) file request) ≡ Some cause.Frames → is_fixed request.flags ≡ true → iova ≡ request.dst_iova
+      → MovesTables {A = A} w (changed {A = A} at w (event.Copy file request) (reply.Iova iova)) (event.Copy file request) (reply.Iova iova) taken given → ⊥
+  unfolding changed settle copy_checks
+  copy_due file request iova refused fixed at_iova moves = by_source (source_area w file request) refl moves
+    where
+      lacks : lacks_mapped_frames (view w) file (placed_as request) ≡ true
+      lacks = sym (or_none (lacks_mapped_frames (view w) file (placed_as request))) ∙ frames_row (copy_checks (view w) file request) refused
+
+      found : is_none (source_area w file request) ≡ false
+      found = row_passed (copy_checks (view w) file request) 7 refused refl
+
+      by_source : (source : Option Area) → source_area w file request ≡ source → MovesTables {A = A} w (copy_changes w file request iova source) (event.Copy file request) (reply.Iova iova) taken given → ⊥
+      by_source None is moves = never (sym found ∙ ap (λ (o : Option Area). is_none o) is)
+      by_source (Some source) is moves =
+          overdrawn w {A = A} (copy_changes w file request iova (Some source)) (event.Copy file request) (reply.Iova iova) taken given moves refl has.tables.owned (λ table. refl)
+          (subst (λ n. count w < n) (sym (mapped_tables w has source.memory file (placed_as request) iova)) (fixed_more w file (placed_as request) iova lacks fixed at_iova))
 
   hwpt_due : (file : FileNo) (request : HwptRequest) (id : ObjId) → first_true (hwpt_alloc_checks (view w) file request) ≡ Some cause.Frames → Answers {A = A} w (event.HwptAlloc file request) (reply.Id id)
       → MovesTables {A = A} w (changed {A = A} at w (event.HwptAlloc file request) (reply.Id id)) (event.HwptAlloc file request) (reply.Id id) taken given → ⊥
@@ -269,10 +296,16 @@ module _ {A : Type 0} (at : ℕ) (w : World) (has : HasTables w) (taken given : 
       by_flag : (b : Bool) → is_fixed request.flags ≡ b → not b ≡ false → IsMappedAt w file request b iova → ⊥
       by_flag true is fixed at_iova = map_due file request iova refused is at_iova moves
       by_flag false is fixed at_iova = never (sym fixed)
+  due (event.Copy file request) (reply.Iova iova) refused fixed answers moves = by_flag (is_fixed request.flags) refl fixed answers
+    where
+      by_flag : (b : Bool) → is_fixed request.flags ≡ b → not b ≡ false → IsMappedAt w file (placed_as request) b iova → ⊥
+      by_flag true is fixed at_iova = copy_due file request iova refused is at_iova moves
+      by_flag false is fixed at_iova = never (sym fixed)
   due (event.HwptAlloc file request) (reply.Id id) refused fixed answers moves = hwpt_due file request id refused answers moves
   due (event.Attach device pt_id) (reply.Id id) refused fixed answers moves = attach_due device pt_id id refused answers moves
   due (event.UserMap user va) (reply.Frame frame) refused fixed answers moves = user_due w user va frame refused answers
   due (event.Map file request) answer refused fixed answers moves = absurd answers
+  due (event.Copy file request) answer refused fixed answers moves = absurd answers
   due (event.HwptAlloc file request) answer refused fixed answers moves = absurd answers
   due (event.Attach device pt_id) answer refused fixed answers moves = absurd answers
   due (event.UserMap user va) answer refused fixed answers moves = absurd answers

@@ -4,11 +4,12 @@ use Rattle.std.specs.Prelude.{is_none}
 use Rattle.std.specs.List.{filter, list_all, list_any}
 use Rattle.std.proofs.lemmas.Bool.{eqb-true, true≢false}
 use Rattle.std.proofs.lemmas.Bool.Decides.{nat_tests}
-use Rattle.iofd_words.specs.After.{changed, map_changes, hwpt_changes, attach_changes, target_changes, detach_changes, settle, without_areas, attached, detached, joined, goes_with, mapped_area, with_hwpt}
+use Rattle.iofd_words.specs.After.{changed, copy_changes, map_changes, hwpt_changes, attach_changes, target_changes, detach_changes, settle, without_areas, attached, detached, joined, goes_with, mapped_area, with_hwpt}
 use Rattle.iofd_words.specs.Allowed.{AllowedRanges, with_allowed, without_allowed}
 use Rattle.iofd_words.specs.Areas.{all_paid, owed_by, paid, is_touched, leaving, with_area, with_phase}
 use Rattle.iofd_words.specs.Attachments.{attachment_of, with_attachment, without_attachment, devices_of}
 use Rattle.iofd_words.specs.Checks.{detach_checks, flush_checks, refusal}
+use Rattle.iofd_words.specs.Copies.{placed_as}
 use Rattle.iofd_words.specs.DeviceSet.{without_device}
 use Rattle.iofd_words.specs.Files.{user_of, device_of}
 use Rattle.iofd_laws.specs.Laws.{FileRows, IsOfAnother, file_of_device, rows_of}
@@ -40,6 +41,7 @@ use Rattle.iofd_words.specs.declared.width.Width.{Width}
 use Rattle.iofd_rows.proofs.Bools.{and_true, not_false}
 use Rattle.iofd_laws.proofs.Bound.{AreBound, is_bound_to, is_of_file}
 use Rattle.iofd_rows.proofs.Found.{found_passes}
+use Rattle.iofd_runs.proofs.CopySource.{source_area}
 use Rattle.iofd_runs.proofs.NotRefused.{detach_passed, flush_passed, passes}
 
 -- ---- filters
@@ -229,6 +231,12 @@ keeps_others at w (event.Map f request) (reply.Iova iova) file b none another = 
     mapped : (user : Option UserNo) → rows_of file (map_changes at w f request iova user) ≡ rows_of file w
     mapped None = refl
     mapped (Some user) = same_rows refl (areas-with_area (mapped_area at f request iova) w.areas file (other_file f file (another f refl))) refl refl refl
+keeps_others at w (event.Copy f request) (reply.Iova iova) file b none another = copied (source_area w f request)
+  where
+    copied : (source : Option Area) → rows_of file (copy_changes w f request iova source) ≡ rows_of file w
+    copied None = refl
+    copied (Some source) =
+        same_rows refl (areas-with_area (mapped_area source.memory f (placed_as request) iova) w.areas file (other_file f file (another f refl))) refl refl refl
 keeps_others at w (event.Unmap f request) (reply.Bytes count) file b none another =
     same_rows refl (filter_filter _ _ w.areas (λ a same. not_false _ (untouched f file a.file.0 _ _ (another f refl) same))) refl refl refl
 keeps_others at w (event.Unmap f request) (reply.Pending errno) file b none another =

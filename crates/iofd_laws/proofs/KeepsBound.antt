@@ -2,7 +2,7 @@
 use Rattle.std.proofs.Common.{◌≡◌, ℕ, Bool, true, false, ◌&&◌, not, eqb, Option, Some, None, List, refl, ap, ◌∙◌, is_some, arith}
 use Rattle.std.specs.List.{filter, list_any}
 use Rattle.std.proofs.lemmas.Bool.Decides.{nat_tests}
-use Rattle.iofd_words.specs.After.{changed, map_changes, hwpt_changes, attach_changes, target_changes, detach_changes, settle, without_areas, attached, detached, joined, goes_with, made_hwpt, with_hwpt}
+use Rattle.iofd_words.specs.After.{changed, copy_changes, map_changes, hwpt_changes, attach_changes, target_changes, detach_changes, settle, without_areas, attached, detached, joined, goes_with, made_hwpt, with_hwpt}
 use Rattle.iofd_words.specs.Answers.{Answers}
 use Rattle.iofd_words.specs.Attachments.{attachment_of, has_device_on, with_attachment, without_attachment}
 use Rattle.iofd_words.specs.Checks.{bind_checks, close_checks, destroy_checks, is_device_object, refusal}
@@ -22,6 +22,7 @@ use Rattle.iofd_words.specs.declared.numbers.ObjId.{ObjId}
 use Rattle.iofd_words.specs.declared.numbers.UserNo.{UserNo}
 use Rattle.iofd_words.specs.declared.reply.Reply.{Reply}
 use Rattle.iofd_words.specs.declared.reply.Reply.TheVariants as reply
+use Rattle.iofd_words.specs.declared.rows.Area.{Area}
 use Rattle.iofd_words.specs.declared.rows.Attachment.{Attachment}
 use Rattle.iofd_words.specs.declared.rows.Object.{Object}
 use Rattle.iofd_words.specs.declared.rows.ObjectKind.{ObjectKind}
@@ -30,6 +31,7 @@ use Rattle.iofd_words.specs.declared.width.Width.{Width}
 use Rattle.iofd_laws.proofs.Bound.{AreBound, StayBound, attachments_bound, is_bound_to, is_of_file, attachments_stay, attachments-unbound, attachments-with_attachment, debts_follow, stays-with_object, stays-bind, stays-filter, no_device_either, file_without_devices, id_without_device}
 use Rattle.iofd_rows.proofs.Bools.{not_true}
 use Rattle.iofd_rows.proofs.Found.{all_filter, none_both}
+use Rattle.iofd_runs.proofs.CopySource.{source_area}
 use Rattle.iofd_runs.proofs.KeepsDebts.{IsSound, keeps_sound, tabled_sound}
 use Rattle.iofd_runs.proofs.NotRefused.{bind_passed, close_passed, destroy_passed, unbind_passed}
 
@@ -104,6 +106,11 @@ keeps_attachments at w (event.Map file request) (reply.Iova iova) none tidy = ma
     mapped : (user : Option UserNo) → AttachmentsBound (map_changes at w file request iova user)
     mapped None = tidy.attachments
     mapped (Some user) = tidy.attachments
+keeps_attachments at w (event.Copy file request) (reply.Iova iova) none tidy = copied (source_area w file request)
+  where
+    copied : (source : Option Area) → AttachmentsBound (copy_changes w file request iova source)
+    copied None = tidy.attachments
+    copied (Some source) = tidy.attachments
 keeps_attachments at w (event.Unmap file request) (reply.Bytes count) none tidy = tidy.attachments
 keeps_attachments at w (event.Unmap file request) (reply.Pending errno) none tidy = tidy.attachments
 keeps_attachments at w (event.HwptAlloc file request) (reply.Id id) none tidy = made (settings_under w.settings w.objects file request.device)

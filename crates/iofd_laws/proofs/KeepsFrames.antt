@@ -1,7 +1,7 @@
 -- A page that stays pinned keeps its frame, and one that becomes pinned takes the frame that its user has there.
 use Rattle.std.proofs.Common.{ℕ, Bool, true, false, Option, Some, None, refl, sym, subst}
 use Rattle.std.specs.List.{list_any}
-use Rattle.iofd_words.specs.After.{attach_changes, changed, detach_changes, hwpt_changes, joined, map_changes, settle, target_changes}
+use Rattle.iofd_words.specs.After.{attach_changes, changed, copy_changes, detach_changes, hwpt_changes, joined, map_changes, settle, target_changes}
 use Rattle.iofd_words.specs.Attachments.{attachment_of}
 use Rattle.iofd_words.specs.Checks.{refusal}
 use Rattle.iofd_words.specs.Files.{device_of, user_of}
@@ -19,12 +19,14 @@ use Rattle.iofd_words.specs.declared.record.Record.{Record}
 use Rattle.iofd_words.specs.declared.refusal.Cause.{Cause}
 use Rattle.iofd_words.specs.declared.reply.Reply.{Reply}
 use Rattle.iofd_words.specs.declared.reply.Reply.TheVariants as reply
+use Rattle.iofd_words.specs.declared.rows.Area.{Area}
 use Rattle.iofd_words.specs.declared.rows.Attachment.{Attachment}
 use Rattle.iofd_words.specs.declared.rows.Object.{Object}
 use Rattle.iofd_words.specs.declared.rows.ObjectKind.{ObjectKind}
 use Rattle.iofd_words.specs.declared.rows.ObjectKind.TheVariants as kind
 use Rattle.iofd_laws.specs.Laws.{PinMoves, pin_moves}
 use Rattle.iofd_rows.proofs.PinsFollow.{settled_at, settled_frame}
+use Rattle.iofd_runs.proofs.CopySource.{source_area}
 
 same : (old now : Option FrameNo) → PinMoves old old now
 same None now = tt
@@ -61,6 +63,11 @@ module _ (w : World) (page : ObjectPage) where
       mapped : (user : Option UserNo) → pin_moves page w (map_changes at w file request iova user)
       mapped None = stays
       mapped (Some user) = settle_moves _
+  changed_moves at (event.Copy file request) (reply.Iova iova) = copied (source_area w file request)
+    where
+      copied : (source : Option Area) → pin_moves page w (copy_changes w file request iova source)
+      copied None = stays
+      copied (Some source) = settle_moves _
   changed_moves at (event.Unmap file request) (reply.Bytes count) = settle_moves _
   changed_moves at (event.Unmap file request) (reply.Pending errno) = same (pinned_frame w.pins page) _
   changed_moves at (event.HwptAlloc file request) (reply.Id id) = made (settings_under w.settings w.objects file request.device)

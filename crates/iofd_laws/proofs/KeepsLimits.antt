@@ -1,24 +1,26 @@
 -- No event gives a user more pinned pages than its limit allows.
-use Rattle.std.proofs.Common.{◌≡◌, ℕ, ◌+◌, ◌/◌, ◌≤◌, Bool, true, false, cond, ◌&&◌, ◌||◌, not, eqb, ltb, is_none, is_some, Option, Some, None, List, [], ◌∷◌, ◌++◌, length, refl, ap, sym, ◌∙◌, arith}
+use Rattle.std.proofs.Common.{◌≡◌, ℕ, ◌+◌, ◌/◌, ◌≤◌, Bool, true, false, cond, ◌&&◌, ◌||◌, not, eqb, ltb, is_none, is_some, Option, Some, None, List, [], ◌∷◌, ◌++◌, length, refl, ap, sym, subst, ◌∙◌, arith}
 use Rattle.std.specs.List.{count_by, filter, flat_map, list_any}
 use Rattle.std.proofs.lemmas.Bool.Decides.{nat_tests}
 use Rattle.std.proofs.lemmas.Bool.{eqb-true}
 use Rattle.std.proofs.lemmas.List.FromFn.{length-map-range_with_len}
 use Rattle.std.proofs.lemmas.List.Sums.{count_by-le-length, length-filter}
-use Rattle.iofd_words.specs.After.{changed, map_changes, hwpt_changes, attach_changes, target_changes, detach_changes, settle, without_areas, attached, detached, joined, goes_with, mapped_area, memory_object, with_hwpt}
+use Rattle.iofd_words.specs.After.{changed, copy_changes, map_changes, hwpt_changes, attach_changes, target_changes, detach_changes, settle, without_areas, attached, detached, joined, goes_with, mapped_area, memory_object, with_hwpt}
 use Rattle.iofd_words.specs.Allowed.{AllowedRanges}
 use Rattle.iofd_words.specs.Answers.{Answers}
 use Rattle.iofd_words.specs.Areas.{all_paid, areas_of, is_of, is_touched, paid, with_area}
 use Rattle.iofd_words.specs.Attachments.{attachment_of, with_attachment, without_attachment}
-use Rattle.iofd_words.specs.Checks.{map_checks, newly_pinned, passes_limit, passes_limit_attached, refusal}
+use Rattle.iofd_words.specs.Checks.{copy_checks, map_checks, newly_pinned, passes_limit, passes_limit_attached, refusal}
+use Rattle.iofd_words.specs.Copies.{placed_as}
 use Rattle.iofd_words.specs.Files.{device_of, limit_of, user_of}
 use Rattle.iofd_words.specs.FirstTrue.{first_true}
 use Rattle.iofd_words.specs.Objects.{automatic_hwpt, binding_of, has_hwpt, is_object, kind_of, settings_under, without_object}
-use Rattle.iofd_words.specs.Pins.{ObjectPage, is_page, is_translated, pages_of, pinned_frame, settled}
+use Rattle.iofd_words.specs.Pins.{ObjectPage, is_page, is_translated, pages_of, pinned_frame, settled, unpinned_pages}
 use Rattle.iofd_words.specs.Settings.{DeviceSettings, Settings}
 use Rattle.iofd_words.specs.Tables.{with_tables}
 use Rattle.iofd_words.specs.View.{View, view}
 use Rattle.iofd_words.specs.World.{World, opening}
+use Rattle.iofd_words.specs.declared.event.CopyRequest.{CopyRequest}
 use Rattle.iofd_words.specs.declared.event.Event.{Event}
 use Rattle.iofd_words.specs.declared.event.Event.TheVariants as event
 use Rattle.iofd_words.specs.declared.event.MapRequest.{MapRequest}
@@ -48,10 +50,13 @@ use Rattle.iofd_rows.proofs.PageLists.{in_pages, page_itself}
 use Rattle.iofd_rows.proofs.PageTables.{hwpt-filter}
 use Rattle.iofd_rows.proofs.PinsFollow.{pin_is_of, settled_at, settled_frame, settled_only}
 use Rattle.iofd_runs.specs.Owned.{is_of_files_user}
-use Rattle.iofd_runs.proofs.AttachedPages.{IsNew, had_before, none_new, over_number, over_space, unpinned, with_table}
+use Rattle.iofd_runs.proofs.AttachedPages.{IsNew, had_before, never_pinned, none_new, over_number, over_space, unpinned, with_table}
+use Rattle.iofd_runs.proofs.CopiedPages.{IsAdded, added_page, pages_copied}
+use Rattle.iofd_runs.proofs.CopySource.{source_area, source_is}
 use Rattle.iofd_runs.proofs.KeepsOwned.{OwnedPins, keeps_owned_pins, later_owned, opening_owned, owner, tabled_owned}
 use Rattle.iofd_runs.proofs.KeepsPins.{AlikeAreas, gone_within, moved_new, none_over, pages_in}
-use Rattle.iofd_runs.proofs.NotRefused.{attach_passed, hwpt_passed, map_passed}
+use Rattle.iofd_runs.proofs.NotRefused.{attach_passed, copy_passed, hwpt_passed, map_passed}
+use Rattle.iofd_runs.proofs.StillTabled.{in_kept}
 
 -- a memory object of the user
 abbrev of_user : UserNo → MemoryObject → Bool
@@ -138,6 +143,59 @@ gone_held w goes left attachments allowed closed user fewer =
     let fewer_objects = page_count_filter (has_pin w) (of_user user) stays w.memory in
     rw (held_settle w new user) (omega (arith, held, fewer_objects))
 
+-- ---- pages come, of memory objects that stay and are those of the file's user
+
+module _ (w new : World) (same : new.memory ≡ w.memory) (file : FileNo) (joins : MemoryObject → Bool) (user : UserNo) (limit : ℕ)
+    (over : (m : MemoryObject) (page : ObjectPage) → IsIn (pages_of m) page → comes w new page ≡ true → joins m ≡ true)
+    (free : (page : ObjectPage) → comes w new page ≡ true → is_none (pinned_frame w.pins page) ≡ true)
+    (owned : (m : MemoryObject) → IsIn w.memory m → joins m ≡ true → is_of_files_user w.settings file m ≡ true) where
+  abbrev is_unpinned : ObjectPage → Bool
+  is_unpinned page = is_none (pinned_frame w.pins page)
+
+  abbrev joining : List ObjectPage
+  joining = unpinned_pages (pinned_frame w.pins) (filter joins w.memory)
+
+  -- so many come as pages of those objects aren't pinned yet
+  comes_count : page_count (comes w new) (of_user user) w.memory ≤ length joining
+  comes_count =
+      let bound = page_count_bound (comes w new) is_unpinned (of_user user) joins w.memory (λ m among. by_tests m (of_user user m) (joins m) refl) in
+      let counted : length joining ≡ page_count is_unpinned joins w.memory = length-filter is_unpinned (flat_map pages_of (filter joins w.memory)) in
+      omega (arith, bound, counted)
+    where
+      by_tests : (m : MemoryObject) (a b : Bool) → joins m ≡ b → cond a (count_by (comes w new) (pages_of m)) 0 ≤ cond b (count_by is_unpinned (pages_of m)) 0
+      by_tests m false b is = omega arith
+      by_tests m true true is = count_weaker (comes w new) is_unpinned (pages_of m) (λ page within now. free page now)
+      by_tests m true false is = let none = count_none (comes w new) (pages_of m) (λ page within. false_else (comes w new page) (λ now. clash _ is (over m page within now))) in omega (arith, none)
+
+  -- and none where they aren't the user's
+  none_of_others : ((m : MemoryObject) → of_user user m ≡ true → is_of_files_user w.settings file m ≡ true → ⊥) → page_count (comes w new) (of_user user) w.memory ≡ 0
+  none_of_others others =
+      page_count_none (comes w new) (of_user user) w.memory (λ m among its page within. false_else (comes w new page) (λ now. others m its (owned m among (over m page within now))))
+
+  come_held : limit_of w.settings user ≡ Some limit → passes_limit (view w) (user_of w.settings file) (length joining) ≡ false → held_in w user ≤ limit → held_in (settle w new) user ≤ limit
+  come_held has passed before =
+      rw (held_settle w new user) (subst (λ (memory : List MemoryObject). page_count (has_pin (settle w new)) (of_user user) memory ≤ limit) (sym same) (by_owner (user_of w.settings file) refl))
+    where
+      held : page_count (has_pin (settle w new)) (of_user user) w.memory ≤ held_in w user + page_count (comes w new) (of_user user) w.memory
+      held = settle_held w new (of_user user) w.memory
+
+      by_owner : (o : Option UserNo) → user_of w.settings file ≡ o → page_count (has_pin (settle w new)) (of_user user) w.memory ≤ limit
+      by_owner None is =
+          let none = none_of_others (λ m its own. let never : false ≡ true = sym (ap (λ (o : Option UserNo). elim o as (λ _. Bool) [ Some u ↦ eqb u.0 m.user.0 | None ↦ false ]) is) ∙ own in cc) in
+          omega (arith, held, none, before)
+      by_owner (Some own) is = by_test (eqb own.0 user.0) refl
+        where
+          joined : (a b c : ℕ) → eqb a b ≡ true → eqb c b ≡ true → eqb c a ≡ true
+          joined a b c first second = grind (arith, nat_tests)
+
+          by_test : (b : Bool) → eqb own.0 user.0 ≡ b → page_count (has_pin (settle w new)) (of_user user) w.memory ≤ limit
+          by_test true alike =
+              let more = within_limit (view w) (user_of w.settings file) user (length joining) limit (is ∙ ap (λ (u : UserNo). Some u) (same_user own user alike)) has passed in
+              omega (arith, held, comes_count, more)
+          by_test false other =
+              let none = none_of_others (λ m its of_file. clash _ other (joined user.0 m.user.0 own.0 (flipped m.user.0 user.0 its) (sym (ap (λ (o : Option UserNo). elim o as (λ _. Bool) [ Some u ↦ eqb u.0 m.user.0 | None ↦ false ]) is) ∙ of_file))) in
+              omega (arith, held, none, before)
+
 -- ---- a MAP
 
 abbrev mapped_world : ℕ → World → FileNo → MapRequest → Iova → UserNo → World
@@ -221,6 +279,45 @@ mapped_held at w file request iova user other limit p none is has before =
     by_user true same = let all = by_table (has_hwpt w.objects file request.ioas) refl (same_user user other same) in omega (arith, all, old)
     by_user false same = omega (arith, old, before)
 
+-- ---- a COPY
+
+abbrev copied_world : World → FileNo → CopyRequest → Iova → Area → World
+copied_world w file request iova source = record w { areas = with_area (mapped_area source.memory file (placed_as request) iova) w.areas }
+
+-- what comes is of the source's memory object, and by a page table of the target
+copied_page : (w : World) (file : FileNo) (request : CopyRequest) (iova : Iova) (source : Area) (page : ObjectPage) → comes w (copied_world w file request iova source) page ≡ true → IsAdded w (mapped_area source.memory file (placed_as request) iova) page
+copied_page w file request iova source page is =
+    let parts = and_true (list_any (is_page page) (pages_in (copied_world w file request iova source))) (not (list_any (is_page page) (pages_in w))) is in
+    added_page w (mapped_area source.memory file (placed_as request) iova) page parts.0 (not_true _ parts.1)
+
+copied_held : (at : ℕ) (w : World) (file : FileNo) (request : CopyRequest) (iova : Iova) (source : Area) (user : UserNo) (limit : ℕ) → OwnedPins at w → first_true (copy_checks (view w) file request) ≡ None → source_area w file request ≡ Some source → limit_of w.settings user ≡ Some limit
+    → held_in w user ≤ limit → held_in (settle w (copied_world w file request iova source)) user ≤ limit
+copied_held at w file request iova source user limit p none found has before = by_table (has_hwpt w.objects file request.dst_ioas) refl
+  where
+    new : World
+    new = copied_world w file request iova source
+
+    is_copied : MemoryObject → Bool
+    is_copied m = eqb m.number source.memory
+
+    over : (m : MemoryObject) (page : ObjectPage) → IsIn (pages_of m) page → comes w new page ≡ true → is_copied m ≡ true
+    over m page within is = let added = copied_page w file request iova source page is in ap (λ (n : ℕ). eqb n source.memory) (sym (number_of_page m page within)) ∙ flipped source.memory page.memory added.of_memory
+
+    owned : (m : MemoryObject) → IsIn w.memory m → is_copied m ≡ true → is_of_files_user w.settings file m ≡ true
+    owned m among is =
+        let stands = source_is w file request source found in
+        owner w file request.src_ioas m p.areas among
+        (of_any (λ (a : Area). eqb a.memory m.number) (areas_of w.areas file request.src_ioas) source (in_kept (is_of file request.src_ioas) w.areas source stands.within stands.of_space) (flipped m.number source.memory is))
+
+    by_table : (b : Bool) → has_hwpt w.objects file request.dst_ioas ≡ b → held_in (settle w new) user ≤ limit
+    by_table true table =
+        let passed = and_rest (has_hwpt w.objects file request.dst_ioas) _ table (copy_passed (view w) file request none).within_limit in
+        come_held w new refl file is_copied user limit over (λ page is. never_pinned at w page p.pins (copied_page w file request iova source page is).untranslated) owned has
+        (ap (λ (pages : List ObjectPage). passes_limit (view w) (user_of w.settings file) (length pages)) (sym (pages_copied w file request source found)) ∙ passed) before
+    by_table false table =
+        let held = none_comes w new (of_user user) w.memory (λ page is. clash _ table (copied_page w file request iova source page is).has_table) in
+        rw (held_settle w new user) (omega (arith, held, before))
+
 -- ---- page tables come and go
 
 abbrev moved_world : World → List Area → List Object → List Attachment → World
@@ -255,9 +352,6 @@ module _ (at : ℕ) (w : World) (areas : List Area) (alike : AlikeAreas w areas)
   abbrev in_space : MemoryObject → Bool
   in_space m = list_any (λ (a : Area). eqb a.memory m.number) (areas_of w.areas file ioas)
 
-  abbrev is_unpinned : ObjectPage → Bool
-  is_unpinned page = is_none (pinned_frame w.pins page)
-
   new_here : (page : ObjectPage) → comes w first_table page ≡ true → IsNew w tables page
   new_here page is = comes_new w areas tables attachments page alike is
 
@@ -265,45 +359,9 @@ module _ (at : ℕ) (w : World) (areas : List Area) (alike : AlikeAreas w areas)
   comes_over m page within is =
       over_number w.areas file ioas page m.number (number_of_page m page within) (over_space w file ioas id width automatic page (new_here page is))
 
-  -- so many pages come as its pages that aren't pinned yet
-  comes_count : page_count (comes w first_table) (of_user user) w.memory ≤ length (newly_pinned (view w) file ioas)
-  comes_count =
-      let bound = page_count_bound (comes w first_table) is_unpinned (of_user user) in_space w.memory (λ m among. by_tests m (of_user user m) (in_space m) refl) in
-      let counted : length (newly_pinned (view w) file ioas) ≡ page_count is_unpinned in_space w.memory = length-filter is_unpinned (flat_map pages_of (filter in_space w.memory)) in
-      omega (arith, bound, counted)
-    where
-      by_tests : (m : MemoryObject) (a b : Bool) → in_space m ≡ b → cond a (count_by (comes w first_table) (pages_of m)) 0 ≤ cond b (count_by is_unpinned (pages_of m)) 0
-      by_tests m false b is = omega arith
-      by_tests m true true is = count_weaker (comes w first_table) is_unpinned (pages_of m) (λ page within new. unpinned at w tables page p.pins (new_here page new))
-      by_tests m true false is = let none = count_none (comes w first_table) (pages_of m) (λ page within. false_else (comes w first_table page) (λ new. clash _ is (comes_over m page within new))) in omega (arith, none)
-
-  -- and none where they aren't the user's
-  none_of_others : ((m : MemoryObject) → of_user user m ≡ true → is_of_files_user w.settings file m ≡ true → ⊥) → page_count (comes w first_table) (of_user user) w.memory ≡ 0
-  none_of_others others =
-      page_count_none (comes w first_table) (of_user user) w.memory (λ m among its page within. false_else (comes w first_table page) (λ new. others m its (owner w file ioas m p.areas among (comes_over m page within new))))
-
   first_held : limit_of w.settings user ≡ Some limit → passes_limit (view w) (user_of w.settings file) (length (newly_pinned (view w) file ioas)) ≡ false → held_in w user ≤ limit → held_in (settle w first_table) user ≤ limit
-  first_held has passed before = rw (held_settle w first_table user) (by_owner (user_of w.settings file) refl)
-    where
-      held : page_count (has_pin (settle w first_table)) (of_user user) w.memory ≤ held_in w user + page_count (comes w first_table) (of_user user) w.memory
-      held = settle_held w first_table (of_user user) w.memory
-
-      by_owner : (o : Option UserNo) → user_of w.settings file ≡ o → page_count (has_pin (settle w first_table)) (of_user user) w.memory ≤ limit
-      by_owner None is =
-          let none = none_of_others (λ m its own. let never : false ≡ true = sym (ap (λ (o : Option UserNo). elim o as (λ _. Bool) [ Some u ↦ eqb u.0 m.user.0 | None ↦ false ]) is) ∙ own in cc) in
-          omega (arith, held, none, before)
-      by_owner (Some own) is = by_test (eqb own.0 user.0) refl
-        where
-          joined : (a b c : ℕ) → eqb a b ≡ true → eqb c b ≡ true → eqb c a ≡ true
-          joined a b c first second = grind (arith, nat_tests)
-
-          by_test : (b : Bool) → eqb own.0 user.0 ≡ b → page_count (has_pin (settle w first_table)) (of_user user) w.memory ≤ limit
-          by_test true same =
-              let more = within_limit (view w) (user_of w.settings file) user (length (newly_pinned (view w) file ioas)) limit (is ∙ ap (λ (u : UserNo). Some u) (same_user own user same)) has passed in
-              omega (arith, held, comes_count, more)
-          by_test false other =
-              let none = none_of_others (λ m its of_file. clash _ other (joined user.0 m.user.0 own.0 (flipped m.user.0 user.0 its) (sym (ap (λ (o : Option UserNo). elim o as (λ _. Bool) [ Some u ↦ eqb u.0 m.user.0 | None ↦ false ]) is) ∙ of_file))) in
-              omega (arith, held, none, before)
+  first_held =
+      come_held w first_table refl file in_space user limit comes_over (λ page is. unpinned at w tables page p.pins (new_here page is)) (λ m among over. owner w file ioas m p.areas among over)
 
 -- a page table is made
 table_held : (at : ℕ) (w : World) (areas : List Area) (file : FileNo) (ioas id : ObjId) (width : Width) (automatic : Bool) (attachments : List Attachment) (user : UserNo) (limit : ℕ) → AlikeAreas w areas → OwnedPins at w → passes_limit_attached (view w) file ioas ≡ false → limit_of w.settings user ≡ Some limit
@@ -349,6 +407,11 @@ keeps_limits at w (event.Map file request) (reply.Iova iova) none p within = map
     mapped : (user : Option UserNo) → user_of w.settings file ≡ user → WithinLimits (map_changes at w file request iova user)
     mapped None is = within
     mapped (Some user) is = settled_limits w (mapped_world at w file request iova user) refl (λ other limit has before. mapped_held at w file request iova user other limit p.pins none is has before) within
+keeps_limits at w (event.Copy file request) (reply.Iova iova) none p within = copied (source_area w file request) refl
+  where
+    copied : (source : Option Area) → source_area w file request ≡ source → WithinLimits (copy_changes w file request iova source)
+    copied None is = within
+    copied (Some source) is = settled_limits w (copied_world w file request iova source) refl (λ user limit has before. copied_held at w file request iova source user limit p none is has before) within
 keeps_limits at w (event.Unmap file request) (reply.Bytes count) none p within = gone_limits w (is_touched file request) w.objects w.attachments w.allowed w.closed (λ own ioas has. has) within
 keeps_limits at w (event.Unmap file request) (reply.Pending errno) none p within = within
 keeps_limits at w (event.HwptAlloc file request) (reply.Id id) none p within = made (settings_under w.settings w.objects file request.device)

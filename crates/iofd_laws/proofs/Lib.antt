@@ -8,6 +8,7 @@ pub mod KeepsBound
 pub mod KeepsFrames
 pub mod KeepsLimits
 pub mod MemoryApart
+pub mod OutlivesUnmap
 pub mod OwnFrames
 pub mod OwnTables
 pub mod ServedAreas

@@ -1,9 +1,9 @@
 -- An event of one file leaves the memory objects under each other file's areas, and their pins, as they are.
 use Rattle.std.proofs.Common.{◌≡◌, ℕ, ◌+◌, ◌*◌, Bool, true, false, cond, ◌&&◌, ◌||◌, not, eqb, ltb, is_some, Option, Some, None, List, [], ◌∷◌, ◌++◌, refl, sym, ◌∙◌, ap, arith}
-use Rattle.std.specs.List.{filter, find, list_any}
-use Rattle.std.proofs.lemmas.Bool.{eqb-true, true≢false}
+use Rattle.std.specs.List.{filter, find, list_all, list_any}
+use Rattle.std.proofs.lemmas.Bool.{eqb-true}
 use Rattle.std.proofs.lemmas.Bool.Decides.{nat_tests}
-use Rattle.iofd_words.specs.After.{changed, map_changes, hwpt_changes, attach_changes, target_changes, detach_changes, settle, without_areas, attached, detached, joined}
+use Rattle.iofd_words.specs.After.{changed, copy_changes, map_changes, hwpt_changes, attach_changes, target_changes, detach_changes, settle, without_areas, attached, detached, joined}
 use Rattle.iofd_words.specs.Areas.{is_of, is_touched}
 use Rattle.iofd_words.specs.Attachments.{attachment_of}
 use Rattle.iofd_words.specs.Checks.{refusal}
@@ -33,16 +33,18 @@ use Rattle.iofd_words.specs.declared.rows.ObjectKind.{ObjectKind}
 use Rattle.iofd_words.specs.declared.rows.ObjectKind.TheVariants as kind
 use Rattle.iofd_laws.specs.Laws.{FileRows, IsOfAnother, SameMemory, has_memory, object_numbered, rows_of}
 use Rattle.iofd_laws.specs.Laws.{PinMoves}
-use Rattle.iofd_rows.specs.Pinned.{ArePinned, has_object, have_own_memory, have_own_numbers}
+use Rattle.iofd_rows.specs.Pinned.{ArePinned, has_object, have_own_numbers, share_in_file, share_in_files}
 use Rattle.iofd_rows.proofs.Bools.{and_true, both_true, not_true}
 use Rattle.iofd_laws.proofs.Bound.{AreBound}
 use Rattle.iofd_laws.proofs.FilesApart.{after_keeps_others}
-use Rattle.iofd_rows.proofs.Found.{find-filter}
+use Rattle.iofd_laws.proofs.FreeFrames.{some_in}
+use Rattle.iofd_rows.proofs.Each.{of_each}
+use Rattle.iofd_rows.proofs.Found.{all_weaker, find-filter}
 use Rattle.iofd_laws.proofs.KeepsFrames.{after_moves}
+use Rattle.iofd_runs.proofs.CopySource.{source_area}
 use Rattle.iofd_runs.proofs.KeepsOwnMemory.{OwnPins}
 use Rattle.iofd_rows.proofs.ListTests.{alike, any-filter, any_of_all, any_weaker, none_stronger}
 use Rattle.iofd_rows.proofs.ObjectPages.{has_page, in_pinned, is_listed, listed_is}
-use Rattle.iofd_rows.proofs.OwnMemory.{has_area}
 use Rattle.iofd_rows.proofs.PageLists.{at_page}
 use Rattle.iofd_rows.proofs.PinsFollow.{pin_is_of}
 
@@ -52,26 +54,23 @@ flipped a b is = grind (arith, nat_tests)
 both_equal : (a b c : ℕ) → eqb a b ≡ true → eqb c b ≡ true → eqb a c ≡ true
 both_equal a b c first second = grind (arith, nat_tests)
 
--- ---- where each area has a memory object of its own, two tests of areas over one object pass at one area
+-- ---- no area of another file is over a memory object under one of the file's areas
 
-any_both : (n : ℕ) (p q : Area → Bool) (areas : List Area) → ((a : Area) → p a ≡ true → eqb a.memory n ≡ true) → ((a : Area) → q a ≡ true → eqb a.memory n ≡ true) → have_own_memory areas ≡ true → list_any p areas ≡ true → list_any q areas ≡ true
-    → list_any (λ a. p a && q a) areas ≡ true
-any_both n p q [] over_p over_q own has_p has_q = cc
-any_both n p q (a ∷ areas) over_p over_q own has_p has_q =
-    let owns = and_true (not (has_area areas a.memory)) (have_own_memory areas) own in
-    by_tests (p a) (q a) refl refl has_p has_q (any_both n p q areas over_p over_q owns.1)
-  where
-    alone : has_area areas a.memory ≡ false
-    alone = not_true _ (and_true (not (has_area areas a.memory)) (have_own_memory areas) own).0
+-- an area over the memory object of this number is of the file
+abbrev is_own_over : FileNo → ℕ → Area → Bool
+is_own_over file number a = not (eqb a.memory number) || eqb a.file.0 file.0
 
-    none_later : eqb a.memory n ≡ true → (r : Area → Bool) → ((b : Area) → r b ≡ true → eqb b.memory n ≡ true) → list_any r areas ≡ false
-    none_later here r over = none_stronger r (λ (b : Area). eqb b.memory a.memory) areas (λ b is. both_equal b.memory n a.memory (over b is) here) alone
+of_one_file : (file : FileNo) (number : ℕ) (x a : Area) → eqb x.file.0 file.0 ≡ true → eqb x.memory number ≡ true → share_in_file x a ≡ true → is_own_over file number a ≡ true
+of_one_file file number x a of over share = grind (arith, nat_tests)
 
-    by_tests : (x y : Bool) → p a ≡ x → q a ≡ y → (x || list_any p areas) ≡ true → (y || list_any q areas) ≡ true → (list_any p areas ≡ true → list_any q areas ≡ true → list_any (λ b. p b && q b) areas ≡ true) → ((x && y) || list_any (λ b. p b && q b) areas) ≡ true
-    by_tests true true pa qa has_p has_q later = refl
-    by_tests true false pa qa has_p has_q later = absurd (true≢false (sym has_q ∙ none_later (over_p a pa) q over_q))
-    by_tests false true pa qa has_p has_q later = absurd (true≢false (sym has_p ∙ none_later (over_q a qa) p over_p))
-    by_tests false false pa qa has_p has_q later = later has_p has_q
+all_own : (areas : List Area) (file : FileNo) (number : ℕ) → share_in_files areas ≡ true → list_any (λ (a : Area). eqb a.file.0 file.0 && eqb a.memory number) areas ≡ true → list_all (is_own_over file number) areas ≡ true
+all_own areas file number own has =
+    let (x, within, is) = some_in (λ (a : Area). eqb a.file.0 file.0 && eqb a.memory number) areas has in
+    let parts = and_true (eqb x.file.0 file.0) (eqb x.memory number) is in
+    all_weaker (share_in_file x) (is_own_over file number) areas (λ a share. of_one_file file number x a parts.0 parts.1 share) (of_each (λ (a : Area). list_all (share_in_file a) areas) areas x own within)
+
+own_over : (file : FileNo) (number : ℕ) (a : Area) → is_own_over file number a ≡ true → eqb a.memory number ≡ true → eqb a.file.0 file.0 ≡ true
+own_over file number a own over = grind (arith, nat_tests)
 
 -- ---- whether a page table translates it is told by the file's own rows
 
@@ -88,7 +87,7 @@ same_file objects a b ioas is = ap (λ (n : ℕ). has_hwpt objects (record { 0 =
 of_rows : (w : World) (file : FileNo) (number : ℕ) → has_memory file w number ≡ list_any (λ (a : Area). eqb a.memory number) (rows_of file w).areas
 of_rows w file number = sym (any-filter (λ (a : Area). eqb a.memory number) (λ (a : Area). eqb a.file.0 file.0) w.areas)
 
-translated_own : (w : World) (file : FileNo) (number : ℕ) → have_own_memory w.areas ≡ true → has_memory file w number ≡ true → is_translated w.objects w.areas number ≡ is_translated_in (rows_of file w) number
+translated_own : (w : World) (file : FileNo) (number : ℕ) → share_in_files w.areas ≡ true → has_memory file w number ≡ true → is_translated w.objects w.areas number ≡ is_translated_in (rows_of file w) number
 translated_own w file number own has = alike _ _ there back
   where
     kept : is_translated_in (rows_of file w) number ≡ list_any (λ (a : Area). eqb a.file.0 file.0 && (eqb a.memory number && list_any (λ (o : Object). is_hwpt_over a.ioas o.kind) (objects_of w.objects file))) w.areas
@@ -96,15 +95,12 @@ translated_own w file number own has = alike _ _ there back
 
     there : is_translated w.objects w.areas number ≡ true → is_translated_in (rows_of file w) number ≡ true
     there is =
-        kept ∙ any_weaker (λ (a : Area). (eqb a.memory number && has_hwpt w.objects a.file a.ioas) && (eqb a.file.0 file.0 && eqb a.memory number)) (λ (a : Area). eqb a.file.0 file.0 && (eqb a.memory number && list_any (λ (o : Object). is_hwpt_over a.ioas o.kind) (objects_of w.objects file))) w.areas
-        (λ a both.
-        let parts = and_true (eqb a.memory number && has_hwpt w.objects a.file a.ioas) (eqb a.file.0 file.0 && eqb a.memory number) both in
-        let tabled = and_true (eqb a.memory number) (has_hwpt w.objects a.file a.ioas) parts.0 in
-        let here = and_true (eqb a.file.0 file.0) (eqb a.memory number) parts.1 in
-        both_true _ _ here.0 (both_true _ _ here.1 (own_hwpt w.objects file a.ioas ∙ sym (same_file w.objects a.file file a.ioas here.0) ∙ tabled.1)))
-        (any_both number (λ (a : Area). eqb a.memory number && has_hwpt w.objects a.file a.ioas) (λ (a : Area). eqb a.file.0 file.0 && eqb a.memory number) w.areas
-        (λ a over. (and_true (eqb a.memory number) (has_hwpt w.objects a.file a.ioas) over).0)
-        (λ a over. (and_true (eqb a.file.0 file.0) (eqb a.memory number) over).1) own is has)
+        kept ∙ any_of_all (is_own_over file number) (λ (a : Area). eqb a.memory number && has_hwpt w.objects a.file a.ioas) (λ (a : Area). eqb a.file.0 file.0 && (eqb a.memory number && list_any (λ (o : Object). is_hwpt_over a.ioas o.kind) (objects_of w.objects file))) w.areas
+        (λ a owns over.
+        let tabled = and_true (eqb a.memory number) (has_hwpt w.objects a.file a.ioas) over in
+        let here = own_over file number a owns tabled.0 in
+        both_true _ _ here (both_true _ _ tabled.0 (own_hwpt w.objects file a.ioas ∙ sym (same_file w.objects a.file file a.ioas here) ∙ tabled.1)))
+        (all_own w.areas file number own has) is
 
     back : is_translated_in (rows_of file w) number ≡ true → is_translated w.objects w.areas number ≡ true
     back is =
@@ -174,7 +170,7 @@ constant false [] any = cc
 constant false (x ∷ xs) any = constant false xs any
 
 -- the areas that stay keep their memory objects
-gone_object : (goes : Area → Bool) (areas : List Area) (memory : List MemoryObject) (number : ℕ) → list_any (λ (a : Area). eqb a.memory number) (filter (λ (a : Area). not (goes a)) areas) ≡ true
+pub gone_object : (goes : Area → Bool) (areas : List Area) (memory : List MemoryObject) (number : ℕ) → list_any (λ (a : Area). eqb a.memory number) (filter (λ (a : Area). not (goes a)) areas) ≡ true
     → object_numbered (filter (λ m. list_any (λ (a : Area). eqb a.memory m.number && not (goes a)) areas) memory) number ≡ object_numbered memory number
 gone_object goes areas memory number has =
     let left = sym (any-filter (λ (a : Area). eqb a.memory number) (λ (a : Area). not (goes a)) areas) ∙ has in
@@ -202,6 +198,11 @@ keeps_object at w (event.Map file request) (reply.Iova iova) number some has = m
     mapped : (user : Option UserNo) → object_numbered (map_changes at w file request iova user).memory number ≡ object_numbered w.memory number
     mapped None = refl
     mapped (Some user) = found_before (λ (m : MemoryObject). eqb m.number number) w.memory _ some
+keeps_object at w (event.Copy file request) (reply.Iova iova) number some has = copied (source_area w file request)
+  where
+    copied : (source : Option Area) → object_numbered (copy_changes w file request iova source).memory number ≡ object_numbered w.memory number
+    copied None = refl
+    copied (Some source) = refl
 keeps_object at w (event.Unmap file request) (reply.Bytes count) number some has = gone_object (is_touched file request) w.areas w.memory number has
 keeps_object at w (event.Unmap file request) (reply.Pending errno) number some has = refl
 keeps_object at w (event.HwptAlloc file request) (reply.Id id) number some has = made (settings_under w.settings w.objects file request.device)

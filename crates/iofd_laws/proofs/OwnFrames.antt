@@ -2,7 +2,7 @@
 use Rattle.std.proofs.Common.{◌≡◌, ℕ, zero, suc, ◌<◌, Bool, true, false, cond, ◌||◌, not, eqb, Option, Some, None, List, [], ◌∷◌, ◌++◌, map, Contains, refl, sym, ◌∙◌, subst, arith, IsTrue, inl, inr}
 use Rattle.std.specs.List.{filter, list_any}
 use Rattle.std.proofs.lemmas.Bool.Decides.{nat_tests}
-use Rattle.iofd_words.specs.After.{changed, map_changes, hwpt_changes, attach_changes, target_changes, detach_changes, settle, without_areas, attached, detached, joined}
+use Rattle.iofd_words.specs.After.{changed, copy_changes, map_changes, hwpt_changes, attach_changes, target_changes, detach_changes, settle, without_areas, attached, detached, joined}
 use Rattle.iofd_words.specs.Answers.{Answers, write_reply}
 use Rattle.iofd_words.specs.Attachments.{attachment_of}
 use Rattle.iofd_words.specs.Checks.{refusal}
@@ -24,6 +24,7 @@ use Rattle.iofd_words.specs.declared.record.Record.{Record}
 use Rattle.iofd_words.specs.declared.refusal.Cause.{Cause}
 use Rattle.iofd_words.specs.declared.reply.Reply.{Reply}
 use Rattle.iofd_words.specs.declared.reply.Reply.TheVariants as reply
+use Rattle.iofd_words.specs.declared.rows.Area.{Area}
 use Rattle.iofd_words.specs.declared.rows.Attachment.{Attachment}
 use Rattle.iofd_words.specs.declared.rows.Object.{Object}
 use Rattle.iofd_words.specs.declared.rows.ObjectKind.{ObjectKind}
@@ -32,6 +33,7 @@ use Rattle.iofd_words.specs.declared.rows.Pin.{Pin}
 use Rattle.iofd_words.specs.declared.rows.TableFrame.{TableFrame}
 use Rattle.iofd_words.specs.declared.rows.UserPage.{UserPage}
 use Rattle.iofd_rows.proofs.Each.{IsIn, of_each}
+use Rattle.iofd_runs.proofs.CopySource.{source_area}
 use Rattle.iofd_rows.proofs.Bools.{or_false, and_true, both_false, both_true, not_true, not_false}
 
 -- ---- a free frame is reached by nobody
@@ -95,6 +97,11 @@ keeps_own_frames at w (event.Map file request) (reply.Iova iova) none answers ow
     mapped : (user : Option UserNo) → have_own_frames (map_changes at w file request iova user).user_pages ≡ true
     mapped None = own
     mapped (Some user) = own
+keeps_own_frames at w (event.Copy file request) (reply.Iova iova) none answers own = copied (source_area w file request)
+  where
+    copied : (source : Option Area) → have_own_frames (copy_changes w file request iova source).user_pages ≡ true
+    copied None = own
+    copied (Some source) = own
 keeps_own_frames at w (event.Unmap file request) (reply.Bytes count) none answers own = own
 keeps_own_frames at w (event.Unmap file request) (reply.Pending errno) none answers own = own
 keeps_own_frames at w (event.HwptAlloc file request) (reply.Id id) none answers own = made (settings_under w.settings w.objects file request.device)

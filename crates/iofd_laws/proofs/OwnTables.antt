@@ -2,7 +2,7 @@
 use Rattle.std.proofs.Common.{◌≡◌, ℕ, Bool, true, false, cond, ◌&&◌, ◌||◌, ◌++◌, not, eqb, ltb, Option, Some, None, List, [], ◌∷◌, length, refl, ap, ◌∙◌, subst}
 use Rattle.std.specs.List.{filter, list_all, list_any}
 use Rattle.std.proofs.lemmas.List.Folds.{list_all-append, list_any-append}
-use Rattle.iofd_words.specs.After.{attach_changes, attached, changed, detach_changes, detached, hwpt_changes, joined, map_changes, settle, target_changes, without_areas}
+use Rattle.iofd_words.specs.After.{attach_changes, attached, changed, copy_changes, detach_changes, detached, hwpt_changes, joined, map_changes, settle, target_changes, without_areas}
 use Rattle.iofd_words.specs.Answers.{Answers}
 use Rattle.iofd_words.specs.Attachments.{attachment_of}
 use Rattle.iofd_words.specs.Checks.{refusal}
@@ -20,6 +20,7 @@ use Rattle.iofd_words.specs.declared.numbers.FrameNo.{FrameNo}
 use Rattle.iofd_words.specs.declared.numbers.UserNo.{UserNo}
 use Rattle.iofd_words.specs.declared.reply.Reply.{Reply}
 use Rattle.iofd_words.specs.declared.reply.Reply.TheVariants as reply
+use Rattle.iofd_words.specs.declared.rows.Area.{Area}
 use Rattle.iofd_words.specs.declared.rows.Attachment.{Attachment}
 use Rattle.iofd_words.specs.declared.rows.Object.{Object}
 use Rattle.iofd_words.specs.declared.rows.ObjectKind.{ObjectKind}
@@ -31,6 +32,7 @@ use Rattle.iofd_rows.proofs.Bools.{and_true, both_false, both_true, clash, not_f
 use Rattle.iofd_rows.proofs.Each.{IsIn, in_filter, of_all, of_each}
 use Rattle.iofd_rows.proofs.Found.{all_filter}
 use Rattle.iofd_rows.proofs.Unusable.{each_not, none_of}
+use Rattle.iofd_runs.proofs.CopySource.{source_area}
 use Rattle.iofd_runs.proofs.KeepsFits.{settled_frames}
 use Rattle.iofd_runs.proofs.KeepsTabled.{HasTables, keeps_tables, opening_tables}
 use Rattle.iofd_runs.proofs.MissingTables.{is_owned}
@@ -65,6 +67,11 @@ module _ (q : ℕ → Bool) (w : World) (all : OfFrames q w) where
       mapped : (user : Option UserNo) → OfFrames q (map_changes at w file request iova user)
       mapped None = all
       mapped (Some user) = settles _ refl
+  frames_stay at (event.Copy file request) (reply.Iova iova) given = copied (source_area w file request)
+    where
+      copied : (source : Option Area) → OfFrames q (copy_changes w file request iova source)
+      copied None = all
+      copied (Some source) = settles _ refl
   frames_stay at (event.Unmap file request) (reply.Bytes count) given = settles _ refl
   frames_stay at (event.Unmap file request) (reply.Pending errno) given = record { users = all.users; pins = all.pins }
   frames_stay at (event.HwptAlloc file request) (reply.Id id) given = made (settings_under w.settings w.objects file request.device)

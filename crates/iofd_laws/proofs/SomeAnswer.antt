@@ -11,13 +11,14 @@ use Rattle.iofd_rows.proofs.ListTests.{false_else}
 use Rattle.iofd_rows.proofs.Unusable.{none_of}
 use Rattle.iofd_laws.proofs.FreshIds.{fresh_id}
 use Rattle.iofd_runs.proofs.Known.{bound_known}
-use Rattle.iofd_runs.proofs.NotRefused.{alloc_passed, attach_passed, bind_passed, hwpt_passed, map_passed, target_passed, user_map_passed}
+use Rattle.iofd_runs.proofs.NotRefused.{alloc_passed, attach_passed, bind_passed, copy_passed, hwpt_passed, map_passed, target_passed, user_map_passed}
 use Rattle.iofd_runs.proofs.StillTabled.{in_kept}
 use Rattle.iofd_runs.proofs.PinnedAccess.{some_outcome}
 use Rattle.iofd_words.specs.Answers.{Answers, IsHwptFor, IsHwptOf, IsMappedAt, IsTarget, UnmapAnswers, write_reply}
 use Rattle.iofd_words.specs.Areas.{is_waiting, touched_bytes}
 use Rattle.iofd_words.specs.Attachments.{devices_of}
 use Rattle.iofd_words.specs.Checks.{attach_checks, choices, has_choice, lacks_choice, lacks_room_for_hwpt, least, mapped_start, may_choose, refusal, taken_spans}
+use Rattle.iofd_words.specs.Copies.{placed_as}
 use Rattle.iofd_words.specs.Files.{device_of}
 use Rattle.iofd_words.specs.FirstTrue.{first_true}
 use Rattle.iofd_words.specs.Frames.{is_free}
@@ -145,6 +146,9 @@ module _ (at : ℕ) (w : World) (pins : ArePinned at w) (fits : RowsFit w) where
       (reply.Id id, fresh)
   some_answer (event.Map file request) none =
       let (iova, at, is) = map_answer file request (map_passed (view w) file request none).chosen in
+      (reply.Iova iova, at)
+  some_answer (event.Copy file request) none =
+      let (iova, at, is) = map_answer file (placed_as request) (copy_passed (view w) file request none).chosen in
       (reply.Iova iova, at)
   some_answer (event.Unmap file request) none = unmap_answer file request
   some_answer (event.HwptAlloc file request) none =

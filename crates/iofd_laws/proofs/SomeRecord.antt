@@ -3,10 +3,11 @@
 use Rattle.std.proofs.Common.{◌≡◌, ℕ, ◌+◌, ◌<◌, ◌≤◌, Bool, true, false, ◌&&◌, ◌||◌, not, eqb, ltb, is_none, is_some, Option, Some, None, List, [], length, refl, ap, sym, ◌∙◌, subst, arith}
 use Rattle.std.specs.List.{list_all, list_any}
 use Rattle.std.proofs.lemmas.Bool.Decides.{nat_tests}
-use Rattle.iofd_words.specs.After.{attach_changes, attached, changed, hwpt_changes, made_hwpt, map_changes, mapped_area, settle, target_changes, with_hwpt}
+use Rattle.iofd_words.specs.After.{attach_changes, attached, changed, copy_changes, hwpt_changes, made_hwpt, map_changes, mapped_area, settle, target_changes, with_hwpt}
 use Rattle.iofd_words.specs.Answers.{Answers, IsHwptFor, IsHwptOf, IsTarget}
 use Rattle.iofd_words.specs.Areas.{all_paid, areas_of, with_area}
-use Rattle.iofd_words.specs.Checks.{lacks_attached_frames, lacks_new_tables, mapped_start, refusal, tables_to_map}
+use Rattle.iofd_words.specs.Checks.{lacks_attached_frames, lacks_mapped_frames, lacks_new_tables, mapped_start, refusal, tables_to_map}
+use Rattle.iofd_words.specs.Copies.{placed_as}
 use Rattle.iofd_words.specs.Files.{device_of, user_of}
 use Rattle.iofd_words.specs.Frames.{free_count, is_free}
 use Rattle.iofd_words.specs.Objects.{automatic_hwpt, binding_of, is_fresh, is_ioas, kind_of, settings_under, with_object}
@@ -17,6 +18,7 @@ use Rattle.iofd_words.specs.TablePlaces.{lacking, live_pages, places_of}
 use Rattle.iofd_words.specs.Tables.{MovesTables, is_among, is_orphan, may_go, missing_tables}
 use Rattle.iofd_words.specs.View.{view}
 use Rattle.iofd_words.specs.World.{World}
+use Rattle.iofd_words.specs.declared.event.CopyRequest.{CopyRequest}
 use Rattle.iofd_words.specs.declared.event.Event.{Event}
 use Rattle.iofd_words.specs.declared.event.Event.TheVariants as event
 use Rattle.iofd_words.specs.declared.event.HwptRequest.{HwptRequest}
@@ -30,6 +32,7 @@ use Rattle.iofd_words.specs.declared.numbers.UserNo.{UserNo}
 use Rattle.iofd_words.specs.declared.record.Record.{Record}
 use Rattle.iofd_words.specs.declared.reply.Reply.{Reply}
 use Rattle.iofd_words.specs.declared.reply.Reply.TheVariants as reply
+use Rattle.iofd_words.specs.declared.rows.Area.{Area}
 use Rattle.iofd_words.specs.declared.rows.Object.{Object}
 use Rattle.iofd_words.specs.declared.rows.ObjectKind.{ObjectKind}
 use Rattle.iofd_words.specs.declared.rows.ObjectKind.TheVariants as kind
@@ -41,9 +44,10 @@ use Rattle.iofd_rows.proofs.Each.{IsIn, of_all, of_any, of_each}
 use Rattle.iofd_rows.proofs.Found.{all_weaker}
 use Rattle.iofd_rows.proofs.ListTests.{any_weaker, false_else, or_left}
 use Rattle.iofd_runs.specs.Fits.{RowsFit}
+use Rattle.iofd_runs.proofs.CopySource.{source_area}
 use Rattle.iofd_runs.proofs.KeepsTabled.{HasTables}
 use Rattle.iofd_runs.proofs.MissingTables.{all_needed, is_owned}
-use Rattle.iofd_runs.proofs.NotRefused.{attach_passed, hwpt_passed, map_passed}
+use Rattle.iofd_runs.proofs.NotRefused.{attach_passed, copy_passed, hwpt_passed, map_passed}
 use Rattle.iofd_runs.proofs.OwnIds.{keeps_own_ids, unused}
 use Rattle.iofd_runs.proofs.SameTables.{same_tables}
 use Rattle.iofd_runs.proofs.StillTabled.{MakesNone, finds_table, hwpts_same, live_paid, moves_given, none_after, none_given, stay_with, still_none_missing, still_owned}
@@ -172,21 +176,35 @@ module _ (at : ℕ) (w : World) (has : HasTables w) (alone : TablesAlone w) wher
   rest e answer none answers makes =
       gives w (changed at w e answer) e answer alone (keeps_own_ids at w e answer none answers has.own_ids) (same_tables at w e answer) (none_after at w e answer makes has.tables.needed)
 
-  -- a MAP, at the fixed address or at the least that may be chosen
+  -- free frames suffice for the tables of one more area, at the fixed address or at the least that may be chosen
+  area_frames : (number : ℕ) (file : FileNo) (request : MapRequest) (iova : Iova) → lacks_mapped_frames (view w) file request ≡ false → mapped_start (view w) file request ≡ Some iova.0
+      → length (missing_tables w.objects (with_area (mapped_area number file request iova) w.areas) w.table_frames) ≤ free_count w.settings.pool w.user_pages w.pins w.table_frames
+  area_frames number file request iova frames start =
+      let lacks : ltb (free_count w.settings.pool w.user_pages w.pins w.table_frames) (tables_to_map (view w) file request.ioas (span_from iova.0 request.length)) ≡ false =
+      sym (ap (λ (o : Option ℕ). elim o [ Some at ↦ ltb (free_count w.settings.pool w.user_pages w.pins w.table_frames) (tables_to_map (view w) file request.ioas (span_from at request.length)) | None ↦ false ]) start)
+      ∙ frames in
+      subst (λ n. n ≤ free_count w.settings.pool w.user_pages w.pins w.table_frames) (sym (mapped_tables w has number file request iova)) (no_less _ _ lacks)
+
   map_moves : {A : Type 0} (file : FileNo) (request : MapRequest) (iova : Iova) → refusal {A = A} w (event.Map file request) ≡ None → mapped_start (view w) file request ≡ Some iova.0 → Moved {A = A} w (changed {A = A} at w (event.Map file request) (reply.Iova iova)) (event.Map file request) (reply.Iova iova)
   unfolding changed settle
   map_moves {A = A} file request iova none start = by_user (user_of w.settings file)
     where
-      frames : ltb (free_count w.settings.pool w.user_pages w.pins w.table_frames) (tables_to_map (view w) file request.ioas (span_from iova.0 request.length)) ≡ false
-      frames =
-          sym (ap (λ (o : Option ℕ). elim o [ Some at ↦ ltb (free_count w.settings.pool w.user_pages w.pins w.table_frames) (tables_to_map (view w) file request.ioas (span_from at request.length)) | None ↦ false ]) start)
-          ∙ (map_passed (view w) file request none).frames
-
       by_user : (user : Option UserNo) → Moved {A = A} w (map_changes at w file request iova user) (event.Map file request) (reply.Iova iova)
       by_user None = stays {A = A} (event.Map file request) (reply.Iova iova)
       by_user (Some user) =
           takes {A = A} w (map_changes at w file request iova (Some user)) (event.Map file request) (reply.Iova iova) refl has.tables.owned
-          (subst (λ n. n ≤ free_count w.settings.pool w.user_pages w.pins w.table_frames) (sym (mapped_tables w has at file request iova)) (no_less _ _ frames))
+          (area_frames at file request iova (map_passed (view w) file request none).frames start)
+
+  copy_moves : {A : Type 0} (file : FileNo) (request : CopyRequest) (iova : Iova) → refusal {A = A} w (event.Copy file request) ≡ None → mapped_start (view w) file (placed_as request) ≡ Some iova.0
+      → Moved {A = A} w (changed {A = A} at w (event.Copy file request) (reply.Iova iova)) (event.Copy file request) (reply.Iova iova)
+  unfolding changed settle
+  copy_moves {A = A} file request iova none start = by_source (source_area w file request)
+    where
+      by_source : (source : Option Area) → Moved {A = A} w (copy_changes w file request iova source) (event.Copy file request) (reply.Iova iova)
+      by_source None = stays {A = A} (event.Copy file request) (reply.Iova iova)
+      by_source (Some source) =
+          takes {A = A} w (copy_changes w file request iova (Some source)) (event.Copy file request) (reply.Iova iova) refl has.tables.owned
+          (area_frames source.memory file (placed_as request) iova (copy_passed (view w) file request none).frames start)
 
   -- a page table that a HWPT_ALLOC makes
   hwpt_moves : {A : Type 0} (file : FileNo) (request : HwptRequest) (id : ObjId) → refusal {A = A} w (event.HwptAlloc file request) ≡ None → Answers {A = A} w (event.HwptAlloc file request) (reply.Id id)
@@ -236,14 +254,16 @@ module _ (at : ℕ) (w : World) (has : HasTables w) (alone : TablesAlone w) wher
       by_finds true finds = rest {A = A} (event.Attach device pt_id) (reply.Id id) none answers finds
       by_finds false finds = by_binding (binding_of w.objects device) (device_of w.settings device) refl refl answers finds
 
-  -- each other event than a MAP, with any answer
-  abbrev IsNoMap : {A : Type 0} → Event A → Type 0
-  IsNoMap (event.Map file request) = ⊥
-  IsNoMap e = Unit {0}
+  -- each other event than a MAP and a COPY, with any answer
+  abbrev PlacesNoArea : {A : Type 0} → Event A → Type 0
+  PlacesNoArea (event.Map file request) = ⊥
+  PlacesNoArea (event.Copy file request) = ⊥
+  PlacesNoArea e = Unit {0}
 
-  moves : {A : Type 0} (e : Event A) (answer : Reply) → IsNoMap e → refusal w e ≡ None → Answers w e answer → Moved w (changed at w e answer) e answer
+  moves : {A : Type 0} (e : Event A) (answer : Reply) → PlacesNoArea e → refusal w e ≡ None → Answers w e answer → Moved w (changed at w e answer) e answer
   unfolding Answers
   moves (event.Map file request) answer never none answers = absurd never
+  moves (event.Copy file request) answer never none answers = absurd never
   moves (event.HwptAlloc file request) (reply.Id id) other none answers = hwpt_moves file request id none answers
   moves (event.HwptAlloc file request) answer other none never = absurd never
   moves (event.Attach device pt_id) (reply.Id id) other none answers = attach_moves device pt_id id none answers
@@ -259,7 +279,7 @@ module _ (at : ℕ) (w : World) (pins : ArePinned at w) (fits : RowsFit w) (has 
       let r : Record A = record { pass = record { 0 = 0 }; event = e; reply = answer; taken = taken; given = given } in
       (r, refl, answers, subst (λ o. IsAnswer w r o × MovesFrames at w r o) (sym none) (answers, moved))
 
-  of_other : {A : Type 0} (e : Event A) → IsNoMap at w has alone e → refusal w e ≡ None → HasRecord at w e
+  of_other : {A : Type 0} (e : Event A) → PlacesNoArea at w has alone e → refusal w e ≡ None → HasRecord at w e
   of_other e other none =
       let (answer, answers) = some_answer at w pins fits e none in
       with_frames e answer none answers (moves at w has alone e answer other none answers)
@@ -269,4 +289,7 @@ module _ (at : ℕ) (w : World) (pins : ArePinned at w) (fits : RowsFit w) (has 
   some_record (event.Map file request) none =
       let (iova, mapped, start) = map_answer at w pins fits file request (map_passed (view w) file request none).chosen in
       with_frames (event.Map file request) (reply.Iova iova) none mapped (map_moves at w has alone file request iova none start)
+  some_record (event.Copy file request) none =
+      let (iova, mapped, start) = map_answer at w pins fits file (placed_as request) (copy_passed (view w) file request none).chosen in
+      with_frames (event.Copy file request) (reply.Iova iova) none mapped (copy_moves at w has alone file request iova none start)
   some_record e none = of_other e tt none

@@ -3,10 +3,10 @@ use Rattle.std.specs.Prelude.{◌≡◌, ◌≢◌, ◌<◌, ◌≤◌, ℕ, Con
 use Rattle.std.specs.List.{list_all, list_any}
 use Rattle.iofd_words.specs.Allowed.{AllowedRanges}
 use Rattle.iofd_words.specs.Answers.{Answers}
-use Rattle.iofd_words.specs.Areas.{is_of, meets_area}
+use Rattle.iofd_words.specs.Areas.{is_of}
 use Rattle.iofd_words.specs.Frames.{is_reached}
 use Rattle.iofd_words.specs.Levels.{first_address, levels_of}
-use Rattle.iofd_words.specs.Objects.{binding_of, kind_of, objects_of}
+use Rattle.iofd_words.specs.Objects.{binding_of, has_hwpt, kind_of, objects_of}
 use Rattle.iofd_words.specs.Pages.{page_of}
 use Rattle.iofd_words.specs.Pins.{ObjectPage, frame_now, held_by, pinned_frame}
 use Rattle.iofd_words.specs.Rights.{is_fixed}
@@ -99,6 +99,7 @@ abbrev pub file_of : {A : Type 0} → World → Event A → Option FileNo
 file_of w (event.IoasAlloc file) = Some file
 file_of w (event.AllowIovas file ioas ranges) = Some file
 file_of w (event.Map file request) = Some file
+file_of w (event.Copy file request) = Some file
 file_of w (event.Unmap file request) = Some file
 file_of w (event.HwptAlloc file request) = Some file
 file_of w (event.Destroy file id) = Some file
@@ -150,6 +151,13 @@ pub record SameMemory (number : ℕ) (old new : World) : Type 0 where
   pub pins : (index : ℕ) → pinned_frame new.pins (record { memory = number; index = index })
       ≡ pinned_frame old.pins (record { memory = number; index = index })
 
+-- the area is there in the new world too, as the same row, and its memory object; and where its address space has a
+-- page table, each page of the object is pinned at the same frame
+pub record Outlives (area : Area) (old new : World) : Type 0 where
+  pub row : Contains new.areas area
+  pub object : object_numbered new.memory area.memory ≡ object_numbered old.memory area.memory
+  pub pins : IsTrue (has_hwpt old.objects area.file area.ioas) → SameMemory area.memory old new
+
 -- ---- pins
 
 -- what a step may make of a page's pin: one that stays keeps its frame, and one that comes has the frame that is the page's
@@ -175,7 +183,8 @@ held_in w user = held_by (pinned_frame w.pins) w.memory user
 abbrev pub HasRecord : {A : Type 0} → ℕ → World → Event A → Type 0
 HasRecord {A = A} at w e = (r : Record A) × (r.event ≡ e) × Answers w e r.reply × Lawful at w r
 
--- a MAP that leaves its address to the server
+-- a MAP or a COPY that leaves its address to the server
 abbrev pub chooses_address : {A : Type 0} → Event A → Bool
 chooses_address (event.Map file request) = not (is_fixed request.flags)
+chooses_address (event.Copy file request) = not (is_fixed request.flags)
 chooses_address e = false

@@ -10,10 +10,11 @@ ghost use Rattle.iofd_runs.specs.Rising.{objects_rise};
 ghost use Rattle.iofd_laws.specs.Laws.{chooses_address, have_own_frames, has_memory, held_in, HasRecord};
 ghost use Rattle.iofd_laws.specs.Laws.{IsOfAnother, SameMemory, TablesAlone, TablesServe, WasFree, rows_of, starts_rise};
 ghost use Rattle.iofd_rows.specs.Ids.{AreBoundOnce, have_own_ids};
-ghost use Rattle.iofd_laws.specs.Laws.{pin_moves};
+ghost use Rattle.iofd_laws.specs.Laws.{Outlives, pin_moves};
 ghost use Rattle.iofd_rows.specs.Pinned.{ArePinned};
 ghost use Rattle.iofd_words.specs.After.{changed};
 ghost use Rattle.iofd_words.specs.Answers.{Answers};
+ghost use Rattle.iofd_words.specs.Areas.{is_touched};
 ghost use Rattle.iofd_words.specs.Checks.{refusal};
 ghost use Rattle.iofd_words.specs.Files.{limit_of};
 ghost use Rattle.iofd_words.specs.Pins.{ObjectPage};
@@ -22,6 +23,8 @@ ghost use Rattle.iofd_words.specs.Run.{IsRun, after, world_of};
 ghost use Rattle.iofd_words.specs.Settings.{Settings};
 ghost use Rattle.iofd_words.specs.Tables.{MovesTables};
 ghost use Rattle.iofd_words.specs.declared.event.Event.{Event};
+ghost use Rattle.iofd_words.specs.declared.event.Event.TheVariants as event;
+ghost use Rattle.iofd_words.specs.declared.event.UnmapRequest.{UnmapRequest};
 ghost use Rattle.iofd_words.specs.declared.fault.AccessKind.{AccessKind};
 ghost use Rattle.iofd_words.specs.declared.numbers.DeviceNo.{DeviceNo};
 ghost use Rattle.iofd_words.specs.declared.numbers.FileNo.{FileNo};
@@ -31,6 +34,7 @@ ghost use Rattle.iofd_words.specs.declared.record.Record.{Record};
 ghost use Rattle.iofd_words.specs.declared.refusal.Cause.TheVariants as cause;
 ghost use Rattle.iofd_words.specs.declared.reply.Reply.{Reply};
 ghost use Rattle.iofd_words.specs.declared.reply.Reply.TheVariants as reply;
+ghost use Rattle.iofd_words.specs.declared.rows.Area.{Area};
 
 use std::alloc::Allocator;
 
@@ -124,8 +128,8 @@ pub fn every_event_has_an_answer<A: Allocator>()
 {}
 
 /// In every run, an event that is refused for want of frames could not be carried out: with none of its answers are
-/// there frames for all tables that would be needed then, or one for a user. Of a MAP that leaves its address to the
-/// server this isn't said: at another address than the least it might need fewer tables.
+/// there frames for all tables that would be needed then, or one for a user. Of a MAP or a COPY that leaves its
+/// address to the server this isn't said: at another address than the least it might need fewer tables.
 pub fn refusals_for_frames_are_due<A: Allocator>()
     ensures { (settings : Settings) (records : List (Record A)) (event : Event A) (answer : Reply)
         (taken given : List FrameNo) → IsRun settings records →
@@ -177,6 +181,16 @@ pub fn memory_of_files_is_apart<A: Allocator>()
         IsRun settings (before ++ r ∷ []) → IsOfAnother (world_of settings before) r.event other →
         IsTrue (has_memory other (world_of settings before) number) →
         SameMemory number (world_of settings before) (after (length before) (world_of settings before) r) }
+{}
+
+/// In every run, an UNMAP leaves each area that it doesn't touch as it is, and its memory object, also where other
+/// areas over that object go. Where the area's address space has a page table, each page of the object stays pinned at
+/// its frame.
+pub fn shared_pages_outlive_an_unmap<A: Allocator>()
+    ensures { (settings : Settings) (before : List (Record A)) (r : Record A) (file : FileNo) (request : UnmapRequest)
+        (area : Area) → IsRun settings before → r.event ≡ event.Unmap file request →
+        Contains (world_of settings before).areas area → is_touched file request area ≡ false →
+        Outlives area (world_of settings before) (after (length before) (world_of settings before) r) }
 {}
 
 /// In every run, each device that owes an area a flush is attached to that area's address space; each device is

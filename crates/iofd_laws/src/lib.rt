@@ -11,7 +11,8 @@ pub use every_run::{
     every_event_has_an_answer, files_are_apart, ids_are_unique, limits_are_kept,
     memory_of_files_is_apart, objects_stand_by_file_and_id, only_free_frames_are_given_out,
     page_tables_have_what_they_need, pins_are_those_of_pinned_pages, pins_keep_their_frames,
-    refusals_for_frames_are_due, rows_fit, tables_have_own_frames, user_pages_have_own_frames,
+    refusals_for_frames_are_due, rows_fit, shared_pages_outlive_an_unmap, tables_have_own_frames,
+    user_pages_have_own_frames,
 };
 pub use worked_script::{
     altered_scripts_are_no_runs, lower_tables_may_go_first, owed_flush_leaves_both_answers,

@@ -16,5 +16,4 @@ pub mod PageLists
 pub mod PageTables
 pub mod Paid
 pub mod PinsFollow
-pub mod Settled
 pub mod Unusable

@@ -1,5 +1,5 @@
 -- Every page that is to be pinned has one pin, and no other page has any; each area has a memory object of its size.
-use Rattle.std.specs.Prelude.{◌≡◌, ℕ, ◌*◌, Bool, true, ◌==◌, ◌&&◌, not, nat_lt, is_some, List, [], ◌∷◌, map}
+use Rattle.std.specs.Prelude.{◌≡◌, ℕ, ◌*◌, Bool, true, ◌==◌, ◌&&◌, ◌||◌, not, nat_lt, is_some, List, [], ◌∷◌, map}
 use Rattle.std.specs.List.{list_any, list_all}
 use Rattle.iofd_words.specs.Pins.{ObjectPage, is_page, page_of_pin, pinned_pages, pinned_frame}
 use Rattle.iofd_words.specs.Span.{size_of}
@@ -16,10 +16,13 @@ have_own_numbers (m ∷ memory) = not (list_any (λ other. other.number == m.num
 abbrev pub has_object : List MemoryObject → Area → Bool
 has_object memory area = list_any (λ m. m.number == area.memory && m.count * 4096 == size_of area.span) memory
 
--- no area's memory object is that of a later area too: so it is as long as no area is a copy of another
-abbrev pub have_own_memory : List Area → Bool
-have_own_memory [] = true
-have_own_memory (area ∷ areas) = not (list_any (λ a. a.memory == area.memory) areas) && have_own_memory areas
+-- the two areas are of one file, where they are over one memory object
+abbrev pub share_in_file : Area → Area → Bool
+share_in_file a b = not (a.memory == b.memory) || a.file.0 == b.file.0
+
+-- areas share memory objects with areas of their own file alone
+abbrev pub share_in_files : List Area → Bool
+share_in_files areas = list_all (λ a. list_all (share_in_file a) areas) areas
 
 -- no page comes again later
 abbrev pub differ : List ObjectPage → Bool

@@ -90,28 +90,38 @@ over_space w file ioas id width automatic page new =
     any_apart (λ (a : Area). eqb a.memory page.memory && has_hwpt (with_table file ioas id width automatic w.objects) a.file a.ioas) (λ (a : Area). eqb a.memory page.memory && has_hwpt w.objects a.file a.ioas) (λ (a : Area). is_of file ioas a && eqb a.memory page.memory) w.areas
     (of_space w.objects file ioas id width automatic page.memory) new.1 new.2
 
--- and it has no pin
-pub unpinned : (at : ℕ) (w : World) (left : List Object) (page : ObjectPage) → ArePinned at w → IsNew w left page → is_none (pinned_frame w.pins page) ≡ true
-unpinned at w left page p new = by_frame (pinned_frame w.pins page) refl
+-- a page that no page table translates has no pin
+pub never_pinned : (at : ℕ) (w : World) (page : ObjectPage) → ArePinned at w → is_translated w.objects w.areas page.memory ≡ false → is_none (pinned_frame w.pins page) ≡ true
+never_pinned at w page p untranslated = by_frame (pinned_frame w.pins page) refl
   where
     by_frame : (o : Option FrameNo) → pinned_frame w.pins page ≡ o → is_none o ≡ true
     by_frame None is = refl
     by_frame (Some frame) is =
-        absurd (clash _ new.2 (and_true (is_listed w.memory page) (is_translated w.objects w.areas page.memory) (sym (in_pinned w.objects w.areas w.memory w.access_pins page) ∙ pin_is_of w.pins (pinned_pages w.objects w.areas w.memory w.access_pins) page (ap (λ (o : Option FrameNo). is_some o) is) p.only)).1)
+        absurd (clash _ untranslated (and_true (is_listed w.memory page) (is_translated w.objects w.areas page.memory) (sym (in_pinned w.objects w.areas w.memory w.access_pins page) ∙ pin_is_of w.pins (pinned_pages w.objects w.areas w.memory w.access_pins) page (ap (λ (o : Option FrameNo). is_some o) is) p.only)).1)
+
+-- nor has a new one
+pub unpinned : (at : ℕ) (w : World) (left : List Object) (page : ObjectPage) → ArePinned at w → IsNew w left page → is_none (pinned_frame w.pins page) ≡ true
+unpinned at w left page p new = never_pinned at w page p new.2
+
+-- where none of the unpinned pages of these memory objects is lacking, each is there
+pub there_now : (w : World) (memory : List MemoryObject) (page : ObjectPage) → list_any (λ page. is_none (frame_now w.memory w.user_pages page)) (unpinned_pages (pinned_frame w.pins) memory) ≡ false → is_listed memory page ≡ true → is_none (pinned_frame w.pins page) ≡ true
+    → is_some (frame_now w.memory w.user_pages page) ≡ true
+there_now w memory page none_lacking listed free =
+    let within : list_any (is_page page) (unpinned_pages (pinned_frame w.pins) memory) ≡ true = page_kept (λ (p : ObjectPage). is_none (pinned_frame w.pins p)) (flat_map pages_of memory) page listed free in
+    there (frame_now w.memory w.user_pages page) (no_page (λ page. is_none (frame_now w.memory w.user_pages page)) (unpinned_pages (pinned_frame w.pins) memory) page none_lacking within)
+  where
+    there : (now : Option FrameNo) → is_none now ≡ false → is_some now ≡ true
+    there (Some frame) is = refl
+    there None is = cc
 
 -- the address space's first page table
 made_present : (at : ℕ) (w : World) (file : FileNo) (ioas id : ObjId) (width : Width) (automatic : Bool) (page : ObjectPage) → ArePinned at w → has_hwpt w.objects file ioas ≡ false → lacks_attached_page (view w) file ioas ≡ false
     → IsNew w (with_table file ioas id width automatic w.objects) page → is_some (frame_now w.memory w.user_pages page) ≡ true
 made_present at w file ioas id width automatic page p unused lacks new =
     let none_lacking = and_rest (not (has_hwpt w.objects file ioas)) _ (not_false _ unused) lacks in
-    let memory : List MemoryObject = filter (λ (m : MemoryObject). list_any (λ (a : Area). eqb a.memory m.number) (areas_of w.areas file ioas)) w.memory in
-    let within : list_any (is_page page) (unpinned_pages (pinned_frame w.pins) memory) ≡ true =
-    page_kept (λ (p : ObjectPage). is_none (pinned_frame w.pins p)) (flat_map pages_of memory) page (in_space w.memory w.areas file ioas page new.0 (over_space w file ioas id width automatic page new)) (unpinned at w (with_table file ioas id width automatic w.objects) page p new) in
-    there (frame_now w.memory w.user_pages page) (no_page (λ page. is_none (frame_now w.memory w.user_pages page)) (unpinned_pages (pinned_frame w.pins) memory) page none_lacking within)
-  where
-    there : (now : Option FrameNo) → is_none now ≡ false → is_some now ≡ true
-    there (Some frame) is = refl
-    there None is = cc
+    there_now w (filter (λ (m : MemoryObject). list_any (λ (a : Area). eqb a.memory m.number) (areas_of w.areas file ioas)) w.memory) page none_lacking
+    (in_space w.memory w.areas file ioas page new.0 (over_space w file ioas id width automatic page new))
+    (unpinned at w (with_table file ioas id width automatic w.objects) page p new)
 
 -- any page table that is made
 pub table_present : (at : ℕ) (w : World) (file : FileNo) (ioas id : ObjId) (width : Width) (automatic : Bool) (page : ObjectPage) → ArePinned at w → lacks_attached_page (view w) file ioas ≡ false → IsNew w (with_table file ioas id width automatic w.objects) page

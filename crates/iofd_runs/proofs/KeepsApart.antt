@@ -3,8 +3,9 @@ use Rattle.std.proofs.Common.{◌≡◌, ℕ, Bool, true, false, cond, ◌&&◌,
 use Rattle.std.specs.Prelude.{map}
 use Rattle.std.specs.List.{filter}
 use Rattle.std.proofs.lemmas.Bool.Decides.{nat_tests}
-use Rattle.iofd_words.specs.After.{changed, map_changes, hwpt_changes, attach_changes, target_changes, detach_changes, settle, without_areas, attached, detached, joined, mapped_area}
+use Rattle.iofd_words.specs.After.{attach_changes, attached, changed, copy_changes, detach_changes, detached, hwpt_changes, joined, map_changes, mapped_area, settle, target_changes, without_areas}
 use Rattle.iofd_words.specs.Attachments.{attachment_of}
+use Rattle.iofd_words.specs.Copies.{placed_as, source_in}
 use Rattle.iofd_words.specs.Files.{user_of, device_of}
 use Rattle.iofd_words.specs.FirstTrue.{first_true}
 use Rattle.iofd_words.specs.Objects.{binding_of, kind_of, settings_under}
@@ -34,7 +35,7 @@ use Rattle.iofd_words.specs.declared.reply.Reply.TheVariants as reply
 use Rattle.iofd_words.specs.declared.rows.Area.{Area}
 use Rattle.iofd_words.specs.declared.rows.Phase.{Phase}
 use Rattle.iofd_rows.proofs.Bools.{or_false, and_true, both_false, not_true, swapped}
-use Rattle.iofd_runs.proofs.MappedAt.{lies_at}
+use Rattle.iofd_runs.proofs.MappedAt.{copy_lies_at, lies_at}
 
 -- a and b are of one address space, and have an address in common
 abbrev clash : Area → Area → Bool
@@ -130,6 +131,11 @@ keeps_apart at w (event.Map file request) (reply.Iova iova) none answers apart =
     mapped : (user : Option UserNo) → are_apart (map_changes at w file request iova user).areas ≡ true
     mapped None = apart
     mapped (Some user) = are_apart-with_area (mapped_area at file request iova) w.areas (map_is_free w file request iova answers none) apart
+keeps_apart at w (event.Copy file request) (reply.Iova iova) none answers apart = copied (source_in (areas_of w.areas file request.src_ioas) request)
+  where
+    copied : (source : Option Area) → are_apart (copy_changes w file request iova source).areas ≡ true
+    copied None = apart
+    copied (Some source) = are_apart-with_area (mapped_area source.memory file (placed_as request) iova) w.areas (copy_lies_at w file request iova none answers).apart apart
 keeps_apart at w (event.Unmap file request) (reply.Bytes count) none answers apart = are_apart-filter _ w.areas apart
 keeps_apart at w (event.Unmap file request) (reply.Pending errno) none answers apart = are_apart-map _ w.areas ∙ apart
 keeps_apart at w (event.HwptAlloc file request) (reply.Id id) none answers apart = made (settings_under w.settings w.objects file request.device)

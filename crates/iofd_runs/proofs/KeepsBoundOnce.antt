@@ -1,10 +1,12 @@
 -- Every event keeps each device bound by at most one object.
 use Rattle.std.proofs.Common.{◌≡◌, ℕ, ◌&&◌, true, false, eqb, not, is_some, Option, Some, None, List, refl, ap, sym, ◌∙◌, arith}
 use Rattle.std.proofs.lemmas.Bool.{eqb-true}
-use Rattle.iofd_words.specs.After.{attach_changes, changed, detach_changes, goes_with, hwpt_changes, joined, map_changes, settle, target_changes, with_hwpt, without_areas, attached, detached}
+use Rattle.iofd_words.specs.After.{attach_changes, attached, changed, copy_changes, detach_changes, detached, goes_with, hwpt_changes, joined, map_changes, settle, target_changes, with_hwpt, without_areas}
 use Rattle.iofd_words.specs.Answers.{Answers}
+use Rattle.iofd_words.specs.Areas.{areas_of}
 use Rattle.iofd_words.specs.Attachments.{attachment_of, without_attachment}
 use Rattle.iofd_words.specs.Checks.{bind_checks, refusal}
+use Rattle.iofd_words.specs.Copies.{source_in}
 use Rattle.iofd_words.specs.Files.{device_of, user_of}
 use Rattle.iofd_words.specs.FirstTrue.{first_true}
 use Rattle.iofd_words.specs.Objects.{automatic_hwpt, binding_of, is_bound_as, is_bound_device, is_object, kind_of, settings_under, with_object}
@@ -21,6 +23,7 @@ use Rattle.iofd_words.specs.declared.numbers.ObjId.{ObjId}
 use Rattle.iofd_words.specs.declared.numbers.UserNo.{UserNo}
 use Rattle.iofd_words.specs.declared.reply.Reply.{Reply}
 use Rattle.iofd_words.specs.declared.reply.Reply.TheVariants as reply
+use Rattle.iofd_words.specs.declared.rows.Area.{Area}
 use Rattle.iofd_words.specs.declared.rows.Attachment.{Attachment}
 use Rattle.iofd_words.specs.declared.rows.Object.{Object}
 use Rattle.iofd_words.specs.declared.rows.ObjectKind.{ObjectKind}
@@ -68,6 +71,11 @@ keeps_once at w (event.Map file request) (reply.Iova iova) none answers once = m
     mapped : (user : Option UserNo) → DevicesOnce (map_changes at w file request iova user)
     mapped None = once
     mapped (Some user) = once
+keeps_once at w (event.Copy file request) (reply.Iova iova) none answers once = copied (source_in (areas_of w.areas file request.src_ioas) request)
+  where
+    copied : (source : Option Area) → DevicesOnce (copy_changes w file request iova source)
+    copied None = once
+    copied (Some source) = once
 keeps_once at w (event.Unmap file request) (reply.Bytes count) none answers once = once
 keeps_once at w (event.Unmap file request) (reply.Pending errno) none answers once = once
 keeps_once at w (event.HwptAlloc file request) (reply.Id id) none answers once = made (settings_under w.settings w.objects file request.device)

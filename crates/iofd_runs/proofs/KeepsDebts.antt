@@ -1,11 +1,12 @@
 -- Every event keeps each debtor attached to the address space of its area.
 use Rattle.std.proofs.Common.{◌≡◌, ℕ, true, false, not, Option, Some, None, List, refl}
-use Rattle.iofd_words.specs.After.{changed, map_changes, attach_changes, target_changes, detach_changes, hwpt_changes, made_hwpt, settle, without_areas, attached, detached, joined, mapped_area, with_hwpt}
+use Rattle.iofd_words.specs.After.{attach_changes, attached, changed, copy_changes, detach_changes, detached, hwpt_changes, joined, made_hwpt, map_changes, mapped_area, settle, target_changes, with_hwpt, without_areas}
 use Rattle.iofd_words.specs.Answers.{Answers, IsHwptOf, IsTarget}
-use Rattle.iofd_words.specs.Areas.{is_touched}
+use Rattle.iofd_words.specs.Areas.{areas_of, is_touched}
 use Rattle.iofd_words.specs.Attachments.{attachment_of}
-use Rattle.iofd_words.specs.Checks.{destroy_checks, is_used, map_checks, refusal}
+use Rattle.iofd_words.specs.Checks.{copy_checks, destroy_checks, is_used, map_checks, refusal}
 use Rattle.iofd_rows.specs.Debts.{DebtsAttached}
+use Rattle.iofd_words.specs.Copies.{placed_as, source_in}
 use Rattle.iofd_words.specs.Files.{user_of, device_of}
 use Rattle.iofd_rows.specs.Ids.{have_own_ids}
 use Rattle.iofd_words.specs.FirstTrue.{first_true}
@@ -14,6 +15,7 @@ use Rattle.iofd_words.specs.Settings.{DeviceSettings}
 use Rattle.iofd_words.specs.Tables.{with_tables}
 use Rattle.iofd_words.specs.View.{view}
 use Rattle.iofd_words.specs.World.{World}
+use Rattle.iofd_words.specs.declared.event.CopyRequest.{CopyRequest}
 use Rattle.iofd_words.specs.declared.event.Event.{Event}
 use Rattle.iofd_words.specs.declared.event.Event.TheVariants as event
 use Rattle.iofd_words.specs.declared.event.MapRequest.{MapRequest}
@@ -23,6 +25,7 @@ use Rattle.iofd_words.specs.declared.numbers.ObjId.{ObjId}
 use Rattle.iofd_words.specs.declared.numbers.UserNo.{UserNo}
 use Rattle.iofd_words.specs.declared.reply.Reply.{Reply}
 use Rattle.iofd_words.specs.declared.reply.Reply.TheVariants as reply
+use Rattle.iofd_words.specs.declared.rows.Area.{Area}
 use Rattle.iofd_words.specs.declared.rows.Attachment.{Attachment}
 use Rattle.iofd_words.specs.declared.rows.Object.{Object}
 use Rattle.iofd_words.specs.declared.rows.ObjectKind.{ObjectKind}
@@ -32,7 +35,7 @@ use Rattle.iofd_rows.proofs.Moves.{owed_area, owed_fewer, owed_flush, owed_leavi
 use Rattle.iofd_runs.proofs.ObjectsGo.{owed_closed, owed_destroyed, owed_unbound}
 use Rattle.iofd_rows.proofs.Owed.{EachOwed, IsSpace, debts_attached, each_owed, space_of}
 use Rattle.iofd_runs.proofs.OwnIds.{keeps_own_ids, unused}
-use Rattle.iofd_runs.proofs.NotRefused.{attach_passed, destroy_passed, hwpt_passed, join_passed, map_passed}
+use Rattle.iofd_runs.proofs.NotRefused.{attach_passed, copy_passed, destroy_passed, hwpt_passed, join_passed, map_passed}
 
 -- what holds of every world of a run
 pub record IsSound (w : World) : Type 0 where
@@ -46,6 +49,9 @@ IsOwed w = EachOwed w.objects w.attachments w.areas
 
 map_has_space : (w : World) (file : FileNo) (request : MapRequest) → first_true (map_checks (view w) file request) ≡ None → has_ioas w.objects file request.ioas ≡ true
 map_has_space w file request none = (map_passed (view w) file request none).space
+
+copy_has_space : (w : World) (file : FileNo) (request : CopyRequest) → first_true (copy_checks (view w) file request) ≡ None → has_ioas w.objects file request.dst_ioas ≡ true
+copy_has_space w file request none = (copy_passed (view w) file request none).space
 
 destroy_unused : (w : World) (file : FileNo) (id : ObjId) → first_true (destroy_checks (view w) file id) ≡ None → is_used (view w) file id (kind_of w.objects file id) ≡ false
 destroy_unused w file id none = (destroy_passed (view w) file id none).unused
@@ -61,6 +67,11 @@ keeps_owed at w (event.Map file request) (reply.Iova iova) none answers own each
     mapped : (user : Option UserNo) → IsOwed (map_changes at w file request iova user)
     mapped None = each
     mapped (Some user) = owed_area w.objects w.attachments w.areas (mapped_area at file request iova) refl (space_of w.objects file request.ioas (map_has_space w file request none)) each
+keeps_owed at w (event.Copy file request) (reply.Iova iova) none answers own each = copied (source_in (areas_of w.areas file request.src_ioas) request)
+  where
+    copied : (source : Option Area) → IsOwed (copy_changes w file request iova source)
+    copied None = each
+    copied (Some source) = owed_area w.objects w.attachments w.areas (mapped_area source.memory file (placed_as request) iova) refl (space_of w.objects file request.dst_ioas (copy_has_space w file request none)) each
 keeps_owed at w (event.Unmap file request) (reply.Bytes count) none answers own each = owed_fewer w.objects w.attachments w.areas (λ area. not (is_touched file request area)) each
 keeps_owed at w (event.Unmap file request) (reply.Pending errno) none answers own each = owed_leaving w.objects w.attachments w.areas file request each
 keeps_owed at w (event.HwptAlloc file request) (reply.Id id) none answers own each =

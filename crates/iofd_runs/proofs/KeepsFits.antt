@@ -1,18 +1,19 @@
 -- Areas are of whole pages and give some right, attachments rise by device, frames are of the pool, and objects and devices are known.
-use Rattle.std.proofs.Common.{◌≡◌, ℕ, ◌+◌, ◌<◌, ◌≤◌, ◌^◌, Bool, true, false, cond, ◌&&◌, ◌||◌, not, eqb, ltb, is_some, Option, Some, None, List, [], ◌∷◌, refl, arith, ◌++◌, IsTrue}
+use Rattle.std.proofs.Common.{◌≡◌, ℕ, ◌+◌, ◌<◌, ◌≤◌, ◌^◌, Bool, true, false, cond, ◌&&◌, ◌||◌, not, eqb, ltb, is_some, Option, Some, None, List, [], ◌∷◌, refl, arith, ◌++◌, IsTrue, ap, sym, leb, ◌∙◌}
 use Rattle.std.specs.List.{filter, list_all, find, filter_map, list_any}
 use Rattle.std.proofs.lemmas.Bool.Decides.{nat_tests}
-use Rattle.iofd_words.specs.After.{changed, map_changes, attach_changes, target_changes, detach_changes, hwpt_changes, made_hwpt, settle, without_areas, attached, detached, joined, mapped_area}
+use Rattle.iofd_words.specs.After.{attach_changes, attached, changed, copy_changes, detach_changes, detached, hwpt_changes, joined, made_hwpt, map_changes, mapped_area, settle, target_changes, without_areas}
 use Rattle.iofd_words.specs.Answers.{Answers, IsMappedAt}
 use Rattle.iofd_words.specs.Areas.{all_paid}
 use Rattle.iofd_words.specs.Attachments.{attachment_of, with_attachment}
-use Rattle.iofd_words.specs.Checks.{map_checks, refusal}
+use Rattle.iofd_words.specs.Checks.{copy_checks, map_checks, refusal}
+use Rattle.iofd_words.specs.Copies.{placed_as}
 use Rattle.iofd_words.specs.Files.{device_of, is_device, is_open, user_of}
 use Rattle.iofd_runs.specs.Fits.{RowsFit, begins_at_page, devices_rise, has_rights, is_of_pages}
 use Rattle.iofd_words.specs.FirstTrue.{first_true}
 use Rattle.iofd_words.specs.Frames.{frame_at, is_free}
 use Rattle.iofd_words.specs.Objects.{automatic_hwpt, binding_of, kind_of, settings_under}
-use Rattle.iofd_words.specs.Pages.{is_above_user, page_of}
+use Rattle.iofd_words.specs.Pages.{is_above_user, is_whole, page_of}
 use Rattle.iofd_words.specs.Pins.{ObjectPage, frame_now, is_page, pin_now, settled}
 use Rattle.iofd_words.specs.Rights.{is_fixed, is_readable, is_writeable}
 use Rattle.iofd_words.specs.Settings.{DeviceSettings}
@@ -20,6 +21,7 @@ use Rattle.iofd_words.specs.Span.{size_of, span_from}
 use Rattle.iofd_words.specs.Tables.{with_tables}
 use Rattle.iofd_words.specs.View.{view}
 use Rattle.iofd_words.specs.World.{World}
+use Rattle.iofd_words.specs.declared.event.CopyRequest.{CopyRequest}
 use Rattle.iofd_words.specs.declared.event.Event.{Event}
 use Rattle.iofd_words.specs.declared.event.Event.TheVariants as event
 use Rattle.iofd_words.specs.declared.event.MapRequest.{MapRequest}
@@ -29,6 +31,7 @@ use Rattle.iofd_words.specs.declared.numbers.Iova.{Iova}
 use Rattle.iofd_words.specs.declared.numbers.UserNo.{UserNo}
 use Rattle.iofd_words.specs.declared.reply.Reply.{Reply}
 use Rattle.iofd_words.specs.declared.reply.Reply.TheVariants as reply
+use Rattle.iofd_words.specs.declared.rows.Area.{Area}
 use Rattle.iofd_words.specs.declared.rows.Attachment.{Attachment}
 use Rattle.iofd_words.specs.declared.rows.MemoryObject.{MemoryObject}
 use Rattle.iofd_words.specs.declared.rows.Object.{Object}
@@ -38,11 +41,13 @@ use Rattle.iofd_words.specs.declared.rows.Pin.{Pin}
 use Rattle.iofd_words.specs.declared.rows.TableFrame.{TableFrame}
 use Rattle.iofd_words.specs.declared.rows.UserPage.{UserPage}
 use Rattle.iofd_rows.proofs.Bools.{and_true, both_true}
+use Rattle.iofd_rows.proofs.Each.{of_each}
 use Rattle.iofd_rows.proofs.Found.{all_filter, all_map, found_passes}
 use Rattle.iofd_rows.proofs.OwnMemory.{all-with_area}
+use Rattle.iofd_runs.proofs.CopySource.{IsSource, copied_size, source_area, source_is}
 use Rattle.iofd_runs.proofs.Known.{alloc_open, attached_one, bind_device, bind_open, bound_known, is_known, known_closed, known_hwpt, known_one}
-use Rattle.iofd_runs.proofs.MappedAt.{lies_at}
-use Rattle.iofd_runs.proofs.NotRefused.{attach_passed, hwpt_passed, join_passed, map_passed}
+use Rattle.iofd_runs.proofs.MappedAt.{copy_lies_at, lies_at}
+use Rattle.iofd_runs.proofs.NotRefused.{attach_passed, copy_passed, hwpt_passed, join_passed, map_passed}
 
 -- ---- a span of a length has that many numbers
 
@@ -72,6 +77,15 @@ some_rights false false some = cc
 
 mapped_rights : (at : ℕ) (w : World) (file : FileNo) (request : MapRequest) (iova : Iova) → first_true (map_checks (view w) file request) ≡ None → has_rights (mapped_area at file request iova) ≡ true
 mapped_rights at w file request iova none = some_rights (is_readable request.flags) (is_writeable request.flags) (map_passed (view w) file request none).right
+
+-- a COPY's area has the size of its source
+copied_pages : (w : World) (file : FileNo) (request : CopyRequest) (iova : Iova) (source : Area) → first_true (copy_checks (view w) file request) ≡ None → IsSource w file request source → list_all is_of_pages w.areas ≡ true
+    → is_of_pages (mapped_area source.memory file (placed_as request) iova) ≡ true
+copied_pages w file request iova source none is pages =
+    ap (λ (size : ℕ). is_whole size && leb size (2 ^ 48)) (sym (copied_size w file request iova source none is)) ∙ of_each is_of_pages w.areas source pages is.within
+
+copied_rights : (w : World) (file : FileNo) (request : CopyRequest) (iova : Iova) (source : Area) → first_true (copy_checks (view w) file request) ≡ None → has_rights (mapped_area source.memory file (placed_as request) iova) ≡ true
+copied_rights w file request iova source none = some_rights (is_readable request.flags) (is_writeable request.flags) (copy_passed (view w) file request none).right
 
 -- ---- one more attachment
 
@@ -173,6 +187,22 @@ keeps_fit at w (event.Map file request) (reply.Iova iova) none answers fits = ma
     mapped : (user : Option UserNo) → RowsFit (map_changes at w file request iova user)
     mapped None = fits
     mapped (Some user) = record { pages = all-with_area is_of_pages (mapped_area at file request iova) w.areas (mapped_pages at w file request iova none) fits.pages; starts = all-with_area begins_at_page (mapped_area at file request iova) w.areas (mapped_start at w file request iova answers none) fits.starts; rights = all-with_area has_rights (mapped_area at file request iova) w.areas (mapped_rights at w file request iova none) fits.rights; rise = fits.rise; user_frames = fits.user_frames; pin_frames = settled_frames (λ n. ltb n w.settings.pool) _ w.user_pages fits.user_frames _ _ w.pins fits.pin_frames; known = fits.known; attached = fits.attached }
+keeps_fit at w (event.Copy file request) (reply.Iova iova) none answers fits = copied (source_area w file request) refl
+  where
+    copied : (source : Option Area) → source_area w file request ≡ source → RowsFit (copy_changes w file request iova source)
+    copied None is = fits
+    copied (Some source) is =
+        let area = mapped_area source.memory file (placed_as request) iova in
+        record {
+          pages = all-with_area is_of_pages area w.areas (copied_pages w file request iova source none (source_is w file request source is) fits.pages) fits.pages;
+          starts = all-with_area begins_at_page area w.areas (copy_lies_at w file request iova none answers).whole fits.starts;
+          rights = all-with_area has_rights area w.areas (copied_rights w file request iova source none) fits.rights;
+          rise = fits.rise;
+          user_frames = fits.user_frames;
+          pin_frames = settled_frames (λ n. ltb n w.settings.pool) _ w.user_pages fits.user_frames _ _ w.pins fits.pin_frames;
+          known = fits.known;
+          attached = fits.attached;
+        }
 keeps_fit at w (event.Unmap file request) (reply.Bytes count) none answers fits = record { pages = all_filter is_of_pages _ w.areas fits.pages; starts = all_filter begins_at_page _ w.areas fits.starts; rights = all_filter has_rights _ w.areas fits.rights; rise = fits.rise; user_frames = fits.user_frames; pin_frames = settled_frames (λ n. ltb n w.settings.pool) _ w.user_pages fits.user_frames _ _ w.pins fits.pin_frames; known = fits.known; attached = fits.attached }
 keeps_fit at w (event.Unmap file request) (reply.Pending errno) none answers fits = record { pages = all_map is_of_pages is_of_pages _ w.areas (λ area is. is) fits.pages; starts = all_map begins_at_page begins_at_page _ w.areas (λ area is. is) fits.starts; rights = all_map has_rights has_rights _ w.areas (λ area is. is) fits.rights; rise = fits.rise; user_frames = fits.user_frames; pin_frames = fits.pin_frames; known = fits.known; attached = fits.attached }
 keeps_fit at w (event.HwptAlloc file request) (reply.Id id) none answers fits =

@@ -4,16 +4,18 @@ use Rattle.std.specs.List.{filter, list_all, list_any}
 use Rattle.std.proofs.lemmas.Bool.{eqb-true}
 use Rattle.std.proofs.lemmas.Bool.Decides.{nat_tests}
 use Rattle.std.proofs.lemmas.List.Folds.{list_all-append}
-use Rattle.iofd_words.specs.After.{changed, map_changes, hwpt_changes, attach_changes, target_changes, detach_changes, settle, without_areas, attached, detached, joined, mapped_area, memory_object}
+use Rattle.iofd_words.specs.After.{attach_changes, attached, changed, copy_changes, detach_changes, detached, hwpt_changes, joined, map_changes, mapped_area, memory_object, settle, target_changes, without_areas}
 use Rattle.iofd_words.specs.Answers.{Answers}
 use Rattle.iofd_words.specs.Areas.{areas_of, is_of}
 use Rattle.iofd_words.specs.Attachments.{attachment_of}
 use Rattle.iofd_words.specs.Checks.{refusal}
+use Rattle.iofd_words.specs.Copies.{placed_as}
 use Rattle.iofd_words.specs.Files.{user_of, device_of, numbered}
 use Rattle.iofd_words.specs.Objects.{binding_of, kind_of, settings_under}
 use Rattle.iofd_words.specs.Settings.{DeviceSettings, Settings}
 use Rattle.iofd_words.specs.Tables.{with_tables}
 use Rattle.iofd_words.specs.World.{World, opening}
+use Rattle.iofd_words.specs.declared.event.CopyRequest.{CopyRequest}
 use Rattle.iofd_words.specs.declared.event.Event.{Event}
 use Rattle.iofd_words.specs.declared.event.Event.TheVariants as event
 use Rattle.iofd_words.specs.declared.event.MapRequest.{MapRequest}
@@ -36,6 +38,7 @@ use Rattle.iofd_rows.proofs.Each.{IsIn, of_each}
 use Rattle.iofd_rows.proofs.Found.{all_filter, all_map, all_weaker}
 use Rattle.iofd_rows.proofs.ListTests.{or_left, or_right, any-filter, any_of_all}
 use Rattle.iofd_rows.proofs.OwnMemory.{all-with_area}
+use Rattle.iofd_runs.proofs.CopySource.{IsSource, source_area, source_is}
 use Rattle.iofd_runs.proofs.KeepsPins.{keeps_pins, later_pinned, none_over, tabled_pinned, opening_pinned}
 use Rattle.iofd_runs.specs.Owned.{AreasOwned, is_of_files_user, is_over_own}
 
@@ -70,6 +73,14 @@ owned_new at settings memory file request iova user is made =
     unlike : (n : ℕ) → ltb n at ≡ true → eqb n at ≡ false
     unlike n before = grind (arith, nat_tests)
 
+-- ---- a COPY
+
+-- the new area is over its source's memory object, and of its source's file
+owned_copy : (w : World) (file : FileNo) (request : CopyRequest) (iova : Iova) (source : Area) → IsSource w file request source → AreasOwned w → is_over_own w.settings w.memory (mapped_area source.memory file (placed_as request) iova) ≡ true
+owned_copy w file request iova source is o =
+    ap (λ (f : FileNo). list_all (λ (m : MemoryObject). not (eqb m.number source.memory) || is_of_files_user w.settings f m) w.memory) (sym is.of_file)
+    ∙ of_each (is_over_own w.settings w.memory) w.areas source o.owned is.within
+
 -- ---- memory objects go
 
 fewer_owned : (settings : Settings) (q : MemoryObject → Bool) (memory : List MemoryObject) (areas : List Area) → list_all (is_over_own settings memory) areas ≡ true → list_all (is_over_own settings (filter q memory)) areas ≡ true
@@ -92,6 +103,12 @@ keeps_owned at w (event.Map file request) (reply.Iova iova) p o = mapped (user_o
               (owned_new at w.settings w.memory file request iova user is p.made)
               (owned_still w.settings w.memory (memory_object at user request) w.areas (none_over at w.areas w.memory p.made p.sizes) o.owned);
         }
+keeps_owned at w (event.Copy file request) (reply.Iova iova) p o = copied (source_area w file request) refl
+  where
+    copied : (source : Option Area) → source_area w file request ≡ source → AreasOwned (copy_changes w file request iova source)
+    copied None is = o
+    copied (Some source) is =
+        record { owned = all-with_area (is_over_own w.settings w.memory) (mapped_area source.memory file (placed_as request) iova) w.areas (owned_copy w file request iova source (source_is w file request source is) o) o.owned }
 keeps_owned at w (event.Unmap file request) (reply.Bytes count) p o = record { owned = all_filter (is_over_own w.settings _) _ w.areas (fewer_owned w.settings _ w.memory w.areas o.owned) }
 keeps_owned at w (event.Unmap file request) (reply.Pending errno) p o = record { owned = all_map (is_over_own w.settings w.memory) (is_over_own w.settings w.memory) _ w.areas (λ a is. is) o.owned }
 keeps_owned at w (event.HwptAlloc file request) (reply.Id id) p o = made (settings_under w.settings w.objects file request.device)

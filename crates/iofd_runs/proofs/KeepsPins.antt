@@ -5,12 +5,13 @@ use Rattle.std.proofs.Math.Nat.{div-add-mod}
 use Rattle.std.specs.List.{filter, list_all, list_any}
 use Rattle.std.proofs.lemmas.Bool.Decides.{nat_tests}
 use Rattle.std.proofs.lemmas.List.Folds.{list_all-append, list_any-append}
-use Rattle.iofd_words.specs.After.{changed, map_changes, hwpt_changes, attach_changes, target_changes, detach_changes, settle, without_areas, attached, detached, joined, goes_with, mapped_area, memory_object}
+use Rattle.iofd_words.specs.After.{attach_changes, attached, changed, copy_changes, detach_changes, detached, goes_with, hwpt_changes, joined, map_changes, mapped_area, memory_object, settle, target_changes, without_areas}
 use Rattle.iofd_words.specs.Allowed.{AllowedRanges}
 use Rattle.iofd_words.specs.Answers.{Answers}
 use Rattle.iofd_words.specs.Areas.{is_of, is_touched, paid, with_area, with_phase}
 use Rattle.iofd_words.specs.Attachments.{attachment_of, without_attachment}
-use Rattle.iofd_words.specs.Checks.{lacks_attached_page, map_checks, refusal}
+use Rattle.iofd_words.specs.Checks.{copy_checks, lacks_attached_page, map_checks, refusal}
+use Rattle.iofd_words.specs.Copies.{placed_as}
 use Rattle.iofd_words.specs.Files.{user_of, device_of}
 use Rattle.iofd_words.specs.FirstTrue.{first_true}
 use Rattle.iofd_words.specs.Frames.{FrameWrite}
@@ -22,6 +23,7 @@ use Rattle.iofd_words.specs.Span.{size_of, span_from}
 use Rattle.iofd_words.specs.Tables.{with_tables}
 use Rattle.iofd_words.specs.View.{view}
 use Rattle.iofd_words.specs.World.{World, opening}
+use Rattle.iofd_words.specs.declared.event.CopyRequest.{CopyRequest}
 use Rattle.iofd_words.specs.declared.event.Event.{Event}
 use Rattle.iofd_words.specs.declared.event.Event.TheVariants as event
 use Rattle.iofd_words.specs.declared.event.MapRequest.{MapRequest}
@@ -47,11 +49,13 @@ use Rattle.iofd_rows.proofs.Bools.{and_rest, and_true, both_true, clash, not_fal
 use Rattle.iofd_rows.proofs.Each.{IsIn, in_filter, of_all, of_any, of_each}
 use Rattle.iofd_rows.proofs.Found.{all_filter, all_map, all_weaker}
 use Rattle.iofd_rows.proofs.ListTests.{any-filter, any_weaker, false_else, none_stronger, or_right}
+use Rattle.iofd_runs.proofs.CopiedPages.{IsAdded, added_page, copied_present}
+use Rattle.iofd_runs.proofs.CopySource.{copied_object, source_area, source_is}
 use Rattle.iofd_runs.proofs.MappedPages.{mapped_present}
 use Rattle.iofd_runs.proofs.NotRefused.{MapPassed, hwpt_passed, map_passed}
 use Rattle.iofd_rows.proofs.ObjectPages.{in_pinned, is_listed, listed_fewer, pinned_differ, translated-map, translated_fewer}
 use Rattle.iofd_rows.proofs.OnePin.{settled_once}
-use Rattle.iofd_rows.proofs.OwnMemory.{all-with_area, areas-filter, areas-map, areas-with_area, have_areas}
+use Rattle.iofd_rows.proofs.OwnMemory.{all-with_area, areas-filter, areas-map, areas-with_area, areas_still, have_areas}
 use Rattle.iofd_rows.proofs.PageLists.{all_pages, at_page, kept_page}
 use Rattle.iofd_rows.proofs.PageTables.{hwpt-filter, hwpt-unbound, same_hwpt}
 use Rattle.iofd_rows.proofs.PinsFollow.{settled_only, settled_pinned}
@@ -236,6 +240,27 @@ mapped_pinned at w file request iova user none is p =
         here : ((eqb at at && eqb (request.length / 4096 * 4096) (size_of (span_from iova.0 request.length))) || false) ≡ true
         here = rw (eqb_same at, size) refl
 
+-- one more area over a memory object that stands
+pub area_pinned : (at : ℕ) (w : World) (area : Area) → has_object w.memory area ≡ true → ((page : ObjectPage) → IsAdded w area page → is_some (frame_now w.memory w.user_pages page) ≡ true) → ArePinned at w
+    → ArePinned (at + 1) (settle w (record w { areas = with_area area w.areas }))
+area_pinned at w area has present p =
+    let q = later_pinned at w p in
+    settle_pinned at w (record w { areas = with_area area w.areas }) p
+    (record {
+      numbers = q.numbers;
+      made = q.made;
+      sizes = all-with_area (has_object w.memory) area w.areas has p.sizes;
+      used = areas_still area w.areas w.memory p.used;
+    })
+    (λ page within before. present page (added_page w area page within before))
+
+-- as a COPY makes it
+pub copied_pinned : (at : ℕ) (w : World) (file : FileNo) (request : CopyRequest) (iova : Iova) (source : Area) → first_true (copy_checks (view w) file request) ≡ None → source_area w file request ≡ Some source → ArePinned at w → ArePinned (at + 1) (copy_changes w file request iova (Some source))
+copied_pinned at w file request iova source none found p =
+    area_pinned at w (mapped_area source.memory file (placed_as request) iova)
+    (copied_object at w file request iova source p none (source_is w file request source found))
+    (λ page added. copied_present at w file request iova source page p none found added) p
+
 -- areas and objects go: no page comes
 pub gone_within : (w : World) (goes : Area → Bool) (left : List Object) (stays : MemoryObject → Bool) (page : ObjectPage) → ((file : FileNo) (ioas : ObjId) → has_hwpt left file ioas ≡ true → has_hwpt w.objects file ioas ≡ true)
     → list_any (is_page page) (pinned_pages left (filter (λ (a : Area). not (goes a)) w.areas) (filter stays w.memory) w.access_pins) ≡ true → list_any (is_page page) (pages_in w) ≡ true
@@ -319,6 +344,11 @@ keeps_pins at w (event.Map file request) (reply.Iova iova) none answers p = mapp
     mapped : (user : Option UserNo) → user_of w.settings file ≡ user → ArePinned (at + 1) (map_changes at w file request iova user)
     mapped None is = later_pinned at w p
     mapped (Some user) is = mapped_pinned at w file request iova user none is p
+keeps_pins at w (event.Copy file request) (reply.Iova iova) none answers p = copied (source_area w file request) refl
+  where
+    copied : (source : Option Area) → source_area w file request ≡ source → ArePinned (at + 1) (copy_changes w file request iova source)
+    copied None is = later_pinned at w p
+    copied (Some source) is = copied_pinned at w file request iova source none is p
 keeps_pins at w (event.Unmap file request) (reply.Bytes count) none answers p =
     gone_pinned at w (is_touched file request) w.objects w.attachments w.allowed w.closed (λ own ioas has. has) p
 keeps_pins at w (event.Unmap file request) (reply.Pending errno) none answers p = other_phases at w _ p

@@ -1,9 +1,11 @@
 -- Every event keeps the objects by rising file and id.
 use Rattle.std.proofs.Common.{◌≡◌, ℕ, true, false, Option, Some, None, List, refl}
-use Rattle.iofd_words.specs.After.{attach_changes, changed, detach_changes, hwpt_changes, joined, map_changes, settle, target_changes, with_hwpt, without_areas, attached, detached}
+use Rattle.iofd_words.specs.After.{attach_changes, attached, changed, copy_changes, detach_changes, detached, hwpt_changes, joined, map_changes, settle, target_changes, with_hwpt, without_areas}
 use Rattle.iofd_words.specs.Answers.{Answers, IsHwptFor, IsHwptOf, IsTarget}
+use Rattle.iofd_words.specs.Areas.{areas_of}
 use Rattle.iofd_words.specs.Attachments.{attachment_of}
 use Rattle.iofd_words.specs.Checks.{refusal}
+use Rattle.iofd_words.specs.Copies.{source_in}
 use Rattle.iofd_words.specs.Files.{device_of, user_of}
 use Rattle.iofd_words.specs.Objects.{automatic_hwpt, binding_of, is_fresh, kind_of, settings_under, with_object}
 use Rattle.iofd_words.specs.Settings.{DeviceSettings, Settings}
@@ -17,6 +19,7 @@ use Rattle.iofd_words.specs.declared.numbers.ObjId.{ObjId}
 use Rattle.iofd_words.specs.declared.numbers.UserNo.{UserNo}
 use Rattle.iofd_words.specs.declared.reply.Reply.{Reply}
 use Rattle.iofd_words.specs.declared.reply.Reply.TheVariants as reply
+use Rattle.iofd_words.specs.declared.rows.Area.{Area}
 use Rattle.iofd_words.specs.declared.rows.Attachment.{Attachment}
 use Rattle.iofd_words.specs.declared.rows.Object.{Object}
 use Rattle.iofd_words.specs.declared.rows.ObjectKind.{ObjectKind}
@@ -51,6 +54,11 @@ keeps_rising at w (event.Map file request) (reply.Iova iova) none answers rise =
     mapped : (user : Option UserNo) → ObjectsRise (map_changes at w file request iova user)
     mapped None = rise
     mapped (Some user) = rise
+keeps_rising at w (event.Copy file request) (reply.Iova iova) none answers rise = copied (source_in (areas_of w.areas file request.src_ioas) request)
+  where
+    copied : (source : Option Area) → ObjectsRise (copy_changes w file request iova source)
+    copied None = rise
+    copied (Some source) = rise
 keeps_rising at w (event.Unmap file request) (reply.Bytes count) none answers rise = rise
 keeps_rising at w (event.Unmap file request) (reply.Pending errno) none answers rise = rise
 keeps_rising at w (event.HwptAlloc file request) (reply.Id id) none answers rise = made (settings_under w.settings w.objects file request.device)

@@ -4,13 +4,14 @@ use Rattle.std.proofs.lemmas.Bool.{eqb-true}
 use Rattle.std.proofs.lemmas.Bool.Decides.{nat_tests}
 use Rattle.std.specs.List.{filter, list_all, list_any}
 use Rattle.std.proofs.lemmas.List.Folds.{list_any-append}
-use Rattle.iofd_words.specs.After.{changed, map_changes, attach_changes, target_changes, detach_changes, hwpt_changes, made_hwpt, settle, without_areas, attached, detached, joined, mapped_area, with_hwpt}
+use Rattle.iofd_words.specs.After.{attach_changes, attached, changed, copy_changes, detach_changes, detached, hwpt_changes, joined, made_hwpt, map_changes, mapped_area, settle, target_changes, with_hwpt, without_areas}
 use Rattle.iofd_words.specs.Allowed.{allowed_of, with_allowed}
 use Rattle.iofd_words.specs.Answers.{Answers, IsHwptFor, IsHwptOf, IsTarget}
 use Rattle.iofd_words.specs.Areas.{areas_of, is_of}
 use Rattle.iofd_words.specs.Attachments.{attachment_of, is_attached_to, with_attachment, without_attachment}
 use Rattle.iofd_words.specs.Bounds.{Bounds}
 use Rattle.iofd_words.specs.Checks.{narrows, narrows_by_width, narrows_without, refusal, unusable_in}
+use Rattle.iofd_words.specs.Copies.{placed_as, source_in}
 use Rattle.iofd_words.specs.Files.{device_of, user_of}
 use Rattle.iofd_words.specs.Objects.{automatic_hwpt, binding_of, is_hwpt_over, is_object, kind_of, settings_under, with_object}
 use Rattle.iofd_words.specs.Ranges.{meets_some}
@@ -48,7 +49,7 @@ use Rattle.iofd_rows.proofs.Unusable.{attached_of, each_not, none_of, usable_lef
 use Rattle.iofd_rows.specs.Reached.{ends_in, keeps_of}
 use Rattle.iofd_runs.proofs.AttachMoves.{IsMade, is_made}
 use Rattle.iofd_runs.proofs.KeepsDebts.{IsSound, keeps_sound, tabled_sound}
-use Rattle.iofd_runs.proofs.MappedAt.{lies_at}
+use Rattle.iofd_runs.proofs.MappedAt.{copy_lies_at, lies_at}
 use Rattle.iofd_runs.proofs.NotRefused.{allow_passed, attach_passed, hwpt_passed, join_passed}
 use Rattle.iofd_runs.proofs.OwnIds.{unused}
 use Rattle.iofd_runs.specs.InUsable.{AreasUsable, is_in_usable}
@@ -276,6 +277,11 @@ usable_keeps at w (event.Map file request) (reply.Iova iova) none answers sound 
     mapped : (user : Option UserNo) → AreasUsable (map_changes at w file request iova user)
     mapped None = u
     mapped (Some user) = record { usable = all-with_area (is_in_usable w) (mapped_area at file request iova) w.areas (not_false _ (lies_at w file request iova none answers).usable) u.usable; ranges = u.ranges }
+usable_keeps at w (event.Copy file request) (reply.Iova iova) none answers sound u = copied (source_in (areas_of w.areas file request.src_ioas) request)
+  where
+    copied : (source : Option Area) → AreasUsable (copy_changes w file request iova source)
+    copied None = u
+    copied (Some source) = record { usable = all-with_area (is_in_usable w) (mapped_area source.memory file (placed_as request) iova) w.areas (not_false _ (copy_lies_at w file request iova none answers).usable) u.usable; ranges = u.ranges }
 usable_keeps at w (event.Unmap file request) (reply.Bytes count) none answers sound u = record { usable = all_filter (is_in_usable w) _ w.areas u.usable; ranges = u.ranges }
 usable_keeps at w (event.Unmap file request) (reply.Pending errno) none answers sound u = record { usable = all_map (is_in_usable w) (is_in_usable w) _ w.areas (λ a is. is) u.usable; ranges = u.ranges }
 usable_keeps at w (event.HwptAlloc file request) (reply.Id id) none answers sound u =

@@ -1,5 +1,7 @@
 pub mod AttachMoves
 pub mod AttachedPages
+pub mod CopiedPages
+pub mod CopySource
 pub mod KeepsApart
 pub mod KeepsBoundOnce
 pub mod KeepsDebts

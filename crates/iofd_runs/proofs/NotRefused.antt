@@ -6,7 +6,8 @@ use Rattle.iofd_words.specs.Allowed.{are_ranges}
 use Rattle.iofd_words.specs.Areas.{areas_meet, has_no_room, is_cut, is_everything, unmapped_span}
 use Rattle.iofd_words.specs.Attachments.{attachment_of}
 use Rattle.iofd_words.specs.Bounds.{Bounds}
-use Rattle.iofd_words.specs.Checks.{allow_iovas_checks, attach_checks, bind_checks, bound_attach_checks, checks, close_checks, destroy_checks, detach_checks, device_write_checks, flush_checks, has_other_width, hwpt_alloc_checks, ioas_alloc_checks, is_attached, is_device_object, is_interrupt, is_outside_usable, is_used, lacks_attached_frames, lacks_attached_page, lacks_choice, lacks_mapped_frames, lacks_mapped_page, lacks_new_tables, lacks_room_for_hwpt, map_checks, narrows, narrows_by_width, overlaps, passes_limit_attached, passes_limit_mapped, refusal, target_checks, unbind_checks, unmap_checks, unusable_in, user_access_checks, user_map_checks, user_unmap_checks, user_write_checks}
+use Rattle.iofd_words.specs.Checks.{allow_iovas_checks, attach_checks, bind_checks, bound_attach_checks, checks, close_checks, copy_checks, destroy_checks, detach_checks, device_write_checks, flush_checks, has_other_width, hwpt_alloc_checks, ioas_alloc_checks, is_attached, is_device_object, is_interrupt, is_outside_usable, is_source_writable, is_used, lacks_attached_frames, lacks_attached_page, lacks_choice, lacks_copied_page, lacks_mapped_frames, lacks_mapped_page, lacks_new_tables, lacks_room_for_hwpt, map_checks, narrows, narrows_by_width, overlaps, passes_limit_attached, passes_limit_copied, passes_limit_mapped, refusal, source_of, target_checks, unbind_checks, unmap_checks, unusable_in, user_access_checks, user_map_checks, user_unmap_checks, user_write_checks}
+use Rattle.iofd_words.specs.Copies.{placed_as}
 use Rattle.iofd_words.specs.Files.{device_of, is_device, is_user}
 use Rattle.iofd_words.specs.FirstTrue.{first_true}
 use Rattle.iofd_words.specs.Objects.{device_under, has_ioas, is_bound_device, is_full, kind_of, objects_of, settings_under}
@@ -15,6 +16,7 @@ use Rattle.iofd_words.specs.Ranges.{meets_some}
 use Rattle.iofd_words.specs.Rights.{is_fixed, is_readable, is_writeable}
 use Rattle.iofd_words.specs.View.{View, view}
 use Rattle.iofd_words.specs.World.{World}
+use Rattle.iofd_words.specs.declared.event.CopyRequest.{CopyRequest}
 use Rattle.iofd_words.specs.declared.event.Event.{Event}
 use Rattle.iofd_words.specs.declared.event.HwptRequest.{HwptRequest}
 use Rattle.iofd_words.specs.declared.event.MapRequest.{MapRequest}
@@ -158,6 +160,109 @@ map_passed v file request none =
       present = tests_false rows 10 none;
       within_limit = tests_false rows 11 none;
       frames = tests_false rows 12 none;
+    }
+
+-- a COPY places its area where a MAP of that length would
+pub record CopyPassed (v : View) (file : FileNo) (request : CopyRequest) : Type 0 where
+  pub opened : v.is_open file ≡ true
+  pub right : not (is_readable request.flags || is_writeable request.flags) ≡ false
+  pub source_sum : is_above_sum request.src_iova.0 request.length ≡ false
+  pub sum : (is_fixed request.flags && is_above_sum request.dst_iova.0 request.length) ≡ false
+  pub some : eqb request.length 0 ≡ false
+  pub whole : is_whole request.length ≡ true
+  pub whole_source : is_whole request.src_iova.0 ≡ true
+  pub whole_iova : (is_fixed request.flags && not (is_whole request.dst_iova.0)) ≡ false
+  pub space : has_ioas v.objects file request.dst_ioas ≡ true
+  pub source_space : has_ioas v.objects file request.src_ioas ≡ true
+  pub found : is_none (source_of v file request) ≡ false
+  pub writable : (is_writeable request.flags && not (is_source_writable v file request)) ≡ false
+  pub usable : is_outside_usable v file (placed_as request) ≡ false
+  pub apart : overlaps v file (placed_as request) ≡ false
+  pub roomy : has_no_room (v.areas_of file request.dst_ioas) ≡ false
+  pub chosen : lacks_choice v file (placed_as request) ≡ false
+  pub present : lacks_copied_page v file request ≡ false
+  pub within_limit : passes_limit_copied v file request ≡ false
+  pub frames : lacks_mapped_frames v file (placed_as request) ≡ false
+
+pub copy_passed : (v : View) (file : FileNo) (request : CopyRequest) → first_true (copy_checks v file request) ≡ None → CopyPassed v file request
+unfolding copy_checks
+copy_passed v file request none =
+    let rows = copy_checks v file request in
+    let sums = or_false (is_above_sum request.src_iova.0 request.length) (is_fixed request.flags && is_above_sum request.dst_iova.0 request.length) (tests_false rows 2 none) in
+    let aligned = or_false (eqb request.length 0) (not (is_whole request.length && is_whole request.src_iova.0)) (tests_false rows 3 none) in
+    let wholes = and_true (is_whole request.length) (is_whole request.src_iova.0) (not_not _ aligned.1) in
+    let places = or_false (has_no_room (v.areas_of file request.dst_ioas)) (lacks_choice v file (placed_as request)) (tests_false rows 11 none) in
+    record {
+      opened = not_not _ (tests_false rows 0 none);
+      right = tests_false rows 1 none;
+      source_sum = sums.0;
+      sum = sums.1;
+      some = aligned.0;
+      whole = wholes.0;
+      whole_source = wholes.1;
+      whole_iova = tests_false rows 4 none;
+      space = not_not _ (tests_false rows 5 none);
+      source_space = not_not _ (tests_false rows 6 none);
+      found = tests_false rows 7 none;
+      writable = tests_false rows 8 none;
+      usable = tests_false rows 9 none;
+      apart = tests_false rows 10 none;
+      roomy = places.0;
+      chosen = places.1;
+      present = tests_false rows 12 none;
+      within_limit = tests_false rows 13 none;
+      frames = tests_false rows 14 none;
+    }
+
+-- what a MAP and a COPY that nothing refuses have in common: of the place of their area, asked for as a MAP asks
+pub record PlacePassed (v : View) (file : FileNo) (request : MapRequest) : Type 0 where
+  pub opened : v.is_open file ≡ true
+  pub right : not (is_readable request.flags || is_writeable request.flags) ≡ false
+  pub sum : (is_fixed request.flags && is_above_sum request.iova.0 request.length) ≡ false
+  pub some : eqb request.length 0 ≡ false
+  pub whole : is_whole request.length ≡ true
+  pub whole_iova : (is_fixed request.flags && not (is_whole request.iova.0)) ≡ false
+  pub space : has_ioas v.objects file request.ioas ≡ true
+  pub usable : is_outside_usable v file request ≡ false
+  pub apart : overlaps v file request ≡ false
+  pub roomy : has_no_room (v.areas_of file request.ioas) ≡ false
+  pub chosen : lacks_choice v file request ≡ false
+  pub frames : lacks_mapped_frames v file request ≡ false
+
+pub map_place : (v : View) (file : FileNo) (request : MapRequest) → first_true (map_checks v file request) ≡ None → PlacePassed v file request
+map_place v file request none =
+    let passed = map_passed v file request none in
+    record {
+      opened = passed.opened;
+      right = passed.right;
+      sum = passed.sum;
+      some = passed.some;
+      whole = passed.whole;
+      whole_iova = passed.whole_iova;
+      space = passed.space;
+      usable = passed.usable;
+      apart = passed.apart;
+      roomy = passed.roomy;
+      chosen = passed.chosen;
+      frames = passed.frames;
+    }
+
+pub copy_place : (v : View) (file : FileNo) (request : CopyRequest) → first_true (copy_checks v file request) ≡ None → PlacePassed v file (placed_as request)
+copy_place v file request none =
+    let passed = copy_passed v file request none in
+    record {
+      opened = passed.opened;
+      right = passed.right;
+      sum = passed.sum;
+      some = passed.some;
+      whole = passed.whole;
+      whole_iova = passed.whole_iova;
+      space = passed.space;
+      usable = passed.usable;
+      apart = passed.apart;
+      roomy = passed.roomy;
+      chosen = passed.chosen;
+      frames = passed.frames;
     }
 
 pub record UnmapPassed (v : View) (file : FileNo) (request : UnmapRequest) : Type 0 where

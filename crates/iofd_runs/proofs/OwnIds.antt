@@ -2,10 +2,12 @@
 use Rattle.std.proofs.Common.{◌≡◌, ℕ, Bool, true, false, cond, ◌||◌, not, Option, Some, None, List, [], ◌∷◌, refl, sym, ◌∙◌, arith, is_some}
 use Rattle.std.specs.List.{filter, find, list_any}
 use Rattle.std.proofs.lemmas.Bool.Decides.{nat_tests}
-use Rattle.iofd_words.specs.After.{changed, map_changes, attach_changes, target_changes, detach_changes, hwpt_changes, made_hwpt, settle, without_areas, attached, detached, joined, with_hwpt}
+use Rattle.iofd_words.specs.After.{attach_changes, attached, changed, copy_changes, detach_changes, detached, hwpt_changes, joined, made_hwpt, map_changes, settle, target_changes, with_hwpt, without_areas}
 use Rattle.iofd_words.specs.Answers.{Answers, IsHwptFor, IsHwptOf, IsTarget}
+use Rattle.iofd_words.specs.Areas.{areas_of}
 use Rattle.iofd_words.specs.Attachments.{attachment_of}
 use Rattle.iofd_words.specs.Checks.{refusal}
+use Rattle.iofd_words.specs.Copies.{source_in}
 use Rattle.iofd_words.specs.Files.{user_of, device_of}
 use Rattle.iofd_rows.specs.Ids.{have_own_ids}
 use Rattle.iofd_words.specs.Objects.{automatic_hwpt, binding_of, comes_before, is_fresh, is_object, kind_of, settings_under, with_object}
@@ -18,6 +20,7 @@ use Rattle.iofd_words.specs.declared.numbers.ObjId.{ObjId}
 use Rattle.iofd_words.specs.declared.numbers.UserNo.{UserNo}
 use Rattle.iofd_words.specs.declared.reply.Reply.{Reply}
 use Rattle.iofd_words.specs.declared.reply.Reply.TheVariants as reply
+use Rattle.iofd_words.specs.declared.rows.Area.{Area}
 use Rattle.iofd_words.specs.declared.rows.Attachment.{Attachment}
 use Rattle.iofd_words.specs.declared.rows.Object.{Object}
 use Rattle.iofd_words.specs.declared.rows.ObjectKind.{ObjectKind}
@@ -107,6 +110,11 @@ keeps_own_ids at w (event.Map file request) (reply.Iova iova) none answers own =
     mapped : (user : Option UserNo) → have_own_ids (map_changes at w file request iova user).objects ≡ true
     mapped None = own
     mapped (Some user) = own
+keeps_own_ids at w (event.Copy file request) (reply.Iova iova) none answers own = copied (source_in (areas_of w.areas file request.src_ioas) request)
+  where
+    copied : (source : Option Area) → have_own_ids (copy_changes w file request iova source).objects ≡ true
+    copied None = own
+    copied (Some source) = own
 keeps_own_ids at w (event.Unmap file request) (reply.Bytes count) none answers own = own
 keeps_own_ids at w (event.Unmap file request) (reply.Pending errno) none answers own = own
 keeps_own_ids at w (event.HwptAlloc file request) (reply.Id id) none answers own =

@@ -1,5 +1,5 @@
 -- The pages that are to be pinned, by memory objects and by areas: the same pages.
-use Rattle.std.proofs.Common.{◌≡◌, ℕ, ◌*◌, ◌/◌, Bool, true, false, cond, ◌&&◌, ◌||◌, not, eqb, ltb, List, [], ◌∷◌, refl, sym, ◌∙◌, arith}
+use Rattle.std.proofs.Common.{◌≡◌, ℕ, ◌*◌, ◌/◌, Bool, true, false, ◌&&◌, ◌||◌, eqb, ltb, List, [], ◌∷◌, refl, sym, ◌∙◌, arith}
 use Rattle.std.specs.List.{list_all, list_any}
 use Rattle.std.proofs.lemmas.Bool.Decides.{nat_tests}
 use Rattle.std.proofs.lemmas.Bool.{eqb-true}
@@ -10,12 +10,11 @@ use Rattle.iofd_words.specs.declared.rows.AccessPin.{AccessPin}
 use Rattle.iofd_words.specs.declared.rows.Area.{Area}
 use Rattle.iofd_words.specs.declared.rows.MemoryObject.{MemoryObject}
 use Rattle.iofd_words.specs.declared.rows.Object.{Object}
-use Rattle.iofd_rows.specs.Pinned.{differ, has_object, have_own_memory, have_own_numbers}
-use Rattle.iofd_rows.proofs.Bools.{and_true, both_true, not_true}
-use Rattle.iofd_rows.proofs.ListTests.{alike, any_of_all, any_weaker, none_stronger}
+use Rattle.iofd_rows.specs.Pinned.{has_object, have_own_numbers}
+use Rattle.iofd_rows.proofs.Bools.{and_true, both_true}
+use Rattle.iofd_rows.proofs.ListTests.{alike, any_of_all, any_weaker}
 use Rattle.iofd_rows.proofs.ObjectPages.{has_page, in_pinned, is_listed, listed_is, one_count}
-use Rattle.iofd_rows.proofs.OnePin.{differ-append, pages_differ}
-use Rattle.iofd_rows.proofs.PageLists.{any-if, any-pinned, in_pages, memory_of_page, memory_of_pinned, pages_by_area, pins_page}
+use Rattle.iofd_rows.proofs.PageLists.{any-pinned, in_pages, memory_of_page, pages_by_area, pins_page}
 
 -- a page of an area's memory object is one of the area's pages
 covered : (memory : List MemoryObject) (a : Area) (page : ObjectPage) → have_own_numbers memory ≡ true → has_object memory a ≡ true → is_listed memory page ≡ true → eqb a.memory page.memory ≡ true → list_any (is_page page) (area_pages a) ≡ true
@@ -78,18 +77,3 @@ same_pages objects areas memory pins page numbers sizes =
             by_test : (b : Bool) → pins_page objects page a ≡ b → (b || list_any (pins_page objects page) rows) ≡ true → (list_any (pins_page objects page) rows ≡ true → is_listed memory page ≡ true) → is_listed memory page ≡ true
             by_test true is here later = listed a (and_true (has_object memory a) (list_all (has_object memory) rows) sized).0 (and_true (has_hwpt objects a.file a.ioas) (list_any (is_page page) (area_pages a)) is).1
             by_test false is here later = later here
-
--- no page is one of two areas with memory objects of their own
-pub area_pages_differ : (objects : List Object) (areas : List Area) → have_own_memory areas ≡ true → differ (pages_by_area objects areas) ≡ true
-area_pages_differ objects [] own = refl
-area_pages_differ objects (area ∷ areas) own =
-    let owns = and_true (not (list_any (λ (a : Area). eqb a.memory area.memory) areas)) (have_own_memory areas) own in
-    differ-append (cond (has_hwpt objects area.file area.ioas) (area_pages area) []) (pages_by_area objects areas) (by_table (has_hwpt objects area.file area.ioas)) (area_pages_differ objects areas owns.1)
-    (λ page within. any-pinned objects areas page ∙ none_stronger (pins_page objects page) (λ (a : Area). eqb a.memory page.memory) areas (λ a pins. memory_of_pinned objects a page pins) (others page (memory_of_page area page (and_true _ _ (sym (any-if page (area_pages area) (has_hwpt objects area.file area.ioas)) ∙ within)).1) (not_true _ owns.0)))
-  where
-    by_table : (b : Bool) → differ (cond b (area_pages area) []) ≡ true
-    by_table true = pages_differ area.memory 0 _
-    by_table false = refl
-
-    others : (page : ObjectPage) → eqb area.memory page.memory ≡ true → list_any (λ (a : Area). eqb a.memory area.memory) areas ≡ false → list_any (λ (a : Area). eqb a.memory page.memory) areas ≡ false
-    others page is none = let same : area.memory ≡ page.memory = eqb-true area.memory page.memory is in rw (← same) none

@@ -1,9 +1,11 @@
 -- No event changes what a server was opened with.
 use Rattle.std.proofs.Common.{◌≡◌, ℕ, Option, Some, None, List, refl, ◌∙◌}
-use Rattle.iofd_words.specs.After.{changed, map_changes, attach_changes, target_changes, detach_changes, hwpt_changes, settle, without_areas, attached, detached, joined}
+use Rattle.iofd_words.specs.After.{attach_changes, attached, changed, copy_changes, detach_changes, detached, hwpt_changes, joined, map_changes, settle, target_changes, without_areas}
 use Rattle.iofd_words.specs.Answers.{Answers}
+use Rattle.iofd_words.specs.Areas.{areas_of}
 use Rattle.iofd_words.specs.Attachments.{attachment_of}
 use Rattle.iofd_words.specs.Checks.{refusal}
+use Rattle.iofd_words.specs.Copies.{source_in}
 use Rattle.iofd_words.specs.Files.{user_of, device_of}
 use Rattle.iofd_words.specs.Objects.{binding_of, kind_of, settings_under}
 use Rattle.iofd_words.specs.Settings.{DeviceSettings, Settings}
@@ -15,6 +17,7 @@ use Rattle.iofd_words.specs.declared.numbers.FrameNo.{FrameNo}
 use Rattle.iofd_words.specs.declared.numbers.UserNo.{UserNo}
 use Rattle.iofd_words.specs.declared.reply.Reply.{Reply}
 use Rattle.iofd_words.specs.declared.reply.Reply.TheVariants as reply
+use Rattle.iofd_words.specs.declared.rows.Area.{Area}
 use Rattle.iofd_words.specs.declared.rows.Attachment.{Attachment}
 use Rattle.iofd_words.specs.declared.rows.Object.{Object}
 use Rattle.iofd_words.specs.declared.rows.ObjectKind.{ObjectKind}
@@ -28,6 +31,11 @@ changed_settings at w (event.Map file request) (reply.Iova iova) = mapped (user_
     mapped : (user : Option UserNo) → (map_changes at w file request iova user).settings ≡ w.settings
     mapped None = refl
     mapped (Some user) = refl
+changed_settings at w (event.Copy file request) (reply.Iova iova) = copied (source_in (areas_of w.areas file request.src_ioas) request)
+  where
+    copied : (source : Option Area) → (copy_changes w file request iova source).settings ≡ w.settings
+    copied None = refl
+    copied (Some source) = refl
 changed_settings at w (event.Unmap file request) (reply.Bytes count) = refl
 changed_settings at w (event.Unmap file request) (reply.Pending errno) = refl
 changed_settings at w (event.HwptAlloc file request) (reply.Id id) =

@@ -3,10 +3,11 @@
 use Rattle.std.proofs.Common.{length, ◌≡◌, ℕ, ◌-◌, map, Bool, true, false, cond, ◌&&◌, ◌||◌, not, eqb, is_some, Option, Some, None, List, [], ◌∷◌, refl, ap, sym, ◌∙◌, inl, inr, ⊎_elim, subst}
 use Rattle.std.specs.List.{filter, find, flat_map, list_all, list_any}
 use Rattle.std.proofs.lemmas.List.Folds.{list_all-append}
-use Rattle.iofd_words.specs.After.{attach_changes, attached, changed, detach_changes, detached, goes_with, hwpt_changes, joined, made_hwpt, map_changes, settle, target_changes, with_hwpt, without_areas}
+use Rattle.iofd_words.specs.After.{attach_changes, attached, changed, copy_changes, detach_changes, detached, goes_with, hwpt_changes, joined, made_hwpt, map_changes, settle, target_changes, with_hwpt, without_areas}
 use Rattle.iofd_words.specs.Answers.{Answers, IsHwptFor, IsHwptOf, IsTarget}
 use Rattle.iofd_words.specs.Areas.{all_paid, areas_of, is_of, is_touched, leaving, paid, with_leaving, with_phase}
 use Rattle.iofd_words.specs.Attachments.{attachment_of, devices_of, without_attachment}
+use Rattle.iofd_words.specs.Copies.{source_in}
 use Rattle.iofd_words.specs.Files.{device_of, user_of}
 use Rattle.iofd_words.specs.Levels.{levels_of}
 use Rattle.iofd_words.specs.Objects.{automatic_hwpt, binding_of, is_bound_device, is_hwpt, is_ioas, is_object, kind_of, settings_under, with_object}
@@ -171,6 +172,7 @@ finds_table objects pt_id (Some bound) (Some d) =
 -- an event that makes no page table and no live area
 abbrev pub MakesNone : {A : Type 0} → World → Event A → Type 0
 MakesNone w (event.Map file request) = ⊥
+MakesNone w (event.Copy file request) = ⊥
 MakesNone w (event.HwptAlloc file request) = ⊥
 MakesNone w (event.Attach device pt_id) = finds_table w.objects pt_id (binding_of w.objects device) (device_of w.settings device) ≡ true
 MakesNone w e = Unit {0}
@@ -205,6 +207,7 @@ changed_within : {A : Type 0} → (at : ℕ) (w : World) (e : Event A) (answer :
 unfolding changed settle without_areas
 changed_within at w (event.IoasAlloc file) (reply.Id id) makes = record { hwpts = hwpts_other (record { file = file; id = id; kind = kind.Ioas }) w.objects refl; lived = live_same w.areas }
 changed_within at w (event.Map file request) answer makes = absurd makes
+changed_within at w (event.Copy file request) answer makes = absurd makes
 changed_within at w (event.HwptAlloc file request) answer makes = absurd makes
 changed_within at w (event.Unmap file request) (reply.Bytes count) makes = record { hwpts = hwpts_same w.objects; lived = live_fewer (λ area. not (is_touched file request area)) w.areas }
 changed_within at w (event.Unmap file request) (reply.Pending errno) makes =
@@ -346,6 +349,11 @@ hwpts_stay at w (event.Map file request) (reply.Iova iova) answers takes = mappe
     mapped : (user : Option UserNo) → HwptsStay w.objects (map_changes at w file request iova user).objects
     mapped None = stay_same w.objects
     mapped (Some user) = stay_same w.objects
+hwpts_stay at w (event.Copy file request) (reply.Iova iova) answers takes = copied (source_in (areas_of w.areas file request.src_ioas) request)
+  where
+    copied : (source : Option Area) → HwptsStay w.objects (copy_changes w file request iova source).objects
+    copied None = stay_same w.objects
+    copied (Some source) = stay_same w.objects
 hwpts_stay at w (event.Unmap file request) (reply.Bytes count) answers takes = stay_same w.objects
 hwpts_stay at w (event.Unmap file request) (reply.Pending errno) answers takes = stay_same w.objects
 hwpts_stay at w (event.HwptAlloc file request) (reply.Id id) answers takes = made (settings_under w.settings w.objects file request.device)

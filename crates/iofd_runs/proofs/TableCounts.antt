@@ -128,7 +128,7 @@ module _ (file : FileNo) (ioas : ObjId) where
       in
       ap (λ ps. lacking has (root_place width ∷ ps)) new ∙ rw parts.0 (lacking_after has first (own ++ last) olds.0 ∙ lacking_before has own last olds.1)
 
--- ---- the tables that a MAP adds
+-- ---- the tables that a MAP or a COPY adds
 
 and_none : (a : Bool) → (a && false) ≡ false
 and_none true = refl

@@ -2,9 +2,10 @@
 use Rattle.std.specs.Prelude.{ℕ, ◌/◌, Bool, true, false, ◌==◌, ◌&&◌, not, Option, Some, None, List, [], ◌∷◌, ◌++◌, filter}
 use Rattle.std.specs.List.{list_any}
 use Rattle.iofd_words.specs.Allowed.{with_allowed, without_allowed}
-use Rattle.iofd_words.specs.Areas.{is_of, is_touched, with_area, with_leaving, all_paid}
+use Rattle.iofd_words.specs.Areas.{areas_of, is_of, is_touched, with_area, with_leaving, all_paid}
 use Rattle.iofd_words.specs.Attachments.{attachment_of, has_device_on, devices_of, with_attachment, without_attachment}
 use Rattle.iofd_words.specs.Bounds.{Bounds}
+use Rattle.iofd_words.specs.Copies.{placed_as, source_in}
 use Rattle.iofd_words.specs.Files.{user_of, device_of}
 use Rattle.iofd_words.specs.Frames.{frame_at, with_write, without_frame, without_page}
 use Rattle.iofd_words.specs.Objects.{automatic_hwpt, binding_of, is_automatic, is_object, kind_of, settings_under, with_object, without_device_object, without_object}
@@ -14,6 +15,7 @@ use Rattle.iofd_words.specs.Rights.{is_writeable, rights_of}
 use Rattle.iofd_words.specs.Settings.{DeviceSettings}
 use Rattle.iofd_words.specs.Span.{span_from}
 use Rattle.iofd_words.specs.World.{World}
+use Rattle.iofd_words.specs.declared.event.CopyRequest.{CopyRequest}
 use Rattle.iofd_words.specs.declared.event.Event.{Event}
 use Rattle.iofd_words.specs.declared.event.Event.TheVariants as event
 use Rattle.iofd_words.specs.declared.event.HwptRequest.{HwptRequest}
@@ -57,7 +59,7 @@ abbrev pub memory_object : ℕ → UserNo → MapRequest → MemoryObject
 memory_object at user request =
     record { number = at; user = user; va = request.user_va; count = request.length / 4096; writable = is_writeable request.flags }
 
--- the area lies at the address that was answered
+-- the area lies at the address that was answered, over the memory object of this number
 abbrev pub mapped_area : ℕ → FileNo → MapRequest → Iova → Area
 mapped_area at file request iova =
     record {
@@ -85,6 +87,12 @@ map_changes at w file request iova (Some user) =
       memory = w.memory ++ memory_object at user request ∷ [];
       areas = with_area (mapped_area at file request iova) w.areas;
     })
+
+-- a COPY makes another area over the memory object of its source
+abbrev pub copy_changes : World → FileNo → CopyRequest → Iova → Option Area → World
+copy_changes w file request iova None = w
+copy_changes w file request iova (Some source) =
+    settle w (record w { areas = with_area (mapped_area source.memory file (placed_as request) iova) w.areas })
 
 -- ---- devices come and go
 
@@ -164,6 +172,10 @@ ranges_allowed w file ioas ranges answer = w
 abbrev pub mapped : ℕ → World → FileNo → MapRequest → Reply → World
 mapped at w file request (reply.Iova iova) = map_changes at w file request iova (user_of w.settings file)
 mapped at w file request answer = w
+
+abbrev pub copied : World → FileNo → CopyRequest → Reply → World
+copied w file request (reply.Iova iova) = copy_changes w file request iova (source_in (areas_of w.areas file request.src_ioas) request)
+copied w file request answer = w
 
 abbrev pub unmapped : World → FileNo → UnmapRequest → Reply → World
 unmapped w file request (reply.Bytes count) = settle w (without_areas (is_touched file request) w)
@@ -246,6 +258,7 @@ unfoldable pub changed : {A : Type 0} → ℕ → World → Event A → Reply �
 changed at w (event.IoasAlloc file) answer = allocated w file answer
 changed at w (event.AllowIovas file ioas ranges) answer = ranges_allowed w file ioas ranges answer
 changed at w (event.Map file request) answer = mapped at w file request answer
+changed at w (event.Copy file request) answer = copied w file request answer
 changed at w (event.Unmap file request) answer = unmapped w file request answer
 changed at w (event.HwptAlloc file request) answer = hwpt_allocated w file request answer
 changed at w (event.Destroy file id) answer = destroyed w file id answer

@@ -39,6 +39,7 @@ abbrev pub ranges_of : {A : Type 0} → Event A → List Bounds
 ranges_of (event.AllowIovas file ioas ranges) = ranges
 ranges_of (event.IoasAlloc file) = []
 ranges_of (event.Map file request) = []
+ranges_of (event.Copy file request) = []
 ranges_of (event.Unmap file request) = []
 ranges_of (event.HwptAlloc file request) = []
 ranges_of (event.Destroy file id) = []

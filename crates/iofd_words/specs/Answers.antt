@@ -4,6 +4,7 @@ use Rattle.std.specs.Prelude.{◌≡◌, ℕ, Bool, true, false, not, Option, So
 use Rattle.iofd_words.specs.Areas.{is_waiting, touched_bytes}
 use Rattle.iofd_words.specs.Attachments.{devices_of}
 use Rattle.iofd_words.specs.Checks.{may_choose}
+use Rattle.iofd_words.specs.Copies.{placed_as}
 use Rattle.iofd_words.specs.Files.{device_of}
 use Rattle.iofd_words.specs.Frames.{is_free}
 use Rattle.iofd_words.specs.Objects.{automatic_hwpt, binding_of, is_fresh, kind_of}
@@ -93,6 +94,7 @@ unfoldable pub Answers : {A : Type 0} → World → Event A → Reply → Type 0
 Answers w (event.IoasAlloc file) answer = AnswersId (λ id. IsTrue (is_fresh w.objects file id)) answer
 Answers w (event.AllowIovas file ioas ranges) answer = AnswersDone answer
 Answers w (event.Map file request) answer = AnswersIova (IsMappedAt w file request (is_fixed request.flags)) answer
+Answers w (event.Copy file request) answer = AnswersIova (IsMappedAt w file (placed_as request) (is_fixed request.flags)) answer
 Answers w (event.Unmap file request) answer = UnmapAnswers w file request answer
 Answers w (event.HwptAlloc file request) answer = AnswersId (λ id. IsTrue (is_fresh w.objects file id)) answer
 Answers w (event.Destroy file id) answer = AnswersDone answer

@@ -7,6 +7,7 @@ use Rattle.iofd_words.specs.Areas.{areas_meet, has_no_room, is_cut, is_everythin
 use Rattle.iofd_words.specs.Attachments.{attachment_of, has_device_on}
 use Rattle.iofd_words.specs.Files.{is_user, is_device, limit_of, user_of, device_of}
 use Rattle.iofd_words.specs.Bounds.{Bounds}
+use Rattle.iofd_words.specs.Copies.{is_writable, placed_as, source_in}
 use Rattle.iofd_words.specs.FirstTrue.{first_true}
 use Rattle.iofd_words.specs.Objects.{kind_of, has_ioas, has_hwpt, automatic_hwpt, is_full, is_hwpt_over, objects_of, is_bound_device, device_in, device_under, settings_under}
 use Rattle.iofd_words.specs.Pages.{is_whole, page_of, is_above_sum, is_above_user, crosses}
@@ -21,6 +22,7 @@ use Rattle.iofd_words.specs.Usable.{allowed_spans, beyond, interrupt_range, occu
 use Rattle.iofd_words.specs.View.{View, view}
 use Rattle.iofd_words.specs.Width.{bits_of}
 use Rattle.iofd_words.specs.World.{World}
+use Rattle.iofd_words.specs.declared.event.CopyRequest.{CopyRequest}
 use Rattle.iofd_words.specs.declared.event.Event.{Event}
 use Rattle.iofd_words.specs.declared.event.Event.TheVariants as event
 use Rattle.iofd_words.specs.declared.event.HwptRequest.{HwptRequest}
@@ -34,6 +36,7 @@ use Rattle.iofd_words.specs.declared.numbers.ObjId.{ObjId}
 use Rattle.iofd_words.specs.declared.numbers.UserNo.{UserNo}
 use Rattle.iofd_words.specs.declared.refusal.Cause.{Cause}
 use Rattle.iofd_words.specs.declared.refusal.Cause.TheVariants as cause
+use Rattle.iofd_words.specs.declared.rows.Area.{Area}
 use Rattle.iofd_words.specs.declared.rows.ObjectKind.{ObjectKind}
 use Rattle.iofd_words.specs.declared.rows.ObjectKind.TheVariants as kind
 use Rattle.iofd_words.specs.declared.width.Width.{Width}
@@ -114,6 +117,34 @@ abbrev pub passes_limit_attached : View → FileNo → ObjId → Bool
 passes_limit_attached v file ioas =
     not (has_hwpt v.objects file ioas)
     && passes_limit v (user_of v.settings file) (length (newly_pinned v file ioas))
+
+-- the live area whose span is exactly the source range of a COPY
+abbrev pub source_of : View → FileNo → CopyRequest → Option Area
+source_of v file request = source_in (v.areas_of file request.src_ioas) request
+
+-- its memory may be written by devices
+abbrev pub is_source_writable : View → FileNo → CopyRequest → Bool
+is_source_writable v file request =
+    elim (source_of v file request) [ Some source ↦ is_writable v.memory source.memory | None ↦ false ]
+
+-- the pages that a COPY into an address space with a page table pins: those of the source's memory object that aren't pinned yet
+abbrev pub newly_copied : View → FileNo → CopyRequest → List ObjectPage
+newly_copied v file request =
+    elim (source_of v file request) [
+      | Some source ↦ unpinned_pages v.pinned_frame (filter (λ m. m.number == source.memory) v.memory)
+      | None ↦ []
+    ]
+
+-- they are needed
+abbrev pub lacks_copied_page : View → FileNo → CopyRequest → Bool
+lacks_copied_page v file request =
+    has_hwpt v.objects file request.dst_ioas && list_any (λ page. is_none (v.frame_now page)) (newly_copied v file request)
+
+-- with them the user would have more than the limit allows
+abbrev pub passes_limit_copied : View → FileNo → CopyRequest → Bool
+passes_limit_copied v file request =
+    has_hwpt v.objects file request.dst_ioas
+    && passes_limit v (user_of v.settings file) (length (newly_copied v file request))
 
 -- how many tables an object lacks to map these pages, where it is a page table over the address space
 abbrev pub tables_lacked : View → FileNo → ObjId → List ℕ → ObjectKind → ℕ
@@ -276,6 +307,25 @@ map_checks v file request =
     ∷ (cause.Frames, lacks_mapped_frames v file request)
     ∷ []
 
+unfoldable pub copy_checks : View → FileNo → CopyRequest → List (Cause × Bool)
+copy_checks v file request =
+    (cause.Id, not (v.is_open file))
+    ∷ (cause.NoRight, not (is_readable request.flags || is_writeable request.flags))
+    ∷ (cause.Sum, is_above_sum request.src_iova.0 request.length || (is_fixed request.flags && is_above_sum request.dst_iova.0 request.length))
+    ∷ (cause.Align, request.length == 0 || not (is_whole request.length && is_whole request.src_iova.0))
+    ∷ (cause.Align, is_fixed request.flags && not (is_whole request.dst_iova.0))
+    ∷ (cause.Id, not (has_ioas v.objects file request.dst_ioas))
+    ∷ (cause.Id, not (has_ioas v.objects file request.src_ioas))
+    ∷ (cause.Span, is_none (source_of v file request))
+    ∷ (cause.Rights, is_writeable request.flags && not (is_source_writable v file request))
+    ∷ (cause.Reserved, is_outside_usable v file (placed_as request))
+    ∷ (cause.Overlap, overlaps v file (placed_as request))
+    ∷ (cause.Full, has_no_room (v.areas_of file request.dst_ioas) || lacks_choice v file (placed_as request))
+    ∷ (cause.Absent, lacks_copied_page v file request)
+    ∷ (cause.Account, passes_limit_copied v file request)
+    ∷ (cause.Frames, lacks_mapped_frames v file (placed_as request))
+    ∷ []
+
 unfoldable pub unmap_checks : View → FileNo → UnmapRequest → List (Cause × Bool)
 unmap_checks v file request =
     (cause.Id, not (v.is_open file))
@@ -368,6 +418,7 @@ abbrev pub checks : {A : Type 0} → View → Event A → List (Cause × Bool)
 checks v (event.IoasAlloc file) = ioas_alloc_checks v file
 checks v (event.AllowIovas file ioas ranges) = allow_iovas_checks v file ioas ranges
 checks v (event.Map file request) = map_checks v file request
+checks v (event.Copy file request) = copy_checks v file request
 checks v (event.Unmap file request) = unmap_checks v file request
 checks v (event.HwptAlloc file request) = hwpt_alloc_checks v file request
 checks v (event.Destroy file id) = destroy_checks v file id

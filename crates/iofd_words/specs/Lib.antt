@@ -6,6 +6,7 @@ pub mod Attachments
 pub mod Bounds
 pub mod Burst
 pub mod Checks
+pub mod Copies
 pub mod DeviceSet
 pub mod Fault
 pub mod Files

@@ -20,6 +20,18 @@ pub struct MapRequest {
     pub iova: Iova,
 }
 
+/// What IOAS_COPY asks for (uapi header, `struct iommu_ioas_copy`): the memory mapped at exactly the source range is mapped in the
+/// target as well. Lengths and addresses are in bytes.
+#[derive(Clone, Copy, PartialEq, Eq, Debug)]
+pub struct CopyRequest {
+    pub flags: MapFlags,
+    pub dst_ioas: ObjId,
+    pub src_ioas: ObjId,
+    pub length: u64,
+    pub dst_iova: Iova,
+    pub src_iova: Iova,
+}
+
 /// What IOAS_UNMAP asks for (uapi header, `struct iommu_ioas_unmap`). Iova 0 with a length of
 /// 2^64 - 1 names every address.
 #[derive(Clone, Copy, PartialEq, Eq, Debug)]
@@ -46,6 +58,8 @@ pub enum Event<A: Allocator = Global> {
     AllowIovas(FileNo, ObjId, RangeList<A>),
     /// IOAS_MAP: maps user memory at an address.
     Map(FileNo, MapRequest),
+    /// IOAS_COPY: maps the memory of an area a second time.
+    Copy(FileNo, CopyRequest),
     /// IOAS_UNMAP: takes areas away.
     Unmap(FileNo, UnmapRequest),
     /// HWPT_ALLOC: makes a hardware page table.
@@ -87,6 +101,7 @@ impl<A: Allocator + Copy> Event<A> {
                 Event::AllowIovas(*file, *ioas, ranges.copied(alloc)?)
             }
             Event::Map(file, request) => Event::Map(*file, *request),
+            Event::Copy(file, request) => Event::Copy(*file, *request),
             Event::Unmap(file, request) => Event::Unmap(*file, *request),
             Event::HwptAlloc(file, request) => Event::HwptAlloc(*file, *request),
             Event::Destroy(file, id) => Event::Destroy(*file, *id),

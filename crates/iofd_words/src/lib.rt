@@ -22,7 +22,7 @@ mod width;
 pub use burst::Burst;
 pub use config::{Config, ConfigError, DeviceConfig};
 pub use device_set::DeviceSet;
-pub use event::{Act, Event, HwptRequest, MapRequest, UnmapRequest};
+pub use event::{Act, CopyRequest, Event, HwptRequest, MapRequest, UnmapRequest};
 pub use fault::{AccessKind, Fault, FaultReason};
 pub use flags::{MapFlags, Rights};
 pub use lists::{FrameList, SpanList};
