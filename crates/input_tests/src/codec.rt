@@ -5,8 +5,8 @@ use ioctl_codec::{
     encode_reply_to, round_trip, spellable_commands,
 };
 use iofd_words::{
-    Cause, Errno, HwptRequest, Iova, IovaRange, MapFlags, MapRequest, NoMemory, ObjId, RangeList,
-    Refusal, Reply, Span, UnmapRequest,
+    Cause, CopyRequest, Errno, HwptRequest, Iova, IovaRange, MapFlags, MapRequest, NoMemory, ObjId,
+    RangeList, Refusal, Reply, Span, UnmapRequest,
 };
 use linked_list_allocator::LocalHeap;
 use std::alloc::{AllocError, Allocator, Global};
@@ -26,6 +26,13 @@ const ALLOW: &[u8] =
 
 const ALLOW_ALL: &[u8] = b"\x18\0\0\0\x05\0\0\0\0\0\0\0\0\0\0\0\0\0\0\0\0\0\0\0";
 
+const COPY: &[u8] =
+    b"\x28\0\0\0\x07\0\0\0\x01\x02\x03\x04\x05\x06\x07\x08\0\x20\0\0\0\0\0\0\0\x50\0\0\0\0\0\0\0\x40\0\0\0\x10\0\0";
+
+// The server chooses the address in the target.
+const COPY_CHOSEN: &[u8] =
+    b"\x28\0\0\0\x06\0\0\0\x01\x02\x03\x04\x05\x06\x07\x08\0\x20\0\0\0\0\0\0\0\0\0\0\0\0\0\0\0\x40\0\0\0\x10\0\0";
+
 const RANGES: &[u8] = b"\x20\0\0\0\x01\0\0\0\x01\0\0\0\0\0\0\0\0\0\0\0\0\0\0\0\0\0\0\0\0\0\0\0";
 
 const MAP: &[u8] =
@@ -40,11 +47,13 @@ const UNMAP: &[u8] = b"\x18\0\0\0\x01\0\0\0\0\0\0\0\0\0\0\0\xff\xff\xff\xff\xff\
 const HWPT: &[u8] = b"\x18\0\0\0\0\0\0\0\x01\x02\x03\x04\x05\x06\x07\x08\0\0\0\0\0\0\0\0";
 
 // With the structures' numbers. The first byte of each is the structure's length.
-static CANONICAL: [(u32, &[u8]); 9] = [
+static CANONICAL: [(u32, &[u8]); 11] = [
     (0x3b80, DESTROY),
     (0x3b81, ALLOC),
     (0x3b82, ALLOW),
     (0x3b82, ALLOW_ALL),
+    (0x3b83, COPY),
+    (0x3b83, COPY_CHOSEN),
     (0x3b84, RANGES),
     (0x3b85, MAP),
     (0x3b85, MAP_CHOSEN),
@@ -59,6 +68,17 @@ fn map(flags: u32, length: u64, iova: u64) -> Command {
         user_va: 0x10000,
         length,
         iova: Iova(iova),
+    })
+}
+
+fn copy(flags: u32, dst_iova: u64) -> Command {
+    Command::IoasCopy(CopyRequest {
+        flags: MapFlags(flags),
+        dst_ioas: ObjId(0x0403_0201),
+        src_ioas: ObjId(0x0807_0605),
+        length: 0x2000,
+        dst_iova: Iova(dst_iova),
+        src_iova: Iova(0x1000_0000_4000),
     })
 }
 
@@ -95,12 +115,14 @@ fn allow(alloc: Global) -> Result<Command, AllocError> {
 }
 
 // The commands that the canonical bytes are, in the same order.
-fn commands(alloc: Global) -> Result<[Command; 9], AllocError> {
+fn commands(alloc: Global) -> Result<[Command; 11], AllocError> {
     Ok([
         Command::Destroy(ObjId(1)),
         Command::IoasAlloc,
         allow(alloc)?,
         Command::IoasAllowIovas(ObjId(5), RangeList::new(Vec::new(alloc))),
+        copy(7, 0x5000),
+        copy(6, 0),
         Command::IoasIovaRanges(ranges(1)),
         map(7, 0x2000, 0x1000),
         map(6, 0x2000, 0),
@@ -113,6 +135,9 @@ fn commands(alloc: Global) -> Result<[Command; 9], AllocError> {
 const ALLOCATED: &[u8] = b"\x0c\0\0\0\0\0\0\0\x01\0\0\0";
 
 const ALLOWED: &[u8] = b"\x18\0\0\0\x01\0\0\0\x02\0\0\0\0\0\0\0\0\0\0\0\0\0\0\0";
+
+const COPIED: &[u8] =
+    b"\x28\0\0\0\x06\0\0\0\x01\x02\x03\x04\x05\x06\x07\x08\0\x20\0\0\0\0\0\0\0\x30\0\0\0\0\0\0\0\x40\0\0\0\x10\0\0";
 
 const MAPPED: &[u8] =
     b"\x28\0\0\0\x06\0\0\0\x01\0\0\0\0\0\0\0\0\0\x01\0\0\0\0\0\0\x20\0\0\0\0\0\0\0\x30\0\0\0\0\0\0";
@@ -128,12 +153,14 @@ const HWPT_MADE: &[u8] =
     b"\x18\0\0\0\0\0\0\0\x01\x02\x03\x04\x05\x06\x07\x08\x09\x0a\x0b\x0c\0\0\0\0";
 
 // What is written back for a reply; nothing for one that isn't good.
-fn replies(alloc: Global) -> Result<[(Command, Reply, &'static [u8]); 16], AllocError> {
+fn replies(alloc: Global) -> Result<[(Command, Reply, &'static [u8]); 20], AllocError> {
     let last = 0xffff_ffff_ffff_f000;
     Ok([
         (Command::Destroy(ObjId(1)), Reply::Done, DESTROY),
         (Command::IoasAlloc, Reply::Id(ObjId(1)), ALLOCATED),
         (allow(alloc)?, Reply::Done, ALLOWED),
+        (copy(7, 0x5000), Reply::Iova(Iova(0x5000)), COPY),
+        (copy(6, 0), Reply::Iova(Iova(0x3000)), COPIED),
         (map(7, 0x2000, 0x1000), Reply::Iova(Iova(0x1000)), MAP),
         (map(6, 0x2000, 0), Reply::Iova(Iova(0x3000)), MAPPED),
         (map(7, 0x1000, last), Reply::Iova(Iova(last)), LAST_MAPPED),
@@ -141,6 +168,8 @@ fn replies(alloc: Global) -> Result<[(Command, Reply, &'static [u8]); 16], Alloc
         (unmap(0x4fff, 0x1002), Reply::Bytes(0x1000), PART_UNMAPPED),
         (hwpt(), Reply::Id(ObjId(0x0c0b_0a09)), HWPT_MADE),
         (Command::Destroy(ObjId(1)), BUSY, b""),
+        (copy(7, 0x5000), BUSY, b""),
+        (copy(6, 0), Reply::Done, b""),
         (map(7, 0x2000, 0x1000), BUSY, b""),
         (unmap(0, u64::MAX), Reply::Pending(Errno::EAGAIN), b""),
         (Command::IoasAlloc, Reply::Done, b""),
@@ -156,12 +185,19 @@ const RESERVED_AND_COUNT: &[u8] = b"\x18\0\0\0\x01\0\0\0\x01\0\0\0\x01\0\0\0\0\0
 const RANGES_AND_ENTRY: &[u8] =
     b"\x20\0\0\0\x01\0\0\0\x01\0\0\0\0\0\0\0\0\0\0\0\0\0\0\0\0\0\0\0\0\0\0\0\0\0\0\0\0\0\0\0\0\0\0\0\0\0\0\0";
 
+// The flags of a COPY are looked at behind its tail, and before what follows.
+const COPY_AND_FLAG: &[u8] =
+    b"\x28\0\0\0\x08\0\0\0\x01\0\0\0\x02\0\0\0\0\x20\0\0\0\0\0\0\0\x50\0\0\0\0\0\0\0\x40\0\0\0\x10\0\0\0";
+
+const COPY_AND_TAIL: &[u8] =
+    b"\x29\0\0\0\x08\0\0\0\x01\0\0\0\x02\0\0\0\0\x20\0\0\0\0\0\0\0\x50\0\0\0\0\0\0\0\x40\0\0\0\x10\0\0\x01";
+
 // The flags and the reserved field of a HWPT_ALLOC are looked at behind its tail, and before what follows.
 const HWPT_AND_FLAG: &[u8] = b"\x18\0\0\0\0\0\0\x80\x01\0\0\0\x02\0\0\0\0\0\0\0\0\0\0\0\0";
 
 const HWPT_AND_TAIL: &[u8] = b"\x19\0\0\0\0\0\0\0\x01\0\0\0\x02\0\0\0\0\0\0\0\x01\0\0\0\x01";
 
-static REFUSED: [(u32, &[u8], Cause); 15] = [
+static REFUSED: [(u32, &[u8], Cause); 17] = [
     (0x3b81, b"\x10\0\0\0\0\0\0\0\0\0\0\0\x01\0\0\0", Cause::Tail),
     (0x3b81, b"\x08\0\0\0\0\0\0\0", Cause::Short),
     (0x3b87, ALLOC, Cause::Number),
@@ -177,6 +213,8 @@ static REFUSED: [(u32, &[u8], Cause); 15] = [
         Cause::Unsupported,
     ),
     (0x3b82, RESERVED_AND_COUNT, Cause::Unsupported),
+    (0x3b83, COPY_AND_FLAG, Cause::Unsupported),
+    (0x3b83, COPY_AND_TAIL, Cause::Tail),
     (0x3b84, RANGES_AND_ENTRY, Cause::Array),
     (0x3b89, HWPT_AND_FLAG, Cause::Unsupported),
     (0x3b89, HWPT_AND_TAIL, Cause::Tail),
@@ -185,7 +223,7 @@ static REFUSED: [(u32, &[u8], Cause); 15] = [
 ];
 
 // Canonical bytes, with another byte in a place.
-static ONE_BYTE_OFF: [(u32, &[u8], usize, u8, Cause); 10] = [
+static ONE_BYTE_OFF: [(u32, &[u8], usize, u8, Cause); 12] = [
     (0x3b80, DESTROY, 1, 0x10, Cause::Tail),
     (0x3b81, ALLOC, 4, 1, Cause::Unsupported),
     (0x3b82, ALLOW, 15, 0x80, Cause::Unsupported),
@@ -193,6 +231,8 @@ static ONE_BYTE_OFF: [(u32, &[u8], usize, u8, Cause); 10] = [
     (0x3b82, ALLOW, 8, 3, Cause::Array),
     (0x3b82, ALLOW, 11, 0x10, Cause::Array),
     (0x3b82, ALLOW_ALL, 8, 1, Cause::Array),
+    (0x3b83, COPY, 4, 0x0f, Cause::Unsupported),
+    (0x3b83, COPY_CHOSEN, 7, 0x80, Cause::Unsupported),
     (0x3b84, RANGES, 12, 1, Cause::Unsupported),
     (0x3b85, MAP, 4, 0x0f, Cause::Unsupported),
     (0x3b85, MAP, 12, 1, Cause::Unsupported),
@@ -210,6 +250,7 @@ fn is_same(a: &Command, b: &Command) -> bool {
         (Command::IoasAllowIovas(a, from), Command::IoasAllowIovas(b, to)) => {
             a == b && from.as_slice() == to.as_slice()
         }
+        (Command::IoasCopy(a), Command::IoasCopy(b)) => a == b,
         (Command::IoasIovaRanges(a), Command::IoasIovaRanges(b)) => a == b,
         (Command::IoasMap(a), Command::IoasMap(b)) => a == b,
         (Command::IoasUnmap(a), Command::IoasUnmap(b)) => a == b,
@@ -308,6 +349,10 @@ fn ranges_are_written_as_far_as_there_are_places(rt: HostRuntime) -> Result<(), 
 const IGNORED_IOVA: &[u8] =
     b"\x28\0\0\0\x06\0\0\0\x01\0\0\0\0\0\0\0\0\0\x01\0\0\0\0\0\0\x20\0\0\0\0\0\0\x77\0\0\0\0\0\0\0";
 
+// A COPY whose address in the target the server chooses, with one all the same.
+const IGNORED_DST_IOVA: &[u8] =
+    b"\x28\0\0\0\x06\0\0\0\x01\x02\x03\x04\x05\x06\x07\x08\0\x20\0\0\0\0\0\0\x77\0\0\0\0\0\0\0\0\x40\0\0\0\x10\0\0";
+
 // An IOVA_RANGES with `allowed_iovas` and `out_iova_alignment`.
 const IGNORED_OUTPUT: &[u8] =
     b"\x20\0\0\0\x01\0\0\0\x01\0\0\0\0\0\0\0\xff\xff\xff\xff\xff\xff\xff\xff\xff\xff\xff\xff\xff\xff\xff\xff";
@@ -319,6 +364,7 @@ const IGNORED_ID: &[u8] =
 #[test]
 fn ignored_fields(rt: HostRuntime) {
     assert!(rt; reads(rt.alloc(), 0x3b85, IGNORED_IOVA, &map(6, 0x2000, 0)));
+    assert!(rt; reads(rt.alloc(), 0x3b83, IGNORED_DST_IOVA, &copy(6, 0)));
     let request = Command::IoasIovaRanges(ranges(1));
     assert!(rt; reads(rt.alloc(), 0x3b84, IGNORED_OUTPUT, &request));
     assert!(rt; reads(rt.alloc(), 0x3b89, IGNORED_ID, &hwpt()));
@@ -456,6 +502,7 @@ fn commands_without_a_spelling(rt: HostRuntime) {
     // Unknown flags, and an address that isn't fixed.
     for flags in [6, 9, 15, 0] {
         assert!(rt; !map(flags, 0x2000, 0x1000).is_spellable());
+        assert!(rt; !copy(flags, 0x5000).is_spellable());
     }
 }
 

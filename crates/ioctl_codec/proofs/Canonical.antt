@@ -6,12 +6,14 @@ use Rattle.std.proofs.lemmas.Bool.{eqb-true, ltb-true, lt-ltb}
 use Rattle.std.specs.Prelude.{slice_index}
 use Rattle.std.specs.Int.RustNames.{bit_and}
 use Rattle.iofd_words.specs.Rights.{has_flag}
+use Rattle.iofd_words.specs.declared.event.CopyRequest.{CopyRequest}
 use Rattle.iofd_words.specs.declared.event.MapRequest.{MapRequest}
+use Rattle.iofd_words.specs.declared.flags.MapFlags.{MapFlags}
 use Rattle.ioctl_codec.specs.declared.command.Command.{Command}
-use Rattle.ioctl_codec.specs.declared.command.Command.TheVariants.{Destroy, IoasAlloc, IoasAllowIovas, IoasIovaRanges, IoasMap, IoasUnmap, HwptAlloc}
+use Rattle.ioctl_codec.specs.declared.command.Command.TheVariants.{Destroy, IoasAlloc, IoasAllowIovas, IoasCopy, IoasIovaRanges, IoasMap, IoasUnmap, HwptAlloc}
 use Rattle.ioctl_codec.specs.Entries.{AreAddresses}
 use Rattle.ioctl_codec.specs.Layout.{AreOfWidth, are_allowed, carried, filled, spelled, length_of, structure_bytes}
-use Rattle.ioctl_codec.specs.Structures.{ioas_allow_iovas, ioas_map, map_values, structure_of, values_of, entries_of, is_spellable}
+use Rattle.ioctl_codec.specs.Structures.{copy_values, ioas_allow_iovas, ioas_copy, ioas_map, map_values, structure_of, values_of, entries_of, is_spellable}
 use Rattle.ioctl_codec.specs.Spelling.{Spells, canonical, FitsFields, HasSpelling}
 use Rattle.ioctl_codec.specs.Refusals.{read_numbers, read_values, refusal}
 use Rattle.ioctl_codec.proofs.Commands.{refusal-number, spelled_read}
@@ -21,24 +23,35 @@ use Rattle.ioctl_codec.proofs.Rows.{and-parts, and_both, are_allowed-filled}
 abbrev canonical_row : {A : Type 0} → Command A → List ℕ
 canonical_row c = filled (structure_of c).fields (values_of c) None
 
-abbrev has_known_flags : MapRequest → Bool
-has_known_flags m = bit_and m.flags.0 7 == m.flags.0
+abbrev are_known : MapFlags → Bool
+are_known flags = bit_and flags.0 7 == flags.0
 
 abbrev map_row : Bool → MapRequest → List ℕ
 map_row fixed m = filled (ioas_map fixed).fields (map_values m) None
 
-are_allowed-map : (fixed : Bool) (m : MapRequest) → are_allowed (ioas_map fixed).fields (map_row fixed m) ≡ has_known_flags m
-are_allowed-map true m = and-true (has_known_flags m)
-are_allowed-map false m = and-true (has_known_flags m)
+abbrev copy_row : Bool → CopyRequest → List ℕ
+copy_row fixed r = filled (ioas_copy fixed).fields (copy_values r) None
+
+are_allowed-map : (fixed : Bool) (m : MapRequest) → are_allowed (ioas_map fixed).fields (map_row fixed m) ≡ are_known m.flags
+are_allowed-map true m = and-true (are_known m.flags)
+are_allowed-map false m = and-true (are_known m.flags)
+
+are_allowed-copy : (fixed : Bool) (r : CopyRequest) → are_allowed (ioas_copy fixed).fields (copy_row fixed r) ≡ are_known r.flags
+are_allowed-copy true r = and-true (are_known r.flags)
+are_allowed-copy false r = and-true (are_known r.flags)
 
 are_allowed-canonical : {A : Type 0} (c : Command A) → is_spellable c ≡ true → are_allowed (structure_of c).fields (canonical_row c) ≡ true
 are_allowed-canonical (Destroy id) e = refl
 are_allowed-canonical IoasAlloc e = refl
 are_allowed-canonical (IoasAllowIovas ioas ranges) e = refl
+are_allowed-canonical (IoasCopy r) e =
+    let fixed = has_flag r.flags.0 1 in
+    let p = and-parts (are_known r.flags) (fixed || r.dst_iova.0 == 0) e in
+    are_allowed-copy fixed r ∙ p.0
 are_allowed-canonical (IoasIovaRanges r) e = refl
 are_allowed-canonical (IoasMap m) e =
     let fixed = has_flag m.flags.0 1 in
-    let p = and-parts (has_known_flags m) (fixed || m.iova.0 == 0) e in
+    let p = and-parts (are_known m.flags) (fixed || m.iova.0 == 0) e in
     are_allowed-map fixed m ∙ p.0
 are_allowed-canonical (IoasUnmap u) e = refl
 are_allowed-canonical (HwptAlloc r) e = refl
@@ -47,14 +60,22 @@ carried-map : (fixed : Bool) (m : MapRequest) → (fixed || m.iova.0 == 0) ≡ t
 carried-map true m e = refl
 carried-map false m e = ap (λ (iova : ℕ). m.flags.0 ∷ m.ioas.0 ∷ m.user_va ∷ m.length ∷ iova ∷ []) (sym (eqb-true m.iova.0 0 e))
 
+carried-copy : (fixed : Bool) (r : CopyRequest) → (fixed || r.dst_iova.0 == 0) ≡ true → carried (ioas_copy fixed).fields (copy_row fixed r) ≡ copy_values r
+carried-copy true r e = refl
+carried-copy false r e = ap (λ (iova : ℕ). r.flags.0 ∷ r.dst_ioas.0 ∷ r.src_ioas.0 ∷ r.length ∷ iova ∷ r.src_iova.0 ∷ []) (sym (eqb-true r.dst_iova.0 0 e))
+
 carried-canonical : {A : Type 0} (c : Command A) → is_spellable c ≡ true → carried (structure_of c).fields (canonical_row c) ≡ values_of c
 carried-canonical (Destroy id) e = refl
 carried-canonical IoasAlloc e = refl
 carried-canonical (IoasAllowIovas ioas ranges) e = refl
+carried-canonical (IoasCopy r) e =
+    let fixed = has_flag r.flags.0 1 in
+    let p = and-parts (are_known r.flags) (fixed || r.dst_iova.0 == 0) e in
+    carried-copy fixed r p.1
 carried-canonical (IoasIovaRanges r) e = refl
 carried-canonical (IoasMap m) e =
     let fixed = has_flag m.flags.0 1 in
-    let p = and-parts (has_known_flags m) (fixed || m.iova.0 == 0) e in
+    let p = and-parts (are_known m.flags) (fixed || m.iova.0 == 0) e in
     carried-map fixed m p.1
 carried-canonical (IoasUnmap u) e = refl
 carried-canonical (HwptAlloc r) e = refl
@@ -67,10 +88,18 @@ kept-map false m bytes e =
     let zero_is : 0 ≡ m.iova.0 = ap (λ (vs : List ℕ). slice_index vs 4) e in
     subst (λ (n : ℕ). (n == 0) ≡ true) zero_is refl
 
+kept-copy : (fixed : Bool) (r : CopyRequest) (bytes : List ℕ) → read_values (ioas_copy fixed) bytes ≡ copy_values r → (fixed || r.dst_iova.0 == 0) ≡ true
+unfolding read_numbers
+kept-copy true r bytes e = refl
+kept-copy false r bytes e =
+    let zero_is : 0 ≡ r.dst_iova.0 = ap (λ (vs : List ℕ). slice_index vs 4) e in
+    subst (λ (n : ℕ). (n == 0) ≡ true) zero_is refl
+
 length_at_most : {A : Type 0} (c : Command A) → length_of (structure_of c) ≤ 4096
 length_at_most (Destroy id) = lit≤ tt
 length_at_most IoasAlloc = lit≤ tt
 length_at_most (IoasAllowIovas ioas ranges) = lit≤ tt
+length_at_most (IoasCopy r) = lit≤ tt
 length_at_most (IoasIovaRanges r) = lit≤ tt
 length_at_most (IoasMap m) = lit≤ tt
 length_at_most (IoasUnmap u) = lit≤ tt
@@ -80,6 +109,7 @@ no_tail : {A : Type 0} (c : Command A) → replicate {A = ℕ} (length_of (struc
 no_tail (Destroy id) = refl
 no_tail IoasAlloc = refl
 no_tail (IoasAllowIovas ioas ranges) = refl
+no_tail (IoasCopy r) = refl
 no_tail (IoasIovaRanges r) = refl
 no_tail (IoasMap m) = refl
 no_tail (IoasUnmap u) = refl
@@ -89,6 +119,7 @@ widths : {A : Type 0} (c : Command A) → FitsFields c → is_spellable c ≡ tr
 widths (Destroy id) fits spellable = fits
 widths IoasAlloc fits spellable = fits
 widths (IoasAllowIovas ioas ranges) fits spellable = (fits.0, (ltb-true (length ranges) (2 ^ 32) spellable, (omega arith, (omega arith, tt))))
+widths (IoasCopy r) fits spellable = fits
 widths (IoasIovaRanges r) fits spellable = fits
 widths (IoasMap m) fits spellable = fits
 widths (IoasUnmap u) fits spellable = fits
@@ -98,6 +129,7 @@ addresses : {A : Type 0} (c : Command A) → FitsFields c → AreAddresses (entr
 addresses (Destroy id) fits = tt
 addresses IoasAlloc fits = tt
 addresses (IoasAllowIovas ioas ranges) fits = fits.1
+addresses (IoasCopy r) fits = tt
 addresses (IoasIovaRanges r) fits = tt
 addresses (IoasMap m) fits = tt
 addresses (IoasUnmap u) fits = tt
@@ -142,10 +174,13 @@ spellable-if (Destroy id) bytes numbers e values fits numbers_are = refl
 spellable-if IoasAlloc bytes numbers e values fits numbers_are = refl
 spellable-if (IoasAllowIovas ioas ranges) bytes numbers e values fits numbers_are =
     lt-ltb (length ranges) (2 ^ 32) (count_below numbers (ioas.0 ∷ length ranges ∷ []) fits numbers_are)
+spellable-if (IoasCopy r) bytes numbers e values fits numbers_are =
+    let fixed = has_flag r.flags.0 1 in
+    and_both (are_known r.flags) (fixed || r.dst_iova.0 == 0) (sym (are_allowed-copy fixed r) ∙ e) (kept-copy fixed r bytes values)
 spellable-if (IoasIovaRanges r) bytes numbers e values fits numbers_are = refl
 spellable-if (IoasMap m) bytes numbers e values fits numbers_are =
     let fixed = has_flag m.flags.0 1 in
-    and_both (has_known_flags m) (fixed || m.iova.0 == 0) (sym (are_allowed-map fixed m) ∙ e) (kept-map fixed m bytes values)
+    and_both (are_known m.flags) (fixed || m.iova.0 == 0) (sym (are_allowed-map fixed m) ∙ e) (kept-map fixed m bytes values)
 spellable-if (IoasUnmap u) bytes numbers e values fits numbers_are = refl
 spellable-if (HwptAlloc r) bytes numbers e values fits numbers_are = refl
 

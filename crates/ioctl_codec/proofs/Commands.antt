@@ -5,11 +5,11 @@ use Rattle.std.specs.Prelude.{IfOk, slice_index}
 use Rattle.std.specs.Int.{w32, from_le_bytes}
 use Rattle.iofd_words.specs.Rights.{has_flag, is_fixed}
 use Rattle.ioctl_codec.specs.declared.command.Command.{Command}
-use Rattle.ioctl_codec.specs.declared.command.Command.TheVariants.{Destroy, IoasAlloc, IoasAllowIovas, IoasIovaRanges, IoasMap, IoasUnmap, HwptAlloc}
+use Rattle.ioctl_codec.specs.declared.command.Command.TheVariants.{Destroy, IoasAlloc, IoasAllowIovas, IoasCopy, IoasIovaRanges, IoasMap, IoasUnmap, HwptAlloc}
 use Rattle.ioctl_codec.specs.declared.command.DecodeError.{DecodeError}
 use Rattle.ioctl_codec.specs.declared.command.DecodeError.TheVariants as errors
 use Rattle.ioctl_codec.specs.Layout.{Structure, IsLaidOut, entry_count}
-use Rattle.ioctl_codec.specs.Structures.{destroy, ioas_alloc, ioas_allow_iovas, ioas_iova_ranges, ioas_map, ioas_unmap, hwpt_alloc, structure_of, values_of, entries_of}
+use Rattle.ioctl_codec.specs.Structures.{copy_values, destroy, ioas_alloc, ioas_allow_iovas, ioas_copy, ioas_iova_ranges, ioas_map, map_values, ioas_unmap, hwpt_alloc, structure_of, values_of, entries_of}
 use Rattle.iofd_words.specs.Bounds.{Bounds}
 use Rattle.ioctl_codec.specs.Entries.{AreAddresses, entries_at, entries_bytes}
 use Rattle.ioctl_codec.specs.Spelling.{Spells}
@@ -18,25 +18,33 @@ use Rattle.ioctl_codec.proofs.LittleEndian.{IsBytes, IsBytes-drop}
 use Rattle.ioctl_codec.proofs.BothWays.{IsRead, is_laid_out, is_whole, is_read}
 use Rattle.ioctl_codec.proofs.EntriesBytes.{length-entries_bytes, length-entries_at, entries_at-entries_bytes, entries_bytes-entries_at, AreAddresses-entries_at}
 
--- the structure that bytes with this number have, by their flags if it's a MAP
+-- the flags of a MAP or a COPY
+flags_at : List ℕ → ℕ
+flags_at bytes = from_le_bytes w32 (take 4 (drop 4 bytes))
+
+-- the structure that bytes with this number have, by their flags if it's a MAP or a COPY
 structure_in : ℕ → List ℕ → Structure
 structure_in nr bytes =
     cond (nr == 0x3B80) destroy
     (cond (nr == 0x3B81) ioas_alloc
     (cond (nr == 0x3B82) ioas_allow_iovas
+    (cond (nr == 0x3B83) (ioas_copy (has_flag (flags_at bytes) 1))
     (cond (nr == 0x3B84) ioas_iova_ranges
-    (cond (nr == 0x3B85) (ioas_map (has_flag (from_le_bytes w32 (take 4 (drop 4 bytes))) 1))
+    (cond (nr == 0x3B85) (ioas_map (has_flag (flags_at bytes) 1))
     (cond (nr == 0x3B89) hwpt_alloc
-    ioas_unmap)))))
+    ioas_unmap))))))
 
 structure-is : {A : Type 0} (c : Command A) (nr : ℕ) (bytes : List ℕ) → (structure_of c).number ≡ nr → values_of c ≡ read_values (structure_of c) bytes → structure_of c ≡ structure_in nr bytes
-unfolding structure_in read_numbers
+unfolding structure_in read_numbers flags_at
 structure-is (Destroy id) nr bytes e values = subst (λ (n : ℕ). destroy ≡ structure_in n bytes) e refl
 structure-is IoasAlloc nr bytes e values = subst (λ (n : ℕ). ioas_alloc ≡ structure_in n bytes) e refl
 structure-is (IoasAllowIovas ioas ranges) nr bytes e values = subst (λ (n : ℕ). ioas_allow_iovas ≡ structure_in n bytes) e refl
+structure-is (IoasCopy r) nr bytes e values =
+    let flags : r.flags.0 ≡ flags_at bytes = ap (λ (vs : List ℕ). slice_index vs 0) values in
+    subst (λ (n : ℕ). ioas_copy (is_fixed r.flags) ≡ structure_in n bytes) e (ap (λ (n : ℕ). ioas_copy (has_flag n 1)) flags)
 structure-is (IoasIovaRanges r) nr bytes e values = subst (λ (n : ℕ). ioas_iova_ranges ≡ structure_in n bytes) e refl
 structure-is (IoasMap m) nr bytes e values =
-    let flags : m.flags.0 ≡ from_le_bytes w32 (take 4 (drop 4 bytes)) = ap (λ (vs : List ℕ). slice_index vs 0) values in
+    let flags : m.flags.0 ≡ flags_at bytes = ap (λ (vs : List ℕ). slice_index vs 0) values in
     subst (λ (n : ℕ). ioas_map (is_fixed m.flags) ≡ structure_in n bytes) e (ap (λ (n : ℕ). ioas_map (has_flag n 1)) flags)
 structure-is (IoasUnmap u) nr bytes e values = subst (λ (n : ℕ). ioas_unmap ≡ structure_in n bytes) e refl
 structure-is (HwptAlloc r) nr bytes e values = subst (λ (n : ℕ). hwpt_alloc ≡ structure_in n bytes) e refl
@@ -47,10 +55,17 @@ unfolding refusal_of read_numbers
 refusal-map true bytes = refl
 refusal-map false bytes = refl
 
+-- and both of a COPY
+refusal-copy : (fixed : Bool) (bytes : List ℕ) → refusal_of (ioas_copy true) bytes ≡ refusal_of (ioas_copy fixed) bytes
+unfolding refusal_of read_numbers
+refusal-copy true bytes = refl
+refusal-copy false bytes = refl
+
 pub refusal-number : {A : Type 0} (c : Command A) (nr : ℕ) (bytes : List ℕ) → (structure_of c).number ≡ nr → refusal nr bytes ≡ refusal_of (structure_of c) bytes
 refusal-number (Destroy id) nr bytes e = subst (λ (n : ℕ). refusal n bytes ≡ refusal_of destroy bytes) e refl
 refusal-number IoasAlloc nr bytes e = subst (λ (n : ℕ). refusal n bytes ≡ refusal_of ioas_alloc bytes) e refl
 refusal-number (IoasAllowIovas ioas ranges) nr bytes e = subst (λ (n : ℕ). refusal n bytes ≡ refusal_of ioas_allow_iovas bytes) e refl
+refusal-number (IoasCopy r) nr bytes e = subst (λ (n : ℕ). refusal n bytes ≡ refusal_of (ioas_copy (is_fixed r.flags)) bytes) e (refusal-copy (has_flag r.flags.0 1) bytes)
 refusal-number (IoasIovaRanges r) nr bytes e = subst (λ (n : ℕ). refusal n bytes ≡ refusal_of ioas_iova_ranges bytes) e refl
 refusal-number (IoasMap m) nr bytes e = subst (λ (n : ℕ). refusal n bytes ≡ refusal_of (ioas_map (is_fixed m.flags)) bytes) e (refusal-map (has_flag m.flags.0 1) bytes)
 refusal-number (IoasUnmap u) nr bytes e = subst (λ (n : ℕ). refusal n bytes ≡ refusal_of ioas_unmap bytes) e refl
@@ -64,13 +79,18 @@ count-map : (fixed : Bool) (values : List ℕ) → entry_count (ioas_map fixed).
 count-map true values = refl
 count-map false values = refl
 
+count-copy : (fixed : Bool) (values : List ℕ) → entry_count (ioas_copy fixed).fields values ≡ 0
+count-copy true values = refl
+count-copy false values = refl
+
 -- a command has as many entries as its values count
 pub count_is : {A : Type 0} (c : Command A) → entry_count (structure_of c).fields (values_of c) ≡ length (entries_of c)
 count_is (Destroy id) = refl
 count_is IoasAlloc = refl
 count_is (IoasAllowIovas ioas ranges) = refl
+count_is (IoasCopy r) = count-copy (is_fixed r.flags) (copy_values r)
 count_is (IoasIovaRanges r) = refl
-count_is (IoasMap m) = count-map (is_fixed m.flags) (m.flags.0 ∷ m.ioas.0 ∷ m.user_va ∷ m.length ∷ m.iova.0 ∷ [])
+count_is (IoasMap m) = count-map (is_fixed m.flags) (map_values m)
 count_is (IoasUnmap u) = refl
 count_is (HwptAlloc r) = refl
 
@@ -80,6 +100,14 @@ rebuilt nr values entries =
     cond (nr == 0x3B80) (Destroy (record { 0 = slice_index values 0 }))
     (cond (nr == 0x3B81) IoasAlloc
     (cond (nr == 0x3B82) (IoasAllowIovas (record { 0 = slice_index values 0 }) entries)
+    (cond (nr == 0x3B83) (IoasCopy (record {
+      flags = record { 0 = slice_index values 0 };
+      dst_ioas = record { 0 = slice_index values 1 };
+      src_ioas = record { 0 = slice_index values 2 };
+      length = slice_index values 3;
+      dst_iova = record { 0 = slice_index values 4 };
+      src_iova = record { 0 = slice_index values 5 };
+    }))
     (cond (nr == 0x3B84) (IoasIovaRanges (record { ioas = record { 0 = slice_index values 0 }; places = slice_index values 1 }))
     (cond (nr == 0x3B85) (IoasMap (record {
       flags = record { 0 = slice_index values 0 };
@@ -89,13 +117,14 @@ rebuilt nr values entries =
       iova = record { 0 = slice_index values 4 };
     }))
     (cond (nr == 0x3B89) (HwptAlloc (record { device = record { 0 = slice_index values 0 }; ioas = record { 0 = slice_index values 1 } }))
-    (IoasUnmap (record { ioas = record { 0 = slice_index values 0 }; iova = record { 0 = slice_index values 1 }; length = slice_index values 2 })))))))
+    (IoasUnmap (record { ioas = record { 0 = slice_index values 0 }; iova = record { 0 = slice_index values 1 }; length = slice_index values 2 }))))))))
 
 rebuilt-is : {A : Type 0} (c : Command A) → rebuilt (structure_of c).number (values_of c) (entries_of c) ≡ c
 unfolding rebuilt
 rebuilt-is (Destroy id) = refl
 rebuilt-is IoasAlloc = refl
 rebuilt-is (IoasAllowIovas ioas ranges) = refl
+rebuilt-is (IoasCopy r) = refl
 rebuilt-is (IoasIovaRanges r) = refl
 rebuilt-is (IoasMap m) = refl
 rebuilt-is (IoasUnmap u) = refl

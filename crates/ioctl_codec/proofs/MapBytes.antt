@@ -1,8 +1,9 @@
--- The bytes of a MAP are those of a fixed one at the address that stands in them.
+-- The bytes of a MAP, and those of a COPY, are those of a fixed one at the address that stands in them.
 use Rattle.std.proofs.Common.{◌≡◌, ℕ, Bool, true, false, cond, List, [], ◌∷◌, Some, None, refl}
+use Rattle.iofd_words.specs.declared.event.CopyRequest.{CopyRequest}
 use Rattle.iofd_words.specs.declared.event.MapRequest.{MapRequest}
 use Rattle.ioctl_codec.specs.Layout.{structure_bytes}
-use Rattle.ioctl_codec.specs.Structures.{ioas_map, map_values}
+use Rattle.ioctl_codec.specs.Structures.{copy_values, ioas_copy, ioas_map, map_values}
 
 abbrev pub at_iova : MapRequest → ℕ → List ℕ
 at_iova m iova = m.flags.0 ∷ m.ioas.0 ∷ m.user_va ∷ m.length ∷ iova ∷ []
@@ -20,3 +21,24 @@ pub answered_bytes : (fixed : Bool) (m : MapRequest) (iova : ℕ) → structure_
 unfolding structure_bytes
 answered_bytes true m iova = refl
 answered_bytes false m iova = refl
+
+-- ---- a COPY
+
+abbrev pub at_dst_iova : CopyRequest → ℕ → List ℕ
+at_dst_iova r iova = r.flags.0 ∷ r.dst_ioas.0 ∷ r.src_ioas.0 ∷ r.length ∷ iova ∷ r.src_iova.0 ∷ []
+
+kept_copy : (fixed : Bool) (r : CopyRequest)
+    → structure_bytes (ioas_copy true) (at_dst_iova r (cond fixed r.dst_iova.0 0)) None ≡ structure_bytes (ioas_copy fixed) (copy_values r) None
+unfolding structure_bytes
+kept_copy true r = refl
+kept_copy false r = refl
+
+pub kept_copy_bytes : (fixed : Bool) (r : CopyRequest) (iova : ℕ) → iova ≡ cond fixed r.dst_iova.0 0
+    → structure_bytes (ioas_copy true) (at_dst_iova r iova) None ≡ structure_bytes (ioas_copy fixed) (copy_values r) None
+kept_copy_bytes fixed r iova e = rw e (kept_copy fixed r)
+
+pub copied_bytes : (fixed : Bool) (r : CopyRequest) (iova : ℕ)
+    → structure_bytes (ioas_copy true) (at_dst_iova r iova) None ≡ structure_bytes (ioas_copy fixed) (copy_values r) (Some iova)
+unfolding structure_bytes
+copied_bytes true r iova = refl
+copied_bytes false r iova = refl

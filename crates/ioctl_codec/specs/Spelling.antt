@@ -7,7 +7,7 @@ use Rattle.ioctl_codec.specs.Layout.{structure_bytes, IsLaidOut, AreOfWidth, fil
 use Rattle.ioctl_codec.specs.Entries.{entries_bytes, AreAddresses}
 use Rattle.ioctl_codec.specs.Structures.{structure_of, values_of, entries_of, ioas_iova_ranges}
 use Rattle.ioctl_codec.specs.declared.command.Command.{Command}
-use Rattle.ioctl_codec.specs.declared.command.Command.TheVariants.{Destroy, IoasAlloc, IoasAllowIovas, IoasMap, IoasUnmap, HwptAlloc}
+use Rattle.ioctl_codec.specs.declared.command.Command.TheVariants.{Destroy, IoasAlloc, IoasAllowIovas, IoasCopy, IoasMap, IoasUnmap, HwptAlloc}
 use Rattle.ioctl_codec.specs.declared.command.RangesRequest.{RangesRequest}
 
 module _ {A : Type 0} where
@@ -36,6 +36,7 @@ module _ {A : Type 0} where
   answer_of (Destroy id) reply.Done = Some None
   answer_of IoasAlloc (reply.Id id) = Some (Some id.0)
   answer_of (IoasAllowIovas ioas ranges) reply.Done = if nat_lt (length ranges) (2 ^ 32) then Some None else None
+  answer_of (IoasCopy r) (reply.Iova iova) = Some (Some iova.0)
   answer_of (IoasMap m) (reply.Iova iova) = Some (Some iova.0)
   answer_of (IoasUnmap u) (reply.Bytes count) = Some (Some count)
   answer_of (HwptAlloc r) (reply.Id id) = Some (Some id.0)

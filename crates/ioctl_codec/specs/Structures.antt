@@ -3,10 +3,13 @@ use Rattle.std.specs.Prelude.{ℕ, ◌==◌, ◌^◌, Bool, true, false, ◌&&�
 use Rattle.std.specs.Int.RustNames.{bit_and}
 use Rattle.iofd_words.specs.Bounds.{Bounds}
 use Rattle.iofd_words.specs.Rights.{is_fixed}
+use Rattle.iofd_words.specs.declared.event.CopyRequest.{CopyRequest}
 use Rattle.iofd_words.specs.declared.event.MapRequest.{MapRequest}
+use Rattle.iofd_words.specs.declared.flags.MapFlags.{MapFlags}
+use Rattle.iofd_words.specs.declared.numbers.Iova.{Iova}
 use Rattle.ioctl_codec.specs.Layout.{Role, Flags, Argument, Answered, Chosen, Count, Output, Ignored, Reserved, Structure, u32, u64}
 use Rattle.ioctl_codec.specs.declared.command.Command.{Command}
-use Rattle.ioctl_codec.specs.declared.command.Command.TheVariants.{Destroy, IoasAlloc, IoasAllowIovas, IoasIovaRanges, IoasMap, IoasUnmap, HwptAlloc}
+use Rattle.ioctl_codec.specs.declared.command.Command.TheVariants.{Destroy, IoasAlloc, IoasAllowIovas, IoasCopy, IoasIovaRanges, IoasMap, IoasUnmap, HwptAlloc}
 
 -- id
 abbrev pub destroy : Structure
@@ -20,14 +23,18 @@ ioas_alloc = record { number = 0x3B81; fields = u32 Reserved ∷ u32 Output ∷ 
 abbrev pub ioas_allow_iovas : Structure
 ioas_allow_iovas = record { number = 0x3B82; fields = u32 Argument ∷ u32 Count ∷ u32 Reserved ∷ u64 Ignored ∷ [] }
 
--- ioas_id, num_iovas (for how many ranges the caller has places), reserved, allowed_iovas, out_iova_alignment
-abbrev pub ioas_iova_ranges : Structure
-ioas_iova_ranges = record { number = 0x3B84; fields = u32 Argument ∷ u32 Argument ∷ u32 Reserved ∷ u64 Ignored ∷ u64 Output ∷ [] }
-
--- the address of a MAP: the caller's where the flags fix it, and else one that the server chooses
+-- the address at which is mapped: the caller's where the flags fix it, and else one that the server chooses
 abbrev pub iova_role : Bool → Role
 iova_role true = Answered
 iova_role false = Chosen
+
+-- flags, dst_ioas_id, src_ioas_id, length, dst_iova, src_iova, for flags that fix the target's address or leave it open
+abbrev pub ioas_copy : Bool → Structure
+ioas_copy fixed = record { number = 0x3B83; fields = u32 (Flags 7) ∷ u32 Argument ∷ u32 Argument ∷ u64 Argument ∷ u64 (iova_role fixed) ∷ u64 Argument ∷ [] }
+
+-- ioas_id, num_iovas (for how many ranges the caller has places), reserved, allowed_iovas, out_iova_alignment
+abbrev pub ioas_iova_ranges : Structure
+ioas_iova_ranges = record { number = 0x3B84; fields = u32 Argument ∷ u32 Argument ∷ u32 Reserved ∷ u64 Ignored ∷ u64 Output ∷ [] }
 
 -- flags, ioas_id, reserved, user_va, length, iova, for flags that fix the address or leave it open
 abbrev pub ioas_map : Bool → Structure
@@ -42,9 +49,9 @@ abbrev pub hwpt_alloc : Structure
 hwpt_alloc = record { number = 0x3B89; fields = u32 Reserved ∷ u32 Argument ∷ u32 Argument ∷ u32 Output ∷ u32 Reserved ∷ [] }
 
 abbrev pub structures : List Structure
-structures = destroy ∷ ioas_alloc ∷ ioas_allow_iovas ∷ ioas_iova_ranges ∷ ioas_map true ∷ ioas_unmap ∷ hwpt_alloc ∷ []
+structures = destroy ∷ ioas_alloc ∷ ioas_allow_iovas ∷ ioas_copy true ∷ ioas_iova_ranges ∷ ioas_map true ∷ ioas_unmap ∷ hwpt_alloc ∷ []
 
--- the structure of a command's number, if it's served (both of MAP have the same length and refusals)
+-- the structure of a command's number, if it's served (both of MAP, and both of COPY, have the same length and refusals)
 abbrev pub structure_at : ℕ → Option Structure
 structure_at nr = find (λ s. s.number == nr) structures
 
@@ -52,11 +59,20 @@ structure_at nr = find (λ s. s.number == nr) structures
 abbrev pub map_values : MapRequest → List ℕ
 map_values m = m.flags.0 ∷ m.ioas.0 ∷ m.user_va ∷ m.length ∷ m.iova.0 ∷ []
 
+-- what a COPY carries
+abbrev pub copy_values : CopyRequest → List ℕ
+copy_values r = r.flags.0 ∷ r.dst_ioas.0 ∷ r.src_ioas.0 ∷ r.length ∷ r.dst_iova.0 ∷ r.src_iova.0 ∷ []
+
+-- flags of a MAP or a COPY that are all known, and an address that they fix or that is 0
+abbrev pub are_kept : MapFlags → Iova → Bool
+are_kept flags iova = (bit_and flags.0 7 == flags.0) && (is_fixed flags || iova.0 == 0)
+
 module _ {A : Type 0} where
   abbrev pub structure_of : Command A → Structure
   structure_of (Destroy id) = destroy
   structure_of IoasAlloc = ioas_alloc
   structure_of (IoasAllowIovas ioas ranges) = ioas_allow_iovas
+  structure_of (IoasCopy r) = ioas_copy (is_fixed r.flags)
   structure_of (IoasIovaRanges r) = ioas_iova_ranges
   structure_of (IoasMap m) = ioas_map (is_fixed m.flags)
   structure_of (IoasUnmap u) = ioas_unmap
@@ -67,6 +83,7 @@ module _ {A : Type 0} where
   entries_of (Destroy id) = []
   entries_of IoasAlloc = []
   entries_of (IoasAllowIovas ioas ranges) = ranges
+  entries_of (IoasCopy r) = []
   entries_of (IoasIovaRanges r) = []
   entries_of (IoasMap m) = []
   entries_of (IoasUnmap u) = []
@@ -77,6 +94,7 @@ module _ {A : Type 0} where
   values_of (Destroy id) = id.0 ∷ []
   values_of IoasAlloc = []
   values_of (IoasAllowIovas ioas ranges) = ioas.0 ∷ length ranges ∷ []
+  values_of (IoasCopy r) = copy_values r
   values_of (IoasIovaRanges r) = r.ioas.0 ∷ r.places ∷ []
   values_of (IoasMap m) = map_values m
   values_of (IoasUnmap u) = u.ioas.0 ∷ u.iova.0 ∷ u.length ∷ []
@@ -87,7 +105,8 @@ module _ {A : Type 0} where
   is_spellable (Destroy id) = true
   is_spellable IoasAlloc = true
   is_spellable (IoasAllowIovas ioas ranges) = nat_lt (length ranges) (2 ^ 32)
+  is_spellable (IoasCopy r) = are_kept r.flags r.dst_iova
   is_spellable (IoasIovaRanges r) = true
-  is_spellable (IoasMap m) = (bit_and m.flags.0 7 == m.flags.0) && (is_fixed m.flags || m.iova.0 == 0)
+  is_spellable (IoasMap m) = are_kept m.flags m.iova
   is_spellable (IoasUnmap u) = true
   is_spellable (HwptAlloc r) = true

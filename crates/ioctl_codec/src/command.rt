@@ -5,10 +5,12 @@ ghost use Rattle.std.specs.Int.RustNames.{bit_and};
 ghost use Rattle.iofd_words.specs.Rights.{is_fixed};
 
 use crate::structure::{
-    DESTROY, HWPT_ALLOC, IOAS_ALLOC, IOAS_ALLOW_IOVAS, IOAS_IOVA_RANGES, IOAS_MAP, IOAS_UNMAP,
+    DESTROY, HWPT_ALLOC, IOAS_ALLOC, IOAS_ALLOW_IOVAS, IOAS_COPY, IOAS_IOVA_RANGES, IOAS_MAP,
+    IOAS_UNMAP,
 };
 use iofd_words::{
-    HwptRequest, Iova, IovaRange, MapFlags, MapRequest, ObjId, RangeList, Refusal, UnmapRequest,
+    CopyRequest, HwptRequest, Iova, IovaRange, MapFlags, MapRequest, ObjId, RangeList, Refusal,
+    UnmapRequest,
 };
 use std::alloc::{Allocator, Global};
 
@@ -33,6 +35,9 @@ pub enum Command<A: Allocator = Global> {
     /// IOMMU_IOAS_ALLOW_IOVAS: the ranges to which addresses that the server chooses are bounded, in place of those
     /// before.
     IoasAllowIovas(ObjId, RangeList<A>),
+    /// IOMMU_IOAS_COPY: maps the memory of an area a second time, at the given address or at one that the server
+    /// chooses.
+    IoasCopy(CopyRequest),
     /// IOMMU_IOAS_IOVA_RANGES: asks in which ranges of addresses can be mapped.
     IoasIovaRanges(RangesRequest),
     /// IOMMU_IOAS_MAP: maps user memory at an address, the given one or one that the server chooses.
@@ -54,6 +59,7 @@ impl<A: Allocator> Command<A> {
             Command::Destroy(_) => DESTROY,
             Command::IoasAlloc => IOAS_ALLOC,
             Command::IoasAllowIovas(_, _) => IOAS_ALLOW_IOVAS,
+            Command::IoasCopy(_) => IOAS_COPY,
             Command::IoasIovaRanges(_) => IOAS_IOVA_RANGES,
             Command::IoasMap(_) => IOAS_MAP,
             Command::IoasUnmap(_) => IOAS_UNMAP,
@@ -61,13 +67,16 @@ impl<A: Allocator> Command<A> {
         }
     }
 
-    /// Whether some bytes spell the command, so that `encode` may write it. It's so unless it's a MAP with an unknown
-    /// flag, or with an address other than 0 that its flags don't fix, or has 2^32 ranges or more.
+    /// Whether some bytes spell the command, so that `encode` may write it. It's so unless it's a MAP or a COPY with
+    /// an unknown flag, or with an address to map at other than 0 that its flags don't fix, or has 2^32 ranges or more.
     pub fn is_spellable(&self) -> bool
         ensures { result ≡ is_spellable self.now }
     {
         match self {
             Command::IoasMap(map) => are_spellable(map.flags) && is_kept(map.flags, map.iova),
+            Command::IoasCopy(copy) => {
+                are_spellable(copy.flags) && is_kept(copy.flags, copy.dst_iova)
+            }
             Command::IoasAllowIovas(_, ranges) => count_of(ranges.as_slice()).is_some(),
             Command::Destroy(_)
             | Command::IoasAlloc
@@ -95,21 +104,21 @@ pub fn count_of(ranges: &[IovaRange]) -> Option<u32>
     u32::try_from(ranges.len()).ok()
 }
 
-// Whether a MAP may have these flags: none but the known ones.
+// Whether a MAP or a COPY may have these flags: none but the known ones.
 pub fn are_spellable(flags: MapFlags) -> bool
     ensures { result ≡ (bit_and flags.0 7 == flags.0) }
 {
     flags.0 & KNOWN_MAP_FLAGS == flags.0
 }
 
-// Whether a MAP with these flags keeps this address.
+// Whether a MAP or a COPY with these flags keeps this address.
 fn is_kept(flags: MapFlags, iova: Iova) -> bool
     ensures { result ≡ (is_fixed flags || iova.0 == 0) }
 {
     flags.is_fixed() || iova.0 == 0
 }
 
-// The address that a MAP keeps: one that the flags don't fix is ignored.
+// The address that a MAP or a COPY keeps: one that the flags don't fix is ignored.
 pub fn kept_iova(flags: MapFlags, iova: Iova) -> Iova
     ensures { result.0 ≡ (if is_fixed flags then iova.0 else 0) }
 {

@@ -4,7 +4,7 @@
 ghost use Rattle.std.specs.Prelude.{◌≡◌, ◌≢◌, ◌*◌, ◌<◌, ℕ, [], ◌∷◌, true, ◌&&◌, length, IfOk};
 ghost use Rattle.ioctl_codec.specs.Entries.{entries_at};
 ghost use Rattle.ioctl_codec.specs.Layout.{Flags, Reserved, is_allowed};
-ghost use Rattle.ioctl_codec.specs.Structures.{destroy, hwpt_alloc, ioas_alloc, ioas_allow_iovas, ioas_iova_ranges, ioas_map, ioas_unmap, structure_of, values_of, entries_of};
+ghost use Rattle.ioctl_codec.specs.Structures.{destroy, hwpt_alloc, ioas_alloc, ioas_allow_iovas, ioas_copy, ioas_iova_ranges, ioas_map, ioas_unmap, structure_of, values_of, entries_of};
 ghost use Rattle.ioctl_codec.specs.Spelling.{Spells};
 ghost use Rattle.ioctl_codec.specs.Refusals.{refusal_of, refusal, cause_of, refused_of, read_values, read_count, after_size, OnMemory, Gives, SpellsEntries};
 ghost use Rattle.ioctl_codec.specs.declared.command.Command.{Command};
@@ -15,12 +15,12 @@ use crate::entries::read_entries;
 use crate::number::{u32_at, u64_at};
 use crate::structure::{
     DESTROY, DESTROY_LENGTH, HWPT_ALLOC, HWPT_ALLOC_LENGTH, IOAS_ALLOC, IOAS_ALLOC_LENGTH,
-    IOAS_ALLOW_IOVAS, IOAS_ALLOW_IOVAS_LENGTH, IOAS_IOVA_RANGES, IOAS_IOVA_RANGES_LENGTH, IOAS_MAP,
-    IOAS_MAP_LENGTH, IOAS_UNMAP, IOAS_UNMAP_LENGTH,
+    IOAS_ALLOW_IOVAS, IOAS_ALLOW_IOVAS_LENGTH, IOAS_COPY, IOAS_COPY_LENGTH, IOAS_IOVA_RANGES,
+    IOAS_IOVA_RANGES_LENGTH, IOAS_MAP, IOAS_MAP_LENGTH, IOAS_UNMAP, IOAS_UNMAP_LENGTH,
 };
 use iofd_words::{
-    Cause, HwptRequest, Iova, MapFlags, MapRequest, NoMemory, ObjId, RangeList, Refusal,
-    UnmapRequest,
+    Cause, CopyRequest, HwptRequest, Iova, MapFlags, MapRequest, NoMemory, ObjId, RangeList,
+    Refusal, UnmapRequest,
 };
 use std::alloc::Allocator;
 
@@ -48,6 +48,32 @@ fn ioas_alloc_of<A: Allocator>(bytes: &[u8]) -> Result<Command<A>, Refusal>
     let (flags, _) = u32_at(fields);
     checked(flags == 0, 0, after)?;
     Ok(Command::IoasAlloc)
+}
+
+// IOAS_COPY: flags, dst_ioas_id, src_ioas_id, length, dst_iova, src_iova. A dst_iova that isn't fixed is ignored.
+fn ioas_copy_of<A: Allocator>(bytes: &[u8]) -> Result<Command<A>, Refusal>
+    ensures refused { cause_of result ≡ refusal_of (ioas_copy true) bytes.now }
+    ensures number { IfOk result (λ c. (structure_of c).number ≡ (ioas_copy true).number) }
+    ensures values { IfOk result (λ c. values_of c ≡ read_values (structure_of c) bytes.now) }
+    ensures entries { IfOk result (λ c. entries_of c ≡ []) }
+{
+    let (fields, after) = parts(bytes, IOAS_COPY_LENGTH)?;
+    let (flags, fields) = u32_at(fields);
+    let (dst_ioas, fields) = u32_at(fields);
+    let (src_ioas, fields) = u32_at(fields);
+    let (length, fields) = u64_at(fields);
+    let (dst_iova, fields) = u64_at(fields);
+    let (src_iova, _) = u64_at(fields);
+    let flags = MapFlags(flags);
+    checked(are_spellable(flags), 0, after)?;
+    Ok(Command::IoasCopy(CopyRequest {
+        flags,
+        dst_ioas: ObjId(dst_ioas),
+        src_ioas: ObjId(src_ioas),
+        length,
+        dst_iova: kept_iova(flags, Iova(dst_iova)),
+        src_iova: Iova(src_iova),
+    }))
 }
 
 // IOAS_IOVA_RANGES: ioas_id, num_iovas, reserved, allowed_iovas, out_iova_alignment. The last two are ignored.
@@ -157,6 +183,7 @@ fn read_alone<A: Allocator>(nr: u32, bytes: &[u8]) -> Result<Command<A>, Refusal
     match nr {
         DESTROY => destroy_of(bytes),
         IOAS_ALLOC => ioas_alloc_of(bytes),
+        IOAS_COPY => ioas_copy_of(bytes),
         IOAS_IOVA_RANGES => ioas_iova_ranges_of(bytes),
         IOAS_MAP => ioas_map_of(bytes),
         IOAS_UNMAP => ioas_unmap_of(bytes),
@@ -223,8 +250,8 @@ fn read<A: Allocator>(alloc: A, nr: u32, bytes: &[u8]) -> Result<Command<A>, Dec
 /// below the structure's own length (Short); a size above 4096 (Tail); fewer bytes than the size (Short); a byte past
 /// the known structure, up to the size, that isn't 0 (Tail); an unknown flag, or a reserved field that isn't 0
 /// (Unsupported); other bytes after the size than 16 for each entry that an IOAS_ALLOW_IOVAS counts, or any for another
-/// command (Array). Only where no refusal applies, the error may be that memory was refused. The address of a MAP
-/// without FIXED_IOVA is ignored, and the command has 0 for it.
+/// command (Array). Only where no refusal applies, the error may be that memory was refused. The address at which a
+/// MAP or a COPY without FIXED_IOVA maps is ignored, and the command has 0 for it.
 pub fn decode<A: Allocator>(alloc: A, nr: u32, bytes: &[u8]) -> Result<Command<A>, DecodeError>
     // What is answered is spelled so.
     ensures found { IfOk result (λ c. Spells nr bytes.now c) }

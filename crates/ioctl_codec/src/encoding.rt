@@ -4,16 +4,18 @@ ghost use Rattle.std.specs.Prelude.{◌≡◌, ◌^◌, ◌≤◌, ◌++◌, [],
 ghost use Rattle.iofd_words.specs.Rights.{is_fixed};
 ghost use Rattle.ioctl_codec.specs.Entries.{AreAddresses, entries_bytes};
 ghost use Rattle.ioctl_codec.specs.Layout.{AreOfWidth, filled, structure_bytes};
-ghost use Rattle.ioctl_codec.specs.Structures.{entries_of, ioas_allow_iovas, ioas_map, is_spellable, map_values, structure_of, values_of};
+ghost use Rattle.ioctl_codec.specs.Structures.{copy_values, entries_of, ioas_allow_iovas, ioas_copy, ioas_map, is_spellable, map_values, structure_of, values_of};
 ghost use Rattle.ioctl_codec.specs.Spelling.{canonical, ranges_written_back, written_back, Spells};
 
 use crate::command::{Command, RangesRequest, count_of, kept_iova};
 use crate::entries::{put_ranges, put_spans};
 use crate::writing::{
-    put_destroy, put_hwpt_alloc, put_ioas_alloc, put_ioas_allow_iovas, put_ioas_iova_ranges,
-    put_ioas_map, put_ioas_unmap,
+    put_destroy, put_hwpt_alloc, put_ioas_alloc, put_ioas_allow_iovas, put_ioas_copy,
+    put_ioas_iova_ranges, put_ioas_map, put_ioas_unmap,
 };
-use iofd_words::{Iova, IovaRange, MapRequest, NoMemory, ObjId, Reply, Span, UnmapRequest};
+use iofd_words::{
+    CopyRequest, Iova, IovaRange, MapRequest, NoMemory, ObjId, Reply, Span, UnmapRequest,
+};
 use std::alloc::Allocator;
 
 // What `out_iova_alignment` says: addresses are mapped by whole pages.
@@ -38,6 +40,28 @@ fn put_mapped(out: &mut [u8; 64], map: MapRequest, iova: Iova) -> usize
         ≡ structure_bytes (ioas_map (is_fixed map.flags)) (map_values map) (Some iova.0) ++ drop result out.old }
 {
     put_ioas_map(out, MapRequest { iova, ..map })
+}
+
+// Writes a COPY's one spelling to the front, with 0 for a dst_iova that isn't fixed.
+fn put_copy(out: &mut [u8; 64], copy: CopyRequest) -> usize
+    ensures count { result ≡ 40 }
+    ensures bytes { out.new
+        ≡ structure_bytes (ioas_copy (is_fixed copy.flags)) (copy_values copy) None ++ drop result out.old }
+    ensures fits { let fields = (ioas_copy (is_fixed copy.flags)).fields in
+        AreOfWidth fields (filled fields (copy_values copy) None) }
+{
+    let dst_iova = kept_iova(copy.flags, copy.dst_iova);
+    put_ioas_copy(out, CopyRequest { dst_iova, ..copy })
+}
+
+// Writes a COPY with the address that was answered to the front.
+fn put_copied(out: &mut [u8; 64], copy: CopyRequest, dst_iova: Iova) -> usize
+    ensures count { result ≡ 40 }
+    ensures bytes { out.new
+        ≡ structure_bytes (ioas_copy (is_fixed copy.flags)) (copy_values copy) (Some dst_iova.0)
+        ++ drop result out.old }
+{
+    put_ioas_copy(out, CopyRequest { dst_iova, ..copy })
 }
 
 // Writes an ALLOW_IOVAS with the number of its ranges to the front, and answers its length; nothing, if no count can
@@ -70,6 +94,7 @@ fn put_command<A: Allocator>(out: &mut [u8; 64], command: &Command<A>) -> usize
         Command::Destroy(id) => put_destroy(out, *id),
         Command::IoasAlloc => put_ioas_alloc(out, ObjId(0)),
         Command::IoasAllowIovas(ioas, ranges) => put_allow_iovas(out, *ioas, ranges.as_slice()),
+        Command::IoasCopy(copy) => put_copy(out, *copy),
         Command::IoasIovaRanges(request) => {
             put_ioas_iova_ranges(out, request.ioas, request.places, 0)
         }
@@ -164,10 +189,11 @@ pub fn encode_reply<A: Allocator, B: Allocator>(
 /// that is, at most 40. The rest of the buffer stays. It takes no memory.
 ///
 /// For a good reply it's the command's structure with the answer in its field: the new id of an
-/// IOAS_ALLOC in `out_ioas_id`, that of a HWPT_ALLOC in `out_hwpt_id`, the address of a MAP in `iova`, the bytes that an
-/// UNMAP took away in `length`. Its size is the structure's own length, whatever size came in. The entries of an
-/// IOAS_ALLOW_IOVAS aren't written back. For any other reply, refused and pending ones among them, nothing is written; nor is it for an
-/// IOAS_IOVA_RANGES, for which `encode_ranges` does, nor for an IOAS_ALLOW_IOVAS with 2^32 ranges or more.
+/// IOAS_ALLOC in `out_ioas_id`, that of a HWPT_ALLOC in `out_hwpt_id`, the address of a MAP in `iova` and that of a
+/// COPY in `dst_iova`, the bytes that an UNMAP took away in `length`. Its size is the structure's own length, whatever
+/// size came in. The entries of an IOAS_ALLOW_IOVAS aren't written back. For any other reply, refused and pending ones
+/// among them, nothing is written; nor is it for an IOAS_IOVA_RANGES, for which `encode_ranges` does, nor for an
+/// IOAS_ALLOW_IOVAS with 2^32 ranges or more.
 #[tactic(auto, unfolding(crate::specs::Layout::structure_bytes))]
 pub fn encode_reply_to<A: Allocator>(
     command: &Command<A>,
@@ -184,6 +210,7 @@ pub fn encode_reply_to<A: Allocator>(
         (Command::IoasAllowIovas(ioas, ranges), Reply::Done) => {
             put_allow_iovas(buffer, *ioas, ranges.as_slice())
         }
+        (Command::IoasCopy(copy), Reply::Iova(iova)) => put_copied(buffer, *copy, iova),
         (Command::IoasMap(map), Reply::Iova(iova)) => put_mapped(buffer, *map, iova),
         (Command::IoasUnmap(unmap), Reply::Bytes(length)) => {
             put_ioas_unmap(buffer, UnmapRequest { length, ..*unmap })

@@ -6,6 +6,8 @@ pub const IOAS_ALLOC: u32 = 0x3b81;
 
 pub const IOAS_ALLOW_IOVAS: u32 = 0x3b82;
 
+pub const IOAS_COPY: u32 = 0x3b83;
+
 pub const IOAS_IOVA_RANGES: u32 = 0x3b84;
 
 pub const IOAS_MAP: u32 = 0x3b85;
@@ -19,6 +21,8 @@ pub const DESTROY_LENGTH: u32 = 8;
 pub const IOAS_ALLOC_LENGTH: u32 = 12;
 
 pub const IOAS_ALLOW_IOVAS_LENGTH: u32 = 24;
+
+pub const IOAS_COPY_LENGTH: u32 = 40;
 
 pub const IOAS_IOVA_RANGES_LENGTH: u32 = 32;
 

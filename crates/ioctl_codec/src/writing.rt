@@ -3,13 +3,13 @@
 ghost use Rattle.std.specs.Prelude.{◌≡◌, ◌+◌, ◌^◌, ◌<◌, ◌≤◌, ◌++◌, [], ◌∷◌, take, drop, true, Some, None};
 ghost use Rattle.std.specs.Int.{w32, w64, to_le_bytes};
 ghost use Rattle.ioctl_codec.specs.Layout.{AreOfWidth, filled, structure_bytes};
-ghost use Rattle.ioctl_codec.specs.Structures.{destroy, hwpt_alloc, ioas_alloc, ioas_allow_iovas, ioas_iova_ranges, ioas_map, ioas_unmap};
+ghost use Rattle.ioctl_codec.specs.Structures.{copy_values, destroy, hwpt_alloc, ioas_alloc, ioas_allow_iovas, ioas_copy, ioas_iova_ranges, ioas_map, ioas_unmap};
 
 use crate::structure::{
     DESTROY_LENGTH, HWPT_ALLOC_LENGTH, IOAS_ALLOC_LENGTH, IOAS_ALLOW_IOVAS_LENGTH,
-    IOAS_IOVA_RANGES_LENGTH, IOAS_MAP_LENGTH, IOAS_UNMAP_LENGTH,
+    IOAS_COPY_LENGTH, IOAS_IOVA_RANGES_LENGTH, IOAS_MAP_LENGTH, IOAS_UNMAP_LENGTH,
 };
-use iofd_words::{HwptRequest, MapRequest, ObjId, UnmapRequest};
+use iofd_words::{CopyRequest, HwptRequest, MapRequest, ObjId, UnmapRequest};
 
 // Writes a number at a place, and answers the place behind it.
 fn put_u32(out: &mut [u8; 64], at: usize, number: u32) -> usize
@@ -63,6 +63,21 @@ pub fn put_ioas_allow_iovas(out: &mut [u8; 64], ioas: ObjId, num_iovas: u32) -> 
     let at = put_u32(out, at, num_iovas);
     let at = put_u32(out, at, 0);
     put_u64(out, at, 0)
+}
+
+pub fn put_ioas_copy(out: &mut [u8; 64], copy: CopyRequest) -> usize
+    ensures count { result ≡ 40 }
+    ensures bytes { out.new ≡ structure_bytes (ioas_copy true) (copy_values copy) None ++ drop result out.old }
+    ensures fits { let fields = (ioas_copy true).fields in
+        AreOfWidth fields (filled fields (copy_values copy) None) }
+{
+    let at = put_u32(out, 0, IOAS_COPY_LENGTH);
+    let at = put_u32(out, at, copy.flags.0);
+    let at = put_u32(out, at, copy.dst_ioas.0);
+    let at = put_u32(out, at, copy.src_ioas.0);
+    let at = put_u64(out, at, copy.length);
+    let at = put_u64(out, at, copy.dst_iova.0);
+    put_u64(out, at, copy.src_iova.0)
 }
 
 pub fn put_ioas_iova_ranges(
