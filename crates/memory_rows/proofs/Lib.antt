@@ -1,8 +1,10 @@
+pub mod AreaComes
 pub mod AreasGoing
 pub mod Counts
 pub mod FramesFollow
 pub mod Gone
 pub mod Named
+pub mod ObjectOf
 pub mod PinsFollow
 pub mod Released
 pub mod UserAccess

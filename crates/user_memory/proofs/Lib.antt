@@ -11,4 +11,5 @@ pub mod PinnedFrames
 pub mod PinsNamed
 pub mod Removed
 pub mod Settled
+pub mod Shared
 pub mod Users

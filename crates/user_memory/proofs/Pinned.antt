@@ -5,10 +5,11 @@ use Rattle.std.proofs.lemmas.Bool.{and_parts, eq-eqb, eqb-true, le-leb, not-fals
 use Rattle.iofd_words.specs.declared.numbers.UserNo.{UserNo}
 use Rattle.iofd_words.specs.declared.rows.MemoryObject.{MemoryObject}
 use Rattle.iofd_words.specs.declared.rows.UserPage.{UserPage}
-use Rattle.frame_memory.specs.Pool.{FramePool}
+use Rattle.frame_memory.specs.Pool.{FramePool, may_hold}
+use Rattle.frame_memory.specs.UserPages.{are_within}
 use Rattle.mem_account.specs.Accounts.{held_by, is_user, limit_of}
 use Rattle.mem_account.specs.declared.Account.{Account}
-use Rattle.memory_objects.specs.Backed.{CanPin, HoldsMove}
+use Rattle.memory_objects.specs.Backed.{CanPin, Fits, HoldsMove}
 use Rattle.memory_objects.specs.Invariant.{MemoryInvariant}
 use Rattle.memory_objects.specs.Objects.{MemoryEntry, MemoryGrows, SamePins, all_pass, all_pinned, can_pin, has_memory, have_areas, is_of, new_pages, object_at, passes, pinned_more, row_of, rows_of, times_of, with_capacity, with_pages}
 use Rattle.pinned_pages.specs.Pages.{new_count}
@@ -76,7 +77,7 @@ module _ (rows : List UserPage) (limits : List ℕ) (old grown : List MemoryEntr
     kept = kept;
   }
 
-  step_before : (k i : ℕ) (b : Option MemoryEntry) → StepOf rows (object_at grown k) b i → StepOf rows (object_at old k) b i
+  pub step_before : (k i : ℕ) (b : Option MemoryEntry) → StepOf rows (object_at grown k) b i → StepOf rows (object_at old k) b i
   step_before k i b step = by_object (object_at old k) (let P : Option MemoryEntry → Type 0 = λ a. StepOf rows a b i in subst P (grown_at k) step)
     where
       by_object : (a : Option MemoryEntry) → StepOf rows (moved grow a) b i → StepOf rows a b i
@@ -136,6 +137,14 @@ module _ (rows : List UserPage) (old : List MemoryEntry) (told : ObjectsTell old
 
 -- ---- what a pin asks
 
+-- the objects of these numbers can be pinned, if the areas over them are many enough
+pub record ArePinnable (objects : List MemoryEntry) (numbers : List ℕ) (rows : List UserPage) (pool_holds : List ℕ) (accounts : List Account) : Type 0 where
+  pub within : are_within rows pool_holds ≡ true
+  pub present : all_pass (can_pin rows) objects numbers ≡ true
+  pub memory : all_pass has_memory objects numbers ≡ true
+  pub fits : Fits objects numbers accounts
+  pub holds : may_hold pool_holds (new_pages objects numbers) ≡ true
+
 module _ (rows : List UserPage) (accounts : List Account) (old : List MemoryEntry) (tell : AccountsTell accounts old) (numbers : List ℕ) where
   none_lack : (ns : List ℕ) → list_any (lacks_page (memory_of rows (limits_of accounts) old)) ns ≡ false → all_pass (can_pin rows) old ns ≡ true
   none_lack [] none = refl
@@ -186,16 +195,14 @@ module _ (rows : List UserPage) (accounts : List Account) (old : List MemoryEntr
   pub ready_old : list_any (lacks_page (memory_of rows (limits_of accounts) old)) numbers ≡ false → all_pass (can_pin rows) old numbers ≡ true
   ready_old none = none_lack numbers none
 
-  pub pin_allowed : (grown : List MemoryEntry) (user : UserNo) (holds : List ℕ) → MemoryGrows old grown → MemoryInvariant grown → all_pass has_memory grown numbers ≡ true
+  pub pinnable : (grown : List MemoryEntry) (user : UserNo) (holds : List ℕ) → MemoryGrows old grown → MemoryInvariant grown → all_pass has_memory grown numbers ≡ true
       → are_of user (rows_at (memory_of rows (limits_of accounts) old) numbers) ≡ true
       → list_any (lacks_page (memory_of rows (limits_of accounts) old)) numbers ≡ false
       → memory.has_room (memory_of rows (limits_of accounts) old) user (newly_pinned (memory_of rows (limits_of accounts) old) numbers) ≡ true
-      → ((k : ℕ) → pins_in (object_at old k) + times_of k numbers ≤ areas_in (object_at old k))
       → IsBacked (memory_of rows (limits_of accounts) old) holds → length rows < 2 ^ 64 → length grown < 2 ^ 64
-      → CanPin grown numbers rows holds accounts
-  pin_allowed grown user holds grows kept reserved own present room areas backed few_pages few_objects =
+      → ArePinnable grown numbers rows holds accounts
+  pinnable grown user holds grows kept reserved own present room backed few_pages few_objects =
       let m = memory_of rows (limits_of accounts) old in
-      let told = grown_told rows (limits_of accounts) old grown grows tell.told kept in
       let newly = newly_told m numbers tell.told in
       let both = sym (room_seen rows accounts old user tell (newly_pinned m numbers)) ∙ room in
       let parts = and_parts (is_user accounts user.0) (leb (held_by accounts user.0 + newly_pinned m numbers) (limit_of accounts user.0)) both in
@@ -213,7 +220,6 @@ module _ (rows : List UserPage) (accounts : List Account) (old : List MemoryEntr
           room = ap (λ k. leb (held_by accounts user.0 + k) (limit_of accounts user.0)) (same ∙ sym newly) ∙ parts.1;
         };
         holds = room_for_pins m holds (new_pages grown numbers) backed tell.told.kept few_pages (omega (arith, few_objects, long)) (omega (arith, same, fewer));
-        areas = grown_all rows (limits_of accounts) old grown grows (λ o. leb (o.pages.pages.table_pins + times_of o.number numbers) o.areas) (λ o h. h) (areas_room areas);
       }
     where
       map_length : (G : MemoryEntry → MemoryEntry) (xs : List MemoryEntry) → length (map G xs) ≡ length xs
@@ -222,6 +228,19 @@ module _ (rows : List UserPage) (accounts : List Account) (old : List MemoryEntr
 
       grown_length : length grown ≡ length old
       grown_length = ap length grows.objects ∙ map_length (λ o. with_capacity (grows.capacity o) o) old
+
+  pub pin_allowed : (grown : List MemoryEntry) (holds : List ℕ) → MemoryGrows old grown → ArePinnable grown numbers rows holds accounts
+      → ((k : ℕ) → pins_in (object_at old k) + times_of k numbers ≤ areas_in (object_at old k))
+      → CanPin grown numbers rows holds accounts
+  pin_allowed grown holds grows may areas =
+      record {
+        within = may.within;
+        present = may.present;
+        memory = may.memory;
+        fits = may.fits;
+        holds = may.holds;
+        areas = grown_all rows (limits_of accounts) old grown grows (λ o. leb (o.pages.pages.table_pins + times_of o.number numbers) o.areas) (λ o h. h) (areas_room areas);
+      }
 
 -- ---- the whole
 

@@ -42,6 +42,12 @@ pub record HasObject (count : ℕ) (row : MemoryObject) (old new : Memory) : Typ
   pub areas : (number : ℕ) → areas_over new number ≡ areas_over old number + (if row.number == number then 1 else 0)
   pub pins : (number : ℕ) → table_pins new number ≡ table_pins old number + (if row.number == number then count else 0)
 
+-- one area more lies over the memory object of this number, with so many pins
+pub record HasShare (count number : ℕ) (old new : Memory) : Type 0 where
+  pub rows : rows_of new ≡ rows_of old
+  pub areas : (n : ℕ) → areas_over new n ≡ areas_over old n + (if number == n then 1 else 0)
+  pub pins : (n : ℕ) → table_pins new n ≡ table_pins old n + (if number == n then count else 0)
+
 -- so many pins more stand on each object
 pub record HasPins (more : ℕ → ℕ) (old new : Memory) : Type 0 where
   pub rows : rows_of new ≡ rows_of old

@@ -1,15 +1,17 @@
 //! The users' memory.
 
-ghost use Rattle.std.specs.Prelude.{ℕ, ◌≡◌, ◌==◌, ◌&&◌, ◌<◌, ◌≤◌, ◌+◌, ◌*◌, ◌^◌, [], false, true, None, find, length, nat_lt, slice_get, is_some, if◌then◌else◌, IsTrue, IsSome, IfOk, IfSome, OnOk, OnErr};
+ghost use Rattle.std.specs.Prelude.{ℕ, ◌≡◌, ◌==◌, ◌&&◌, ◌<◌, ◌≤◌, ◌+◌, ◌*◌, ◌^◌, [], ◌∷◌, false, true, None, find, length, nat_lt, slice_get, is_some, if◌then◌else◌, IsTrue, IsSome, IfOk, IfSome, OnOk, OnErr};
 ghost use Rattle.std.specs.List.{list_all, list_any};
+ghost use Rattle.std.specs.List.Sorted.{IsNonDecreasing};
 ghost use Rattle.iofd_words.specs.Checks as checks;
+ghost use Rattle.iofd_words.specs.Copies as copies;
 ghost use Rattle.iofd_words.specs.Files.{numbered};
 ghost use Rattle.iofd_words.specs.Frames as frames;
 ghost use Rattle.iofd_words.specs.Pages.{is_whole, page_of};
 ghost use Rattle.frame_memory.specs.Pool.{FramePool, given, least_free};
 ghost use Rattle.frame_memory.specs.UserPages.{HasOneMore, user_page};
 ghost use Rattle.memory_objects.specs.Objects.{times_of};
-ghost use Rattle.user_memory.specs.Changes.{HasLess, HasObject, HasPins, HoldsFollow, SameObjects, Settles, never, once};
+ghost use Rattle.user_memory.specs.Changes.{HasLess, HasObject, HasPins, HasShare, HoldsFollow, SameObjects, Settles, never, once};
 ghost use Rattle.user_memory.specs.Invariant.{ObjectsTell};
 ghost use Rattle.user_memory.specs.Memory.{IsBacked, are_of, areas_over, has_room, held_by, lacks_page, new_pages, newly_pinned, pinned_frame, rows_at, rows_of, table_pins};
 
@@ -169,6 +171,16 @@ impl<A: Allocator> UserMemory<A> {
         let _ = &self.objects;
     }
 
+    /// Whether there is an object of this number, and devices may write its memory. It costs one look-up.
+    pub fn is_writable(&self, number: u64) -> bool
+        ensures { result ≡ copies.is_writable (rows_of self.now) number }
+    {
+        match self.objects.get(number) {
+            Some(row) => row.writable,
+            None => false,
+        }
+    }
+
     /// How many pages pinning the object pins anew.
     pub fn new_pages(&self, number: u64) -> u64
         ensures value { result ≡ new_pages self.now number }
@@ -176,6 +188,25 @@ impl<A: Allocator> UserMemory<A> {
         ensures facts { ObjectsTell self.now.objects }
     {
         self.objects.new_count(number)
+    }
+
+    /// How many pages pinning these objects pins anew, each page once, however often its object is there. The numbers
+    /// rise or stay. It takes no memory.
+    pub fn newly_pinned(&self, numbers: &[u64]) -> u128
+        requires { IsNonDecreasing numbers.now }
+        ensures { result ≡ newly_pinned self.now numbers.now }
+    {
+        self.objects.new_pages(numbers)
+    }
+
+    /// Whether one more area over the object of this number can be counted.
+    pub fn counts_more(&self, number: u64) -> bool
+        ensures { result ≡ nat_lt (areas_over self.now number + 1) (2 ^ 64) }
+    {
+        match self.objects.areas(number) {
+            Some(areas) => areas < u64::MAX,
+            None => true,
+        }
     }
 
     /// Gives the user the page that holds this user address: the least free frame, which reads zero. The user hasn't
@@ -246,6 +277,65 @@ impl<A: Allocator> UserMemory<A> {
         let _ = (self.users.len(), self.objects.len());
         self.objects
             .pin_by_table(numbers, &self.users, pool, &mut self.accounts);
+        Ok(())
+    }
+
+    /// One area more lies over the object of this number, over which one lies already, with one pin more if `pinned`:
+    /// then the object is the user's, its pages are there, and the user may have them pinned. It costs a few look-ups
+    /// by number, and memory only where the pin is the first one. An error changes nothing.
+    pub fn share<B: Allocator>(
+        &mut self,
+        pool: &mut Pool<B>,
+        user: UserNo,
+        number: u64,
+        pinned: bool,
+    ) -> Result<(), NoMemory>
+        requires there { 1 ≤ areas_over self.old number }
+        requires few { areas_over self.old number + 1 < 2 ^ 64 }
+        requires own { pinned ≡ true → are_of user (rows_at self.old (number ∷ [])) ≡ true }
+        requires present { pinned ≡ true → lacks_page self.old number ≡ false }
+        requires room { pinned ≡ true → has_room self.old user (new_pages self.old number) ≡ true }
+        requires backed { IsBacked self.old pool.old.holds }
+        ensures share { OnOk result (HasShare (if pinned then 1 else 0) number self.old self.new) }
+        ensures settles { OnOk result (Settles self.old self.new pool.old pool.new) }
+        ensures pages { self.new.pages ≡ self.old.pages }
+        ensures limits { self.new.limits ≡ self.old.limits }
+        ensures err { OnErr result (SameObjects self.old self.new) }
+        ensures pool_err { OnErr result (pool.new ≡ pool.old) }
+    {
+        if pinned {
+            return self.share_pinned(pool, user, number);
+        }
+        self.objects.add_area(number);
+        Ok(())
+    }
+
+    /// What `share` does where the area has a pin.
+    fn share_pinned<B: Allocator>(
+        &mut self,
+        pool: &mut Pool<B>,
+        user: UserNo,
+        number: u64,
+    ) -> Result<(), NoMemory>
+        requires there { 1 ≤ areas_over self.old number }
+        requires few { areas_over self.old number + 1 < 2 ^ 64 }
+        requires own { are_of user (rows_at self.old (number ∷ [])) ≡ true }
+        requires present { lacks_page self.old number ≡ false }
+        requires room { has_room self.old user (new_pages self.old number) ≡ true }
+        requires backed { IsBacked self.old pool.old.holds }
+        ensures share { OnOk result (HasShare 1 number self.old self.new) }
+        ensures settles { OnOk result (Settles self.old self.new pool.old pool.new) }
+        ensures pages { self.new.pages ≡ self.old.pages }
+        ensures limits { self.new.limits ≡ self.old.limits }
+        ensures err { OnErr result (SameObjects self.old self.new) }
+        ensures pool_err { OnErr result (pool.new ≡ pool.old) }
+    {
+        self.objects.reserve_frames(&[number])?;
+        // As many pages and pins as memory can hold leave room for the holds.
+        let _ = (self.users.len(), self.objects.len());
+        self.objects.add_area(number);
+        self.objects
+            .pin_by_table(&[number], &self.users, pool, &mut self.accounts);
         Ok(())
     }
 

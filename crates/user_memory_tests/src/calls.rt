@@ -12,7 +12,7 @@ use user_memory::UserMemory;
 
 const USER: UserNo = UserNo(1);
 
-/// A call. The objects are of user 1, from 0x10000 on, and numbered from 0 on.
+/// A call. The objects are of user 1, from 0x10000 on, and numbered from 0 on; devices may write the first alone.
 #[derive(Clone, Copy)]
 enum Call {
     /// Gives the user the page at this address, and takes it away.
@@ -22,6 +22,8 @@ enum Call {
     HasPages(u64, u64),
     /// With how many pages there are, and whether they are pinned.
     Add(u64, bool),
+    /// Whether the area that comes is pinned.
+    Share(usize, bool),
     Pin(usize),
     Unpin(usize),
     Remove(usize),
@@ -29,6 +31,7 @@ enum Call {
     /// Whether the object's pages are pinned at these frames.
     FramesAre(u64, &'static [FrameNo]),
     LacksPage(u64),
+    IsWritable(u64),
     NewPages(u64),
     HasRoom(u128),
     Held,
@@ -86,7 +89,7 @@ fn added<A: Allocator + Copy>(bench: &mut Bench<A>, count: u64, pinned: bool) ->
         user: USER,
         va: 0x10000,
         count,
-        writable: true,
+        writable: number == 0,
     };
     let may = bench.memory.has_pages(USER, 0x10000, count)
         && bench.memory.has_room(USER, u128::from(count));
@@ -99,6 +102,28 @@ fn added<A: Allocator + Copy>(bench: &mut Bench<A>, count: u64, pinned: bool) ->
     bench.areas[number] = 1;
     bench.pins[number] = u64::from(pinned);
     bench.next = number + 1;
+    Answer::Done
+}
+
+fn shared<A: Allocator + Copy>(bench: &mut Bench<A>, number: usize, pinned: bool) -> Answer {
+    if number >= 4 || bench.areas[number] == 0 || bench.areas[number] > 9 {
+        return Answer::Barred;
+    }
+    let new = bench.memory.new_pages(number as u64);
+    let may = !bench.memory.lacks_page(number as u64)
+        && bench.memory.has_room(USER, u128::from(new));
+    if pinned && !may {
+        return Answer::Barred;
+    }
+    if bench
+        .memory
+        .share(&mut bench.pool, USER, number as u64, pinned)
+        .is_err()
+    {
+        return Answer::NoMemory;
+    }
+    bench.areas[number] += 1;
+    bench.pins[number] += u64::from(pinned);
     Answer::Done
 }
 
@@ -160,6 +185,7 @@ fn asked<A: Allocator + Copy>(bench: &mut Bench<A>, call: Call) -> Answer {
         Call::FrameAt(va) => told(bench.memory.frame_at(USER, va).map(|f| u64::from(f.0))),
         Call::HasPages(va, count) => has_pages(bench, va, count),
         Call::Add(count, pinned) => added(bench, count, pinned),
+        Call::Share(number, is_pinned) => shared(bench, number, is_pinned),
         Call::Pin(number) => pinned(bench, number),
         Call::Unpin(number) => unpinned(bench, number),
         Call::Remove(number) => removed(bench, number),
@@ -168,6 +194,7 @@ fn asked<A: Allocator + Copy>(bench: &mut Bench<A>, call: Call) -> Answer {
         ),
         Call::FramesAre(number, frames) => Answer::Is(bench.memory.frames(number) == frames),
         Call::LacksPage(number) => Answer::Is(bench.memory.lacks_page(number)),
+        Call::IsWritable(number) => Answer::Is(bench.memory.is_writable(number)),
         Call::NewPages(number) => Answer::Gives(bench.memory.new_pages(number)),
         Call::HasRoom(count) => Answer::Is(bench.memory.has_room(USER, count)),
         Call::Held => Answer::Gives(bench.memory.held(USER)),
@@ -205,7 +232,7 @@ fn opened<A: Allocator + Copy>(alloc: A, frames: Global, count: u32) -> Result<B
     })
 }
 
-static ROWS: [(Call, Answer); 48] = [
+static ROWS: [(Call, Answer); 77] = [
     // two pages of the user, and one object of both
     (Call::LacksPage(0), Answer::Is(false)),
     (Call::Held, Answer::Gives(0)),
@@ -218,7 +245,9 @@ static ROWS: [(Call, Answer); 48] = [
     (Call::FrameAt(0x12000), Answer::Nothing),
     (Call::HasPages(0x10000, 2), Answer::Is(true)),
     (Call::HasPages(0x10000, 3), Answer::Is(false)),
+    (Call::IsWritable(0), Answer::Is(false)),
     (Call::Add(2, false), Answer::Done),
+    (Call::IsWritable(0), Answer::Is(true)),
     (Call::Frame(0, 0), Answer::Nothing),
     (Call::FramesAre(0, &[]), Answer::Is(true)),
     (Call::NewPages(0), Answer::Gives(2)),
@@ -261,6 +290,37 @@ static ROWS: [(Call, Answer); 48] = [
     (Call::LacksPage(0), Answer::Is(false)),
     (Call::Unpin(1), Answer::Done),
     (Call::FreeFrames, Answer::Gives(4)),
+    // a pinned area over an object that isn't pins its pages, and charges them once
+    (Call::IsWritable(1), Answer::Is(false)),
+    (Call::Share(1, true), Answer::Done),
+    (Call::Frame(1, 0), Answer::Gives(2)),
+    (Call::Held, Answer::Gives(1)),
+    // a further one takes no frame and no charge, and the pages keep their frames whatever the user does
+    (Call::Unmap(0x10000), Answer::Done),
+    (Call::FreeFrames, Answer::Gives(4)),
+    (Call::Share(1, true), Answer::Done),
+    (Call::Share(1, false), Answer::Done),
+    (Call::Frame(1, 0), Answer::Gives(2)),
+    (Call::Held, Answer::Gives(1)),
+    (Call::FreeFrames, Answer::Gives(4)),
+    // without the areas that aren't pinned the pins stay, and the last pin takes them all off
+    (Call::Remove(1), Answer::Done),
+    (Call::Remove(1), Answer::Done),
+    (Call::Remove(1), Answer::Barred),
+    (Call::Unpin(1), Answer::Done),
+    (Call::Remove(1), Answer::Done),
+    (Call::Frame(1, 0), Answer::Gives(2)),
+    (Call::Held, Answer::Gives(1)),
+    (Call::Unpin(1), Answer::Done),
+    (Call::Frame(1, 0), Answer::Nothing),
+    (Call::Held, Answer::Gives(0)),
+    (Call::FreeFrames, Answer::Gives(5)),
+    // its pages gone, it is shared only without a pin, and once it is gone not at all
+    (Call::Share(1, true), Answer::Barred),
+    (Call::Share(1, false), Answer::Done),
+    (Call::Remove(1), Answer::Done),
+    (Call::Remove(1), Answer::Done),
+    (Call::Share(1, false), Answer::Barred),
 ];
 
 #[test]
@@ -287,8 +347,9 @@ static NO_OBJECT: [(Call, Answer); 4] = [
 
 static AN_OBJECT: [(Call, Answer); 1] = [(Call::Add(1, false), Answer::Done)];
 
-static NO_PIN: [(Call, Answer); 4] = [
+static NO_PIN: [(Call, Answer); 5] = [
     (Call::Pin(0), Answer::NoMemory),
+    (Call::Share(0, true), Answer::NoMemory),
     (Call::Frame(0, 0), Answer::Nothing),
     (Call::Held, Answer::Gives(0)),
     (Call::FreeFrames, Answer::Gives(1)),
@@ -300,9 +361,14 @@ static A_PIN: [(Call, Answer); 2] = [
 ];
 
 /// What takes no memory is done while none is left.
-static NONE_NEEDED: [(Call, Answer); 5] = [
+static NONE_NEEDED: [(Call, Answer); 10] = [
     (Call::Unmap(0x10000), Answer::Done),
+    (Call::Share(0, true), Answer::Done),
+    (Call::Share(0, false), Answer::Done),
     (Call::Unpin(0), Answer::Done),
+    (Call::Unpin(0), Answer::Done),
+    (Call::Remove(0), Answer::Done),
+    (Call::Remove(0), Answer::Done),
     (Call::Remove(0), Answer::Done),
     (Call::Held, Answer::Gives(0)),
     (Call::FreeFrames, Answer::Gives(2)),

@@ -1,4 +1,4 @@
-use Rattle.std.proofs.Common.{◌≤◌, ◌∙◌, ℕ, true, refl, subst, sym, arith}
+use Rattle.std.proofs.Common.{◌≤◌, ◌∙◌, ℕ, eqb, refl, subst, sym, arith}
 use Rattle.iofd_words.specs.declared.rows.MemoryObject.{MemoryObject}
 use Rattle.user_memory.specs.Changes.{HasObject}
 use Rattle.user_memory_tests.proofs.Kept.{byte_is, ok_holds, told_added}
@@ -7,7 +7,7 @@ use Rattle.user_memory_tests.proofs.calls.added.Goals as goal
 pub invariant_of-bench-2 : goal.invariant_of-bench-2
 invariant_of-bench-2 g c =
     let bench = c.args.bench.now in
-    let row : MemoryObject = record { number = bench.next; user = record { 0 = 1 }; va = 65536; count = c.args.count; writable = true } in
+    let row : MemoryObject = record { number = bench.next; user = record { 0 = 1 }; va = 65536; count = c.args.count; writable = eqb bench.next 0 } in
     let byte = byte_is c.args.pinned in
     let pins = byte.0 ∙ sym c.from-2.ensures in
     let object = ok_holds c.add.result c.if-is_err.ensures.value c.add.ensures.object in

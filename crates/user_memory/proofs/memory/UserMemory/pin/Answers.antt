@@ -9,7 +9,7 @@ use Rattle.user_memory.specs.Invariant.{is_kept}
 use Rattle.user_memory.specs.Memory as memory
 use Rattle.user_memory.specs.Memory.{IsBacked, Memory, are_of, areas_over, lacks_page, newly_pinned, rows_at, table_pins}
 use Rattle.user_memory.proofs.Moves.{accounts_moved, all_mapped, has_user}
-use Rattle.user_memory.proofs.Pinned.{grown_pass, grown_same, grown_tell, grown_told, pin_allowed, pin_kept, pin_more, pin_more_pins, pin_settles, ready_old}
+use Rattle.user_memory.proofs.Pinned.{grown_pass, grown_same, grown_tell, grown_told, pin_allowed, pin_kept, pin_more, pin_more_pins, pin_settles, pinnable, ready_old}
 use Rattle.user_memory.proofs.Settled.{memory_of}
 use Rattle.user_memory.proofs.Users.{limits_of, limits_stay}
 use Rattle.user_memory.proofs.memory.UserMemory.pin.Goals as goal
@@ -38,10 +38,11 @@ pin_by_table-requires g c =
     let Areas : Memory → Type 0 = λ m. (k : ℕ) → table_pins m k + times_of k ns ≤ areas_over m k in
     let Backed : Memory → Type 0 = λ m. IsBacked m c.args.pool.now.holds in
     let is = sym c.self.view_is in
-    pin_allowed c.self.inside.users.pages accounts c.self.inside.objects.objects c.self.invariant ns c.reserve_frames.new.self.objects user c.args.pool.now.holds
+    let may = pinnable c.self.inside.users.pages accounts c.self.inside.objects.objects c.self.invariant ns c.reserve_frames.new.self.objects user c.args.pool.now.holds
     c.reserve_frames.ensures.objects c.reserve_frames.ensures.invariant c.in_ok-reserve_frames.ensures.ok
-    (subst Own is c.requires.own) (subst Present is c.requires.present) (subst Room is c.requires.room) (subst Areas is c.requires.areas) (subst Backed is c.requires.backed)
-    (omega (arith, c.len.ensures, c.len.type_inv)) (omega (arith, c.len-2.ensures, c.len-2.type_inv))
+    (subst Own is c.requires.own) (subst Present is c.requires.present) (subst Room is c.requires.room) (subst Backed is c.requires.backed)
+    (omega (arith, c.len.ensures, c.len.type_inv)) (omega (arith, c.len-2.ensures, c.len-2.type_inv)) in
+    pin_allowed c.self.inside.users.pages accounts c.self.inside.objects.objects c.self.invariant ns c.reserve_frames.new.self.objects c.args.pool.now.holds c.reserve_frames.ensures.objects may (subst Areas is c.requires.areas)
 
 pub invariant_of-self-2 : goal.invariant_of-self-2
 invariant_of-self-2 g c =
