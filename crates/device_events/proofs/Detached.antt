@@ -1,6 +1,6 @@
 -- An attachment that ends: its page table may go with it, and the pins of its address space with the page table.
-use Rattle.std.proofs.Common.{◌≡◌, ℕ, Bool, true, false, ◌&&◌, ◌||◌, not, eqb, Option, Some, None, List, [], ◌∷◌, refl, sym, ◌∙◌, ap, arith, inl, inr}
-use Rattle.std.specs.List.{filter, list_all, list_any}
+use Rattle.std.proofs.Common.{◌≡◌, ℕ, Bool, true, false, ◌&&◌, not, eqb, Option, Some, None, List, [], ◌∷◌, refl, sym, ◌∙◌, ap, arith, inl, inr}
+use Rattle.std.specs.List.{filter, list_all}
 use Rattle.std.proofs.lemmas.Bool.Decides.{nat_tests}
 use Rattle.iofd_words.specs.After.{goes_with}
 use Rattle.iofd_words.specs.Attachments.{has_device_on, ioas_of, ioas_of_attachment}
@@ -20,18 +20,10 @@ use Rattle.iofd_rows.proofs.Found.{find-filter, none_both}
 use Rattle.iofd_rows.proofs.ListTests.{alike, any-filter}
 use Rattle.iofd_rows.proofs.Named.{file_is, id_is, kind_only}
 use Rattle.iofd_rows.proofs.PageTables.{hwpt-filter, hwpt_alike}
+use Rattle.server_state.proofs.TablesUnreached.{some_one}
 use Rattle.device_events.specs.Attaching.{is_idle}
 
 -- ---- rows of a list
-
--- some row passes the test
-pub some_row : {X : Type 0} (p : X → Bool) (xs : List X) → list_any p xs ≡ true → (x : X) × IsIn xs x × (p x ≡ true)
-some_row p [] some = cc
-some_row {X = X} p (y ∷ xs) some = by_test (p y) refl some (λ later. some_row p xs later)
-  where
-    by_test : (b : Bool) → p y ≡ b → (b || list_any p xs) ≡ true → (list_any p xs ≡ true → (x : X) × IsIn xs x × (p x ≡ true)) → (x : X) × IsIn (y ∷ xs) x × (p x ≡ true)
-    by_test true is here later = (y, inl refl, is)
-    by_test false is here later = let rest = later here in (rest.0, inr rest.1, rest.2)
 
 pub filter_same_on : {X : Type 0} (p q : X → Bool) (xs : List X) → ((x : X) → IsIn xs x → p x ≡ q x) → filter p xs ≡ filter q xs
 filter_same_on p q [] same = refl
@@ -104,7 +96,7 @@ same_space (kind.Device device) over ioas of is = cc
 -- an object over another address space is not the page table of the attachment
 other_stays : (w : World) (others : List Attachment) (a : Attachment) (ioas over : ObjId) (file : FileNo) → have_own_ids w.objects ≡ true → ioas_of_attachment w.objects a ≡ Some ioas → (eqb a.file.0 file.0 && eqb ioas.0 over.0) ≡ false → has_hwpt w.objects file over ≡ true → has_hwpt (left_of others a w.objects) file over ≡ true
 other_stays w others a ioas over file own attached other has =
-    let (object, within, is) = some_row (λ (object : Object). eqb object.file.0 file.0 && is_hwpt_over over object.kind) w.objects has in
+    let (object, within, is) = some_one (λ (object : Object). eqb object.file.0 file.0 && is_hwpt_over over object.kind) w.objects has in
     any-filter (λ (object : Object). eqb object.file.0 file.0 && is_hwpt_over over object.kind) (λ object. not (goes_with others a object)) w.objects
     ∙ of_any (λ object. not (goes_with others a object) && (eqb object.file.0 file.0 && is_hwpt_over over object.kind)) w.objects object within
     (both_true _ _ (stays object (is_object a.file a.hwpt object) refl within is) is)

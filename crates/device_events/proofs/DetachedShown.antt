@@ -53,7 +53,7 @@ use Rattle.device_events.proofs.Detached.{all_stay, bindings_stay, left_of, none
 use Rattle.device_events.proofs.PaidLeads.{paid_leads}
 use Rattle.device_events.proofs.ReleasedAfter.{may_release_after, shown_after_it, tables_stand_after}
 use Rattle.device_events.proofs.TableGone.{given_rows, named_rows, orphan_rows, tables_kept, tests_kept}
-use Rattle.device_events.proofs.TablesUnreached.{unreached}
+use Rattle.server_state.proofs.TablesUnreached.{unreached}
 use Rattle.device_events.proofs.Walked.{found_hwpt}
 use Rattle.hwpt_device.specs.PageTables.{AllStand, Hwpt, IfAllStand, PageTables, hwpt_of, objects_of}
 use Rattle.hwpt_device.specs.Removed.{rows_found, without_hwpt, without_tables}

@@ -9,5 +9,4 @@ pub mod NeverRefused
 pub mod PaidLeads
 pub mod ReleasedAfter
 pub mod TableGone
-pub mod TablesUnreached
 pub mod Walked

@@ -59,7 +59,8 @@ use Rattle.server_state.proofs.PageTables.{has_hwpt_kept}
 use Rattle.server_state.proofs.Still.{still}
 use Rattle.file_events.proofs.FreedOver.{freed, may_free, tables_freed, tables_lead}
 use Rattle.file_events.proofs.GivesBackMoves.{gives_back}
-use Rattle.file_events.proofs.TablesGone.{none_reach, of_one, one_counted, orphans_are, rows_named}
+use Rattle.file_events.proofs.TablesGone.{of_one, one_counted, orphans_are, rows_named}
+use Rattle.server_state.proofs.TablesUnreached.{none_reach}
 use Rattle.file_events.proofs.TablesLeft.{among_left, one_left, one_widths}
 use Rattle.hwpt_device.proofs.Counted.{rows_in_frame}
 use Rattle.hwpt_device.specs.PageTables.{AllStand, Hwpt, IfAllStand, PageTables, hwpt_of, objects_of}

@@ -12,7 +12,8 @@ use Rattle.server_state.proofs.Orderly.{orderly}
 use Rattle.server_state.proofs.MemoryReleased.{AreFewer}
 use Rattle.file_events.proofs.FreedOver.{freed, may_free, tables_freed, tables_lead}
 use Rattle.file_events.proofs.GivesBackMoves.{gives_back}
-use Rattle.file_events.proofs.TablesGone.{file_counted, none_reach, of_file, orphans_are, rows_named}
+use Rattle.file_events.proofs.TablesGone.{file_counted, of_file, orphans_are, rows_named}
+use Rattle.server_state.proofs.TablesUnreached.{none_reach}
 use Rattle.file_events.proofs.TablesLeft.{file_left, file_widths}
 use Rattle.hwpt_device.proofs.Counted.{rows_in_frame}
 use Rattle.hwpt_device.specs.PageTables.{AllStand, Hwpt, IfAllStand, PageTables, objects_of as objects_kept}

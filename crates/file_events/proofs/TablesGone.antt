@@ -1,25 +1,22 @@
 -- The tables of page tables that go: those left over, and their frames.
-use Rattle.std.proofs.Common.{◌≡◌, ℕ, zero, suc, ◌+◌, ◌<◌, ◌≤◌, Bool, true, false, cond, ◌&&◌, ◌||◌, not, eqb, ltb, Option, Some, None, List, [], ◌∷◌, length, map, refl, ap, subst, sym, ◌∙◌, inl, inr, arith}
-use Rattle.std.specs.List.{count_by, filter, find, flat_map, list_all, list_any}
+use Rattle.std.proofs.Common.{◌≡◌, ℕ, zero, suc, ◌+◌, ◌<◌, ◌≤◌, Bool, true, false, cond, ◌&&◌, not, eqb, ltb, Option, Some, None, List, [], ◌∷◌, length, map, refl, ap, subst, sym, ◌∙◌, inl, inr, arith}
+use Rattle.std.specs.List.{count_by, filter, find, flat_map, list_all}
 use Rattle.std.specs.List.Sorted.{IsNonDecreasingBy}
 use Rattle.std.specs.Option.{option_map}
 use Rattle.std.proofs.lemmas.Bool.Decides.{nat_tests}
 use Rattle.std.proofs.lemmas.List.Concat.{flat_map-cons}
 use Rattle.std.proofs.lemmas.List.Sorted.{sum_by-IsPermutation}
-use Rattle.frame_memory.specs.Pool.{FramePool}
 use Rattle.hwpt_device.proofs.Counted.{one_more, one_row_more, rows_in_append, rows_in_frame}
 use Rattle.hwpt_device.proofs.Gone.{found_file, found_id}
 use Rattle.hwpt_device.proofs.OwnIds.{first_alone, own_parts}
-use Rattle.hwpt_device.proofs.Staying.{table_held}
-use Rattle.hwpt_device.specs.PageTables.{AllStand, Hwpt, hwpt_of, row_of, rows_of}
+use Rattle.hwpt_device.specs.PageTables.{Hwpt, hwpt_of, row_of, rows_of}
 use Rattle.hwpt_device.specs.Removed.{rows_found, rows_of_file}
-use Rattle.iofd_rows.proofs.Bools.{and_true, both_true, clash}
-use Rattle.iofd_rows.proofs.Each.{IsIn, found_kept, in_map, of_any, of_each}
+use Rattle.iofd_rows.proofs.Bools.{and_true, clash}
+use Rattle.iofd_rows.proofs.Each.{IsIn, found_kept, of_any, of_each}
 use Rattle.iofd_rows.proofs.Found.{find-filter, none_both}
 use Rattle.iofd_rows.proofs.Named.{object_of_kind}
 use Rattle.iofd_rows.specs.Ids.{have_own_ids}
-use Rattle.iofd_runs.proofs.StillTabled.{in_kept, orphan_is}
-use Rattle.iofd_words.specs.Frames.{FrameWrite}
+use Rattle.iofd_runs.proofs.StillTabled.{orphan_is}
 use Rattle.iofd_words.specs.Objects.{is_hwpt, is_object, kind_of}
 use Rattle.iofd_words.specs.TablePlaces.{is_table_of}
 use Rattle.iofd_words.specs.Tables.{is_orphan}
@@ -31,21 +28,16 @@ use Rattle.iofd_words.specs.declared.rows.ObjectKind.{ObjectKind}
 use Rattle.iofd_words.specs.declared.rows.TableFrame.{TableFrame}
 use Rattle.memory_rows.proofs.Counts.{count_alike, count_within}
 use Rattle.memory_rows.proofs.PinsFollow.{any_count, count-cons}
-use Rattle.memory_rows.specs.Shown.{FramesShown, tables_in}
+use Rattle.memory_rows.specs.Shown.{tables_in}
 use Rattle.server_state.proofs.GivenBack.{times_in}
 use Rattle.server_state.proofs.PageTables.{found_among}
+use Rattle.server_state.proofs.TablesUnreached.{its_table}
 use Rattle.server_state.specs.Tables.{page_tables_among}
 use Rattle.table_words.specs.Released.{GivesBack}
-use Rattle.table_words.specs.Rows.{MappedPage, TableRow}
+use Rattle.table_words.specs.Rows.{TableRow}
 use Rattle.table_words.specs.Taken.{names}
-use Rattle.user_memory.specs.Memory.{Memory, reached}
 
 -- ---- lists
-
-in_list : {X Y : Type 0} (h : X → Y) (xs : List X) (x : X) → IsIn xs x → IsIn (map h xs) (h x)
-in_list h [] x within = absurd within
-in_list h (y ∷ xs) x (inl same) = inl (ap h same)
-in_list h (y ∷ xs) x (inr later) = inr (in_list h xs x later)
 
 none_found : {X : Type 0} (p : X → Bool) (xs : List X) → ((x : X) → IsIn xs x → p x ≡ false) → find p xs ≡ None
 none_found p [] none = refl
@@ -57,15 +49,6 @@ none_counted p (x ∷ xs) none =
     let first = count-cons p x xs ∙ ap (λ (b : Bool). cond {A = ℕ} b 1 0 + count_by p xs) (none x (inl refl)) in
     let rest = none_counted p xs (λ y later. none y (inr later)) in
     omega (arith, first, rest)
-
--- some element passes a test that some pass
-some_one : {X : Type 0} (p : X → Bool) (xs : List X) → list_any p xs ≡ true → (x : X) × IsIn xs x × (p x ≡ true)
-some_one p [] some = cc
-some_one p (y ∷ xs) some = by_test (p y) refl some (λ later. some_one p xs later)
-  where
-    by_test : (b : Bool) → p y ≡ b → (b || list_any p xs) ≡ true → (list_any p xs ≡ true → (x : _) × IsIn xs x × (p x ≡ true)) → (x : _) × IsIn (y ∷ xs) x × (p x ≡ true)
-    by_test true is any later = (y, inl refl, is)
-    by_test false is any later = let rest = later any in (rest.0, inr rest.1, rest.2)
 
 -- ---- tables that are left over
 
@@ -137,28 +120,6 @@ module _ (objects : List Object) (tables : List Hwpt) (are : map (λ (h : Hwpt).
       ∙ rows_are (filter (is_table_of h.object.file h.object.id) frames) f
       ∙ ap (λ (x : FileNo). tables_in (filter (is_table_of x h.object.id) frames) f) (found_file tables file id h found)
       ∙ ap (λ (x : ObjId). tables_in (filter (is_table_of file x) frames) f) (found_id tables file id h found)
-
--- a row that isn't left over is of a page table that is kept
-its_table : (objects : List Object) (tables : List Hwpt) → map (λ (h : Hwpt). h.object) tables ≡ page_tables_among objects → (t : TableFrame) → not (is_orphan objects t) ≡ true
-    → (h : Hwpt) × IsIn tables h × (is_table_of h.object.file h.object.id t ≡ true)
-its_table objects tables are t owned = by_kind (kind_of objects t.file t.hwpt) refl owned
-  where
-    twice : (b : Bool) → not (not b) ≡ true → b ≡ true
-    twice true is = refl
-    twice false is = cc
-
-    itself : (n : ℕ) → eqb n n ≡ true
-    itself n = grind (arith, nat_tests)
-
-    by_kind : (o : Option ObjectKind) → kind_of objects t.file t.hwpt ≡ o → not (elim o [ Some kind ↦ not (is_hwpt kind) | None ↦ true ]) ≡ true → (h : Hwpt) × IsIn tables h × (is_table_of h.object.file h.object.id t ≡ true)
-    by_kind None is owned = cc
-    by_kind (Some k) is owned =
-        let (object, found, within, of_file, of_id, of_kind) = object_of_kind objects t.file t.hwpt k is in
-        let hwpt : is_hwpt object.kind ≡ true = ap is_hwpt of_kind ∙ twice (is_hwpt k) owned in
-        let among : IsIn (map (λ (h : Hwpt). h.object) tables) object = subst (λ (os : List Object). IsIn os object) (sym are) (in_kept (λ (o : Object). is_hwpt o.kind) objects object within hwpt) in
-        let (h, there, same) = in_map (λ (h : Hwpt). h.object) tables object among in
-        let of_this : is_table_of object.file object.id t ≡ true = rw (of_file, of_id) (both_true _ _ (itself t.file.0) (itself t.hwpt.0)) in
-        (h, there, ap (λ (o : Object). is_table_of o.file o.id t) same ∙ of_this)
 
 -- ---- of a file
 
@@ -281,24 +242,6 @@ given_times rows items gives f =
 
 pub given_rises : (rows : List TableRow) (items : List FrameNo) → GivesBack rows [] items → IsNonDecreasingBy (λ (f : FrameNo). f.0) items
 given_rises rows items gives = subst (λ (l : List FrameNo). IsNonDecreasingBy (λ (f : FrameNo). f.0) l) (sym gives.is) gives.rising
-
--- ---- frames of tables
-
--- no page and no pin names the frame of a table
-pub none_reach : (pool : ℕ) (writes : List FrameWrite) (objects : List Object) (frames : List TableFrame) (leads : Object → ℕ → Option MappedPage) (tables : List Hwpt) (memory : Memory) (before : FramePool)
-    → map (λ (h : Hwpt). h.object) tables ≡ page_tables_among objects → list_all (λ table. not (is_orphan objects table)) frames ≡ true
-    → FramesShown pool writes frames memory before → AllStand before frames leads tables
-    → (f : ℕ) → 0 < tables_in frames f → reached memory f ≡ 0
-none_reach pool writes objects frames leads tables memory before are owned shown stand f some =
-    let counted : ltb 0 (tables_in frames f) ≡ true = search (some, arith, nat_tests) in
-    let any : list_any (λ (t : TableFrame). eqb t.frame.0 f) frames ≡ true = any_count (λ (t : TableFrame). eqb t.frame.0 f) frames ∙ counted in
-    let (t, within, here) = some_one (λ (t : TableFrame). eqb t.frame.0 f) frames any in
-    let (h, there, of_this) = its_table objects tables are t (of_each (λ table. not (is_orphan objects table)) frames t owned within) in
-    let row = in_list row_of (filter (is_table_of h.object.file h.object.id) frames) t (in_kept (is_table_of h.object.file h.object.id) frames t within of_this) in
-    let named : names (rows_of frames h.object) f ≡ true = of_any (λ (r : TableRow). eqb r.frame.0 f) (rows_of frames h.object) (row_of t) row here in
-    let one = table_held before frames (leads h.object) h (stand.each h there) f named in
-    let holds = shown.holds f in
-    omega (arith, one, holds, some)
 
 -- ---- few rows
 

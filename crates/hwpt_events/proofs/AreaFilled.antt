@@ -1,19 +1,18 @@
 -- One area is mapped in a page table: its pages lead to the frames at which they are pinned.
-use Rattle.std.proofs.Common.{◌≡◌, ◌⊎◌, inl, inr, ℕ, ◌+◌, ◌-◌, ◌*◌, ◌/◌, ◌%◌, ◌^◌, ◌<◌, ◌≤◌, Bool, true, false, cond, ◌&&◌, eqb, leb, is_some, get_or, Option, Some, None, List, [], ◌∷◌, ◌++◌, append-nil, length, refl, ap, subst, sym, ◌∙◌, arith}
+use Rattle.std.proofs.Common.{◌≡◌, ◌⊎◌, inl, inr, ℕ, ◌+◌, ◌-◌, ◌*◌, ◌/◌, ◌%◌, ◌^◌, ◌<◌, ◌≤◌, Bool, true, false, eqb, leb, Option, Some, None, List, [], ◌∷◌, ◌++◌, append-nil, length, refl, ap, subst, sym, ◌∙◌, arith}
 use Rattle.std.specs.Prelude.{IfSome, slice_get, slice_index_or}
-use Rattle.std.specs.List.{filter, find}
+use Rattle.std.specs.List.{find}
 use Rattle.std.proofs.lemmas.Bool.Decides.{nat_tests}
 use Rattle.std.proofs.lemmas.Option.{slice_get-get_or}
 use Rattle.frame_memory.specs.Pool.{FramePool, free_count}
-use Rattle.hwpt_device.specs.OverSpans.{CanMapIn, LeadsMapped, frames_for, missing_found, missing_in, with_missing}
-use Rattle.hwpt_device.specs.PageTables.{AllStand, Hwpt, IfAllStand, KeepsOthers, hwpt_of, tables_in}
+use Rattle.hwpt_device.specs.OverSpans.{LeadsMapped, frames_for, missing_found, with_missing}
+use Rattle.hwpt_device.specs.PageTables.{AllStand, Hwpt, IfAllStand, KeepsOthers, hwpt_of}
 use Rattle.iofd_rows.proofs.Bools.{and_true, both_true, clash}
 use Rattle.iofd_rows.proofs.Each.{in_found}
 use Rattle.iofd_rows.proofs.Named.{file_is, id_is}
 use Rattle.iofd_runs.specs.Fits.{begins_at_page, is_of_pages}
 use Rattle.iofd_words.specs.Objects.{is_object}
 use Rattle.iofd_words.specs.Pages.{is_whole, page_of}
-use Rattle.iofd_words.specs.Pins.{ObjectPage}
 use Rattle.iofd_words.specs.Span.{holds, is_whole_pages, meets, size_of}
 use Rattle.iofd_words.specs.TablePlaces.{is_live, live_pages, pages_in}
 use Rattle.iofd_words.specs.Tables.{MissingTable}
@@ -25,17 +24,15 @@ use Rattle.iofd_words.specs.declared.numbers.FrameNo.{FrameNo}
 use Rattle.iofd_words.specs.declared.numbers.ObjId.{ObjId}
 use Rattle.iofd_words.specs.declared.rows.Area.{Area}
 use Rattle.iofd_words.specs.declared.rows.MemoryObject.{MemoryObject}
-use Rattle.iofd_words.specs.declared.rows.Object.{Object}
-use Rattle.iofd_words.specs.declared.rows.Phase.{Phase}
 use Rattle.iofd_words.specs.declared.rows.TableFrame.{TableFrame}
-use Rattle.server_state.specs.Leads.{lead_by, leads_in, live_area_at, object_page}
+use Rattle.server_state.specs.Leads.{lead_by, leads_in, object_page}
 use Rattle.table_spans.specs.Spans.{IsOfPages, held_once}
 use Rattle.table_words.specs.Rows.{MappedPage}
 use Rattle.user_memory.specs.Memory as memory
 use Rattle.user_memory.specs.Memory.{Memory, pinned_frame, table_pins}
 use Rattle.hwpt_events.proofs.Filled.{none_filled}
 use Rattle.hwpt_events.proofs.FilledInTurn.{Leads}
-use Rattle.hwpt_events.specs.Filling.{CanFill, Fills, IsFilled, IsMappable, filled, tables_for, with_tables_for}
+use Rattle.hwpt_events.specs.Filling.{Fills, filled, tables_for}
 
 -- ---- of whole pages
 

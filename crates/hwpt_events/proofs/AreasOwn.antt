@@ -1,6 +1,6 @@
 -- The areas of an address space, after a page table's object came.
-use Rattle.std.proofs.Common.{◌≡◌, ◌<◌, ◌^◌, ℕ, Bool, true, Option, None, List, map, refl, sym, ◌∙◌, ap, subst}
-use Rattle.std.specs.List.{find, list_all}
+use Rattle.std.proofs.Common.{◌≡◌, ◌<◌, ◌^◌, ℕ, Bool, true, None, List, map, refl, sym, ◌∙◌, ap}
+use Rattle.std.specs.List.{list_all}
 use Rattle.iofd_rows.specs.Ids.{have_own_ids}
 use Rattle.iofd_runs.proofs.OwnIds.{own_ids-with_object, unused}
 use Rattle.iofd_words.specs.Areas.{areas_of}
@@ -10,7 +10,7 @@ use Rattle.iofd_words.specs.declared.numbers.FileNo.{FileNo}
 use Rattle.iofd_words.specs.declared.numbers.ObjId.{ObjId}
 use Rattle.iofd_words.specs.declared.rows.Object.{Object}
 use Rattle.iofd_words.specs.declared.width.Width.{Width}
-use Rattle.object_table.specs.Table.{Row, Table, inserted, is_at, row_at}
+use Rattle.object_table.specs.Table.{Row, Table, inserted, row_at}
 use Rattle.object_table.specs.declared.kind.Kind.TheVariants as of_kind
 use Rattle.server_state.proofs.AreasBecome.{own_at}
 use Rattle.server_state.proofs.ObjectsMoved.{areas-inserted, fresh_id, objects-inserted, proper-inserted}

@@ -1,17 +1,15 @@
 -- What a page table that comes asks of the users' memory.
-use Rattle.std.proofs.Common.{◌≡◌, ℕ, ◌+◌, ◌≤◌, Bool, true, false, cond, ◌&&◌, ◌||◌, not, eqb, Option, Some, None, inl, inr, List, [], ◌∷◌, length, map, refl, sym, ◌∙◌, ap, arith}
+use Rattle.std.proofs.Common.{◌≡◌, ℕ, ◌+◌, ◌≤◌, Bool, true, false, cond, ◌&&◌, not, eqb, ltb, Option, Some, None, inl, inr, List, [], ◌∷◌, length, map, refl, sym, ◌∙◌, ap, arith}
 use Rattle.std.specs.Prelude.{is_none}
-use Rattle.std.specs.List.{filter, list_all, list_any, sum_by}
+use Rattle.std.specs.List.{filter, list_all, list_any}
 use Rattle.std.proofs.Math.Path.{fun_ext}
 use Rattle.std.proofs.lemmas.Bool.Decides.{nat_tests}
-use Rattle.std.proofs.lemmas.List.Sums.{sum_by-cons}
-use Rattle.iofd_rows.specs.Pinned.{have_own_memory}
-use Rattle.iofd_rows.proofs.Bools.{and_true, both_true}
+use Rattle.iofd_rows.proofs.Bools.{both_true}
 use Rattle.iofd_rows.proofs.Each.{IsIn}
 use Rattle.iofd_runs.proofs.KeepsOwned.{owner}
 use Rattle.iofd_runs.specs.Owned.{AreasOwned}
 use Rattle.iofd_words.specs.Areas.{areas_of}
-use Rattle.iofd_words.specs.Files.{is_user, user_of}
+use Rattle.iofd_words.specs.Files.{is_user, limit_of, user_of}
 use Rattle.iofd_words.specs.Objects.{has_hwpt, with_object}
 use Rattle.iofd_words.specs.Pins.{unpinned_pages}
 use Rattle.iofd_words.specs.Settings.{Settings}
@@ -32,12 +30,12 @@ use Rattle.server_state.proofs.ViewShown.{same_view}
 use Rattle.memory_rows.proofs.Gone.{few_translated}
 use Rattle.memory_rows.specs.Moves.{numbers_of}
 use Rattle.memory_rows.specs.Shown.{over, translated}
-use Rattle.user_memory.proofs.NewPages.{lacking_pages, newly_by_number}
+use Rattle.user_memory.proofs.NewPages.{lacking_pages}
 use Rattle.user_memory.specs.Invariant.{ObjectsTell}
-use Rattle.user_memory.specs.Memory.{Memory, are_different, are_of, frame_now, lacks_page, new_pages, pinned_frame, rows_at, rows_of}
+use Rattle.user_memory.specs.Memory.{Memory, are_of, frame_now, lacks_page, newly_pinned, pinned_frame, rows_at, rows_of}
 use Rattle.std.proofs.Common.{subst}
 use Rattle.iofd_rows.specs.Ids.{have_own_ids}
-use Rattle.iofd_words.specs.Checks.{passes_limit}
+use Rattle.iofd_words.specs.Checks.{passes_limit, passes_limit_attached}
 use Rattle.memory_rows.proofs.FramesFollow.{is_backed}
 use Rattle.memory_rows.proofs.PinsFollow.{only_kept}
 use Rattle.memory_rows.specs.Moves.{MayPin, PinsAreKnown}
@@ -54,67 +52,44 @@ use Rattle.server_state.specs.Spaces.{IsOrderly}
 use Rattle.server_state.specs.Step.{IsTidy}
 use Rattle.server_state.specs.declared.held.Held.{Held}
 use Rattle.server_state.specs.declared.state.State.{State}
+use Rattle.object_table.proofs.Lists.{list_any-map}
 use Rattle.object_table.specs.Table.{Row, Table}
 
 -- ---- the numbers of areas
 
-any_number : (number : ℕ) (areas : List Area) → list_any (λ n. eqb n number) (numbers_of areas) ≡ list_any (λ area. eqb area.memory number) areas
-any_number number [] = refl
-any_number number (a ∷ areas) = ap (λ b. eqb a.memory number || b) (any_number number areas)
-
 -- the rows of their objects, as the definitions have them
 pub rows_under : (m : Memory) (areas : List Area) → rows_at m (numbers_of areas) ≡ filter (λ row. list_any (λ area. eqb area.memory row.number) areas) (rows_of m)
-rows_under m areas = ap (λ (p : MemoryObject → Bool). filter p (rows_of m)) (fun_ext (λ (row : MemoryObject). any_number row.number areas))
-
-lacks_number : (m : Memory) (areas : List Area) → list_any (λ (area : Area). lacks_page m area.memory) areas ≡ list_any (lacks_page m) (numbers_of areas)
-lacks_number m [] = refl
-lacks_number m (a ∷ areas) = ap (λ b. lacks_page m a.memory || b) (lacks_number m areas)
+rows_under m areas = ap (λ (p : MemoryObject → Bool). filter p (rows_of m)) (fun_ext (λ (row : MemoryObject). list_any-map (λ n. eqb n row.number) (λ (area : Area). area.memory) areas))
 
 -- a page of theirs that is to be pinned isn't there
 pub lacks_under : (m : Memory) (areas : List Area) → ObjectsTell m.objects
     → list_any (λ (area : Area). lacks_page m area.memory) areas ≡ list_any (λ page. is_none (frame_now m page)) (unpinned_pages (pinned_frame m) (filter (λ row. list_any (λ area. eqb area.memory row.number) areas) (rows_of m)))
 lacks_under m areas facts =
-    lacks_number m areas ∙ lacking_pages m (numbers_of areas) facts
+    sym (list_any-map (lacks_page m) (λ (area : Area). area.memory) areas) ∙ lacking_pages m (numbers_of areas) facts
     ∙ ap (λ (rows : List MemoryObject). list_any (λ page. is_none (frame_now m page)) (unpinned_pages (pinned_frame m) rows)) (rows_under m areas)
 
-sum_numbers : (f : ℕ → ℕ) (areas : List Area) → sum_by (λ (area : Area). f area.memory) areas ≡ sum_by f (numbers_of areas)
-sum_numbers f [] = refl
-sum_numbers f (a ∷ areas) =
-    sum_by-cons (λ (area : Area). f area.memory) a areas ∙ ap (λ n. f a.memory + n) (sum_numbers f areas) ∙ sym (sum_by-cons f a.memory (numbers_of areas))
+-- ---- how many may be pinned
 
-different : (areas : List Area) → have_own_memory areas ≡ true → are_different (numbers_of areas) ≡ true
-different [] own = refl
-different (a ∷ areas) own =
-    let parts = and_true (not (list_any (λ (b : Area). eqb b.memory a.memory) areas)) (have_own_memory areas) own in
-    both_true _ _ (ap not (any_number a.memory areas) ∙ parts.0) (different areas parts.1)
-
--- how many pages are to be pinned, where each area has an object of its own
-pub pages_under : (m : Memory) (areas : List Area) → ObjectsTell m.objects → have_own_memory areas ≡ true
-    → sum_by (λ (area : Area). new_pages m area.memory) areas ≡ length (unpinned_pages (pinned_frame m) (filter (λ row. list_any (λ area. eqb area.memory row.number) areas) (rows_of m)))
-pages_under m areas facts own =
-    sum_numbers (new_pages m) areas ∙ sym (newly_by_number m (numbers_of areas) facts (different areas own))
-    ∙ ap (λ (rows : List MemoryObject). length (unpinned_pages (pinned_frame m) rows)) (rows_under m areas)
-
--- the areas of one address space have objects of their own, too
-pub own_within : (areas : List Area) (p : Area → Bool) → have_own_memory areas ≡ true → have_own_memory (filter p areas) ≡ true
-own_within [] p own = refl
-own_within (a ∷ areas) p own =
-    let parts = and_true (not (list_any (λ (b : Area). eqb b.memory a.memory) areas)) (have_own_memory areas) own in
-    by_test (p a) (fewer areas parts.0) (own_within areas p parts.1)
+-- where so many may, fewer may
+pub fewer_pass : (v : View) (user : Option UserNo) (few most : ℕ) → few ≤ most → passes_limit v user most ≡ false → passes_limit v user few ≡ false
+fewer_pass v None few most less none = refl
+fewer_pass v (Some user) few most less none = by_limit (limit_of v.settings user) none
   where
-    fewer : (xs : List Area) → not (list_any (λ (b : Area). eqb b.memory a.memory) xs) ≡ true → not (list_any (λ (b : Area). eqb b.memory a.memory) (filter p xs)) ≡ true
-    fewer [] none = refl
-    fewer (x ∷ xs) none = at_test (p x) (eqb x.memory a.memory) refl none (fewer xs)
-      where
-        at_test : (b c : Bool) → eqb x.memory a.memory ≡ c → not (c || list_any (λ (b : Area). eqb b.memory a.memory) xs) ≡ true → (not (list_any (λ (b : Area). eqb b.memory a.memory) xs) ≡ true → not (list_any (λ (b : Area). eqb b.memory a.memory) (filter p xs)) ≡ true)
-            → not (list_any (λ (b : Area). eqb b.memory a.memory) (cond b (x ∷ filter p xs) (filter p xs))) ≡ true
-        at_test b true is none rest = cc
-        at_test true false is none rest = rw is (rest none)
-        at_test false false is none rest = rest none
+    by_limit : (o : Option ℕ) → elim o [ Some limit ↦ ltb limit (v.held_by user + most) | None ↦ false ] ≡ false → elim o [ Some limit ↦ ltb limit (v.held_by user + few) | None ↦ false ] ≡ false
+    by_limit None none = refl
+    by_limit (Some limit) none = grind (arith, nat_tests)
 
-    by_test : (b : Bool) → not (list_any (λ (c : Area). eqb c.memory a.memory) (filter p areas)) ≡ true → have_own_memory (filter p areas) ≡ true → have_own_memory (cond b (a ∷ filter p areas) (filter p areas)) ≡ true
-    by_test true none rest = both_true _ _ none rest
-    by_test false none rest = rest
+-- the first page table of an address space asks it of the pages under these areas, each once
+pub asked_of : {A : Type 0} (s : State A) (file : FileNo) (ioas : ObjId) (areas : List Area) → has_hwpt (objects_in s.objects) file ioas ≡ false → areas_at s.objects.rows file ioas ≡ areas
+    → passes_limit (seen s) (user_of s.config file) (newly_pinned s.memory (numbers_of areas)) ≡ passes_limit_attached (seen s) file ioas
+asked_of s file ioas areas none are =
+    ap (λ (rows : List MemoryObject). passes_limit (seen s) (user_of s.config file) (length (unpinned_pages (pinned_frame s.memory) rows))) (rows_under s.memory areas)
+    ∙ ap (λ (areas : List Area). passes_limit (seen s) (user_of s.config file) (length (unpinned_pages (pinned_frame s.memory) (filter (λ row. list_any (λ area. eqb area.memory row.number) areas) (rows_of s.memory))))) (sym are)
+    ∙ untranslated (has_hwpt (objects_in s.objects) file ioas) _ none
+  where
+    untranslated : (has passes : Bool) → has ≡ false → passes ≡ (not has && passes)
+    untranslated true passes none = cc
+    untranslated false passes none = refl
 
 -- ---- whose they are
 

@@ -1,21 +1,20 @@
 -- The areas of an address space are mapped in a page table one after the other: what is done and what is left.
-use Rattle.std.proofs.Common.{◌≡◌, ℕ, ◌+◌, ◌-◌, ◌*◌, ◌/◌, ◌<◌, ◌≤◌, Bool, true, false, cond, ◌&&◌, ◌||◌, is_some, Option, Some, None, inl, inr, List, [], ◌∷◌, ◌++◌, append-nil, length, length-append, map, refl, ap, subst, sym, ◌∙◌, arith, Vec, vec_capacity, vec_len}
+use Rattle.std.proofs.Common.{◌≡◌, ℕ, ◌+◌, ◌-◌, ◌≤◌, Bool, true, false, cond, ◌&&◌, ◌||◌, is_some, Option, Some, None, inl, inr, List, [], ◌∷◌, ◌++◌, append-nil, length, length-append, map, refl, ap, subst, sym, ◌∙◌, arith, Vec, vec_capacity, vec_len}
 use Rattle.std.specs.List.{filter, flat_map}
-use Rattle.std.proofs.lemmas.Bool.Decides.{nat_tests}
 use Rattle.std.proofs.lemmas.Grind.{flat_map-append}
 use Rattle.std.proofs.lemmas.List.{append_assoc, length-map}
 use Rattle.area_map.specs.Areas.{AreApart, AreApartFrom}
-use Rattle.frame_memory.specs.Pool.{FramePool, free_count}
+use Rattle.frame_memory.specs.Pool.{FramePool}
 use Rattle.hwpt_device.proofs.Kept.{rows_have}
 use Rattle.hwpt_device.proofs.Missing.{missing_at}
 use Rattle.hwpt_device.proofs.Staying.{all_told}
 use Rattle.hwpt_device.specs.OverSpans.{frames_for, with_missing}
-use Rattle.hwpt_device.specs.PageTables.{AllStand, Hwpt, HwptStands, KeepsOthers, PageTables, hwpt_of, rows_of}
+use Rattle.hwpt_device.specs.PageTables.{AllStand, Hwpt, HwptStands, PageTables, hwpt_of, rows_of}
 use Rattle.iofd_rows.proofs.Each.{IsIn, in_found}
 use Rattle.iofd_words.specs.Levels.{first_address, levels_of}
 use Rattle.iofd_words.specs.Objects.{is_object}
-use Rattle.iofd_words.specs.TablePlaces.{TablePlace, has_table, is_live, is_place, lacking, live_pages, pages_in, places_from, places_of, root_place}
-use Rattle.iofd_words.specs.Tables.{MissingTable, in_frames}
+use Rattle.iofd_words.specs.TablePlaces.{TablePlace, has_table, is_live, lacking, live_pages, pages_in, places_from, places_of, root_place}
+use Rattle.iofd_words.specs.Tables.{MissingTable}
 use Rattle.iofd_words.specs.declared.numbers.FileNo.{FileNo}
 use Rattle.iofd_words.specs.declared.numbers.FrameNo.{FrameNo}
 use Rattle.iofd_words.specs.declared.numbers.ObjId.{ObjId}
@@ -34,9 +33,9 @@ use Rattle.table_words.proofs.Lookups.{some_is}
 use Rattle.table_words.proofs.Tops.{number-first}
 use Rattle.table_words.specs.Rows.{MappedPage, table_at}
 use Rattle.user_memory.specs.Memory.{Memory, pinned_frame}
-use Rattle.hwpt_events.proofs.FilledInTurn.{Leads, as_many, few, more_filled}
+use Rattle.hwpt_events.proofs.FilledInTurn.{as_many, few, more_filled}
 use Rattle.hwpt_events.proofs.TablesInTurn.{live_in_turn}
-use Rattle.hwpt_events.specs.Filling.{CanFill, Fills, IsFilled, filled, tables_for, with_tables_for}
+use Rattle.hwpt_events.specs.Filling.{CanFill, Fills, filled, tables_for, with_tables_for}
 
 -- ---- no page
 

@@ -1,6 +1,6 @@
 -- Areas are mapped in a page table one after the other.
-use Rattle.std.proofs.Common.{◌≡◌, ℕ, ◌+◌, ◌*◌, ◌-◌, ◌<◌, ◌≤◌, Bool, true, false, cond, ◌&&◌, leb, is_some, Option, Some, None, inl, inr, List, [], ◌∷◌, ◌++◌, append-nil, length, length-append, refl, ap, subst, sym, ◌∙◌, arith}
-use Rattle.std.specs.List.{filter, find, flat_map}
+use Rattle.std.proofs.Common.{◌≡◌, ℕ, ◌+◌, ◌*◌, ◌<◌, ◌≤◌, Bool, true, false, cond, ◌&&◌, leb, is_some, Option, Some, None, inl, inr, List, [], ◌∷◌, ◌++◌, length, length-append, refl, ap, subst, sym, ◌∙◌, arith}
+use Rattle.std.specs.List.{find}
 use Rattle.std.proofs.lemmas.Bool.Decides.{nat_tests}
 use Rattle.std.proofs.lemmas.List.{append_assoc}
 use Rattle.area_map.specs.Areas.{AreApart, AreApartFrom}
@@ -9,11 +9,10 @@ use Rattle.hwpt_device.proofs.Counted.{tables_append}
 use Rattle.hwpt_device.proofs.Missing.{frames_in_turn, held_more, missing_in_turn}
 use Rattle.hwpt_device.proofs.Staying.{all_told}
 use Rattle.hwpt_device.specs.OverSpans.{frames_for, with_missing}
-use Rattle.hwpt_device.specs.PageTables.{AllStand, Hwpt, KeepsOthers, hwpt_of, tables_in}
+use Rattle.hwpt_device.specs.PageTables.{AllStand, Hwpt, tables_in}
 use Rattle.iofd_rows.proofs.Bools.{and_true}
 use Rattle.iofd_rows.proofs.Each.{IsIn, in_found}
 use Rattle.iofd_words.specs.Objects.{is_object}
-use Rattle.iofd_words.specs.Pins.{ObjectPage}
 use Rattle.iofd_words.specs.Span.{holds}
 use Rattle.iofd_words.specs.TablePlaces.{is_live, live_pages}
 use Rattle.iofd_words.specs.Tables.{MissingTable, in_frames}
@@ -24,12 +23,12 @@ use Rattle.iofd_words.specs.declared.rows.Area.{Area}
 use Rattle.iofd_words.specs.declared.rows.Object.{Object}
 use Rattle.iofd_words.specs.declared.rows.TableFrame.{TableFrame}
 use Rattle.iofd_words.specs.declared.width.Width.{Width}
-use Rattle.server_state.specs.Leads.{lead_by, leads_in, live_area_at}
+use Rattle.server_state.specs.Leads.{lead_by, live_area_at}
 use Rattle.table_spans.specs.Spans.{held_once}
 use Rattle.table_words.specs.Rows.{MappedPage}
 use Rattle.user_memory.specs.Memory.{Memory, pinned_frame}
 use Rattle.hwpt_events.proofs.TablesInTurn.{live_in_turn, tables_in_turn}
-use Rattle.hwpt_events.specs.Filling.{AreMappable, CanFill, Fills, IsFilled, filled, tables_for, with_tables_for}
+use Rattle.hwpt_events.specs.Filling.{IsFilled, filled, tables_for, with_tables_for}
 
 abbrev pub Leads : Type 0
 Leads = Object → ℕ → Option MappedPage

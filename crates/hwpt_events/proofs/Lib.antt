@@ -2,9 +2,9 @@ pub mod AreaFilled
 pub mod AreasOwn
 pub mod Asks
 pub mod AttachedShown
+pub mod CountedOnce
 pub mod Filled
 pub mod FilledInTurn
-pub mod FreeAlike
 pub mod FullFile
 pub mod Gained
 pub mod HwptMade

@@ -1,12 +1,12 @@
 -- Once its pages are pinned a page table may be added: for its tables there are free frames, and each live area can be mapped.
-use Rattle.std.proofs.Common.{◌≡◌, ℕ, ◌+◌, ◌*◌, ◌<◌, ◌≤◌, Bool, true, false, cond, ◌&&◌, ◌||◌, not, eqb, ltb, Option, Some, None, List, [], ◌∷◌, length, map, refl, sym, ◌∙◌, ap, subst, arith, inl, inr}
+use Rattle.std.proofs.Common.{◌≡◌, ℕ, ◌*◌, ◌<◌, ◌≤◌, Bool, true, false, cond, ◌&&◌, ◌||◌, not, eqb, ltb, Some, None, List, [], ◌∷◌, length, map, refl, sym, ◌∙◌, ap, subst, arith}
 use Rattle.std.specs.List.{filter, find, list_all, list_any}
 use Rattle.std.proofs.lemmas.Bool.Decides.{nat_tests}
 use Rattle.std.proofs.lemmas.List.{length-map}
 use Rattle.frame_memory.specs.Pool.{FramePool, free_count}
 use Rattle.hwpt_device.proofs.Missing.{missing_at}
 use Rattle.hwpt_device.specs.PageTables.{rows_of, row_of}
-use Rattle.iofd_rows.proofs.Bools.{and_true, both_true, clash, or_false}
+use Rattle.iofd_rows.proofs.Bools.{and_true, both_true, clash}
 use Rattle.iofd_rows.proofs.Each.{IsIn, in_filter, of_any, of_each}
 use Rattle.iofd_rows.proofs.Named.{file_is, id_is}
 use Rattle.iofd_rows.proofs.PageTables.{hwpt-with_object}
@@ -20,7 +20,7 @@ use Rattle.iofd_words.specs.After.{settle}
 use Rattle.iofd_words.specs.Areas.{areas_of, is_of}
 use Rattle.iofd_words.specs.Objects.{has_hwpt, is_fresh, is_object, kind_of, with_object}
 use Rattle.iofd_words.specs.Span.{meets, size_of}
-use Rattle.iofd_words.specs.TablePlaces.{has_table, is_live, is_table_of, lacking, live_pages, places_of}
+use Rattle.iofd_words.specs.TablePlaces.{has_table, is_table_of, lacking, live_pages, places_of}
 use Rattle.iofd_words.specs.Usable.{beyond}
 use Rattle.iofd_words.specs.View.{view}
 use Rattle.iofd_words.specs.World.{World}
@@ -29,7 +29,6 @@ use Rattle.iofd_words.specs.declared.numbers.ObjId.{ObjId}
 use Rattle.iofd_words.specs.declared.rows.Area.{Area}
 use Rattle.iofd_words.specs.declared.rows.MemoryObject.{MemoryObject}
 use Rattle.iofd_words.specs.declared.rows.Object.{Object}
-use Rattle.iofd_words.specs.declared.rows.ObjectKind.{ObjectKind}
 use Rattle.iofd_words.specs.declared.rows.TableFrame.{TableFrame}
 use Rattle.iofd_words.specs.declared.width.Width.{Width}
 use Rattle.memory_rows.proofs.PinsFollow.{any_count}
@@ -44,11 +43,11 @@ use Rattle.server_state.specs.Shows.{Shows}
 use Rattle.server_state.specs.Step.{IsTidy}
 use Rattle.server_state.specs.declared.state.State.{State}
 use Rattle.user_memory.specs.Memory.{Memory, table_pins}
-use Rattle.hwpt_events.proofs.FreeAlike.{count_alike}
+use Rattle.server_state.proofs.FreeAlike.{count_alike}
 use Rattle.hwpt_events.proofs.PinnedFirst.{free_pinned, leads_yet, not_there, pins_pinned, stand_yet}
 use Rattle.hwpt_events.proofs.RootAdded.{itself}
-use Rattle.hwpt_events.specs.Filling.{AreMappable, CanAdd, IsMappable, IsPinnedWhole, tables_for}
-use Rattle.hwpt_events.specs.Making.{IsRoomy, made_object, with_table}
+use Rattle.hwpt_events.specs.Filling.{AreMappable, CanAdd, tables_for}
+use Rattle.hwpt_events.specs.Making.{IsRoomy, made_object}
 use Rattle.hwpt_events.specs.Pinning.{newly_translated}
 
 -- ---- an unused id has no rows

@@ -1,5 +1,5 @@
 -- The frames of a new page table are those that a step may take for it.
-use Rattle.std.proofs.Common.{◌≡◌, ℕ, ◌≤◌, Bool, true, false, not, ltb, Option, Some, None, List, [], length, refl, sym, ◌∙◌, ap, arith}
+use Rattle.std.proofs.Common.{◌≡◌, ℕ, ◌≤◌, Bool, true, false, not, Option, Some, None, List, [], length, refl, sym, ◌∙◌, ap, arith}
 use Rattle.std.specs.List.{list_all}
 use Rattle.std.proofs.lemmas.Bool.Decides.{nat_tests}
 use Rattle.frame_memory.specs.Pool.{free_count}
@@ -10,7 +10,7 @@ use Rattle.iofd_words.specs.Checks.{lacks_new_tables}
 use Rattle.iofd_words.specs.Objects.{is_fresh, with_object}
 use Rattle.iofd_words.specs.Settings.{DeviceSettings}
 use Rattle.iofd_words.specs.TablePlaces.{lacking, live_pages, places_of}
-use Rattle.iofd_words.specs.Tables.{MissingTable, MovesTables, is_orphan, missing_tables}
+use Rattle.iofd_words.specs.Tables.{MovesTables, is_orphan, missing_tables}
 use Rattle.iofd_words.specs.View.{View, view}
 use Rattle.iofd_words.specs.World.{World}
 use Rattle.iofd_words.specs.declared.event.Event.{Event}

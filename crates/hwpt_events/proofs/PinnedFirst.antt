@@ -1,10 +1,11 @@
 -- Before a page table is added its pages are pinned: what is shown then, and that all other page tables stand.
-use Rattle.std.proofs.Common.{◌≡◌, ℕ, ◌+◌, ◌<◌, ◌≤◌, Bool, true, false, cond, ◌&&◌, eqb, ltb, get_or, inl, inr, is_some, Option, Some, None, List, [], ◌∷◌, map, refl, sym, ◌∙◌, ap, arith}
-use Rattle.std.specs.List.{count_by, find, list_any}
+use Rattle.std.proofs.Common.{◌≡◌, ℕ, ◌+◌, ◌<◌, Bool, true, false, cond, ◌&&◌, eqb, ltb, get_or, inl, inr, is_some, Option, Some, None, List, [], ◌∷◌, map, refl, sym, ◌∙◌, ap, arith}
+use Rattle.std.specs.List.{count_by, list_any}
 use Rattle.std.proofs.lemmas.Bool.Decides.{nat_tests}
 use Rattle.frame_memory.specs.Pool.{FramePool}
 use Rattle.hwpt_device.specs.PageTables.{AllStand, Hwpt, hwpt_of}
 use Rattle.iofd_rows.specs.Pinned.{ArePinned}
+use Rattle.iofd_rows.proofs.Bools.{and_true, both_true}
 use Rattle.iofd_rows.proofs.Each.{IsIn, in_filter}
 use Rattle.iofd_rows.proofs.Unusable.{each_not, none_of}
 use Rattle.iofd_runs.proofs.KeepsPins.{table_pinned}
@@ -12,6 +13,7 @@ use Rattle.iofd_runs.proofs.OwnIds.{any_found, unused}
 use Rattle.iofd_words.specs.After.{settle}
 use Rattle.iofd_words.specs.Areas.{areas_of}
 use Rattle.iofd_words.specs.Frames.{frame_at}
+use Rattle.iofd_words.specs.Pins.{ObjectPage}
 use Rattle.iofd_words.specs.Objects.{has_hwpt, is_fresh, is_hwpt, is_object, with_object}
 use Rattle.iofd_words.specs.View.{view}
 use Rattle.iofd_words.specs.World.{World}
@@ -27,20 +29,29 @@ use Rattle.memory_rows.proofs.Named.{settles_named}
 use Rattle.memory_rows.proofs.PinsFollow.{only_kept, pins_follow}
 use Rattle.memory_rows.specs.Moves.{ArePinnedMore}
 use Rattle.memory_rows.specs.Shown.{FramesShown, PinsShown, UsersShown, over, translated}
+use Rattle.server_state.proofs.FreeAlike.{AreAlike, free_alike}
 use Rattle.server_state.proofs.LeadsStay.{has_page, is_translated, leads_alike, pin_stays, spaces_alike, stand_alike}
 use Rattle.server_state.proofs.TablesFollow.{tables_follow}
-use Rattle.server_state.specs.Leads.{leads_of, live_area_at, object_page, space_leads}
+use Rattle.server_state.specs.Leads.{leads_of, object_page, space_leads}
 use Rattle.server_state.specs.Shows.{Shows}
 use Rattle.server_state.specs.Step.{IsTidy}
 use Rattle.server_state.specs.Tables.{page_tables_among}
 use Rattle.server_state.specs.declared.state.State.{State}
-use Rattle.table_words.specs.Rows.{MappedPage}
-use Rattle.user_memory.specs.Memory.{Memory, rows_of, table_pins}
+use Rattle.user_memory.specs.Changes.{HasPins}
+use Rattle.user_memory.specs.Memory.{Memory, is_pinned, rows_of, table_pins}
 use Rattle.hwpt_events.proofs.FilledInTurn.{Leads}
-use Rattle.hwpt_events.proofs.FreeAlike.{AreAlike, free_alike}
 use Rattle.hwpt_events.proofs.Gained.{same_tables, table_gained}
 use Rattle.hwpt_events.specs.Making.{IsRoomy, made_object, with_table}
 use Rattle.hwpt_events.specs.Pinning.{newly_translated}
+
+-- pins come: what was pinned still is
+stays_pinned : (more : ℕ → ℕ) (old new : Memory) → HasPins more old new → (page : ObjectPage) → is_pinned old page ≡ true → is_pinned new page ≡ true
+stays_pinned more old new has page is =
+    let parts = and_true (list_any (λ (row : MemoryObject). eqb page.memory row.number && ltb page.index row.count) (rows_of old)) (ltb 0 (table_pins old page.memory)) is in
+    let pins = has.pins page.memory in
+    let some = parts.1 in
+    let still : ltb 0 (table_pins new page.memory) ≡ true = grind (arith, nat_tests) in
+    both_true _ _ (ap (list_any (λ (row : MemoryObject). eqb page.memory row.number && ltb page.index row.count)) has.rows ∙ parts.0) still
 
 -- the first page table translates the areas of its address space, another no more
 pub gained : (objects : List Object) (areas : List Area) (file : FileNo) (ioas id : ObjId) (width : Width) (automatic : Bool) (n : ℕ)
@@ -105,8 +116,8 @@ module _ {A : Type 0} (at : ℕ) (w : World) (s : State A) (tidy : IsTidy at w) 
     -- the same frames are free
     pub free_pinned : AreAlike pool.holds s.pool.holds
     free_pinned =
-        free_alike s.memory after s.pool pool w.settings.pool w.writes w.table_frames (over (newly_translated w.objects file ioas (areas_of w.areas file ioas)))
-        shows.pins.invariant (only_kept at w s.memory tidy.pins shows.pins) more.pins more.settles shows.frames frames_pinned
+        free_alike s.memory after s.pool pool w.settings.pool w.writes w.table_frames shows.pins.invariant (only_kept at w s.memory tidy.pins shows.pins)
+        (stays_pinned (over (newly_translated w.objects file ioas (areas_of w.areas file ioas))) s.memory after more.pins) more.settles shows.frames frames_pinned
 
     -- ---- page tables
 

@@ -1,7 +1,6 @@
 -- A page table is added with its root, and then its areas are mapped in it.
-use Rattle.std.proofs.Common.{◌≡◌, ◌≢◌, ℕ, zero, suc, ◌+◌, ◌-◌, ◌<◌, ◌≤◌, Bool, true, false, cond, ◌&&◌, eqb, set, Option, Some, None, List, [], ◌∷◌, ◌++◌, append-nil, length, length-append, refl, ap, subst, sym, ◌∙◌, arith, Vec, vec_capacity, vec_len}
-use Rattle.std.specs.Prelude.{IfSome, IsSome}
-use Rattle.std.specs.List.{find}
+use Rattle.std.proofs.Common.{◌≡◌, ℕ, ◌+◌, ◌≤◌, Bool, true, false, cond, eqb, set, Option, Some, None, List, [], ◌∷◌, ◌++◌, length, length-append, refl, ap, subst, sym, ◌∙◌, arith}
+use Rattle.std.specs.Prelude.{IfSome}
 use Rattle.std.proofs.lemmas.Bool.Decides.{nat_tests}
 use Rattle.std.proofs.lemmas.List.{get_or-set_other}
 use Rattle.area_map.specs.Areas.{AreApart}
@@ -13,14 +12,13 @@ use Rattle.hwpt_device.proofs.Staying.{all_told}
 use Rattle.hwpt_device.specs.OverSpans.{frames_for, with_missing}
 use Rattle.hwpt_device.specs.PageTables.{AllStand, Hwpt, KeepsOthers, hwpt_at, hwpt_of, root_frame, rows_of, tables_in, with_hwpt}
 use Rattle.iofd_words.specs.Objects.{comes_before, is_object}
-use Rattle.iofd_words.specs.TablePlaces.{TablePlace, has_table, live_pages, root_place}
+use Rattle.iofd_words.specs.TablePlaces.{has_table, live_pages, root_place}
 use Rattle.iofd_words.specs.Tables.{MissingTable, in_frames}
 use Rattle.iofd_words.specs.declared.numbers.FrameNo.{FrameNo}
 use Rattle.iofd_words.specs.declared.rows.Area.{Area}
 use Rattle.iofd_words.specs.declared.rows.Object.{Object}
 use Rattle.iofd_words.specs.declared.rows.TableFrame.{TableFrame}
 use Rattle.iofd_words.specs.declared.width.Width.{Width}
-use Rattle.table_spans.proofs.LeastFrames.{length_least}
 use Rattle.table_spans.specs.Spans as spans
 use Rattle.table_spans.specs.Spans.{held_once}
 use Rattle.table_words.proofs.Frames.{free_taken, least_frames_more, no_frames, some_least}

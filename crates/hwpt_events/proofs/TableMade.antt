@@ -1,26 +1,24 @@
 -- What is kept after a page table came with its tables shows the world with it and them.
-use Rattle.std.proofs.Common.{◌≡◌, ◌⊎◌, ◌<◌, ◌≤◌, ◌+◌, ◌^◌, ℕ, Bool, true, false, cond, ◌&&◌, ◌||◌, not, eqb, ltb, leb, is_some, Option, Some, None, List, [], ◌∷◌, ◌++◌, length, map, refl, sym, ◌∙◌, ap, subst, arith, inl, inr, get_or}
-use Rattle.std.specs.Prelude.{IfSome, IsTrue, slice_index}
-use Rattle.std.specs.List.{filter, find, list_all, list_any}
+use Rattle.std.proofs.Common.{◌≡◌, ◌⊎◌, ◌<◌, ◌≤◌, ℕ, Bool, true, false, cond, eqb, ltb, is_some, Option, Some, None, List, [], ◌∷◌, ◌++◌, length, map, refl, sym, ◌∙◌, ap, subst, arith, inl, inr}
+use Rattle.std.specs.Prelude.{slice_index}
+use Rattle.std.specs.List.{list_all}
 use Rattle.std.proofs.lemmas.Bool.Decides.{nat_tests}
-use Rattle.std.proofs.lemmas.List.{length-map}
-use Rattle.frame_memory.specs.Pool.{FramePool, bytes_of, free_count, least_free}
+use Rattle.frame_memory.specs.Pool.{FramePool, free_count}
 use Rattle.hwpt_device.proofs.Inserted.{in_with}
 use Rattle.hwpt_device.proofs.Missing.{least_are_free}
-use Rattle.hwpt_device.specs.OverSpans.{frames_for}
 use Rattle.hwpt_device.specs.PageTables.{AllStand, Hwpt, KeepsOthers, PageTables, hwpt_at, with_hwpt}
 use Rattle.iofd_rows.proofs.Bools.{and_true, both_true}
 use Rattle.iofd_rows.proofs.Each.{IsIn, of_any, of_each}
 use Rattle.iofd_rows.proofs.Found.{find-with_object}
 use Rattle.iofd_runs.proofs.RisingLists.{filter-with_object}
 use Rattle.iofd_runs.proofs.StillTabled.{none_given}
-use Rattle.iofd_runs.proofs.TableCounts.{missing_with_object, no_kind}
+use Rattle.iofd_runs.proofs.TableCounts.{missing_with_object}
 use Rattle.iofd_words.specs.After.{settle}
 use Rattle.iofd_words.specs.Areas.{areas_of}
 use Rattle.iofd_words.specs.Frames.{is_free}
 use Rattle.iofd_words.specs.Objects.{comes_before, is_bound_as, is_fresh, is_hwpt, is_object, with_object}
 use Rattle.iofd_words.specs.TablePlaces.{live_pages}
-use Rattle.iofd_words.specs.Tables.{MissingTable, are_different, in_frames, kept_tables, missing_tables, tables_after, with_tables}
+use Rattle.iofd_words.specs.Tables.{MissingTable, are_different, in_frames, missing_tables, tables_after, with_tables}
 use Rattle.iofd_words.specs.View.{view}
 use Rattle.iofd_words.specs.Width.{bits_of}
 use Rattle.iofd_words.specs.World.{World}
@@ -42,7 +40,7 @@ use Rattle.server_state.specs.Choice as choice
 use Rattle.server_state.specs.Leads.{lead_by, leads_of, live_area_at, object_page}
 use Rattle.server_state.specs.Shows.{ObjectsShown, Shows}
 use Rattle.server_state.specs.Step.{IsTidy}
-use Rattle.server_state.specs.Tables.{has_own_width, page_tables_among}
+use Rattle.server_state.specs.Tables.{has_own_width}
 use Rattle.server_state.specs.declared.held.Held.{Held}
 use Rattle.server_state.specs.declared.state.State.{State}
 use Rattle.table_spans.proofs.LeastFrames.{are_frames, length_least}
@@ -52,7 +50,7 @@ use Rattle.iofd_words.specs.Pins as pin
 use Rattle.table_spans.specs.Spans.{held_once}
 use Rattle.table_words.specs.Rows.{MappedPage}
 use Rattle.user_memory.specs.Memory as memory
-use Rattle.hwpt_events.proofs.FreeAlike.{least_frames_alike}
+use Rattle.server_state.proofs.FreeAlike.{least_frames_alike}
 use Rattle.hwpt_events.proofs.MayAdd.{free_there}
 use Rattle.hwpt_events.proofs.PinnedFirst.{another, frames_pinned, free_pinned, leads_yet, pins_pinned, stand_yet, users_pinned}
 use Rattle.hwpt_events.proofs.RootAdded.{itself}

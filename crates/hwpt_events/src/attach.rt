@@ -24,7 +24,11 @@ use std::alloc::Allocator;
 
 /// Why it is refused, by the first row of the definitions that holds. None where nothing refuses it.
 #[tactic(auto, unfolding(iofd_words::specs::Checks::attach_checks))]
-pub fn refusal<A: Allocator>(state: &State<A>, device: DeviceNo, pt_id: ObjId) -> Option<Cause>
+pub fn refusal<A: Allocator + Copy>(
+    state: &State<A>,
+    device: DeviceNo,
+    pt_id: ObjId,
+) -> Option<Cause>
     requires { IsKnown state.now }
     ensures { result ≡ first_true (attach_checks (seen state.now) device pt_id) }
 {
@@ -38,7 +42,7 @@ pub fn refusal<A: Allocator>(state: &State<A>, device: DeviceNo, pt_id: ObjId) -
 }
 
 /// Why it is refused by what the file has under the id: an address space, or a page table.
-fn refusal_by_target<A: Allocator>(
+fn refusal_by_target<A: Allocator + Copy>(
     state: &State<A>,
     device: DeviceNo,
     file: FileNo,
@@ -89,7 +93,7 @@ fn has_other_width<A: Allocator>(config: &Config<A>, device: DeviceNo, width: Wi
 }
 
 /// Why an attachment to the address space is refused.
-fn refusal_by_space<A: Allocator>(
+fn refusal_by_space<A: Allocator + Copy>(
     state: &State<A>,
     device: DeviceNo,
     file: FileNo,

@@ -22,7 +22,11 @@ use std::alloc::Allocator;
 
 /// Why it is refused, by the first row of the definitions that holds. None where nothing refuses it.
 #[tactic(auto, unfolding(iofd_words::specs::Checks::hwpt_alloc_checks))]
-pub fn refusal<A: Allocator>(state: &State<A>, file: FileNo, request: HwptRequest) -> Option<Cause>
+pub fn refusal<A: Allocator + Copy>(
+    state: &State<A>,
+    file: FileNo,
+    request: HwptRequest,
+) -> Option<Cause>
     requires { IsKnown state.now }
     ensures { result ≡ first_true (hwpt_alloc_checks (seen state.now) file request) }
 {

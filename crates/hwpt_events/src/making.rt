@@ -206,7 +206,7 @@ pub(crate) fn lacks_page<A: Allocator>(state: &State<A>, file: FileNo, ioas: Obj
 
 /// Whether with the pages that the first page table over the address space would pin the file's user would have more
 /// pinned pages than the limit allows.
-pub(crate) fn passes_limit<A: Allocator>(state: &State<A>, file: FileNo, ioas: ObjId) -> bool
+pub(crate) fn passes_limit<A: Allocator + Copy>(state: &State<A>, file: FileNo, ioas: ObjId) -> bool
     requires { IsKnown state.now }
     ensures { result ≡ passes_limit_attached (seen state.now) file ioas }
 {
@@ -216,8 +216,12 @@ pub(crate) fn passes_limit<A: Allocator>(state: &State<A>, file: FileNo, ioas: O
     let Some(areas) = lookups::areas_of(&state.objects, file, ioas) else {
         return accounts::passes_limit(state, file, 0);
     };
-    state.memory.objects_told();
-    let count = pins::new_pages(areas, &state.memory);
+    let most = pins::most_new_pages(areas, &state.memory);
+    if !accounts::passes_limit(state, file, most) {
+        return false;
+    }
+    // Only here does it matter what areas share.
+    let count = pins::new_pages(state.alloc, areas, &state.memory);
     accounts::passes_limit(state, file, count)
 }
 

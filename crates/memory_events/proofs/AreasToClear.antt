@@ -29,7 +29,7 @@ use Rattle.iofd_words.specs.declared.rows.ObjectKind.{ObjectKind}
 use Rattle.iofd_words.specs.declared.rows.ObjectKind.TheVariants as kind
 use Rattle.iofd_words.specs.declared.width.Width.{Width}
 use Rattle.iofd_words.specs.declared.width.Width.TheVariants.{Bits39, Bits48}
-use Rattle.memory_events.proofs.SpacesCleared.{in_mapped}
+use Rattle.server_state.proofs.TablesUnreached.{in_list}
 use Rattle.memory_events.specs.Cleared.{CanClear, is_beyond}
 use Rattle.server_state.proofs.AreasBecome.{own_at}
 use Rattle.server_state.proofs.Orderly.{orderly}
@@ -64,7 +64,7 @@ module _ {A : Type 0} (at : ℕ) (w : World) (s : State A) (file : FileNo) (ioas
 
   none_beyond : (h : Hwpt) → IsIn s.page_tables.tables h → is_over file ioas h.object ≡ true → (a : Area) → IsIn (areas_of w.areas file ioas) a → is_beyond h a ≡ false
   none_beyond h there over a within =
-      let listed : IsIn (page_tables_among w.objects) h.object = subst (λ (os : List Object). IsIn os h.object) shows.tables.tables (in_mapped s.page_tables.tables h there) in
+      let listed : IsIn (page_tables_among w.objects) h.object = subst (λ (os : List Object). IsIn os h.object) shows.tables.tables (in_list (λ (h : Hwpt). h.object) s.page_tables.tables h there) in
       let among = (in_filter (λ (o : Object). is_hwpt o.kind) w.objects h.object listed).0 in
       by_kind h.object.kind refl (and_true (eqb h.object.file.0 file.0) (is_hwpt_over ioas h.object.kind) over).1
       (false_else _ (λ met. clash _ (none_ends a within) (of_any (ends_in file ioas a.span) w.objects h.object among (both_true _ _ over met))))

@@ -18,7 +18,7 @@ use Rattle.iofd_words.specs.declared.numbers.ObjId.{ObjId}
 use Rattle.iofd_words.specs.declared.rows.Area.{Area}
 use Rattle.iofd_words.specs.declared.rows.Object.{Object}
 use Rattle.iofd_words.specs.declared.rows.TableFrame.{TableFrame}
-use Rattle.memory_events.proofs.SpacesCleared.{in_mapped}
+use Rattle.server_state.proofs.TablesUnreached.{in_list}
 use Rattle.memory_events.specs.Cleared.{CanClear, cleared, is_beyond}
 use Rattle.server_state.specs.Leads.{live_area_at}
 use Rattle.table_words.specs.Rows.{MappedPage}
@@ -58,7 +58,7 @@ module _ (file : FileNo) (ioas : ObjId) where
       → AllStand pool rows leads tables → AllStand pool rows (cleared file ioas areas leads) tables
   none_over areas pool rows leads tables none stand =
       all_told pool rows leads (cleared file ioas areas leads) tables stand (λ h within page.
-      let over : is_over file ioas h.object ≡ false = each_not (is_over file ioas) (map (λ (h : Hwpt). h.object) tables) h.object none (in_mapped tables h within) in
+      let over : is_over file ioas h.object ≡ false = each_not (is_over file ioas) (map (λ (h : Hwpt). h.object) tables) h.object none (in_list (λ (h : Hwpt). h.object) tables h within) in
       rw over refl)
 
   -- ---- one more

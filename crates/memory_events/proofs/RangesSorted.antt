@@ -1,18 +1,23 @@
 -- Whether ranges stand apart doesn't hang on their order, and those that do rise once they are sorted.
-use Rattle.std.proofs.Common.{◌≡◌, ◌∙◌, ℕ, suc, ◌+◌, ◌<◌, ◌≤◌, Bool, true, false, ◌&&◌, ◌||◌, not, cond, ltb, leb, List, [], ◌∷◌, length, get_or, refl, sym, arith}
+use Rattle.std.proofs.Common.{◌≡◌, ◌∙◌, ℕ, suc, ◌+◌, ◌≤◌, Bool, true, false, ◌&&◌, ◌||◌, not, cond, ltb, leb, List, [], ◌∷◌, refl, sym, arith}
 use Rattle.std.proofs.lemmas.Bool.Decides.{nat_tests}
 use Rattle.std.proofs.lemmas.List.Sorted.{IsPermutation-sym, list_any-IsPermutation, sum_by-IsPermutation}
 use Rattle.std.specs.List.{count_by, list_any}
 use Rattle.std.specs.List.Sorted.{IsNonDecreasingBy, IsPermutation}
 use Rattle.iofd_rows.proofs.Bools.{and_true, both_false, not_true, or_false}
-use Rattle.iofd_rows.proofs.ListTests.{alike}
+use Rattle.iofd_rows.proofs.ListTests.{alike, or_right}
 use Rattle.iofd_rows.proofs.PageCounts.{count-cons}
 use Rattle.iofd_words.specs.Allowed.{are_ranges}
 use Rattle.iofd_words.specs.Bounds.{Bounds}
+use Rattle.iofd_words.specs.Checks.{unusable_in}
 use Rattle.iofd_words.specs.Ranges.{in_spans, meets_some}
 use Rattle.iofd_words.specs.Span.{holds, meets}
+use Rattle.iofd_words.specs.View.{View}
+use Rattle.iofd_words.specs.declared.numbers.FileNo.{FileNo}
+use Rattle.iofd_words.specs.declared.numbers.ObjId.{ObjId}
 use Rattle.memory_rows.proofs.PinsFollow.{any_count}
 use Rattle.memory_events.proofs.AreRising.{rising_are_ranges}
+use Rattle.memory_events.specs.RangeChecks.{range_checks}
 use Rattle.memory_events.specs.Rising.{are_rising, ends_below}
 
 -- one of them doesn't begin below its last address
@@ -69,10 +74,6 @@ either false b is first second = second is
 not_bad : (a : Bool) → not a ≡ false → a ≡ true
 not_bad true is = refl
 not_bad false is = cc
-
-or_right : (a b : Bool) → b ≡ true → (a || b) ≡ true
-or_right true b is = refl
-or_right false b is = is
 
 met_first : (range r : Bounds) (ranges : List Bounds) → ltb range.first range.last ≡ true → ltb r.first r.last ≡ true → meets r range ≡ true → BothHold range (r ∷ ranges)
 met_first range r ranges own good met = at (leb r.first range.first) refl
@@ -143,8 +144,13 @@ starts_rise (r ∷ next ∷ ranges) up good =
     behind : (a b c d : ℕ) → a ≤ c → (leb c b && leb a d) ≡ false → ltb c d ≡ true → ltb b c ≡ true
     behind a b c d low clear own = grind (arith, nat_tests)
 
-pub sorted_are_ranges : (xs ys : List Bounds) → IsPermutation xs ys → IsNonDecreasingBy (λ r. r.first) ys → are_rising ys ≡ are_ranges xs
-sorted_are_ranges xs ys same up =
-    alike (are_rising ys) (are_ranges xs)
-    (λ rising. permuted ys xs (IsPermutation-sym xs ys same) (rising_are_ranges ys rising))
-    (λ good. starts_rise ys up (permuted xs ys same good))
+-- those by rising start do where they stand apart
+pub sorted_are_ranges : (ranges : List Bounds) → IsNonDecreasingBy (λ r. r.first) ranges → are_rising ranges ≡ are_ranges ranges
+sorted_are_ranges ranges up = alike (are_rising ranges) (are_ranges ranges) (rising_are_ranges ranges) (starts_rise ranges up)
+
+-- in any other order they are refused for the same reasons
+pub same_checks : (v : View) (file : FileNo) (ioas : ObjId) (xs ys : List Bounds) → IsPermutation xs ys → range_checks v file ioas ys ≡ range_checks v file ioas xs
+same_checks v file ioas xs ys same = rw (apart, sym (list_any-IsPermutation (meets_some (unusable_in v file ioas)) xs ys same)) refl
+  where
+    apart : are_ranges ys ≡ are_ranges xs
+    apart = alike (are_ranges ys) (are_ranges xs) (permuted ys xs (IsPermutation-sym xs ys same)) (permuted xs ys same)

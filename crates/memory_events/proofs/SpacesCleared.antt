@@ -1,5 +1,5 @@
 -- Where pages lead once the pages of one address space's live areas are cleared, told of its page tables and of all others.
-use Rattle.std.proofs.Common.{◌≡◌, ℕ, Bool, true, false, cond, ◌&&◌, eqb, is_some, Option, None, List, [], ◌∷◌, map, refl, ap, subst, inl, inr, arith}
+use Rattle.std.proofs.Common.{◌≡◌, ℕ, Bool, true, false, cond, ◌&&◌, eqb, is_some, Option, None, List, map, refl, ap, subst, arith}
 use Rattle.std.proofs.lemmas.Bool.Decides.{nat_tests}
 use Rattle.frame_memory.specs.Pool.{FramePool}
 use Rattle.hwpt_device.proofs.Staying.{all_told}
@@ -19,6 +19,7 @@ use Rattle.iofd_words.specs.declared.rows.ObjectKind.{ObjectKind}
 use Rattle.iofd_words.specs.declared.rows.ObjectKind.TheVariants as kind
 use Rattle.iofd_words.specs.declared.rows.TableFrame.{TableFrame}
 use Rattle.memory_events.specs.Cleared.{cleared}
+use Rattle.server_state.proofs.TablesUnreached.{in_list}
 use Rattle.server_state.specs.Leads.{leads_by_kind, leads_in, leads_of, live_area_at, space_leads}
 use Rattle.server_state.specs.Spaces.{is_space}
 use Rattle.server_state.specs.Tables.{page_tables_among}
@@ -43,11 +44,6 @@ space_left w file ioas gone after own others f i page = by_test (is_space file i
         rw (of_file, of_id) (own page)
     by_test false is = ap (λ (l : List Area). leads_in (pinned_frame w.pins) l page) (others f i is)
 
-pub in_mapped : (tables : List Hwpt) (h : Hwpt) → IsIn tables h → IsIn (map (λ (h : Hwpt). h.object) tables) h.object
-in_mapped [] h within = absurd within
-in_mapped (t ∷ tables) h (inl same) = inl (ap (λ (h : Hwpt). h.object) same)
-in_mapped (t ∷ tables) h (inr later) = inr (in_mapped tables h later)
-
 -- where that is so of all address spaces with a page table, the page tables stand
 pub spaces_cleared : (w new : World) (file : FileNo) (ioas : ObjId) (gone : List Area) (objects : List Object) (tables : List Hwpt) (pool : FramePool) (frames : List TableFrame)
     → map (λ (h : Hwpt). h.object) tables ≡ page_tables_among objects
@@ -70,7 +66,7 @@ spaces_cleared w new file ioas gone objects tables pool frames are left stand = 
 
     each : (h : Hwpt) → IsIn tables h → (page : ℕ) → leads_of new h.object page ≡ cleared file ioas gone (leads_of w) h.object page
     each h within page =
-        let there : IsIn (page_tables_among objects) h.object = subst (λ (os : List Object). IsIn os h.object) are (in_mapped tables h within) in
+        let there : IsIn (page_tables_among objects) h.object = subst (λ (os : List Object). IsIn os h.object) are (in_list (λ (h : Hwpt). h.object) tables h within) in
         let among = (in_filter (λ (o : Object). is_hwpt o.kind) objects h.object there).0 in
         let here : eqb h.object.file.0 h.object.file.0 ≡ true = grind (arith, nat_tests) in
         by_kind h.object.file page h.object.kind (λ i is. of_any (λ (o : Object). eqb o.file.0 h.object.file.0 && is_hwpt_over i o.kind) objects h.object among (both_true _ _ here is))

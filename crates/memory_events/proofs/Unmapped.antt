@@ -46,7 +46,7 @@ use Rattle.hwpt_device.specs.PageTables.{AllStand, IfAllStand, KeepsOthers, Page
 use Rattle.memory_events.proofs.LeavingAreas.{leads_marked, leads_outside}
 use Rattle.memory_events.proofs.PinsLeft.{leads_left, released_over}
 use Rattle.memory_events.proofs.SpacesCleared.{left_space, space_left, spaces_cleared}
-use Rattle.memory_events.proofs.TablesUnreached.{frames_cleared}
+use Rattle.server_state.proofs.TablesUnreached.{frames_cleared}
 use Rattle.memory_events.proofs.Touched.{AreAlike, alike, leaving_other, leaving_own, left_other, left_own, met_marked, met_within, touched_own, unmet_outside, waits_filtered}
 use Rattle.server_state.specs.Held.{areas_at, objects_in}
 use Rattle.memory_events.specs.Cleared.{cleared}

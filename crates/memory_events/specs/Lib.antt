@@ -1,5 +1,4 @@
-pub mod AreaMapped
 pub mod Cleared
 pub mod LeftOut
-pub mod Place
+pub mod RangeChecks
 pub mod Rising

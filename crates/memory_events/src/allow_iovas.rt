@@ -1,23 +1,25 @@
 //! AllowIovas: the ranges to which the addresses that the server chooses in an address space are bounded.
 
 ghost use Rattle.std.specs.Prelude.{◌≡◌, ◌<◌, ◌==◌, true, false, ℕ, IfOk, IsTrue, OnErr, length, nat_lt};
-ghost use Rattle.std.specs.List.{list_any};
+ghost use Rattle.std.specs.List.Sorted.{IsNonDecreasingBy};
 ghost use Rattle.iofd_words.specs.Allowed.{are_ranges};
-ghost use Rattle.iofd_words.specs.Checks.{allow_iovas_checks, unusable_in};
+ghost use Rattle.iofd_words.specs.Checks.{allow_iovas_checks};
 ghost use Rattle.iofd_words.specs.FirstTrue.{first_true};
 ghost use Rattle.iofd_words.specs.Ranges.{meets_some};
 ghost use Rattle.iofd_words.specs.declared.event.Event.TheVariants as event;
+ghost use Rattle.memory_events.specs.RangeChecks.{range_checks};
 ghost use Rattle.memory_events.specs.Rising.{are_rising, ends_below};
 ghost use Rattle.server_state.specs.Seen.{seen};
 ghost use Rattle.server_state.specs.Step.{IsKnown, ShowsSame, Steps};
 
-use iofd_words::{Cause, FileNo, IovaRange, NoMemory, ObjId, RangeList, Reply, Span};
+use crate::unusable;
+use iofd_words::{Cause, FileNo, IovaRange, NoMemory, ObjId, RangeList, Reply};
 use iova_ranges::{AllowedRow, by_start};
 use server_state::{State, lookups};
 use std::alloc::Allocator;
 
-/// Why it is refused, by the first row of the definitions that holds. None where nothing refuses it. The memory in which
-/// it sorts the ranges is given back.
+/// Why it is refused, by the first row of the definitions that holds. None where nothing refuses it. The memory in
+/// which it sorts the ranges is given back.
 #[tactic(auto, unfolding(iofd_words::specs::Checks::allow_iovas_checks))]
 pub fn refusal<A: Allocator + Copy>(
     state: &State<A>,
@@ -34,31 +36,80 @@ pub fn refusal<A: Allocator + Copy>(
     let Some(_) = lookups::areas_of(&state.objects, file, ioas) else {
         return Some(Cause::Id);
     };
-    if !are_ranges(state.alloc, ranges) {
-        return Some(Cause::List);
+    refusal_by_ranges(state, file, ioas, ranges)
+}
+
+/// Why these ranges are refused for the address space. Those that don't rise are sorted first, or compared each with
+/// each where there is no memory for that.
+fn refusal_by_ranges<A: Allocator + Copy>(
+    state: &State<A>,
+    file: FileNo,
+    ioas: ObjId,
+    ranges: &[IovaRange],
+) -> Option<Cause>
+    requires { IsKnown state.now }
+    ensures { result ≡ first_true (range_checks (seen state.now) file ioas ranges.now) }
+{
+    if are_rising(ranges) {
+        return refusal_of_rising(state, file, ioas, ranges);
     }
-    if meet_unusable(state, file, ioas, ranges) {
+    match by_start(state.alloc, ranges) {
+        Ok(sorted) => refusal_of_sorted(state, file, ioas, &sorted),
+        Err(NoMemory) => refusal_as_given(state, file, ioas, ranges),
+    }
+}
+
+/// Why ranges by rising start are refused. They rise, where each is one and no two have an address in common.
+fn refusal_of_sorted<A: Allocator>(
+    state: &State<A>,
+    file: FileNo,
+    ioas: ObjId,
+    ranges: &[IovaRange],
+) -> Option<Cause>
+    requires known { IsKnown state.now }
+    requires sorted { IsNonDecreasingBy (λ range. range.first) ranges.now }
+    ensures { result ≡ first_true (range_checks (seen state.now) file ioas ranges.now) }
+{
+    if are_rising(ranges) {
+        return refusal_of_rising(state, file, ioas, ranges);
+    }
+    Some(Cause::List)
+}
+
+/// Why ranges that rise are refused.
+fn refusal_of_rising<A: Allocator>(
+    state: &State<A>,
+    file: FileNo,
+    ioas: ObjId,
+    ranges: &[IovaRange],
+) -> Option<Cause>
+    requires known { IsKnown state.now }
+    requires rising { are_rising ranges.now ≡ true }
+    ensures { result ≡ first_true (range_checks (seen state.now) file ioas ranges.now) }
+{
+    if unusable::meets_rising(state, file, ioas, ranges) {
         return Some(Cause::Narrow);
     }
     None
 }
 
-/// Whether each range begins below its last address, and no two have an address in common. Ranges by rising address take
-/// one pass.
-fn are_ranges<A: Allocator>(alloc: A, ranges: &[IovaRange]) -> bool
-    ensures { result ≡ are_ranges ranges.now }
+/// Why ranges in any order are refused.
+fn refusal_as_given<A: Allocator>(
+    state: &State<A>,
+    file: FileNo,
+    ioas: ObjId,
+    ranges: &[IovaRange],
+) -> Option<Cause>
+    requires { IsKnown state.now }
+    ensures { result ≡ first_true (range_checks (seen state.now) file ioas ranges.now) }
 {
-    are_rising(ranges) || are_ranges_unordered(alloc, ranges)
-}
-
-/// The same of ranges in any order: they are sorted, or compared each with each where there is no memory for that.
-fn are_ranges_unordered<A: Allocator>(alloc: A, ranges: &[IovaRange]) -> bool
-    ensures { result ≡ are_ranges ranges.now }
-{
-    match by_start(alloc, ranges) {
-        Ok(sorted) => are_rising(&sorted),
-        Err(NoMemory) => are_apart(ranges),
+    if !are_apart(ranges) {
+        return Some(Cause::List);
     }
+    if unusable::meets_given(state, file, ioas, ranges) {
+        return Some(Cause::Narrow);
+    }
+    None
 }
 
 /// Whether each range begins below its last address, and ends below the next one.
@@ -85,7 +136,8 @@ fn ends_below(range: IovaRange, others: &[IovaRange]) -> bool
     }
 }
 
-/// The same, by comparing each with each.
+/// Whether each range begins below its last address, and no two have an address in common: each is compared with
+/// each.
 fn are_apart(ranges: &[IovaRange]) -> bool
     ensures { result ≡ are_ranges ranges.now }
 {
@@ -106,46 +158,6 @@ fn meets_some(others: &[IovaRange], range: IovaRange) -> bool
     others
         .iter()
         .any(|one| one.start <= range.last && range.start <= one.last)
-}
-
-/// Whether an address of one of the ranges can't be used.
-fn meet_unusable<A: Allocator>(
-    state: &State<A>,
-    file: FileNo,
-    ioas: ObjId,
-    ranges: &[IovaRange],
-) -> bool
-    requires known { IsKnown state.now }
-    requires ranges { are_ranges ranges.now ≡ true }
-    ensures { result ≡ list_any (meets_some (unusable_in (seen state.now) file ioas)) ranges.now }
-{
-    let mut rest = ranges;
-    while let Some((range, others)) = rest.split_first() {
-        if is_unusable(state, file, ioas, *range) {
-            return true;
-        }
-        rest = others;
-    }
-    false
-}
-
-/// Whether an address of the range can't be used.
-fn is_unusable<A: Allocator>(state: &State<A>, file: FileNo, ioas: ObjId, range: IovaRange) -> bool
-    requires known { IsKnown state.now }
-    requires some { range.first < range.last }
-    ensures { result ≡ meets_some (unusable_in (seen state.now) file ioas) range }
-{
-    match Span::new(range.start, range.last) {
-        Some(span) => is_span_unusable(state, file, ioas, span),
-        None => false,
-    }
-}
-
-fn is_span_unusable<A: Allocator>(state: &State<A>, file: FileNo, ioas: ObjId, span: Span) -> bool
-    requires { IsKnown state.now }
-    ensures { result ≡ meets_some (unusable_in (seen state.now) file ioas) span }
-{
-    state.unusable_meeting(file, ioas, span).is_some()
 }
 
 /// What it does where nothing refuses it: the address space allows these ranges, in place of those before; an empty list

@@ -1,13 +1,11 @@
-//! The events of users' memory and of mappings: each with the test that refuses it, and what it does.
+//! The events of users' memory, of allowed ranges, and UNMAP: each with the test that refuses it, and what it does.
 #![tactic(auto)]
 
 pub mod allow_iovas;
-mod choice;
 mod clearing;
 mod devices;
-pub mod map;
-mod mapping;
 pub mod unmap;
+mod unusable;
 pub mod usable_ranges;
 pub mod user_access;
 pub mod user_map;

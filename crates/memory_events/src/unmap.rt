@@ -11,11 +11,11 @@ ghost use Rattle.server_state.specs.Mapping.{own_areas};
 ghost use Rattle.server_state.specs.Seen.{seen};
 ghost use Rattle.server_state.specs.Step.{IsGranted, Steps};
 
-use crate::map::is_above_sum;
 use crate::{clearing, devices};
 use area_map::Areas;
 use iofd_words::{Cause, Errno, FileNo, ObjId, Reply, Span, UnmapRequest};
 use object_table::ObjectTable;
+use server_state::addresses::is_above_sum;
 use server_state::{Held, State, area_changes, lookups, release};
 use std::alloc::Allocator;
 

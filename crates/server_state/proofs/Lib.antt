@@ -2,6 +2,7 @@ pub mod AreasBecome
 pub mod AreasHeld
 pub mod Errors
 pub mod FewTables
+pub mod FreeAlike
 pub mod FreeFrames
 pub mod GivenBack
 pub mod GivenMoves
@@ -23,6 +24,7 @@ pub mod TableRows
 pub mod TablesFollow
 pub mod TablesToMap
 pub mod TablesTold
+pub mod TablesUnreached
 pub mod TakenShown
 pub mod Users
 pub mod ViewShown

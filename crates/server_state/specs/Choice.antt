@@ -7,6 +7,7 @@ use Rattle.iofd_words.specs.Answers.{write_reply}
 use Rattle.iofd_words.specs.Checks.{may_choose}
 use Rattle.iofd_words.specs.Frames.{is_free}
 use Rattle.iofd_words.specs.Policy.{Outcome, Passes, Denied, outcomes}
+use Rattle.iofd_words.specs.Copies.{placed_as}
 use Rattle.iofd_words.specs.Rights.{is_fixed}
 use Rattle.iofd_words.specs.Tables.{is_orphan}
 use Rattle.iofd_words.specs.View.{view}
@@ -74,6 +75,7 @@ abbrev pub IsChosen : {A : Type 0} → World → Event A → Option FrameNo → 
 IsChosen w (event.IoasAlloc file) via answer = Unit {0}
 IsChosen w (event.AllowIovas file ioas ranges) via answer = Unit {0}
 IsChosen w (event.Map file request) via answer = IsLeastMapped w file request (is_fixed request.flags) answer
+IsChosen w (event.Copy file request) via answer = IsLeastMapped w file (placed_as request) (is_fixed request.flags) answer
 IsChosen w (event.Unmap file request) via answer = Unit {0}
 IsChosen w (event.HwptAlloc file request) via answer = Unit {0}
 IsChosen w (event.Destroy file id) via answer = Unit {0}

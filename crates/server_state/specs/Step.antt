@@ -11,7 +11,7 @@ use Rattle.iofd_runs.specs.Owned.{AreasOwned}
 use Rattle.iofd_runs.specs.Rising.{objects_rise}
 use Rattle.iofd_runs.specs.Tabled.{AreTabled}
 use Rattle.iofd_rows.specs.Ids.{AreBoundOnce, have_own_ids}
-use Rattle.iofd_rows.specs.Pinned.{ArePinned, have_own_memory}
+use Rattle.iofd_rows.specs.Pinned.{ArePinned, share_in_files}
 use Rattle.iofd_words.specs.World.{World}
 use Rattle.iofd_words.specs.FirstTrue.{first_true}
 use Rattle.iofd_words.specs.Look.{query_checks}
@@ -31,8 +31,8 @@ use Rattle.server_state.specs.declared.state.State.{State}
 -- the world of a run: what laws say of it, at the position of the next record
 pub record IsTidy (at : ℕ) (w : World) : Type 0 where
   pub pins : ArePinned at w
-  -- no area is a copy yet
-  pub own : have_own_memory w.areas ≡ true
+  -- areas share memory with areas of their own file alone
+  pub own : share_in_files w.areas ≡ true
   pub debts : DebtsAttached w
   pub ids : have_own_ids w.objects ≡ true
   pub rise : objects_rise w.objects ≡ true

@@ -4,6 +4,7 @@
 
 pub mod accesses;
 pub mod accounts;
+pub mod addresses;
 pub mod area_changes;
 pub mod frames;
 mod held;

@@ -1,21 +1,17 @@
-use Rattle.std.proofs.Common.{◌≡◌, ◌<◌, ◌-◌, ℕ, Some, List, false, length, refl, sym, ◌∙◌, ap, subst, arith, vec_capacity, vec_len}
+use Rattle.std.proofs.Common.{◌≡◌, ◌-◌, ℕ, List, false, length, refl, sym, ◌∙◌, ap, subst, arith, vec_capacity, vec_len}
 use Rattle.frame_memory.specs.Pool.{least_free}
 use Rattle.hwpt_device.specs.PageTables.{hwpt_at, with_hwpt}
-use Rattle.iofd_rows.proofs.Each.{IsIn}
 use Rattle.iofd_runs.proofs.TableCounts.{no_kind}
 use Rattle.table_words.proofs.Frames.{some_least}
 use Rattle.iofd_words.specs.Areas.{areas_of}
 use Rattle.iofd_words.specs.Files.{is_user, user_of}
-use Rattle.iofd_words.specs.Objects.{is_fresh}
 use Rattle.iofd_words.specs.Settings.{Settings}
 use Rattle.iofd_words.specs.TablePlaces.{lacking, live_pages, places_of}
-use Rattle.iofd_words.specs.World.{World}
 use Rattle.iofd_words.specs.declared.numbers.FrameNo.{FrameNo}
 use Rattle.iofd_words.specs.declared.rows.Area.{Area}
 use Rattle.iofd_words.specs.declared.rows.Object.{Object}
 use Rattle.server_state.proofs.Errors.{on_err_same}
 use Rattle.server_state.specs.Mapping.{own_areas}
-use Rattle.server_state.specs.Shows.{Shows}
 use Rattle.server_state.specs.declared.state.State.{State}
 use Rattle.object_table.specs.Table.{inserted}
 use Rattle.object_table.specs.declared.kind.Kind.TheVariants as of_kind

@@ -1,27 +1,18 @@
-use Rattle.std.proofs.Common.{◌≡◌, ℕ, suc, ◌+◌, List, ◌∷◌, length, refl, sym, ap, ◌∙◌, arith}
-use Rattle.std.specs.List.{sum_by}
-use Rattle.std.proofs.lemmas.List.Sums.{sum_by-cons}
-use Rattle.iofd_words.specs.declared.rows.Area.{Area}
-use Rattle.user_memory.specs.Memory.{new_pages}
+use Rattle.std.proofs.Common.{sym, ◌∙◌, ap, subst}
+use Rattle.std.specs.List.Sorted.{IsNonDecreasing}
+use Rattle.std.proofs.lemmas.List.Sorted.{IsNonDecreasingBy-from_sort}
+use Rattle.user_memory.specs.Memory.{newly_pinned}
+use Rattle.hwpt_events.proofs.CountedOnce.{newly_permuted}
 use Rattle.hwpt_events.proofs.pins.new_pages.Goals as goal
 
-pub loop-area-preserved : goal.loop-area-preserved
-loop-area-preserved g c =
-    let area = c.in-Some.area.now in
-    let rest : List Area = c.next.new.self in
-    let pages : Area → ℕ = λ a. new_pages c.args.memory.now a.memory in
-    let before = c.loop-area.invariant in
-    let counts : before.done + length (area ∷ rest) ≡ length c.args.areas.now.areas = ap (λ (l : List Area). before.done + length l) (sym c.in-Some.ensures.steps) ∙ before.counts in
-    let sum : c.loop-area.count + sum_by pages (area ∷ rest) ≡ sum_by pages c.args.areas.now.areas = ap (λ (l : List Area). c.loop-area.count + sum_by pages l) (sym c.in-Some.ensures.steps) ∙ before.sum in
-    let first : sum_by pages (area ∷ rest) ≡ pages area + sum_by pages rest = sum_by-cons pages area rest in
-    let added : c.from-count.result ≡ pages area = c.from-count.ensures ∙ c.new_pages.ensures.value in
-    let few = c.new_pages.ensures.few in
-    let from = c.from-count.ensures in
-    let most = before.most in
-    let longer : length (area ∷ rest) ≡ suc (length rest) = refl in
-    record {
-      done = before.done + 1;
-      counts = omega (arith, counts, longer);
-      most = omega (arith, most, few, from);
-      sum = omega (arith, sum, first, added);
-    }
+pub newly_pinned-requires : goal.newly_pinned-requires
+newly_pinned-requires g c =
+    subst IsNonDecreasing (sym c.deref.ensures.value) (IsNonDecreasingBy-from_sort (λ x. x) c.sort_unstable.new.self.items c.sort_unstable.ensures.sorted)
+
+pub returns-in-Ok : goal.returns-in-Ok
+returns-in-Ok g c =
+    let m = c.args.memory.now in
+    c.newly_pinned.ensures
+    ∙ ap (newly_pinned m) c.deref.ensures.value
+    ∙ newly_permuted m c.in-Ok.numbers.items c.sort_unstable.new.self.items c.sort_unstable.ensures.permutation
+    ∙ ap (newly_pinned m) c.in-Ok.ensures

@@ -1,0 +1,3 @@
+pub mod AreaMapped
+pub mod Place
+pub mod Sources
