@@ -1,11 +1,11 @@
 //! The worked script, each call once.
 
 use crate::steps::{
-    FIRST, IN_USE, NARROW, NO_FRAME, SECOND, Step, UNKNOWN, apply, config, event, read,
+    AGAIN, FIRST, IN_USE, NARROW, NO_FRAME, SECOND, Step, UNKNOWN, apply, config, event, read,
 };
 use iofd_words::{
-    AccessKind, Act, Answer, Burst, Cause, Errno, Event, Fault, FaultReason, FrameNo, Iova, ObjId,
-    PassNo, Query, Refusal, Reply, SourceId, UserNo,
+    AccessKind, Act, Answer, Burst, Cause, Event, Fault, FaultReason, FrameNo, Iova, ObjId, PassNo,
+    Query, Refusal, Reply, SourceId, UserNo,
 };
 use iommufd_core::Core;
 use std::alloc::Global;
@@ -43,10 +43,10 @@ pub(crate) static SCRIPT: [(Step, Reply); 27] = [
     (Step::Page(0x11000), Reply::Frame(FrameNo(4))),
     (Step::Page(0x12000), NO_FRAME),
     (Step::Map(0x5000), Reply::Iova(Iova(0x5000))),
-    (Step::Unmap, Reply::Pending(Errno::EAGAIN)),
+    (Step::Unmap(0x1000), AGAIN),
     (Step::Write, Reply::Fault(DENIED)),
     (Step::Flush(NARROW), Reply::Done),
-    (Step::Unmap, Reply::Bytes(0x1000)),
+    (Step::Unmap(0x1000), Reply::Bytes(0x1000)),
     (Step::GiveUp(0x11000), Reply::Done),
     (Step::GiveUp(0x11000), ABSENT),
     (Step::Page(0x12000), Reply::Frame(FrameNo(4))),
@@ -62,7 +62,12 @@ pub(crate) static SCRIPT: [(Step, Reply); 27] = [
 ];
 
 /// Whether the event is answered so, under the next number, and one record more is told.
-fn answers(alloc: Global, core: &mut Core, step: Step, reply: Reply) -> Result<bool, Fail> {
+pub(crate) fn answers(
+    alloc: Global,
+    core: &mut Core,
+    step: Step,
+    reply: Reply,
+) -> Result<bool, Fail> {
     let event = event(alloc, step)?;
     let count = core.records().len();
     let stamp = apply(core, event)?;

@@ -1,8 +1,10 @@
 //! Each growth refused in turn: the answer is want of memory, nothing has changed, and the step gives its reply later.
 
 use crate::events::{FRAMES, SCRIPT};
-use crate::steps::{FIRST, IN_USE, NARROW, NO_FRAME, Step, WIDE, apply, config, event, read};
-use iofd_words::{Answer, Config, Errno, Event, FrameNo, Iova, NoMemory, ObjId, Query, Reply};
+use crate::steps::{
+    AGAIN, FIRST, IN_USE, NARROW, NO_FRAME, Step, WIDE, apply, config, event, read,
+};
+use iofd_words::{Answer, Config, Event, FrameNo, Iova, NoMemory, ObjId, Query, Reply, UserNo};
 use iommufd_core::Core;
 use linked_list_allocator::LocalHeap;
 use std::alloc::{AllocError, Global};
@@ -54,11 +56,13 @@ fn apply_with<'a>(
     }
 }
 
-/// How many records there are, how many frames are free, and what the narrow device reads.
-fn seen(core: &Core<&LocalHeap>) -> (usize, Answer, Answer) {
+/// How many records there are, how many frames are free, how many pages the user has pinned, and what the narrow device
+/// reads.
+fn seen(core: &Core<&LocalHeap>) -> (usize, Answer, Answer, Answer) {
     (
         core.records().len(),
         core.look(&Query::FreeFrames),
+        core.look(&Query::Held(UserNo(1))),
         core.look(&read(0x1ffe, 2)),
     )
 }
@@ -87,6 +91,24 @@ fn apply_at_last<'a>(
 }
 
 /// How many steps of the script found no memory at first; None where one had another reply than it should.
+pub(crate) fn growing_steps<'a>(
+    alloc: Global,
+    heap: &'a LocalHeap,
+    core: &mut Core<&'a LocalHeap>,
+    script: &[(Step, Reply)],
+) -> Result<Option<u32>, Fail> {
+    let mut grown = 0u32;
+    for (step, reply) in script {
+        let (answer, refusals) = apply_at_last(alloc, heap, core, *step)?;
+        if answer != *reply {
+            return Ok(None);
+        }
+        grown = grown.saturating_add(u32::from(refusals > 0));
+    }
+    Ok(Some(grown))
+}
+
+/// The same in a core of its own.
 fn steps_that_grow(
     alloc: Global,
     pool: u32,
@@ -97,15 +119,7 @@ fn steps_that_grow(
     let heap = LocalHeap::new(alloc, memory)?;
     same(is_refused(alloc, &heap, &config)?)?;
     let mut core = Core::new(&heap, &config)?;
-    let mut grown = 0u32;
-    for (step, reply) in script {
-        let (answer, refusals) = apply_at_last(alloc, &heap, &mut core, *step)?;
-        if answer != *reply {
-            return Ok(None);
-        }
-        grown = grown.saturating_add(u32::from(refusals > 0));
-    }
-    Ok(Some(grown))
+    growing_steps(alloc, &heap, &mut core, script)
 }
 
 #[test]
@@ -131,11 +145,11 @@ static TWO_TABLES: [(Step, Reply); 23] = [
     (Step::Map(0x4000_0000), Reply::Iova(Iova(0x4000_0000))),
     (Step::Page(0x11000), Reply::Frame(FrameNo(12))),
     (Step::Map(0x8000_0000), NO_FRAME),
-    (Step::Unmap, Reply::Pending(Errno::EAGAIN)),
+    (Step::Unmap(0x1000), AGAIN),
     (Step::Flush(NARROW), Reply::Done),
-    (Step::Unmap, Reply::Pending(Errno::EAGAIN)),
+    (Step::Unmap(0x1000), AGAIN),
     (Step::Flush(WIDE), Reply::Done),
-    (Step::Unmap, Reply::Bytes(0x1000)),
+    (Step::Unmap(0x1000), Reply::Bytes(0x1000)),
     (Step::Detach(WIDE), Reply::Done),
     (Step::Destroy(FIRST, 4), IN_USE),
     (Step::Detach(NARROW), Reply::Done),

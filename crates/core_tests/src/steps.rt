@@ -1,9 +1,9 @@
 //! Steps of the tests, and what a core answers to them.
 
 use iofd_words::{
-    Act, Burst, Cause, Config, DeviceConfig, DeviceNo, Event, FileNo, HwptRequest, Iova, IovaRange,
-    MapFlags, MapRequest, NoMemory, ObjId, PassNo, Query, RangeList, Refusal, Reply, SourceId,
-    SpanList, UnmapRequest, UserNo, Width,
+    Act, Burst, Cause, Config, CopyRequest, DeviceConfig, DeviceNo, Errno, Event, FileNo,
+    HwptRequest, Iova, IovaRange, MapFlags, MapRequest, NoMemory, ObjId, PassNo, Query, RangeList,
+    Refusal, Reply, SourceId, SpanList, UnmapRequest, UserNo, Width,
 };
 use iommufd_core::{Core, Stamp};
 use std::alloc::{Allocator, Global};
@@ -45,8 +45,10 @@ pub(crate) enum Step {
     UserWrite,
     /// A MAP of the user's page at 0x10000 to this address.
     Map(u64),
-    /// An UNMAP of the page at 0x1000.
-    Unmap,
+    /// A COPY of the page at the first address into the address space of this id, at the second one.
+    Copy(u64, u32, u64),
+    /// An UNMAP of the page at this address.
+    Unmap(u64),
     /// A page table for the device of this id.
     Table(u32),
     Bind(DeviceNo),
@@ -68,16 +70,29 @@ const REQUEST: MapRequest = MapRequest {
     iova: Iova(0x1000),
 };
 
-const UNMAP: UnmapRequest = UnmapRequest {
-    ioas: ObjId(1),
-    iova: Iova(0x1000),
-    length: 0x1000,
-};
-
 fn map(iova: u64) -> MapRequest {
     MapRequest {
         iova: Iova(iova),
         ..REQUEST
+    }
+}
+
+fn copy(from: u64, id: u32, to: u64) -> CopyRequest {
+    CopyRequest {
+        flags: MapFlags(7),
+        dst_ioas: ObjId(id),
+        src_ioas: ObjId(1),
+        length: 0x1000,
+        dst_iova: Iova(to),
+        src_iova: Iova(from),
+    }
+}
+
+fn unmap(iova: u64) -> UnmapRequest {
+    UnmapRequest {
+        ioas: ObjId(1),
+        iova: Iova(iova),
+        length: 0x1000,
     }
 }
 
@@ -115,7 +130,8 @@ pub(crate) fn event<A: Allocator>(alloc: A, step: Step) -> Result<Event<A>, Fail
         Step::GiveUp(va) => Event::UserUnmap(UserNo(1), va),
         Step::UserWrite => Event::UserWrite(UserNo(1), 0x10ffe, bytes),
         Step::Map(iova) => Event::Map(FIRST, map(iova)),
-        Step::Unmap => Event::Unmap(FIRST, UNMAP),
+        Step::Copy(from, id, to) => Event::Copy(FIRST, copy(from, id, to)),
+        Step::Unmap(iova) => Event::Unmap(FIRST, unmap(iova)),
         Step::Table(device) => Event::HwptAlloc(FIRST, table(device)),
         Step::Bind(device) => Event::Bind(FIRST, device),
         Step::Attach(device, id) => Event::Attach(device, ObjId(id)),
@@ -136,6 +152,9 @@ pub(crate) const IN_USE: Reply = Reply::Refused(Refusal {
 pub(crate) const NO_FRAME: Reply = Reply::Refused(Refusal {
     cause: Cause::Frames,
 });
+
+/// The UNMAP is to be called again.
+pub(crate) const AGAIN: Reply = Reply::Pending(Errno::EAGAIN);
 
 /// What a read of the narrow device asks.
 pub(crate) fn read(iova: u64, len: u8) -> Query {

@@ -83,6 +83,7 @@ abbrev pub command_of : {A : Type 0} → Event A → Option (Command A)
 command_of (event.IoasAlloc file) = Some command.IoasAlloc
 command_of (event.AllowIovas file ioas ranges) = Some (command.IoasAllowIovas ioas ranges)
 command_of (event.Map file request) = Some (command.IoasMap request)
+command_of (event.Copy file request) = Some (command.IoasCopy request)
 command_of (event.Unmap file request) = Some (command.IoasUnmap request)
 command_of (event.HwptAlloc file request) = Some (command.HwptAlloc request)
 command_of (event.Destroy file id) = Some (command.Destroy id)

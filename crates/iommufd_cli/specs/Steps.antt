@@ -76,6 +76,7 @@ module _ {A : Type 0} where
   IsCommanded s file (command.IoasAllowIovas ioas ranges) text after = IsApplied s (event.AllowIovas file ioas ranges) text after
   IsCommanded s file (command.IoasIovaRanges request) text after = IsRanges s file request text after
   IsCommanded s file (command.IoasMap request) text after = IsApplied s (event.Map file request) text after
+  IsCommanded s file (command.IoasCopy request) text after = IsApplied s (event.Copy file request) text after
   IsCommanded s file (command.IoasUnmap request) text after = IsApplied s (event.Unmap file request) text after
   IsCommanded s file (command.HwptAlloc request) text after = IsApplied s (event.HwptAlloc file request) text after
 

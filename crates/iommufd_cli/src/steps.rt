@@ -89,6 +89,7 @@ fn command_of<A: Allocator>(event: Event<A>) -> Option<Command<A>>
         Event::IoasAlloc(_) => Some(Command::IoasAlloc),
         Event::AllowIovas(_, ioas, ranges) => Some(Command::IoasAllowIovas(ioas, ranges)),
         Event::Map(_, request) => Some(Command::IoasMap(request)),
+        Event::Copy(_, request) => Some(Command::IoasCopy(request)),
         Event::Unmap(_, request) => Some(Command::IoasUnmap(request)),
         Event::HwptAlloc(_, request) => Some(Command::HwptAlloc(request)),
         Event::Destroy(_, id) => Some(Command::Destroy(id)),
@@ -159,6 +160,7 @@ fn answer_command<A: Allocator + Copy>(
         }
         Command::IoasIovaRanges(request) => answer_ranges(alloc, core, file, request, out),
         Command::IoasMap(request) => answer_event(core, Event::Map(file, request), out),
+        Command::IoasCopy(request) => answer_event(core, Event::Copy(file, request), out),
         Command::IoasUnmap(request) => answer_event(core, Event::Unmap(file, request), out),
         Command::HwptAlloc(request) => answer_event(core, Event::HwptAlloc(file, request), out),
     }

@@ -17,6 +17,7 @@ abbrev pub takes_memory : {A : Type 0} → Event A → Bool
 takes_memory (event.IoasAlloc file) = true
 takes_memory (event.AllowIovas file ioas ranges) = nat_lt 0 (length ranges)
 takes_memory (event.Map file request) = true
+takes_memory (event.Copy file request) = true
 takes_memory (event.Unmap file request) = false
 takes_memory (event.HwptAlloc file request) = true
 takes_memory (event.Destroy file id) = true

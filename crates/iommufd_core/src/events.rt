@@ -11,7 +11,8 @@ use device_events::{bind, detach, device_write, flush};
 use file_events::{close, destroy, ioas_alloc, unbind};
 use hwpt_events::{attach, hwpt_alloc};
 use iofd_words::{Act, Cause, Event, FrameNo, NoMemory, Refusal, Reply};
-use memory_events::{allow_iovas, map, unmap, user_map, user_unmap, user_write};
+use map_events::{copy, map};
+use memory_events::{allow_iovas, unmap, user_map, user_unmap, user_write};
 use server_state::State;
 use std::alloc::Allocator;
 
@@ -49,6 +50,7 @@ fn refusal<A: Allocator + Copy>(state: &State<A>, event: &Event<A>) -> Option<Ca
             allow_iovas::refusal(state, *file, *ioas, ranges.as_slice())
         }
         Event::Map(file, request) => map::refusal(state, *file, *request),
+        Event::Copy(file, request) => copy::refusal(state, *file, *request),
         Event::Unmap(file, request) => unmap::refusal(state, *file, *request),
         Event::HwptAlloc(file, request) => hwpt_alloc::refusal(state, *file, *request),
         Event::Destroy(file, id) => destroy::refusal(state, *file, *id),
@@ -89,6 +91,7 @@ fn commit<A: Allocator + Copy>(
             allow_iovas::commit(state, *file, *ioas, ranges)
         }
         Event::Map(file, request) => map::commit(state, at, *file, *request, taken),
+        Event::Copy(file, request) => copy::commit(state, *file, *request, taken),
         Event::Unmap(file, request) => Ok(unmap::commit(state, *file, *request)),
         Event::HwptAlloc(file, request) => hwpt_alloc::commit(state, *file, *request, taken),
         Event::Destroy(file, id) => destroy::commit(state, *file, *id, given),

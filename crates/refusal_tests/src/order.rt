@@ -22,6 +22,11 @@ const ALL: u32 = 7;
 
 const CHOSEN: u32 = 6;
 
+// READABLE with FIXED_IOVA, and alone.
+const FIXED_READ: u32 = 5;
+
+const CHOSEN_READ: u32 = 4;
+
 // Where addresses of 39 bits end.
 const WIDTH_END: u64 = 1 << 39;
 
@@ -40,6 +45,8 @@ enum Step {
     Ranges(u16, u32),
     // MAP: file, flags, address space, user's address, length, iova.
     Map(u16, u32, u32, u64, u64, u64),
+    // COPY: file, flags, target, source, length, the target's iova, the source's.
+    Copy(u16, u32, u32, u32, u64, u64, u64),
     // UNMAP: file, address space, iova, length.
     Unmap(u16, u32, u64, u64),
     // HWPT_ALLOC: file, device, address space.
@@ -69,6 +76,7 @@ struct Chain {
 // - IOAS_ALLOC, Id and Full: a file that isn't open has no objects;
 // - MAP, Id of the address space and Overlap, Full, Absent by pages that are to be pinned or Account: what isn't there
 //   has neither areas nor a page table;
+// - COPY, Align of the source and of the target are one answer, and so are Id of the two;
 // - ALLOW_IOVAS, Id and Narrow, IOVA_RANGES, Id and Places: what isn't there has no page table, and no ranges;
 // - UNMAP, Sum and Align: a length of 0 leads to no address above 2^64; Span twice is one answer;
 // - DESTROY, Id of the file and of the object are one answer; InUse and Bound: the first is of address spaces and page
@@ -84,10 +92,11 @@ static MEMORY_CHAINS: [Chain; 9] = [
         what: "a closed file",
         before: &[Line("bind 1 1"), Line("close 2")],
         asks: &[
-            // No cures: to the first Id applies too, to the next three List, NoRight and Sum, to the last Bound.
+            // No cures: to the first Id applies too, to the next four List, NoRight twice and Sum, to the last Bound.
             (Line("ioctl 2 3b81 0c000000000000000000000000"), "22 Array"),
             (Allow(2, 1, &[(0x1000, 0x1000)]), "2 Id"),
             (Map(2, FIXED, 1, 0x10000, 0x1000, 0x1000), "2 Id"),
+            (Copy(2, FIXED, 1, 1, 0x1000, 0x2000, 0x1000), "2 Id"),
             (Unmap(2, 1, LAST_PAGE, 0x2000), "2 Id"),
             (Line("bind 2 1"), "2 Id"),
         ],
@@ -133,18 +142,23 @@ static MEMORY_CHAINS: [Chain; 9] = [
         ],
     },
     Chain {
-        what: "MAP into an address space that is full of areas",
+        what: "MAP and COPY into an address space that is full of areas",
         before: &[
             Alloc(1),
             Line("umap 1 10000"),
             Line("bind 1 1"),
             Line("attach 1 1"),
             Maps(65_535),
+            Alloc(1),
+            Map(1, ALL, 4, 0x20000, 0x1000, 0x5000),
         ],
         asks: &[
             // To the second Absent and Account apply too.
             (Map(1, ALL, 1, 0x20000, 0x1000, 0x1000), "17 Overlap"),
             (Map(1, ALL, 1, 0x20000, 0x1000, 0x1000_0000), "28 Full"),
+            (Copy(1, ALL, 1, 4, 0x1000, 0x1000, 0x5000), "17 Overlap"),
+            (Copy(1, ALL, 1, 4, 0x1000, 0x1000_0000, 0x5000), "28 Full"),
+            (Copy(1, CHOSEN, 1, 4, 0x1000, 0, 0x5000), "28 Full"),
         ],
     },
     Chain {
@@ -240,6 +254,104 @@ static MEMORY_CHAINS: [Chain; 9] = [
             (Line("uwrite 3 10fff beef"), "2 Id"),
             (Line("uwrite 1 10fff beef"), "22 Cross"),
             (Line("uwrite 1 10fff be"), "14 Absent"),
+        ],
+    },
+];
+
+// Those of COPY.
+static COPY_CHAINS: [Chain; 3] = [
+    Chain {
+        what: "COPY between address spaces that aren't there",
+        before: &[],
+        asks: &[
+            // The source above 2^64.
+            (Copy(9, FIXED, 9, 9, 0x2000, 0x1001, LAST_PAGE), "2 Id"),
+            (
+                Copy(1, FIXED, 9, 9, 0x2000, 0x1001, LAST_PAGE),
+                "22 NoRight",
+            ),
+            (Copy(1, ALL, 9, 9, 0x2000, 0x1001, LAST_PAGE), "75 Sum"),
+            (Copy(1, ALL, 9, 9, 0x2000, 0x1001, 0x1000), "22 Align"),
+            (Copy(1, ALL, 9, 9, 0x2000, 0x1000, 0x1000), "2 Id"),
+            // The target above 2^64. Where it isn't fixed, it is ignored.
+            (
+                Copy(1, FIXED, 9, 9, 0x2001, LAST_PAGE, 0x1000),
+                "22 NoRight",
+            ),
+            (Copy(1, ALL, 9, 9, 0x2001, LAST_PAGE, 0x1000), "75 Sum"),
+            (Copy(1, CHOSEN, 9, 9, 0x2001, LAST_PAGE, 0x1000), "22 Align"),
+            (Copy(1, CHOSEN, 9, 9, 0x2000, LAST_PAGE + 1, 0x1000), "2 Id"),
+            // The source within a page.
+            (Copy(1, ALL, 9, 9, 0x2000, 0x1000, LAST_PAGE + 1), "75 Sum"),
+            (Copy(1, ALL, 9, 9, 0x2000, 0x1000, 0x1001), "22 Align"),
+            // No bytes.
+            (Copy(1, ALL, 9, 9, 0, LAST_PAGE, LAST_PAGE), "22 Align"),
+            (Copy(1, ALL, 9, 9, 0x1000, LAST_PAGE, LAST_PAGE), "2 Id"),
+        ],
+    },
+    Chain {
+        what: "COPY of memory that is only read, and that the user doesn't have, under a page table",
+        before: &[
+            Alloc(1),
+            Alloc(1),
+            Line("umap 1 10000"),
+            Map(1, ALL, 1, 0x10000, 0x1000, WIDTH_PAGE),
+            Map(1, FIXED_READ, 2, 0x20000, 0x2000, 0x1000),
+            Map(1, FIXED_READ, 2, 0x20000, 0x1000, 0x5000),
+            Allow(1, 1, &[(0x1000, 0x1fff)]),
+            Line("bind 1 1"),
+            Line("attach 1 1"),
+        ],
+        asks: &[
+            // An area in no address space of the file: file 2 has none; then an unknown one, a device, a page table.
+            (Copy(2, ALL, 1, 2, 0x2000, WIDTH_PAGE, 0x1000), "2 Id"),
+            (Copy(1, ALL, 9, 2, 0x2000, WIDTH_PAGE, 0x3000), "2 Id"),
+            (Copy(1, ALL, 3, 2, 0x2000, WIDTH_PAGE, 0x3000), "2 Id"),
+            (Copy(1, ALL, 1, 9, 0x2000, WIDTH_PAGE, 0x1000), "2 Id"),
+            (Copy(1, ALL, 1, 3, 0x2000, WIDTH_PAGE, 0x1000), "2 Id"),
+            (Copy(1, ALL, 1, 4, 0x2000, WIDTH_PAGE, 0x1000), "2 Id"),
+            // No area there, and a part of one.
+            (Copy(1, ALL, 1, 2, 0x2000, WIDTH_PAGE, 0x3000), "2 Span"),
+            (Copy(1, ALL, 1, 2, 0x1000, WIDTH_PAGE, 0x1000), "2 Span"),
+            (Copy(1, ALL, 1, 2, 0x2000, WIDTH_PAGE, 0x1000), "1 Rights"),
+            (
+                Copy(1, FIXED_READ, 1, 2, 0x2000, WIDTH_PAGE, 0x1000),
+                "22 Reserved",
+            ),
+            (
+                Copy(1, FIXED_READ, 1, 2, 0x1000, WIDTH_PAGE, 0x5000),
+                "17 Overlap",
+            ),
+            (
+                Copy(1, FIXED_READ, 1, 2, 0x1000, 0x2000, 0x5000),
+                "14 Absent",
+            ),
+            // One page may be chosen.
+            (Copy(1, CHOSEN, 1, 2, 0x2000, 7, 0x1000), "1 Rights"),
+            (Copy(1, CHOSEN_READ, 1, 2, 0x2000, 7, 0x1000), "28 Full"),
+            (Copy(1, CHOSEN_READ, 1, 2, 0x1000, 7, 0x5000), "14 Absent"),
+        ],
+    },
+    Chain {
+        what: "COPY of more pages than its user may have pinned, by tables that need two frames, where one is free",
+        before: &[
+            Alloc(3),
+            Alloc(3),
+            Line("umap 2 10000"),
+            Line("umap 2 11000"),
+            Map(3, ALL, 2, 0x11000, 0x2000, 0x1000),
+            Map(3, ALL, 2, 0x10000, 0x2000, 0x3000),
+            Map(3, ALL, 2, 0x10000, 0x1000, 0x5000),
+            Line("bind 3 1"),
+            Line("attach 1 1"),
+            Pages(252),
+        ],
+        asks: &[
+            // Of the first one's pages the user has one.
+            (Copy(3, ALL, 1, 2, 0x2000, 0x1000, 0x1000), "14 Absent"),
+            (Copy(3, ALL, 1, 2, 0x2000, 0x1000, 0x3000), "12 Account"),
+            (Copy(3, ALL, 1, 2, 0x1000, 0x1000, 0x5000), "12 Frames"),
+            (Copy(3, CHOSEN, 1, 2, 0x1000, 0, 0x5000), "12 Frames"),
         ],
     },
 ];
@@ -425,6 +537,9 @@ fn put_step(script: &mut String, step: Step) -> Result<(), AllocError> {
         Map(file, flags, ioas, va, length, iova) => {
             put_map(script, file, flags, ioas, va, length, iova)
         }
+        Copy(file, flags, target, source, length, to, from) => {
+            put_copy(script, file, flags, target, source, length, to, from)
+        }
         Unmap(file, ioas, iova, length) => writeln!(
             script,
             "ioctl {file} 3b86 18000000{:08x}{:016x}{:016x}",
@@ -476,6 +591,28 @@ fn put_map(
         va.swap_bytes(),
         length.swap_bytes(),
         iova.swap_bytes()
+    )
+}
+
+fn put_copy(
+    script: &mut String,
+    file: u16,
+    flags: u32,
+    target: u32,
+    source: u32,
+    length: u64,
+    to: u64,
+    from: u64,
+) -> Result<(), AllocError> {
+    writeln!(
+        script,
+        "ioctl {file} 3b83 28000000{:08x}{:08x}{:08x}{:016x}{:016x}{:016x}",
+        flags.swap_bytes(),
+        target.swap_bytes(),
+        source.swap_bytes(),
+        length.swap_bytes(),
+        to.swap_bytes(),
+        from.swap_bytes()
     )
 }
 
@@ -540,6 +677,14 @@ fn is_answered(alloc: Global, chain: &Chain) -> Result<bool, Fail> {
 #[test]
 fn the_first_refusal_that_applies_is_the_answer(rt: HostRuntime) -> Result<(), Fail> {
     for chain in &MEMORY_CHAINS {
+        assert!(rt; is_answered(rt.alloc(), chain)?, "{}", chain.what);
+    }
+    Ok(())
+}
+
+#[test]
+fn so_it_is_for_copies(rt: HostRuntime) -> Result<(), Fail> {
+    for chain in &COPY_CHAINS {
         assert!(rt; is_answered(rt.alloc(), chain)?, "{}", chain.what);
     }
     Ok(())

@@ -2,8 +2,9 @@
 
 use ioctl_codec::{Command, RangesRequest};
 use iofd_words::{
-    AccessKind, Answer, Burst, Cause, Errno, Fault, FaultReason, FrameNo, Iova, IovaRange,
-    MapFlags, MapRequest, ObjId, RangeList, Refusal, Reply, SourceId, Span, UnmapRequest,
+    AccessKind, Answer, Burst, Cause, CopyRequest, Errno, Fault, FaultReason, FrameNo, Iova,
+    IovaRange, MapFlags, MapRequest, ObjId, RangeList, Refusal, Reply, SourceId, Span,
+    UnmapRequest,
 };
 use iommufd_cli::{Line, bad_line, no_memory_line, ranges_line};
 use std::test::Fail;
@@ -14,6 +15,16 @@ const MAP: MapRequest = MapRequest {
     user_va: 0x10000,
     length: 0x1000,
     iova: Iova(0x1000),
+};
+
+// At an address that the server chooses.
+const COPY: CopyRequest = CopyRequest {
+    flags: MapFlags(6),
+    dst_ioas: ObjId(3),
+    src_ioas: ObjId(2),
+    length: 0x2000,
+    dst_iova: Iova(0),
+    src_iova: Iova(0x1000),
 };
 
 const UNMAP: UnmapRequest = UnmapRequest {
@@ -141,7 +152,7 @@ fn steps(rt: HostRuntime) {
 }
 
 // A command with its good reply, and the line for it.
-const GOOD: [(Command, Reply, &str); 4] = [
+const GOOD: [(Command, Reply, &str); 5] = [
     (
         Command::IoasAlloc,
         Reply::Id(ObjId(1)),
@@ -156,6 +167,11 @@ const GOOD: [(Command, Reply, &str); 4] = [
         Command::IoasMap(MAP),
         Reply::Iova(Iova(0x1000)),
         "0 28000000070000000100000000000000000001000000000000100000000000000010000000000000\n",
+    ),
+    (
+        Command::IoasCopy(COPY),
+        Reply::Iova(Iova(0x5000)),
+        "0 28000000060000000300000002000000002000000000000000500000000000000010000000000000\n",
     ),
     (
         Command::IoasUnmap(UNMAP),

@@ -32,7 +32,7 @@ enum Ask {
 // In a command's rows each is like the one before it, cured of the cause by which that was refused: so the next one's
 // cause applies to a row as well as its own, and most often all later ones do. No structure meets both of two
 // neighbours: a size below its own, and one above 4096.
-static ASKS: [(Ask, &str); 45] = [
+static ASKS: [(Ask, &str); 52] = [
     (Line("3b87 -"), "25 Number"),
     // Fewer than 4 bytes have no size, so nothing else applies to them.
     (Line("3b81 -"), "22 Short"),
@@ -60,6 +60,15 @@ static ASKS: [(Ask, &str); 45] = [
     // With FIXED_IOVA.
     (Large(0x3b85, 40, 1, 7, More), "22 Array"),
     (Large(0x3b85, 40, 1, 7, Zeros), "2 Id"),
+    // COPY, which has no reserved field: an unknown flag.
+    (Line("3b83 01100000"), "7 Tail"),
+    (Large(0x3b83, 40, 1, 8, Cut), "22 Short"),
+    (Large(0x3b83, 40, 1, 8, Tail), "7 Tail"),
+    (Large(0x3b83, 40, 1, 8, More), "95 Unsupported"),
+    // Without FIXED_IOVA, and with it.
+    (Large(0x3b83, 40, 1, 6, More), "22 Array"),
+    (Large(0x3b83, 40, 1, 7, More), "22 Array"),
+    (Large(0x3b83, 40, 1, 7, Zeros), "2 Id"),
     // UNMAP, which has neither flags nor reserved fields.
     (Line("3b86 01100000"), "7 Tail"),
     (Large(0x3b86, 24, 1, 1, Cut), "22 Short"),

@@ -79,6 +79,14 @@ returns-in-Map-clause-ok g c = rw c.requires.none_given (if_ok c.commit-in-Map.r
     (λ reply steps. subst (λ (e : Event _). MovingSteps c.args.at e c.args.act.now.via c.args.state.now reply c.commit-in-Map.new.taken.items [] c.commit-in-Map.new.state) (sym c.in-Map.is) (steps c.args.act.now.via))
     c.commit-in-Map.ensures.ok)
 
+pub returns-in-Copy-clause-ok : goal.returns-in-Copy-clause-ok
+returns-in-Copy-clause-ok g c = rw c.requires.none_given (if_ok c.commit-in-Copy.result _ _
+    (λ reply steps. subst (λ (e : Event _). MovingSteps c.args.at e c.args.act.now.via c.args.state.now reply c.commit-in-Copy.new.taken.items [] c.commit-in-Copy.new.state) (sym c.in-Copy.is) (steps c.args.at c.args.act.now.via))
+    c.commit-in-Copy.ensures.ok)
+
+pub returns-in-Copy-clause-err : goal.returns-in-Copy-clause-err
+returns-in-Copy-clause-err g c = on_err c.commit-in-Copy.result _ _ (λ same w tidy shows. same c.args.at w tidy shows) c.commit-in-Copy.ensures.err
+
 pub returns-in-HwptAlloc-clause-ok : goal.returns-in-HwptAlloc-clause-ok
 returns-in-HwptAlloc-clause-ok g c = rw c.requires.none_given (if_ok c.commit-in-HwptAlloc.result _ _
     (λ reply steps. subst (λ (e : Event _). MovingSteps c.args.at e c.args.act.now.via c.args.state.now reply c.commit-in-HwptAlloc.new.taken.items [] c.commit-in-HwptAlloc.new.state) (sym c.in-HwptAlloc.is) (steps c.args.at c.args.act.now.via))
