@@ -1,6 +1,6 @@
 //! The order of a script's lines.
 
-ghost use Rattle.std.specs.Prelude.{◌≡◌, IsTrue};
+ghost use Rattle.std.specs.Prelude.{◌≡◌, ◌&&◌, IsTrue, Some, None, not, if◌then◌else◌};
 ghost use Rattle.iommufd_script.specs.Script.{start, allows, behind, after};
 
 use crate::line::{HeadLine, Line};
@@ -63,19 +63,27 @@ impl Place {
         next
     }
 
+    // The place behind a line of the head; None where it may not come here. Few lines of a script are of the head, so
+    // its code stands apart from that of the steps.
+    #[inline(never)]
+    fn after_heading(self, line: &HeadLine<'_>) -> Option<Place>
+        ensures { result ≡ (if not self.begun && allows self line.now then Some (behind self line.now) else None) }
+    {
+        if self.begun || !self.allows(line) {
+            return None;
+        }
+        Some(self.behind(line))
+    }
+
     // The place behind a line; None where it may not come here, or isn't of the grammar.
+    #[inline]
     pub fn after(self, line: &Option<Line<'_>>) -> Option<Place>
         ensures { result ≡ after self line.now }
     {
         match line {
             None => None,
             Some(Line::Skipped) => Some(self),
-            Some(Line::Head(heading)) => {
-                if self.begun || !self.allows(heading) {
-                    return None;
-                }
-                Some(self.behind(heading))
-            }
+            Some(Line::Head(heading)) => self.after_heading(heading),
             Some(Line::Step(_)) => { if self.begun { Some(self) } else { None } }
         }
     }

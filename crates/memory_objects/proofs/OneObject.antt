@@ -29,6 +29,20 @@ lower_first x (o ∷ objects) (suc p) y after there =
     let parts = and_parts (ltb x.number o.number) (list_all (λ next. ltb x.number next.number) objects) after in
     lower_first x objects p y parts.1 there
 
+-- an object that stands at some place is the one of its number
+pub found_by_number : (objects : List MemoryEntry) (p n : ℕ) (x : MemoryEntry) → are_rising objects ≡ true → slice_get objects p ≡ Some x → x.number ≡ n → object_at objects n ≡ Some x
+found_by_number [] p n x rising there is = cc
+found_by_number (o ∷ objects) zero n x rising there is =
+    let same : o ≡ x = cc in
+    let here : o.number ≡ n = rw same is in
+    let equal : eqb o.number n ≡ true = grind (arith, nat_tests) in
+    rw equal there
+found_by_number (o ∷ objects) (suc p) n x rising there is =
+    let parts = rising_parts o objects rising in
+    let low = lower_first o objects p x parts.0 there in
+    let other : eqb o.number n ≡ false = grind (arith, nat_tests) in
+    rw other (found_by_number objects p n x parts.1 there is)
+
 -- an object changed at its place is each object of its number changed
 pub set_by_number : (n : ℕ) (G : MemoryEntry → MemoryEntry) → ((o : MemoryEntry) → eqb o.number n ≡ false → G o ≡ o) → (objects : List MemoryEntry) (p : ℕ) (x : MemoryEntry) → are_rising objects ≡ true → slice_get objects p ≡ Some x → x.number ≡ n → set objects p (G x) ≡ map G objects
 set_by_number n G keeps [] p x rising there is = cc

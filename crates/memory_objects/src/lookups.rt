@@ -1,4 +1,4 @@
-//! Memory objects by rising number: where one of them stands, by binary search. One over which no area lies is gone.
+//! Memory objects by rising number: where one of them stands. One over which no area lies is gone.
 
 ghost use Rattle.std.specs.Prelude.{◌≡◌, ◌<◌, ◌≤◌, IsTrue, IfSome, IfNone, length, nat_lt, slice_get};
 ghost use Rattle.std.specs.List.{prefix_len};
@@ -26,8 +26,8 @@ pub(crate) fn are_below<A: Allocator>(entries: &[Entry<Pages<A>>], number: u64) 
     count_below(entries, number) == entries.len()
 }
 
-/// Where the entry of this number stands.
-fn entry_place<A: Allocator>(entries: &[Entry<Pages<A>>], number: u64) -> Option<usize>
+/// Where the entry of this number stands, by binary search.
+fn searched_place<A: Allocator>(entries: &[Entry<Pages<A>>], number: u64) -> Option<usize>
     requires { IsTrue (are_rising entries.now) }
     ensures some { IfSome result (λ place. slice_get entries.now place ≡ object_at entries.now number) }
     ensures within { IfSome result (λ place. place < length entries.now) }
@@ -42,6 +42,39 @@ fn entry_place<A: Allocator>(entries: &[Entry<Pages<A>>], number: u64) -> Option
     } else {
         None
     }
+}
+
+/// Where the entry of this number would stand if no number were missing between the first entry's and it: as far from
+/// the first as the numbers are apart, or last.
+fn dense_place<A: Allocator>(entries: &[Entry<Pages<A>>], number: u64) -> usize
+    requires { 0 < length entries.now }
+    ensures { result < length entries.now }
+{
+    let apart = number.saturating_sub(entries[0].number);
+    let last = entries.len() - 1;
+    if apart < last as u64 {
+        apart as usize
+    } else {
+        last
+    }
+}
+
+/// Where the entry of this number stands. One look finds it where the numbers follow each other, and a binary search
+/// else.
+fn entry_place<A: Allocator>(entries: &[Entry<Pages<A>>], number: u64) -> Option<usize>
+    requires { IsTrue (are_rising entries.now) }
+    ensures some { IfSome result (λ place. slice_get entries.now place ≡ object_at entries.now number) }
+    ensures within { IfSome result (λ place. place < length entries.now) }
+    ensures none { IfNone result (object_at entries.now number ≡ None) }
+{
+    if entries.is_empty() {
+        return None;
+    }
+    let place = dense_place(entries, number);
+    if entries[place].number == number {
+        return Some(place);
+    }
+    searched_place(entries, number)
 }
 
 /// Where the object of this number stands, if it isn't gone.

@@ -24,8 +24,8 @@ use std::marker::Model;
 /// them by rising number, and for how many more there is room.
 ///
 /// Several calls take a list of numbers, as those of the areas of one address space: an object's number stands there
-/// once for each area meant that lies over it, and a number of no object says nothing. An object is found by binary
-/// search.
+/// once for each area meant that lies over it, and a number of no object says nothing. An object is found by one look
+/// where the numbers follow each other, and by binary search else.
 #[derive(Debug, Drop)]
 pub struct MemoryObjects<A: Allocator = Global> {
     // By rising number. Over some no area lies any more: they are gone, and their entries go later.

@@ -1,12 +1,53 @@
 //! All tables below a table.
 
-ghost use Rattle.std.specs.Prelude.{◌≡◌, ◌≤◌, ◌<◌, ◌+◌, ◌-◌, ◌^◌, ◌++◌, length, vec_len, vec_capacity};
+ghost use Rattle.std.specs.Prelude.{ℕ, ◌≡◌, ◌≢◌, ◌≤◌, ◌<◌, ◌+◌, ◌-◌, ◌%◌, ◌^◌, ◌++◌, IsTrue, length, vec_len, vec_capacity};
+ghost use Rattle.table_words.specs.Entries.{entry_at};
 ghost use Rattle.table_words.specs.Under.{HoldsTable, frames_under};
 
 use crate::entry::Entry;
 use frame_memory::Pool;
 use iofd_words::FrameNo;
 use std::alloc::Allocator;
+
+// How many entries are tested together.
+const STRIDE: usize = 16;
+
+// Whether none of the entries from this one on is present, a stride of them. It goes on past one that is, so that the
+// compiler can test many at once.
+fn are_absent<A: Allocator>(pool: &Pool<A>, table: FrameNo, first: usize) -> bool
+    requires frame { table.0 < length pool.now.holds }
+    requires within { first + 16 ≤ 512 }
+    ensures { IsTrue result → (k : ℕ) → first ≤ k → k < first + 16 → entry_at pool.now table.0 k % 4 ≡ 0 }
+{
+    let mut absent = true;
+    for index in first..first + STRIDE {
+        absent &= !Entry::at(pool, table, index).is_present();
+    }
+    absent
+}
+
+// The first entry of the table, from this one on, that is present, or 512.
+fn next_present<A: Allocator>(pool: &Pool<A>, table: FrameNo, start: usize) -> usize
+    requires frame { table.0 < length pool.now.holds }
+    requires within { start ≤ 512 }
+    ensures from { start ≤ result }
+    ensures within { result ≤ 512 }
+    ensures absent { (k : ℕ) → start ≤ k → k < result → entry_at pool.now table.0 k % 4 ≡ 0 }
+    ensures present { result < 512 → entry_at pool.now table.0 result % 4 ≢ 0 }
+{
+    let mut index = start;
+    while index < Entry::COUNT {
+        if Entry::at(pool, table, index).is_present() {
+            return index;
+        }
+        index += if Entry::COUNT - index >= STRIDE && are_absent(pool, table, index) {
+            STRIDE
+        } else {
+            1
+        };
+    }
+    index
+}
 
 /// How many tables there are: this one, of this level, and all below it. It visits each of their entries.
 pub(crate) fn count<A: Allocator>(pool: &Pool<A>, level: u8, table: FrameNo) -> u64
@@ -18,11 +59,11 @@ pub(crate) fn count<A: Allocator>(pool: &Pool<A>, level: u8, table: FrameNo) -> 
 {
     let mut total = 1;
     if level > 1 {
-        for index in 0..Entry::COUNT {
+        let mut index = next_present(pool, table, 0);
+        while index < Entry::COUNT {
             let entry = Entry::at(pool, table, index);
-            if entry.is_present() {
-                total += count(pool, level - 1, entry.frame());
-            }
+            total += count(pool, level - 1, entry.frame());
+            index = next_present(pool, table, index + 1);
         }
     }
     total
@@ -46,11 +87,11 @@ pub(crate) fn collect<A: Allocator, B: Allocator>(
 {
     out.push_reserved(table);
     if level > 1 {
-        for index in 0..Entry::COUNT {
+        let mut index = next_present(pool, table, 0);
+        while index < Entry::COUNT {
             let entry = Entry::at(pool, table, index);
-            if entry.is_present() {
-                collect(pool, level - 1, entry.frame(), out);
-            }
+            collect(pool, level - 1, entry.frame(), out);
+            index = next_present(pool, table, index + 1);
         }
     }
 }
