@@ -1,4 +1,4 @@
-//! Tests of the core through public calls: events with their replies, chains of copies, and growths refused in turn. They stand
+//! Tests of the core through public calls: events with their replies, and growths refused in turn. They stand
 //! here, since the gate proves a crate that has tests once more for them.
 #![tactic(auto)]
 

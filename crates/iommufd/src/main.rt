@@ -7,6 +7,9 @@ use std::env;
 use std::io::{self, BufReader, BufWriter, Read, Write};
 use std::process::ExitCode;
 
+// How many bytes of output are handed on at once.
+const OUTPUT: usize = 0x1_0000;
+
 fn main(rt: HostRuntime) -> io::Result<ExitCode> {
     let alloc = rt.alloc();
     let words: Vec<String> = env::args(&rt)?.collect(alloc)?;
@@ -18,7 +21,7 @@ fn main(rt: HostRuntime) -> io::Result<ExitCode> {
         }
     }
     let mut reader = BufReader::new(alloc, rt.reader())?;
-    let mut writer = BufWriter::new(alloc, io::writer(&rt))?;
+    let mut writer = BufWriter::with_capacity(alloc, OUTPUT, io::writer(&rt))?;
     match flushed_session(alloc, &mut reader, &mut writer) {
         Ok(status) => Ok(ExitCode::from(status)),
         Err(fault) => {
