@@ -9,7 +9,7 @@ use denote.Ref.{Bor}
 use Rattle.iofd_words.specs.declared.rows.Area.{Area}
 use Rattle.iofd_words.specs.Bounds.{Bounds}
 use Rattle.iofd_words.specs.Span.{holds, meets, lies_in}
-use Rattle.area_map.specs.Areas.{AreApartFrom, AreApart, area_of, is_same, begins_before, ends_after}
+use Rattle.area_map.specs.Areas.{AreApartFrom, AreApart, area_of, is_same, ends_after}
 use Rattle.iofd_words.specs.Areas.{area_at, areas_meet, is_cut}
 
 -- the place that a binary search finds
@@ -127,30 +127,45 @@ meets_some span xs a apart found =
     let same : meets a.span span ≡ leb a.span.first span.last = grind (arith, nat_tests) in
     meets-first span xs apart ∙ ap (λ found. is_some (passing (λ area. meets area.span span) found)) found ∙ is_some-cond (meets a.span span) a ∙ same
 
--- a span is cut at its first or at its last address
+-- nothing behind a span cuts it
+none_cuts : (span : Bounds) (low : ℕ) (xs : List Area) → AreApartFrom low xs → span.last < low → is_cut span xs ≡ false
+none_cuts span low xs apart behind =
+    list_any-find (λ area. meets area.span span && not (lies_in area.span span)) xs
+    ∙ ap is_some (find_none (λ area. meets area.span span && not (lies_in area.span span)) low xs apart (λ b after. grind (arith, nat_tests)))
+
+-- what begins in a span or behind it is cut at the span's last address
+cut_last : (span : Bounds) (low : ℕ) (xs : List Area) → AreApartFrom low xs → span.first ≤ span.last → span.first ≤ low → is_cut span xs ≡ ends_after span.last (area_at span.last xs)
+cut_last span low [] apart ordered from = refl
+cut_last span low (x ∷ xs) apart ordered from =
+    let above = apart.0 in
+    let own = apart.1 in
+    ⊎_elim
+    (λ (ends : x.span.last < span.last). let rest = cut_last span (x.span.last + 1) xs apart.2 ordered (omega arith) in grind (arith, nat_tests))
+    (λ (reached : span.last ≤ x.span.last).
+    let none_last = find_none (λ area. holds area.span span.last) (x.span.last + 1) xs apart.2 (λ b after. grind (arith, nat_tests)) in
+    let none_cut = none_cuts span (x.span.last + 1) xs apart.2 (omega arith) in
+    grind (arith, nat_tests))
+    (cases_lt x.span.last span.last)
+
+-- whether a span is cut, by the first area that reaches it and the area at its last address
+abbrev pub cut_by : Bounds → Option Area → Option Area → Bool
+cut_by span None at_last = false
+cut_by span (Some a) at_last = cond (leb span.last a.span.last) (meets a.span span && not (lies_in a.span span)) (ltb a.span.first span.first || ends_after span.last at_last)
+
 cut_from : (span : Bounds) (low : ℕ) (xs : List Area) → AreApartFrom low xs → span.first ≤ span.last
-    → is_cut span xs ≡ (begins_before span.first (area_at span.first xs) || ends_after span.last (area_at span.last xs))
+    → is_cut span xs ≡ cut_by span (find (λ (a : Area). leb span.first a.span.last) xs) (area_at span.last xs)
 cut_from span low [] apart ordered = refl
 cut_from span low (x ∷ xs) apart ordered =
-    let rest = cut_from span (x.span.last + 1) xs apart.2 ordered in
-    let own : x.span.first ≤ x.span.last = apart.1 in
+    let own = apart.1 in
     ⊎_elim
-    (λ (ended : x.span.last < span.first). grind (arith, nat_tests))
+    (λ (ended : x.span.last < span.first). let rest = cut_from span (x.span.last + 1) xs apart.2 ordered in grind (arith, nat_tests))
     (λ (reached : span.first ≤ x.span.last).
-    let none_first = find_none (λ area. holds area.span span.first) (x.span.last + 1) xs apart.2 (λ b after. grind (arith, nat_tests)) in
     ⊎_elim
-    (λ (before : x.span.first < span.first). grind (arith, nat_tests))
-    (λ (inside : span.first ≤ x.span.first).
-    ⊎_elim
-    (λ (last_above : x.span.last < span.last). grind (arith, nat_tests))
-    (λ (last_below : span.last ≤ x.span.last).
-    let none_last = find_none (λ area. holds area.span span.last) (x.span.last + 1) xs apart.2 (λ b after. grind (arith, nat_tests)) in
-    let none_cut = list_any-find (λ area. meets area.span span && not (lies_in area.span span)) xs ∙ ap is_some (find_none (λ area. meets area.span span && not (lies_in area.span span)) (x.span.last + 1) xs apart.2 (λ b after. grind (arith, nat_tests))) in
-    grind (arith, nat_tests))
+    (λ (ends : x.span.last < span.last). let rest = cut_last span (x.span.last + 1) xs apart.2 ordered (omega arith) in grind (arith, nat_tests))
+    (λ (beyond : span.last ≤ x.span.last). let none = none_cuts span (x.span.last + 1) xs apart.2 (omega arith) in grind (arith, nat_tests))
     (cases_lt x.span.last span.last))
-    (cases_lt x.span.first span.first))
     (cases_lt x.span.last span.first)
 
-pub cut_first : (span : Bounds) (xs : List Area) → AreApart xs → span.first ≤ span.last
-    → is_cut span xs ≡ (begins_before span.first (area_at span.first xs) || ends_after span.last (area_at span.last xs))
-cut_first span xs apart ordered = cut_from span 0 xs apart ordered
+pub cut_first : (span : Bounds) (xs : List Area) (first : Option Area) → AreApart xs → span.first ≤ span.last → find (λ (a : Area). leb span.first a.span.last) xs ≡ first
+    → is_cut span xs ≡ cut_by span first (area_at span.last xs)
+cut_first span xs first apart ordered is = cut_from span 0 xs apart ordered ∙ ap (λ found. cut_by span found (area_at span.last xs)) is

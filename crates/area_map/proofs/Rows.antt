@@ -7,7 +7,7 @@ use Rattle.std.proofs.lemmas.Bool.Decides.{nat_tests}
 use Rattle.std.proofs.lemmas.List.{map-append, take_at, take_all, drop_all}
 use Rattle.iofd_words.specs.declared.rows.Area.{Area}
 use Rattle.area_map.specs.Areas.{AreApartFrom}
-use Rattle.area_map.specs.Rows.{in_rows, AreRows, start_of, end_of}
+use Rattle.area_map.specs.Rows.{in_rows, AreRows, end_of}
 use Rattle.area_map.proofs.Kept.{apart-lower}
 
 -- ---- lists of areas
@@ -28,17 +28,6 @@ end-above low (x ∷ []) some apart = omega (arith, apart.0, apart.1)
 end-above low (x ∷ y ∷ xs) some apart =
     let rest = end-above (x.span.last + 1) (y ∷ xs) (omega arith) apart.2 in
     omega (arith, apart.0, apart.1, rest)
-
-pub start-below_end : (low : ℕ) (xs : List Area) → 0 < length xs → AreApartFrom low xs → start_of xs ≤ end_of xs
-start-below_end low [] some apart = absurd (omega arith)
-start-below_end low (x ∷ []) some apart = apart.1
-start-below_end low (x ∷ y ∷ xs) some apart =
-    let rest = end-above (x.span.last + 1) (y ∷ xs) (omega arith) apart.2 in
-    omega (arith, apart.1, rest)
-
-pub start-above : (low : ℕ) (xs : List Area) → 0 < length xs → AreApartFrom low xs → low ≤ start_of xs
-start-above low [] some apart = absurd (omega arith)
-start-above low (x ∷ xs) some apart = apart.0
 
 -- ---- rows
 
@@ -82,16 +71,13 @@ apart-drop low (row ∷ rows) (suc k) each apart =
     let above = end-above low row each.0 (apart_left low row (in_rows rows) apart) in
     apart-lower (end_of row + 1) low (in_rows (drop k rows)) (omega (arith, above)) (apart-drop (end_of row + 1) rows k each.2 (apart_right low row (in_rows rows) each.0 apart))
 
-row_above : (low : ℕ) (rows : List (List Area)) → AreRows rows → AreApartFrom low (in_rows rows) → (j : ℕ) (d : List Area) → j < length rows
-    → (low ≤ start_of (get_or rows j d)) × (low ≤ end_of (get_or rows j d))
+row_above : (low : ℕ) (rows : List (List Area)) → AreRows rows → AreApartFrom low (in_rows rows) → (j : ℕ) (d : List Area) → j < length rows → low ≤ end_of (get_or rows j d)
 row_above low [] each apart j d within = absurd (omega arith)
-row_above low (row ∷ rows) each apart zero d within =
-    let own = apart_left low row (in_rows rows) apart in
-    (start-above low row each.0 own, end-above low row each.0 own)
+row_above low (row ∷ rows) each apart zero d within = end-above low row each.0 (apart_left low row (in_rows rows) apart)
 row_above low (row ∷ rows) each apart (suc j) d within =
     let above = end-above low row each.0 (apart_left low row (in_rows rows) apart) in
     let later = row_above (end_of row + 1) rows each.2 (apart_right low row (in_rows rows) each.0 apart) j d (omega arith) in
-    (omega (arith, above, later.0), omega (arith, above, later.1))
+    omega (arith, above, later)
 
 -- the rows' ends rise
 pub row_ends_rise : (low : ℕ) (rows : List (List Area)) → AreRows rows → AreApartFrom low (in_rows rows) → IsNonDecreasingBy end_of rows
@@ -99,22 +85,10 @@ row_ends_rise low [] each apart i j d up within = absurd (omega arith)
 row_ends_rise low (row ∷ rows) each apart zero zero d up within = omega arith
 row_ends_rise low (row ∷ rows) each apart zero (suc j) d up within =
     let later = row_above (end_of row + 1) rows each.2 (apart_right low row (in_rows rows) each.0 apart) j d (omega arith) in
-    omega (arith, later.1)
+    omega (arith, later)
 row_ends_rise low (row ∷ rows) each apart (suc i) zero d up within = absurd (omega arith)
 row_ends_rise low (row ∷ rows) each apart (suc i) (suc j) d up within =
     row_ends_rise (end_of row + 1) rows each.2 (apart_right low row (in_rows rows) each.0 apart) i j d (omega arith) (omega arith)
-
--- the rows' beginnings rise
-pub row_starts_rise : (low : ℕ) (rows : List (List Area)) → AreRows rows → AreApartFrom low (in_rows rows) → IsNonDecreasingBy start_of rows
-row_starts_rise low [] each apart i j d up within = absurd (omega arith)
-row_starts_rise low (row ∷ rows) each apart zero zero d up within = omega arith
-row_starts_rise low (row ∷ rows) each apart zero (suc j) d up within =
-    let own = start-below_end low row each.0 (apart_left low row (in_rows rows) apart) in
-    let later = row_above (end_of row + 1) rows each.2 (apart_right low row (in_rows rows) each.0 apart) j d (omega arith) in
-    omega (arith, own, later.0)
-row_starts_rise low (row ∷ rows) each apart (suc i) zero d up within = absurd (omega arith)
-row_starts_rise low (row ∷ rows) each apart (suc i) (suc j) d up within =
-    row_starts_rise (end_of row + 1) rows each.2 (apart_right low row (in_rows rows) each.0 apart) i j d (omega arith) (omega arith)
 
 -- behind those that pass, the first fails
 pub prefix_len_stops : {X : Type 0} (p : X → Bool) (xs others : List X) (x : X) → drop (prefix_len p xs) xs ≡ x ∷ others → p x ≡ false
@@ -129,6 +103,17 @@ prefix_len_stops p (y ∷ xs) others x is =
     let same : y ∷ xs ≡ x ∷ others = rw here at is in
     cc)
     (cases_Bool (p y))
+
+-- no more pass than stand before one that fails
+pub prefix_len-below : {X : Type 0} (p : X → Bool) (xs : List X) (i : ℕ) (d : X) → i < length xs → p (get_or xs i d) ≡ false → prefix_len p xs ≤ i
+prefix_len-below p [] i d within fails = omega arith
+prefix_len-below p (x ∷ xs) zero d within fails = let here : prefix_len p (x ∷ xs) ≡ 0 = grind (arith, nat_tests) in omega (arith, here)
+prefix_len-below p (x ∷ xs) (suc i) d within fails =
+    let rest = prefix_len-below p xs i d (omega arith) fails in
+    ⊎_elim
+    (λ (passes : p x ≡ true). let next : prefix_len p (x ∷ xs) ≡ suc (prefix_len p xs) = grind (arith, nat_tests) in omega (arith, rest, next))
+    (λ (stops : p x ≡ false). let here : prefix_len p (x ∷ xs) ≡ 0 = grind (arith, nat_tests) in omega (arith, here))
+    (cases_Bool (p x))
 
 -- what stands in a vector of rows after they were written as a slice
 pub written_back : (rows new is : List (List Area)) (n : ℕ) → new ≡ is → length is ≡ n → take n (new ++ drop (length new) rows) ≡ is

@@ -3,7 +3,7 @@ use Rattle.std.proofs.Common.{◌≡◌, ℕ, suc, zero, ◌+◌, ◌-◌, ◌<�
 use Rattle.std.specs.List.{prefix_len}
 use Rattle.std.proofs.lemmas.Bool.{cases_lt, cases_Bool}
 use Rattle.std.proofs.lemmas.Bool.Decides.{nat_tests}
-use Rattle.std.proofs.lemmas.List.{map-append, drop-drop}
+use Rattle.std.proofs.lemmas.List.{map-append, drop-drop, drop-map}
 use Rattle.std.proofs.lemmas.List.Edits.{split_between}
 use Rattle.std.specs.List.{between}
 use borrow.Rule.Slice.PartMut.{put_mid}
@@ -15,7 +15,7 @@ use Rattle.iofd_words.specs.declared.rows.Phase.{Phase}
 use Rattle.iofd_words.specs.declared.rows.Phase.TheVariants.{Live, Leaving}
 use Rattle.iofd_words.specs.Areas.{paid}
 use Rattle.area_map.specs.Areas.{AreApartFrom, areas_within, areas_outside, marked, without_debt, tried}
-use Rattle.area_map.specs.Rows.{in_rows, AreRows, start_of, end_of, is_leaving, LeaveIn}
+use Rattle.area_map.specs.Rows.{in_rows, AreRows, end_of, is_leaving, LeaveIn}
 use Rattle.area_map.proofs.Within.{filter_from}
 use Rattle.area_map.proofs.Rows.{apart_left, apart_right, end-above}
 use Rattle.area_map.proofs.RowsWithin.{filter_below}
@@ -58,34 +58,30 @@ stays_from span h Q stays low (row ∷ rows) each apart all behind =
     let rest = stays_from span h Q stays (end_of row + 1) rows each.2 (apart_right low row (in_rows rows) each.0 apart) all.1 (omega arith) in
     rw (here, rest) refl
 
-from_start : (low : ℕ) (row ys : List Area) → 0 < length row → AreApartFrom low (row ++ ys) → AreApartFrom (start_of row) (row ++ ys)
-from_start low [] ys some apart = absurd (omega arith)
-from_start low (x ∷ row) ys some apart = (omega arith, apart.1, apart.2)
-
-stays_behind : (span : Bounds) (h : List Area → List Area) (Q : List Area → Type 0) → Stays span h Q → (low : ℕ) (rows : List (List Area))
-    → AreRows rows → AreApartFrom low (in_rows rows) → EachRow Q rows
-    → map h (drop (prefix_len (λ (row : List Area). leb (start_of row) span.last) rows) rows) ≡ drop (prefix_len (λ (row : List Area). leb (start_of row) span.last) rows) rows
-stays_behind span h Q stays low [] each apart all = refl
-stays_behind span h Q stays low (row ∷ rows) each apart all =
+stays_behind : (span : Bounds) (h : List Area → List Area) (Q : List Area → Type 0) → Stays span h Q → (low : ℕ) (rows : List (List Area)) (t : ℕ)
+    → AreRows rows → AreApartFrom low (in_rows rows) → EachRow Q rows → min (prefix_len (λ (row : List Area). ltb (end_of row) span.last) rows + 1) (length rows) ≤ t → map h (drop t rows) ≡ drop t rows
+stays_behind span h Q stays low [] zero each apart all past = refl
+stays_behind span h Q stays low [] (suc t) each apart all past = refl
+stays_behind span h Q stays low (row ∷ rows) zero each apart all past = absurd (omega (arith, past))
+stays_behind span h Q stays low (row ∷ rows) (suc t) each apart all past =
+    let others = apart_right low row (in_rows rows) each.0 apart in
     ⊎_elim
-    (λ (behind : span.last < start_of row).
-    let here : prefix_len (λ (r : List Area). leb (start_of r) span.last) (row ∷ rows) ≡ 0 = grind (arith, nat_tests) in
-    rw here (stays_from span h Q stays (start_of row) (row ∷ rows) each (from_start low row (in_rows rows) each.0 apart) all behind))
-    (λ (until : start_of row ≤ span.last).
-    let next : prefix_len (λ (r : List Area). leb (start_of r) span.last) (row ∷ rows) ≡ suc (prefix_len (λ (r : List Area). leb (start_of r) span.last) rows) = grind (arith, nat_tests) in
-    rw next (stays_behind span h Q stays (end_of row + 1) rows each.2 (apart_right low row (in_rows rows) each.0 apart) all.1))
-    (cases_lt span.last (start_of row))
+    (λ (below : end_of row < span.last).
+    let next : prefix_len (λ (r : List Area). ltb (end_of r) span.last) (row ∷ rows) ≡ suc (prefix_len (λ (r : List Area). ltb (end_of r) span.last) rows) = grind (arith, nat_tests) in
+    stays_behind span h Q stays (end_of row + 1) rows t each.2 others all.1 (omega (arith, past, next)))
+    (λ (reached : span.last ≤ end_of row). sym (drop-map h t rows) ∙ ap (drop t) (stays_from span h Q stays (end_of row + 1) rows each.2 others all.1 (omega arith)))
+    (cases_lt (end_of row) span.last)
 
 -- what is done to the rows that the span may meet is done to all
 pub changed_between : (span : Bounds) (h : List Area → List Area) (Q : List Area → Type 0) → Stays span h Q → (rows : List (List Area)) (from to : ℕ)
     → AreRows rows → AreApartFrom 0 (in_rows rows) → EachRow Q rows
-    → to ≡ prefix_len (λ (row : List Area). leb (start_of row) span.last) rows
-    → from ≡ min (prefix_len (λ (row : List Area). ltb (end_of row) span.first) rows) to
+    → from ≤ prefix_len (λ (row : List Area). ltb (end_of row) span.first) rows
+    → min (prefix_len (λ (row : List Area). ltb (end_of row) span.last) rows + 1) (length rows) ≤ to → from ≤ to
     → take from rows ++ (map h (between from to rows) ++ drop to rows) ≡ map h rows
-changed_between span h Q stays rows from to each apart all to_is from_is =
-    let before = stays_before span h Q stays 0 rows from each apart all (omega (arith, from_is)) in
-    let behind = rw (← to_is) at (stays_behind span h Q stays 0 rows each apart all) in
-    let parts = split_between rows from to (omega (arith, from_is)) in
+changed_between span h Q stays rows from to each apart all low high order =
+    let before = stays_before span h Q stays 0 rows from each apart all low in
+    let behind = stays_behind span h Q stays 0 rows to each apart all high in
+    let parts = split_between rows from to order in
     let whole : map h rows ≡ map h (take from rows ++ (between from to rows ++ drop to rows)) = ap (map h) parts in
     let first = map-append h (take from rows) (between from to rows ++ drop to rows) in
     let second = map-append h (between from to rows) (drop to rows) in
@@ -93,14 +89,14 @@ changed_between span h Q stays rows from to each apart all to_is from_is =
 
 pub changed_mid : (span : Bounds) (h : List Area → List Area) (Q : List Area → Type 0) → Stays span h Q → (rows mid : List (List Area)) (from to : ℕ)
     → AreRows rows → AreApartFrom 0 (in_rows rows) → EachRow Q rows
-    → to ≡ prefix_len (λ (row : List Area). leb (start_of row) span.last) rows
-    → from ≡ min (prefix_len (λ (row : List Area). ltb (end_of row) span.first) rows) to
+    → from ≤ prefix_len (λ (row : List Area). ltb (end_of row) span.first) rows
+    → min (prefix_len (λ (row : List Area). ltb (end_of row) span.last) rows + 1) (length rows) ≤ to → from ≤ to
     → mid ≡ map h (between from to rows)
     → put_mid from (to - from) rows mid ≡ map h rows
-changed_mid span h Q stays rows mid from to each apart all to_is from_is mid_is =
+changed_mid span h Q stays rows mid from to each apart all low high order mid_is =
     let behind = drop-drop (to - from) from rows in
-    let same : from + (to - from) ≡ to = omega (arith, from_is) in
-    rw (mid_is, behind, same) (changed_between span h Q stays rows from to each apart all to_is from_is)
+    let same : from + (to - from) ≡ to = omega (arith, order) in
+    rw (mid_is, behind, same) (changed_between span h Q stays rows from to each apart all low high order)
 
 -- ---- what stays
 

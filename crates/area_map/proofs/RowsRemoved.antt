@@ -1,17 +1,20 @@
 -- Rows of which areas are taken away.
-use Rattle.std.proofs.Common.{◌≡◌, ℕ, suc, zero, ◌+◌, ◌-◌, ◌<◌, ◌≤◌, ◌==◌, false, not, List, [], ◌∷◌, ◌++◌, length, get_or, take, drop, set, map, refl, ap, ◌∙◌, arith}
-use Rattle.std.specs.List.{filter, list_any, between}
+use Rattle.std.proofs.Common.{◌≡◌, ℕ, suc, zero, ◌+◌, ◌-◌, ◌<◌, ◌≤◌, ◌==◌, max, true, false, not, leb, ltb, List, [], ◌∷◌, ◌++◌, length, get_or, take, drop, set, map, refl, sym, ap, ◌∙◌, arith, ⊎_elim}
+use Rattle.std.specs.List.{filter, list_any, between, prefix_len, remove}
+use Rattle.std.proofs.lemmas.Bool.{cases_lt}
 use Rattle.std.proofs.lemmas.Bool.Decides.{nat_tests}
-use Rattle.std.proofs.lemmas.List.{length-append, drop-drop}
+use Rattle.std.proofs.lemmas.List.{length-append, drop-drop, take-append-drop}
 use Rattle.std.proofs.lemmas.List.Edits.{split_between}
 use borrow.Rule.Slice.PartMut.{put_mid}
 use Rattle.iofd_words.specs.Bounds.{Bounds}
 use Rattle.iofd_words.specs.Span.{lies_in}
 use Rattle.iofd_words.specs.declared.rows.Area.{Area}
-use Rattle.area_map.specs.Areas.{areas_outside}
+use Rattle.area_map.specs.Areas.{AreApartFrom, AreKept, areas_outside}
 use Rattle.area_map.specs.Rows.{in_rows, AreRows}
 use Rattle.area_map.proofs.Kept.{length-filter-le}
-use Rattle.area_map.proofs.Rows.{filter-append, in_rows-append, in_rows-map, AreRows-take, AreRows-drop, AreRows-append}
+use Rattle.area_map.proofs.Rows.{filter-append, in_rows-append, in_rows-map, AreRows-take, AreRows-drop, AreRows-append, apart_left, apart-drop}
+use Rattle.area_map.proofs.RowsChanged.{outside_between}
+use Rattle.area_map.proofs.Within.{filter_from, prefix_len_first}
 
 pub outside_in_rows : (span : Bounds) (rows : List (List Area)) → in_rows (map (areas_outside span) rows) ≡ areas_outside span (in_rows rows)
 outside_in_rows span rows = in_rows-map (areas_outside span) refl (λ xs ys. filter-append (λ a. not (lies_in a.span span)) xs ys) rows
@@ -93,3 +96,65 @@ length-set_row (x ∷ rows) (suc i) row d within =
     let new = length-append x (in_rows (set rows i row)) in
     let old = length-append x (in_rows rows) in
     omega (arith, new, old, rest)
+
+-- ---- the areas of one row that lie in a span stand side by side
+
+pub outside_from : (span : Bounds) (low : ℕ) (xs : List Area) → AreApartFrom low xs → span.first ≤ span.last
+    → take (prefix_len (λ (a : Area). ltb a.span.first span.first) xs) xs ++ drop (max (prefix_len (λ (a : Area). leb a.span.last span.last) xs) (prefix_len (λ (a : Area). ltb a.span.first span.first) xs)) xs ≡ areas_outside span xs
+outside_from span low [] apart ordered = refl
+outside_from span low (x ∷ xs) apart ordered =
+    let own : x.span.first ≤ x.span.last = apart.1 in
+    let rest = outside_from span (x.span.last + 1) xs apart.2 ordered in
+    let f = prefix_len (λ (a : Area). ltb a.span.first span.first) xs in
+    let u = prefix_len (λ (a : Area). leb a.span.last span.last) xs in
+    ⊎_elim
+    (λ (beyond : span.last < x.span.last).
+    let none = filter_from (λ a. lies_in a.span span) (x.span.last + 1) xs apart.2 (λ b after ordered. grind (arith, nat_tests)) in
+    let outside : lies_in x.span span ≡ false = grind (arith, nat_tests) in
+    let stays = outside_between span (x ∷ xs) tt (rw outside none) in
+    let here : prefix_len (λ (a : Area). leb a.span.last span.last) (x ∷ xs) ≡ 0 = grind (arith, nat_tests) in
+    let k = prefix_len (λ (a : Area). ltb a.span.first span.first) (x ∷ xs) in
+    let least : max 0 k ≡ k = omega arith in
+    rw (here, least) (take-append-drop k (x ∷ xs) ∙ sym stays))
+    (λ (ends : x.span.last ≤ span.last).
+    let up : prefix_len (λ (a : Area). leb a.span.last span.last) (x ∷ xs) ≡ suc u = grind (arith, nat_tests) in
+    ⊎_elim
+    (λ (before : x.span.first < span.first).
+    let on : prefix_len (λ (a : Area). ltb a.span.first span.first) (x ∷ xs) ≡ suc f = grind (arith, nat_tests) in
+    let outside : lies_in x.span span ≡ false = grind (arith, nat_tests) in
+    let more : max (suc u) (suc f) ≡ suc (max u f) = omega arith in
+    rw (up, on, more, outside) (ap (λ zs. x ∷ zs) rest))
+    (λ (inside : span.first ≤ x.span.first).
+    let none : prefix_len (λ (a : Area). ltb a.span.first span.first) (x ∷ xs) ≡ 0 = grind (arith, nat_tests) in
+    let first : f ≡ 0 = prefix_len_first (λ a. ltb a.span.first span.first) (x.span.last + 1) xs apart.2 (λ b after. grind (arith, nat_tests)) in
+    let within : lies_in x.span span ≡ true = grind (arith, nat_tests) in
+    let more : max (suc u) 0 ≡ suc u = omega arith in
+    let same : max u 0 ≡ u = omega arith in
+    rw (up, none, more, within) (rw (first, same) at rest))
+    (cases_lt x.span.first span.first))
+    (cases_lt span.last x.span.last)
+
+-- one more goes before those that went
+pub one_more_gone : (xs ys : List Area) (k : ℕ) → k < length xs → remove (take (suc k) xs ++ ys) k ≡ take k xs ++ ys
+one_more_gone [] ys k within = absurd (omega arith)
+one_more_gone (x ∷ xs) ys zero within = refl
+one_more_gone (x ∷ xs) ys (suc k) within = ap (λ zs. x ∷ zs) (one_more_gone xs ys k (omega arith))
+
+-- the next row hasn't changed yet
+pub row_ahead : (f : List Area → List Area) (rows : List (List Area)) (i : ℕ) (d : List Area) → i < length rows → get_or (map f (take i rows) ++ drop i rows) i d ≡ get_or rows i d
+row_ahead f [] i d within = absurd (omega arith)
+row_ahead f (row ∷ rows) zero d within = refl
+row_ahead f (row ∷ rows) (suc i) d within = row_ahead f rows i d (omega arith)
+
+-- the areas of the rows between are kept as all are
+pub kept_between : (rows : List (List Area)) (from to : ℕ) → AreRows rows → AreKept (in_rows rows) → from ≤ to → AreKept (in_rows (between from to rows))
+kept_between rows from to each kept order =
+    let rest = apart-drop 0 rows from each kept.apart in
+    let fewer = length_between rows from to order in
+    let most = kept.few in
+    let parts : in_rows (drop from rows) ≡ in_rows (between from to rows) ++ in_rows (drop (to - from) (drop from rows))
+    = ap in_rows (sym (take-append-drop (to - from) (drop from rows))) ∙ in_rows-append (between from to rows) (drop (to - from) (drop from rows)) in
+    record {
+      apart = apart_left 0 (in_rows (between from to rows)) (in_rows (drop (to - from) (drop from rows))) (rw parts at rest);
+      few = omega (arith, fewer, most);
+    }

@@ -30,11 +30,6 @@ with_area area [] = area ∷ []
 with_area area (next ∷ others) =
     if nat_lt area.span.first next.span.first then area ∷ next ∷ others else next ∷ with_area area others
 
--- there is an area, and it begins before the address
-abbrev pub begins_before : ℕ → Option Area → Bool
-begins_before address None = false
-begins_before address (Some area) = nat_lt area.span.first address
-
 -- there is an area, and it ends after the address
 abbrev pub ends_after : ℕ → Option Area → Bool
 ends_after address None = false

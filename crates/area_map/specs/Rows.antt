@@ -17,11 +17,6 @@ abbrev pub AreRows : List (List Area) → Type 0
 AreRows [] = Unit {0}
 AreRows (row ∷ rows) = (0 < length row) × (length row < 32) × AreRows rows
 
--- where the first area begins
-abbrev pub start_of : List Area → ℕ
-start_of [] = 0
-start_of (area ∷ areas) = area.span.first
-
 -- where the last area ends
 abbrev pub end_of : List Area → ℕ
 end_of [] = 0

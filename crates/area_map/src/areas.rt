@@ -151,13 +151,14 @@ impl<A: Allocator> Areas<A> {
         ensures err_room { OnErr result (self.old.room ≤ self.new.room) }
     {
         let span = area.span;
-        if lookups::meets(&self.rows, span) {
+        let below = lookups::rows_below(&self.rows, span.first());
+        if lookups::meets_behind(&self.rows, below, span) {
             return Err(refused(Cause::Overlap));
         }
         if self.count >= MOST_AREAS {
             return Err(refused(Cause::Full));
         }
-        let index = insertion::row_for(&self.rows, span.first());
+        let index = insertion::row_for(&self.rows, below);
         if insertion::prepare(&mut self.rows, &mut self.spare, index).is_err() {
             return Err(InsertError::Memory(NoMemory));
         }

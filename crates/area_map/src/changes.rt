@@ -1,9 +1,9 @@
 //! What is done to the rows that a span meets. The others aren't looked at.
 
-ghost use Rattle.std.specs.Prelude.{◌≡◌, ◌==◌, ◌+◌, ◌≤◌, length, map, min, nat_le, nat_lt, vec_len, vec_capacity};
+ghost use Rattle.std.specs.Prelude.{◌≡◌, ◌==◌, ◌+◌, ◌≤◌, length, map, min, nat_lt, vec_len, vec_capacity};
 ghost use Rattle.std.specs.List.{list_any, prefix_len};
 ghost use Rattle.area_map.specs.Areas.{AreApart, marked, without_debt, tried, areas_outside};
-ghost use Rattle.area_map.specs.Rows.{in_rows, AreRows, LeaveIn, start_of, end_of};
+ghost use Rattle.area_map.specs.Rows.{in_rows, AreRows, LeaveIn, end_of};
 
 use crate::lookups;
 use crate::row::Row;
@@ -14,13 +14,13 @@ use std::alloc::Allocator;
 pub fn meeting<A: Allocator>(rows: &[Row<A>], span: Span) -> (usize, usize)
     requires apart { AreApart (in_rows rows.now) }
     requires rows { AreRows rows.now }
-    ensures to { result.1 ≡ prefix_len (λ row. nat_le (start_of row) span.last) rows.now }
-    ensures from { result.0 ≡ min (prefix_len (λ row. nat_lt (end_of row) span.first) rows.now) result.1 }
+    ensures from { result.0 ≤ prefix_len (λ row. nat_lt (end_of row) span.first) rows.now }
+    ensures to { min (prefix_len (λ row. nat_lt (end_of row) span.last) rows.now + 1) (length rows.now) ≤ result.1 }
     ensures order { result.0 ≤ result.1 }
     ensures bound { result.1 ≤ length rows.now }
 {
-    let to = lookups::rows_until(rows, span.last());
     let from = lookups::rows_below(rows, span.first());
+    let to = lookups::rows_reaching(rows, from, span.last());
     (from.min(to), to)
 }
 

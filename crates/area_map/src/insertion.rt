@@ -35,14 +35,12 @@ pub fn reserve<A: Allocator + Copy>(
     Ok(())
 }
 
-/// The row to which an area belongs that begins at this address and meets no other: the first that ends behind
-/// it, or else the last.
-pub fn row_for<A: Allocator>(rows: &[Row<A>], address: u64) -> usize
-    requires apart { AreApart (in_rows rows.now) }
-    requires rows { AreRows rows.now }
-    ensures { result ≡ min (prefix_len (λ row. nat_lt (end_of row) address) rows.now) (length rows.now - 1) }
+/// The row to which an area belongs that begins behind so many rows and meets no other area: the next row, or else the
+/// last.
+pub fn row_for<A: Allocator>(rows: &[Row<A>], below: usize) -> usize
+    ensures { result ≡ min below (length rows.now - 1) }
 {
-    lookups::rows_below(rows, address).min(rows.len().saturating_sub(1))
+    below.min(rows.len().saturating_sub(1))
 }
 
 /// Whether one more area in this row takes a row more.

@@ -1,11 +1,12 @@
 //! Look-ups in areas by rising start, by binary search for the row and then in it.
 
-ghost use Rattle.std.specs.Prelude.{◌≡◌, ◌≤◌, drop, filter, find, nat_lt, nat_le, length, MatchBool};
+ghost use Rattle.std.specs.Prelude.{◌≡◌, ◌+◌, ◌≤◌, ◌&&◌, drop, filter, find, min, nat_lt, nat_le, not, length, MatchBool};
 ghost use Rattle.std.specs.List.{prefix_len};
 ghost use Rattle.std.specs.Option.{option_copied};
-ghost use Rattle.area_map.specs.Areas.{AreApart, area_of, begins_before, ends_after, runs_on, areas_within, is_covered, IsCovered, HasGap};
-ghost use Rattle.area_map.specs.Rows.{in_rows, AreRows, start_of, end_of};
+ghost use Rattle.area_map.specs.Areas.{AreApart, area_of, ends_after, runs_on, areas_within, is_covered, IsCovered, HasGap};
+ghost use Rattle.area_map.specs.Rows.{in_rows, AreRows, end_of};
 ghost use Rattle.iofd_words.specs.Areas.{areas_meet, is_cut, area_at};
+ghost use Rattle.iofd_words.specs.Span.{meets, lies_in};
 
 use crate::iter::Iter;
 use crate::row::Row;
@@ -21,8 +22,17 @@ pub fn count_below(areas: &[Area], address: u64) -> usize
     areas.partition_point(|area| area.span.last() < address)
 }
 
-// How many areas begin below the address.
-fn count_before(areas: &[Area], address: u64) -> usize
+/// How many areas end at the address or below it.
+pub fn count_until(areas: &[Area], address: u64) -> usize
+    requires { AreApart areas.now }
+    ensures value { result ≡ prefix_len (λ area. nat_le area.span.last address) areas.now }
+    ensures bound { result ≤ length areas.now }
+{
+    areas.partition_point(|area| area.span.last() <= address)
+}
+
+/// How many areas begin below the address.
+pub fn count_before(areas: &[Area], address: u64) -> usize
     requires { AreApart areas.now }
     ensures value { result ≡ prefix_len (λ area. nat_lt area.span.first address) areas.now }
     ensures bound { result ≤ length areas.now }
@@ -40,14 +50,18 @@ pub fn rows_below<A: Allocator>(rows: &[Row<A>], address: u64) -> usize
     rows.partition_point(|row| row.end() < address)
 }
 
-/// How many rows begin at the address or below it.
-pub fn rows_until<A: Allocator>(rows: &[Row<A>], address: u64) -> usize
+/// How many rows there are up to the first that ends at the address or after it, or more: where that is the row at the
+/// place, no search is needed.
+pub fn rows_reaching<A: Allocator>(rows: &[Row<A>], place: usize, address: u64) -> usize
     requires apart { AreApart (in_rows rows.now) }
     requires rows { AreRows rows.now }
-    ensures value { result ≡ prefix_len (λ row. nat_le (start_of row) address) rows.now }
+    ensures reach { min (prefix_len (λ row. nat_lt (end_of row) address) rows.now + 1) (length rows.now) ≤ result }
     ensures bound { result ≤ length rows.now }
 {
-    rows.partition_point(|row| row.start() <= address)
+    match rows.get(place) {
+        Some(row) if address <= row.end() => place + 1,
+        _ => rows_below(rows, address).saturating_add(1).min(rows.len()),
+    }
 }
 
 /// The first area that ends at the address or after it.
@@ -56,7 +70,18 @@ pub fn first_reaching<A: Allocator>(rows: &[Row<A>], address: u64) -> Option<&Ar
     requires rows { AreRows rows.now }
     ensures { option_copied result ≡ find (λ area. nat_le address area.span.last) (in_rows rows.now) }
 {
-    let (row, _) = rows_from(rows, address).split_first()?;
+    first_behind(rows, rows_below(rows, address), address)
+}
+
+// The same, where so many rows end below the address.
+fn first_behind<A: Allocator>(rows: &[Row<A>], below: usize, address: u64) -> Option<&Area>
+    requires apart { AreApart (in_rows rows.now) }
+    requires rows { AreRows rows.now }
+    requires below { below ≡ prefix_len (λ row. nat_lt (end_of row) address) rows.now }
+    requires bound { below ≤ length rows.now }
+    ensures { option_copied result ≡ find (λ area. nat_le address area.span.last) (in_rows rows.now) }
+{
+    let (row, _) = rows_from(rows, below).split_first()?;
     reaching_in(row.areas(), address)
 }
 
@@ -98,20 +123,19 @@ pub fn meets<A: Allocator>(rows: &[Row<A>], span: Span) -> bool
     requires rows { AreRows rows.now }
     ensures { result ≡ areas_meet span (in_rows rows.now) }
 {
-    match first_reaching(rows, span.first()) {
-        Some(area) => area.span.first() <= span.last(),
-        None => false,
-    }
+    meets_behind(rows, rows_below(rows, span.first()), span)
 }
 
-// Whether the area that holds the address begins before it.
-fn is_cut_before<A: Allocator>(rows: &[Row<A>], address: u64) -> bool
+/// Whether some area meets the span, where so many rows end below it.
+pub fn meets_behind<A: Allocator>(rows: &[Row<A>], below: usize, span: Span) -> bool
     requires apart { AreApart (in_rows rows.now) }
     requires rows { AreRows rows.now }
-    ensures { result ≡ begins_before address (area_at address (in_rows rows.now)) }
+    requires below { below ≡ prefix_len (λ row. nat_lt (end_of row) span.first) rows.now }
+    requires bound { below ≤ length rows.now }
+    ensures { result ≡ areas_meet span (in_rows rows.now) }
 {
-    match at(rows, address) {
-        Some(area) => area.span.first() < address,
+    match first_behind(rows, below, span.first()) {
+        Some(area) => area.span.first() <= span.last(),
         None => false,
     }
 }
@@ -129,13 +153,26 @@ fn is_cut_after<A: Allocator>(rows: &[Row<A>], address: u64) -> bool
 }
 
 /// Whether some area meets the span and isn't wholly in it.
-#[tactic(auto, using(crate::proofs::Found::cut_first))]
 pub fn cuts<A: Allocator>(rows: &[Row<A>], span: Span) -> bool
     requires apart { AreApart (in_rows rows.now) }
     requires rows { AreRows rows.now }
     ensures { result ≡ is_cut span (in_rows rows.now) }
 {
-    is_cut_before(rows, span.first()) || is_cut_after(rows, span.last())
+    let Some(area) = first_reaching(rows, span.first()) else {
+        return false;
+    };
+    if span.last() <= area.span.last() {
+        // The areas behind it begin above the span.
+        return is_cut_by(span, area.span);
+    }
+    area.span.first() < span.first() || is_cut_after(rows, span.last())
+}
+
+// Whether the other span meets this one and isn't wholly in it.
+fn is_cut_by(span: Span, other: Span) -> bool
+    ensures { result ≡ (meets other span && not (lies_in other span)) }
+{
+    other.meets(span) && !other.lies_in(span)
 }
 
 /// Whether each address of the span lies in some area.
@@ -148,15 +185,16 @@ pub fn covers<A: Allocator>(rows: &[Row<A>], span: Span) -> bool
     runs_on(reaching(rows, span.first()), span.first(), span.last())
 }
 
-// The rows from the first on that ends at the address or after it.
-fn rows_from<A: Allocator>(rows: &[Row<A>], address: u64) -> &[Row<A>]
+// The rows from this place on.
+fn rows_from<A: Allocator>(rows: &[Row<A>], place: usize) -> &[Row<A>]
     requires apart { AreApart (in_rows rows.now) }
     requires rows { AreRows rows.now }
-    ensures value { result.now ≡ drop (prefix_len (λ row. nat_lt (end_of row) address) rows.now) rows.now }
+    requires bound { place ≤ length rows.now }
+    ensures value { result.now ≡ drop place rows.now }
     ensures apart { AreApart (in_rows result.now) }
     ensures rows { AreRows result.now }
 {
-    &rows[rows_below(rows, address)..]
+    &rows[place..]
 }
 
 // The areas that end at the address or after it.
@@ -165,7 +203,7 @@ fn reaching<A: Allocator>(rows: &[Row<A>], address: u64) -> Iter<'_, A>
     requires rows { AreRows rows.now }
     ensures { result ≡ filter (λ area. nat_le address area.span.last) (in_rows rows.now) }
 {
-    let rest = rows_from(rows, address);
+    let rest = rows_from(rows, rows_below(rows, address));
     let Some((row, others)) = rest.split_first() else {
         return Iter::new(&[], rest, None);
     };
@@ -196,7 +234,7 @@ pub fn within<A: Allocator>(rows: &[Row<A>], span: Span) -> Iter<'_, A>
     requires rows { AreRows rows.now }
     ensures { result ≡ areas_within span (in_rows rows.now) }
 {
-    let rest = rows_from(rows, span.first());
+    let rest = rows_from(rows, rows_below(rows, span.first()));
     let Some((row, others)) = rest.split_first() else {
         return Iter::new(&[], rest, None);
     };

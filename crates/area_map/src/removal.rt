@@ -59,7 +59,8 @@ fn remove_within<A: Allocator>(rows: &mut [Row<A>], span: Span) -> (usize, usize
 
 // Takes the areas that lie in the span out of each row. Says how many they were, and whether some row has none left.
 fn remove_part<A: Allocator>(rows: &mut [Row<A>], span: Span) -> (usize, bool)
-    requires { length (in_rows rows.old) ≤ 65535 }
+    requires kept { AreKept (in_rows rows.old) }
+    requires rows { AreRows rows.old }
     ensures rows { rows.new ≡ map (areas_outside span) rows.old }
     ensures count { result.0 + length (in_rows rows.new) ≡ length (in_rows rows.old) }
     ensures empty { result.1 ≡ list_any (λ row. length row == 0) rows.new }
@@ -70,7 +71,8 @@ fn remove_part<A: Allocator>(rows: &mut [Row<A>], span: Span) -> (usize, bool)
 
 // Takes the areas that lie in the span out of each row, and says how many they were.
 fn remove_each<A: Allocator>(rows: &mut [Row<A>], span: Span) -> usize
-    requires { length (in_rows rows.old) ≤ 65535 }
+    requires kept { AreKept (in_rows rows.old) }
+    requires rows { AreRows rows.old }
     ensures areas { rows.new ≡ map (areas_outside span) rows.old }
     ensures count { result + length (in_rows rows.new) ≡ length (in_rows rows.old) }
 {

@@ -2,7 +2,7 @@
 
 ghost use Rattle.std.specs.Prelude.{◌≡◌, ◌==◌, ◌+◌, ◌<◌, ◌≤◌, ◌++◌, false, [], IfOk, length, map, take, drop, vec_capacity};
 ghost use Rattle.area_map.specs.Areas.{AreApart, with_area, marked, without_debt, tried, areas_outside};
-ghost use Rattle.area_map.specs.Rows.{start_of, end_of};
+ghost use Rattle.area_map.specs.Rows.{end_of};
 ghost use Rattle.iofd_words.specs.Areas.{areas_meet};
 
 use crate::{lookups, marking};
@@ -17,18 +17,21 @@ pub(crate) const ROW: usize = 32;
 #[derive(Debug, Drop)]
 pub(crate) struct Row<A: Allocator = Global> {
     areas: Vec<Area, A>,
+    // Where the last area ends, and 0 where there is none: a search among rows looks at no area.
+    end: u64,
 }
 
 impl<A: Allocator> Model for Row<A> {
-    ghost use Rattle.std.specs.Prelude.{List, ◌≤◌};
+    ghost use Rattle.std.specs.Prelude.{List, ◌≡◌, ◌≤◌};
     ghost use Rattle.std.specs.Vec.{vec_capacity};
     ghost use Rattle.iofd_words.specs.declared.rows.Area.{Area};
+    ghost use Rattle.area_map.specs.Rows.{end_of};
 
     ghost Value = { List Area };
 
     ghost view = { λ row. row.areas.items };
 
-    ghost invariant = { λ row. 32 ≤ vec_capacity row.areas };
+    ghost invariant = { λ row. (32 ≤ vec_capacity row.areas) × (row.end ≡ end_of row.areas.items) };
 }
 
 impl<A: Allocator> Row<A> {
@@ -37,7 +40,7 @@ impl<A: Allocator> Row<A> {
         ensures { IfOk result (λ row. row ≡ []) }
     {
         let areas = Vec::with_capacity(alloc, ROW)?;
-        Ok(Row { areas })
+        Ok(Row { areas, end: 0 })
     }
 
     /// Its areas.
@@ -61,24 +64,11 @@ impl<A: Allocator> Row<A> {
         self.areas.is_empty()
     }
 
-    /// Where its first area begins.
-    pub(crate) fn start(&self) -> u64
-        ensures { result ≡ start_of self.now }
-    {
-        match self.areas.first() {
-            Some(area) => area.span.first(),
-            None => 0,
-        }
-    }
-
     /// Where its last area ends.
     pub(crate) fn end(&self) -> u64
         ensures { result ≡ end_of self.now }
     {
-        match self.areas.last() {
-            Some(area) => area.span.last(),
-            None => 0,
-        }
+        self.end
     }
 
     /// Adds an area that meets none of them, before the first that begins after it.
@@ -90,6 +80,7 @@ impl<A: Allocator> Row<A> {
     {
         let place = lookups::count_below(&self.areas, area.span.first());
         self.areas.insert(place, area).unwrap();
+        self.end = end_of(&self.areas);
     }
 
     /// The areas from this place on go to the other row.
@@ -101,6 +92,8 @@ impl<A: Allocator> Row<A> {
         ensures upper { upper.new ≡ drop at self.old }
     {
         move_rest(&mut self.areas, at, &mut upper.areas);
+        self.end = end_of(&self.areas);
+        upper.end = end_of(&upper.areas);
     }
 
     /// The areas of the next row come behind its own.
@@ -109,6 +102,7 @@ impl<A: Allocator> Row<A> {
         ensures { self.new ≡ self.old ++ next }
     {
         self.areas.append(&mut next.areas).unwrap();
+        self.end = end_of(&self.areas);
     }
 
     /// Makes each live area that lies in the span leaving, with this debt.
@@ -116,6 +110,7 @@ impl<A: Allocator> Row<A> {
         ensures { self.new ≡ map (marked span owed.now) self.old }
     {
         marking::mark_leaving(&mut self.areas, span, owed);
+        self.end = end_of(&self.areas);
     }
 
     /// Takes the device out of the debt of each leaving area.
@@ -123,6 +118,7 @@ impl<A: Allocator> Row<A> {
         ensures { self.new ≡ map (without_debt device) self.old }
     {
         marking::pay(&mut self.areas, device);
+        self.end = end_of(&self.areas);
     }
 
     /// Gives each leaving area that lies in the span this number of further calls.
@@ -130,16 +126,29 @@ impl<A: Allocator> Row<A> {
         ensures { self.new ≡ map (tried span tries) self.old }
     {
         marking::set_tries(&mut self.areas, span, tries);
+        self.end = end_of(&self.areas);
     }
 
     /// Takes away the areas that lie in the span, and says how many they were.
     pub(crate) fn remove(&mut self, span: Span) -> usize
+        requires { AreApart self.old }
         ensures areas { self.new ≡ areas_outside span self.old }
         ensures count { result + length self.new ≡ length self.old }
     {
         let before = self.areas.len();
-        self.areas.retain(|area| !area.span.lies_in(span));
+        remove_within(&mut self.areas, span);
+        self.end = end_of(&self.areas);
         before - self.areas.len()
+    }
+}
+
+// Where the last of the areas ends.
+fn end_of(areas: &[Area]) -> u64
+    ensures { result ≡ end_of areas.now }
+{
+    match areas.last() {
+        Some(area) => area.span.last(),
+        None => 0,
     }
 }
 
@@ -156,5 +165,32 @@ fn move_rest<A: Allocator>(areas: &mut Vec<Area, A>, at: usize, others: &mut Vec
     while at < areas.len() {
         let area = areas.remove(at);
         others.push(area).unwrap();
+    }
+}
+
+// The areas that lie in the span go. They stand side by side.
+fn remove_within<A: Allocator>(areas: &mut Vec<Area, A>, span: Span)
+    requires { AreApart areas.old.items }
+    ensures areas { areas.new.items ≡ areas_outside span areas.old.items }
+    ensures len { length areas.new.items ≤ length areas.old.items }
+    ensures capacity { vec_capacity areas.new ≡ vec_capacity areas.old }
+{
+    let from = lookups::count_before(areas, span.first());
+    let to = lookups::count_until(areas, span.last()).max(from);
+    remove_between(areas, from, to);
+}
+
+// The areas from the one place on and before the other go, from the last one on: where all behind go, none moves.
+fn remove_between<A: Allocator>(areas: &mut Vec<Area, A>, from: usize, to: usize)
+    requires order { from ≤ to }
+    requires bound { to ≤ length areas.old.items }
+    ensures rest { areas.new.items ≡ take from areas.old.items ++ drop to areas.old.items }
+    ensures len { length areas.new.items ≤ length areas.old.items }
+    ensures capacity { vec_capacity areas.new ≡ vec_capacity areas.old }
+{
+    let mut at = to;
+    while from < at {
+        at -= 1;
+        areas.remove(at);
     }
 }

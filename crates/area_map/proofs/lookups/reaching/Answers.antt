@@ -10,7 +10,7 @@ use Rattle.area_map.proofs.lookups.reaching.Goals as goal
 pub returns-in_default : goal.returns-in_default
 returns-in_default g c =
     let none = nil_from_length c.rows_from-rest.result.now c.in_default.ensures.cases in
-    c.new.ensures ∙ rw none (reaching_none (λ (a : Area). leb c.args.address a.span.last) c.args.address (λ a ordered below. grind (arith, nat_tests)) c.args.rows.now c.requires.rows c.requires.apart (sym c.rows_from-rest.ensures.value ∙ none))
+    c.new.ensures ∙ rw none (reaching_none (λ (a : Area). leb c.args.address a.span.last) c.args.address (λ a ordered below. grind (arith, nat_tests)) c.args.rows.now c.requires.rows c.requires.apart (sym (rw c.rows_below.ensures.value at c.rows_from-rest.ensures.value) ∙ none))
 
 pub count_below-requires : goal.count_below-requires
 count_below-requires g c =
@@ -22,4 +22,4 @@ returns g c =
     let others = c.in-Some.others.now in
     let is = c.in-Some.ensures.cases.0 in
     c.new-2.ensures ∙ rw (take_rest c.areas-areas.result.now c.count_below.result, c.count_below.ensures.value, c.areas-areas.ensures)
-    (reaching_rows c.args.address c.args.rows.now others row c.requires.rows c.requires.apart (sym c.rows_from-rest.ensures.value ∙ is))
+    (reaching_rows c.args.address c.args.rows.now others row c.requires.rows c.requires.apart (sym (rw c.rows_below.ensures.value at c.rows_from-rest.ensures.value) ∙ is))

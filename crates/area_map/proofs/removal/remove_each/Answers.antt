@@ -2,7 +2,9 @@ use Rattle.std.proofs.Common.{◌≡◌, ◌∙◌, ◌<◌, List, [], length, a
 use Rattle.std.proofs.lemmas.List.Edits.{map_over_more}
 use Rattle.iofd_words.specs.declared.rows.Area.{Area}
 use Rattle.area_map.specs.Areas.{areas_outside}
-use Rattle.area_map.proofs.RowsRemoved.{length-set_row}
+use Rattle.area_map.proofs.RowsRemoved.{length-set_row, row_ahead}
+use Rattle.area_map.proofs.RowsAdded.{row-apart}
+use Rattle.std.proofs.lemmas.List.{get_or_default}
 use Rattle.area_map.proofs.Rows.{map_over_all}
 use Rattle.area_map.proofs.removal.remove_each.Goals as goal
 
@@ -13,6 +15,15 @@ overflow_add-removed g c =
     let all = c.loop-row.invariant.count in
     let own = c.remove-removed.ensures.count in
     omega (arith, others, all, own)
+
+pub remove-removed-requires : goal.remove-removed-requires
+remove-removed-requires g c =
+    let f = areas_outside c.args.span in
+    let rows : List (List Area) = c.args.rows.now in
+    let i = c.loop-row.row-index in
+    let within : i < length rows = omega arith in
+    rw (c.loop-row.invariant.rows, row_ahead f rows i c.row-item.result within, get_or_default rows i c.row-item.result [] within)
+    (row-apart 0 rows i within c.requires.rows c.requires.kept.apart)
 
 pub loop-row-preserved : goal.loop-row-preserved
 loop-row-preserved g c =

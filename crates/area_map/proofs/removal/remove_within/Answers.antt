@@ -1,22 +1,26 @@
-use Rattle.std.proofs.Common.{arith}
+use Rattle.std.proofs.Common.{◌-◌, drop}
+use Rattle.area_map.proofs.Rows.{AreRows-take, AreRows-drop}
 use Rattle.area_map.specs.Areas.{areas_outside}
 use Rattle.area_map.proofs.RowsChanged.{changed_mid, outside_between, always}
-use Rattle.area_map.proofs.RowsRemoved.{length_between, count_around, rows_around}
+use Rattle.area_map.proofs.RowsRemoved.{kept_between, count_around, rows_around}
 use Rattle.area_map.proofs.removal.remove_within.Goals as goal
 
-pub remove_part-removed-requires : goal.remove_part-removed-requires
-remove_part-removed-requires g c =
+pub remove_part-removed-requires-clause-kept : goal.remove_part-removed-requires-clause-kept
+remove_part-removed-requires-clause-kept g c =
     let part = c.meeting-from in
-    let fewer = length_between c.args.rows.now part.result.0 part.result.1 part.ensures.order in
-    let few = c.requires.kept.few in
-    omega (arith, fewer, few)
+    kept_between c.args.rows.now part.result.0 part.result.1 c.requires.rows c.requires.kept part.ensures.order
+
+pub remove_part-removed-requires-clause-rows : goal.remove_part-removed-requires-clause-rows
+remove_part-removed-requires-clause-rows g c =
+    let part = c.meeting-from in
+    AreRows-take (drop part.result.0 c.args.rows.now) (part.result.1 - part.result.0) (AreRows-drop c.args.rows.now part.result.0 c.requires.rows)
 
 pub returns-clause-rows : goal.returns-clause-rows
 returns-clause-rows g c =
     let rows = c.args.rows.now in
     let part = c.meeting-from in
     changed_mid c.args.span (areas_outside c.args.span) (λ _. Unit {0}) (outside_between c.args.span) rows c.remove_part-removed.new.rows part.result.0 part.result.1
-    c.requires.rows c.requires.kept.apart (always rows) part.ensures.to part.ensures.from c.remove_part-removed.ensures.rows
+    c.requires.rows c.requires.kept.apart (always rows) part.ensures.from part.ensures.to part.ensures.order c.remove_part-removed.ensures.rows
 
 pub returns-clause-count : goal.returns-clause-count
 returns-clause-count g c =

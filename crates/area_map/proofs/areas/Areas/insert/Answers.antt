@@ -5,17 +5,11 @@ use Rattle.area_map.specs.Rows.{in_rows}
 use Rattle.area_map.proofs.RowsKept.{rows_with}
 use Rattle.area_map.proofs.areas.Areas.insert.Goals as goal
 
-pub meets-requires-clause-apart : goal.meets-requires-clause-apart
-meets-requires-clause-apart g c = rw c.deref.ensures.value c.self.invariant.0.kept.apart
+pub rows_below-below-requires-clause-apart : goal.rows_below-below-requires-clause-apart
+rows_below-below-requires-clause-apart g c = rw c.deref.ensures.value c.self.invariant.0.kept.apart
 
-pub meets-requires-clause-rows : goal.meets-requires-clause-rows
-meets-requires-clause-rows g c = rw c.deref.ensures.value c.self.invariant.0.each
-
-pub row_for-index-requires-clause-apart : goal.row_for-index-requires-clause-apart
-row_for-index-requires-clause-apart g c = rw c.deref-2.ensures.value c.self.invariant.0.kept.apart
-
-pub row_for-index-requires-clause-rows : goal.row_for-index-requires-clause-rows
-row_for-index-requires-clause-rows g c = rw c.deref-2.ensures.value c.self.invariant.0.each
+pub rows_below-below-requires-clause-rows : goal.rows_below-below-requires-clause-rows
+rows_below-below-requires-clause-rows g c = rw c.deref.ensures.value c.self.invariant.0.each
 
 pub prepare-requires : goal.prepare-requires
 prepare-requires g c = c.self.invariant.1
@@ -37,13 +31,13 @@ add-requires-clause-spare g c = c.prepare.ensures.spare
 
 pub add-requires-clause-alone : goal.add-requires-clause-alone
 add-requires-clause-alone g c =
-    rw (c.prepare.ensures.rows, ← c.deref.ensures.value) (sym c.if-meets.ensures)
+    rw (c.prepare.ensures.rows, ← c.deref-2.ensures.value) (sym c.if-meets_behind.ensures)
 
 pub invariant_of-self-2 : goal.invariant_of-self-2
 invariant_of-self-2 g c =
     let rows : List (List Area) = c.self.inside.rows.items in
     let a = c.args.area in
-    let alone : areas_meet a.span (in_rows rows) ≡ false = rw c.deref.ensures.value at (sym c.if-meets.ensures) in
+    let alone : areas_meet a.span (in_rows rows) ≡ false = rw c.deref-2.ensures.value at (sym c.if-meets_behind.ensures) in
     let added = rw c.prepare.ensures.rows at c.add.ensures.areas in
     let hull = c.with_area-self-inside in
     let leave = c.self.invariant.0.leave in (
@@ -54,12 +48,12 @@ invariant_of-self-2 g c =
 pub returns-clause-ok : goal.returns-clause-ok
 returns-clause-ok g c = rw (← c.self.view_is) (rw c.prepare.ensures.rows at c.add.ensures.areas)
 
-pub returns-then-meets-clause-room : goal.returns-then-meets-clause-room
-returns-then-meets-clause-room g c = omega arith
+pub returns-then-meets_behind-clause-room : goal.returns-then-meets_behind-clause-room
+returns-then-meets_behind-clause-room g c = omega arith
 
 pub returns-then-self-ge-MOST_AREAS-clause-room : goal.returns-then-self-ge-MOST_AREAS-clause-room
 returns-then-self-ge-MOST_AREAS-clause-room g c = omega arith
 
 pub add-requires-clause-place : goal.add-requires-clause-place
 add-requires-clause-place g c =
-    rw c.prepare.ensures.rows (rw (c.deref-2.ensures.value, c.first.ensures.value) at c.row_for-index.ensures)
+    rw c.prepare.ensures.rows (rw (c.deref-3.ensures.value, c.rows_below-below.ensures.value, c.deref.ensures.value, c.first.ensures.value) at c.row_for-index.ensures)

@@ -1,7 +1,7 @@
 use Rattle.std.proofs.Common.{sym}
 use Rattle.area_map.specs.Rows.{in_rows}
 use Rattle.area_map.proofs.Found.{meets_none, meets_some}
-use Rattle.area_map.proofs.lookups.meets.Goals as goal
+use Rattle.area_map.proofs.lookups.meets_behind.Goals as goal
 
 pub returns-in-Some : goal.returns-in-Some
 returns-in-Some g c =
