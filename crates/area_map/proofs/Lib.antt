@@ -1,4 +1,3 @@
-pub mod Apart
 pub mod Found
 pub mod Added
 pub mod Covers

@@ -2,8 +2,9 @@
 use Rattle.std.proofs.Common.{◌≡◌, ℕ, suc, zero, ◌+◌, ◌<◌, ◌≤◌, Bool, true, false, List, [], ◌∷◌, ◌++◌, length, get_or, take, drop, map, refl, sym, ap, ◌∙◌, append_assoc, append-nil, arith, ⊎_elim}
 use Rattle.std.specs.List.{filter, prefix_len}
 use Rattle.std.specs.List.Sorted.{IsNonDecreasingBy}
-use Rattle.std.proofs.lemmas.Bool.{cases_Bool}
+use Rattle.std.proofs.lemmas.Bool.{cases_Bool, cases_lt}
 use Rattle.std.proofs.lemmas.Bool.Decides.{nat_tests}
+use Rattle.std.proofs.lemmas.List.Sums.{prefix_len_passes}
 use Rattle.std.proofs.lemmas.List.{map-append, take_at, take_all, drop_all}
 use Rattle.iofd_words.specs.declared.rows.Area.{Area}
 use Rattle.area_map.specs.Areas.{AreApartFrom}
@@ -105,15 +106,9 @@ prefix_len_stops p (y ∷ xs) others x is =
     (cases_Bool (p y))
 
 -- no more pass than stand before one that fails
-pub prefix_len-below : {X : Type 0} (p : X → Bool) (xs : List X) (i : ℕ) (d : X) → i < length xs → p (get_or xs i d) ≡ false → prefix_len p xs ≤ i
-prefix_len-below p [] i d within fails = omega arith
-prefix_len-below p (x ∷ xs) zero d within fails = let here : prefix_len p (x ∷ xs) ≡ 0 = grind (arith, nat_tests) in omega (arith, here)
-prefix_len-below p (x ∷ xs) (suc i) d within fails =
-    let rest = prefix_len-below p xs i d (omega arith) fails in
-    ⊎_elim
-    (λ (passes : p x ≡ true). let next : prefix_len p (x ∷ xs) ≡ suc (prefix_len p xs) = grind (arith, nat_tests) in omega (arith, rest, next))
-    (λ (stops : p x ≡ false). let here : prefix_len p (x ∷ xs) ≡ 0 = grind (arith, nat_tests) in omega (arith, here))
-    (cases_Bool (p x))
+pub prefix_len-below : {X : Type 0} (p : X → Bool) (xs : List X) (i : ℕ) (d : X) → p (get_or xs i d) ≡ false → prefix_len p xs ≤ i
+prefix_len-below p xs i d fails =
+    ⊎_elim (λ (more : i < prefix_len p xs). let passes = prefix_len_passes p xs i d more in cc) (λ (fewer : prefix_len p xs ≤ i). fewer) (cases_lt i (prefix_len p xs))
 
 -- what stands in a vector of rows after they were written as a slice
 pub written_back : (rows new is : List (List Area)) (n : ℕ) → new ≡ is → length is ≡ n → take n (new ++ drop (length new) rows) ≡ is

@@ -1,5 +1,5 @@
 -- Rows of which areas are taken away.
-use Rattle.std.proofs.Common.{◌≡◌, ℕ, suc, zero, ◌+◌, ◌-◌, ◌<◌, ◌≤◌, ◌==◌, max, true, false, not, leb, ltb, List, [], ◌∷◌, ◌++◌, length, get_or, take, drop, set, map, refl, sym, ap, ◌∙◌, arith, ⊎_elim}
+use Rattle.std.proofs.Common.{◌≡◌, ℕ, suc, zero, ◌+◌, ◌-◌, ◌<◌, ◌≤◌, ◌==◌, true, false, not, leb, ltb, List, [], ◌∷◌, ◌++◌, length, get_or, take, drop, set, map, refl, sym, ap, ◌∙◌, arith, ⊎_elim}
 use Rattle.std.specs.List.{filter, list_any, between, prefix_len, remove}
 use Rattle.std.proofs.lemmas.Bool.{cases_lt}
 use Rattle.std.proofs.lemmas.Bool.Decides.{nat_tests}
@@ -14,7 +14,7 @@ use Rattle.area_map.specs.Rows.{in_rows, AreRows}
 use Rattle.area_map.proofs.Kept.{length-filter-le}
 use Rattle.area_map.proofs.Rows.{filter-append, in_rows-append, in_rows-map, AreRows-take, AreRows-drop, AreRows-append, apart_left, apart-drop}
 use Rattle.area_map.proofs.RowsChanged.{outside_between}
-use Rattle.area_map.proofs.Within.{filter_from, prefix_len_first}
+use Rattle.area_map.proofs.Within.{filter_from}
 
 pub outside_in_rows : (span : Bounds) (rows : List (List Area)) → in_rows (map (areas_outside span) rows) ≡ areas_outside span (in_rows rows)
 outside_in_rows span rows = in_rows-map (areas_outside span) refl (λ xs ys. filter-append (λ a. not (lies_in a.span span)) xs ys) rows
@@ -99,40 +99,37 @@ length-set_row (x ∷ rows) (suc i) row d within =
 
 -- ---- the areas of one row that lie in a span stand side by side
 
-pub outside_from : (span : Bounds) (low : ℕ) (xs : List Area) → AreApartFrom low xs → span.first ≤ span.last
-    → take (prefix_len (λ (a : Area). ltb a.span.first span.first) xs) xs ++ drop (max (prefix_len (λ (a : Area). leb a.span.last span.last) xs) (prefix_len (λ (a : Area). ltb a.span.first span.first) xs)) xs ≡ areas_outside span xs
-outside_from span low [] apart ordered = refl
-outside_from span low (x ∷ xs) apart ordered =
-    let own : x.span.first ≤ x.span.last = apart.1 in
-    let rest = outside_from span (x.span.last + 1) xs apart.2 ordered in
-    let f = prefix_len (λ (a : Area). ltb a.span.first span.first) xs in
-    let u = prefix_len (λ (a : Area). leb a.span.last span.last) xs in
+-- of those that begin in a span or behind it, the ones that end in it go
+outside_ends : (span : Bounds) (low : ℕ) (xs : List Area) → AreApartFrom low xs → span.first ≤ low → drop (prefix_len (λ (a : Area). leb a.span.last span.last) xs) xs ≡ areas_outside span xs
+outside_ends span low [] apart from = refl
+outside_ends span low (x ∷ xs) apart from =
+    let above = apart.0 in
+    let own = apart.1 in
     ⊎_elim
     (λ (beyond : span.last < x.span.last).
     let none = filter_from (λ a. lies_in a.span span) (x.span.last + 1) xs apart.2 (λ b after ordered. grind (arith, nat_tests)) in
     let outside : lies_in x.span span ≡ false = grind (arith, nat_tests) in
-    let stays = outside_between span (x ∷ xs) tt (rw outside none) in
     let here : prefix_len (λ (a : Area). leb a.span.last span.last) (x ∷ xs) ≡ 0 = grind (arith, nat_tests) in
-    let k = prefix_len (λ (a : Area). ltb a.span.first span.first) (x ∷ xs) in
-    let least : max 0 k ≡ k = omega arith in
-    rw (here, least) (take-append-drop k (x ∷ xs) ∙ sym stays))
+    rw here (sym (outside_between span (x ∷ xs) tt (rw outside none))))
     (λ (ends : x.span.last ≤ span.last).
-    let up : prefix_len (λ (a : Area). leb a.span.last span.last) (x ∷ xs) ≡ suc u = grind (arith, nat_tests) in
+    let next : prefix_len (λ (a : Area). leb a.span.last span.last) (x ∷ xs) ≡ suc (prefix_len (λ (a : Area). leb a.span.last span.last) xs) = grind (arith, nat_tests) in
+    let inside : lies_in x.span span ≡ true = grind (arith, nat_tests) in
+    rw (next, inside) (outside_ends span (x.span.last + 1) xs apart.2 (omega (arith, from, above, own))))
+    (cases_lt span.last x.span.last)
+
+pub outside_from : (span : Bounds) (low : ℕ) (xs : List Area) (f : ℕ) → AreApartFrom low xs → f ≡ prefix_len (λ (a : Area). ltb a.span.first span.first) xs
+    → take f xs ++ drop (prefix_len (λ (a : Area). leb a.span.last span.last) (drop f xs)) (drop f xs) ≡ areas_outside span xs
+outside_from span low [] f apart is = rw is refl
+outside_from span low (x ∷ xs) f apart is =
     ⊎_elim
     (λ (before : x.span.first < span.first).
-    let on : prefix_len (λ (a : Area). ltb a.span.first span.first) (x ∷ xs) ≡ suc f = grind (arith, nat_tests) in
+    let next : f ≡ suc (prefix_len (λ (a : Area). ltb a.span.first span.first) xs) = grind (arith, nat_tests) in
     let outside : lies_in x.span span ≡ false = grind (arith, nat_tests) in
-    let more : max (suc u) (suc f) ≡ suc (max u f) = omega arith in
-    rw (up, on, more, outside) (ap (λ zs. x ∷ zs) rest))
+    rw (next, outside) (ap (λ zs. x ∷ zs) (outside_from span (x.span.last + 1) xs (prefix_len (λ (a : Area). ltb a.span.first span.first) xs) apart.2 refl)))
     (λ (inside : span.first ≤ x.span.first).
-    let none : prefix_len (λ (a : Area). ltb a.span.first span.first) (x ∷ xs) ≡ 0 = grind (arith, nat_tests) in
-    let first : f ≡ 0 = prefix_len_first (λ a. ltb a.span.first span.first) (x.span.last + 1) xs apart.2 (λ b after. grind (arith, nat_tests)) in
-    let within : lies_in x.span span ≡ true = grind (arith, nat_tests) in
-    let more : max (suc u) 0 ≡ suc u = omega arith in
-    let same : max u 0 ≡ u = omega arith in
-    rw (up, none, more, within) (rw (first, same) at rest))
-    (cases_lt x.span.first span.first))
-    (cases_lt span.last x.span.last)
+    let none : f ≡ 0 = grind (arith, nat_tests) in
+    rw none (outside_ends span x.span.first (x ∷ xs) (omega arith, apart.1, apart.2) inside))
+    (cases_lt x.span.first span.first)
 
 -- one more goes before those that went
 pub one_more_gone : (xs ys : List Area) (k : ℕ) → k < length xs → remove (take (suc k) xs ++ ys) k ≡ take k xs ++ ys

@@ -16,8 +16,3 @@ filter_from p low (x ∷ xs) apart fails =
     let here = fails x apart.0 apart.1 in
     let rest = filter_from p (x.span.last + 1) xs apart.2 (λ b after ordered. fails b (omega (arith, apart.0, apart.1)) ordered) in
     grind (arith, nat_tests)
-
--- what fails from an address on passes for nothing that begins there
-pub prefix_len_first : (p : Area → Bool) (low : ℕ) (xs : List Area) → AreApartFrom low xs → ((b : Area) → low ≤ b.span.first → p b ≡ false) → prefix_len p xs ≡ 0
-prefix_len_first p low [] apart fails = refl
-prefix_len_first p low (x ∷ xs) apart fails = let here = fails x apart.0 in grind (arith, nat_tests)

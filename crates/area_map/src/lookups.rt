@@ -15,29 +15,35 @@ use std::alloc::Allocator;
 
 /// How many areas end below the address.
 pub fn count_below(areas: &[Area], address: u64) -> usize
-    requires { AreApart areas.now }
     ensures value { result ≡ prefix_len (λ area. nat_lt area.span.last address) areas.now }
     ensures bound { result ≤ length areas.now }
 {
-    areas.partition_point(|area| area.span.last() < address)
+    areas
+        .iter()
+        .take_while(|area| area.span.last() < address)
+        .count()
 }
 
 /// How many areas end at the address or below it.
 pub fn count_until(areas: &[Area], address: u64) -> usize
-    requires { AreApart areas.now }
     ensures value { result ≡ prefix_len (λ area. nat_le area.span.last address) areas.now }
     ensures bound { result ≤ length areas.now }
 {
-    areas.partition_point(|area| area.span.last() <= address)
+    areas
+        .iter()
+        .take_while(|area| area.span.last() <= address)
+        .count()
 }
 
 /// How many areas begin below the address.
 pub fn count_before(areas: &[Area], address: u64) -> usize
-    requires { AreApart areas.now }
     ensures value { result ≡ prefix_len (λ area. nat_lt area.span.first address) areas.now }
     ensures bound { result ≤ length areas.now }
 {
-    areas.partition_point(|area| area.span.first() < address)
+    areas
+        .iter()
+        .take_while(|area| area.span.first() < address)
+        .count()
 }
 
 /// How many rows end below the address.
@@ -87,7 +93,6 @@ fn first_behind<A: Allocator>(rows: &[Row<A>], below: usize, address: u64) -> Op
 
 // The first of a row's areas that ends at the address or after it.
 fn reaching_in(areas: &[Area], address: u64) -> Option<&Area>
-    requires { AreApart areas.now }
     ensures { option_copied result ≡ find (λ area. nat_le address area.span.last) areas.now }
 {
     areas.get(count_below(areas, address))

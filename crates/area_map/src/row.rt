@@ -176,8 +176,8 @@ fn remove_within<A: Allocator>(areas: &mut Vec<Area, A>, span: Span)
     ensures capacity { vec_capacity areas.new ≡ vec_capacity areas.old }
 {
     let from = lookups::count_before(areas, span.first());
-    let to = lookups::count_until(areas, span.last()).max(from);
-    remove_between(areas, from, to);
+    let count = lookups::count_until(&areas[from..], span.last());
+    remove_between(areas, from, from + count);
 }
 
 // The areas from the one place on and before the other go, from the last one on: where all behind go, none moves.

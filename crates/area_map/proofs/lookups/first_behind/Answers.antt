@@ -10,12 +10,6 @@ returns-in_err-row g c =
     let none = nil_from_length c.rows_from.result.now c.in_err-row.ensures.cases in
     rw c.from_residual.ensures (found_nowhere c.args.address c.args.rows.now c.requires.rows c.requires.apart (sym (rw c.requires.below at c.rows_from.ensures.value) ∙ none))
 
-pub reaching_in-requires : goal.reaching_in-requires
-reaching_in-requires g c =
-    let row = c.in_ok-row.row.now in
-    let others = c.in_ok-row.field-0-1.now in
-    rw c.areas.ensures (apart_left 0 row (in_rows others) (rw c.in_ok-row.ensures.cases.0 at c.rows_from.ensures.apart))
-
 pub returns : goal.returns
 returns g c =
     let row = c.in_ok-row.row.now in

@@ -12,10 +12,6 @@ returns-in_default g c =
     let none = nil_from_length c.rows_from-rest.result.now c.in_default.ensures.cases in
     c.new.ensures ∙ rw none (reaching_none (λ (a : Area). leb c.args.address a.span.last) c.args.address (λ a ordered below. grind (arith, nat_tests)) c.args.rows.now c.requires.rows c.requires.apart (sym (rw c.rows_below.ensures.value at c.rows_from-rest.ensures.value) ∙ none))
 
-pub count_below-requires : goal.count_below-requires
-count_below-requires g c =
-    rw c.areas-areas.ensures (apart_left 0 c.in-Some.row.now (in_rows c.in-Some.others.now) (rw c.in-Some.ensures.cases.0 at c.rows_from-rest.ensures.apart))
-
 pub returns : goal.returns
 returns g c =
     let row = c.in-Some.row.now in

@@ -13,5 +13,5 @@ returns-in-Some-clause-reach g c =
     let lookup = c.in-Some.ensures.lookup in
     let within : c.args.place < length rows = grind (arith, nat_tests) in
     let stops : fails row ≡ false = grind (arith, nat_tests) in
-    let below = prefix_len-below fails rows c.args.place row within (ap fails (sym lookup.1) ∙ stops) in
+    let below = prefix_len-below fails rows c.args.place row (ap fails (sym lookup.1) ∙ stops) in
     omega (arith, below)

@@ -14,10 +14,6 @@ returns-in_default g c =
     let value = rw (c.rows_below.ensures.value, c.first.ensures.value) at c.rows_from-rest.ensures.value in
     c.new.ensures ∙ rw none (reaching_none (λ (a : Area). lies_in a.span c.args.span) c.args.span.first (λ a ordered below. grind (arith, nat_tests)) c.args.rows.now c.requires.rows c.requires.apart (sym value ∙ none))
 
-pub count_before-requires : goal.count_before-requires
-count_before-requires g c =
-    rw c.areas-areas.ensures (apart_left 0 c.in-Some.row.now (in_rows c.in-Some.others.now) (rw c.in-Some.ensures.cases.0 at c.rows_from-rest.ensures.apart))
-
 pub returns : goal.returns
 returns g c =
     let row = c.in-Some.row.now in
