@@ -1,10 +1,10 @@
 -- Areas in rows: where a row begins and ends, and what stands before and behind it.
-use Rattle.std.proofs.Common.{◌≡◌, ℕ, suc, zero, ◌+◌, ◌<◌, ◌≤◌, Bool, true, false, List, [], ◌∷◌, ◌++◌, length, get_or, take, drop, map, refl, sym, ap, ◌∙◌, append_assoc, append-nil, arith, ⊎_elim}
+use Rattle.std.proofs.Common.{◌≡◌, ℕ, suc, zero, ◌+◌, ◌*◌, ◌<◌, ◌≤◌, Bool, true, false, ltb, leb, List, [], ◌∷◌, ◌++◌, length, get_or, take, drop, map, refl, sym, ap, ◌∙◌, append_assoc, append-nil, arith, ⊎_elim}
 use Rattle.std.specs.List.{filter, prefix_len}
 use Rattle.std.specs.List.Sorted.{IsNonDecreasingBy}
 use Rattle.std.proofs.lemmas.Bool.{cases_Bool, cases_lt}
 use Rattle.std.proofs.lemmas.Bool.Decides.{nat_tests}
-use Rattle.std.proofs.lemmas.List.Sums.{prefix_len_passes}
+use Rattle.std.proofs.lemmas.List.Sums.{prefix_len_passes, prefix_len_stops}
 use Rattle.std.proofs.lemmas.List.{map-append, take_at, take_all, drop_all}
 use Rattle.iofd_words.specs.declared.rows.Area.{Area}
 use Rattle.area_map.specs.Areas.{AreApartFrom}
@@ -92,13 +92,13 @@ row_ends_rise low (row ∷ rows) each apart (suc i) (suc j) d up within =
     row_ends_rise (end_of row + 1) rows each.2 (apart_right low row (in_rows rows) each.0 apart) i j d (omega arith) (omega arith)
 
 -- behind those that pass, the first fails
-pub prefix_len_stops : {X : Type 0} (p : X → Bool) (xs others : List X) (x : X) → drop (prefix_len p xs) xs ≡ x ∷ others → p x ≡ false
-prefix_len_stops p [] others x is = cc
-prefix_len_stops p (y ∷ xs) others x is =
+pub first_fails : {X : Type 0} (p : X → Bool) (xs others : List X) (x : X) → drop (prefix_len p xs) xs ≡ x ∷ others → p x ≡ false
+first_fails p [] others x is = cc
+first_fails p (y ∷ xs) others x is =
     ⊎_elim
     (λ (passes : p y ≡ true).
     let next : prefix_len p (y ∷ xs) ≡ suc (prefix_len p xs) = grind (arith, nat_tests) in
-    prefix_len_stops p xs others x (rw next at is))
+    first_fails p xs others x (rw next at is))
     (λ (fails : p y ≡ false).
     let here : prefix_len p (y ∷ xs) ≡ 0 = grind (arith, nat_tests) in
     let same : y ∷ xs ≡ x ∷ others = rw here at is in
@@ -109,6 +109,43 @@ prefix_len_stops p (y ∷ xs) others x is =
 pub prefix_len-below : {X : Type 0} (p : X → Bool) (xs : List X) (i : ℕ) (d : X) → p (get_or xs i d) ≡ false → prefix_len p xs ≤ i
 prefix_len-below p xs i d fails =
     ⊎_elim (λ (more : i < prefix_len p xs). let passes = prefix_len_passes p xs i d more in cc) (λ (fewer : prefix_len p xs ≤ i). fewer) (cases_lt i (prefix_len p xs))
+
+-- one that passes stands among those that pass, where what they are tested by rises
+pub prefix_len-above : (address : ℕ) (rows : List (List Area)) (i : ℕ) (d : List Area) → IsNonDecreasingBy end_of rows → i < length rows → end_of (get_or rows i d) < address
+    → i < prefix_len (λ (row : List Area). ltb (end_of row) address) rows
+prefix_len-above address rows i d rise within passes =
+    let n = prefix_len (λ (row : List Area). ltb (end_of row) address) rows in
+    ⊎_elim (λ (more : i < n). more)
+    (λ (fewer : n ≤ i).
+    let stops = prefix_len_stops (λ (row : List Area). ltb (end_of row) address) rows d (omega arith) in
+    let least : address ≤ end_of (get_or rows n d) = grind (arith, nat_tests) in
+    let up = rise n i d fewer within in
+    absurd (omega (arith, passes, least, up)))
+    (cases_lt i n)
+
+-- from a place up to which all pass
+pub prefix_len-behind : {X : Type 0} (p : X → Bool) (xs : List X) (n : ℕ) → n ≤ prefix_len p xs → n + prefix_len p (drop n xs) ≡ prefix_len p xs
+prefix_len-behind p xs zero passed = omega arith
+prefix_len-behind p [] (suc n) passed = absurd (omega arith)
+prefix_len-behind p (x ∷ xs) (suc n) passed =
+    ⊎_elim
+    (λ (passes : p x ≡ true). let next : prefix_len p (x ∷ xs) ≡ suc (prefix_len p xs) = grind (arith, nat_tests) in let rest = prefix_len-behind p xs n (omega (arith, passed, next)) in omega (arith, rest, next))
+    (λ (stops : p x ≡ false). let here : prefix_len p (x ∷ xs) ≡ 0 = grind (arith, nat_tests) in absurd (omega (arith, passed, here)))
+    (cases_Bool (p x))
+
+-- as many parts are passed as of their last rows pass, for a later one passes only where it and those before it are passed
+pub parts_passed : (place part n a b c : ℕ) → a ≤ 1 → b ≤ 1 → c ≤ 1 → place ≤ n → (0 < a → place + part ≤ n) → (0 < b → place + part * 2 ≤ n) → (0 < c → place + part * 3 ≤ n) → place + part * (a + b + c) ≤ n
+parts_passed place part n zero zero zero one two three passed first second third = omega (arith, passed)
+parts_passed place part n (suc zero) zero zero one two three passed first second third = let far = first (omega arith) in omega (arith, far)
+parts_passed place part n zero (suc zero) zero one two three passed first second third = let far = second (omega arith) in omega (arith, far)
+parts_passed place part n (suc zero) (suc zero) zero one two three passed first second third = let far = second (omega arith) in omega (arith, far)
+parts_passed place part n zero zero (suc zero) one two three passed first second third = let far = third (omega arith) in omega (arith, far)
+parts_passed place part n (suc zero) zero (suc zero) one two three passed first second third = let far = third (omega arith) in omega (arith, far)
+parts_passed place part n zero (suc zero) (suc zero) one two three passed first second third = let far = third (omega arith) in omega (arith, far)
+parts_passed place part n (suc zero) (suc zero) (suc zero) one two three passed first second third = let far = third (omega arith) in omega (arith, far)
+parts_passed place part n (suc (suc a)) b c one two three passed first second third = absurd (omega (arith, one))
+parts_passed place part n a (suc (suc b)) c one two three passed first second third = absurd (omega (arith, two))
+parts_passed place part n a b (suc (suc c)) one two three passed first second third = absurd (omega (arith, three))
 
 -- what stands in a vector of rows after they were written as a slice
 pub written_back : (rows new is : List (List Area)) (n : ℕ) → new ≡ is → length is ≡ n → take n (new ++ drop (length new) rows) ≡ is

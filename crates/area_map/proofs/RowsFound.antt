@@ -6,7 +6,7 @@ use Rattle.std.proofs.lemmas.Bool.Decides.{nat_tests}
 use Rattle.iofd_words.specs.declared.rows.Area.{Area}
 use Rattle.area_map.specs.Areas.{AreApartFrom}
 use Rattle.area_map.specs.Rows.{in_rows, AreRows, end_of}
-use Rattle.area_map.proofs.Rows.{apart_left, apart_right, end-above, prefix_len_stops}
+use Rattle.area_map.proofs.Rows.{apart_left, apart_right, end-above, first_fails}
 
 -- the end of the last area
 pub end_of-last : (xs : List Area) (a : Area) → slice_get xs (length xs - 1) ≡ Some a → end_of xs ≡ a.span.last
@@ -57,7 +57,7 @@ pub found_in_row : (address : ℕ) (rows others : List (List Area)) (row : List 
     → find (λ (a : Area). leb address a.span.last) row ≡ find (λ (a : Area). leb address a.span.last) (in_rows rows)
 found_in_row address rows others row each apart rest is =
     let same = rw is at (found_from address 0 rows each apart) in
-    let stops = prefix_len_stops (λ (r : List Area). ltb (end_of r) address) rows others row is in
+    let stops = first_fails (λ (r : List Area). ltb (end_of r) address) rows others row is in
     let reached : address ≤ end_of row = grind (arith, nat_tests) in
     sym (find_here address row (in_rows others) rest.0 reached) ∙ same
 

@@ -11,7 +11,7 @@ use Rattle.area_map.specs.Rows.{in_rows, AreRows, end_of, up_to}
 use Rattle.area_map.proofs.Kept.{apart-lower}
 use Rattle.area_map.proofs.Covers.{reaching_all, reaching_from, drop_behind}
 use Rattle.area_map.proofs.Within.{filter_from}
-use Rattle.area_map.proofs.Rows.{apart_left, apart_right, end-above, filter-append, AreRows-drop, apart-drop, prefix_len_stops}
+use Rattle.area_map.proofs.Rows.{apart_left, apart_right, end-above, filter-append, AreRows-drop, apart-drop, first_fails}
 
 -- a test that fails below an address keeps nothing of a row that ends below it
 pub filter_below : (p : Area → Bool) (address : ℕ) → ((a : Area) → a.span.first ≤ a.span.last → a.span.last < address → p a ≡ false)
@@ -49,7 +49,7 @@ pub reaching_rows : (address : ℕ) (rows others : List (List Area)) (row : List
 reaching_rows address rows others row each apart is =
     let rest : AreRows (row ∷ others) = rw is at (AreRows-drop rows (prefix_len (λ (r : List Area). ltb (end_of r) address) rows) each) in
     let rest_apart : AreApartFrom 0 (row ++ in_rows others) = rw is at (apart-drop 0 rows (prefix_len (λ (r : List Area). ltb (end_of r) address) rows) each apart) in
-    let stops = prefix_len_stops (λ (r : List Area). ltb (end_of r) address) rows others row is in
+    let stops = first_fails (λ (r : List Area). ltb (end_of r) address) rows others row is in
     let reached : address ≤ end_of row = grind (arith, nat_tests) in
     let all = reaching_all address (end_of row + 1) (in_rows others) (apart_right 0 row (in_rows others) rest.0 rest_apart) (omega (arith, reached)) in
     let own = reaching_from address 0 row (apart_left 0 row (in_rows others) rest_apart) in
@@ -119,7 +119,7 @@ pub within_rows : (span : Bounds) (rows others : List (List Area)) (row : List A
 within_rows span rows others row each apart is =
     let rest : AreRows (row ∷ others) = rw is at (AreRows-drop rows (prefix_len (λ (r : List Area). ltb (end_of r) span.first) rows) each) in
     let rest_apart : AreApartFrom 0 (row ++ in_rows others) = rw is at (apart-drop 0 rows (prefix_len (λ (r : List Area). ltb (end_of r) span.first) rows) each apart) in
-    let stops = prefix_len_stops (λ (r : List Area). ltb (end_of r) span.first) rows others row is in
+    let stops = first_fails (λ (r : List Area). ltb (end_of r) span.first) rows others row is in
     let reached : span.first ≤ end_of row = grind (arith, nat_tests) in
     let inside = inside_row span 0 row (in_rows others) rest.0 rest_apart reached in
     let same : areas_within span (row ++ in_rows others) ≡ areas_within span (in_rows rows)

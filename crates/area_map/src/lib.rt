@@ -13,6 +13,7 @@ mod lookups;
 mod marking;
 mod removal;
 mod row;
+mod search;
 mod totals;
 
 pub use areas::Areas;

@@ -10,6 +10,7 @@ ghost use Rattle.iofd_words.specs.Span.{meets, lies_in};
 
 use crate::iter::Iter;
 use crate::row::Row;
+use crate::search;
 use iofd_words::{Area, Span};
 use std::alloc::Allocator;
 
@@ -53,7 +54,16 @@ pub fn rows_below<A: Allocator>(rows: &[Row<A>], address: u64) -> usize
     ensures value { result ≡ prefix_len (λ row. nat_lt (end_of row) address) rows.now }
     ensures bound { result ≤ length rows.now }
 {
-    rows.partition_point(|row| row.end() < address)
+    let place = search::rows_passed(rows, address);
+    place + first_rows_below(&rows[place..], address)
+}
+
+// How many of the first rows end below the address.
+fn first_rows_below<A: Allocator>(rows: &[Row<A>], address: u64) -> usize
+    ensures value { result ≡ prefix_len (λ row. nat_lt (end_of row) address) rows.now }
+    ensures bound { result ≤ length rows.now }
+{
+    rows.iter().take_while(|row| row.end() < address).count()
 }
 
 /// How many rows there are up to the first that ends at the address or after it, or more: where that is the row at the
