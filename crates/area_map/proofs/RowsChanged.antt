@@ -14,8 +14,10 @@ use Rattle.iofd_words.specs.declared.rows.Area.{Area}
 use Rattle.iofd_words.specs.declared.rows.Phase.{Phase}
 use Rattle.iofd_words.specs.declared.rows.Phase.TheVariants.{Live, Leaving}
 use Rattle.iofd_words.specs.Areas.{paid}
-use Rattle.area_map.specs.Areas.{AreApartFrom, areas_within, areas_outside, marked, without_debt, tried}
-use Rattle.area_map.specs.Rows.{in_rows, AreRows, end_of, is_leaving, LeaveIn}
+use Rattle.area_map.specs.declared.marking.Change.{Change}
+use Rattle.area_map.specs.declared.marking.Change.TheVariants.{Leave, Pay, SetTries}
+use Rattle.area_map.specs.Areas.{AreApartFrom, areas_within, areas_outside, changed, marked, without_debt, tried}
+use Rattle.area_map.specs.Rows.{in_rows, AreRows, end_of, is_leaving, LeaveIn, ChangesIn}
 use Rattle.area_map.proofs.Within.{filter_from}
 use Rattle.area_map.proofs.Rows.{apart_left, apart_right, end-above}
 use Rattle.area_map.proofs.RowsWithin.{filter_below}
@@ -104,18 +106,12 @@ pub always : (rows : List (List Area)) → EachRow (λ _. Unit {0}) rows
 always [] = tt
 always (row ∷ rows) = (tt, always rows)
 
-marked_stays : (span : Bounds) (owed : List ℕ) (row : List Area) → areas_within span row ≡ [] → map (marked span owed) row ≡ row
-marked_stays span owed [] none = refl
-marked_stays span owed (x ∷ row) none =
+-- where none lies in the span, what changes none outside it changes nothing
+map_stays : (f : Area → Area) (span : Bounds) → ((a : Area) → lies_in a.span span ≡ false → f a ≡ a) → (row : List Area) → areas_within span row ≡ [] → map f row ≡ row
+map_stays f span same [] none = refl
+map_stays f span same (x ∷ row) none =
     ⊎_elim (λ (inside : lies_in x.span span ≡ true). let some = rw inside at none in cc)
-    (λ (outside : lies_in x.span span ≡ false). let rest = rw outside at none in rw outside (ap (λ zs. x ∷ zs) (marked_stays span owed row rest)))
-    (cases_Bool (lies_in x.span span))
-
-tried_stays : (span : Bounds) (tries : ℕ) (row : List Area) → areas_within span row ≡ [] → map (tried span tries) row ≡ row
-tried_stays span tries [] none = refl
-tried_stays span tries (x ∷ row) none =
-    ⊎_elim (λ (inside : lies_in x.span span ≡ true). let some = rw inside at none in cc)
-    (λ (outside : lies_in x.span span ≡ false). let rest = rw outside at none in rw outside (ap (λ zs. x ∷ zs) (tried_stays span tries row rest)))
+    (λ (outside : lies_in x.span span ≡ false). rw (same x outside, map_stays f span same row (rw outside at none)) refl)
     (cases_Bool (lies_in x.span span))
 
 outside_stays : (span : Bounds) (row : List Area) → areas_within span row ≡ [] → areas_outside span row ≡ row
@@ -140,17 +136,13 @@ paid_stays span device (x ∷ row) leave none =
     rw (same, rest) refl)
     (cases_Bool (lies_in x.span span))
 
-pub marked_between : (span : Bounds) (owed : List ℕ) → Stays span (map (marked span owed)) (λ _. Unit {0})
-marked_between span owed row all none = marked_stays span owed row none
-
-pub tried_between : (span : Bounds) (tries : ℕ) → Stays span (map (tried span tries)) (λ _. Unit {0})
-tried_between span tries row all none = tried_stays span tries row none
-
 pub outside_between : (span : Bounds) → Stays span (areas_outside span) (λ _. Unit {0})
 outside_between span row all none = outside_stays span row none
 
-pub paid_between : (span : Bounds) (device : DeviceNo) → Stays span (map (without_debt device)) (LeaveIn (Some span))
-paid_between span device row leave none = paid_stays span device row leave none
+pub changed_stays : (change : Change) (span : Bounds) → Stays span (map (changed change span)) (ChangesIn change span)
+changed_stays (Leave owed) span row all none = map_stays (marked span owed) span (λ a outside. rw outside refl) row none
+changed_stays (Pay device) span row leave none = paid_stays span device row leave none
+changed_stays (SetTries tries) span row all none = map_stays (tried span tries) span (λ a outside. rw outside refl) row none
 
 leave_left : (span : Option Bounds) (xs ys : List Area) → LeaveIn span (xs ++ ys) → LeaveIn span xs
 leave_left span [] ys leave = tt
@@ -160,6 +152,11 @@ leave_right : (span : Option Bounds) (xs ys : List Area) → LeaveIn span (xs ++
 leave_right span [] ys leave = leave
 leave_right span (x ∷ xs) ys leave = leave_right span xs ys leave.1
 
-pub leave_each : (span : Option Bounds) (rows : List (List Area)) → LeaveIn span (in_rows rows) → EachRow (LeaveIn span) rows
+leave_each : (span : Option Bounds) (rows : List (List Area)) → LeaveIn span (in_rows rows) → EachRow (LeaveIn span) rows
 leave_each span [] leave = tt
 leave_each span (row ∷ rows) leave = (leave_left span row (in_rows rows) leave, leave_each span rows (leave_right span row (in_rows rows) leave))
+
+pub changes_each : (change : Change) (span : Bounds) (rows : List (List Area)) → ChangesIn change span (in_rows rows) → EachRow (ChangesIn change span) rows
+changes_each (Leave owed) span rows all = always rows
+changes_each (Pay device) span rows leave = leave_each (Some span) rows leave
+changes_each (SetTries tries) span rows all = always rows

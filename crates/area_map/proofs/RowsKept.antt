@@ -1,5 +1,5 @@
 -- Rows as they are kept, after a change of their areas.
-use Rattle.std.proofs.Common.{◌≡◌, ℕ, ◌+◌, ◌<◌, ◌≤◌, false, not, Option, Some, None, List, [], ◌∷◌, length, map, refl, sym, ◌∙◌, arith}
+use Rattle.std.proofs.Common.{◌≡◌, ℕ, ◌+◌, ◌<◌, ◌≤◌, false, not, Option, Some, None, List, [], ◌∷◌, ◌++◌, length, take, drop, map, refl, sym, ◌∙◌, arith}
 use Rattle.std.proofs.lemmas.List.{length-map}
 use Rattle.iofd_words.specs.Bounds.{Bounds}
 use Rattle.iofd_words.specs.Span.{lies_in}
@@ -10,7 +10,7 @@ use Rattle.area_map.specs.Areas.{areas_outside, with_area, without_debt}
 use Rattle.area_map.specs.Rows.{in_rows, AreRows, LeavesIn, LeaveIn, AreInRows, IsSpare}
 use Rattle.area_map.proofs.Added.{with_area-apart, length-with_area}
 use Rattle.area_map.proofs.Kept.{kept-map, kept-filter}
-use Rattle.area_map.proofs.Rows.{in_rows-map_map}
+use Rattle.area_map.proofs.Rows.{in_rows-map_map, written_back}
 use Rattle.area_map.proofs.RowsChanged.{live_paid}
 use Rattle.area_map.proofs.Hull.{leave-with}
 
@@ -30,6 +30,10 @@ rows_mapped f same rows count old new kept leave =
       counted = rw mapped (kept.counted ∙ sym (length-map (in_rows rows) f));
       leave = rw mapped leave;
     }
+
+-- the vector of the rows after each was changed in its slice
+pub mapped_back : (f : Area → Area) (rows new : List (List Area)) (n : ℕ) → new ≡ map (map f) rows → length rows ≡ n → take n (new ++ drop (length new) rows) ≡ map (map f) rows
+mapped_back f rows new n same long = written_back rows new (map (map f) rows) n same (length-map rows (map f) ∙ long)
 
 -- with one more area
 pub rows_with : (a : Area) (rows new : List (List Area)) (count : ℕ) (old hull : Option Bounds) → AreInRows rows count old → AreRows new → in_rows new ≡ with_area a (in_rows rows)

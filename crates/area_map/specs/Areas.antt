@@ -8,6 +8,8 @@ use Rattle.iofd_words.specs.declared.numbers.DeviceNo.{DeviceNo}
 use Rattle.iofd_words.specs.declared.rows.Area.{Area}
 use Rattle.iofd_words.specs.declared.rows.Phase.{Phase}
 use Rattle.iofd_words.specs.declared.rows.Phase.TheVariants.{Live, Leaving}
+use Rattle.area_map.specs.declared.marking.Change.{Change}
+use Rattle.area_map.specs.declared.marking.Change.TheVariants.{Leave, Pay, SetTries}
 
 -- no area begins below this number, and each ends below the beginning of the next one
 abbrev pub AreApartFrom : ℕ → List Area → Type 0
@@ -110,3 +112,9 @@ tried_phase tries (Leaving owed old) = Leaving owed tries
 -- the area with this number of further calls, if it is leaving and lies in the span
 abbrev pub tried : Bounds → ℕ → Area → Area
 tried span tries area = record area { phase = if lies_in area.span span then tried_phase tries area.phase else area.phase }
+
+-- the area after a change of a span's areas
+abbrev pub changed : Change → Bounds → Area → Area
+changed (Leave owed) span area = marked span owed area
+changed (Pay device) span area = without_debt device area
+changed (SetTries tries) span area = tried span tries area

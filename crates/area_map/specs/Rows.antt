@@ -5,6 +5,8 @@ use Rattle.iofd_words.specs.Span.{lies_in}
 use Rattle.iofd_words.specs.declared.rows.Area.{Area}
 use Rattle.iofd_words.specs.declared.rows.Phase.{Phase}
 use Rattle.iofd_words.specs.declared.rows.Phase.TheVariants.{Live, Leaving}
+use Rattle.area_map.specs.declared.marking.Change.{Change}
+use Rattle.area_map.specs.declared.marking.Change.TheVariants.{Leave, Pay, SetTries}
 use Rattle.area_map.specs.Areas.{AreKept}
 
 -- the areas of all rows
@@ -43,6 +45,12 @@ LeavesIn (Some span) area = is_leaving area.phase ≡ true → lies_in area.span
 abbrev pub LeaveIn : Option Bounds → List Area → Type 0
 LeaveIn span [] = Unit {0}
 LeaveIn span (area ∷ areas) = LeavesIn span area × LeaveIn span areas
+
+-- the areas that are changed lie in the span
+abbrev pub ChangesIn : Change → Bounds → List Area → Type 0
+ChangesIn (Leave owed) span areas = Unit {0}
+ChangesIn (Pay device) span areas = LeaveIn (Some span) areas
+ChangesIn (SetTries tries) span areas = Unit {0}
 
 -- for how many more areas there is memory, whichever row they go to
 abbrev pub room_of : Option (List Area) → ℕ

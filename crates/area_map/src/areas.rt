@@ -10,6 +10,7 @@ ghost use Rattle.area_map.specs.Insertion.{insert_refusal};
 use crate::insert_error::InsertError;
 use crate::insertion::MOST_AREAS;
 use crate::iter::Iter;
+use crate::marking::Change;
 use crate::row::Row;
 use crate::{changes, insertion, leaving, lookups, removal, totals};
 use iofd_words::{Area, Cause, DeviceNo, DeviceSet, NoMemory, Refusal, Span};
@@ -212,7 +213,7 @@ impl<A: Allocator> Areas<A> {
         ensures areas { self.new.areas ≡ map (marked span owed.now) self.old.areas }
         ensures room { self.new.room ≡ self.old.room }
     {
-        changes::mark_leaving(&mut self.rows, span, owed);
+        changes::change(&mut self.rows, &Change::Leave(owed.copied()), span);
         self.leaving = leaving::joined(self.leaving, span);
     }
 
@@ -229,7 +230,7 @@ impl<A: Allocator> Areas<A> {
         ensures room { self.new.room ≡ self.old.room }
     {
         if let Some(hull) = self.leaving {
-            changes::pay(&mut self.rows, hull, device);
+            changes::change(&mut self.rows, &Change::Pay(device), hull);
         }
     }
 
@@ -247,7 +248,7 @@ impl<A: Allocator> Areas<A> {
         ensures areas { self.new.areas ≡ map (tried span tries) self.old.areas }
         ensures room { self.new.room ≡ self.old.room }
     {
-        changes::set_tries(&mut self.rows, span, tries);
+        changes::change(&mut self.rows, &Change::SetTries(tries), span);
     }
 
     /// How many areas lie in the span. It takes no memory.

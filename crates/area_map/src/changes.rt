@@ -2,12 +2,13 @@
 
 ghost use Rattle.std.specs.Prelude.{◌≡◌, ◌==◌, ◌+◌, ◌≤◌, length, map, min, nat_lt, vec_len, vec_capacity};
 ghost use Rattle.std.specs.List.{list_any, prefix_len};
-ghost use Rattle.area_map.specs.Areas.{AreApart, marked, without_debt, tried, areas_outside};
-ghost use Rattle.area_map.specs.Rows.{in_rows, AreRows, LeaveIn, end_of};
+ghost use Rattle.area_map.specs.Areas.{AreApart, changed};
+ghost use Rattle.area_map.specs.Rows.{in_rows, AreRows, ChangesIn, end_of};
 
 use crate::lookups;
+use crate::marking::Change;
 use crate::row::Row;
-use iofd_words::{DeviceNo, DeviceSet, Span};
+use iofd_words::Span;
 use std::alloc::Allocator;
 
 /// From which row on and up to which the rows may meet the span.
@@ -24,57 +25,21 @@ pub fn meeting<A: Allocator>(rows: &[Row<A>], span: Span) -> (usize, usize)
     (from.min(to), to)
 }
 
-/// Makes each live area that lies in the span leaving, with this debt.
-pub fn mark_leaving<A: Allocator>(rows: &mut [Row<A>], span: Span, owed: &DeviceSet)
+/// Makes the change of all areas, of which those in the span are changed alone.
+pub fn change<A: Allocator>(rows: &mut [Row<A>], change: &Change, span: Span)
     requires apart { AreApart (in_rows rows.old) }
     requires rows { AreRows rows.old }
-    ensures { rows.new ≡ map (map (marked span owed.now)) rows.old }
+    requires lie { ChangesIn change.now span (in_rows rows.old) }
+    ensures { rows.new ≡ map (map (changed change.now span)) rows.old }
 {
     let (from, to) = meeting(rows, span);
-    mark_each(&mut rows[from..to], span, owed);
+    change_each(&mut rows[from..to], change, span);
 }
 
-fn mark_each<A: Allocator>(rows: &mut [Row<A>], span: Span, owed: &DeviceSet)
-    ensures { rows.new ≡ map (map (marked span owed.now)) rows.old }
+fn change_each<A: Allocator>(rows: &mut [Row<A>], change: &Change, span: Span)
+    ensures { rows.new ≡ map (map (changed change.now span)) rows.old }
 {
     for row in rows.iter_mut() {
-        row.mark_leaving(span, owed);
-    }
-}
-
-/// Takes the device out of the debt of each leaving area. They all lie in the span.
-pub fn pay<A: Allocator>(rows: &mut [Row<A>], span: Span, device: DeviceNo)
-    requires apart { AreApart (in_rows rows.old) }
-    requires rows { AreRows rows.old }
-    requires leave { LeaveIn (Some span) (in_rows rows.old) }
-    ensures { rows.new ≡ map (map (without_debt device)) rows.old }
-{
-    let (from, to) = meeting(rows, span);
-    pay_each(&mut rows[from..to], device);
-}
-
-fn pay_each<A: Allocator>(rows: &mut [Row<A>], device: DeviceNo)
-    ensures { rows.new ≡ map (map (without_debt device)) rows.old }
-{
-    for row in rows.iter_mut() {
-        row.pay(device);
-    }
-}
-
-/// Gives each leaving area that lies in the span this number of further calls.
-pub fn set_tries<A: Allocator>(rows: &mut [Row<A>], span: Span, tries: u8)
-    requires apart { AreApart (in_rows rows.old) }
-    requires rows { AreRows rows.old }
-    ensures { rows.new ≡ map (map (tried span tries)) rows.old }
-{
-    let (from, to) = meeting(rows, span);
-    set_tries_each(&mut rows[from..to], span, tries);
-}
-
-fn set_tries_each<A: Allocator>(rows: &mut [Row<A>], span: Span, tries: u8)
-    ensures { rows.new ≡ map (map (tried span tries)) rows.old }
-{
-    for row in rows.iter_mut() {
-        row.set_tries(span, tries);
+        row.change(change, span);
     }
 }

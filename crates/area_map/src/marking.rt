@@ -2,18 +2,39 @@
 
 ghost use Rattle.std.specs.Prelude.{◌≡◌, map, vec_capacity};
 ghost use Rattle.iofd_words.specs.Areas.{leaving};
-ghost use Rattle.area_map.specs.Areas.{marked, without_debt, is_owing, tries_of, tried, tried_phase};
+ghost use Rattle.area_map.specs.Areas.{changed, marked, without_debt, is_owing, tries_of, tried, tried_phase};
 
 use iofd_words::{Area, DeviceNo, DeviceSet, Phase, Span};
 use std::alloc::Allocator;
 
-/// Makes each live area that lies in the span leaving, with this debt.
-pub fn mark_leaving<A: Allocator>(areas: &mut Vec<Area, A>, span: Span, owed: &DeviceSet)
-    ensures areas { areas.new.items ≡ map (marked span owed.now) areas.old.items }
+/// A change of areas' phases.
+#[derive(Debug, Drop)]
+pub enum Change {
+    /// Each live area that lies in the span is leaving, with this debt.
+    Leave(DeviceSet),
+    /// The device is out of the debt of each leaving area. They all lie in the span.
+    Pay(DeviceNo),
+    /// Each leaving area that lies in the span has this number of further calls.
+    SetTries(u8),
+}
+
+/// Changes each of the areas.
+pub fn change_all<A: Allocator>(areas: &mut Vec<Area, A>, change: &Change, span: Span)
+    ensures areas { areas.new.items ≡ map (changed change.now span) areas.old.items }
     ensures capacity { vec_capacity areas.new ≡ vec_capacity areas.old }
 {
     for area in areas.iter_mut() {
-        mark(area, span, owed);
+        change_one(area, change, span);
+    }
+}
+
+fn change_one(area: &mut Area, change: &Change, span: Span)
+    ensures { area.new ≡ changed change.now span area.old }
+{
+    match change {
+        Change::Leave(owed) => mark(area, span, owed),
+        Change::Pay(device) => pay_one(area, *device),
+        Change::SetTries(tries) => set_tries_of(area, span, *tries),
     }
 }
 
@@ -38,16 +59,6 @@ fn leave(phase: &mut Phase, owed: &DeviceSet)
     }
 }
 
-/// Takes the device out of the debt of each leaving area.
-pub fn pay<A: Allocator>(areas: &mut Vec<Area, A>, device: DeviceNo)
-    ensures areas { areas.new.items ≡ map (without_debt device) areas.old.items }
-    ensures capacity { vec_capacity areas.new ≡ vec_capacity areas.old }
-{
-    for area in areas.iter_mut() {
-        pay_one(area, device);
-    }
-}
-
 // Takes the device out of the area's debt.
 fn pay_one(area: &mut Area, device: DeviceNo)
     ensures { area.new ≡ without_debt device area.old }
@@ -64,16 +75,6 @@ pub fn is_owing(phase: &Phase) -> bool
     match phase {
         Phase::Live => false,
         Phase::Leaving { owed, .. } => !owed.is_empty(),
-    }
-}
-
-/// Gives each leaving area that lies in the span this number of further calls.
-pub fn set_tries<A: Allocator>(areas: &mut Vec<Area, A>, span: Span, tries: u8)
-    ensures areas { areas.new.items ≡ map (tried span tries) areas.old.items }
-    ensures capacity { vec_capacity areas.new ≡ vec_capacity areas.old }
-{
-    for area in areas.iter_mut() {
-        set_tries_of(area, span, tries);
     }
 }
 

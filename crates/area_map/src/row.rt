@@ -1,12 +1,13 @@
 //! A row of areas: so many as one insertion or removal moves at most.
 
 ghost use Rattle.std.specs.Prelude.{◌≡◌, ◌==◌, ◌+◌, ◌<◌, ◌≤◌, ◌++◌, false, [], IfOk, length, map, take, drop, vec_capacity};
-ghost use Rattle.area_map.specs.Areas.{AreApart, with_area, marked, without_debt, tried, areas_outside};
+ghost use Rattle.area_map.specs.Areas.{AreApart, with_area, changed, areas_outside};
 ghost use Rattle.area_map.specs.Rows.{end_of};
 ghost use Rattle.iofd_words.specs.Areas.{areas_meet};
 
+use crate::marking::Change;
 use crate::{lookups, marking};
-use iofd_words::{Area, DeviceNo, DeviceSet, NoMemory, Span};
+use iofd_words::{Area, NoMemory, Span};
 use std::alloc::{Allocator, Global};
 use std::marker::Model;
 
@@ -105,27 +106,11 @@ impl<A: Allocator> Row<A> {
         self.end = end_of(&self.areas);
     }
 
-    /// Makes each live area that lies in the span leaving, with this debt.
-    pub(crate) fn mark_leaving(&mut self, span: Span, owed: &DeviceSet)
-        ensures { self.new ≡ map (marked span owed.now) self.old }
+    /// Changes its areas.
+    pub(crate) fn change(&mut self, change: &Change, span: Span)
+        ensures { self.new ≡ map (changed change.now span) self.old }
     {
-        marking::mark_leaving(&mut self.areas, span, owed);
-        self.end = end_of(&self.areas);
-    }
-
-    /// Takes the device out of the debt of each leaving area.
-    pub(crate) fn pay(&mut self, device: DeviceNo)
-        ensures { self.new ≡ map (without_debt device) self.old }
-    {
-        marking::pay(&mut self.areas, device);
-        self.end = end_of(&self.areas);
-    }
-
-    /// Gives each leaving area that lies in the span this number of further calls.
-    pub(crate) fn set_tries(&mut self, span: Span, tries: u8)
-        ensures { self.new ≡ map (tried span tries) self.old }
-    {
-        marking::set_tries(&mut self.areas, span, tries);
+        marking::change_all(&mut self.areas, change, span);
         self.end = end_of(&self.areas);
     }
 
