@@ -59,25 +59,6 @@ covers_from low span (x ∷ xs) apart ordered from =
 pub drop_behind : (x : Area) (xs : List Area) (n : ℕ) → drop (1 + n) (x ∷ xs) ≡ drop n xs
 drop_behind x xs n = let next : 1 + n ≡ suc n = omega arith in rw next refl
 
--- the areas that end below the span are no part of it
-covers_after : (low : ℕ) (span : Bounds) (xs : List Area) → AreApartFrom low xs → span.first ≤ span.last
-    → Settled (runs_on span.first span.last (drop (prefix_len (λ (a : Area). ltb a.span.last span.first) xs) xs)) span xs
-covers_after low span [] apart ordered = record { number = span.first; from = omega arith; to = ordered; free = refl }
-covers_after low span (x ∷ xs) apart ordered =
-    ⊎_elim
-    (λ (ended : x.span.last < span.first).
-    let test : ltb x.span.last span.first ≡ true = grind (arith, nat_tests) in
-    let next = drop_behind x xs (prefix_len (λ (a : Area). ltb a.span.last span.first) xs) in
-    rw (test, next) (before span x xs ended (runs_on span.first span.last (drop (prefix_len (λ (a : Area). ltb a.span.last span.first) xs) xs)) (covers_after (x.span.last + 1) span xs apart.2 ordered)))
-    (λ (reached : span.first ≤ x.span.last).
-    let test : ltb x.span.last span.first ≡ false = grind (arith, nat_tests) in
-    rw test (reaching span x xs apart.2 ordered reached (λ short. covers_from (x.span.last + 1) (record { first = x.span.last + 1; last = span.last }) xs apart.2 (omega arith) (omega arith))))
-    (cases_lt x.span.last span.first)
-
-pub covers : (span : Bounds) (xs : List Area) → AreApart xs → span.first ≤ span.last
-    → Settled (runs_on span.first span.last (drop (prefix_len (λ (a : Area). ltb a.span.last span.first) xs) xs)) span xs
-covers span xs apart ordered = covers_after 0 span xs apart ordered
-
 -- all that begin from an address on reach it
 pub reaching_all : (address low : ℕ) (xs : List Area) → AreApartFrom low xs → address ≤ low → filter (λ (a : Area). leb address a.span.last) xs ≡ xs
 reaching_all address low [] apart from = refl
@@ -103,10 +84,20 @@ reaching_from address low (x ∷ xs) apart =
     rw (test, passes) (ap (λ ys. x ∷ ys) (sym (reaching_all address (x.span.last + 1) xs apart.2 (omega arith)))))
     (cases_lt x.span.last address)
 
--- the areas from the first that reaches an address on
-pub reaching_rest : (address : ℕ) (xs : List Area) → AreApart xs → drop (prefix_len (λ (a : Area). ltb a.span.last address) xs) xs ≡ filter (λ (a : Area). leb address a.span.last) xs
-reaching_rest address xs apart = reaching_from address 0 xs apart
+-- the areas that end below the span are no part of it
+covers_after : (low : ℕ) (span : Bounds) (xs : List Area) → AreApartFrom low xs → span.first ≤ span.last → Settled (is_covered span xs) span xs
+covers_after low span [] apart ordered = record { number = span.first; from = omega arith; to = ordered; free = refl }
+covers_after low span (x ∷ xs) apart ordered =
+    ⊎_elim
+    (λ (ended : x.span.last < span.first).
+    let test : leb span.first x.span.last ≡ false = grind (arith, nat_tests) in
+    rw test (before span x xs ended (is_covered span xs) (covers_after (x.span.last + 1) span xs apart.2 ordered)))
+    (λ (reached : span.first ≤ x.span.last).
+    let test : leb span.first x.span.last ≡ true = grind (arith, nat_tests) in
+    let all = reaching_all span.first (x.span.last + 1) xs apart.2 (omega arith) in
+    rw (test, all) (reaching span x xs apart.2 ordered reached (λ short. covers_from (x.span.last + 1) (record { first = x.span.last + 1; last = span.last }) xs apart.2 (omega arith) (omega arith))))
+    (cases_lt x.span.last span.first)
 
 -- the test is true just where each address is held
 pub is_covered-tells : (span : Bounds) (xs : List Area) → AreApart xs → span.first ≤ span.last → Settled (is_covered span xs) span xs
-is_covered-tells span xs apart ordered = rw (← reaching_rest span.first xs apart) (covers span xs apart ordered)
+is_covered-tells span xs apart ordered = covers_after 0 span xs apart ordered

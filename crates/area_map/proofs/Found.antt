@@ -12,31 +12,6 @@ use Rattle.iofd_words.specs.Span.{holds, meets, lies_in}
 use Rattle.area_map.specs.Areas.{AreApartFrom, AreApart, area_of, is_same, ends_after}
 use Rattle.iofd_words.specs.Areas.{area_at, areas_meet, is_cut}
 
--- the place that a binary search finds
-pub prefix_len-from_within : {X : Type 0} (p : X → Bool) (xs : List X) (i : ℕ) → i ≤ length xs → AllWithin (λ y. p y ≡ true) xs 0 i → AllWithin (λ y. p y ≡ false) xs i (length xs) → i ≡ prefix_len p xs
-prefix_len-from_within p [] i within passing failing = omega arith
-prefix_len-from_within p (x ∷ xs) zero within passing failing =
-    let here : p x ≡ false = failing 0 x (omega arith) (omega arith) in
-    grind (arith, nat_tests)
-prefix_len-from_within p (x ∷ xs) (suc i) within passing failing =
-    let here : p x ≡ true = passing 0 x (omega arith) (omega arith) in
-    let rest = prefix_len-from_within p xs i (omega arith) (λ k d low high. passing (suc k) d (omega arith) (omega arith)) (λ k d low high. failing (suc k) d (omega arith) (omega arith)) in
-    grind (arith, nat_tests)
-
--- what `get` answers, as a value
-pub copied-from_get : (xs : List Area) (i : ℕ) (r : Option (Bor Area)) → is_some r ≡ ltb i (length xs) → IfSome r (λ x. x.now ≡ get_or xs i x.now) → option_copied r ≡ slice_get xs i
-copied-from_get xs i None variant item = sym (slice_get_past xs i (grind (arith, nat_tests)))
-copied-from_get xs i (Some x) variant item =
-    let within : i < length xs = grind (arith, nat_tests) in
-    sym (slice_get_read xs (length xs) i x.now refl within item)
-
--- the first that isn't below the address
-pub find_reaching : (address : ℕ) (xs : List Area) → slice_get xs (prefix_len (λ (a : Area). ltb a.span.last address) xs) ≡ find (λ (a : Area). leb address a.span.last) xs
-find_reaching address [] = refl
-find_reaching address (x ∷ xs) =
-    let rest = find_reaching address xs in
-    ⊎_elim (λ (below : x.span.last < address). grind (arith, nat_tests)) (λ (above : address ≤ x.span.last). grind (arith, nat_tests)) (cases_lt x.span.last address)
-
 -- what is found passes
 pub find_passes : (p : Area → Bool) (xs : List Area) (a : Area) → find p xs ≡ Some a → p a ≡ true
 find_passes p [] a found = cc

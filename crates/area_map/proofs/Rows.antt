@@ -1,11 +1,10 @@
 -- Areas in rows: where a row begins and ends, and what stands before and behind it.
 use Rattle.std.proofs.Common.{◌≡◌, ℕ, suc, zero, ◌+◌, ◌*◌, ◌<◌, ◌≤◌, Bool, true, false, ltb, leb, List, [], ◌∷◌, ◌++◌, length, get_or, take, drop, map, refl, sym, ap, ◌∙◌, append_assoc, append-nil, arith, ⊎_elim}
 use Rattle.std.specs.List.{filter, prefix_len}
-use Rattle.std.specs.List.Sorted.{IsNonDecreasingBy}
 use Rattle.std.proofs.lemmas.Bool.{cases_Bool, cases_lt}
 use Rattle.std.proofs.lemmas.Bool.Decides.{nat_tests}
 use Rattle.std.proofs.lemmas.List.Sums.{prefix_len_passes, prefix_len_stops}
-use Rattle.std.proofs.lemmas.List.{map-append, take_at, take_all, drop_all}
+use Rattle.std.proofs.lemmas.List.{map-append, take_at, take_all, drop_all, get_or-drop, length-drop}
 use Rattle.iofd_words.specs.declared.rows.Area.{Area}
 use Rattle.area_map.specs.Areas.{AreApartFrom}
 use Rattle.area_map.specs.Rows.{in_rows, AreRows, end_of}
@@ -44,12 +43,6 @@ in_rows-map h none both (row ∷ rows) = ap (λ zs. h row ++ zs) (in_rows-map h 
 pub in_rows-map_map : (f : Area → Area) (rows : List (List Area)) → in_rows (map (map f) rows) ≡ map f (in_rows rows)
 in_rows-map_map f rows = in_rows-map (map f) refl (λ xs ys. map-append f xs ys) rows
 
-pub filter-append : (p : Area → Bool) (xs ys : List Area) → filter p (xs ++ ys) ≡ filter p xs ++ filter p ys
-filter-append p [] ys = refl
-filter-append p (x ∷ xs) ys =
-    let rest = filter-append p xs ys in
-    ⊎_elim (λ (passes : p x ≡ true). rw passes (ap (λ zs. x ∷ zs) rest)) (λ (fails : p x ≡ false). rw fails rest) (cases_Bool (p x))
-
 pub AreRows-drop : (rows : List (List Area)) (k : ℕ) → AreRows rows → AreRows (drop k rows)
 AreRows-drop rows zero each = each
 AreRows-drop [] (suc k) each = tt
@@ -80,48 +73,34 @@ row_above low (row ∷ rows) each apart (suc j) d within =
     let later = row_above (end_of row + 1) rows each.2 (apart_right low row (in_rows rows) each.0 apart) j d (omega arith) in
     omega (arith, above, later)
 
--- the rows' ends rise
-pub row_ends_rise : (low : ℕ) (rows : List (List Area)) → AreRows rows → AreApartFrom low (in_rows rows) → IsNonDecreasingBy end_of rows
-row_ends_rise low [] each apart i j d up within = absurd (omega arith)
-row_ends_rise low (row ∷ rows) each apart zero zero d up within = omega arith
-row_ends_rise low (row ∷ rows) each apart zero (suc j) d up within =
-    let later = row_above (end_of row + 1) rows each.2 (apart_right low row (in_rows rows) each.0 apart) j d (omega arith) in
-    omega (arith, later)
-row_ends_rise low (row ∷ rows) each apart (suc i) zero d up within = absurd (omega arith)
-row_ends_rise low (row ∷ rows) each apart (suc i) (suc j) d up within =
-    row_ends_rise (end_of row + 1) rows each.2 (apart_right low row (in_rows rows) each.0 apart) i j d (omega arith) (omega arith)
-
 -- behind those that pass, the first fails
 pub first_fails : {X : Type 0} (p : X → Bool) (xs others : List X) (x : X) → drop (prefix_len p xs) xs ≡ x ∷ others → p x ≡ false
-first_fails p [] others x is = cc
-first_fails p (y ∷ xs) others x is =
-    ⊎_elim
-    (λ (passes : p y ≡ true).
-    let next : prefix_len p (y ∷ xs) ≡ suc (prefix_len p xs) = grind (arith, nat_tests) in
-    first_fails p xs others x (rw next at is))
-    (λ (fails : p y ≡ false).
-    let here : prefix_len p (y ∷ xs) ≡ 0 = grind (arith, nat_tests) in
-    let same : y ∷ xs ≡ x ∷ others = rw here at is in
-    cc)
-    (cases_Bool (p y))
+first_fails p xs others x is =
+    let n = prefix_len p xs in
+    let at : get_or xs n x ≡ x = sym (ap (λ k. get_or xs k x) (omega arith)) ∙ sym (get_or-drop n xs 0 x) ∙ ap (λ ys. get_or ys 0 x) is in
+    let long = length-drop n xs in
+    let more = ap length is in
+    ap p (sym at) ∙ prefix_len_stops p xs x (omega (arith, long, more))
 
 -- no more pass than stand before one that fails
 pub prefix_len-below : {X : Type 0} (p : X → Bool) (xs : List X) (i : ℕ) (d : X) → p (get_or xs i d) ≡ false → prefix_len p xs ≤ i
 prefix_len-below p xs i d fails =
     ⊎_elim (λ (more : i < prefix_len p xs). let passes = prefix_len_passes p xs i d more in cc) (λ (fewer : prefix_len p xs ≤ i). fewer) (cases_lt i (prefix_len p xs))
 
--- one that passes stands among those that pass, where what they are tested by rises
-pub prefix_len-above : (address : ℕ) (rows : List (List Area)) (i : ℕ) (d : List Area) → IsNonDecreasingBy end_of rows → i < length rows → end_of (get_or rows i d) < address
-    → i < prefix_len (λ (row : List Area). ltb (end_of row) address) rows
-prefix_len-above address rows i d rise within passes =
-    let n = prefix_len (λ (row : List Area). ltb (end_of row) address) rows in
-    ⊎_elim (λ (more : i < n). more)
-    (λ (fewer : n ≤ i).
-    let stops = prefix_len_stops (λ (row : List Area). ltb (end_of row) address) rows d (omega arith) in
-    let least : address ≤ end_of (get_or rows n d) = grind (arith, nat_tests) in
-    let up = rise n i d fewer within in
-    absurd (omega (arith, passes, least, up)))
-    (cases_lt i n)
+-- a row that ends below the address is one of the first that do
+pub rows-below : (address low : ℕ) (rows : List (List Area)) → AreRows rows → AreApartFrom low (in_rows rows) → (j : ℕ) (d : List Area) → j < length rows → end_of (get_or rows j d) < address
+    → j < prefix_len (λ (row : List Area). ltb (end_of row) address) rows
+rows-below address low [] each apart j d within below = absurd (omega arith)
+rows-below address low (row ∷ rows) each apart zero d within below =
+    let here : prefix_len (λ (r : List Area). ltb (end_of r) address) (row ∷ rows) ≡ suc (prefix_len (λ (r : List Area). ltb (end_of r) address) rows) = grind (arith, nat_tests) in
+    omega (arith, here)
+rows-below address low (row ∷ rows) each apart (suc j) d within below =
+    let others = apart_right low row (in_rows rows) each.0 apart in
+    let above = row_above (end_of row + 1) rows each.2 others j d (omega arith) in
+    let first : end_of row < address = omega (arith, above, below) in
+    let here : prefix_len (λ (r : List Area). ltb (end_of r) address) (row ∷ rows) ≡ suc (prefix_len (λ (r : List Area). ltb (end_of r) address) rows) = grind (arith, nat_tests) in
+    let rest = rows-below address (end_of row + 1) rows each.2 others j d (omega arith) below in
+    omega (arith, here, rest)
 
 -- from a place up to which all pass
 pub prefix_len-behind : {X : Type 0} (p : X → Bool) (xs : List X) (n : ℕ) → n ≤ prefix_len p xs → n + prefix_len p (drop n xs) ≡ prefix_len p xs

@@ -3,7 +3,8 @@ use Rattle.std.proofs.Common.{◌≡◌, ℕ, suc, zero, ◌+◌, ◌-◌, ◌<�
 use Rattle.std.specs.List.{insert, remove, prefix_len}
 use Rattle.std.proofs.lemmas.Bool.{cases_lt, cases_Bool}
 use Rattle.std.proofs.lemmas.Bool.Decides.{nat_tests}
-use Rattle.std.proofs.lemmas.List.{append-nil, take-append-drop, get_or_default, get_or-set_same, take-set, drop-set-lt, length-take-le, length-drop, length-append}
+use Rattle.std.proofs.lemmas.List.Folds.{list_any-append}
+use Rattle.std.proofs.lemmas.List.{append-nil, take-append-drop, get_or_default, get_or-set_same, take-set, drop-set-lt, length-set, length-take-le, length-drop, length-append}
 use Rattle.iofd_words.specs.Bounds.{Bounds}
 use Rattle.iofd_words.specs.Span.{meets}
 use Rattle.iofd_words.specs.declared.rows.Area.{Area}
@@ -12,21 +13,13 @@ use Rattle.area_map.specs.Areas.{AreApartFrom, with_area}
 use Rattle.area_map.specs.Rows.{in_rows, AreRows, end_of}
 use Rattle.area_map.proofs.Kept.{apart-lower}
 use Rattle.area_map.proofs.Added.{length-with_area}
-use Rattle.area_map.proofs.Rows.{apart_left, apart_right, end-above, AreRows-take, AreRows-drop}
+use Rattle.area_map.proofs.Rows.{apart_left, apart_right, end-above, AreRows-take, AreRows-drop, written_back}
 
 pub meet_left : (span : Bounds) (xs ys : List Area) → areas_meet span (xs ++ ys) ≡ false → areas_meet span xs ≡ false
-meet_left span [] ys alone = refl
-meet_left span (x ∷ xs) ys alone =
-    ⊎_elim (λ (here : meets x.span span ≡ true). grind (arith, nat_tests))
-    (λ (not_here : meets x.span span ≡ false). let rest = meet_left span xs ys (rw not_here at alone) in rw not_here rest)
-    (cases_Bool (meets x.span span))
+meet_left span xs ys alone = let both = list_any-append (λ (a : Area). meets a.span span) xs ys in grind (arith, nat_tests)
 
 pub meet_right : (span : Bounds) (xs ys : List Area) → areas_meet span (xs ++ ys) ≡ false → areas_meet span ys ≡ false
-meet_right span [] ys alone = alone
-meet_right span (x ∷ xs) ys alone =
-    ⊎_elim (λ (here : meets x.span span ≡ true). grind (arith, nat_tests))
-    (λ (not_here : meets x.span span ≡ false). meet_right span xs ys (rw not_here at alone))
-    (cases_Bool (meets x.span span))
+meet_right span xs ys alone = let both = list_any-append (λ (a : Area). meets a.span span) xs ys in grind (arith, nat_tests)
 
 -- behind areas that end below it
 with_area-behind : (a : Area) (low : ℕ) (xs ys : List Area) → AreApartFrom low xs → end_of xs < a.span.first → with_area a (xs ++ ys) ≡ xs ++ with_area a ys
@@ -117,6 +110,11 @@ AreRows-split (row ∷ rows) (suc i) lower upper within before behind some few s
     (before.0, before.1, AreRows-split rows i lower upper (omega arith) before.2 behind some few some_too few_too)
 
 -- ---- what a row has after an area was added to it
+
+-- the vector of the rows after the area was added in their slice
+pub back_with : (a : Area) (rows new : List (List Area)) (i n : ℕ) → new ≡ set rows i (with_area a (get_or rows i [])) → length rows ≡ n
+    → take n (new ++ drop (length new) rows) ≡ set rows i (with_area a (get_or rows i []))
+back_with a rows new i n same long = written_back rows new (set rows i (with_area a (get_or rows i []))) n same (length-set rows i (with_area a (get_or rows i [])) ∙ long)
 
 pub length-added : (a : Area) (rows : List (List Area)) (i : ℕ) (row : List Area) → i < length rows → length (with_area a (get_or rows i row)) ≡ length (get_or rows i []) + 1
 length-added a rows i row within = length-with_area a (get_or rows i row) ∙ ap (λ (r : List Area). length r + 1) (get_or_default rows i row [] within)

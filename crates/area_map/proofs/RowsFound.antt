@@ -1,11 +1,12 @@
 -- The first area that reaches an address stands in the first row that reaches it.
-use Rattle.std.proofs.Common.{◌≡◌, ℕ, suc, ◌+◌, ◌-◌, ◌<◌, ◌≤◌, true, false, leb, ltb, Some, None, List, [], ◌∷◌, ◌++◌, length, drop, refl, sym, ◌∙◌, arith, ⊎_elim}
-use Rattle.std.specs.List.{find, prefix_len, slice_get}
-use Rattle.std.proofs.lemmas.Bool.{cases_lt}
+use Rattle.std.proofs.Common.{◌≡◌, ℕ, suc, ◌+◌, ◌-◌, ◌<◌, ◌≤◌, Bool, true, false, leb, ltb, Option, Some, None, List, [], ◌∷◌, ◌++◌, length, drop, refl, sym, ap, ◌∙◌, arith, ⊎_elim}
+use Rattle.std.specs.List.{filter, find, prefix_len, slice_get}
+use Rattle.std.proofs.lemmas.Bool.{cases_lt, cases_Bool}
 use Rattle.std.proofs.lemmas.Bool.Decides.{nat_tests}
 use Rattle.iofd_words.specs.declared.rows.Area.{Area}
 use Rattle.area_map.specs.Areas.{AreApartFrom}
 use Rattle.area_map.specs.Rows.{in_rows, AreRows, end_of}
+use Rattle.area_map.proofs.RowsWithin.{filter_rows}
 use Rattle.area_map.proofs.Rows.{apart_left, apart_right, end-above, first_fails}
 
 -- the end of the last area
@@ -15,16 +16,6 @@ end_of-last (x ∷ []) a is = let same : Some x ≡ Some a = is in cc
 end_of-last (x ∷ y ∷ xs) a is =
     let less : length (x ∷ y ∷ xs) - 1 ≡ suc (length (y ∷ xs) - 1) = omega arith in
     end_of-last (y ∷ xs) a (rw less at is)
-
-find_behind : (address low : ℕ) (xs ys : List Area) → AreApartFrom low xs → end_of xs < address
-    → find (λ (a : Area). leb address a.span.last) (xs ++ ys) ≡ find (λ (a : Area). leb address a.span.last) ys
-find_behind address low [] ys apart below = refl
-find_behind address low (x ∷ []) ys apart below = grind (arith, nat_tests)
-find_behind address low (x ∷ y ∷ xs) ys apart below =
-    let rest = find_behind address (x.span.last + 1) (y ∷ xs) ys apart.2 below in
-    let above = end-above (x.span.last + 1) (y ∷ xs) (omega arith) apart.2 in
-    let fails : leb address x.span.last ≡ false = grind (arith, nat_tests) in
-    rw fails rest
 
 find_here : (address : ℕ) (xs ys : List Area) → 0 < length xs → address ≤ end_of xs
     → find (λ (a : Area). leb address a.span.last) (xs ++ ys) ≡ find (λ (a : Area). leb address a.span.last) xs
@@ -36,21 +27,21 @@ find_here address (x ∷ y ∷ xs) ys some reached =
     (λ (here : address ≤ x.span.last). let passes : leb address x.span.last ≡ true = grind (arith, nat_tests) in rw passes refl)
     (cases_lt x.span.last address)
 
+-- the first one
+abbrev first : List Area → Option Area
+first [] = None
+first (x ∷ xs) = Some x
+
+find-filter : (p : Area → Bool) (xs : List Area) → find p xs ≡ first (filter p xs)
+find-filter p [] = refl
+find-filter p (x ∷ xs) = let rest = find-filter p xs in ⊎_elim (λ (yes : p x ≡ true). rw yes refl) (λ (fails : p x ≡ false). rw fails rest) (cases_Bool (p x))
+
 -- in all rows the same is found as in those from the first on that reaches it
 found_from : (address low : ℕ) (rows : List (List Area)) → AreRows rows → AreApartFrom low (in_rows rows)
     → find (λ (a : Area). leb address a.span.last) (in_rows (drop (prefix_len (λ (row : List Area). ltb (end_of row) address) rows) rows)) ≡ find (λ (a : Area). leb address a.span.last) (in_rows rows)
-found_from address low [] each apart = refl
-found_from address low (row ∷ rows) each apart =
-    let own = apart_left low row (in_rows rows) apart in
-    let others = apart_right low row (in_rows rows) each.0 apart in
-    ⊎_elim
-    (λ (below : end_of row < address).
-    let next : prefix_len (λ (r : List Area). ltb (end_of r) address) (row ∷ rows) ≡ suc (prefix_len (λ (r : List Area). ltb (end_of r) address) rows) = grind (arith, nat_tests) in
-    rw next (found_from address (end_of row + 1) rows each.2 others ∙ sym (find_behind address low row (in_rows rows) own below)))
-    (λ (reached : address ≤ end_of row).
-    let here : prefix_len (λ (r : List Area). ltb (end_of r) address) (row ∷ rows) ≡ 0 = grind (arith, nat_tests) in
-    rw here refl)
-    (cases_lt (end_of row) address)
+found_from address low rows each apart =
+    let p = λ (a : Area). leb address a.span.last in
+    find-filter p _ ∙ ap first (filter_rows p address (λ a ordered below. grind (arith, nat_tests)) low rows each apart) ∙ sym (find-filter p (in_rows rows))
 
 pub found_in_row : (address : ℕ) (rows others : List (List Area)) (row : List Area) → AreRows rows → AreApartFrom 0 (in_rows rows) → AreRows (row ∷ others)
     → drop (prefix_len (λ (r : List Area). ltb (end_of r) address) rows) rows ≡ row ∷ others

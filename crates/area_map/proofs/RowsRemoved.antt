@@ -12,7 +12,8 @@ use Rattle.iofd_words.specs.declared.rows.Area.{Area}
 use Rattle.area_map.specs.Areas.{AreApartFrom, AreKept, areas_outside}
 use Rattle.area_map.specs.Rows.{in_rows, AreRows}
 use Rattle.area_map.proofs.Kept.{length-filter-le}
-use Rattle.area_map.proofs.Rows.{filter-append, in_rows-append, in_rows-map, AreRows-take, AreRows-drop, AreRows-append, apart_left, apart-drop}
+use Rattle.std.proofs.lemmas.List.Elements.{filter-append}
+use Rattle.area_map.proofs.Rows.{in_rows-append, in_rows-map, AreRows-take, AreRows-drop, AreRows-append, apart_left, apart-drop}
 use Rattle.area_map.proofs.RowsChanged.{outside_between}
 use Rattle.area_map.proofs.Within.{filter_from}
 

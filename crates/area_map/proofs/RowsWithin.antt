@@ -11,7 +11,8 @@ use Rattle.area_map.specs.Rows.{in_rows, AreRows, end_of, up_to}
 use Rattle.area_map.proofs.Kept.{apart-lower}
 use Rattle.area_map.proofs.Covers.{reaching_all, reaching_from, drop_behind}
 use Rattle.area_map.proofs.Within.{filter_from}
-use Rattle.area_map.proofs.Rows.{apart_left, apart_right, end-above, filter-append, AreRows-drop, apart-drop, first_fails}
+use Rattle.std.proofs.lemmas.List.Elements.{filter-append}
+use Rattle.area_map.proofs.Rows.{apart_left, apart_right, end-above, AreRows-drop, apart-drop, first_fails}
 
 -- a test that fails below an address keeps nothing of a row that ends below it
 pub filter_below : (p : Area → Bool) (address : ℕ) → ((a : Area) → a.span.first ≤ a.span.last → a.span.last < address → p a ≡ false)

@@ -1,12 +1,11 @@
 //! Look-ups in areas by rising start, by binary search for the row and then in it.
 
-ghost use Rattle.std.specs.Prelude.{◌≡◌, ◌+◌, ◌≤◌, ◌&&◌, drop, filter, find, min, nat_lt, nat_le, not, length, MatchBool};
+ghost use Rattle.std.specs.Prelude.{◌≡◌, ◌+◌, ◌≤◌, drop, filter, find, min, nat_lt, nat_le, length, MatchBool};
 ghost use Rattle.std.specs.List.{prefix_len};
 ghost use Rattle.std.specs.Option.{option_copied};
 ghost use Rattle.area_map.specs.Areas.{AreApart, area_of, ends_after, runs_on, areas_within, is_covered, IsCovered, HasGap};
 ghost use Rattle.area_map.specs.Rows.{in_rows, AreRows, end_of};
 ghost use Rattle.iofd_words.specs.Areas.{areas_meet, is_cut, area_at};
-ghost use Rattle.iofd_words.specs.Span.{meets, lies_in};
 
 use crate::iter::Iter;
 use crate::row::Row;
@@ -105,7 +104,7 @@ fn first_behind<A: Allocator>(rows: &[Row<A>], below: usize, address: u64) -> Op
 fn reaching_in(areas: &[Area], address: u64) -> Option<&Area>
     ensures { option_copied result ≡ find (λ area. nat_le address area.span.last) areas.now }
 {
-    areas.get(count_below(areas, address))
+    areas.iter().find(|area| address <= area.span.last())
 }
 
 /// The area that holds the address.
@@ -178,16 +177,9 @@ pub fn cuts<A: Allocator>(rows: &[Row<A>], span: Span) -> bool
     };
     if span.last() <= area.span.last() {
         // The areas behind it begin above the span.
-        return is_cut_by(span, area.span);
+        return area.span.meets(span) && !area.span.lies_in(span);
     }
     area.span.first() < span.first() || is_cut_after(rows, span.last())
-}
-
-// Whether the other span meets this one and isn't wholly in it.
-fn is_cut_by(span: Span, other: Span) -> bool
-    ensures { result ≡ (meets other span && not (lies_in other span)) }
-{
-    other.meets(span) && !other.lies_in(span)
 }
 
 /// Whether each address of the span lies in some area.

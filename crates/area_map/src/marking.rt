@@ -1,8 +1,7 @@
 //! Areas on their way out: what they owe to devices.
 
 ghost use Rattle.std.specs.Prelude.{◌≡◌, map, vec_capacity};
-ghost use Rattle.iofd_words.specs.Areas.{leaving};
-ghost use Rattle.area_map.specs.Areas.{changed, marked, without_debt, is_owing, tries_of, tried, tried_phase};
+ghost use Rattle.area_map.specs.Areas.{changed, marked, without_debt, is_owing, tries_of, tried};
 
 use iofd_words::{Area, DeviceNo, DeviceSet, Phase, Span};
 use std::alloc::Allocator;
@@ -42,17 +41,10 @@ fn change_one(area: &mut Area, change: &Change, span: Span)
 fn mark(area: &mut Area, span: Span, owed: &DeviceSet)
     ensures { area.new ≡ marked span owed.now area.old }
 {
-    if area.span.lies_in(span) {
-        leave(&mut area.phase, owed);
-    }
-}
-
-// A live phase becomes leaving.
-fn leave(phase: &mut Phase, owed: &DeviceSet)
-    ensures { phase.new ≡ leaving owed.now phase.old }
-{
-    if let Phase::Live = phase {
-        *phase = Phase::Leaving {
+    if area.span.lies_in(span)
+        && let Phase::Live = area.phase
+    {
+        area.phase = Phase::Leaving {
             owed: owed.copied(),
             tries: 0,
         };
@@ -79,19 +71,12 @@ pub fn is_owing(phase: &Phase) -> bool
 }
 
 // Gives the area this number of further calls, if it is leaving and lies in the span.
-fn set_tries_of(area: &mut Area, span: Span, tries: u8)
-    ensures { area.new ≡ tried span tries area.old }
+fn set_tries_of(area: &mut Area, span: Span, calls: u8)
+    ensures { area.new ≡ tried span calls area.old }
 {
-    if area.span.lies_in(span) {
-        set_tries_in(&mut area.phase, tries);
-    }
-}
-
-// Gives a leaving phase this number of further calls.
-fn set_tries_in(phase: &mut Phase, calls: u8)
-    ensures { phase.new ≡ tried_phase calls phase.old }
-{
-    if let Phase::Leaving { tries, .. } = phase {
+    if area.span.lies_in(span)
+        && let Phase::Leaving { tries, .. } = &mut area.phase
+    {
         *tries = calls;
     }
 }

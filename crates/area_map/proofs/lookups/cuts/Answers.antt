@@ -5,8 +5,14 @@ use Rattle.area_map.specs.Rows.{in_rows}
 use Rattle.area_map.proofs.Found.{cut_first}
 use Rattle.area_map.proofs.lookups.cuts.Goals as goal
 
-pub returns-then-last : goal.returns-then-last
-returns-then-last g c =
+pub returns-then-meets : goal.returns-then-meets
+returns-then-meets g c =
+    let found = rw c.first.ensures.value at (sym c.in-Some.ensures) in
+    let is = cut_first c.args.span (in_rows c.args.rows.now) (Some c.in-Some.area.now) c.requires.apart (omega arith) found in
+    grind (arith, nat_tests)
+
+pub returns-else-meets : goal.returns-else-meets
+returns-else-meets g c =
     let found = rw c.first.ensures.value at (sym c.in-Some.ensures) in
     let is = cut_first c.args.span (in_rows c.args.rows.now) (Some c.in-Some.area.now) c.requires.apart (omega arith) found in
     grind (arith, nat_tests)

@@ -2,7 +2,7 @@ use Rattle.std.proofs.Common.{◌<◌, List, ap, arith}
 use Rattle.std.proofs.lemmas.Bool.Decides.{nat_tests}
 use Rattle.iofd_words.specs.declared.rows.Area.{Area}
 use Rattle.area_map.specs.Rows.{end_of}
-use Rattle.area_map.proofs.Rows.{prefix_len-above, row_ends_rise}
+use Rattle.area_map.proofs.Rows.{rows-below}
 use Rattle.area_map.proofs.search.ends_below.Goals as goal
 
 pub returns-clause-below : goal.returns-clause-below
@@ -11,4 +11,4 @@ returns-clause-below g c = λ some.
     let row : List Area = c.index-rows-place.result in
     let ends : end_of row < c.args.address = grind (arith, nat_tests) in
     let at = ap end_of c.index-rows-place.is in
-    prefix_len-above c.args.address rows c.args.place row (row_ends_rise 0 rows c.requires.rows c.requires.apart) c.requires.bound (omega (arith, at, ends))
+    rows-below c.args.address 0 rows c.requires.rows c.requires.apart c.args.place row c.requires.bound (omega (arith, at, ends))
