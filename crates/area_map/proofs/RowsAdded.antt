@@ -1,7 +1,7 @@
 -- An area added in the row where it belongs, and a row that is made two.
 use Rattle.std.proofs.Common.{◌≡◌, ℕ, suc, zero, ◌+◌, ◌-◌, ◌<◌, ◌≤◌, min, true, false, leb, ltb, List, [], ◌∷◌, ◌++◌, length, get_or, take, drop, set, refl, sym, ap, ◌∙◌, append_assoc, arith, ⊎_elim}
 use Rattle.std.specs.List.{insert, remove, prefix_len}
-use Rattle.std.proofs.lemmas.Bool.{cases_lt, cases_Bool}
+use Rattle.std.proofs.lemmas.Bool.{cases_lt}
 use Rattle.std.proofs.lemmas.Bool.Decides.{nat_tests}
 use Rattle.std.proofs.lemmas.List.Folds.{list_any-append}
 use Rattle.std.proofs.lemmas.List.{append-nil, take-append-drop, get_or_default, get_or-set_same, take-set, drop-set-lt, length-set, length-take-le, length-drop, length-append}

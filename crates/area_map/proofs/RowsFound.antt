@@ -1,5 +1,5 @@
 -- The first area that reaches an address stands in the first row that reaches it.
-use Rattle.std.proofs.Common.{◌≡◌, ℕ, suc, ◌+◌, ◌-◌, ◌<◌, ◌≤◌, Bool, true, false, leb, ltb, Option, Some, None, List, [], ◌∷◌, ◌++◌, length, drop, refl, sym, ap, ◌∙◌, arith, ⊎_elim}
+use Rattle.std.proofs.Common.{◌≡◌, ℕ, suc, ◌-◌, ◌<◌, ◌≤◌, Bool, true, false, leb, ltb, Option, Some, None, List, [], ◌∷◌, ◌++◌, length, drop, refl, sym, ap, ◌∙◌, arith, ⊎_elim}
 use Rattle.std.specs.List.{filter, find, prefix_len, slice_get}
 use Rattle.std.proofs.lemmas.Bool.{cases_lt, cases_Bool}
 use Rattle.std.proofs.lemmas.Bool.Decides.{nat_tests}
@@ -7,7 +7,7 @@ use Rattle.iofd_words.specs.declared.rows.Area.{Area}
 use Rattle.area_map.specs.Areas.{AreApartFrom}
 use Rattle.area_map.specs.Rows.{in_rows, AreRows, end_of}
 use Rattle.area_map.proofs.RowsWithin.{filter_rows}
-use Rattle.area_map.proofs.Rows.{apart_left, apart_right, end-above, first_fails}
+use Rattle.area_map.proofs.Rows.{first_fails}
 
 -- the end of the last area
 pub end_of-last : (xs : List Area) (a : Area) → slice_get xs (length xs - 1) ≡ Some a → end_of xs ≡ a.span.last

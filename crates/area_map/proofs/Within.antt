@@ -1,13 +1,9 @@
 -- What fails from an address on.
-use Rattle.std.proofs.Common.{◌≡◌, ℕ, suc, ◌+◌, ◌-◌, min, ◌<◌, ◌≤◌, Bool, true, false, leb, ltb, List, [], ◌∷◌, take, drop, refl, sym, ap, ◌∙◌, arith, ⊎_elim}
-use Rattle.std.specs.List.{filter, prefix_len}
-use Rattle.std.proofs.lemmas.Bool.{cases_lt}
+use Rattle.std.proofs.Common.{◌≡◌, ℕ, ◌+◌, ◌≤◌, Bool, false, List, [], ◌∷◌, refl, arith}
+use Rattle.std.specs.List.{filter}
 use Rattle.std.proofs.lemmas.Bool.Decides.{nat_tests}
-use Rattle.iofd_words.specs.Bounds.{Bounds}
-use Rattle.iofd_words.specs.Span.{lies_in}
 use Rattle.iofd_words.specs.declared.rows.Area.{Area}
-use Rattle.area_map.specs.Areas.{AreApartFrom, AreApart, areas_within}
-use Rattle.area_map.proofs.Covers.{drop_behind}
+use Rattle.area_map.specs.Areas.{AreApartFrom}
 
 -- what fails from an address on is not kept of what begins there
 pub filter_from : (p : Area → Bool) (low : ℕ) (xs : List Area) → AreApartFrom low xs → ((b : Area) → low ≤ b.span.first → b.span.first ≤ b.span.last → p b ≡ false) → filter p xs ≡ []

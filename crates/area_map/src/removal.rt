@@ -53,20 +53,9 @@ fn remove_within<A: Allocator>(rows: &mut [Row<A>], span: Span) -> (usize, usize
     ensures empty { result.2 ≡ false → AreRows rows.new }
 {
     let (from, to) = changes::meeting(rows, span);
-    let (removed, empty) = remove_part(&mut rows[from..to], span);
-    (from, removed, empty)
-}
-
-// Takes the areas that lie in the span out of each row. Says how many they were, and whether some row has none left.
-fn remove_part<A: Allocator>(rows: &mut [Row<A>], span: Span) -> (usize, bool)
-    requires kept { AreKept (in_rows rows.old) }
-    requires rows { AreRows rows.old }
-    ensures rows { rows.new ≡ map (areas_outside span) rows.old }
-    ensures count { result.0 + length (in_rows rows.new) ≡ length (in_rows rows.old) }
-    ensures empty { result.1 ≡ list_any (λ row. length row == 0) rows.new }
-{
-    let removed = remove_each(rows, span);
-    (removed, has_empty(rows))
+    let part = &mut rows[from..to];
+    let removed = remove_each(part, span);
+    (from, removed, has_empty(part))
 }
 
 // Takes the areas that lie in the span out of each row, and says how many they were.
@@ -87,7 +76,7 @@ fn remove_each<A: Allocator>(rows: &mut [Row<A>], span: Span) -> usize
 fn has_empty<A: Allocator>(rows: &[Row<A>]) -> bool
     ensures { result ≡ list_any (λ row. length row == 0) rows.now }
 {
-    rows.iter().any(|row| row.is_empty())
+    rows.iter().any(|row| row.len() == 0)
 }
 
 // Rows without areas go.
@@ -96,5 +85,5 @@ fn drop_empty<A: Allocator>(rows: &mut Vec<Row<A>, A>)
     ensures len { vec_len rows.new ≤ vec_len rows.old }
     ensures capacity { vec_capacity rows.new ≡ vec_capacity rows.old }
 {
-    rows.retain(|row| !row.is_empty());
+    rows.retain(|row| row.len() != 0);
 }

@@ -58,13 +58,6 @@ impl<A: Allocator> Row<A> {
         self.areas.len()
     }
 
-    /// Whether it has none.
-    pub(crate) fn is_empty(&self) -> bool
-        ensures { result ≡ (length self.now == 0) }
-    {
-        self.areas.is_empty()
-    }
-
     /// Where its last area ends.
     pub(crate) fn end(&self) -> u64
         ensures { result ≡ end_of self.now }

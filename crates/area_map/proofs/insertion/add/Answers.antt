@@ -1,4 +1,4 @@
-use Rattle.std.proofs.Common.{◌≡◌, ◌∙◌, ◌+◌, ◌<◌, true, false, leb, [], length, set, length-set, get_or, sym, arith}
+use Rattle.std.proofs.Common.{◌≡◌, ◌∙◌, ◌+◌, ◌<◌, true, false, leb, [], length, length-set, get_or, sym, arith}
 use Rattle.std.proofs.lemmas.Bool.Decides.{nat_tests}
 use Rattle.area_map.specs.Areas.{with_area}
 use Rattle.area_map.proofs.RowsAdded.{added_in_row, row-apart, row-alone, row-few, full_row, added_row, back_with, rows-before, rows-behind}

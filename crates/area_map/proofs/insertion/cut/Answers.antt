@@ -1,4 +1,4 @@
-use Rattle.std.proofs.Common.{◌≡◌, [], get_or, refl}
+use Rattle.std.proofs.Common.{[], refl}
 use Rattle.std.proofs.lemmas.List.{get_or_default}
 use Rattle.area_map.proofs.insertion.cut.Goals as goal
 

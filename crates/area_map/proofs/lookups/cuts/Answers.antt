@@ -1,6 +1,5 @@
-use Rattle.std.proofs.Common.{◌≡◌, ◌≤◌, Some, None, leb, find, sym, arith}
+use Rattle.std.proofs.Common.{Some, None, sym, arith}
 use Rattle.std.proofs.lemmas.Bool.Decides.{nat_tests}
-use Rattle.iofd_words.specs.declared.rows.Area.{Area}
 use Rattle.area_map.specs.Rows.{in_rows}
 use Rattle.area_map.proofs.Found.{cut_first}
 use Rattle.area_map.proofs.lookups.cuts.Goals as goal

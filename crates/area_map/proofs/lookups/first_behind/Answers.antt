@@ -1,7 +1,6 @@
 use Rattle.std.proofs.Common.{◌∙◌, ◌∷◌, sym}
 use Rattle.std.proofs.lemmas.List.{nil_from_length}
-use Rattle.area_map.specs.Rows.{in_rows, AreRows}
-use Rattle.area_map.proofs.Rows.{apart_left}
+use Rattle.area_map.specs.Rows.{AreRows}
 use Rattle.area_map.proofs.RowsFound.{found_in_row, found_nowhere}
 use Rattle.area_map.proofs.lookups.first_behind.Goals as goal
 

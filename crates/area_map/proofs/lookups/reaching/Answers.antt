@@ -2,8 +2,6 @@ use Rattle.std.proofs.Common.{◌∙◌, leb, sym, arith}
 use Rattle.std.proofs.lemmas.Bool.Decides.{nat_tests}
 use Rattle.std.proofs.lemmas.List.{nil_from_length, take_rest}
 use Rattle.iofd_words.specs.declared.rows.Area.{Area}
-use Rattle.area_map.specs.Rows.{in_rows}
-use Rattle.area_map.proofs.Rows.{apart_left}
 use Rattle.area_map.proofs.RowsWithin.{reaching_rows, reaching_none}
 use Rattle.area_map.proofs.lookups.reaching.Goals as goal
 

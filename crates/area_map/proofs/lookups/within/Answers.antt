@@ -3,8 +3,6 @@ use Rattle.std.proofs.lemmas.Bool.Decides.{nat_tests}
 use Rattle.std.proofs.lemmas.List.{nil_from_length, take_rest}
 use Rattle.iofd_words.specs.Span.{lies_in}
 use Rattle.iofd_words.specs.declared.rows.Area.{Area}
-use Rattle.area_map.specs.Rows.{in_rows}
-use Rattle.area_map.proofs.Rows.{apart_left}
 use Rattle.area_map.proofs.RowsWithin.{within_rows, reaching_none}
 use Rattle.area_map.proofs.lookups.within.Goals as goal
 

@@ -1,4 +1,4 @@
-use Rattle.std.proofs.Common.{◌≡◌, List, map, sym, refl, arith}
+use Rattle.std.proofs.Common.{List, sym, refl, arith}
 use Rattle.iofd_words.specs.declared.rows.Area.{Area}
 use Rattle.area_map.specs.Areas.{without_debt}
 use Rattle.area_map.specs.Rows.{in_rows}

@@ -1,4 +1,4 @@
-use Rattle.std.proofs.Common.{◌≡◌, List, map, refl, arith}
+use Rattle.std.proofs.Common.{List, refl, arith}
 use Rattle.iofd_words.specs.declared.rows.Area.{Area}
 use Rattle.area_map.specs.Areas.{tried}
 use Rattle.area_map.specs.Rows.{in_rows}
