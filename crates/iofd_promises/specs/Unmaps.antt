@@ -1,0 +1,112 @@
+-- What an UNMAP takes away, what it waits for, and what a flush pays.
+use Rattle.std.specs.Prelude.{◌≡◌, ◌≢◌, ◌≤◌, ◌↔◌, ℕ, ◌+◌, ◌-◌, ◌^◌, ◌==◌, ◌&&◌, nat_le, Bool, true, false, List, [], ◌∷◌, Contains, if◌then◌else◌}
+use Rattle.iofd_words.specs.World.{World}
+use Rattle.iofd_words.specs.declared.event.UnmapRequest.{UnmapRequest}
+use Rattle.iofd_words.specs.declared.numbers.DeviceNo.{DeviceNo}
+use Rattle.iofd_words.specs.declared.numbers.FileNo.{FileNo}
+use Rattle.iofd_words.specs.declared.rows.Area.{Area}
+use Rattle.iofd_words.specs.declared.rows.Phase.{Phase}
+use Rattle.iofd_words.specs.declared.rows.Phase.TheVariants.{Live, Leaving}
+use Rattle.iofd_promises.specs.Reaches.{TranslatesBy}
+
+-- ---- what an UNMAP names
+
+-- the last address: iova 0 with a length of 2^64 - 1 names every address, 2^64 - 1 too
+abbrev pub last_named : UnmapRequest → ℕ
+last_named request =
+    if request.iova.0 == 0 && request.length == 2 ^ 64 - 1 then 2 ^ 64 - 1
+    else request.iova.0 + request.length - 1
+
+-- an area of its address space that holds an address from its first to its last
+abbrev pub is_named : FileNo → UnmapRequest → Area → Bool
+is_named file request area =
+    (area.file.0 == file.0 && area.ioas.0 == request.ioas.0)
+    && (nat_le area.span.first (last_named request) && nat_le request.iova.0 area.span.last)
+
+-- the bytes of the areas that it names
+abbrev pub bytes_named : FileNo → UnmapRequest → List Area → ℕ
+bytes_named file request [] = 0
+bytes_named file request (area ∷ areas) =
+    if is_named file request area then area.span.last + 1 - area.span.first + bytes_named file request areas
+    else bytes_named file request areas
+
+-- each area that it names lies in it from its first address to its last
+abbrev pub AreWhole : World → FileNo → UnmapRequest → Type 0
+AreWhole w file request =
+    (area : Area) → Contains w.areas area → is_named file request area ≡ true
+    → (request.iova.0 ≤ area.span.first) × (area.span.last ≤ last_named request)
+
+-- ---- who owes an area a flush
+
+-- while it is mapped, each device that translates by its address space; while it leaves, those that still owe it one
+abbrev pub Owes : World → Area → DeviceNo → Phase → Type 0
+Owes w area device Live = TranslatesBy w device area.file area.ioas
+Owes w area device (Leaving owed tries) = Contains owed device.0
+
+-- ---- answers
+
+-- what an UNMAP that answers this count leaves: nobody owed an area that it named, and those areas, and no others,
+-- are gone
+pub record TakesAway (old new : World) (file : FileNo) (request : UnmapRequest) (count : ℕ) : Type 0 where
+  pub whole : AreWhole old file request
+  pub owed : (area : Area) (device : DeviceNo) → Contains old.areas area → is_named file request area ≡ true
+      → Owes old area device area.phase → ⊥
+  pub count_is : count ≡ bytes_named file request old.areas
+  pub gone : (area : Area) → Contains new.areas area → is_named file request area ≡ false
+  pub others : (area : Area) → is_named file request area ≡ false → Contains old.areas area ↔ Contains new.areas area
+
+-- it leaves now, and those owe it a flush that owed it one
+abbrev pub LeavesBy : World → Area → Phase → Phase → Type 0
+LeavesBy w area Live Live = ⊥
+LeavesBy w area Live (Leaving owed tries) =
+    ((device : DeviceNo) → Contains owed device.0 ↔ TranslatesBy w device area.file area.ioas) × (tries ≡ 0)
+LeavesBy w area (Leaving owed tries) phase = phase ≡ Leaving owed tries
+
+-- area by area: one that the UNMAP names is the same row but for its phase, and leaves; each other is the same row
+abbrev pub AllLeave : World → FileNo → UnmapRequest → List Area → List Area → Type 0
+AllLeave w file request [] [] = Unit {0}
+AllLeave w file request [] (left ∷ rest) = ⊥
+AllLeave w file request (area ∷ areas) [] = ⊥
+AllLeave w file request (area ∷ areas) (left ∷ rest) =
+    (left ≡ record area { phase = left.phase })
+    × (is_named file request area ≡ true → LeavesBy w area area.phase left.phase)
+    × (is_named file request area ≡ false → left ≡ area)
+    × AllLeave w file request areas rest
+
+-- what an UNMAP that waits leaves: some device owes an area that it names
+pub record Waits (old new : World) (file : FileNo) (request : UnmapRequest) : Type 0 where
+  pub whole : AreWhole old file request
+  pub area : Area
+  pub there : Contains old.areas area
+  pub named : is_named file request area ≡ true
+  pub device : DeviceNo
+  pub owes : Owes old area device area.phase
+  pub areas : AllLeave old file request old.areas new.areas
+
+-- ---- a flush
+
+-- the device owes no flush any more, and each other device what it owed
+abbrev pub PaidBy : DeviceNo → Phase → Phase → Type 0
+PaidBy device Live phase = phase ≡ Live
+PaidBy device (Leaving owed tries) Live = ⊥
+PaidBy device (Leaving owed tries) (Leaving left after) =
+    ((other : ℕ) → Contains left other ↔ (Contains owed other × (other ≢ device.0))) × (after ≡ tries)
+
+-- area by area: the same row but for its phase, in which the device's debt alone is gone
+abbrev pub AllPaid : DeviceNo → List Area → List Area → Type 0
+AllPaid device [] [] = Unit {0}
+AllPaid device [] (left ∷ rest) = ⊥
+AllPaid device (area ∷ areas) [] = ⊥
+AllPaid device (area ∷ areas) (left ∷ rest) =
+    (left ≡ record area { phase = left.phase }) × PaidBy device area.phase left.phase × AllPaid device areas rest
+
+-- the rows beside areas and tables are the same
+pub record SameOthers (old new : World) : Type 0 where
+  pub objects : new.objects ≡ old.objects
+  pub attachments : new.attachments ≡ old.attachments
+  pub memory : new.memory ≡ old.memory
+  pub allowed : new.allowed ≡ old.allowed
+  pub user_pages : new.user_pages ≡ old.user_pages
+  pub pins : new.pins ≡ old.pins
+  pub writes : new.writes ≡ old.writes
+  pub closed : new.closed ≡ old.closed
