@@ -1,2 +1,1 @@
-pub mod FirstScript
 pub mod Laws

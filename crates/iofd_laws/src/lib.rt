@@ -1,9 +1,8 @@
-//! Laws of the definitions in `iofd_words`: what is true of every run, whatever server makes it, and of a script that
-//! was worked by hand. Each is the contract of a function that does nothing; nothing here runs.
+//! Laws of the definitions in `iofd_words`: what is true of every run, whatever server makes it. Each is the contract of a
+//! function that does nothing; nothing here runs.
 #![tactic(auto)]
 
 mod every_run;
-mod worked_script;
 
 pub use every_run::{
     areas_are_of_the_files_user, areas_are_usable, areas_never_overlap, areas_stand_by_start,
@@ -13,8 +12,4 @@ pub use every_run::{
     page_tables_have_what_they_need, pins_are_those_of_pinned_pages, pins_keep_their_frames,
     refusals_for_frames_are_due, rows_fit, shared_pages_outlive_an_unmap, tables_have_own_frames,
     user_pages_have_own_frames,
-};
-pub use worked_script::{
-    altered_scripts_are_no_runs, lower_tables_may_go_first, owed_flush_leaves_both_answers,
-    worked_script_is_a_run, worked_script_reads,
 };

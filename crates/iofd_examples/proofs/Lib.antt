@@ -1,0 +1,3 @@
+pub mod Contained
+pub mod Never
+pub mod UsableSpans

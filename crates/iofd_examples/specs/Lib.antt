@@ -1,0 +1,16 @@
+pub mod AccessRecords
+pub mod AllowRecords
+pub mod AttachRecords
+pub mod ChoiceRecords
+pub mod CopyRecords
+pub mod DebtScript
+pub mod FirstScript
+pub mod FullRecords
+pub mod MapRecords
+pub mod NumberRecords
+pub mod ObjectRecords
+pub mod ReadyWorld
+pub mod SecondLooks
+pub mod SecondScript
+pub mod UnmapRecords
+pub mod Words
