@@ -54,21 +54,22 @@ fn reads(core: &Core<&LocalHeap>, device: DeviceNo, iova: u64) -> bool {
     }
 }
 
+/// Whether one frame is left, and each copy leads both devices to the page.
+fn copies_lead(core: &Core<&LocalHeap>) -> bool {
+    core.look(&Query::FreeFrames) == Answer::Count(1)
+        && WRITTEN
+            .iter()
+            .all(|(device, iova)| reads(core, *device, *iova))
+}
+
 /// Whether each copy finds no memory at first, and then leads both devices to the page.
 fn copies_grow(alloc: Global) -> Result<bool, Fail> {
     let config = config(alloc, 13)?;
     let heap = LocalHeap::new(alloc, 81920)?;
     let mut core = Core::new(&heap, &config)?;
-    let started = growing_steps(alloc, &heap, &mut core, &SPACES)?;
-    let grown = growing_steps(alloc, &heap, &mut core, &COPIES)?;
-    Ok(
-        started.is_some()
-            && grown == Some(3)
-            && core.look(&Query::FreeFrames) == Answer::Count(1)
-            && WRITTEN
-                .iter()
-                .all(|(device, iova)| reads(&core, *device, *iova)),
-    )
+    let started = growing_steps(alloc, &heap, &mut core, &SPACES)?.is_some();
+    let grown = growing_steps(alloc, &heap, &mut core, &COPIES)? == Some(3);
+    Ok(started & grown & copies_lead(&core))
 }
 
 #[test]
