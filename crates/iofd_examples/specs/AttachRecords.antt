@@ -64,6 +64,10 @@ attachments_without_free =
     ∷ (hwpt_alloc 1 2 9, cause.Frames ∷ [])
     ∷ []
 
+-- pages that are pinned already ask for no more: those of address space 11, and not that of 1
+abbrev pub attachments_with_pinned : Refusals
+attachments_with_pinned = (attach 1 11, []) ∷ (attach 1 1, cause.Account ∷ []) ∷ []
+
 -- an empty address space's page table has a root
 abbrev pub attachments_with_one_free : Refusals
 attachments_with_one_free = (attach 1 9, []) ∷ (hwpt_alloc 1 2 9, []) ∷ (attach 1 1, cause.Frames ∷ []) ∷ []

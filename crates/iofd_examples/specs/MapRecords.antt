@@ -112,7 +112,11 @@ far =
     }
 
 abbrev pub refusals_near_and_far : Refusals
-refusals_near_and_far = (map_in 2 6 1 0x10000 0x1000 0, []) ∷ []
+refusals_near_and_far =
+    (map_in 2 6 1 0x10000 0x1000 0, [])
+    -- an address that isn't fixed is never looked at, here one that device 2 keeps
+    ∷ (map_in 2 6 1 0x10000 0x1000 0x8000, [])
+    ∷ []
 
 abbrev pub refusals_far : Refusals
 refusals_far = (map_in 2 6 1 0x10000 0x1000 0, cause.Frames ∷ []) ∷ []

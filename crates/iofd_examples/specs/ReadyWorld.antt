@@ -192,6 +192,24 @@ without_free = record ready { settings = settings_of 8 }
 abbrev pub with_one_free : World
 with_one_free = record ready { settings = settings_of 9 }
 
+-- the same where the memory of address space 11 is pinned already, by a copy in address space 9, over which a page table
+-- stands: user 1 has as many pinned pages as it may
+abbrev pub with_pinned : World
+with_pinned =
+    record ready {
+      objects =
+          objects_of_1
+          ++ hwpt_row 1 15 9 Bits39 false
+          ∷ ioas_row 2 1 ∷ device_row 2 2 5 ∷ device_row 2 3 6 ∷ hwpt_row 2 4 1 Bits39 false ∷ device_row 2 5 7
+          ∷ device_row 2 6 8 ∷ device_row 2 7 9 ∷ ioas_row 2 8 ∷ device_row 2 9 10 ∷ hwpt_row 2 10 8 Bits39 true
+          ∷ [];
+      areas =
+          area_row 1 1 0x1000 0x1fff 18 3 Live ∷ area_row 1 9 0x1000 0x2fff 25 3 Live
+          ∷ area_row 1 11 0x1000 0x2fff 25 3 Live ∷ area_row 2 1 0x9000 0x9fff 33 3 Live
+          ∷ [];
+      pins = pin_row 33 0 3 ∷ pin_row 25 0 0 ∷ pin_row 25 1 1 ∷ [];
+    }
+
 -- the same with closed files, which have nothing in a run
 abbrev pub with_closed : World
 with_closed = record ready { closed = file 1 ∷ file 2 ∷ [] }

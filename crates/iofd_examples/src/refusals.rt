@@ -56,6 +56,8 @@ pub fn attachments_are_refused()
     ensures first_without_free { AreRefusedIn world.without_free attachments.attachments_without_free }
     ensures all_with_one_free { ApplyIn world.with_one_free attachments.attachments_with_one_free }
     ensures first_with_one_free { AreRefusedIn world.with_one_free attachments.attachments_with_one_free }
+    ensures all_with_pinned { ApplyIn world.with_pinned attachments.attachments_with_pinned }
+    ensures first_with_pinned { AreRefusedIn world.with_pinned attachments.attachments_with_pinned }
 {}
 
 /// A HWPT_ALLOC is refused by each row of the refusals, and the first that applies is answered.

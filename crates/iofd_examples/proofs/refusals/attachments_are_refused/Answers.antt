@@ -26,3 +26,11 @@ returns-clause-all_with_one_free c = refl
 pub returns-clause-first_with_one_free : goal.returns-clause-first_with_one_free
 unfolding attach_checks hwpt_alloc_checks number_at
 returns-clause-first_with_one_free c = refl
+
+pub returns-clause-all_with_pinned : goal.returns-clause-all_with_pinned
+unfolding attach_checks hwpt_alloc_checks number_at
+returns-clause-all_with_pinned c = refl
+
+pub returns-clause-first_with_pinned : goal.returns-clause-first_with_pinned
+unfolding attach_checks hwpt_alloc_checks number_at
+returns-clause-first_with_pinned c = refl
