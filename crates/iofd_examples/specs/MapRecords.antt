@@ -120,3 +120,11 @@ refusals_near_and_far =
 
 abbrev pub refusals_far : Refusals
 refusals_far = (map_in 2 6 1 0x10000 0x1000 0, cause.Frames ∷ []) ∷ []
+
+-- where no frame is free and user 2 has as many pinned pages as it may: the last page of a table that is there, and the
+-- first of one that isn't
+abbrev pub refusals_without_free : Refusals
+refusals_without_free =
+    (map_in 2 7 1 0x10000 0x1000 0x1f_f000, cause.Account ∷ [])
+    ∷ (map_in 2 7 1 0x10000 0x1000 0x20_0000, cause.Account ∷ cause.Frames ∷ [])
+    ∷ []

@@ -22,6 +22,8 @@ pub fn maps_are_refused()
     ensures first_near_and_far { AreRefusedIn maps.near_and_far maps.refusals_near_and_far }
     ensures all_far { ApplyIn maps.far maps.refusals_far }
     ensures first_far { AreRefusedIn maps.far maps.refusals_far }
+    ensures all_without_free { ApplyIn world.without_free maps.refusals_without_free }
+    ensures first_without_free { AreRefusedIn world.without_free maps.refusals_without_free }
 {}
 
 /// A COPY is refused by each row of the refusals, and the first that applies is answered.

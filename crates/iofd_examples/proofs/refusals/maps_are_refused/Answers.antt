@@ -34,3 +34,11 @@ returns-clause-all_far c = refl
 pub returns-clause-first_far : goal.returns-clause-first_far
 unfolding map_checks number_at
 returns-clause-first_far c = refl
+
+pub returns-clause-all_without_free : goal.returns-clause-all_without_free
+unfolding map_checks number_at
+returns-clause-all_without_free c = refl
+
+pub returns-clause-first_without_free : goal.returns-clause-first_without_free
+unfolding map_checks number_at
+returns-clause-first_without_free c = refl
