@@ -116,6 +116,14 @@ impl<A: Allocator> Areas<A> {
         lookups::cuts(&self.rows, span)
     }
 
+    /// Whether some area meets the span (`meets`), and whether one of them isn't wholly in it (`cuts`), by one search.
+    pub fn meets_and_cuts(&self, span: Span) -> (bool, bool)
+        ensures meets { result.0 ≡ areas_meet span self.now.areas }
+        ensures cuts { result.1 ≡ is_cut span self.now.areas }
+    {
+        lookups::meets_and_cuts(&self.rows, span)
+    }
+
     /// The areas, by rising start.
     pub fn iter(&self) -> Iter<'_, A>
         ensures areas { result ≡ self.now.areas }

@@ -1,12 +1,15 @@
 //! Areas one after the other.
 
-ghost use Rattle.std.specs.Prelude.{◌≡◌, ◌∷◌, ◌++◌, [], List, if◌then◌else◌};
+ghost use Rattle.std.specs.Prelude.{◌≡◌, ◌≤◌, ◌∷◌, ◌++◌, [], List, length, if◌then◌else◌};
 ghost use Rattle.std.specs.Option.{MatchOption};
 ghost use Rattle.std.specs.Iterator.{YieldsFirstRef, item_count};
+ghost use Rattle.area_map.specs.Areas.{bytes_of};
 ghost use Rattle.area_map.specs.Rows.{in_rows, AreRows, up_to};
+ghost use Rattle.iofd_words.specs.Areas.{most_areas};
 ghost use Rattle.iofd_words.specs.declared.rows.Area.{Area};
 
 use crate::row::Row;
+use crate::totals;
 use iofd_words::Area;
 use std::alloc::{Allocator, Global};
 use std::marker::Model;
@@ -39,6 +42,37 @@ impl<'a, A: Allocator> Iter<'a, A> {
         ensures { result ≡ up_to last (row.now ++ in_rows rows.now) }
     {
         Iter { row, rows, last }
+    }
+
+    /// No areas.
+    pub fn empty() -> Iter<'a, A>
+        ensures { result ≡ [] }
+    {
+        Iter {
+            row: &[],
+            rows: &[],
+            last: None,
+        }
+    }
+
+    /// The areas that are left, once more: it takes no search.
+    pub fn again(&self) -> Iter<'a, A>
+        ensures { result ≡ self.now }
+    {
+        Iter {
+            row: self.row,
+            rows: self.rows,
+            last: self.last,
+        }
+    }
+
+    /// How many addresses the areas have together, of which there are no more than an address space may have. The
+    /// number may be above 2^64 - 1.
+    pub fn bytes(self) -> u128
+        requires { length self ≤ most_areas }
+        ensures { result ≡ bytes_of self.entry }
+    {
+        totals::bytes_of(self)
     }
 }
 

@@ -1,6 +1,6 @@
 //! Look-ups in areas by rising start, by binary search for the row and then in it.
 
-ghost use Rattle.std.specs.Prelude.{◌≡◌, ◌+◌, ◌≤◌, drop, filter, find, min, nat_lt, nat_le, length, MatchBool};
+ghost use Rattle.std.specs.Prelude.{◌≡◌, ◌+◌, ◌≤◌, drop, filter, find, min, nat_lt, nat_le, length, MatchBool, Some};
 ghost use Rattle.std.specs.List.{prefix_len};
 ghost use Rattle.std.specs.Option.{option_copied};
 ghost use Rattle.area_map.specs.Areas.{AreApart, area_of, ends_after, runs_on, areas_within, is_covered, IsCovered, HasGap};
@@ -172,14 +172,40 @@ pub fn cuts<A: Allocator>(rows: &[Row<A>], span: Span) -> bool
     requires rows { AreRows rows.now }
     ensures { result ≡ is_cut span (in_rows rows.now) }
 {
-    let Some(area) = first_reaching(rows, span.first()) else {
-        return false;
-    };
+    match first_reaching(rows, span.first()) {
+        Some(area) => is_cut_from(rows, area, span),
+        None => false,
+    }
+}
+
+// The same, where this is the first area that ends at the first address of the span or after it.
+fn is_cut_from<A: Allocator>(rows: &[Row<A>], area: &Area, span: Span) -> bool
+    requires apart { AreApart (in_rows rows.now) }
+    requires rows { AreRows rows.now }
+    requires first { find (λ one. nat_le span.first one.span.last) (in_rows rows.now) ≡ Some area.now }
+    ensures { result ≡ is_cut span (in_rows rows.now) }
+{
     if span.last() <= area.span.last() {
         // The areas behind it begin above the span.
         return area.span.meets(span) && !area.span.lies_in(span);
     }
     area.span.first() < span.first() || is_cut_after(rows, span.last())
+}
+
+/// Whether some area meets the span, and whether one that does isn't wholly in it.
+pub fn meets_and_cuts<A: Allocator>(rows: &[Row<A>], span: Span) -> (bool, bool)
+    requires apart { AreApart (in_rows rows.now) }
+    requires rows { AreRows rows.now }
+    ensures meets { result.0 ≡ areas_meet span (in_rows rows.now) }
+    ensures cuts { result.1 ≡ is_cut span (in_rows rows.now) }
+{
+    match first_reaching(rows, span.first()) {
+        Some(area) => {
+            let meets = area.span.first() <= span.last();
+            (meets, is_cut_from(rows, area, span))
+        }
+        None => (false, false),
+    }
 }
 
 /// Whether each address of the span lies in some area.

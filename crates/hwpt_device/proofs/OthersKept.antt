@@ -1,5 +1,5 @@
 -- The bytes of frames that have no tables, as a page table changes.
-use Rattle.std.proofs.Common.{◌≡◌, ℕ, ◌+◌, ◌<◌, Bool, true, false, List, ◌++◌, map, ap, sym, ◌∙◌, arith}
+use Rattle.std.proofs.Common.{◌≡◌, ℕ, true, false, List, ◌++◌, map, ap, sym, ◌∙◌, arith}
 use Rattle.std.specs.List.{list_all}
 use Rattle.iofd_rows.proofs.ListTests.{false_else}
 use Rattle.iofd_words.specs.TablePlaces.{is_table_of}

@@ -26,33 +26,34 @@ pub fn answer_step<A: Allocator + Copy>(
 ) -> Option<Vec<u8, A>>
     ensures { IsAnswered core.old step.now (text_of result out.new) core.new }
 {
-    match step {
-        Step::Ioctl(file, number, bytes) => answer_ioctl(alloc, core, *file, *number, bytes, out),
-        Step::Close(file) => answer_event(core, Event::Close(*file), out),
-        Step::UserMap(user, va) => answer_event(core, Event::UserMap(*user, *va), out),
-        Step::UserUnmap(user, va) => answer_event(core, Event::UserUnmap(*user, *va), out),
+    let event = match step {
+        Step::Ioctl(file, number, bytes) => {
+            return answer_ioctl(alloc, core, *file, *number, bytes, out);
+        }
+        Step::Close(file) => Event::Close(*file),
+        Step::UserMap(user, va) => Event::UserMap(*user, *va),
+        Step::UserUnmap(user, va) => Event::UserUnmap(*user, *va),
         Step::UserRead(user, va, len) => {
             let (user, va, len) = (*user, *va, *len);
-            answer_query(core, &Query::UserRead { user, va, len }, out)
+            return answer_query(core, &Query::UserRead { user, va, len }, out);
         }
-        Step::UserWrite(user, va, bytes) => {
-            answer_event(core, Event::UserWrite(*user, *va, bytes.burst()), out)
-        }
-        Step::Bind(file, device) => answer_event(core, Event::Bind(*file, *device), out),
-        Step::Unbind(file, id) => answer_event(core, Event::Unbind(*file, *id), out),
-        Step::Attach(device, pt_id) => answer_event(core, Event::Attach(*device, *pt_id), out),
-        Step::Detach(device) => answer_event(core, Event::Detach(*device), out),
-        Step::Flush(device) => answer_event(core, Event::Flush(*device), out),
+        Step::UserWrite(user, va, bytes) => Event::UserWrite(*user, *va, bytes.burst()),
+        Step::Bind(file, device) => Event::Bind(*file, *device),
+        Step::Unbind(file, id) => Event::Unbind(*file, *id),
+        Step::Attach(device, pt_id) => Event::Attach(*device, *pt_id),
+        Step::Detach(device) => Event::Detach(*device),
+        Step::Flush(device) => Event::Flush(*device),
         Step::DeviceRead(device, iova, len) => {
             let (device, iova, len) = (*device, *iova, *len);
-            answer_query(core, &Query::DeviceRead { device, iova, len }, out)
+            return answer_query(core, &Query::DeviceRead { device, iova, len }, out);
         }
         Step::DeviceWrite(device, iova, bytes) => {
-            answer_event(core, Event::DeviceWrite(*device, *iova, bytes.burst()), out)
+            Event::DeviceWrite(*device, *iova, bytes.burst())
         }
-        Step::FreeFrames => answer_query(core, &Query::FreeFrames, out),
-        Step::Held(user) => answer_query(core, &Query::Held(*user), out),
-    }
+        Step::FreeFrames => return answer_query(core, &Query::FreeFrames, out),
+        Step::Held(user) => return answer_query(core, &Query::Held(*user), out),
+    };
+    answer_event(core, event, out)
 }
 
 // The line for an event: always a short one.

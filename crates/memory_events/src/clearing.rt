@@ -1,67 +1,57 @@
 //! Pages of areas that go, or that begin to leave, are cleared in the page tables.
 
 ghost use Rattle.std.specs.Prelude.{◌≡◌, ◌∷◌, [], length};
-ghost use Rattle.area_map.specs.Areas.{areas_within};
 ghost use Rattle.hwpt_device.specs.PageTables.{AllStand, IfAllStand, KeepsOthers};
 ghost use Rattle.iofd_words.specs.TablePlaces as places;
 ghost use Rattle.memory_events.specs.Cleared.{CanClear, cleared};
-ghost use Rattle.server_state.specs.Mapping.{own_areas};
 
 use area_map::Iter;
 use frame_memory::Pool;
 use hwpt_device::PageTables;
-use iofd_words::{Area, FileNo, ObjId, PAGE_SIZE, Phase, Span};
-use object_table::ObjectTable;
-use server_state::{Held, area_changes};
+use iofd_words::{Area, FileNo, ObjId, PAGE_SIZE, Phase};
 use std::alloc::Allocator;
 
-/// The pages of the live areas of the address space that lie in the span are cleared in each page table over it. A
-/// leaving area's pages already are. Every other page stays, and each frame in which no table is. It takes no memory.
-pub(crate) fn clear_within<A: Allocator>(
-    table: &ObjectTable<Held<A>, A>,
+/// The pages of those of these areas that are live are cleared in each page table over the address space. A leaving
+/// area's pages already are. Every other page stays, and each frame in which no table is. It takes no memory.
+pub(crate) fn clear<A: Allocator>(
+    areas: Iter<'_, A>,
     file: FileNo,
     ioas: ObjId,
-    span: Span,
     page_tables: &mut PageTables<A>,
     pool: &mut Pool<A>,
 )
-    requires { CanClear pool.old page_tables.old.tables file ioas (areas_within span (own_areas table.now file ioas)) }
+    requires { CanClear pool.old page_tables.old.tables file ioas areas }
     ensures same { page_tables.new ≡ page_tables.old }
     ensures holds { pool.new.holds ≡ pool.old.holds }
     ensures stand { IfAllStand pool.old page_tables.old.tables (λ rows leads.
-        AllStand pool.new rows (cleared file ioas (areas_within span (own_areas table.now file ioas)) leads)
-        page_tables.old.tables) }
+        AllStand pool.new rows (cleared file ioas areas.entry leads) page_tables.old.tables) }
     ensures others { IfAllStand pool.old page_tables.old.tables (λ rows leads. KeepsOthers rows pool.old pool.new) }
     ensures bytes { length pool.new.bytes ≡ length pool.new.holds }
 {
-    clear_own(table, file, ioas, span, page_tables, pool);
+    clear_own(areas, file, ioas, page_tables, pool);
     // A pool has the bytes of each of its frames.
     let _ = pool.len();
 }
 
-/// The same, but for what any pool has. Where no page table is over the address space its areas aren't looked at.
+/// The same, but for what any pool has. Where no page table is over the address space the areas aren't looked at.
 fn clear_own<A: Allocator>(
-    table: &ObjectTable<Held<A>, A>,
+    areas: Iter<'_, A>,
     file: FileNo,
     ioas: ObjId,
-    span: Span,
     page_tables: &mut PageTables<A>,
     pool: &mut Pool<A>,
 )
-    requires { CanClear pool.old page_tables.old.tables file ioas (areas_within span (own_areas table.now file ioas)) }
+    requires { CanClear pool.old page_tables.old.tables file ioas areas }
     ensures same { page_tables.new ≡ page_tables.old }
     ensures holds { pool.new.holds ≡ pool.old.holds }
     ensures stand { IfAllStand pool.old page_tables.old.tables (λ rows leads.
-        AllStand pool.new rows (cleared file ioas (areas_within span (own_areas table.now file ioas)) leads)
-        page_tables.old.tables) }
+        AllStand pool.new rows (cleared file ioas areas.entry leads) page_tables.old.tables) }
     ensures others { IfAllStand pool.old page_tables.old.tables (λ rows leads. KeepsOthers rows pool.old pool.new) }
 {
     if !page_tables.has_over(file, ioas) {
         return;
     }
-    if let Some(areas) = area_changes::own_areas(table, file, ioas) {
-        clear_areas(areas.within(span), file, ioas, page_tables, pool);
-    }
+    clear_areas(areas, file, ioas, page_tables, pool);
 }
 
 /// The pages of these areas are cleared.

@@ -1,22 +1,20 @@
 //! UNMAP: areas go, or are on their way out until devices have flushed.
 
-ghost use Rattle.std.specs.Prelude.{◌≡◌, ◌<◌, ◌^◌, ◌&&◌, ◌∷◌, [], ℕ, false, not, IfSome, IsSome};
-ghost use Rattle.area_map.specs.Areas.{areas_within, bytes_of};
-ghost use Rattle.iofd_words.specs.Areas.{areas_meet, is_cut, is_everything, unmapped_span};
+ghost use Rattle.std.specs.Prelude.{◌≡◌, ◌<◌, ◌≤◌, ◌^◌, ◌&&◌, ◌∷◌, [], ℕ, false, length, not, IfSome, IsSome};
+ghost use Rattle.area_map.specs.Areas.{bytes_of};
+ghost use Rattle.iofd_words.specs.Areas.{areas_meet, is_cut, is_everything, most_areas, unmapped_span};
 ghost use Rattle.iofd_words.specs.Checks.{unmap_checks};
 ghost use Rattle.iofd_words.specs.FirstTrue.{first_true};
 ghost use Rattle.iofd_words.specs.Pages.{is_above_sum};
 ghost use Rattle.iofd_words.specs.declared.event.Event.TheVariants as event;
-ghost use Rattle.server_state.specs.Mapping.{own_areas};
 ghost use Rattle.server_state.specs.Seen.{seen};
 ghost use Rattle.server_state.specs.Step.{IsGranted, Steps};
 
 use crate::{clearing, devices};
-use area_map::Areas;
-use iofd_words::{Cause, Errno, FileNo, ObjId, Reply, Span, UnmapRequest};
-use object_table::ObjectTable;
+use area_map::{Areas, Iter};
+use iofd_words::{Cause, Errno, FileNo, Reply, Span, UnmapRequest};
 use server_state::addresses::is_above_sum;
-use server_state::{Held, State, area_changes, lookups, release};
+use server_state::{State, area_changes, lookups, release};
 use std::alloc::Allocator;
 
 /// Why it is refused, by the first row of the definitions that holds. None where nothing refuses it.
@@ -50,10 +48,11 @@ fn refusal_by_areas<A: Allocator>(
         ∷ (Cause.Span, is_cut span areas.now.areas)
         ∷ []) }
 {
-    if !is_everything(request) && !areas.meets(span) {
+    let (meets, cuts) = areas.meets_and_cuts(span);
+    if !is_everything(request) && !meets {
         return Some(Cause::Span);
     }
-    if areas.cuts(span) {
+    if cuts {
         return Some(Cause::Span);
     }
     None
@@ -77,43 +76,31 @@ pub fn commit<A: Allocator>(state: &mut State<A>, file: FileNo, request: UnmapRe
         return Reply::Done;
     };
     let translated = state.has_hwpt(file, ioas);
-    clearing::clear_within(
-        &state.objects,
+    let areas = area_changes::areas_within(&state.objects, file, ioas, span);
+    clearing::clear(
+        areas.again(),
         file,
         ioas,
-        span,
         &mut state.page_tables,
         &mut state.pool,
     );
-    if area_changes::some_waits(&state.objects, file, ioas, span, &attached) {
+    if area_changes::some_waits(areas.again(), &attached) {
         area_changes::mark_leaving(&mut state.objects, file, ioas, span, &attached);
         return Reply::Pending(Errno::EAGAIN);
     }
-    let bytes = bytes_within(&state.objects, file, ioas, span);
-    release::remove_within(
-        &state.objects,
-        file,
-        ioas,
-        span,
-        translated,
-        &mut state.memory,
-        &mut state.pool,
-    );
+    let bytes = bytes_of(areas.again());
+    release::remove(areas, translated, &mut state.memory, &mut state.pool);
     area_changes::remove(&mut state.objects, file, ioas, span);
     Reply::Bytes(bytes)
 }
 
-/// How many bytes the areas of the address space that lie in the span have: at most 65,535 areas of at most 2^48 bytes.
-fn bytes_within<A: Allocator>(
-    table: &ObjectTable<Held<A>, A>,
-    file: FileNo,
-    ioas: ObjId,
-    span: Span,
-) -> u64
-    requires { bytes_of (areas_within span (own_areas table.now file ioas)) < 2 ^ 64 }
-    ensures { result ≡ bytes_of (areas_within span (own_areas table.now file ioas)) }
+/// How many bytes the areas have: at most 65,535 areas of at most 2^48 bytes.
+fn bytes_of<A: Allocator>(areas: Iter<'_, A>) -> u64
+    requires few { length areas ≤ most_areas }
+    requires fit { bytes_of areas < 2 ^ 64 }
+    ensures { result ≡ bytes_of areas.entry }
 {
-    area_changes::bytes_within(table, file, ioas, span) as u64
+    areas.bytes() as u64
 }
 
 /// Whether it names every address, the last one too.

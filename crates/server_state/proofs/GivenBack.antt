@@ -1,12 +1,11 @@
 -- The frames of tables that go are those that are given back, each once and by rising number.
-use Rattle.std.proofs.Common.{◌≡◌, ℕ, zero, suc, ◌+◌, ◌<◌, ◌≤◌, Bool, true, false, cond, ◌&&◌, ◌||◌, not, eqb, ltb, List, [], ◌∷◌, get_or, length, map, refl, ap, sym, ◌∙◌, inl, inr, arith}
-use Rattle.std.specs.List.{count_by, filter, list_all, list_any}
-use Rattle.std.specs.List.Sorted.{IsNonDecreasingBy, IsPermutation}
+use Rattle.std.proofs.Common.{◌≡◌, ℕ, suc, ◌+◌, ◌<◌, ◌≤◌, Bool, true, false, cond, ◌&&◌, not, eqb, ltb, List, [], ◌∷◌, get_or, length, refl, ap, sym, ◌∙◌, inl, inr, arith}
+use Rattle.std.specs.List.{count_by, filter, list_all}
+use Rattle.std.specs.List.Sorted.{IsNonDecreasingBy}
 use Rattle.std.proofs.lemmas.Bool.Decides.{nat_tests}
-use Rattle.std.proofs.lemmas.List.Sorted.{IsNonDecreasingBy-drop, sum_by-IsPermutation}
-use Rattle.iofd_rows.proofs.Bools.{and_true, both_true, clash}
+use Rattle.std.proofs.lemmas.List.Sorted.{IsNonDecreasingBy-drop}
+use Rattle.iofd_rows.proofs.Bools.{both_true}
 use Rattle.iofd_rows.proofs.Each.{IsIn, of_all, of_any}
-use Rattle.iofd_rows.proofs.ListTests.{false_else}
 use Rattle.iofd_words.specs.Tables.{are_rising, is_among, kept_tables}
 use Rattle.iofd_words.specs.declared.numbers.FrameNo.{FrameNo}
 use Rattle.iofd_words.specs.declared.rows.TableFrame.{TableFrame}

@@ -1,11 +1,11 @@
 -- A step after which page tables are gone gives their frames back, and moves no others.
 use Rattle.std.proofs.Common.{◌≡◌, ℕ, ◌<◌, ◌≤◌, Bool, true, false, ◌&&◌, ◌||◌, not, eqb, ltb, List, [], ◌∷◌, ◌++◌, refl, ap, sym, ◌∙◌, inl, inr, arith}
-use Rattle.std.specs.List.{filter, list_all, list_any}
+use Rattle.std.specs.List.{filter, list_any}
 use Rattle.std.specs.List.Sorted.{IsNonDecreasingBy}
 use Rattle.std.proofs.lemmas.Bool.Decides.{nat_tests}
 use Rattle.std.proofs.lemmas.List.{append-nil}
 use Rattle.iofd_rows.proofs.Bools.{and_true, both_true}
-use Rattle.iofd_rows.proofs.Each.{IsIn, of_all, of_any}
+use Rattle.iofd_rows.proofs.Each.{IsIn, of_all}
 use Rattle.iofd_rows.proofs.ListTests.{any-filter, any_weaker, or_left}
 use Rattle.iofd_rows.specs.Ids.{have_own_ids}
 use Rattle.iofd_runs.proofs.StillTabled.{moves_given}

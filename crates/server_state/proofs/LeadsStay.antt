@@ -1,9 +1,9 @@
 -- Pages lead where they did, as long as their live areas and the pins of these stay.
-use Rattle.std.proofs.Common.{◌≡◌, ℕ, ◌<◌, ◌*◌, Bool, true, false, cond, ◌&&◌, eqb, ltb, Option, Some, None, List, [], ◌∷◌, map, refl, ap, sym, ◌∙◌, inl, inr, arith}
-use Rattle.std.specs.List.{count_by, filter, find, list_any}
+use Rattle.std.proofs.Common.{◌≡◌, ℕ, ◌<◌, Bool, true, false, cond, ◌&&◌, eqb, ltb, Option, Some, None, List, [], ◌∷◌, map, refl, ap, sym, ◌∙◌, inl, inr, arith}
+use Rattle.std.specs.List.{list_any}
 use Rattle.std.proofs.lemmas.Bool.Decides.{nat_tests}
 use Rattle.iofd_rows.proofs.Bools.{and_true, both_true}
-use Rattle.iofd_rows.proofs.Each.{IsIn, in_filter, in_found, in_map, of_any}
+use Rattle.iofd_rows.proofs.Each.{IsIn, in_filter, in_found, of_any}
 use Rattle.iofd_rows.proofs.Named.{file_is, id_is}
 use Rattle.iofd_rows.specs.Pinned.{ArePinned}
 use Rattle.iofd_words.specs.Areas.{areas_of, is_of}
@@ -24,7 +24,7 @@ use Rattle.frame_memory.specs.Pool.{FramePool}
 use Rattle.hwpt_device.specs.PageTables.{AllStand, Hwpt}
 use Rattle.memory_rows.proofs.PinsFollow.{any_count, only_kept}
 use Rattle.memory_rows.specs.Shown.{PinsShown, translated}
-use Rattle.server_state.specs.Leads.{lead_by, leads_by_kind, leads_in, leads_of, live_area_at, object_page, space_leads}
+use Rattle.server_state.specs.Leads.{lead_by, leads_by_kind, leads_of, live_area_at, object_page, space_leads}
 use Rattle.server_state.specs.Tables.{page_tables_among}
 use Rattle.table_words.specs.Rows.{MappedPage}
 use Rattle.user_memory.specs.Changes.{Settles}

@@ -1,5 +1,5 @@
 -- Page tables stay where the users' memory changes.
-use Rattle.std.proofs.Common.{◌≡◌, ℕ, zero, suc, ◌+◌, ◌<◌, ◌≤◌, ◌≢◌, Bool, true, Option, List, refl, ap, sym, ◌∙◌, arith}
+use Rattle.std.proofs.Common.{◌≡◌, ℕ, zero, suc, ◌<◌, ◌≤◌, true, Option, List, refl, arith}
 use Rattle.std.specs.Prelude.{slice_index}
 use Rattle.iofd_rows.proofs.Each.{IsIn}
 use Rattle.iofd_words.specs.Frames.{FrameWrite}

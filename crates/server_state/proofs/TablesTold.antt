@@ -1,13 +1,13 @@
 -- The words of the pool tell which tables the page tables of the world have, of all that are there.
-use Rattle.std.proofs.Common.{◌≡◌, Bool, true, false, ◌&&◌, ◌||◌, not, Option, Some, None, List, [], ◌∷◌, map, refl, ap, sym, ◌∙◌}
-use Rattle.std.specs.List.{filter, find, list_all}
+use Rattle.std.proofs.Common.{◌≡◌, Bool, true, false, not, Option, Some, None, List, [], ◌∷◌, map, refl, ap, sym, ◌∙◌}
+use Rattle.std.specs.List.{find, list_all}
 use Rattle.std.specs.Option.{option_map}
-use Rattle.iofd_rows.proofs.Bools.{and_true, clash}
+use Rattle.iofd_rows.proofs.Bools.{and_true}
 use Rattle.iofd_rows.proofs.Each.{found_kept}
 use Rattle.iofd_rows.proofs.ListTests.{false_else}
 use Rattle.iofd_rows.proofs.Named.{file_is, id_is, object_of_kind}
 use Rattle.iofd_words.specs.Objects.{is_hwpt, is_object, kind_of}
-use Rattle.iofd_words.specs.TablePlaces.{TablePlace, has_table, is_place, is_table_of, place_of}
+use Rattle.iofd_words.specs.TablePlaces.{TablePlace, has_table, is_table_of}
 use Rattle.iofd_words.specs.Tables.{is_orphan}
 use Rattle.iofd_words.specs.World.{World}
 use Rattle.iofd_words.specs.declared.numbers.FileNo.{FileNo}
@@ -18,7 +18,7 @@ use Rattle.iofd_words.specs.declared.rows.TableFrame.{TableFrame}
 use Rattle.frame_memory.specs.Pool.{FramePool}
 use Rattle.hwpt_device.proofs.Kept.{kept_is}
 use Rattle.hwpt_device.specs.Kept.{has_kept, keeps}
-use Rattle.hwpt_device.specs.PageTables.{Hwpt, PageTables, hwpt_of, objects_of}
+use Rattle.hwpt_device.specs.PageTables.{Hwpt, PageTables, hwpt_of}
 use Rattle.server_state.proofs.PageTables.{found_among}
 use Rattle.server_state.specs.Leads.{leads_of}
 use Rattle.server_state.specs.Shows.{TablesShown}

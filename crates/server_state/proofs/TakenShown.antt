@@ -1,5 +1,5 @@
 -- Frames are shown once some that were free hold tables.
-use Rattle.std.proofs.Common.{◌≡◌, ℕ, zero, suc, ◌+◌, ◌<◌, ◌≤◌, ◌⊎◌, inl, inr, Bool, true, false, cond, eqb, ltb, List, [], ◌∷◌, ◌++◌, get_or, length, set, refl, ap, sym, ◌∙◌, arith}
+use Rattle.std.proofs.Common.{◌≡◌, ℕ, zero, suc, ◌+◌, ◌<◌, ◌≤◌, ◌⊎◌, inl, inr, Bool, true, false, cond, eqb, List, [], ◌∷◌, ◌++◌, get_or, length, set, refl, ap, sym, ◌∙◌, arith}
 use Rattle.std.specs.Prelude.{slice_index}
 use Rattle.std.proofs.lemmas.Bool.Decides.{nat_tests}
 use Rattle.std.proofs.lemmas.List.{get_or-set_other, get_or-set_same, length-set}
@@ -7,7 +7,7 @@ use Rattle.iofd_words.specs.Frames.{FrameWrite}
 use Rattle.iofd_words.specs.Tables.{MissingTable, in_frames}
 use Rattle.iofd_words.specs.declared.numbers.FrameNo.{FrameNo}
 use Rattle.iofd_words.specs.declared.rows.TableFrame.{TableFrame}
-use Rattle.frame_memory.specs.Pool.{FramePool, bytes_of}
+use Rattle.frame_memory.specs.Pool.{FramePool}
 use Rattle.hwpt_device.proofs.Counted.{tables_append}
 use Rattle.hwpt_device.specs.PageTables.{KeepsOthers}
 use Rattle.memory_rows.proofs.PinsFollow.{count-cons}

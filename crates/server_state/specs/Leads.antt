@@ -1,5 +1,5 @@
 -- Where the pages of an address space lead: to the frames of the pins of its live areas, with the rights of these.
-use Rattle.std.specs.Prelude.{ℕ, ◌-◌, ◌*◌, ◌&&◌, Option, Some, None, List, [], find}
+use Rattle.std.specs.Prelude.{ℕ, ◌-◌, ◌*◌, ◌&&◌, Option, Some, None, List, find}
 use Rattle.iofd_words.specs.Areas.{areas_of}
 use Rattle.iofd_words.specs.Pages.{page_of}
 use Rattle.iofd_words.specs.Pins.{ObjectPage, pinned_frame}

@@ -1,16 +1,17 @@
 //! Changes of one address space's areas: one comes, or some go.
 
 ghost use Rattle.std.specs.Prelude.{◌≡◌, ◌<◌, ◌==◌, not, true, None, [], length, map, OnErr, OnOk, MatchOption};
-ghost use Rattle.area_map.specs.Areas.{AreKept, areas_outside, areas_within, bytes_of, marked, with_area};
+ghost use Rattle.std.specs.List.{list_any};
+ghost use Rattle.area_map.specs.Areas.{AreKept, areas_outside, areas_within, marked, with_area};
 ghost use Rattle.area_map.specs.Insertion.{insert_refusal};
 ghost use Rattle.iofd_words.specs.Areas.{owed_by};
 ghost use Rattle.iofd_words.specs.Objects.{has_ioas, is_ioas};
 ghost use Rattle.server_state.specs.Held.{areas_at, areas_in, kind_in, objects_in, room_at, room_in};
 ghost use Rattle.server_state.specs.Spaces.{IsOrderly, IsWith, HasAreas};
-ghost use Rattle.server_state.specs.Mapping.{own_areas, some_waits};
+ghost use Rattle.server_state.specs.Mapping.{own_areas};
 
 use crate::held::Held;
-use area_map::Areas;
+use area_map::{Areas, Iter};
 use iofd_words::{Area, DeviceSet, FileNo, NoMemory, ObjId, Phase, Span};
 use object_table::{Kind, ObjectTable};
 use std::alloc::Allocator;
@@ -91,22 +92,28 @@ pub fn own_areas<A: Allocator>(
     }
 }
 
-/// Whether a device still has to flush before the areas that lie in the span may go: one of those attached for a live
-/// area, one of those that it waits for for a leaving area.
-pub fn some_waits<A: Allocator>(
-    table: &ObjectTable<Held<A>, A>,
+/// The areas of the address space that lie in the span; none where there is no such address space.
+pub fn areas_within<'a, A: Allocator>(
+    table: &'a ObjectTable<Held<A>, A>,
     file: FileNo,
     ioas: ObjId,
     span: Span,
-    attached: &DeviceSet,
-) -> bool
-    ensures value { result ≡ some_waits span attached.now (own_areas table.now file ioas) }
+) -> Iter<'a, A>
+    ensures areas { result ≡ areas_within span (own_areas table.now file ioas) }
     ensures kept { AreKept (own_areas table.now file ioas) }
 {
-    match own_areas(table, file, ioas) {
-        Some(areas) => areas.within(span).any(|area| waits(&area.phase, attached)),
-        None => false,
-    }
+    let Some(areas) = own_areas(table, file, ioas) else {
+        return Iter::empty();
+    };
+    areas.within(span)
+}
+
+/// Whether a device still has to flush before these areas may go: one of those attached for a live area, one of those
+/// that it waits for for a leaving area.
+pub fn some_waits<A: Allocator>(mut areas: Iter<'_, A>, attached: &DeviceSet) -> bool
+    ensures { result ≡ list_any (λ area. not (length (owed_by attached.now area.phase) == 0)) areas.entry }
+{
+    areas.any(|area| waits(&area.phase, attached))
 }
 
 /// Whether some device still has to flush, where these are attached.
@@ -116,21 +123,6 @@ fn waits(phase: &Phase, attached: &DeviceSet) -> bool
     match phase {
         Phase::Live => !attached.is_empty(),
         Phase::Leaving { owed, .. } => !owed.is_empty(),
-    }
-}
-
-/// How many addresses the areas of the address space that lie in the span have together.
-pub fn bytes_within<A: Allocator>(
-    table: &ObjectTable<Held<A>, A>,
-    file: FileNo,
-    ioas: ObjId,
-    span: Span,
-) -> u128
-    ensures { result ≡ bytes_of (areas_within span (own_areas table.now file ioas)) }
-{
-    match own_areas(table, file, ioas) {
-        Some(areas) => areas.bytes_within(span),
-        None => 0,
     }
 }
 

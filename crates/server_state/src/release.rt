@@ -81,27 +81,6 @@ pub fn remove_space<A: Allocator>(
     }
 }
 
-/// Those of them that lie in the span go.
-pub fn remove_within<A: Allocator>(
-    table: &ObjectTable<Held<A>, A>,
-    file: FileNo,
-    ioas: ObjId,
-    span: Span,
-    translated: bool,
-    memory: &mut UserMemory<A>,
-    pool: &mut Pool<A>,
-)
-    requires { MayRelease (over (areas_within span (own_areas table.now file ioas)))
-        (if_translated translated (areas_within span (own_areas table.now file ioas))) memory.old pool.old.holds }
-    ensures { IsReleased (over (areas_within span (own_areas table.now file ioas)))
-        (if_translated translated (areas_within span (own_areas table.now file ioas)))
-        memory.old memory.new pool.old pool.new }
-{
-    if let Some(areas) = area_changes::own_areas(table, file, ioas) {
-        remove(areas.within(span), translated, memory, pool);
-    }
-}
-
 /// No page table translates the areas of the address space any more.
 pub fn unpin_space<A: Allocator>(
     table: &ObjectTable<Held<A>, A>,

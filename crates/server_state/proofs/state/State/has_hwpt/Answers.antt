@@ -1,6 +1,4 @@
-use Rattle.std.proofs.Common.{ap, ◌∙◌}
-use Rattle.hwpt_device.specs.PageTables.{PageTables, objects_of}
-use Rattle.iofd_words.specs.Objects.{has_hwpt}
+use Rattle.hwpt_device.specs.PageTables.{objects_of}
 use Rattle.server_state.proofs.PageTables.{has_hwpt_kept, tables_known}
 use Rattle.server_state.specs.Held.{objects_in}
 use Rattle.server_state.proofs.state.State.has_hwpt.Goals as goal
