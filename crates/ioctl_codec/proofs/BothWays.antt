@@ -10,7 +10,7 @@ use Rattle.iofd_words.specs.declared.refusal.Cause.TheVariants as cause
 use Rattle.ioctl_codec.specs.Layout.{Structure, U32, bytes_of, length_of, are_allowed, carried, spelled, numbers_at, entry_count, IsLaidOut}
 use Rattle.ioctl_codec.specs.Refusals.{size_at, size_checks, field_checks, read_numbers, read_values, read_count, after_size, refusal_of}
 use Rattle.ioctl_codec.proofs.LittleEndian.{IsBytes, IsBytes-drop, IsBytes-take, to_le_bytes-from_le_bytes, from_le_bytes-to_le_bytes}
-use Rattle.ioctl_codec.proofs.Rows.{and-parts, spelled-numbers_at, AreOfWidth-numbers_at, length-spelled, numbers_at-spelled}
+use Rattle.ioctl_codec.proofs.Rows.{and-parts, or-false, spelled-numbers_at, AreOfWidth-numbers_at, length-spelled, numbers_at-spelled}
 
 -- ---- tests
 
@@ -21,10 +21,6 @@ none_after k false rest e = (refl, e)
 none_before : {A : Type 0} (k : A) (b : Bool) (rest : List (A × Bool)) → b ≡ false → first_true rest ≡ None → first_true ((k, b) ∷ rest) ≡ None
 none_before k true rest e f = absurd cc
 none_before k false rest e f = f
-
-or-false : (a b : Bool) → (a || b) ≡ false → (a ≡ false) × (b ≡ false)
-or-false true b e = absurd cc
-or-false false b e = (refl, e)
 
 not-false : (b : Bool) → not b ≡ false → b ≡ true
 not-false true e = refl

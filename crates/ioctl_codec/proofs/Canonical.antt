@@ -17,8 +17,7 @@ use Rattle.ioctl_codec.specs.Structures.{copy_values, ioas_allow_iovas, ioas_cop
 use Rattle.ioctl_codec.specs.Spelling.{Spells, canonical, FitsFields, HasSpelling}
 use Rattle.ioctl_codec.specs.Refusals.{read_numbers, read_values, refusal}
 use Rattle.ioctl_codec.proofs.Commands.{refusal-number, spelled_read}
-use Rattle.ioctl_codec.proofs.Refusing.{and-true}
-use Rattle.ioctl_codec.proofs.Rows.{and-parts, and_both, are_allowed-filled}
+use Rattle.ioctl_codec.proofs.Rows.{and-parts, and-true, and_both, are_allowed-filled}
 
 abbrev canonical_row : {A : Type 0} → Command A → List ℕ
 canonical_row c = filled (structure_of c).fields (values_of c) None
@@ -105,15 +104,10 @@ length_at_most (IoasMap m) = lit≤ tt
 length_at_most (IoasUnmap u) = lit≤ tt
 length_at_most (HwptAlloc r) = lit≤ tt
 
-no_tail : {A : Type 0} (c : Command A) → replicate {A = ℕ} (length_of (structure_of c) - length_of (structure_of c)) 0 ≡ []
-no_tail (Destroy id) = refl
-no_tail IoasAlloc = refl
-no_tail (IoasAllowIovas ioas ranges) = refl
-no_tail (IoasCopy r) = refl
-no_tail (IoasIovaRanges r) = refl
-no_tail (IoasMap m) = refl
-no_tail (IoasUnmap u) = refl
-no_tail (HwptAlloc r) = refl
+no_tail : (n : ℕ) → replicate {A = ℕ} (n - n) 0 ≡ []
+no_tail n =
+    let none : n - n ≡ 0 = omega arith in
+    ap (λ (k : ℕ). replicate {A = ℕ} k 0) none
 
 widths : {A : Type 0} (c : Command A) → FitsFields c → is_spellable c ≡ true → AreOfWidth (structure_of c).fields (canonical_row c)
 widths (Destroy id) fits spellable = fits
@@ -153,7 +147,7 @@ canonical_of c fits entries spellable =
         widths = fits;
         allowed = are_allowed-canonical c spellable;
         values_are = carried-canonical c spellable;
-        bytes_are = ap (λ (x : List ℕ). to_le_bytes w32 (length_of s) ++ x) (sym (append-nil fields) ∙ ap (λ (x : List ℕ). fields ++ x) (sym (no_tail c)));
+        bytes_are = ap (λ (x : List ℕ). to_le_bytes w32 (length_of s) ++ x) (sym (append-nil fields) ∙ ap (λ (x : List ℕ). fields ++ x) (sym (no_tail (length_of s))));
       };
       addresses = entries;
       bytes_are = refl;

@@ -22,20 +22,37 @@ use Rattle.ioctl_codec.proofs.EntriesBytes.{length-entries_bytes, length-entries
 flags_at : List ℕ → ℕ
 flags_at bytes = from_le_bytes w32 (take 4 (drop 4 bytes))
 
+-- the command of a number, its values and its entries
+rebuilt : {A : Type 0} → ℕ → List ℕ → List Bounds → Command A
+rebuilt nr values entries =
+    cond (nr == 0x3B80) (Destroy (record { 0 = slice_index values 0 }))
+    (cond (nr == 0x3B81) IoasAlloc
+    (cond (nr == 0x3B82) (IoasAllowIovas (record { 0 = slice_index values 0 }) entries)
+    (cond (nr == 0x3B83) (IoasCopy (record {
+      flags = record { 0 = slice_index values 0 };
+      dst_ioas = record { 0 = slice_index values 1 };
+      src_ioas = record { 0 = slice_index values 2 };
+      length = slice_index values 3;
+      dst_iova = record { 0 = slice_index values 4 };
+      src_iova = record { 0 = slice_index values 5 };
+    }))
+    (cond (nr == 0x3B84) (IoasIovaRanges (record { ioas = record { 0 = slice_index values 0 }; places = slice_index values 1 }))
+    (cond (nr == 0x3B85) (IoasMap (record {
+      flags = record { 0 = slice_index values 0 };
+      ioas = record { 0 = slice_index values 1 };
+      user_va = slice_index values 2;
+      length = slice_index values 3;
+      iova = record { 0 = slice_index values 4 };
+    }))
+    (cond (nr == 0x3B89) (HwptAlloc (record { device = record { 0 = slice_index values 0 }; ioas = record { 0 = slice_index values 1 } }))
+    (IoasUnmap (record { ioas = record { 0 = slice_index values 0 }; iova = record { 0 = slice_index values 1 }; length = slice_index values 2 }))))))))
+
 -- the structure that bytes with this number have, by their flags if it's a MAP or a COPY
 structure_in : ℕ → List ℕ → Structure
-structure_in nr bytes =
-    cond (nr == 0x3B80) destroy
-    (cond (nr == 0x3B81) ioas_alloc
-    (cond (nr == 0x3B82) ioas_allow_iovas
-    (cond (nr == 0x3B83) (ioas_copy (has_flag (flags_at bytes) 1))
-    (cond (nr == 0x3B84) ioas_iova_ranges
-    (cond (nr == 0x3B85) (ioas_map (has_flag (flags_at bytes) 1))
-    (cond (nr == 0x3B89) hwpt_alloc
-    ioas_unmap))))))
+structure_in nr bytes = structure_of (rebuilt {A = Unit {0}} nr (flags_at bytes ∷ []) [])
 
 structure-is : {A : Type 0} (c : Command A) (nr : ℕ) (bytes : List ℕ) → (structure_of c).number ≡ nr → values_of c ≡ read_values (structure_of c) bytes → structure_of c ≡ structure_in nr bytes
-unfolding structure_in read_numbers flags_at
+unfolding structure_in rebuilt read_numbers flags_at
 structure-is (Destroy id) nr bytes e values = subst (λ (n : ℕ). destroy ≡ structure_in n bytes) e refl
 structure-is IoasAlloc nr bytes e values = subst (λ (n : ℕ). ioas_alloc ≡ structure_in n bytes) e refl
 structure-is (IoasAllowIovas ioas ranges) nr bytes e values = subst (λ (n : ℕ). ioas_allow_iovas ≡ structure_in n bytes) e refl
@@ -72,7 +89,7 @@ refusal-number (IoasUnmap u) nr bytes e = subst (λ (n : ℕ). refusal n bytes �
 refusal-number (HwptAlloc r) nr bytes e = subst (λ (n : ℕ). refusal n bytes ≡ refusal_of hwpt_alloc bytes) e refl
 
 structure-allow : (nr : ℕ) (bytes : List ℕ) → nr ≡ 0x3B82 → structure_in nr bytes ≡ ioas_allow_iovas
-unfolding structure_in
+unfolding structure_in rebuilt
 structure-allow nr bytes e = rw e refl
 
 count-map : (fixed : Bool) (values : List ℕ) → entry_count (ioas_map fixed).fields values ≡ 0
@@ -93,31 +110,6 @@ count_is (IoasIovaRanges r) = refl
 count_is (IoasMap m) = count-map (is_fixed m.flags) (map_values m)
 count_is (IoasUnmap u) = refl
 count_is (HwptAlloc r) = refl
-
--- the command of a number, its values and its entries
-rebuilt : {A : Type 0} → ℕ → List ℕ → List Bounds → Command A
-rebuilt nr values entries =
-    cond (nr == 0x3B80) (Destroy (record { 0 = slice_index values 0 }))
-    (cond (nr == 0x3B81) IoasAlloc
-    (cond (nr == 0x3B82) (IoasAllowIovas (record { 0 = slice_index values 0 }) entries)
-    (cond (nr == 0x3B83) (IoasCopy (record {
-      flags = record { 0 = slice_index values 0 };
-      dst_ioas = record { 0 = slice_index values 1 };
-      src_ioas = record { 0 = slice_index values 2 };
-      length = slice_index values 3;
-      dst_iova = record { 0 = slice_index values 4 };
-      src_iova = record { 0 = slice_index values 5 };
-    }))
-    (cond (nr == 0x3B84) (IoasIovaRanges (record { ioas = record { 0 = slice_index values 0 }; places = slice_index values 1 }))
-    (cond (nr == 0x3B85) (IoasMap (record {
-      flags = record { 0 = slice_index values 0 };
-      ioas = record { 0 = slice_index values 1 };
-      user_va = slice_index values 2;
-      length = slice_index values 3;
-      iova = record { 0 = slice_index values 4 };
-    }))
-    (cond (nr == 0x3B89) (HwptAlloc (record { device = record { 0 = slice_index values 0 }; ioas = record { 0 = slice_index values 1 } }))
-    (IoasUnmap (record { ioas = record { 0 = slice_index values 0 }; iova = record { 0 = slice_index values 1 }; length = slice_index values 2 }))))))))
 
 rebuilt-is : {A : Type 0} (c : Command A) → rebuilt (structure_of c).number (values_of c) (entries_of c) ≡ c
 unfolding rebuilt

@@ -5,6 +5,5 @@ pub mod Rows
 pub mod EntriesBytes
 pub mod BothWays
 pub mod Commands
-pub mod Writes
 pub mod MapBytes
 pub mod Canonical

@@ -1,5 +1,5 @@
 -- The checks of the sizes and those of the fields together decide whether a structure is refused.
-use Rattle.std.proofs.Common.{◌≡◌, ℕ, Bool, true, false, ◌&&◌, List, Option, Some, None, Result, refl, sym, ◌∙◌}
+use Rattle.std.proofs.Common.{◌≡◌, ℕ, Bool, List, Option, Some, None, Result, sym, ◌∙◌}
 use Rattle.std.specs.Prelude.{IsErrAnd}
 use Rattle.std.proofs.lemmas.Result.{err_from_is_err_and}
 use Rattle.iofd_words.specs.FirstTrue.{first_true}
@@ -24,7 +24,3 @@ pub refused_late : {T : Type 0} (s : Structure) (bytes after : List ℕ) (suppor
 refused_late s bytes after supported count r e is sizes at allowed counted late =
     let p = err_from_is_err_and r is in
     rw (p.1, p.2) (checked_late s bytes after supported count (Some e.cause) sizes at allowed counted late)
-
-pub and-true : (b : Bool) → (b && true) ≡ b
-and-true true = refl
-and-true false = refl

@@ -1,4 +1,5 @@
 pub mod Layout
+pub mod Table
 pub mod Entries
 pub mod Structures
 pub mod Spelling

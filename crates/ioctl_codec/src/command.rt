@@ -15,7 +15,7 @@ use iofd_words::{
 use std::alloc::{Allocator, Global};
 
 // FIXED_IOVA, WRITEABLE and READABLE.
-const KNOWN_MAP_FLAGS: u32 = MapFlags::FIXED_IOVA.0 | MapFlags::WRITEABLE.0 | MapFlags::READABLE.0;
+pub const KNOWN_FLAGS: u32 = MapFlags::FIXED_IOVA.0 | MapFlags::WRITEABLE.0 | MapFlags::READABLE.0;
 
 /// What IOAS_IOVA_RANGES asks for (uapi header, `struct iommu_ioas_iova_ranges`): the ranges of an address space, for
 /// so many of which the caller has places.
@@ -97,7 +97,7 @@ pub enum DecodeError {
 }
 
 // How many ranges there are, if a structure's count can say it.
-pub fn count_of(ranges: &[IovaRange]) -> Option<u32>
+fn count_of(ranges: &[IovaRange]) -> Option<u32>
     ensures some { is_some result ≡ nat_lt (length ranges.now) (2 ^ 32) }
     ensures value { IfSome result (λ count. count ≡ length ranges.now) }
 {
@@ -105,10 +105,10 @@ pub fn count_of(ranges: &[IovaRange]) -> Option<u32>
 }
 
 // Whether a MAP or a COPY may have these flags: none but the known ones.
-pub fn are_spellable(flags: MapFlags) -> bool
+fn are_spellable(flags: MapFlags) -> bool
     ensures { result ≡ (bit_and flags.0 7 == flags.0) }
 {
-    flags.0 & KNOWN_MAP_FLAGS == flags.0
+    flags.0 & KNOWN_FLAGS == flags.0
 }
 
 // Whether a MAP or a COPY with these flags keeps this address.

@@ -1,22 +1,25 @@
 //! From bytes to commands.
-#![tactic(auto, using(crate::proofs::Refusing::checked_late, crate::proofs::Refusing::refused_late), unfolding(crate::specs::Refusals::read_numbers))]
+#![tactic(auto, unfolding(crate::specs::Refusals::read_numbers))]
 
-ghost use Rattle.std.specs.Prelude.{◌≡◌, ◌≢◌, ◌*◌, ◌<◌, ℕ, [], ◌∷◌, true, ◌&&◌, length, IfOk};
+ghost use Rattle.std.specs.Prelude.{◌≡◌, ◌≢◌, ◌*◌, ◌<◌, ◌≤◌, ℕ, [], ◌∷◌, false, length, IfOk};
+ghost use Rattle.iofd_words.specs.Rights.{is_fixed};
 ghost use Rattle.ioctl_codec.specs.Entries.{entries_at};
-ghost use Rattle.ioctl_codec.specs.Layout.{Flags, Reserved, is_allowed};
-ghost use Rattle.ioctl_codec.specs.Structures.{destroy, hwpt_alloc, ioas_alloc, ioas_allow_iovas, ioas_copy, ioas_iova_ranges, ioas_map, ioas_unmap, structure_of, values_of, entries_of};
+ghost use Rattle.ioctl_codec.specs.Layout.{carried, length_of};
+ghost use Rattle.ioctl_codec.specs.Structures.{copy_values, ioas_allow_iovas, ioas_copy, ioas_map, map_values, structure_of, values_of, entries_of};
 ghost use Rattle.ioctl_codec.specs.Spelling.{Spells};
-ghost use Rattle.ioctl_codec.specs.Refusals.{refusal_of, refusal, cause_of, refused_of, read_values, read_count, after_size, OnMemory, Gives, SpellsEntries};
+ghost use Rattle.ioctl_codec.specs.Refusals.{refusal_of, refusal, cause_of, refused_of, read_numbers, read_values, read_count, after_size, OnMemory, Gives, SpellsEntries};
+ghost use Rattle.ioctl_codec.specs.Table.{has_count, placed, structure_in};
 ghost use Rattle.ioctl_codec.specs.declared.command.Command.{Command};
 
 use crate::checks::{checked, parts};
-use crate::command::{Command, DecodeError, RangesRequest, are_spellable, kept_iova};
+use crate::command::{Command, DecodeError, RangesRequest, kept_iova};
 use crate::entries::read_entries;
-use crate::number::{u32_at, u64_at};
+use crate::fields::read_fields;
+use crate::number::low;
 use crate::structure::{
-    DESTROY, DESTROY_LENGTH, HWPT_ALLOC, HWPT_ALLOC_LENGTH, IOAS_ALLOC, IOAS_ALLOC_LENGTH,
-    IOAS_ALLOW_IOVAS, IOAS_ALLOW_IOVAS_LENGTH, IOAS_COPY, IOAS_COPY_LENGTH, IOAS_IOVA_RANGES,
-    IOAS_IOVA_RANGES_LENGTH, IOAS_MAP, IOAS_MAP_LENGTH, IOAS_UNMAP, IOAS_UNMAP_LENGTH,
+    DESTROY, DESTROY_ROW, HWPT_ALLOC, HWPT_ALLOC_ROW, IOAS_ALLOC, IOAS_ALLOC_ROW, IOAS_ALLOW_IOVAS,
+    IOAS_ALLOW_IOVAS_ROW, IOAS_COPY, IOAS_COPY_ROW, IOAS_IOVA_RANGES, IOAS_IOVA_RANGES_ROW,
+    IOAS_MAP, IOAS_MAP_ROW, IOAS_UNMAP, IOAS_UNMAP_ROW, Structure,
 };
 use iofd_words::{
     Cause, CopyRequest, HwptRequest, Iova, MapFlags, MapRequest, NoMemory, ObjId, RangeList,
@@ -24,152 +27,51 @@ use iofd_words::{
 };
 use std::alloc::Allocator;
 
-// DESTROY: id.
-fn destroy_of<A: Allocator>(bytes: &[u8]) -> Result<Command<A>, Refusal>
-    ensures refused { cause_of result ≡ refusal_of destroy bytes.now }
-    ensures structure { IfOk result (λ c. structure_of c ≡ destroy) }
-    ensures values { IfOk result (λ c. values_of c ≡ read_values destroy bytes.now) }
-    ensures entries { IfOk result (λ c. entries_of c ≡ []) }
+// The numbers in a structure behind which no entries follow, unless something refuses the bytes.
+#[inline(always)]
+fn alone(structure: Structure, bytes: &[u8]) -> Result<[u64; 8], Refusal>
+    requires known { structure.length ≡ length_of (structure_in structure) }
+    requires few { length structure.fields.now ≤ 8 }
+    requires uncounted { has_count (structure_in structure).fields ≡ false }
+    ensures refused { cause_of result ≡ refusal_of (structure_in structure) bytes.now }
+    ensures numbers { IfOk result (λ numbers. let s = structure_in structure in
+        placed 0 s.fields numbers ≡ read_numbers s bytes.now) }
 {
-    let (fields, after) = parts(bytes, DESTROY_LENGTH)?;
-    let (id, _) = u32_at(fields);
-    checked(true, 0, after)?;
-    Ok(Command::Destroy(ObjId(id)))
+    let (fields, after) = parts(bytes, structure.length)?;
+    let (numbers, allowed) = read_fields(structure.fields, fields);
+    checked(allowed, 0, after)?;
+    Ok(numbers)
 }
 
-// IOAS_ALLOC: flags, out_ioas_id.
-fn ioas_alloc_of<A: Allocator>(bytes: &[u8]) -> Result<Command<A>, Refusal>
-    ensures refused { cause_of result ≡ refusal_of ioas_alloc bytes.now }
-    ensures structure { IfOk result (λ c. structure_of c ≡ ioas_alloc) }
-    ensures values { IfOk result (λ c. values_of c ≡ read_values ioas_alloc bytes.now) }
-    ensures entries { IfOk result (λ c. entries_of c ≡ []) }
+// The request of a COPY with these numbers in its fields. A dst_iova that its flags don't fix is ignored.
+fn copy_of(numbers: &[u64; 8]) -> CopyRequest
+    ensures { let fields = (ioas_copy (is_fixed result.flags)).fields in
+        copy_values result ≡ carried fields (placed 0 fields numbers.now) }
 {
-    let (fields, after) = parts(bytes, IOAS_ALLOC_LENGTH)?;
-    let (flags, _) = u32_at(fields);
-    checked(flags == 0, 0, after)?;
-    Ok(Command::IoasAlloc)
-}
-
-// IOAS_COPY: flags, dst_ioas_id, src_ioas_id, length, dst_iova, src_iova. A dst_iova that isn't fixed is ignored.
-fn ioas_copy_of<A: Allocator>(bytes: &[u8]) -> Result<Command<A>, Refusal>
-    ensures refused { cause_of result ≡ refusal_of (ioas_copy true) bytes.now }
-    ensures number { IfOk result (λ c. (structure_of c).number ≡ (ioas_copy true).number) }
-    ensures values { IfOk result (λ c. values_of c ≡ read_values (structure_of c) bytes.now) }
-    ensures entries { IfOk result (λ c. entries_of c ≡ []) }
-{
-    let (fields, after) = parts(bytes, IOAS_COPY_LENGTH)?;
-    let (flags, fields) = u32_at(fields);
-    let (dst_ioas, fields) = u32_at(fields);
-    let (src_ioas, fields) = u32_at(fields);
-    let (length, fields) = u64_at(fields);
-    let (dst_iova, fields) = u64_at(fields);
-    let (src_iova, _) = u64_at(fields);
-    let flags = MapFlags(flags);
-    checked(are_spellable(flags), 0, after)?;
-    Ok(Command::IoasCopy(CopyRequest {
+    let flags = MapFlags(low(numbers[0]));
+    CopyRequest {
         flags,
-        dst_ioas: ObjId(dst_ioas),
-        src_ioas: ObjId(src_ioas),
-        length,
-        dst_iova: kept_iova(flags, Iova(dst_iova)),
-        src_iova: Iova(src_iova),
-    }))
+        dst_ioas: ObjId(low(numbers[1])),
+        src_ioas: ObjId(low(numbers[2])),
+        length: numbers[3],
+        dst_iova: kept_iova(flags, Iova(numbers[4])),
+        src_iova: Iova(numbers[5]),
+    }
 }
 
-// IOAS_IOVA_RANGES: ioas_id, num_iovas, reserved, allowed_iovas, out_iova_alignment. The last two are ignored.
-fn ioas_iova_ranges_of<A: Allocator>(bytes: &[u8]) -> Result<Command<A>, Refusal>
-    ensures refused { cause_of result ≡ refusal_of ioas_iova_ranges bytes.now }
-    ensures structure { IfOk result (λ c. structure_of c ≡ ioas_iova_ranges) }
-    ensures values { IfOk result (λ c. values_of c ≡ read_values ioas_iova_ranges bytes.now) }
-    ensures entries { IfOk result (λ c. entries_of c ≡ []) }
+// The request of a MAP with these numbers in its fields. An address that its flags don't fix is ignored.
+fn map_of(numbers: &[u64; 8]) -> MapRequest
+    ensures { let fields = (ioas_map (is_fixed result.flags)).fields in
+        map_values result ≡ carried fields (placed 0 fields numbers.now) }
 {
-    let (fields, after) = parts(bytes, IOAS_IOVA_RANGES_LENGTH)?;
-    let (ioas, fields) = u32_at(fields);
-    let (places, fields) = u32_at(fields);
-    let (reserved, _) = u32_at(fields);
-    checked(reserved == 0, 0, after)?;
-    Ok(Command::IoasIovaRanges(RangesRequest {
-        ioas: ObjId(ioas),
-        places,
-    }))
-}
-
-// Whether a MAP's flags and its reserved field may be these.
-fn is_supported(flags: MapFlags, reserved: u32) -> bool
-    ensures { result ≡ (is_allowed (Flags 7) flags.0 && is_allowed Reserved reserved) }
-{
-    are_spellable(flags) && reserved == 0
-}
-
-// IOAS_MAP: flags, ioas_id, reserved, user_va, length, iova. An address that the flags don't fix is ignored.
-fn ioas_map_of<A: Allocator>(bytes: &[u8]) -> Result<Command<A>, Refusal>
-    ensures refused { cause_of result ≡ refusal_of (ioas_map true) bytes.now }
-    ensures number { IfOk result (λ c. (structure_of c).number ≡ (ioas_map true).number) }
-    ensures values { IfOk result (λ c. values_of c ≡ read_values (structure_of c) bytes.now) }
-    ensures entries { IfOk result (λ c. entries_of c ≡ []) }
-{
-    let (fields, after) = parts(bytes, IOAS_MAP_LENGTH)?;
-    let (flags, fields) = u32_at(fields);
-    let (ioas, fields) = u32_at(fields);
-    let (reserved, fields) = u32_at(fields);
-    let (user_va, fields) = u64_at(fields);
-    let (length, fields) = u64_at(fields);
-    let (iova, _) = u64_at(fields);
-    let flags = MapFlags(flags);
-    checked(is_supported(flags, reserved), 0, after)?;
-    Ok(Command::IoasMap(MapRequest {
+    let flags = MapFlags(low(numbers[0]));
+    MapRequest {
         flags,
-        ioas: ObjId(ioas),
-        user_va,
-        length,
-        iova: kept_iova(flags, Iova(iova)),
-    }))
-}
-
-// IOAS_UNMAP: ioas_id, iova, length.
-fn ioas_unmap_of<A: Allocator>(bytes: &[u8]) -> Result<Command<A>, Refusal>
-    ensures refused { cause_of result ≡ refusal_of ioas_unmap bytes.now }
-    ensures structure { IfOk result (λ c. structure_of c ≡ ioas_unmap) }
-    ensures values { IfOk result (λ c. values_of c ≡ read_values ioas_unmap bytes.now) }
-    ensures entries { IfOk result (λ c. entries_of c ≡ []) }
-{
-    let (fields, after) = parts(bytes, IOAS_UNMAP_LENGTH)?;
-    let (ioas, fields) = u32_at(fields);
-    let (iova, fields) = u64_at(fields);
-    let (length, _) = u64_at(fields);
-    checked(true, 0, after)?;
-    Ok(Command::IoasUnmap(UnmapRequest {
-        ioas: ObjId(ioas),
-        iova: Iova(iova),
-        length,
-    }))
-}
-
-// Whether a HWPT_ALLOC's flags, of which none is known, and its reserved field may be these.
-fn are_zero(flags: u32, reserved: u32) -> bool
-    ensures { result ≡ (is_allowed Reserved flags && is_allowed Reserved reserved) }
-{
-    flags == 0 && reserved == 0
-}
-
-// HWPT_ALLOC: flags, dev_id, pt_id, out_hwpt_id, reserved. The one before the last is ignored.
-fn hwpt_alloc_of<A: Allocator>(bytes: &[u8]) -> Result<Command<A>, Refusal>
-    ensures refused { cause_of result ≡ refusal_of hwpt_alloc bytes.now }
-    ensures structure { IfOk result (λ c. structure_of c ≡ hwpt_alloc) }
-    ensures values { IfOk result (λ c. values_of c ≡ read_values hwpt_alloc bytes.now) }
-    ensures entries { IfOk result (λ c. entries_of c ≡ []) }
-{
-    let (fields, after) = parts(bytes, HWPT_ALLOC_LENGTH)?;
-    let (flags, fields) = u32_at(fields);
-    let (device, fields) = u32_at(fields);
-    let (ioas, fields) = u32_at(fields);
-    let (_out_hwpt_id, fields) = u32_at(fields);
-    let (reserved, _) = u32_at(fields);
-    checked(are_zero(flags, reserved), 0, after)?;
-    Ok(Command::HwptAlloc(HwptRequest {
-        device: ObjId(device),
-        ioas: ObjId(ioas),
-    }))
+        ioas: ObjId(low(numbers[1])),
+        user_va: numbers[3],
+        length: numbers[4],
+        iova: kept_iova(flags, Iova(numbers[5])),
+    }
 }
 
 // Reading by the command's number, where no entries follow the structure.
@@ -181,32 +83,50 @@ fn read_alone<A: Allocator>(nr: u32, bytes: &[u8]) -> Result<Command<A>, Refusal
     ensures entries { IfOk result (λ c. entries_of c ≡ []) }
 {
     match nr {
-        DESTROY => destroy_of(bytes),
-        IOAS_ALLOC => ioas_alloc_of(bytes),
-        IOAS_COPY => ioas_copy_of(bytes),
-        IOAS_IOVA_RANGES => ioas_iova_ranges_of(bytes),
-        IOAS_MAP => ioas_map_of(bytes),
-        IOAS_UNMAP => ioas_unmap_of(bytes),
-        HWPT_ALLOC => hwpt_alloc_of(bytes),
+        DESTROY => {
+            let numbers = alone(DESTROY_ROW, bytes)?;
+            Ok(Command::Destroy(ObjId(low(numbers[0]))))
+        }
+        IOAS_ALLOC => {
+            alone(IOAS_ALLOC_ROW, bytes)?;
+            Ok(Command::IoasAlloc)
+        }
+        IOAS_COPY => Ok(Command::IoasCopy(copy_of(&alone(IOAS_COPY_ROW, bytes)?))),
+        IOAS_IOVA_RANGES => {
+            let numbers = alone(IOAS_IOVA_RANGES_ROW, bytes)?;
+            let (ioas, places) = (ObjId(low(numbers[0])), low(numbers[1]));
+            Ok(Command::IoasIovaRanges(RangesRequest { ioas, places }))
+        }
+        IOAS_MAP => Ok(Command::IoasMap(map_of(&alone(IOAS_MAP_ROW, bytes)?))),
+        IOAS_UNMAP => {
+            let numbers = alone(IOAS_UNMAP_ROW, bytes)?;
+            let (ioas, iova) = (ObjId(low(numbers[0])), Iova(numbers[1]));
+            let length = numbers[2];
+            Ok(Command::IoasUnmap(UnmapRequest { ioas, iova, length }))
+        }
+        HWPT_ALLOC => {
+            let numbers = alone(HWPT_ALLOC_ROW, bytes)?;
+            let (device, ioas) = (ObjId(low(numbers[1])), ObjId(low(numbers[2])));
+            Ok(Command::HwptAlloc(HwptRequest { device, ioas }))
+        }
         _ => Err(Refusal {
             cause: Cause::Number,
         }),
     }
 }
 
-// IOAS_ALLOW_IOVAS: ioas_id, num_iovas, reserved, allowed_iovas, which is ignored; and the bytes of the entries.
+// The address space of an IOAS_ALLOW_IOVAS, the number of its entries, and the bytes of these.
 fn ioas_allow_iovas_at(bytes: &[u8]) -> Result<(ObjId, u32, &[u8]), Refusal>
     ensures refused { cause_of result ≡ refusal_of ioas_allow_iovas bytes.now }
     ensures values { IfOk result (λ found. read_values ioas_allow_iovas bytes.now ≡ found.0.0 ∷ found.1 ∷ []) }
     ensures after { IfOk result (λ found. found.2.now ≡ after_size bytes.now) }
     ensures whole { IfOk result (λ found. length found.2.now ≡ 16 * found.1) }
 {
-    let (fields, after) = parts(bytes, IOAS_ALLOW_IOVAS_LENGTH)?;
-    let (ioas, fields) = u32_at(fields);
-    let (num_iovas, fields) = u32_at(fields);
-    let (reserved, _) = u32_at(fields);
-    checked(reserved == 0, num_iovas, after)?;
-    Ok((ObjId(ioas), num_iovas, after))
+    let (fields, after) = parts(bytes, IOAS_ALLOW_IOVAS_ROW.length)?;
+    let (numbers, allowed) = read_fields(IOAS_ALLOW_IOVAS_ROW.fields, fields);
+    let (ioas, num_iovas) = (ObjId(low(numbers[0])), low(numbers[1]));
+    checked(allowed, num_iovas, after)?;
+    Ok((ioas, num_iovas, after))
 }
 
 // IOAS_ALLOW_IOVAS with its entries. Memory is taken for these once nothing refuses the bytes.

@@ -1,106 +1,116 @@
 //! From commands, and replies to them, to bytes.
 
-ghost use Rattle.std.specs.Prelude.{◌≡◌, ◌^◌, ◌≤◌, ◌++◌, [], ◌∷◌, length, drop, None, Some, IsTrue, IfOk, OnOk, OnErr, ◌<◌};
+ghost use Rattle.std.specs.Prelude.{◌≡◌, ◌^◌, ◌<◌, ◌≤◌, ◌++◌, length, drop, None, IsTrue, IfOk, OnOk, OnErr};
 ghost use Rattle.iofd_words.specs.Rights.{is_fixed};
 ghost use Rattle.ioctl_codec.specs.Entries.{AreAddresses, entries_bytes};
 ghost use Rattle.ioctl_codec.specs.Layout.{AreOfWidth, filled, structure_bytes};
-ghost use Rattle.ioctl_codec.specs.Structures.{copy_values, entries_of, ioas_allow_iovas, ioas_copy, ioas_map, is_spellable, map_values, structure_of, values_of};
-ghost use Rattle.ioctl_codec.specs.Spelling.{canonical, ranges_written_back, written_back, Spells};
+ghost use Rattle.ioctl_codec.specs.Structures.{copy_values, entries_of, ioas_copy, ioas_map, is_spellable, map_values, structure_of, values_of};
+ghost use Rattle.ioctl_codec.specs.Spelling.{answer_of, canonical, ranges_written_back, written_back, Spells};
 
-use crate::command::{Command, RangesRequest, count_of, kept_iova};
+use crate::command::{Command, RangesRequest, kept_iova};
 use crate::entries::{put_ranges, put_spans};
-use crate::writing::{
-    put_destroy, put_hwpt_alloc, put_ioas_alloc, put_ioas_allow_iovas, put_ioas_copy,
-    put_ioas_iova_ranges, put_ioas_map, put_ioas_unmap,
+use crate::fields::put_structure;
+use crate::structure::{
+    DESTROY_ROW, HWPT_ALLOC_ROW, IOAS_ALLOC_ROW, IOAS_ALLOW_IOVAS_ROW, IOAS_COPY_ROW,
+    IOAS_IOVA_RANGES_ROW, IOAS_MAP_ROW, IOAS_UNMAP_ROW,
 };
-use iofd_words::{
-    CopyRequest, Iova, IovaRange, MapRequest, NoMemory, ObjId, Reply, Span, UnmapRequest,
-};
+use iofd_words::{CopyRequest, MapRequest, NoMemory, Reply, Span};
 use std::alloc::Allocator;
 
 // What `out_iova_alignment` says: addresses are mapped by whole pages.
 const IOVA_ALIGNMENT: u64 = 4096;
 
-// Writes a MAP's one spelling to the front, with 0 for an address that isn't fixed.
-fn put_map(out: &mut [u8; 64], map: MapRequest) -> usize
-    ensures count { result ≡ 40 }
-    ensures bytes { out.new
-        ≡ structure_bytes (ioas_map (is_fixed map.flags)) (map_values map) None ++ drop result out.old }
-    ensures fits { let fields = (ioas_map (is_fixed map.flags)).fields in
-        AreOfWidth fields (filled fields (map_values map) None) }
+// What a good reply puts into the answer's field, if the structure has one; no other reply is written back.
+fn answer_of<A: Allocator>(command: &Command<A>, reply: &Reply) -> Option<Option<u64>>
+    ensures { result ≡ answer_of command.now reply.now }
 {
-    let iova = kept_iova(map.flags, map.iova);
-    put_ioas_map(out, MapRequest { iova, ..map })
-}
-
-// Writes a MAP with the address that was answered to the front.
-fn put_mapped(out: &mut [u8; 64], map: MapRequest, iova: Iova) -> usize
-    ensures count { result ≡ 40 }
-    ensures bytes { out.new
-        ≡ structure_bytes (ioas_map (is_fixed map.flags)) (map_values map) (Some iova.0) ++ drop result out.old }
-{
-    put_ioas_map(out, MapRequest { iova, ..map })
-}
-
-// Writes a COPY's one spelling to the front, with 0 for a dst_iova that isn't fixed.
-fn put_copy(out: &mut [u8; 64], copy: CopyRequest) -> usize
-    ensures count { result ≡ 40 }
-    ensures bytes { out.new
-        ≡ structure_bytes (ioas_copy (is_fixed copy.flags)) (copy_values copy) None ++ drop result out.old }
-    ensures fits { let fields = (ioas_copy (is_fixed copy.flags)).fields in
-        AreOfWidth fields (filled fields (copy_values copy) None) }
-{
-    let dst_iova = kept_iova(copy.flags, copy.dst_iova);
-    put_ioas_copy(out, CopyRequest { dst_iova, ..copy })
-}
-
-// Writes a COPY with the address that was answered to the front.
-fn put_copied(out: &mut [u8; 64], copy: CopyRequest, dst_iova: Iova) -> usize
-    ensures count { result ≡ 40 }
-    ensures bytes { out.new
-        ≡ structure_bytes (ioas_copy (is_fixed copy.flags)) (copy_values copy) (Some dst_iova.0)
-        ++ drop result out.old }
-{
-    put_ioas_copy(out, CopyRequest { dst_iova, ..copy })
-}
-
-// Writes an ALLOW_IOVAS with the number of its ranges to the front, and answers its length; nothing, if no count can
-// say that number.
-fn put_allow_iovas(out: &mut [u8; 64], ioas: ObjId, ranges: &[IovaRange]) -> usize
-    ensures none { 2 ^ 32 ≤ length ranges.now → (result ≡ 0) × (out.new ≡ out.old) }
-    ensures count { length ranges.now < 2 ^ 32 → result ≡ 24 }
-    ensures bytes { length ranges.now < 2 ^ 32 → out.new
-        ≡ structure_bytes ioas_allow_iovas (ioas.0 ∷ length ranges.now ∷ []) None ++ drop result out.old }
-    ensures fits { ioas.0 < 2 ^ 32 }
-{
-    match count_of(ranges) {
-        Some(count) => put_ioas_allow_iovas(out, ioas, count),
-        None => 0,
+    match (command, *reply) {
+        (Command::Destroy(_), Reply::Done) => Some(None),
+        (Command::IoasAlloc, Reply::Id(id)) => Some(Some(u64::from(id.0))),
+        (Command::IoasAllowIovas(_, _), Reply::Done) if command.is_spellable() => Some(None),
+        (Command::IoasCopy(_), Reply::Iova(iova)) => Some(Some(iova.0)),
+        (Command::IoasMap(_), Reply::Iova(iova)) => Some(Some(iova.0)),
+        (Command::IoasUnmap(_), Reply::Bytes(count)) => Some(Some(count)),
+        (Command::HwptAlloc(_), Reply::Id(id)) => Some(Some(u64::from(id.0))),
+        _ => None,
     }
 }
 
-// Writes the structure of the command's one spelling to the front, and answers its length. The rest stays.
-#[tactic(auto, unfolding(crate::specs::Layout::structure_bytes))]
-fn put_command<A: Allocator>(out: &mut [u8; 64], command: &Command<A>) -> usize
-    requires { IsTrue (is_spellable command.now) }
-    ensures count { result ≡ length (structure_bytes (structure_of command.now) (values_of command.now) None) }
-    ensures room { result ≤ 64 }
+// Writes a COPY with this answer, if there is one, to the front, and else its one spelling.
+fn put_copy(out: &mut [u8; 64], copy: CopyRequest, answer: Option<u64>) -> usize
+    ensures count { result ≡ 40 }
     ensures bytes { out.new
-        ≡ structure_bytes (structure_of command.now) (values_of command.now) None ++ drop result out.old }
-    ensures fits { let fields = (structure_of command.now).fields in
+        ≡ structure_bytes (ioas_copy (is_fixed copy.flags)) (copy_values copy) answer ++ drop result out.old }
+    ensures fits { let fields = (ioas_copy (is_fixed copy.flags)).fields in
+        AreOfWidth fields (filled fields (copy_values copy) None) }
+{
+    let numbers = [
+        u64::from(copy.flags.0),
+        u64::from(copy.dst_ioas.0),
+        u64::from(copy.src_ioas.0),
+        copy.length,
+        answer.unwrap_or(kept_iova(copy.flags, copy.dst_iova).0),
+        copy.src_iova.0,
+    ];
+    put_structure(out, IOAS_COPY_ROW, &numbers)
+}
+
+// The same of a MAP.
+fn put_map(out: &mut [u8; 64], map: MapRequest, answer: Option<u64>) -> usize
+    ensures count { result ≡ 40 }
+    ensures bytes { out.new
+        ≡ structure_bytes (ioas_map (is_fixed map.flags)) (map_values map) answer ++ drop result out.old }
+    ensures fits { let fields = (ioas_map (is_fixed map.flags)).fields in
+        AreOfWidth fields (filled fields (map_values map) None) }
+{
+    let numbers = [
+        u64::from(map.flags.0),
+        u64::from(map.ioas.0),
+        0,
+        map.user_va,
+        map.length,
+        answer.unwrap_or(kept_iova(map.flags, map.iova).0),
+    ];
+    put_structure(out, IOAS_MAP_ROW, &numbers)
+}
+
+// Writes the structure of the command, with this answer in its field if there is one, to the front, and answers its
+// length. The rest stays.
+#[tactic(auto, unfolding(crate::specs::Layout::structure_bytes))]
+fn put_command<A: Allocator>(out: &mut [u8; 64], command: &Command<A>, answer: Option<u64>) -> usize
+    ensures count { result ≡ length (structure_bytes (structure_of command.now) (values_of command.now) answer) }
+    ensures most { result ≤ 40 }
+    ensures bytes { out.new
+        ≡ structure_bytes (structure_of command.now) (values_of command.now) answer ++ drop result out.old }
+    ensures fits { IsTrue (is_spellable command.now) → let fields = (structure_of command.now).fields in
         AreOfWidth fields (filled fields (values_of command.now) None) }
 {
+    let output = answer.unwrap_or(0);
     match command {
-        Command::Destroy(id) => put_destroy(out, *id),
-        Command::IoasAlloc => put_ioas_alloc(out, ObjId(0)),
-        Command::IoasAllowIovas(ioas, ranges) => put_allow_iovas(out, *ioas, ranges.as_slice()),
-        Command::IoasCopy(copy) => put_copy(out, *copy),
-        Command::IoasIovaRanges(request) => {
-            put_ioas_iova_ranges(out, request.ioas, request.places, 0)
+        Command::Destroy(id) => {
+            let id = u64::from(id.0);
+            put_structure(out, DESTROY_ROW, &[id])
         }
-        Command::IoasMap(map) => put_map(out, *map),
-        Command::IoasUnmap(unmap) => put_ioas_unmap(out, *unmap),
-        Command::HwptAlloc(request) => put_hwpt_alloc(out, *request, ObjId(0)),
+        Command::IoasAlloc => put_structure(out, IOAS_ALLOC_ROW, &[0, output]),
+        Command::IoasAllowIovas(ioas, ranges) => {
+            let (ioas, count) = (u64::from(ioas.0), ranges.as_slice().len() as u64);
+            put_structure(out, IOAS_ALLOW_IOVAS_ROW, &[ioas, count, 0, 0])
+        }
+        Command::IoasCopy(copy) => put_copy(out, *copy, answer),
+        Command::IoasIovaRanges(request) => {
+            let (ioas, places) = (u64::from(request.ioas.0), u64::from(request.places));
+            put_structure(out, IOAS_IOVA_RANGES_ROW, &[ioas, places, 0, 0, output])
+        }
+        Command::IoasMap(map) => put_map(out, *map, answer),
+        Command::IoasUnmap(unmap) => {
+            let (ioas, iova) = (u64::from(unmap.ioas.0), unmap.iova.0);
+            let length = answer.unwrap_or(unmap.length);
+            put_structure(out, IOAS_UNMAP_ROW, &[ioas, iova, length])
+        }
+        Command::HwptAlloc(request) => {
+            let (device, ioas) = (u64::from(request.device.0), u64::from(request.ioas.0));
+            put_structure(out, HWPT_ALLOC_ROW, &[0, device, ioas, output, 0])
+        }
     }
 }
 
@@ -139,7 +149,7 @@ pub fn encode<A: Allocator, B: Allocator>(
     ensures round_trip { IfOk result (λ spelling. Spells (structure_of command.now).number spelling.items command.now) }
 {
     let mut buffer = [0; 64];
-    let count = put_command(&mut buffer, command);
+    let count = put_command(&mut buffer, command, None);
     let mut spelling = owned(alloc, &buffer[..count])?;
     put_entries(&mut spelling, command)?;
     Ok(spelling)
@@ -149,6 +159,7 @@ pub fn encode<A: Allocator, B: Allocator>(
 /// allocator: the structure of its own length, with the number of ranges in `num_iovas` and 4096 in
 /// `out_iova_alignment`, and behind it the first ranges, as many as the request has places for. It's the same whether
 /// all have a place or the call is refused because they don't. The error comes only where the memory was refused.
+#[tactic(auto, unfolding(crate::specs::Layout::structure_bytes))]
 pub fn encode_ranges<A: Allocator>(
     alloc: A,
     request: RangesRequest,
@@ -159,7 +170,14 @@ pub fn encode_ranges<A: Allocator>(
 {
     let num_iovas = ranges.len() as u32;
     let mut buffer = [0; 64];
-    let count = put_ioas_iova_ranges(&mut buffer, request.ioas, num_iovas, IOVA_ALIGNMENT);
+    let numbers = [
+        u64::from(request.ioas.0),
+        u64::from(num_iovas),
+        0,
+        0,
+        IOVA_ALIGNMENT,
+    ];
+    let count = put_structure(&mut buffer, IOAS_IOVA_RANGES_ROW, &numbers);
     let mut bytes = owned(alloc, &buffer[..count])?;
     let written = num_iovas.min(request.places);
     put_spans(&mut bytes, &ranges[..written as usize])?;
@@ -204,18 +222,8 @@ pub fn encode_reply_to<A: Allocator>(
     ensures at_most { result ≤ 40 }
     ensures bytes { buffer.new ≡ written_back command.now reply.now ++ drop result buffer.old }
 {
-    match (command, *reply) {
-        (Command::Destroy(id), Reply::Done) => put_destroy(buffer, *id),
-        (Command::IoasAlloc, Reply::Id(id)) => put_ioas_alloc(buffer, id),
-        (Command::IoasAllowIovas(ioas, ranges), Reply::Done) => {
-            put_allow_iovas(buffer, *ioas, ranges.as_slice())
-        }
-        (Command::IoasCopy(copy), Reply::Iova(iova)) => put_copied(buffer, *copy, iova),
-        (Command::IoasMap(map), Reply::Iova(iova)) => put_mapped(buffer, *map, iova),
-        (Command::IoasUnmap(unmap), Reply::Bytes(length)) => {
-            put_ioas_unmap(buffer, UnmapRequest { length, ..*unmap })
-        }
-        (Command::HwptAlloc(request), Reply::Id(id)) => put_hwpt_alloc(buffer, *request, id),
-        _ => 0,
+    match answer_of(command, reply) {
+        Some(answer) => put_command(buffer, command, answer),
+        None => 0,
     }
 }

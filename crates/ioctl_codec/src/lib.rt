@@ -6,10 +6,10 @@ mod command;
 mod decoding;
 mod encoding;
 mod entries;
+mod fields;
 mod laws;
 mod number;
 mod structure;
-mod writing;
 
 pub use command::{Command, DecodeError, RangesRequest};
 pub use decoding::decode;

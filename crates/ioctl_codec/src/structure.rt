@@ -1,4 +1,12 @@
-//! The commands' numbers, and the lengths of their structures in bytes (uapi header `iommufd.h`).
+//! The structures served (uapi header `iommufd.h`): what each of their fields is for, in their order.
+
+ghost use Rattle.std.specs.Prelude.{◌≡◌};
+ghost use Rattle.ioctl_codec.specs.Layout.{is_allowed};
+ghost use Rattle.ioctl_codec.specs.Table.{field_in};
+
+use crate::command::KNOWN_FLAGS;
+use crate::structure::Field::{U32, U64};
+use crate::structure::Role::{Answered, Argument, Count, Flags, Ignored, Output, Reserved};
 
 pub const DESTROY: u32 = 0x3b80;
 
@@ -16,18 +24,132 @@ pub const IOAS_UNMAP: u32 = 0x3b86;
 
 pub const HWPT_ALLOC: u32 = 0x3b89;
 
-pub const DESTROY_LENGTH: u32 = 8;
+// What a field is for.
+#[derive(Clone, Copy)]
+pub enum Role {
+    // Flags that the command carries: none but the known ones.
+    Flags(u32),
+    // A number that the command carries.
+    Argument,
+    // The same, and what is written back has the answer in its place.
+    Answered,
+    // How many entries follow the structure.
+    Count,
+    // It's ignored, and what is written back has the answer in it.
+    Output,
+    // It's ignored.
+    Ignored,
+    // It has to be 0.
+    Reserved,
+}
 
-pub const IOAS_ALLOC_LENGTH: u32 = 12;
+// A field of 4 bytes, or of 8.
+#[derive(Clone, Copy)]
+pub enum Field {
+    U32(Role),
+    U64(Role),
+}
 
-pub const IOAS_ALLOW_IOVAS_LENGTH: u32 = 24;
+// A command's number, its structure's own length in bytes, and the fields behind the size.
+#[derive(Clone, Copy)]
+pub struct Structure {
+    pub number: u32,
+    pub length: u32,
+    pub fields: &'static [Field],
+}
 
-pub const IOAS_COPY_LENGTH: u32 = 40;
+pub const DESTROY_ROW: Structure = Structure {
+    number: DESTROY,
+    length: 8,
+    fields: &[U32(Argument)],
+};
 
-pub const IOAS_IOVA_RANGES_LENGTH: u32 = 32;
+// flags, out_ioas_id
+pub const IOAS_ALLOC_ROW: Structure = Structure {
+    number: IOAS_ALLOC,
+    length: 12,
+    fields: &[U32(Reserved), U32(Output)],
+};
 
-pub const IOAS_MAP_LENGTH: u32 = 40;
+// ioas_id, num_iovas, reserved, allowed_iovas
+pub const IOAS_ALLOW_IOVAS_ROW: Structure = Structure {
+    number: IOAS_ALLOW_IOVAS,
+    length: 24,
+    fields: &[U32(Argument), U32(Count), U32(Reserved), U64(Ignored)],
+};
 
-pub const IOAS_UNMAP_LENGTH: u32 = 24;
+// flags, dst_ioas_id, src_ioas_id, length, dst_iova, src_iova
+pub const IOAS_COPY_ROW: Structure = Structure {
+    number: IOAS_COPY,
+    length: 40,
+    fields: &[
+        U32(Flags(KNOWN_FLAGS)),
+        U32(Argument),
+        U32(Argument),
+        U64(Argument),
+        U64(Answered),
+        U64(Argument),
+    ],
+};
 
-pub const HWPT_ALLOC_LENGTH: u32 = 24;
+// ioas_id, num_iovas, reserved, allowed_iovas, out_iova_alignment
+pub const IOAS_IOVA_RANGES_ROW: Structure = Structure {
+    number: IOAS_IOVA_RANGES,
+    length: 32,
+    fields: &[
+        U32(Argument),
+        U32(Argument),
+        U32(Reserved),
+        U64(Ignored),
+        U64(Output),
+    ],
+};
+
+// flags, ioas_id, reserved, user_va, length, iova
+pub const IOAS_MAP_ROW: Structure = Structure {
+    number: IOAS_MAP,
+    length: 40,
+    fields: &[
+        U32(Flags(KNOWN_FLAGS)),
+        U32(Argument),
+        U32(Reserved),
+        U64(Argument),
+        U64(Argument),
+        U64(Answered),
+    ],
+};
+
+// ioas_id, iova, length
+pub const IOAS_UNMAP_ROW: Structure = Structure {
+    number: IOAS_UNMAP,
+    length: 24,
+    fields: &[U32(Argument), U64(Argument), U64(Answered)],
+};
+
+// flags, dev_id, pt_id, out_hwpt_id, reserved
+pub const HWPT_ALLOC_ROW: Structure = Structure {
+    number: HWPT_ALLOC,
+    length: 24,
+    fields: &[
+        U32(Reserved),
+        U32(Argument),
+        U32(Argument),
+        U32(Output),
+        U32(Reserved),
+    ],
+};
+
+impl Field {
+    // Whether this number may stand in the field.
+    #[inline(always)]
+    pub fn allows(self, number: u64) -> bool
+        ensures { result ≡ is_allowed (field_in self).role number }
+    {
+        match self {
+            U32(Flags(known)) | U64(Flags(known)) => number & u64::from(known) == number,
+            U32(Reserved) | U64(Reserved) => number == 0,
+            U32(Argument | Answered | Count | Output | Ignored)
+            | U64(Argument | Answered | Count | Output | Ignored) => true,
+        }
+    }
+}

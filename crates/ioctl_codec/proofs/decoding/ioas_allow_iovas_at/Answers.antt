@@ -1,7 +1,8 @@
-use Rattle.std.proofs.Common.{◌==◌, refl, sym}
+use Rattle.std.proofs.Common.{List, ℕ, ap, ◌∙◌}
+use Rattle.std.specs.Prelude.{slice_index}
 use Rattle.ioctl_codec.specs.Refusals.{read_numbers}
 use Rattle.ioctl_codec.specs.Structures.{ioas_allow_iovas}
-use Rattle.ioctl_codec.proofs.Refusing.{refused_early, refused_late, and-true}
+use Rattle.ioctl_codec.proofs.Refusing.{refused_early, checked_late, refused_late}
 use Rattle.ioctl_codec.proofs.decoding.ioas_allow_iovas_at.Goals as goal
 
 pub returns-in_err-fields-clause-refused : goal.returns-in_err-fields-clause-refused
@@ -10,8 +11,22 @@ returns-in_err-fields-clause-refused c = refused_early ioas_allow_iovas c.args.b
 pub returns-in_err-checked-clause-refused : goal.returns-in_err-checked-clause-refused
 unfolding read_numbers
 returns-in_err-checked-clause-refused c =
-    refused_late ioas_allow_iovas c.args.bytes.now c.in_ok-fields.after.now (c.u32_at-reserved.result.0 == 0) c.u32_at-num_iovas.result.0 c.from_residual-in_err-checked.result c.in_err-checked.field-0.0 c.from_residual-in_err-checked.ensures.1
-    c.in_ok-fields.ensures.refused c.in_ok-fields.ensures.after
-    (rw (c.u32_at-reserved.ensures.value, c.u32_at-num_iovas.ensures.rest, c.u32_at-ioas.ensures.rest, c.in_ok-fields.ensures.fields) (sym (and-true _)))
-    (rw (c.u32_at-num_iovas.ensures.value, c.u32_at-ioas.ensures.rest, c.in_ok-fields.ensures.fields) refl)
+    let parts = c.in_ok-fields in
+    let back = c.from_residual-in_err-checked in
+    let read = c.read_fields-allowed in
+    refused_late ioas_allow_iovas c.args.bytes.now parts.after.now read.result.1 c.low-num_iovas.result back.result c.in_err-checked.field-0.0 back.ensures.1
+    parts.ensures.refused parts.ensures.after
+    (rw parts.ensures.fields at read.ensures.allowed)
+    (c.low-num_iovas.ensures ∙ ap (λ (ns : List ℕ). slice_index ns 1) (rw parts.ensures.fields at read.ensures.numbers))
     c.in_err-checked.ensures.refused
+
+pub returns-clause-refused : goal.returns-clause-refused
+unfolding read_numbers
+returns-clause-refused c =
+    let parts = c.in_ok-fields in
+    let read = c.read_fields-allowed in
+    checked_late ioas_allow_iovas c.args.bytes.now parts.after.now read.result.1 c.low-num_iovas.result _
+    parts.ensures.refused parts.ensures.after
+    (rw parts.ensures.fields at read.ensures.allowed)
+    (c.low-num_iovas.ensures ∙ ap (λ (ns : List ℕ). slice_index ns 1) (rw parts.ensures.fields at read.ensures.numbers))
+    c.in_ok-checked.ensures.refused
