@@ -153,18 +153,19 @@ fn answer_command<A: Allocator + Copy>(
 ) -> Option<Vec<u8, A>>
     ensures { IsCommanded core.old file command (text_of result out.new) core.new }
 {
-    match command {
-        Command::Destroy(id) => answer_event(core, Event::Destroy(file, id), out),
-        Command::IoasAlloc => answer_event(core, Event::IoasAlloc(file), out),
-        Command::IoasAllowIovas(ioas, ranges) => {
-            answer_event(core, Event::AllowIovas(file, ioas, ranges), out)
+    let event = match command {
+        Command::Destroy(id) => Event::Destroy(file, id),
+        Command::IoasAlloc => Event::IoasAlloc(file),
+        Command::IoasAllowIovas(ioas, ranges) => Event::AllowIovas(file, ioas, ranges),
+        Command::IoasIovaRanges(request) => {
+            return answer_ranges(alloc, core, file, request, out);
         }
-        Command::IoasIovaRanges(request) => answer_ranges(alloc, core, file, request, out),
-        Command::IoasMap(request) => answer_event(core, Event::Map(file, request), out),
-        Command::IoasCopy(request) => answer_event(core, Event::Copy(file, request), out),
-        Command::IoasUnmap(request) => answer_event(core, Event::Unmap(file, request), out),
-        Command::HwptAlloc(request) => answer_event(core, Event::HwptAlloc(file, request), out),
-    }
+        Command::IoasMap(request) => Event::Map(file, request),
+        Command::IoasCopy(request) => Event::Copy(file, request),
+        Command::IoasUnmap(request) => Event::Unmap(file, request),
+        Command::HwptAlloc(request) => Event::HwptAlloc(file, request),
+    };
+    answer_event(core, event, out)
 }
 
 // The line for the question for usable ranges.

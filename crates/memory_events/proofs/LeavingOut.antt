@@ -43,6 +43,13 @@ module _ {X : Type 0} (test : ℕ → X → Bool) (all : List X) (before : List 
       and_true_right true = refl
       and_true_right false = refl
 
+-- tests that say the same leave out the same
+pub out_by_alike : {first second : ℕ → Bool} {before after : List Bounds} → ((n : ℕ) → first n ≡ second n) → LeavesOut first before after → LeavesOut second before after
+out_by_alike {before = before} alike out = record {
+  numbers = λ n. out.numbers n ∙ ap (λ b. in_spans before n && not b) (alike n);
+  merged = out.merged;
+}
+
 -- ---- the usable ranges
 
 both_out : (all ends keeps first then : Bool) → first ≡ (all && not ends) → then ≡ (first && not keeps) → then ≡ (all && not (ends || keeps))

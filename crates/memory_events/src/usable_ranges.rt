@@ -1,6 +1,6 @@
 //! The usable ranges of an address space: what IOMMU_IOAS_IOVA_RANGES tells (uapi header, `linux/iommufd.h`).
 
-ghost use Rattle.std.specs.Prelude.{ℕ, ◌≡◌, ◌==◌, ◌&&◌, ◌^◌, not, nat_lt, false, IfOk, OnOk, MatchOption};
+ghost use Rattle.std.specs.Prelude.{ℕ, ◌≡◌, ◌==◌, ◌&&◌, ◌||◌, ◌^◌, not, nat_lt, false, IfOk, OnOk, MatchOption};
 ghost use Rattle.std.specs.List.{list_any};
 ghost use Rattle.iofd_rows.specs.Reached as reached;
 ghost use Rattle.iofd_words.specs.Files.{device_of};
@@ -13,9 +13,7 @@ ghost use Rattle.memory_events.specs.LeftOut.{LeavesOut, only};
 ghost use Rattle.server_state.specs.Held.{kind_in, objects_in};
 ghost use Rattle.server_state.specs.Seen.{seen};
 
-use iofd_words::{
-    Attachment, Cause, Config, DeviceConfig, FileNo, INTERRUPT_RANGE, NoMemory, ObjId, Span,
-};
+use iofd_words::{Attachment, Cause, Config, FileNo, INTERRUPT_RANGE, NoMemory, ObjId, Span};
 use iova_ranges::RangeSet;
 use object_table::ObjectTable;
 use server_state::{Held, State, lookups};
@@ -47,14 +45,7 @@ pub fn usable_ranges<A: Allocator + Copy>(
 {
     let mut set = everything(state.alloc)?;
     leave_out_beyond(&mut set, &state.objects, file, ioas)?;
-    leave_out_kept(
-        &mut set,
-        &state.config,
-        &state.objects,
-        &state.attachments,
-        file,
-        ioas,
-    )?;
+    leave_out_kept(&mut set, state, file, ioas)?;
     Ok(set)
 }
 
@@ -118,52 +109,59 @@ fn beyond<A: Allocator>(held: &Held<A>, ioas: ObjId) -> Option<Span>
     }
 }
 
-/// Leaves out what devices attached to the address space keep for themselves.
-fn leave_out_kept<A: Allocator>(
+/// Leaves out what devices attached to the address space keep for themselves. It's taken by rising start, so that each
+/// span is cut out of the last range and none behind it moves.
+fn leave_out_kept<A: Allocator + Copy>(
     set: &mut RangeSet<A>,
-    config: &Config<A>,
-    table: &ObjectTable<Held<A>, A>,
-    attachments: &[Attachment],
+    state: &State<A>,
     file: FileNo,
     ioas: ObjId,
 ) -> Result<(), NoMemory>
     ensures { OnOk result (
-        LeavesOut (λ n. list_any (reached.keeps_of config.now (objects_in table.now) file ioas (only n)) attachments.now)
-        set.old.spans set.new.spans) }
+        LeavesOut (λ n. list_any (reached.keeps_of state.now.config (objects_in state.now.objects) file ioas (only n))
+        state.now.attachments.items) set.old.spans set.new.spans) }
 {
-    for attachment in attachments {
-        if lookups::is_attached_to(table, file, ioas, attachment) {
-            leave_out_device(set, config, attachment)?;
-        }
-    }
-    Ok(())
+    let mut spans = kept_spans(state, file, ioas)?;
+    spans.sort_unstable_by_key(|span| span.first());
+    leave_out_spans(set, &spans)
 }
 
-fn leave_out_device<A: Allocator>(
-    set: &mut RangeSet<A>,
+/// What devices attached to the address space keep for themselves.
+fn kept_spans<A: Allocator + Copy>(
+    state: &State<A>,
+    file: FileNo,
+    ioas: ObjId,
+) -> Result<Vec<Span, A>, NoMemory>
+    ensures { IfOk result (λ spans. (n : ℕ) → in_spans spans.items n
+        ≡ list_any (reached.keeps_of state.now.config (objects_in state.now.objects) file ioas (only n))
+        state.now.attachments.items) }
+{
+    let mut spans = Vec::new(state.alloc);
+    for attachment in &state.attachments {
+        if lookups::is_attached_to(&state.objects, file, ioas, attachment) {
+            add_kept(&mut spans, &state.config, attachment)?;
+        }
+    }
+    Ok(spans)
+}
+
+/// Adds what the attached device keeps for itself.
+fn add_kept<A: Allocator>(
+    spans: &mut Vec<Span, A>,
     config: &Config<A>,
     attachment: &Attachment,
 ) -> Result<(), NoMemory>
-    ensures { OnOk result (LeavesOut (λ n. in_spans (reserved_of (device_of config.now attachment.now.device)) n)
-        set.old.spans set.new.spans) }
+    ensures { OnOk result ((n : ℕ) → in_spans spans.new.items n
+        ≡ (in_spans spans.old.items n || in_spans (reserved_of (device_of config.now attachment.now.device)) n)) }
 {
-    match config.device(attachment.device) {
-        Some(device) => leave_out_own(set, device),
-        None => Ok(()),
-    }
-}
-
-/// Leaves out what the device keeps for itself.
-fn leave_out_own<A: Allocator>(
-    set: &mut RangeSet<A>,
-    device: &DeviceConfig<A>,
-) -> Result<(), NoMemory>
-    ensures { OnOk result (LeavesOut (in_spans (reserved_by device.now)) set.old.spans set.new.spans) }
-{
+    let Some(device) = config.device(attachment.device) else {
+        return Ok(());
+    };
     if device.is_x86() {
-        set.remove(INTERRUPT_RANGE)?;
+        spans.push(INTERRUPT_RANGE)?;
     }
-    leave_out_spans(set, device.reserved())
+    spans.extend_from_slice(device.reserved())?;
+    Ok(())
 }
 
 fn leave_out_spans<A: Allocator>(set: &mut RangeSet<A>, spans: &[Span]) -> Result<(), NoMemory>
