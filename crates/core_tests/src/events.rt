@@ -4,8 +4,8 @@ use crate::steps::{
     AGAIN, FIRST, IN_USE, NARROW, NO_FRAME, SECOND, Step, UNKNOWN, apply, config, event, read,
 };
 use iofd_words::{
-    AccessKind, Act, Answer, Burst, Cause, Event, Fault, FaultReason, FrameNo, Iova, ObjId, PassNo,
-    Query, Refusal, Reply, SourceId, UserNo,
+    AccessKind, Act, Answer, Burst, Cause, Event, Fault, FaultReason, FrameNo, Iova, NoMemory,
+    ObjId, PassNo, Query, Refusal, Reply, SourceId, UserNo,
 };
 use iommufd_core::Core;
 use std::alloc::Global;
@@ -78,27 +78,36 @@ pub(crate) fn answers(
     )
 }
 
-#[test]
-fn worked_script_has_its_replies(rt: HostRuntime) -> Result<(), Fail> {
-    let config = config(rt.alloc(), FRAMES)?;
-    let mut core = Core::new(rt.alloc(), &config)?;
-    for (place, (step, reply)) in SCRIPT.iter().enumerate() {
-        assert!(rt;
-            answers(rt.alloc(), &mut core, *step, *reply)?,
-            "event {place}"
-        );
+/// How many steps are answered by their replies, up to the first that isn't.
+fn answered(alloc: Global, core: &mut Core, script: &[(Step, Reply)]) -> Result<usize, Fail> {
+    for (place, (step, reply)) in script.iter().enumerate() {
+        if !answers(alloc, core, *step, *reply)? {
+            return Ok(place);
+        }
     }
-    Ok(())
+    Ok(script.len())
 }
 
 /// A core that the first steps of the script have gone through.
 fn core_after(alloc: Global, steps: usize) -> Result<Core, Fail> {
+    let first = SCRIPT.get(..steps).ok_or("so many steps")?;
     let config = config(alloc, FRAMES)?;
     let mut core = Core::new(alloc, &config)?;
-    for (step, _) in SCRIPT.iter().take(steps) {
-        apply(&mut core, event(alloc, *step)?)?;
-    }
+    answered(alloc, &mut core, first)?;
     Ok(core)
+}
+
+/// How many steps of the script are answered so in a new core.
+fn answered_by_new(alloc: Global) -> Result<usize, Fail> {
+    let mut core = core_after(alloc, 0)?;
+    answered(alloc, &mut core, &SCRIPT)
+}
+
+#[test]
+fn worked_script_has_its_replies(rt: HostRuntime) -> Result<(), Fail> {
+    let right = answered_by_new(rt.alloc())?;
+    assert!(rt; right == SCRIPT.len(), "event {right}");
+    Ok(())
 }
 
 /// A fault of a read at the page above the width.
@@ -143,52 +152,79 @@ fn is_told(core: &Core, query: &Query, reply: Reply) -> bool {
     }
 }
 
+/// Whether the read, after so many steps, is answered by this refusal or fault.
+fn is_read_so(alloc: Global, steps: usize, query: &Query, reply: Reply) -> Result<bool, Fail> {
+    Ok(is_told(&core_after(alloc, steps)?, query, reply))
+}
+
 #[test]
 fn reads_are_refused_or_denied(rt: HostRuntime) -> Result<(), Fail> {
     for (steps, iova, len, reply) in &READS {
-        let core = core_after(rt.alloc(), *steps)?;
-        assert!(rt; is_told(&core, &read(*iova, *len), *reply), "{reply:?}");
+        let is_so = is_read_so(rt.alloc(), *steps, &read(*iova, *len), *reply)?;
+        assert!(rt; is_so, "{reply:?}");
     }
     Ok(())
+}
+
+/// Whether the device and the user read what was written, and one frame is left and one page is pinned.
+fn tells_what_was_written(core: &Core, written: Burst) -> bool {
+    let by_user = Query::UserRead {
+        user: UserNo(1),
+        va: 0x10ffe,
+        len: 2,
+    };
+    core.look(&read(0x1ffe, 2)) == Answer::Read(written)
+        && core.look(&by_user) == Answer::Read(written)
+        && core.look(&Query::FreeFrames) == Answer::Count(1)
+        && core.look(&Query::Held(UserNo(1))) == Answer::Count(1)
+        && is_told(core, &Query::Held(UserNo(2)), UNKNOWN)
 }
 
 #[test]
 fn a_read_gives_what_was_written(rt: HostRuntime) -> Result<(), Fail> {
     let written = Burst::new(&[0xbe, 0xef]).ok_or("two bytes")?;
     let core = core_after(rt.alloc(), 8)?;
-    assert!(rt; core.look(&read(0x1ffe, 2)) == Answer::Read(written));
-    let by_user = Query::UserRead {
-        user: UserNo(1),
-        va: 0x10ffe,
-        len: 2,
-    };
-    assert!(rt; core.look(&by_user) == Answer::Read(written));
-    assert!(rt; core.look(&Query::FreeFrames) == Answer::Count(1));
-    assert!(rt; core.look(&Query::Held(UserNo(1))) == Answer::Count(1));
-    assert!(rt; is_told(&core, &Query::Held(UserNo(2)), UNKNOWN));
+    assert!(rt; tells_what_was_written(&core, written));
     Ok(())
+}
+
+/// Whether the narrow device's access to a byte of the page at 0x1000 may pass at this frame.
+fn may_pass(core: &Core, kind: AccessKind, frame: u32) -> bool {
+    core.may_pass(NARROW, Iova(0x1000), 1, kind, FrameNo(frame))
+}
+
+/// Whether the device's write there passes by the cached frame, and is read at the page's other address.
+fn passes_cached(core: &mut Core, bytes: Burst) -> Result<bool, NoMemory> {
+    let frame = FrameNo(0);
+    let iova = Iova(0x1000);
+    let len = bytes.as_slice().len() as u8;
+    if !core.may_pass(NARROW, iova, len, AccessKind::Write, frame) {
+        return Ok(false);
+    }
+    let act = Act {
+        event: Event::DeviceWrite(NARROW, iova, bytes),
+        via: Some(frame),
+    };
+    let stamp = core.apply(PassNo(0), &act)?;
+    Ok(
+        stamp.reply == Reply::Passed(frame)
+            && core.records().len() == 13
+            && core.look(&read(0x5000, 1)) == Answer::Read(bytes),
+    )
+}
+
+/// Whether the frame of the page that was unmapped may be used, and no longer after the flush.
+fn is_cached_until_flush(core: &mut Core) -> Result<bool, Fail> {
+    let bytes = Burst::new(&[0x55]).ok_or("a byte")?;
+    let cached = !may_pass(core, AccessKind::Write, 1) & may_pass(core, AccessKind::Read, 0);
+    let passed = passes_cached(core, bytes)?;
+    apply(core, Event::Flush(NARROW))?;
+    Ok(cached & passed & !may_pass(core, AccessKind::Write, 0))
 }
 
 #[test]
 fn a_cached_frame_may_be_used_until_the_flush(rt: HostRuntime) -> Result<(), Fail> {
     let mut core = core_after(rt.alloc(), 12)?;
-    let bytes = Burst::new(&[0x55]).ok_or("a byte")?;
-    let frame = FrameNo(0);
-    let iova = Iova(0x1000);
-    assert!(rt; !core.may_pass(NARROW, iova, 1, AccessKind::Write, FrameNo(1)));
-    assert!(rt; core.may_pass(NARROW, iova, 1, AccessKind::Read, frame));
-    let len = bytes.as_slice().len() as u8;
-    if core.may_pass(NARROW, iova, len, AccessKind::Write, frame) {
-        let act = Act {
-            event: Event::DeviceWrite(NARROW, iova, bytes),
-            via: Some(frame),
-        };
-        let stamp = core.apply(PassNo(0), &act)?;
-        assert_eq!(rt; stamp.reply, Reply::Passed(frame));
-    }
-    assert_eq!(rt; core.records().len(), 13);
-    assert_eq!(rt; core.look(&read(0x5000, 1)), Answer::Read(bytes));
-    apply(&mut core, Event::Flush(NARROW))?;
-    assert!(rt; !core.may_pass(NARROW, iova, 1, AccessKind::Write, frame));
+    assert!(rt; is_cached_until_flush(&mut core)?);
     Ok(())
 }

@@ -109,6 +109,17 @@ pub(crate) fn growing_steps<'a>(
 }
 
 /// The same in a core of its own.
+fn steps_that_grow_in(
+    alloc: Global,
+    heap: &LocalHeap,
+    config: &Config,
+    script: &[(Step, Reply)],
+) -> Result<Option<u32>, Fail> {
+    let mut core = Core::new(heap, config)?;
+    growing_steps(alloc, heap, &mut core, script)
+}
+
+/// The same in so much memory, in which no core opens while it is full.
 fn steps_that_grow(
     alloc: Global,
     pool: u32,
@@ -118,8 +129,7 @@ fn steps_that_grow(
     let config = config(alloc, pool)?;
     let heap = LocalHeap::new(alloc, memory)?;
     same(is_refused(alloc, &heap, &config)?)?;
-    let mut core = Core::new(&heap, &config)?;
-    growing_steps(alloc, &heap, &mut core, script)
+    steps_that_grow_in(alloc, &heap, &config, script)
 }
 
 #[test]
@@ -164,23 +174,27 @@ fn a_refused_growth_leaves_two_page_tables(rt: HostRuntime) -> Result<(), Fail> 
     Ok(())
 }
 
-/// Whether the question for ranges is answered with so much memory left; where it is, by all addresses, since no device
-/// is attached.
-fn is_answered(
+/// Whether the question for ranges is answered by all addresses, since no device is attached; None where it isn't
+/// answered.
+fn are_all_usable(core: &Core<&LocalHeap>) -> Option<bool> {
+    match core.ranges(FIRST, ObjId(1)) {
+        Ok(set) => match set.spans() {
+            [span] => Some(span.first() == 0 && span.last() == u64::MAX),
+            _ => Some(false),
+        },
+        Err(_) => None,
+    }
+}
+
+/// The same with so much memory left.
+fn answer_with(
     alloc: Global,
     heap: &LocalHeap,
     core: &Core<&LocalHeap>,
     left: u64,
-) -> Result<bool, Fail> {
+) -> Result<Option<bool>, AllocError> {
     let _blocks = fill_but(alloc, heap, left)?;
-    let Ok(set) = core.ranges(FIRST, ObjId(1)) else {
-        return Ok(false);
-    };
-    for span in set.spans() {
-        same(span.first() == 0 && span.last() == u64::MAX)?;
-    }
-    same(set.spans().len() == 1)?;
-    Ok(true)
+    Ok(are_all_usable(core))
 }
 
 /// How often the question found no memory, with ever more left.
@@ -190,20 +204,26 @@ fn refused_questions(
     core: &Core<&LocalHeap>,
 ) -> Result<u64, Fail> {
     for left in 0..64 {
-        if is_answered(alloc, heap, core, left)? {
+        if let Some(whole) = answer_with(alloc, heap, core, left)? {
+            same(whole)?;
             return Ok(left);
         }
     }
     Ok(64)
 }
 
+/// The same in a core that has one address space.
+fn refused_questions_in(alloc: Global, heap: &LocalHeap, config: &Config) -> Result<u64, Fail> {
+    let mut core = Core::new(heap, config)?;
+    apply(&mut core, Event::IoasAlloc(FIRST))?;
+    refused_questions(alloc, heap, &core)
+}
+
 #[test]
 fn a_question_for_ranges_may_want_for_memory(rt: HostRuntime) -> Result<(), Fail> {
     let config = config(rt.alloc(), FRAMES)?;
     let heap = LocalHeap::new(rt.alloc(), 43008)?;
-    let mut core = Core::new(&heap, &config)?;
-    apply(&mut core, Event::IoasAlloc(FIRST))?;
-    let refusals = refused_questions(rt.alloc(), &heap, &core)?;
+    let refusals = refused_questions_in(rt.alloc(), &heap, &config)?;
     assert!(rt; 0 < refusals && refusals < 64, "{refusals}");
     Ok(())
 }

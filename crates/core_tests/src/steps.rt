@@ -6,7 +6,7 @@ use iofd_words::{
     Refusal, Reply, SourceId, SpanList, UnmapRequest, UserNo, Width,
 };
 use iommufd_core::{Core, Stamp};
-use std::alloc::{Allocator, Global};
+use std::alloc::{AllocError, Allocator, Global};
 use std::test::Fail;
 
 /// A device of width 39.
@@ -19,16 +19,25 @@ pub(crate) const FIRST: FileNo = FileNo(1);
 
 pub(crate) const SECOND: FileNo = FileNo(2);
 
+/// A device with no reserved span.
+fn device(alloc: Global, source: u16, width: Width) -> DeviceConfig {
+    let reserved = SpanList::new(Vec::new(alloc));
+    DeviceConfig::new(SourceId(source), width, false, reserved)
+}
+
+/// The narrow device and the wide one.
+fn devices(alloc: Global) -> Result<Vec<DeviceConfig>, AllocError> {
+    let mut devices = Vec::new(alloc);
+    devices.push(device(alloc, 0x18, Width::Bits39))?;
+    devices.push(device(alloc, 0x100, Width::Bits48))?;
+    Ok(devices)
+}
+
 /// A pool of so many frames, a user with two files, and both devices.
 pub(crate) fn config(alloc: Global, pool: u32) -> Result<Config, Fail> {
     let users = vec![in alloc; 4]?;
     let files = vec![in alloc; UserNo(1), UserNo(1)]?;
-    let mut devices = Vec::new(alloc);
-    for (source, width) in [(0x18, Width::Bits39), (0x100, Width::Bits48)] {
-        let reserved = SpanList::new(Vec::new(alloc));
-        devices.push(DeviceConfig::new(SourceId(source), width, false, reserved))?;
-    }
-    Ok(Config::new(pool, users, files, devices, 1)?)
+    Ok(Config::new(pool, users, files, devices(alloc)?, 1)?)
 }
 
 /// An event, with what stands in all of them left out. Address space 1 of the first file is meant where none is named.
