@@ -2,8 +2,8 @@
 
 use self::Answer::{Counts, Done, Gives, Is, Looks, Nothing};
 use crate::spans::{TOP, are, block, span};
-use area_map::{Areas, InsertError};
-use iofd_words::{Area, Cause, DeviceNo, DeviceSet, FileNo, ObjId, Phase, Rights, Span};
+use area_map::Areas;
+use iofd_words::{Area, CallError, Cause, DeviceNo, DeviceSet, FileNo, ObjId, Phase, Rights, Span};
 use linked_list_allocator::LocalHeap;
 use std::alloc::{AllocError, Allocator, Global};
 use std::test::Fail;
@@ -61,8 +61,8 @@ pub(crate) fn added<A: Allocator + Copy>(areas: &mut Areas<A>, span: Span, memor
     };
     match areas.insert(area) {
         Ok(()) => Done,
-        Err(InsertError::Refused(refusal)) => Answer::Refused(refusal.cause),
-        Err(InsertError::Memory(_)) => Answer::NoMemory,
+        Err(CallError::Refused(refusal)) => Answer::Refused(refusal.cause),
+        Err(CallError::Memory(_)) => Answer::NoMemory,
     }
 }
 

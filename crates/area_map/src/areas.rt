@@ -7,13 +7,12 @@ ghost use Rattle.area_map.specs.Areas.{AreKept, with_area, area_of, is_covered, 
 ghost use Rattle.iofd_words.specs.Areas.{areas_meet, has_no_room, is_cut, area_at};
 ghost use Rattle.area_map.specs.Insertion.{insert_refusal};
 
-use crate::insert_error::InsertError;
 use crate::insertion::MOST_AREAS;
 use crate::iter::Iter;
 use crate::marking::Change;
 use crate::row::Row;
 use crate::{changes, insertion, leaving, lookups, removal, totals};
-use iofd_words::{Area, Cause, DeviceNo, DeviceSet, NoMemory, Refusal, Span};
+use iofd_words::{Area, CallError, Cause, DeviceNo, DeviceSet, NoMemory, Refusal, Span};
 use std::alloc::{Allocator, Global};
 use std::marker::Model;
 
@@ -143,16 +142,16 @@ impl<A: Allocator> Areas<A> {
     /// Adds an area, before the first that begins after it.
     ///
     /// Refused, in this order: Overlap (9, EEXIST) where its span meets that of an area, of any phase;
-    /// Full (23, ENOSPC) where there are as many areas as may be. An error leaves the map as it was, and
-    /// want of memory comes only where there was no room.
-    pub fn insert(&mut self, area: Area) -> Result<(), InsertError>
+    /// Full (23, ENOSPC) where there are as many areas as an address space may have. An error leaves the map as it
+    /// was, and want of memory, for one more area, comes only where there was no room.
+    pub fn insert(&mut self, area: Area) -> Result<(), CallError>
     where
         A: Copy,
         ensures refused { IfSome (insert_refusal area.span self.old.areas)
-            (λ cause. result ≡ Err (InsertError.Refused (record { cause = cause }))) }
+            (λ cause. result ≡ Err (CallError.Refused (record { cause = cause }))) }
         ensures taken { IfNone (insert_refusal area.span self.old.areas)
-            (IsOkUnless result (InsertError.Memory (record {}))) }
-        ensures memory { result ≡ Err (InsertError.Memory (record {})) → self.old.room ≡ 0 }
+            (IsOkUnless result (CallError.Memory (record {}))) }
+        ensures memory { result ≡ Err (CallError.Memory (record {})) → self.old.room ≡ 0 }
 
         ensures ok { OnOk result (self.new.areas ≡ with_area area self.old.areas) }
         ensures err { OnErr result (self.new.areas ≡ self.old.areas) }
@@ -169,7 +168,7 @@ impl<A: Allocator> Areas<A> {
         }
         let index = insertion::row_for(&self.rows, below);
         if insertion::prepare(&mut self.rows, &mut self.spare, index).is_err() {
-            return Err(InsertError::Memory(NoMemory));
+            return Err(CallError::Memory(NoMemory));
         }
         self.leaving = leaving::with_area(self.leaving, &area);
         self.count += 1;
@@ -291,8 +290,8 @@ impl<A: Allocator> Areas<A> {
 }
 
 // The refusal for this cause.
-fn refused(cause: Cause) -> InsertError
-    ensures { result ≡ InsertError.Refused (record { cause = cause }) }
+fn refused(cause: Cause) -> CallError
+    ensures { result ≡ CallError.Refused (record { cause = cause }) }
 {
-    InsertError::Refused(Refusal { cause })
+    CallError::Refused(Refusal { cause })
 }

@@ -4,7 +4,6 @@
 
 mod areas;
 mod changes;
-mod insert_error;
 mod insertion;
 mod iter;
 mod joining;
@@ -17,6 +16,5 @@ mod search;
 mod totals;
 
 pub use areas::Areas;
-pub use insert_error::InsertError;
 pub use insertion::MOST_AREAS;
 pub use iter::Iter;

@@ -7,8 +7,8 @@ ghost use Rattle.iofd_words.specs.declared.event.Event.TheVariants as event;
 ghost use Rattle.server_state.specs.Seen.{seen};
 ghost use Rattle.server_state.specs.Step.{ShowsSame, Steps};
 
-use iofd_words::{Cause, DeviceNo, FileNo, NoMemory, Object, ObjectKind, Reply};
-use object_table::{Kind, ReserveError};
+use iofd_words::{CallError, Cause, DeviceNo, FileNo, NoMemory, Object, ObjectKind, Reply};
+use object_table::Kind;
 use server_state::{Held, State};
 use std::alloc::Allocator;
 
@@ -46,8 +46,8 @@ pub fn commit<A: Allocator>(
     match state.objects.reserve(file) {
         Ok(_) => (),
         // Never: the file is open and not full.
-        Err(ReserveError::Refused(_)) => return Ok(Reply::Done),
-        Err(ReserveError::Memory(no_memory)) => return Err(no_memory),
+        Err(CallError::Refused(_)) => return Ok(Reply::Done),
+        Err(CallError::Memory(no_memory)) => return Err(no_memory),
     }
     state.bindings.reserve(1)?;
     let id = state

@@ -11,10 +11,10 @@ use Rattle.iofd_runs.proofs.NotRefused.{alloc_passed}
 use Rattle.server_state.specs.Shows.{Shows}
 use Rattle.server_state.specs.declared.state.State.{State}
 use Rattle.object_table.specs.Table.{IsWhy, insert_refusal}
-use Rattle.object_table.specs.declared.error.ReserveError.{ReserveError}
-use Rattle.object_table.specs.declared.error.ReserveError.TheVariants.{Refused}
+use Rattle.iofd_words.specs.declared.call_error.CallError.{CallError}
+use Rattle.iofd_words.specs.declared.call_error.CallError.TheVariants.{Refused}
 use Rattle.server_state.proofs.NeverFull.{takes_object}
 
 module _ {A : Type 0} where
-  pub alloc_taken : (w : World) (s : State A) (file : FileNo) (error : ReserveError) (r : Refusal) → Shows w s → first_true (ioas_alloc_checks (view w) file) ≡ None → error ≡ Refused r → IsWhy (insert_refusal s.objects file) error → ⊥
+  pub alloc_taken : (w : World) (s : State A) (file : FileNo) (error : CallError) (r : Refusal) → Shows w s → first_true (ioas_alloc_checks (view w) file) ≡ None → error ≡ Refused r → IsWhy (insert_refusal s.objects file) error → ⊥
   alloc_taken w s file error r shows none = takes_object w s file error r shows (alloc_open w file none) (alloc_passed (view w) file none).roomy

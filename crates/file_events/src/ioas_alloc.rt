@@ -8,8 +8,8 @@ ghost use Rattle.server_state.specs.Seen.{seen};
 ghost use Rattle.server_state.specs.Step.{ShowsSame, Steps};
 
 use area_map::Areas;
-use iofd_words::{Cause, FileNo, NoMemory, Reply};
-use object_table::{Kind, ReserveError};
+use iofd_words::{CallError, Cause, FileNo, NoMemory, Reply};
+use object_table::Kind;
 use server_state::{Held, State};
 use std::alloc::Allocator;
 
@@ -37,8 +37,8 @@ pub fn commit<A: Allocator + Copy>(state: &mut State<A>, file: FileNo) -> Result
     match state.objects.reserve(file) {
         Ok(_) => (),
         // Never: the file is open and not full.
-        Err(ReserveError::Refused(_)) => return Ok(Reply::Done),
-        Err(ReserveError::Memory(no_memory)) => return Err(no_memory),
+        Err(CallError::Refused(_)) => return Ok(Reply::Done),
+        Err(CallError::Memory(no_memory)) => return Err(no_memory),
     }
     let held = Held::Ioas(Areas::new(state.alloc));
     let id = state.objects.insert_reserved(file, Kind::Ioas, held);

@@ -4,12 +4,10 @@
 
 mod content;
 mod free_map;
-mod map_error;
 mod page_frames;
 mod pool;
 mod user_map;
 
 pub use free_map::FreeMap;
-pub use map_error::MapError;
 pub use pool::Pool;
 pub use user_map::UserMap;

@@ -6,10 +6,9 @@ ghost use Rattle.iofd_words.specs.Pages.{page_of};
 ghost use Rattle.frame_memory.specs.Pool.{given, least_free, with_holds};
 ghost use Rattle.frame_memory.specs.UserPages.{are_within, user_page, with_page, without_page, map_refusal, HasOneMore};
 
-use crate::map_error::MapError;
 use crate::page_frames::PageFrames;
 use crate::pool::Pool;
-use iofd_words::{Cause, FrameNo, NoMemory, PAGE_SIZE, Refusal, UserNo};
+use iofd_words::{CallError, Cause, FrameNo, NoMemory, PAGE_SIZE, Refusal, UserNo};
 use std::alloc::{Allocator, Global};
 use std::marker::Model;
 
@@ -80,14 +79,14 @@ impl<A: Allocator> UserMap<A> {
         pool: &mut Pool<B>,
         user: UserNo,
         va: u64,
-    ) -> Result<FrameNo, MapError>
+    ) -> Result<FrameNo, CallError>
     where
         A: Copy,
         ensures refused { IfSome (map_refusal self.old.pages pool.old.holds user (page_of va))
-            (λ cause. result ≡ Err (MapError.Refused (record { cause = cause }))) }
+            (λ cause. result ≡ Err (CallError.Refused (record { cause = cause }))) }
         ensures taken { IfNone (map_refusal self.old.pages pool.old.holds user (page_of va))
-            (IsOkUnless result (MapError.Memory (record {}))) }
-        ensures memory { result ≡ Err (MapError.Memory (record {})) → self.old.room ≡ 0 }
+            (IsOkUnless result (CallError.Memory (record {}))) }
+        ensures memory { result ≡ Err (CallError.Memory (record {})) → self.old.room ≡ 0 }
 
         ensures least { IfOk result (λ frame. least_free pool.old.holds ≡ Some frame.0) }
         ensures pages { IfOk result (λ frame. self.new.pages ≡ with_page self.old.pages user (page_of va) frame) }
@@ -106,15 +105,11 @@ impl<A: Allocator> UserMap<A> {
             return Err(refused(Cause::Frames));
         }
         if self.pages.reserve().is_err() {
-            return Err(MapError::Memory(NoMemory));
+            return Err(CallError::Memory(NoMemory));
         }
-        match pool.take() {
-            Ok(frame) => {
-                self.pages.add(user, va / PAGE_SIZE, frame);
-                Ok(frame)
-            }
-            Err(refusal) => Err(MapError::Refused(refusal)),
-        }
+        let frame = pool.take()?;
+        self.pages.add(user, va / PAGE_SIZE, frame);
+        Ok(frame)
     }
 
     /// Takes the user's page that holds this user address away, and a hold off its frame. It is refused by 8
@@ -153,8 +148,8 @@ impl<A: Allocator> UserMap<A> {
 }
 
 // The refusal for this cause.
-fn refused(cause: Cause) -> MapError
-    ensures { result ≡ MapError.Refused (record { cause = cause }) }
+fn refused(cause: Cause) -> CallError
+    ensures { result ≡ CallError.Refused (record { cause = cause }) }
 {
-    MapError::Refused(Refusal { cause })
+    CallError::Refused(Refusal { cause })
 }

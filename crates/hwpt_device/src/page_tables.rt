@@ -1,6 +1,6 @@
 //! The hardware page tables of all files.
 
-ghost use Rattle.std.specs.Prelude.{ℕ, ◌≡◌, ◌<◌, ◌-◌, length, Option, None, List, [], ◌∷◌, ◌++◌, IfSome, IsSome, OnOk};
+ghost use Rattle.std.specs.Prelude.{ℕ, ◌≡◌, ◌<◌, ◌-◌, length, Option, None, List, [], ◌∷◌, ◌++◌, IfSome, IsSome, OnErr, OnOk};
 ghost use Rattle.std.specs.Prelude.{vec_capacity, vec_len};
 ghost use Rattle.iofd_words.specs.Objects as objects;
 ghost use Rattle.iofd_words.specs.declared.rows.Object.{Object};
@@ -57,6 +57,7 @@ impl<A: Allocator> PageTables<A> {
     pub fn reserve(&mut self) -> Result<(), NoMemory>
         ensures tables { self.new.tables ≡ self.old.tables }
         ensures ok { OnOk result (0 < self.new.room) }
+        ensures full { OnErr result (self.old.room ≡ 0) }
     {
         self.tables.reserve(1)?;
         Ok(())

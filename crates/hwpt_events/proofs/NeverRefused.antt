@@ -19,13 +19,13 @@ use Rattle.server_state.specs.Shows.{Shows}
 use Rattle.server_state.specs.Step.{IsTidy}
 use Rattle.server_state.specs.declared.state.State.{State}
 use Rattle.object_table.specs.Table.{IsWhy, insert_refusal}
-use Rattle.object_table.specs.declared.error.ReserveError.{ReserveError}
-use Rattle.object_table.specs.declared.error.ReserveError.TheVariants.{Refused}
+use Rattle.iofd_words.specs.declared.call_error.CallError.{CallError}
+use Rattle.iofd_words.specs.declared.call_error.CallError.TheVariants.{Refused}
 use Rattle.server_state.proofs.NeverFull.{takes_object}
 
 module _ {A : Type 0} where
   -- the file takes one more object
-  pub never_full : (w : World) (s : State A) (file : FileNo) (ioas : ObjId) (width : Width) (error : ReserveError) (r : Refusal) → Shows w s → IsRoomy (view w) file ioas width → error ≡ Refused r → IsWhy (insert_refusal s.objects file) error → ⊥
+  pub never_full : (w : World) (s : State A) (file : FileNo) (ioas : ObjId) (width : Width) (error : CallError) (r : Refusal) → Shows w s → IsRoomy (view w) file ioas width → error ≡ Refused r → IsWhy (insert_refusal s.objects file) error → ⊥
   never_full w s file ioas width error r shows roomy = takes_object w s file error r shows roomy.opened roomy.roomy
 
   -- a bound device has a width

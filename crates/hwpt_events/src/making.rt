@@ -24,9 +24,10 @@ ghost use Rattle.server_state.specs.Step.{IsKnown, ShowsSame};
 use crate::{filling, pins};
 use frame_memory::Pool;
 use iofd_words::{
-    Config, DeviceNo, FileNo, FrameNo, NoMemory, ObjId, Object, ObjectKind, UserNo, Width,
+    CallError, Config, DeviceNo, FileNo, FrameNo, NoMemory, ObjId, Object, ObjectKind, UserNo,
+    Width,
 };
-use object_table::{Kind, ObjectTable, ReserveError};
+use object_table::{Kind, ObjectTable};
 use server_state::{Held, State, accounts, area_changes, lookups};
 use std::alloc::Allocator;
 use user_memory::UserMemory;
@@ -136,8 +137,8 @@ fn reserve<A: Allocator + Copy>(
     match state.objects.reserve(file) {
         Ok(_) => Ok(()),
         // The file is open and not full.
-        Err(ReserveError::Refused(_)) => unreachable!(),
-        Err(ReserveError::Memory(no_memory)) => Err(no_memory),
+        Err(CallError::Refused(_)) => unreachable!(),
+        Err(CallError::Memory(no_memory)) => Err(no_memory),
     }
 }
 

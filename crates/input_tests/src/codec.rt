@@ -513,7 +513,7 @@ fn takes_memory<A: Allocator + Copy>(full: A, command: &Command, nr: u32, bytes:
     command.is_spellable()
         && encode(full, command).err() == Some(NoMemory)
         && encode_reply(full, command, &BUSY).is_ok()
-        && decode(full, nr, bytes).err() == has_entries.then_some(DecodeError::Memory)
+        && decode(full, nr, bytes).err() == has_entries.then_some(DecodeError::Memory(NoMemory))
 }
 
 #[test]

@@ -6,8 +6,8 @@ use Rattle.std.specs.Int.{w32, from_le_bytes}
 use Rattle.iofd_words.specs.Rights.{has_flag, is_fixed}
 use Rattle.ioctl_codec.specs.declared.command.Command.{Command}
 use Rattle.ioctl_codec.specs.declared.command.Command.TheVariants.{Destroy, IoasAlloc, IoasAllowIovas, IoasCopy, IoasIovaRanges, IoasMap, IoasUnmap, HwptAlloc}
-use Rattle.ioctl_codec.specs.declared.command.DecodeError.{DecodeError}
-use Rattle.ioctl_codec.specs.declared.command.DecodeError.TheVariants as errors
+use Rattle.iofd_words.specs.declared.call_error.CallError.{CallError}
+use Rattle.iofd_words.specs.declared.call_error.CallError.TheVariants as errors
 use Rattle.ioctl_codec.specs.Layout.{Structure, IsLaidOut, entry_count}
 use Rattle.ioctl_codec.specs.Structures.{copy_values, destroy, ioas_alloc, ioas_allow_iovas, ioas_copy, ioas_iova_ranges, ioas_map, map_values, ioas_unmap, hwpt_alloc, structure_of, values_of, entries_of}
 use Rattle.iofd_words.specs.Bounds.{Bounds}
@@ -155,7 +155,7 @@ spelled nr bytes c fits e number values entries =
     }
 
 -- what reading says of what it answers
-pub found : {A : Type 0} (nr : ℕ) (bytes : List ℕ) (r : Result (Command A) DecodeError) → IsBytes bytes → refused_of r ≡ refusal nr bytes
+pub found : {A : Type 0} (nr : ℕ) (bytes : List ℕ) (r : Result (Command A) CallError) → IsBytes bytes → refused_of r ≡ refusal nr bytes
     → IfOk r (λ c. (structure_of c).number ≡ nr) → IfOk r (λ c. values_of c ≡ read_values (structure_of c) bytes)
     → IfOk r (λ c. entries_of c ≡ entries_at (length (entries_of c)) (after_size bytes)) → IfOk r (λ c. Spells nr bytes c)
 found nr bytes (Ok c) fits e number values entries = spelled nr bytes c fits (sym e) number values entries
@@ -167,7 +167,7 @@ count_read nr bytes c spells =
     let read = spelled_read nr bytes c spells in
     ap (entry_count (structure_of c).fields) read.values_are ∙ count_is c
 
-pub only : {A : Type 0} (nr : ℕ) (bytes : List ℕ) (r : Result (Command A) DecodeError) (c : Command A) → Spells nr bytes c → refused_of r ≡ refusal nr bytes
+pub only : {A : Type 0} (nr : ℕ) (bytes : List ℕ) (r : Result (Command A) CallError) (c : Command A) → Spells nr bytes c → refused_of r ≡ refusal nr bytes
     → IfOk r (λ c. (structure_of c).number ≡ nr) → IfOk r (λ c. values_of c ≡ read_values (structure_of c) bytes)
     → IfOk r (λ c. entries_of c ≡ entries_at (length (entries_of c)) (after_size bytes))
     → OnMemory r ((nr ≡ 0x3B82) × (0 < read_count ioas_allow_iovas bytes)) → Gives r c
@@ -187,7 +187,7 @@ only nr bytes (Err (errors.Refused refused)) c spells e number values entries me
     let read = spelled_read nr bytes c spells in
     let none : refusal nr bytes ≡ None = refusal-number c nr bytes spells.number ∙ read.accepted in
     absurd cc
-only nr bytes (Err errors.Memory) c spells e number values entries memory =
+only nr bytes (Err (errors.Memory no_memory)) c spells e number values entries memory =
     let read = spelled_read nr bytes c spells in
     let structure : structure_of c ≡ ioas_allow_iovas =
     structure-is c nr bytes spells.number (sym read.values_are) ∙ structure-allow nr bytes memory.0 in
@@ -198,11 +198,11 @@ unfolding read_numbers
 values-allow bytes = refl
 
 -- where memory is refused there is a command that has entries
-pub wanting : {A : Type 0} (nr : ℕ) (bytes : List ℕ) (r : Result (Command A) DecodeError) → IsBytes bytes → refused_of r ≡ refusal nr bytes
+pub wanting : {A : Type 0} (nr : ℕ) (bytes : List ℕ) (r : Result (Command A) CallError) → IsBytes bytes → refused_of r ≡ refusal nr bytes
     → OnMemory r ((nr ≡ 0x3B82) × (0 < read_count ioas_allow_iovas bytes)) → OnMemory r ((c : Command A) × SpellsEntries nr bytes c)
 wanting nr bytes (Ok d) fits e memory = tt
 wanting nr bytes (Err (errors.Refused refused)) fits e memory = tt
-wanting {A} nr bytes (Err errors.Memory) fits e memory =
+wanting {A} nr bytes (Err (errors.Memory no_memory)) fits e memory =
     let count = read_count ioas_allow_iovas bytes in
     let ranges = entries_at count (after_size bytes) in
     let len : length ranges ≡ count = length-entries_at count (after_size bytes) in

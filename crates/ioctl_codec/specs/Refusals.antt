@@ -10,8 +10,8 @@ use Rattle.ioctl_codec.specs.Layout.{Structure, length_of, are_allowed, carried,
 use Rattle.ioctl_codec.specs.Spelling.{Spells}
 use Rattle.ioctl_codec.specs.Structures.{structure_at, entries_of}
 use Rattle.ioctl_codec.specs.declared.command.Command.{Command}
-use Rattle.ioctl_codec.specs.declared.command.DecodeError.{DecodeError}
-use Rattle.ioctl_codec.specs.declared.command.DecodeError.TheVariants as errors
+use Rattle.iofd_words.specs.declared.call_error.CallError.{CallError}
+use Rattle.iofd_words.specs.declared.call_error.CallError.TheVariants as errors
 
 -- the size that the bytes begin with
 abbrev pub size_at : List ℕ → ℕ
@@ -63,22 +63,22 @@ cause_of (Ok x) = None
 cause_of (Err r) = Some r.cause
 
 -- the same, where memory may be wanting too
-abbrev pub refused_of : {T : Type 0} → Result T DecodeError → Option Cause
+abbrev pub refused_of : {T : Type 0} → Result T CallError → Option Cause
 refused_of (Ok x) = None
 refused_of (Err (errors.Refused r)) = Some r.cause
-refused_of (Err errors.Memory) = None
+refused_of (Err (errors.Memory no_memory)) = None
 
 -- where memory was wanting
-abbrev pub OnMemory : {T : Type 0} → Result T DecodeError → Type 0 → Type 0
+abbrev pub OnMemory : {T : Type 0} → Result T CallError → Type 0 → Type 0
 OnMemory (Ok x) P = Unit {0}
 OnMemory (Err (errors.Refused r)) P = Unit {0}
-OnMemory (Err errors.Memory) P = P
+OnMemory (Err (errors.Memory no_memory)) P = P
 
 -- the result is this command, unless memory was wanting for its entries
-abbrev pub Gives : {A : Type 0} → Result (Command A) DecodeError → Command A → Type 0
+abbrev pub Gives : {A : Type 0} → Result (Command A) CallError → Command A → Type 0
 Gives (Ok found) c = found ≡ c
 Gives (Err (errors.Refused r)) c = ⊥
-Gives (Err errors.Memory) c = 0 < length (entries_of c)
+Gives (Err (errors.Memory no_memory)) c = 0 < length (entries_of c)
 
 -- the bytes, given with this number, are a command that has entries
 abbrev pub SpellsEntries : {A : Type 0} → ℕ → List ℕ → Command A → Type 0

@@ -9,8 +9,7 @@ use crate::structure::{
     IOAS_UNMAP,
 };
 use iofd_words::{
-    CopyRequest, HwptRequest, Iova, IovaRange, MapFlags, MapRequest, ObjId, RangeList, Refusal,
-    UnmapRequest,
+    CopyRequest, HwptRequest, Iova, IovaRange, MapFlags, MapRequest, ObjId, RangeList, UnmapRequest,
 };
 use std::alloc::{Allocator, Global};
 
@@ -87,14 +86,10 @@ impl<A: Allocator> Command<A> {
     }
 }
 
-/// Why bytes give no command.
-#[derive(Clone, Copy, PartialEq, Eq, Debug)]
-pub enum DecodeError {
-    /// They spell none. The cause is Number, Short, Tail, Unsupported or Array.
-    Refused(Refusal),
-    /// They spell a command with entries, and the memory for these was refused.
-    Memory,
-}
+/// Why bytes give no command: they spell none, by Number (1, ENOTTY), Short (2, EINVAL), Tail (3, E2BIG), Unsupported
+/// (4, EOPNOTSUPP) or Array (5, EINVAL); or they spell a command with entries, and the memory for these was refused.
+/// The name is kept for those who call this crate by it.
+pub type DecodeError = iofd_words::CallError;
 
 // How many ranges there are, if a structure's count can say it.
 fn count_of(ranges: &[IovaRange]) -> Option<u32>

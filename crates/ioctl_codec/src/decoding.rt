@@ -141,7 +141,7 @@ fn ioas_allow_iovas_of<A: Allocator>(alloc: A, bytes: &[u8]) -> Result<Command<A
     match ioas_allow_iovas_at(bytes) {
         Err(refusal) => Err(DecodeError::Refused(refusal)),
         Ok((ioas, count, entries)) => match read_entries(alloc, count, entries) {
-            Err(NoMemory) => Err(DecodeError::Memory),
+            Err(NoMemory) => Err(DecodeError::Memory(NoMemory)),
             Ok(ranges) => Ok(Command::IoasAllowIovas(ioas, RangeList::new(ranges))),
         },
     }

@@ -3,6 +3,7 @@
 #![tactic(auto)]
 
 mod burst;
+mod call_error;
 mod config;
 mod device_set;
 mod event;
@@ -20,6 +21,7 @@ mod span;
 mod width;
 
 pub use burst::Burst;
+pub use call_error::CallError;
 pub use config::{Config, ConfigError, DeviceConfig};
 pub use device_set::DeviceSet;
 pub use event::{Act, CopyRequest, Event, HwptRequest, MapRequest, UnmapRequest};

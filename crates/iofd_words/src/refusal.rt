@@ -44,7 +44,7 @@ pub enum Cause {
     Short = 2,
     /// The size is above 4096, or a byte past the known structure isn't zero.
     Tail = 3,
-    /// An unknown flag bit, a reserved field that isn't 0, or a MAP without a fixed address (none is chosen yet).
+    /// An unknown flag bit, or a reserved field that isn't 0.
     Unsupported = 4,
     /// The wrong number of bytes after the structure.
     Array = 5,

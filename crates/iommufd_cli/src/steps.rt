@@ -7,8 +7,8 @@ ghost use Rattle.iommufd_cli.specs.Steps.{IsAnswered, IsApplied, IsAsked, IsComm
 use crate::line::Line;
 use crate::replies::ranges_line;
 use ioctl_codec::{Command, DecodeError, RangesRequest, decode};
-use iofd_words::{Act, Event, FileNo, PassNo, Query, Reply, Span};
-use iommufd_core::{Core, RangesError};
+use iofd_words::{Act, CallError, Event, FileNo, PassNo, Query, Reply, Span};
+use iommufd_core::Core;
 use iommufd_script::{HexBytes, Step};
 use std::alloc::Allocator;
 
@@ -138,7 +138,7 @@ fn answer_bytes<A: Allocator + Copy>(
     match decode(alloc, number, bytes) {
         Ok(command) => return answer_command(alloc, core, file, command, out),
         Err(DecodeError::Refused(refusal)) => out.tell_refusal(refusal),
-        Err(DecodeError::Memory) => out.tell_memory(),
+        Err(DecodeError::Memory(_)) => out.tell_memory(),
     }
     None
 }
@@ -180,8 +180,8 @@ fn answer_ranges<A: Allocator + Copy>(
 {
     match core.ranges(file, request.ioas) {
         Ok(ranges) => return told_ranges(alloc, request, ranges.spans(), out),
-        Err(RangesError::Refused(refusal)) => out.tell_refusal(refusal),
-        Err(RangesError::Memory) => out.tell_memory(),
+        Err(CallError::Refused(refusal)) => out.tell_refusal(refusal),
+        Err(CallError::Memory(_)) => out.tell_memory(),
     }
     None
 }

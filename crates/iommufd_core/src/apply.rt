@@ -11,11 +11,11 @@ ghost use Rattle.iommufd_core.specs.Ranges.{refused_ranges};
 ghost use Rattle.iommufd_core.specs.Server.{MayWant};
 ghost use Rattle.iofd_words.specs.View.{view};
 
-use crate::{RangesError, events, look, opening, ranges};
+use crate::{events, look, opening, ranges};
 use device_events::access;
 use iofd_words::{
-    AccessKind, Act, Answer, Config, DeviceNo, FileNo, FrameList, FrameNo, Iova, NoMemory, ObjId,
-    PassNo, Query, Record, Reply,
+    AccessKind, Act, Answer, CallError, Config, DeviceNo, FileNo, FrameList, FrameNo, Iova,
+    NoMemory, ObjId, PassNo, Query, Record, Reply,
 };
 use iova_ranges::RangeSet;
 use server_state::State;
@@ -109,9 +109,10 @@ impl<A: Allocator + Copy> Core<A> {
     /// `IOMMU_IOAS_IOVA_RANGES`): the addresses that each of its page tables translates and no device attached to it
     /// keeps for itself, the allowed ones or not. The question changes nothing.
     ///
-    /// Refused: Id (2, ENOENT), where the file isn't open or the id is no address space of it. It takes memory only for
-    /// the answer.
-    pub fn ranges(&self, file: FileNo, ioas: ObjId) -> Result<RangeSet<A>, RangesError>
+    /// Refused: Id (11, ENOENT), where the file isn't open or the id is no address space of it. It takes memory only
+    /// for the answer. Want of memory is also answered where there are more than 2^32 - 1 ranges, the most that the
+    /// command's structure counts.
+    pub fn ranges(&self, file: FileNo, ioas: ObjId) -> Result<RangeSet<A>, CallError>
         ensures refused { refused_ranges result ≡ first_true (ranges_checks (view (world self.now.history)) file ioas) }
         ensures ranges { IfOk result (λ set. AreUsableRanges (view (world self.now.history)) file ioas set.spans) }
         ensures few { IfOk result (λ set. length set.spans < 2 ^ 32) }

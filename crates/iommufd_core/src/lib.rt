@@ -8,4 +8,3 @@ mod opening;
 mod ranges;
 
 pub use apply::{Core, Stamp};
-pub use ranges::RangesError;

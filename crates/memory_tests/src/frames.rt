@@ -1,6 +1,6 @@
 //! Calls one after the other with what each answers, a whole pool in odd orders, and want of memory.
-use frame_memory::{FreeMap, MapError, Pool, UserMap};
-use iofd_words::{Cause, FrameNo, NoMemory, Refusal, UserNo};
+use frame_memory::{FreeMap, Pool, UserMap};
+use iofd_words::{CallError, Cause, FrameNo, NoMemory, Refusal, UserNo};
 use linked_list_allocator::LocalHeap;
 use std::alloc::{Allocator, Global};
 use std::test::Fail;
@@ -116,8 +116,8 @@ fn mapped<A: Allocator + Copy>(
 ) -> Answer {
     match map.map(pool, UserNo(user), address) {
         Ok(frame) => Answer::Gives(u64::from(frame.0)),
-        Err(MapError::Refused(refusal)) => Answer::Refused(refusal.cause),
-        Err(MapError::Memory(_)) => Answer::NoMemory,
+        Err(CallError::Refused(refusal)) => Answer::Refused(refusal.cause),
+        Err(CallError::Memory(_)) => Answer::NoMemory,
     }
 }
 

@@ -9,8 +9,8 @@ use Rattle.iofd_words.specs.declared.refusal.Cause.{Cause}
 use Rattle.iofd_words.specs.declared.refusal.Cause.TheVariants as cause
 use Rattle.object_table.specs.declared.kind.Kind.{Kind}
 use Rattle.object_table.specs.declared.kind.Kind.TheVariants.{Ioas, Hwpt, Device, Access}
-use Rattle.object_table.specs.declared.error.ReserveError.{ReserveError}
-use Rattle.object_table.specs.declared.error.ReserveError.TheVariants.{Refused, Memory}
+use Rattle.iofd_words.specs.declared.call_error.CallError.{CallError}
+use Rattle.iofd_words.specs.declared.call_error.CallError.TheVariants.{Refused, Memory}
 
 abbrev pub is_same_kind : Kind → Kind → Bool
 is_same_kind Ioas Ioas = true
@@ -138,6 +138,6 @@ module _ {V : Type 0} where
   OthersKeepRoom file old new = (other : FileNo) → other.0 ≢ file.0 → reserved_id new other ≡ reserved_id old other
 
 -- want of memory comes only where nothing refuses
-abbrev pub IsWhy : Option Cause → ReserveError → Type 0
+abbrev pub IsWhy : Option Cause → CallError → Type 0
 IsWhy refusal (Refused r) = refusal ≡ Some r.cause
 IsWhy refusal (Memory _) = refusal ≡ None

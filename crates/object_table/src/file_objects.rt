@@ -7,9 +7,8 @@ ghost use Rattle.slab.specs.Slab.{entries, slab_len};
 ghost use Rattle.object_table.specs.Table.{IsWhy, inserted, removed, keeps_file_open, greatest_count};
 ghost use Rattle.object_table.specs.Layout.{IsInLimits, entry_at, next_id, file_rows, file_refusal, row_of};
 
-use crate::error::ReserveError;
 use crate::kind::Kind;
-use iofd_words::{Cause, NoMemory, ObjId, Refusal};
+use iofd_words::{CallError, Cause, NoMemory, ObjId, Refusal};
 use slab::Slab;
 use std::alloc::{Allocator, Global};
 
@@ -57,7 +56,7 @@ impl<V, A: Allocator> FileObjects<V, A> {
     }
 
     /// Makes room for one more object, and says which id it will get.
-    pub(crate) fn reserve(&mut self) -> Result<ObjId, ReserveError>
+    pub(crate) fn reserve(&mut self) -> Result<ObjId, CallError>
         ensures id { IfOk result (λ id. next_id self.new ≡ Some id) }
         ensures unused { IfOk result (λ id. entry_at self.old id ≡ None) }
         ensures ok { OnOk result (file_refusal self.old ≡ None) }
@@ -69,20 +68,20 @@ impl<V, A: Allocator> FileObjects<V, A> {
         ensures limits { IsInLimits self.old → IsInLimits self.new }
     {
         if !self.is_open {
-            return Err(ReserveError::Refused(Refusal { cause: Cause::Id }));
+            return Err(CallError::Refused(Refusal { cause: Cause::Id }));
         }
         if self.is_full() {
-            return Err(ReserveError::Refused(Refusal { cause: Cause::Full }));
+            return Err(CallError::Refused(Refusal { cause: Cause::Full }));
         }
         // Whether that worked is told by the room that there is now: so an error leaves none behind.
         let _ = self.objects.reserve(1);
         if self.objects.len() >= self.objects.capacity() {
-            return Err(ReserveError::Memory(NoMemory));
+            return Err(CallError::Memory(NoMemory));
         }
         let key = self.objects.vacant_key();
         if key >= KEY_END {
             // Never: a slab of at most 65,535 values has no key past them. Its contract doesn't say so.
-            return Err(ReserveError::Memory(NoMemory));
+            return Err(CallError::Memory(NoMemory));
         }
         Ok(ObjId(key as u32 + 1))
     }

@@ -2,11 +2,11 @@
 
 ghost use Rattle.std.specs.Prelude.{◌≡◌, ◌^◌, ◌<◌, None, Some, IsSome, IsOk, IfOk, OnOk, OnErr, IfErr};
 
-use crate::error::{InsertError, ReserveError};
+use crate::error::InsertError;
 use crate::file_objects::Entry;
 use crate::kind::Kind;
 use crate::table::{ObjectTable, place_of};
-use iofd_words::{Cause, FileNo, ObjId, Refusal};
+use iofd_words::{CallError, Cause, FileNo, ObjId, Refusal};
 use std::alloc::Allocator;
 
 impl<V, A: Allocator> ObjectTable<V, A> {
@@ -16,10 +16,10 @@ impl<V, A: Allocator> ObjectTable<V, A> {
     /// in that file. After it, `insert_reserved` takes no memory and can't fail. Where there is room already
     /// it changes nothing.
     ///
-    /// Refused by 11 (ENOENT) where the file is closed or unknown, and then by 23 (ENOSPC) where it has
-    /// 65,535 objects. Where nothing refuses it may still find no memory. An error changes nothing, and no call
-    /// changes a row.
-    pub fn reserve(&mut self, file: FileNo) -> Result<ObjId, ReserveError>
+    /// Refused, in this order: Id (11, ENOENT) where the file is closed or unknown; Full (23, ENOSPC) where it has
+    /// 65,535 objects. Where nothing refuses, the table may have to grow and find no memory. An error changes
+    /// nothing, and no call changes a row.
+    pub fn reserve(&mut self, file: FileNo) -> Result<ObjId, CallError>
         ensures id { IfOk result (λ id. reserved_id self.new file ≡ Some id) }
         ensures in_range { IfOk result (λ id. (0 < id.0) × (id.0 < 2 ^ 31)) }
         ensures unused { IfOk result (λ id. row_at self.old file id ≡ None) }
@@ -34,7 +34,7 @@ impl<V, A: Allocator> ObjectTable<V, A> {
     {
         match place_of(file, self.files.len()) {
             Some(place) => self.files[place].reserve(),
-            None => Err(ReserveError::Refused(Refusal { cause: Cause::Id })),
+            None => Err(CallError::Refused(Refusal { cause: Cause::Id })),
         }
     }
 
@@ -61,9 +61,9 @@ impl<V, A: Allocator> ObjectTable<V, A> {
     /// Adds an object with no user, and gives its id: 1 to 2^31 - 1, and unused in that file. A fresh file
     /// gives 1, 2, 3; an id that became free comes again.
     ///
-    /// Refused by 11 (ENOENT) where the file is closed or unknown, and then by 23 (ENOSPC) where it has
-    /// 65,535 objects. Where nothing refuses it may still find no memory. An error hands the value back and
-    /// changes nothing: it leaves no room reserved either.
+    /// Refused, in this order: Id (11, ENOENT) where the file is closed or unknown; Full (23, ENOSPC) where it has
+    /// 65,535 objects. Where nothing refuses, the table may have to grow and find no memory. An error hands the
+    /// value back and changes nothing: it leaves no room reserved either.
     pub fn insert(&mut self, file: FileNo, kind: Kind, value: V) -> Result<ObjId, InsertError<V>>
         ensures in_range { IfOk result (λ id. (0 < id.0) × (id.0 < 2 ^ 31)) }
         ensures unused { IfOk result (λ id. row_at self.old file id ≡ None) }

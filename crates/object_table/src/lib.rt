@@ -14,7 +14,7 @@ mod kind;
 mod table;
 mod users;
 
-pub use error::{InsertError, ReserveError};
+pub use error::InsertError;
 pub use iter::{ObjectRef, Objects};
 pub use kind::Kind;
 pub use table::ObjectTable;

@@ -5,9 +5,10 @@ ghost use Rattle.std.specs.List.{list_all};
 ghost use Rattle.iofd_words.specs.Span.{is_whole_pages};
 ghost use Rattle.iofd_words.specs.Width.{bits_of};
 
-use area_map::{Areas, InsertError};
+use area_map::Areas;
 use iofd_words::{
-    Area, DeviceNo, DeviceSet, FileNo, NoMemory, ObjId, PAGE_SIZE, Phase, Rights, Span, Width,
+    Area, CallError, DeviceNo, DeviceSet, FileNo, NoMemory, ObjId, PAGE_SIZE, Phase, Rights, Span,
+    Width,
 };
 use std::alloc::Global;
 use std::test::Fail;
@@ -43,8 +44,8 @@ fn added(areas: &mut Areas, first: u64, last: u64, stays: bool) -> Result<bool, 
     };
     match areas.insert(area) {
         Ok(()) => {}
-        Err(InsertError::Refused(_)) => return Ok(false),
-        Err(InsertError::Memory(refused)) => return Err(refused),
+        Err(CallError::Refused(_)) => return Ok(false),
+        Err(CallError::Memory(refused)) => return Err(refused),
     }
     if !stays {
         let mut owed = DeviceSet::new();

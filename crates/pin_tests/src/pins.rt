@@ -1,10 +1,10 @@
 //! Calls one after the other with what each answers, and want of memory.
 
-use frame_memory::{MapError, Pool, UserMap};
-use iofd_words::UserNo;
+use frame_memory::{Pool, UserMap};
+use iofd_words::{CallError, UserNo};
 use linked_list_allocator::LocalHeap;
 use mem_account::Accounts;
-use pinned_pages::{Pages, PinError};
+use pinned_pages::Pages;
 use std::alloc::Allocator;
 use std::test::Fail;
 
@@ -53,8 +53,8 @@ struct Memory {
 fn mapped(memory: &mut Memory, address: u64) -> Answer {
     match memory.users.map(&mut memory.pool, USER, address) {
         Ok(frame) => Answer::Gives(u64::from(frame.0)),
-        Err(MapError::Refused(refusal)) => Answer::Refused(refusal.number()),
-        Err(MapError::Memory(_)) => Answer::NoMemory,
+        Err(CallError::Refused(refusal)) => Answer::Refused(refusal.number()),
+        Err(CallError::Memory(_)) => Answer::NoMemory,
     }
 }
 
@@ -80,8 +80,8 @@ fn pinned<A: Allocator>(pages: &mut Pages<A>, memory: &mut Memory) -> Answer {
     }
     match pages.pin_by_table(&memory.users, &mut memory.pool, &mut memory.accounts) {
         Ok(()) => Answer::Done,
-        Err(PinError::Refused(refusal)) => Answer::Refused(refusal.number()),
-        Err(PinError::Memory(_)) => Answer::NoMemory,
+        Err(CallError::Refused(refusal)) => Answer::Refused(refusal.number()),
+        Err(CallError::Memory(_)) => Answer::NoMemory,
     }
 }
 

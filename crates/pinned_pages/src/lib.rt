@@ -4,7 +4,5 @@
 
 mod frames;
 mod pages;
-mod pin_error;
 
 pub use pages::Pages;
-pub use pin_error::PinError;

@@ -9,9 +9,8 @@ ghost use Rattle.pinned_pages.specs.Holds.{HasMoreHolds, are_held, times};
 ghost use Rattle.pinned_pages.specs.Pages.{are_present, charged_first, frame_of, held_frames, last_count, last_frames, needed, new_count, new_frames, pin_refusal, pinned, pinned_count, refunded_last, released, unpinned};
 
 use crate::frames;
-use crate::pin_error::PinError;
 use frame_memory::{Pool, UserMap};
-use iofd_words::{Cause, FrameNo, NoMemory, Refusal, UserNo};
+use iofd_words::{CallError, Cause, FrameNo, NoMemory, Refusal, UserNo};
 use mem_account::Accounts;
 use std::alloc::{Allocator, Global};
 use std::marker::Model;
@@ -183,17 +182,17 @@ impl<A: Allocator> Pages<A> {
         users: &UserMap<B>,
         pool: &mut Pool<C>,
         accounts: &mut Accounts<D>,
-    ) -> Result<(), PinError>
+    ) -> Result<(), CallError>
         requires user { IsTrue (is_user accounts.old self.old.pages.user.0) }
         requires pins { self.old.pages.table_pins + 1 < 2 ^ 64 }
         requires within { self.old.pages.table_pins ≡ 0 → IsTrue (are_within users.now.pages pool.old.holds) }
         requires holds { self.old.pages.table_pins ≡ 0 → IsTrue (may_hold pool.old.holds self.old.pages.count) }
 
         ensures refused { IfSome (pin_refusal self.old.pages users.now.pages accounts.old)
-            (λ cause. result ≡ Err (PinError.Refused (record { cause = cause }))) }
+            (λ cause. result ≡ Err (CallError.Refused (record { cause = cause }))) }
         ensures taken { IfNone (pin_refusal self.old.pages users.now.pages accounts.old)
-            (IsOkUnless result (PinError.Memory (record {}))) }
-        ensures memory { result ≡ Err (PinError.Memory (record {})) → self.old.capacity < needed self.old.pages }
+            (IsOkUnless result (CallError.Memory (record {}))) }
+        ensures memory { result ≡ Err (CallError.Memory (record {})) → self.old.capacity < needed self.old.pages }
 
         ensures pages { OnOk result (self.new.pages ≡ pinned self.old.pages users.now.pages) }
         ensures pool { OnOk result (HasMoreHolds pool.old pool.new (new_frames self.old.pages users.now.pages)) }
@@ -212,9 +211,7 @@ impl<A: Allocator> Pages<A> {
             if !accounts.has_room(self.user, self.count) {
                 return Err(refused(Cause::Account));
             }
-            if self.reserve().is_err() {
-                return Err(PinError::Memory(NoMemory));
-            }
+            self.reserve()?;
         }
         self.pin_reserved(users, pool, accounts);
         Ok(())
@@ -295,8 +292,8 @@ impl<A: Allocator> Pages<A> {
 }
 
 // The refusal for this cause.
-fn refused(cause: Cause) -> PinError
-    ensures { result ≡ PinError.Refused (record { cause = cause }) }
+fn refused(cause: Cause) -> CallError
+    ensures { result ≡ CallError.Refused (record { cause = cause }) }
 {
-    PinError::Refused(Refusal { cause })
+    CallError::Refused(Refusal { cause })
 }

@@ -11,12 +11,12 @@ use Rattle.server_state.specs.Shows.{Shows}
 use Rattle.server_state.specs.declared.state.State.{State}
 use Rattle.server_state.proofs.ObjectsMoved.{is_full_rows}
 use Rattle.object_table.specs.Table.{IsWhy, insert_refusal, is_of_file, is_open}
-use Rattle.object_table.specs.declared.error.ReserveError.{ReserveError}
-use Rattle.object_table.specs.declared.error.ReserveError.TheVariants.{Refused}
+use Rattle.iofd_words.specs.declared.call_error.CallError.{CallError}
+use Rattle.iofd_words.specs.declared.call_error.CallError.TheVariants.{Refused}
 
 module _ {A : Type 0} where
   -- an open file that isn't full takes one more object
-  pub takes_object : (w : World) (s : State A) (file : FileNo) (error : ReserveError) (r : Refusal) → Shows w s → files.is_open w.settings w.closed file ≡ true → is_full w.objects file ≡ false → error ≡ Refused r → IsWhy (insert_refusal s.objects file) error → ⊥
+  pub takes_object : (w : World) (s : State A) (file : FileNo) (error : CallError) (r : Refusal) → Shows w s → files.is_open w.settings w.closed file ≡ true → is_full w.objects file ≡ false → error ≡ Refused r → IsWhy (insert_refusal s.objects file) error → ⊥
   takes_object w s file error r shows still roomy refused why =
       let open_s : is_open s.objects file ≡ true = shows.objects.files file ∙ still in
       let roomy_s : leb 65535 (length (filter (is_of_file file) s.objects.rows)) ≡ false =

@@ -297,6 +297,7 @@ impl<A: Allocator> UserMemory<A> {
         requires room { pinned ≡ true → has_room self.old user (new_pages self.old number) ≡ true }
         requires backed { IsBacked self.old pool.old.holds }
         ensures share { OnOk result (HasShare (if pinned then 1 else 0) number self.old self.new) }
+        ensures memory { OnErr result (pinned ≡ true) }
         ensures settles { OnOk result (Settles self.old self.new pool.old pool.new) }
         ensures pages { self.new.pages ≡ self.old.pages }
         ensures limits { self.new.limits ≡ self.old.limits }

@@ -1,8 +1,8 @@
 //! Calls one after the other with what each answers, and what a want of memory leaves.
 
-use iofd_words::{Cause, FileNo, NoMemory, ObjId, Refusal};
+use iofd_words::{CallError, Cause, FileNo, NoMemory, ObjId, Refusal};
 use linked_list_allocator::LocalHeap;
-use object_table::{InsertError, Kind, ObjectTable, ReserveError};
+use object_table::{InsertError, Kind, ObjectTable};
 use std::alloc::Allocator;
 use std::test::Fail;
 
@@ -62,14 +62,14 @@ const IN_USE: Answer = Answer::Refused(Cause::InUse);
 
 const FULL: Answer = Answer::Refused(Cause::Full);
 
-fn no_room(reason: ReserveError) -> Answer {
+fn no_room(reason: CallError) -> Answer {
     match reason {
-        ReserveError::Refused(refusal) => Answer::Refused(refusal.cause),
-        ReserveError::Memory(_) => Answer::NoMemory,
+        CallError::Refused(refusal) => Answer::Refused(refusal.cause),
+        CallError::Memory(_) => Answer::NoMemory,
     }
 }
 
-fn id_or(answer: Result<ObjId, ReserveError>) -> Answer {
+fn id_or(answer: Result<ObjId, CallError>) -> Answer {
     match answer {
         Ok(id) => Answer::Gives(id.0),
         Err(reason) => no_room(reason),
@@ -338,7 +338,7 @@ fn is_refused_growth(table: &mut ObjectTable<u32, &LocalHeap>, file: FileNo, cou
     match table.insert(file, Kind::Ioas, 99) {
         Ok(_) => false,
         Err(InsertError { reason, value }) => {
-            reason == ReserveError::Memory(NoMemory) && value == 99 && has_just(table, file, count)
+            reason == CallError::Memory(NoMemory) && value == 99 && has_just(table, file, count)
         }
     }
 }

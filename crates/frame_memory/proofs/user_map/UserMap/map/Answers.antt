@@ -10,11 +10,11 @@ returns-then-not-has_free-clause-refused g c = search rules
 pub returns-then-is_err-clause-memory : goal.returns-then-is_err-clause-memory
 returns-then-is_err-clause-memory g c = search rules
 
-pub returns-in-Ok-clause-pages : goal.returns-in-Ok-clause-pages
-returns-in-Ok-clause-pages g c = search rules
+pub returns-clause-pages : goal.returns-clause-pages
+returns-clause-pages g c = search rules
 
 pub returns-then-is_some-clause-err : goal.returns-then-is_some-clause-err
 returns-then-is_some-clause-err g c = search rules
 
-pub returns-in-Ok-clause-more : goal.returns-in-Ok-clause-more
-returns-in-Ok-clause-more g c = search rules
+pub returns-clause-more : goal.returns-clause-more
+returns-clause-more g c = search rules
