@@ -1,4 +1,5 @@
-//! Sets of ranges, fits, and what is allowed or reserved: calls one after the other with what each answers, and a long list.
+//! Sets of ranges, fits, and what is allowed or reserved: calls one after the other with what each answers, and a long
+//! list.
 
 use self::Answer::{At, Barred, Both, Is, Nothing};
 use self::Call::{

@@ -1,5 +1,6 @@
 -- An area added in order.
-use Rattle.std.proofs.Common.{◌≡◌, ℕ, suc, ◌+◌, ◌<◌, ◌≤◌, true, false, ltb, List, [], ◌∷◌, length, refl, ap, arith, ⊎_elim}
+use Rattle.std.proofs.Common.{◌≡◌, ℕ, suc, ◌+◌, ◌<◌, ◌≤◌, true, false, ltb, List, [], ◌∷◌, length, refl, ap, arith}
+use Rattle.std.proofs.Common.{⊎_elim}
 use Rattle.std.specs.List.{insert, prefix_len}
 use Rattle.std.proofs.lemmas.Bool.{cases_lt}
 use Rattle.std.proofs.lemmas.Bool.Decides.{nat_tests}
@@ -11,7 +12,8 @@ insert_behind : (x : Area) (xs : List Area) (n : ℕ) (a : Area) → insert (x �
 insert_behind x xs n a = let next : 1 + n ≡ suc n = omega arith in rw next refl
 
 -- behind the areas that end below it, it stands before the first that begins after it
-pub with_area-place : (a : Area) (low : ℕ) (xs : List Area) → AreApartFrom low xs → a.span.first ≤ a.span.last → areas_meet a.span xs ≡ false
+pub with_area-place : (a : Area) (low : ℕ) (xs : List Area) → AreApartFrom low xs → a.span.first ≤ a.span.last
+    → areas_meet a.span xs ≡ false
     → insert xs (prefix_len (λ (x : Area). ltb x.span.last a.span.first) xs) a ≡ with_area a xs
 with_area-place a low [] apart ordered alone = refl
 with_area-place a low (x ∷ xs) apart ordered alone =
@@ -22,14 +24,16 @@ with_area-place a low (x ∷ xs) apart ordered alone =
     let rest = with_area-place a (x.span.last + 1) xs apart.2 ordered others in
     let behind : ltb x.span.last a.span.first ≡ true = grind (arith, nat_tests) in
     let later : ltb a.span.first x.span.first ≡ false = grind (arith, nat_tests) in
-    rw (behind, later, insert_behind x xs (prefix_len (λ (x : Area). ltb x.span.last a.span.first) xs) a) (ap (λ ys. x ∷ ys) rest))
+    rw (behind, later, insert_behind x xs (prefix_len (λ (x : Area). ltb x.span.last a.span.first) xs) a)
+    (ap (λ ys. x ∷ ys) rest))
     (λ (reached : a.span.first ≤ x.span.last).
     let after : a.span.last < x.span.first = grind (arith, nat_tests) in
     grind (arith, nat_tests))
     (cases_lt x.span.last a.span.first)
 
 -- the areas are in order and apart again
-with_area-from : (a : Area) (low : ℕ) (xs : List Area) → AreApartFrom low xs → low ≤ a.span.first → a.span.first ≤ a.span.last → areas_meet a.span xs ≡ false → AreApartFrom low (with_area a xs)
+with_area-from : (a : Area) (low : ℕ) (xs : List Area) → AreApartFrom low xs → low ≤ a.span.first
+    → a.span.first ≤ a.span.last → areas_meet a.span xs ≡ false → AreApartFrom low (with_area a xs)
 with_area-from a low [] apart above ordered alone = (above, ordered, tt)
 with_area-from a low (x ∷ xs) apart above ordered alone =
     let own : x.span.first ≤ x.span.last = apart.1 in
@@ -45,11 +49,13 @@ with_area-from a low (x ∷ xs) apart above ordered alone =
     rw test (apart.0, own, with_area-from a (x.span.last + 1) xs apart.2 after ordered others))
     (cases_lt a.span.first x.span.first)
 
-pub with_area-apart : (a : Area) (xs : List Area) → AreApart xs → a.span.first ≤ a.span.last → areas_meet a.span xs ≡ false → AreApart (with_area a xs)
+pub with_area-apart : (a : Area) (xs : List Area) → AreApart xs → a.span.first ≤ a.span.last
+    → areas_meet a.span xs ≡ false → AreApart (with_area a xs)
 with_area-apart a xs apart ordered alone = with_area-from a 0 xs apart (omega arith) ordered alone
 
 pub length-with_area : (a : Area) (xs : List Area) → length (with_area a xs) ≡ length xs + 1
 length-with_area a [] = refl
 length-with_area a (x ∷ xs) =
     let rest = length-with_area a xs in
-    ⊎_elim (λ (before : a.span.first < x.span.first). grind (arith, nat_tests)) (λ (behind : x.span.first ≤ a.span.first). grind (arith, nat_tests)) (cases_lt a.span.first x.span.first)
+    ⊎_elim (λ (before : a.span.first < x.span.first). grind (arith, nat_tests))
+    (λ (behind : x.span.first ≤ a.span.first). grind (arith, nat_tests)) (cases_lt a.span.first x.span.first)

@@ -1,5 +1,6 @@
 -- Areas stay in order and apart where their spans stay, and where some are taken away.
-use Rattle.std.proofs.Common.{◌≡◌, ℕ, ◌+◌, ◌≤◌, Bool, true, false, ◌&&◌, List, [], ◌∷◌, length, map, refl, arith, ⊎_elim}
+use Rattle.std.proofs.Common.{◌≡◌, ℕ, ◌+◌, ◌≤◌, Bool, true, false, ◌&&◌, List, [], ◌∷◌, length, map, refl, arith}
+use Rattle.std.proofs.Common.{⊎_elim}
 use Rattle.std.specs.List.{filter, list_any}
 use Rattle.std.proofs.lemmas.Bool.{cases_Bool}
 use Rattle.std.proofs.lemmas.Bool.Decides.{nat_tests}
@@ -10,11 +11,13 @@ use Rattle.iofd_words.specs.declared.rows.Area.{Area}
 use Rattle.area_map.specs.Areas.{AreApartFrom, AreKept, IsCovered, HasGap}
 use Rattle.area_map.proofs.Found.{list_any-find}
 
-apart-map : (f : Area → Area) → ((a : Area) → (f a).span ≡ a.span) → (low : ℕ) (xs : List Area) → AreApartFrom low xs → AreApartFrom low (map f xs)
+apart-map : (f : Area → Area) → ((a : Area) → (f a).span ≡ a.span) → (low : ℕ) (xs : List Area) → AreApartFrom low xs
+    → AreApartFrom low (map f xs)
 apart-map f same low [] apart = apart
 apart-map f same low (x ∷ xs) apart = rw (same x) (apart.0, apart.1, apart-map f same (x.span.last + 1) xs apart.2)
 
-pub kept-map : (f : Area → Area) → ((a : Area) → (f a).span ≡ a.span) → (xs : List Area) → AreKept xs → AreKept (map f xs)
+pub kept-map : (f : Area → Area) → ((a : Area) → (f a).span ≡ a.span) → (xs : List Area) → AreKept xs
+    → AreKept (map f xs)
 kept-map f same xs kept = record { apart = apart-map f same 0 xs kept.apart; few = rw (length-map xs f) kept.few }
 
 pub apart-lower : (low below : ℕ) (xs : List Area) → below ≤ low → AreApartFrom low xs → AreApartFrom below xs
@@ -26,14 +29,16 @@ apart-filter p low [] apart = apart
 apart-filter p low (x ∷ xs) apart =
     let rest = apart-filter p (x.span.last + 1) xs apart.2 in
     ⊎_elim (λ (passes : p x ≡ true). rw passes (apart.0, apart.1, rest))
-    (λ (fails : p x ≡ false). rw fails (apart-lower (x.span.last + 1) low (filter p xs) (omega (arith, apart.0, apart.1)) rest))
+    (λ (fails : p x ≡ false). rw fails (apart-lower (x.span.last + 1) low (filter p xs)
+    (omega (arith, apart.0, apart.1)) rest))
     (cases_Bool (p x))
 
 pub length-filter-le : (p : Area → Bool) (xs : List Area) → length (filter p xs) ≤ length xs
 length-filter-le p [] = omega arith
 length-filter-le p (x ∷ xs) =
     let rest = length-filter-le p xs in
-    ⊎_elim (λ (passes : p x ≡ true). grind (arith, nat_tests)) (λ (fails : p x ≡ false). grind (arith, nat_tests)) (cases_Bool (p x))
+    ⊎_elim (λ (passes : p x ≡ true). grind (arith, nat_tests))
+    (λ (fails : p x ≡ false). grind (arith, nat_tests)) (cases_Bool (p x))
 
 pub kept-filter : (p : Area → Bool) (xs : List Area) → AreKept xs → AreKept (filter p xs)
 kept-filter p xs kept =
@@ -46,7 +51,8 @@ pub list_any-filter : (p q : Area → Bool) (xs : List Area) → list_any q (fil
 list_any-filter p q [] = refl
 list_any-filter p q (x ∷ xs) =
     let rest = list_any-filter p q xs in
-    ⊎_elim (λ (passes : p x ≡ true). grind (arith, nat_tests)) (λ (fails : p x ≡ false). grind (arith, nat_tests)) (cases_Bool (p x))
+    ⊎_elim (λ (passes : p x ≡ true). grind (arith, nat_tests))
+    (λ (fails : p x ≡ false). grind (arith, nat_tests)) (cases_Bool (p x))
 
 -- a span with a gap isn't covered
 pub gap_tells : (span : Bounds) (xs : List Area) → HasGap span xs → IsCovered span xs → ⊥

@@ -1,5 +1,6 @@
 -- Rows as they are kept, after a change of their areas.
-use Rattle.std.proofs.Common.{◌≡◌, ℕ, ◌+◌, ◌<◌, ◌≤◌, false, not, Option, Some, None, List, [], ◌∷◌, ◌++◌, length, take, drop, map, refl, sym, ◌∙◌, arith}
+use Rattle.std.proofs.Common.{◌≡◌, ℕ, ◌+◌, ◌<◌, ◌≤◌, false, not, Option, Some, None, List, [], ◌∷◌, ◌++◌, length, take}
+use Rattle.std.proofs.Common.{drop, map, refl, sym, ◌∙◌, arith}
 use Rattle.std.proofs.lemmas.List.{length-map}
 use Rattle.iofd_words.specs.Bounds.{Bounds}
 use Rattle.iofd_words.specs.Span.{lies_in}
@@ -20,7 +21,8 @@ AreRows-map f (row ∷ rows) each =
     let same = length-map row f in
     (omega (arith, same, each.0), omega (arith, same, each.1), AreRows-map f rows each.2)
 
-pub rows_mapped : (f : Area → Area) → ((a : Area) → (f a).span ≡ a.span) → (rows : List (List Area)) (count : ℕ) (old new : Option Bounds)
+pub rows_mapped : (f : Area → Area) → ((a : Area) → (f a).span ≡ a.span)
+    → (rows : List (List Area)) (count : ℕ) (old new : Option Bounds)
     → AreInRows rows count old → LeaveIn new (map f (in_rows rows)) → AreInRows (map (map f) rows) count new
 rows_mapped f same rows count old new kept leave =
     let mapped = in_rows-map_map f rows in
@@ -32,17 +34,23 @@ rows_mapped f same rows count old new kept leave =
     }
 
 -- the vector of the rows after each was changed in its slice
-pub mapped_back : (f : Area → Area) (rows new : List (List Area)) (n : ℕ) → new ≡ map (map f) rows → length rows ≡ n → take n (new ++ drop (length new) rows) ≡ map (map f) rows
+pub mapped_back : (f : Area → Area) (rows new : List (List Area)) (n : ℕ) → new ≡ map (map f) rows → length rows ≡ n
+    → take n (new ++ drop (length new) rows) ≡ map (map f) rows
 mapped_back f rows new n same long = written_back rows new (map (map f) rows) n same (length-map rows (map f) ∙ long)
 
 -- with one more area
-pub rows_with : (a : Area) (rows new : List (List Area)) (count : ℕ) (old hull : Option Bounds) → AreInRows rows count old → AreRows new → in_rows new ≡ with_area a (in_rows rows)
-    → a.span.first ≤ a.span.last → areas_meet a.span (in_rows rows) ≡ false → count < 65535 → LeavesIn hull a → LeaveIn hull (in_rows rows) → AreInRows new (count + 1) hull
+pub rows_with : (a : Area) (rows new : List (List Area)) (count : ℕ) (old hull : Option Bounds)
+    → AreInRows rows count old → AreRows new → in_rows new ≡ with_area a (in_rows rows)
+    → a.span.first ≤ a.span.last → areas_meet a.span (in_rows rows) ≡ false → count < 65535 → LeavesIn hull a
+    → LeaveIn hull (in_rows rows) → AreInRows new (count + 1) hull
 rows_with a rows new count old hull kept each added ordered alone few leaves leave =
     let more = length-with_area a (in_rows rows) in
     let counted = kept.counted in
     record {
-      kept = rw added (record { apart = with_area-apart a (in_rows rows) kept.kept.apart ordered alone; few = omega arith });
+      kept = rw added (record {
+        apart = with_area-apart a (in_rows rows) kept.kept.apart ordered alone;
+        few = omega arith;
+      });
       each = each;
       counted = rw added (omega (arith, more, counted));
       leave = rw added (leave-with hull a (in_rows rows) leaves leave);
@@ -57,13 +65,16 @@ live_all device (x ∷ xs) leave =
     rw (same, rest) refl
 
 -- a spare row stays one where no more rows stand in as much place
-pub spare_stays : (spare : Option (List Area)) (count left capacity place : ℕ) → left ≤ count → place ≡ capacity → IsSpare spare count capacity → IsSpare spare left place
+pub spare_stays : (spare : Option (List Area)) (count left capacity place : ℕ) → left ≤ count → place ≡ capacity
+    → IsSpare spare count capacity → IsSpare spare left place
 spare_stays None count left capacity place fewer same is = tt
 spare_stays (Some row) count left capacity place fewer same is = (is.0, omega (arith, fewer, same, is.1))
 
 -- without the areas of a span
-pub rows_without : (span : Bounds) (rows new : List (List Area)) (count left : ℕ) (old hull : Option Bounds) → AreInRows rows count old → AreRows new
-    → in_rows new ≡ areas_outside span (in_rows rows) → left ≡ length (in_rows new) → LeaveIn hull (in_rows new) → AreInRows new left hull
+pub rows_without : (span : Bounds) (rows new : List (List Area)) (count left : ℕ) (old hull : Option Bounds)
+    → AreInRows rows count old → AreRows new
+    → in_rows new ≡ areas_outside span (in_rows rows) → left ≡ length (in_rows new) → LeaveIn hull (in_rows new)
+    → AreInRows new left hull
 rows_without span rows new count left old hull kept each gone counted leave = record {
   kept = rw gone (kept-filter (λ a. not (lies_in a.span span)) (in_rows rows) kept.kept);
   each = each;

@@ -1,5 +1,6 @@
 -- Rows of which areas are taken away.
-use Rattle.std.proofs.Common.{◌≡◌, ℕ, suc, zero, ◌+◌, ◌-◌, ◌<◌, ◌≤◌, ◌==◌, true, false, not, leb, ltb, List, [], ◌∷◌, ◌++◌, length, get_or, take, drop, set, map, refl, sym, ap, ◌∙◌, arith, ⊎_elim}
+use Rattle.std.proofs.Common.{◌≡◌, ℕ, suc, zero, ◌+◌, ◌-◌, ◌<◌, ◌≤◌, ◌==◌, true, false, not, leb, ltb, List, [], ◌∷◌}
+use Rattle.std.proofs.Common.{◌++◌, length, get_or, take, drop, set, map, refl, sym, ap, ◌∙◌, arith, ⊎_elim}
 use Rattle.std.specs.List.{filter, list_any, between, prefix_len, remove}
 use Rattle.std.proofs.lemmas.Bool.{cases_lt}
 use Rattle.std.proofs.lemmas.Bool.Decides.{nat_tests}
@@ -13,12 +14,15 @@ use Rattle.area_map.specs.Areas.{AreApartFrom, AreKept, areas_outside}
 use Rattle.area_map.specs.Rows.{in_rows, AreRows}
 use Rattle.area_map.proofs.Kept.{length-filter-le}
 use Rattle.std.proofs.lemmas.List.Elements.{filter-append}
-use Rattle.area_map.proofs.Rows.{in_rows-append, in_rows-map, AreRows-take, AreRows-drop, AreRows-append, apart_left, apart-drop}
+use Rattle.area_map.proofs.Rows.{in_rows-append, in_rows-map, AreRows-take, AreRows-drop, AreRows-append, apart_left}
+use Rattle.area_map.proofs.Rows.{apart-drop}
 use Rattle.area_map.proofs.RowsChanged.{outside_between}
 use Rattle.area_map.proofs.Within.{filter_from}
 
-pub outside_in_rows : (span : Bounds) (rows : List (List Area)) → in_rows (map (areas_outside span) rows) ≡ areas_outside span (in_rows rows)
-outside_in_rows span rows = in_rows-map (areas_outside span) refl (λ xs ys. filter-append (λ a. not (lies_in a.span span)) xs ys) rows
+pub outside_in_rows : (span : Bounds) (rows : List (List Area))
+    → in_rows (map (areas_outside span) rows) ≡ areas_outside span (in_rows rows)
+outside_in_rows span rows =
+    in_rows-map (areas_outside span) refl (λ xs ys. filter-append (λ a. not (lies_in a.span span)) xs ys) rows
 
 -- each row has place for one more area, and may have none
 abbrev pub AreFew : List (List Area) → Type 0
@@ -32,61 +36,78 @@ few_outside span (row ∷ rows) each =
     (omega (arith, each.1), few_outside span rows each.2)
 
 -- rows without areas have no part in all areas
-pub nonempty_in_rows : (rows : List (List Area)) → in_rows (filter (λ (row : List Area). not (length row == 0)) rows) ≡ in_rows rows
+pub nonempty_in_rows : (rows : List (List Area))
+    → in_rows (filter (λ (row : List Area). not (length row == 0)) rows) ≡ in_rows rows
 nonempty_in_rows [] = refl
 nonempty_in_rows ([] ∷ rows) = nonempty_in_rows rows
 nonempty_in_rows ((x ∷ row) ∷ rows) =
     let test : (length (x ∷ row) == 0) ≡ false = grind (arith, nat_tests) in
     rw test (ap (λ zs. (x ∷ row) ++ zs) (nonempty_in_rows rows))
 
-pub nonempty_rows : (rows : List (List Area)) → AreFew rows → AreRows (filter (λ (row : List Area). not (length row == 0)) rows)
+pub nonempty_rows : (rows : List (List Area)) → AreFew rows
+    → AreRows (filter (λ (row : List Area). not (length row == 0)) rows)
 nonempty_rows [] few = tt
 nonempty_rows ([] ∷ rows) few = nonempty_rows rows few.1
 nonempty_rows ((x ∷ row) ∷ rows) few =
     let test : (length (x ∷ row) == 0) ≡ false = grind (arith, nat_tests) in
     rw test (omega arith, few.0, nonempty_rows rows few.1)
 
-pub none_empty : (rows : List (List Area)) → AreFew rows → list_any (λ (row : List Area). length row == 0) rows ≡ false → AreRows rows
+pub none_empty : (rows : List (List Area)) → AreFew rows → list_any (λ (row : List Area). length row == 0) rows ≡ false
+    → AreRows rows
 none_empty [] few none = tt
 none_empty ([] ∷ rows) few none = cc
 none_empty ((x ∷ row) ∷ rows) few none =
     let test : (length (x ∷ row) == 0) ≡ false = grind (arith, nat_tests) in
     (omega arith, few.0, none_empty rows few.1 (rw test at none))
 
-few_between : (span : Bounds) (rows : List (List Area)) (from to : ℕ) → AreRows rows → AreFew (map (areas_outside span) (between from to rows))
-few_between span rows from to each = few_outside span (between from to rows) (AreRows-take (drop from rows) (to - from) (AreRows-drop rows from each))
+few_between : (span : Bounds) (rows : List (List Area)) (from to : ℕ) → AreRows rows
+    → AreFew (map (areas_outside span) (between from to rows))
+few_between span rows from to each =
+    few_outside span (between from to rows) (AreRows-take (drop from rows) (to - from) (AreRows-drop rows from each))
 
 -- rows of which those between have areas left
-pub rows_around : (span : Bounds) (rows mid : List (List Area)) (from to : ℕ) → AreRows rows → mid ≡ map (areas_outside span) (between from to rows)
+pub rows_around : (span : Bounds) (rows mid : List (List Area)) (from to : ℕ) → AreRows rows
+    → mid ≡ map (areas_outside span) (between from to rows)
     → list_any (λ (row : List Area). length row == 0) mid ≡ false → AreRows (put_mid from (to - from) rows mid)
 rows_around span rows mid from to each is none =
     let few : AreFew mid = rw is (few_between span rows from to each) in
     AreRows-append (take from rows) (mid ++ drop (to - from) (drop from rows)) (AreRows-take rows from each)
-    (AreRows-append mid (drop (to - from) (drop from rows)) (none_empty mid few none) (AreRows-drop (drop from rows) (to - from) (AreRows-drop rows from each)))
+    (AreRows-append mid (drop (to - from) (drop from rows)) (none_empty mid few none)
+    (AreRows-drop (drop from rows) (to - from) (AreRows-drop rows from each)))
 
-length_parts : (xs ys zs : List (List Area)) → length (in_rows (xs ++ (ys ++ zs))) ≡ length (in_rows xs) + (length (in_rows ys) + length (in_rows zs))
+length_parts : (xs ys zs : List (List Area))
+    → length (in_rows (xs ++ (ys ++ zs))) ≡ length (in_rows xs) + (length (in_rows ys) + length (in_rows zs))
 length_parts xs ys zs =
     ap length (in_rows-append xs (ys ++ zs)) ∙ length-append (in_rows xs) (in_rows (ys ++ zs))
     ∙ ap (λ n. length (in_rows xs) + n) (ap length (in_rows-append ys zs) ∙ length-append (in_rows ys) (in_rows zs))
 
-length_whole : (rows : List (List Area)) (from to : ℕ) → from ≤ to → length (in_rows rows) ≡ length (in_rows (take from rows)) + (length (in_rows (between from to rows)) + length (in_rows (drop to rows)))
-length_whole rows from to order = ap (λ (rs : List (List Area)). length (in_rows rs)) (split_between rows from to order) ∙ length_parts (take from rows) (between from to rows) (drop to rows)
+length_whole : (rows : List (List Area)) (from to : ℕ) → from ≤ to
+    → length (in_rows rows) ≡ length (in_rows (take from rows))
+    + (length (in_rows (between from to rows)) + length (in_rows (drop to rows)))
+length_whole rows from to order = ap (λ (rs : List (List Area)). length (in_rows rs)) (split_between rows from to order)
+    ∙ length_parts (take from rows) (between from to rows) (drop to rows)
 
-pub length_between : (rows : List (List Area)) (from to : ℕ) → from ≤ to → length (in_rows (between from to rows)) ≤ length (in_rows rows)
+pub length_between : (rows : List (List Area)) (from to : ℕ) → from ≤ to
+    → length (in_rows (between from to rows)) ≤ length (in_rows rows)
 length_between rows from to order = let whole = length_whole rows from to order in omega (arith, whole)
 
 -- what goes of the rows between goes of all
-pub count_around : (rows mid : List (List Area)) (from to n : ℕ) → from ≤ to → n + length (in_rows mid) ≡ length (in_rows (between from to rows)) → n + length (in_rows (put_mid from (to - from) rows mid)) ≡ length (in_rows rows)
+pub count_around : (rows mid : List (List Area)) (from to n : ℕ) → from ≤ to
+    → n + length (in_rows mid) ≡ length (in_rows (between from to rows))
+    → n + length (in_rows (put_mid from (to - from) rows mid)) ≡ length (in_rows rows)
 count_around rows mid from to n order count =
     let whole = length_whole rows from to order in
     let same : from + (to - from) ≡ to = omega arith in
-    let behind : drop (to - from) (drop from rows) ≡ drop to rows = drop-drop (to - from) from rows ∙ ap (λ k. drop k rows) same in
+    let behind : drop (to - from) (drop from rows) ≡ drop to rows =
+    drop-drop (to - from) from rows ∙ ap (λ k. drop k rows) same in
     let parts = length_parts (take from rows) mid (drop (to - from) (drop from rows)) in
-    let last : length (in_rows (drop (to - from) (drop from rows))) ≡ length (in_rows (drop to rows)) = ap (λ (rs : List (List Area)). length (in_rows rs)) behind in
+    let last : length (in_rows (drop (to - from) (drop from rows))) ≡ length (in_rows (drop to rows)) =
+    ap (λ (rs : List (List Area)). length (in_rows rs)) behind in
     omega (arith, whole, parts, last, count)
 
 -- one row is exchanged
-pub length-set_row : (rows : List (List Area)) (i : ℕ) (row d : List Area) → i < length rows → length (in_rows (set rows i row)) + length (get_or rows i d) ≡ length (in_rows rows) + length row
+pub length-set_row : (rows : List (List Area)) (i : ℕ) (row d : List Area) → i < length rows
+    → length (in_rows (set rows i row)) + length (get_or rows i d) ≡ length (in_rows rows) + length row
 length-set_row [] i row d within = absurd (omega arith)
 length-set_row (x ∷ rows) zero row d within =
     let new = length-append row (in_rows rows) in
@@ -101,32 +122,38 @@ length-set_row (x ∷ rows) (suc i) row d within =
 -- ---- the areas of one row that lie in a span stand side by side
 
 -- of those that begin in a span or behind it, the ones that end in it go
-outside_ends : (span : Bounds) (low : ℕ) (xs : List Area) → AreApartFrom low xs → span.first ≤ low → drop (prefix_len (λ (a : Area). leb a.span.last span.last) xs) xs ≡ areas_outside span xs
+outside_ends : (span : Bounds) (low : ℕ) (xs : List Area) → AreApartFrom low xs → span.first ≤ low
+    → drop (prefix_len (λ (a : Area). leb a.span.last span.last) xs) xs ≡ areas_outside span xs
 outside_ends span low [] apart from = refl
 outside_ends span low (x ∷ xs) apart from =
     let above = apart.0 in
     let own = apart.1 in
     ⊎_elim
     (λ (beyond : span.last < x.span.last).
-    let none = filter_from (λ a. lies_in a.span span) (x.span.last + 1) xs apart.2 (λ b after ordered. grind (arith, nat_tests)) in
+    let none = filter_from (λ a. lies_in a.span span) (x.span.last + 1) xs apart.2
+    (λ b after ordered. grind (arith, nat_tests)) in
     let outside : lies_in x.span span ≡ false = grind (arith, nat_tests) in
     let here : prefix_len (λ (a : Area). leb a.span.last span.last) (x ∷ xs) ≡ 0 = grind (arith, nat_tests) in
     rw here (sym (outside_between span (x ∷ xs) tt (rw outside none))))
     (λ (ends : x.span.last ≤ span.last).
-    let next : prefix_len (λ (a : Area). leb a.span.last span.last) (x ∷ xs) ≡ suc (prefix_len (λ (a : Area). leb a.span.last span.last) xs) = grind (arith, nat_tests) in
+    let next : prefix_len (λ (a : Area). leb a.span.last span.last) (x ∷ xs) ≡ suc
+    (prefix_len (λ (a : Area). leb a.span.last span.last) xs) = grind (arith, nat_tests) in
     let inside : lies_in x.span span ≡ true = grind (arith, nat_tests) in
     rw (next, inside) (outside_ends span (x.span.last + 1) xs apart.2 (omega (arith, from, above, own))))
     (cases_lt span.last x.span.last)
 
-pub outside_from : (span : Bounds) (low : ℕ) (xs : List Area) (f : ℕ) → AreApartFrom low xs → f ≡ prefix_len (λ (a : Area). ltb a.span.first span.first) xs
-    → take f xs ++ drop (prefix_len (λ (a : Area). leb a.span.last span.last) (drop f xs)) (drop f xs) ≡ areas_outside span xs
+pub outside_from : (span : Bounds) (low : ℕ) (xs : List Area) (f : ℕ) → AreApartFrom low xs
+    → f ≡ prefix_len (λ (a : Area). ltb a.span.first span.first) xs
+    → take f xs ++ drop (prefix_len (λ (a : Area). leb a.span.last span.last) (drop f xs))
+    (drop f xs) ≡ areas_outside span xs
 outside_from span low [] f apart is = rw is refl
 outside_from span low (x ∷ xs) f apart is =
     ⊎_elim
     (λ (before : x.span.first < span.first).
     let next : f ≡ suc (prefix_len (λ (a : Area). ltb a.span.first span.first) xs) = grind (arith, nat_tests) in
     let outside : lies_in x.span span ≡ false = grind (arith, nat_tests) in
-    rw (next, outside) (ap (λ zs. x ∷ zs) (outside_from span (x.span.last + 1) xs (prefix_len (λ (a : Area). ltb a.span.first span.first) xs) apart.2 refl)))
+    rw (next, outside) (ap (λ zs. x ∷ zs) (outside_from span (x.span.last + 1) xs
+    (prefix_len (λ (a : Area). ltb a.span.first span.first) xs) apart.2 refl)))
     (λ (inside : span.first ≤ x.span.first).
     let none : f ≡ 0 = grind (arith, nat_tests) in
     rw none (outside_ends span x.span.first (x ∷ xs) (omega arith, apart.1, apart.2) inside))
@@ -139,20 +166,24 @@ one_more_gone (x ∷ xs) ys zero within = refl
 one_more_gone (x ∷ xs) ys (suc k) within = ap (λ zs. x ∷ zs) (one_more_gone xs ys k (omega arith))
 
 -- the next row hasn't changed yet
-pub row_ahead : (f : List Area → List Area) (rows : List (List Area)) (i : ℕ) (d : List Area) → i < length rows → get_or (map f (take i rows) ++ drop i rows) i d ≡ get_or rows i d
+pub row_ahead : (f : List Area → List Area) (rows : List (List Area)) (i : ℕ) (d : List Area) → i < length rows
+    → get_or (map f (take i rows) ++ drop i rows) i d ≡ get_or rows i d
 row_ahead f [] i d within = absurd (omega arith)
 row_ahead f (row ∷ rows) zero d within = refl
 row_ahead f (row ∷ rows) (suc i) d within = row_ahead f rows i d (omega arith)
 
 -- the areas of the rows between are kept as all are
-pub kept_between : (rows : List (List Area)) (from to : ℕ) → AreRows rows → AreKept (in_rows rows) → from ≤ to → AreKept (in_rows (between from to rows))
+pub kept_between : (rows : List (List Area)) (from to : ℕ) → AreRows rows → AreKept (in_rows rows) → from ≤ to
+    → AreKept (in_rows (between from to rows))
 kept_between rows from to each kept order =
     let rest = apart-drop 0 rows from each kept.apart in
     let fewer = length_between rows from to order in
     let most = kept.few in
     let parts : in_rows (drop from rows) ≡ in_rows (between from to rows) ++ in_rows (drop (to - from) (drop from rows))
-    = ap in_rows (sym (take-append-drop (to - from) (drop from rows))) ∙ in_rows-append (between from to rows) (drop (to - from) (drop from rows)) in
+    = ap in_rows (sym (take-append-drop (to - from) (drop from rows)))
+    ∙ in_rows-append (between from to rows) (drop (to - from) (drop from rows)) in
     record {
-      apart = apart_left 0 (in_rows (between from to rows)) (in_rows (drop (to - from) (drop from rows))) (rw parts at rest);
+      apart = apart_left 0 (in_rows (between from to rows))
+          (in_rows (drop (to - from) (drop from rows))) (rw parts at rest);
       few = omega (arith, fewer, most);
     }

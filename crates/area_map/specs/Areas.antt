@@ -1,5 +1,6 @@
 -- Lists of areas: which areas a span names, and what a step makes of them.
-use Rattle.std.specs.Prelude.{ℕ, ◌+◌, ◌≤◌, ◌≡◌, Bool, true, false, ◌==◌, ◌&&◌, not, nat_lt, nat_le, Option, Some, None, List, [], ◌∷◌, length, filter, sum_by, fold, max, find, if◌then◌else◌}
+use Rattle.std.specs.Prelude.{ℕ, ◌+◌, ◌≤◌, ◌≡◌, Bool, true, false, ◌==◌, ◌&&◌, not, nat_lt, nat_le, Option, Some, None}
+use Rattle.std.specs.Prelude.{List, [], ◌∷◌, length, filter, sum_by, fold, max, find, if◌then◌else◌}
 use Rattle.std.specs.List.{list_any}
 use Rattle.iofd_words.specs.Areas.{area_at, leaving, most_areas, paid}
 use Rattle.iofd_words.specs.Bounds.{Bounds}
@@ -60,7 +61,8 @@ pub record HasGap (span : Bounds) (areas : List Area) : Type 0 where
 abbrev pub runs_on : ℕ → ℕ → List Area → Bool
 runs_on next last [] = false
 runs_on next last (area ∷ areas) =
-    if nat_lt next area.span.first then false else (if nat_le last area.span.last then true else runs_on (area.span.last + 1) last areas)
+    if nat_lt next area.span.first then false
+    else (if nat_le last area.span.last then true else runs_on (area.span.last + 1) last areas)
 
 -- the areas that end in the span or behind it hold the span's addresses without a gap
 abbrev pub is_covered : Bounds → List Area → Bool
@@ -111,7 +113,8 @@ tried_phase tries (Leaving owed old) = Leaving owed tries
 
 -- the area with this number of further calls, if it is leaving and lies in the span
 abbrev pub tried : Bounds → ℕ → Area → Area
-tried span tries area = record area { phase = if lies_in area.span span then tried_phase tries area.phase else area.phase }
+tried span tries area =
+    record area { phase = if lies_in area.span span then tried_phase tries area.phase else area.phase }
 
 -- the area after a change of a span's areas
 abbrev pub changed : Change → Bounds → Area → Area

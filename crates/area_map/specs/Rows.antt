@@ -1,5 +1,6 @@
 -- Areas in rows, one row behind the other.
-use Rattle.std.specs.Prelude.{ℕ, ◌<◌, ◌≡◌, Bool, true, false, ◌||◌, get_or, nat_le, min, max, Option, Some, None, IfSome, List, [], ◌∷◌, ◌++◌, length, if◌then◌else◌}
+use Rattle.std.specs.Prelude.{ℕ, ◌<◌, ◌≡◌, Bool, true, false, ◌||◌, get_or, nat_le, min, max, Option, Some, None}
+use Rattle.std.specs.Prelude.{IfSome, List, [], ◌∷◌, ◌++◌, length, if◌then◌else◌}
 use Rattle.iofd_words.specs.Bounds.{Bounds}
 use Rattle.iofd_words.specs.Span.{lies_in}
 use Rattle.iofd_words.specs.declared.rows.Area.{Area}

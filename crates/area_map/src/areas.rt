@@ -1,9 +1,12 @@
 //! The map of areas.
 
-ghost use Rattle.std.specs.Prelude.{◌≡◌, ◌==◌, ◌↔◌, ◌+◌, ◌<◌, ◌≤◌, [], find, length, map, nat_le, is_ok, IsOk, IfOk, IfErr, IfSome, IfNone, OnOk, OnErr, IsOkUnless};
+ghost use Rattle.std.specs.Prelude.{◌≡◌, ◌==◌, ◌↔◌, ◌+◌, ◌<◌, ◌≤◌, [], find, length, map, nat_le, is_ok, IsOk, IfOk};
+ghost use Rattle.std.specs.Prelude.{IfErr, IfSome, IfNone, OnOk, OnErr, IsOkUnless};
 ghost use Rattle.std.specs.List.{list_any};
 ghost use Rattle.std.specs.Option.{option_copied};
-ghost use Rattle.area_map.specs.Areas.{AreKept, with_area, area_of, is_covered, IsCovered, HasGap, marked, without_debt, areas_owe, areas_within, areas_outside, bytes_of, most_tries, tried};
+ghost use Rattle.area_map.specs.Areas.{AreKept, with_area, area_of, is_covered, IsCovered, HasGap, marked};
+ghost use Rattle.area_map.specs.Areas.{without_debt, areas_owe, areas_within, areas_outside, bytes_of, most_tries};
+ghost use Rattle.area_map.specs.Areas.{tried};
 ghost use Rattle.iofd_words.specs.Areas.{areas_meet, has_no_room, is_cut, area_at};
 ghost use Rattle.area_map.specs.Insertion.{insert_refusal};
 

@@ -1,6 +1,7 @@
 //! Adding an area.
 
-ghost use Rattle.std.specs.Prelude.{◌≡◌, ◌+◌, ◌-◌, ◌<◌, ◌≤◌, [], ◌∷◌, true, false, IsSome, None, OnOk, OnErr, drop, get_or, length, min, nat_le, nat_lt, set, take, vec_len, vec_capacity};
+ghost use Rattle.std.specs.Prelude.{◌≡◌, ◌+◌, ◌-◌, ◌<◌, ◌≤◌, [], ◌∷◌, true, false, IsSome, None, OnOk, OnErr, drop};
+ghost use Rattle.std.specs.Prelude.{get_or, length, min, nat_le, nat_lt, set, take, vec_len, vec_capacity};
 ghost use Rattle.std.specs.List.{prefix_len};
 ghost use Rattle.area_map.specs.Areas.{AreApart, with_area};
 ghost use Rattle.area_map.specs.Rows.{in_rows, AreRows, IsSpare, end_of, takes_row};

@@ -3,7 +3,8 @@
 ghost use Rattle.std.specs.Prelude.{◌≡◌, ◌+◌, ◌≤◌, drop, filter, find, min, nat_lt, nat_le, length, MatchBool, Some};
 ghost use Rattle.std.specs.List.{prefix_len};
 ghost use Rattle.std.specs.Option.{option_copied};
-ghost use Rattle.area_map.specs.Areas.{AreApart, area_of, ends_after, runs_on, areas_within, is_covered, IsCovered, HasGap};
+ghost use Rattle.area_map.specs.Areas.{AreApart, area_of, ends_after, runs_on, areas_within, is_covered, IsCovered};
+ghost use Rattle.area_map.specs.Areas.{HasGap};
 ghost use Rattle.area_map.specs.Rows.{in_rows, AreRows, end_of};
 ghost use Rattle.iofd_words.specs.Areas.{areas_meet, is_cut, area_at};
 

@@ -1,6 +1,7 @@
 //! A row of areas: so many as one insertion or removal moves at most.
 
-ghost use Rattle.std.specs.Prelude.{◌≡◌, ◌==◌, ◌+◌, ◌<◌, ◌≤◌, ◌++◌, false, [], IfOk, length, map, take, drop, vec_capacity};
+ghost use Rattle.std.specs.Prelude.{◌≡◌, ◌==◌, ◌+◌, ◌<◌, ◌≤◌, ◌++◌, false, [], IfOk, length, map, take, drop};
+ghost use Rattle.std.specs.Prelude.{vec_capacity};
 ghost use Rattle.area_map.specs.Areas.{AreApart, with_area, changed, areas_outside};
 ghost use Rattle.area_map.specs.Rows.{end_of};
 ghost use Rattle.iofd_words.specs.Areas.{areas_meet};

@@ -72,7 +72,8 @@ fn same(holds: bool) -> Result<(), Fail> {
     Ok(wanted.ok_or("want of memory changed something")?)
 }
 
-/// The step with ever more memory left, until it is taken: its reply, and how often it found none, which changed nothing.
+/// The step with ever more memory left, until it is taken: its reply, and how often it found none, which changed
+/// nothing.
 fn apply_at_last<'a>(
     alloc: Global,
     heap: &'a LocalHeap,

@@ -1,5 +1,6 @@
 -- The objects by which devices are bound, after objects came or went.
-use Rattle.std.proofs.Common.{◌≡◌, Bool, true, false, cond, eqb, is_some, Option, Some, None, List, [], ◌∷◌, ◌++◌, subst, refl, sym, ◌∙◌, ap}
+use Rattle.std.proofs.Common.{◌≡◌, Bool, true, false, cond, eqb, is_some, Option, Some, None, List, [], ◌∷◌, ◌++◌}
+use Rattle.std.proofs.Common.{subst, refl, sym, ◌∙◌, ap}
 use Rattle.std.specs.List.{find, list_any}
 use Rattle.std.proofs.lemmas.Bool.{eqb-true}
 use Rattle.iofd_words.specs.Objects.{binding_of, is_bound_as, with_object}
@@ -24,11 +25,13 @@ use Rattle.server_state.proofs.ObjectsMoved.{shows_inserted}
 same_device : (a b : DeviceNo) → eqb a.0 b.0 ≡ true → a ≡ b
 same_device a b same = let numbers = eqb-true a.0 b.0 same in ap (λ n. let d : DeviceNo = record { 0 = n } in d) numbers
 
-found_last : (p : Object → Bool) (x : Object) (xs : List Object) → p x ≡ true → find p xs ≡ None → find p (xs ++ x ∷ []) ≡ Some x
+found_last : (p : Object → Bool) (x : Object) (xs : List Object) → p x ≡ true → find p xs ≡ None
+    → find p (xs ++ x ∷ []) ≡ Some x
 found_last p x [] passes none = rw passes refl
 found_last p x (y ∷ xs) passes none = by_test (p y) none (λ later. found_last p x xs passes later)
   where
-    by_test : (b : Bool) → cond b (Some y) (find p xs) ≡ None → (find p xs ≡ None → find p (xs ++ x ∷ []) ≡ Some x) → cond b (Some y) (find p (xs ++ x ∷ [])) ≡ Some x
+    by_test : (b : Bool) → cond b (Some y) (find p xs) ≡ None → (find p xs ≡ None → find p (xs ++ x ∷ []) ≡ Some x)
+        → cond b (Some y) (find p (xs ++ x ∷ [])) ≡ Some x
     by_test true none later = cc
     by_test false none later = later none
 
@@ -36,7 +39,8 @@ not_last : (p : Object → Bool) (x : Object) (xs : List Object) → p x ≡ fal
 not_last p x [] fails = rw fails refl
 not_last p x (y ∷ xs) fails = ap (cond (p y) (Some y)) (not_last p x xs fails)
 
-none_any : (p : Object → Bool) (xs : List Object) → is_some (find p xs) ≡ false → (find p xs ≡ None) × (list_any p xs ≡ false)
+none_any : (p : Object → Bool) (xs : List Object) → is_some (find p xs) ≡ false
+    → (find p xs ≡ None) × (list_any p xs ≡ false)
 none_any p xs none = by_found (find p xs) refl none
   where
     by_found : (o : Option Object) → find p xs ≡ o → is_some o ≡ false → (find p xs ≡ None) × (list_any p xs ≡ false)
@@ -47,27 +51,50 @@ none_any p xs none = by_found (find p xs) refl none
 pub bound_last : (objects bindings : List Object) (file : FileNo) (id : ObjId) (device : DeviceNo)
     → ((d : DeviceNo) → binding_of objects d ≡ find (λ object. is_bound_as d object.kind) bindings)
     → is_some (binding_of objects device) ≡ false
-    → (d : DeviceNo) → binding_of (with_object (record { file = file; id = id; kind = kind.Device device }) objects) d ≡ find (λ object. is_bound_as d object.kind) (bindings ++ record { file = file; id = id; kind = kind.Device device } ∷ [])
+    → (d : DeviceNo) → binding_of (with_object (record { file = file; id = id; kind = kind.Device device }) objects)
+    d ≡ find (λ object. is_bound_as d object.kind) (bindings ++ record {
+      file = file;
+      id = id;
+      kind = kind.Device device;
+    } ∷ [])
 bound_last objects bindings file id device same free d =
     let object : Object = record { file = file; id = id; kind = kind.Device device } in
     by_device (eqb device.0 d.0) refl
   where
-    by_device : (b : Bool) → eqb device.0 d.0 ≡ b → binding_of (with_object (record { file = file; id = id; kind = kind.Device device }) objects) d ≡ find (λ object. is_bound_as d object.kind) (bindings ++ record { file = file; id = id; kind = kind.Device device } ∷ [])
+    by_device : (b : Bool) → eqb device.0 d.0 ≡ b
+        → binding_of (with_object (record { file = file; id = id; kind = kind.Device device }) objects) d ≡ find
+        (λ object. is_bound_as d object.kind) (bindings ++ record {
+          file = file;
+          id = id;
+          kind = kind.Device device;
+        } ∷ [])
     by_device true is =
         let object : Object = record { file = file; id = id; kind = kind.Device device } in
         let free_d = subst (λ (e : DeviceNo). is_some (binding_of objects e) ≡ false) (same_device device d is) free in
         let none = none_any (λ (o : Object). is_bound_as d o.kind) objects free_d in
-        found_new (λ (o : Object). is_bound_as d o.kind) object objects is none.1 ∙ sym (found_last (λ (o : Object). is_bound_as d o.kind) object bindings is (sym (same d) ∙ none.0))
+        found_new (λ (o : Object). is_bound_as d o.kind) object objects is none.1
+        ∙ sym (found_last (λ (o : Object). is_bound_as d o.kind) object bindings is (sym (same d) ∙ none.0))
     by_device false is =
         let object : Object = record { file = file; id = id; kind = kind.Device device } in
-        find-with_object (λ (o : Object). is_bound_as d o.kind) object objects is ∙ same d ∙ sym (not_last (λ (o : Object). is_bound_as d o.kind) object bindings is)
+        find-with_object (λ (o : Object). is_bound_as d o.kind) object objects is ∙ same d
+        ∙ sym (not_last (λ (o : Object). is_bound_as d o.kind) object bindings is)
 
 module _ {A : Type 0} where
   -- by which a device is bound that wasn't
-  pub shows_bound : (w : World) (s : State A) (file : FileNo) (id : ObjId) (device : DeviceNo) (table : Table (Held A)) (bindings : Vec Object A) → Shows w s → is_some (binding_of w.objects device) ≡ false → find (is_at file id) s.objects.rows ≡ None
-      → table.rows ≡ inserted (record { file = file; id = id; kind = tablekind.Device; users = 0; value = held.Device device }) s.objects.rows → table.files ≡ s.objects.files
+  pub shows_bound : (w : World) (s : State A) (file : FileNo) (id : ObjId) (device : DeviceNo) (table : Table (Held A))
+      (bindings : Vec Object A) → Shows w s → is_some (binding_of w.objects device) ≡ false
+      → find (is_at file id) s.objects.rows ≡ None
+      → table.rows ≡ inserted (record {
+        file = file;
+        id = id;
+        kind = tablekind.Device;
+        users = 0;
+        value = held.Device device;
+      }) s.objects.rows → table.files ≡ s.objects.files
       → bindings.items ≡ s.bindings.items ++ record { file = file; id = id; kind = kind.Device device } ∷ []
-      → Shows (record w { objects = with_object (record { file = file; id = id; kind = kind.Device device }) w.objects }) (record s { objects = table; bindings = bindings })
+      → Shows (record w {
+        objects = with_object (record { file = file; id = id; kind = kind.Device device }) w.objects;
+      }) (record s { objects = table; bindings = bindings })
   shows_bound w s file id device table bindings shows free unused rows files last =
       shows_inserted w s (record {
         file = file;
@@ -77,4 +104,5 @@ module _ {A : Type 0} where
         value =
             held.Device device;
       }) table bindings shows refl refl unused refl rows files
-      (λ d. bound_last w.objects s.bindings.items file id device shows.devices.bindings free d ∙ ap (find (λ (object : Object). is_bound_as d object.kind)) (sym last))
+      (λ d. bound_last w.objects s.bindings.items file id device shows.devices.bindings free d
+      ∙ ap (find (λ (object : Object). is_bound_as d object.kind)) (sym last))

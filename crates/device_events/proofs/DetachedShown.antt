@@ -1,5 +1,6 @@
 -- What is kept after an attachment ended shows the world after it.
-use Rattle.std.proofs.Common.{◌≡◌, ℕ, Bool, true, false, not, eqb, Option, Some, None, List, [], map, refl, sym, ◌∙◌, ap, subst, ◌+◌, arith, Vec}
+use Rattle.std.proofs.Common.{◌≡◌, ℕ, Bool, true, false, not, eqb, Option, Some, None, List, [], map, refl, sym, ◌∙◌}
+use Rattle.std.proofs.Common.{ap, subst, ◌+◌, arith, Vec}
 use Rattle.iofd_rows.specs.Ids.{have_own_ids}
 use Rattle.iofd_words.specs.Checks.{detach_checks}
 use Rattle.iofd_words.specs.FirstTrue.{first_true}
@@ -80,9 +81,11 @@ use Rattle.object_table.specs.Table.{Table, destroy_refusal, is_at, removed}
 use Rattle.object_table.specs.declared.kind.Kind.TheVariants as of_kind
 
 -- what isn't attached was refused
-pub never_unattached : {X : Type 0} (w : World) (device : DeviceNo) → first_true (detach_checks (view w) device) ≡ None → attachment_of w.attachments device ≡ None → X
+pub never_unattached : {X : Type 0} (w : World) (device : DeviceNo) → first_true (detach_checks (view w) device) ≡ None
+    → attachment_of w.attachments device ≡ None → X
 never_unattached w device none is =
-    let attached : is_none (attachment_of w.attachments device) ≡ false = (detach_passed (view w) device none).attached in
+    let attached : is_none (attachment_of w.attachments device) ≡ false =
+    (detach_passed (view w) device none).attached in
     let other : is_none (attachment_of w.attachments device) ≡ true = ap (λ (o : Option Attachment). is_none o) is in
     absurd (differ (sym other ∙ attached))
   where
@@ -95,11 +98,14 @@ record Ending (w : World) (device : DeviceNo) (a : Attachment) (ioas : ObjId) : 
   over : ioas_of_attachment w.objects a ≡ Some ioas
 
 -- the pins after it
-next_pins : (at : ℕ) (w : World) (device : DeviceNo) (a : Attachment) → IsTidy at w → first_true (detach_checks (view w) device) ≡ None → attachment_of w.attachments device ≡ Some a → ArePinned (at + 1) (settle w (detached w device a))
+next_pins : (at : ℕ) (w : World) (device : DeviceNo) (a : Attachment) → IsTidy at w
+    → first_true (detach_checks (view w) device) ≡ None → attachment_of w.attachments device ≡ Some a
+    → ArePinned (at + 1) (settle w (detached w device a))
 unfolding changed Answers
 next_pins at w device a tidy none found =
     let Q = λ (o : Option Attachment). ArePinned (at + 1) (detach_changes w device o) in
-    let after : Q (attachment_of w.attachments device) = keeps_pins {A = Unit {0}} at w (event.Detach device) reply.Done none tt tidy.pins in
+    let after : Q (attachment_of w.attachments device) =
+    keeps_pins {A = Unit {0}} at w (event.Detach device) reply.Done none tt tidy.pins in
     subst Q found after
 
 -- ---- paid areas
@@ -111,32 +117,48 @@ with_paid device area = with_phase (paid device area.phase) area
 over_paid : (device : DeviceNo) (areas : List Area) (n : ℕ) → over (all_paid device areas) n ≡ over areas n
 over_paid device areas n = over_map (with_paid device) areas (λ area. refl) n
 
-translated_paid : (objects : List Object) (device : DeviceNo) (areas : List Area) (n : ℕ) → translated objects (all_paid device areas) n ≡ translated objects areas n
-translated_paid objects device areas n = translated_map objects (with_paid device) areas (λ area. refl) (λ area. refl) (λ area. refl) n
+translated_paid : (objects : List Object) (device : DeviceNo) (areas : List Area) (n : ℕ)
+    → translated objects (all_paid device areas) n ≡ translated objects areas n
+translated_paid objects device areas n =
+    translated_map objects (with_paid device) areas (λ area. refl) (λ area. refl) (λ area. refl) n
 
 -- the same page tables translate as before
-fewer_none : (w : World) (device : DeviceNo) (left : List Object) → ((f : FileNo) (i : ObjId) → has_hwpt left f i ≡ has_hwpt w.objects f i) → AreFewer never never w left (all_paid device w.areas)
+fewer_none : (w : World) (device : DeviceNo) (left : List Object)
+    → ((f : FileNo) (i : ObjId) → has_hwpt left f i ≡ has_hwpt w.objects f i)
+    → AreFewer never never w left (all_paid device w.areas)
 fewer_none w device left same = record {
   over_left = λ n. let is = over_paid device w.areas n in omega (arith, is);
-  translated_left = λ n. let is = translated_paid left device w.areas n ∙ translated_same w.objects left w.areas same n in omega (arith, is);
+  translated_left = λ n. let is =
+      translated_paid left device w.areas n ∙ translated_same w.objects left w.areas same n in omega (arith, is);
 }
 
 module _ {A : Type 0} where
-  pub never_lost : {X : Type 0} (w : World) (s : State A) (device : DeviceNo) → Shows w s → first_true (detach_checks (view w) device) ≡ None → attachment_of s.attachments.items device ≡ None → X
+  pub never_lost : {X : Type 0} (w : World) (s : State A) (device : DeviceNo) → Shows w s
+      → first_true (detach_checks (view w) device) ≡ None → attachment_of s.attachments.items device ≡ None → X
   never_lost w s device shows none is = never_unattached w device none (rw shows.devices.attached is)
 
-  pub never_astray : {X : Type 0} (at : ℕ) (w : World) (s : State A) (device : DeviceNo) → IsTidy at w → Shows w s → first_true (detach_checks (view w) device) ≡ None → space_of (objects_in s.objects) (attachment_of s.attachments.items device) ≡ None → X
-  never_astray at w s device tidy shows none is = never_unattached w device none (unattached w device tidy.debts (rw (shows.objects.rows, shows.devices.attached) is))
+  pub never_astray : {X : Type 0} (at : ℕ) (w : World) (s : State A) (device : DeviceNo) → IsTidy at w → Shows w s
+      → first_true (detach_checks (view w) device) ≡ None
+      → space_of (objects_in s.objects) (attachment_of s.attachments.items device) ≡ None → X
+  never_astray at w s device tidy shows none is =
+      never_unattached w device none (unattached w device tidy.debts
+      (rw (shows.objects.rows, shows.devices.attached) is))
 
-  ending : (w : World) (s : State A) (device : DeviceNo) (a : Attachment) (file : FileNo) (ioas : ObjId) → Shows w s → attachment_of s.attachments.items device ≡ Some a → space_of (objects_in s.objects) (attachment_of s.attachments.items device) ≡ Some (file, ioas) → Ending w device a ioas
+  ending : (w : World) (s : State A) (device : DeviceNo) (a : Attachment) (file : FileNo) (ioas : ObjId) → Shows w s
+      → attachment_of s.attachments.items device ≡ Some a
+      → space_of (objects_in s.objects) (attachment_of s.attachments.items device) ≡ Some (file, ioas)
+      → Ending w device a ioas
   ending w s device a file ioas shows found space =
-      let space_of_w : space_of w.objects (attachment_of w.attachments device) ≡ Some (file, ioas) = rw (shows.objects.rows, shows.devices.attached) space in
+      let space_of_w : space_of w.objects (attachment_of w.attachments device) ≡ Some (file, ioas) =
+      rw (shows.objects.rows, shows.devices.attached) space in
       let to = attached_to w.objects (attachment_of w.attachments device) file ioas space_of_w in
       let here : attachment_of w.attachments device ≡ Some a = rw shows.devices.attached found in
       let same : to.a ≡ a = cc in
       record { found = here; over = ap (ioas_of_attachment w.objects) (sym same) ∙ to.over }
 
-  space_here : (w : World) (s : State A) (device : DeviceNo) (a : Attachment) (ioas : ObjId) → Shows w s → attachment_of s.attachments.items device ≡ Some a → Ending w device a ioas → space_of (objects_in s.objects) (attachment_of s.attachments.items device) ≡ Some (a.file, ioas)
+  space_here : (w : World) (s : State A) (device : DeviceNo) (a : Attachment) (ioas : ObjId) → Shows w s
+      → attachment_of s.attachments.items device ≡ Some a → Ending w device a ioas
+      → space_of (objects_in s.objects) (attachment_of s.attachments.items device) ≡ Some (a.file, ioas)
   space_here w s device a ioas shows found end =
       let over : ioas_of_attachment (objects_in s.objects) a ≡ Some ioas = rw shows.objects.rows at end.over in
       rw (found, over, space_of) refl
@@ -145,20 +167,25 @@ module _ {A : Type 0} where
   abbrev IsStep : ℕ → World → DeviceNo → Option FrameNo → List FrameNo → State A → Type 0
   IsStep at w device via given new =
       Answers {A = A} w (event.Detach device) reply.Done × IsChosen {A = A} w (event.Detach device) via reply.Done
-      × MovesTables {A = A} w (changed {A = A} at w (event.Detach device) reply.Done) (event.Detach device) reply.Done [] given
+      × MovesTables {A = A} w (changed {A = A} at w (event.Detach device) reply.Done)
+      (event.Detach device) reply.Done [] given
       × AreFramesChosen w (changed {A = A} at w (event.Detach device) reply.Done) [] given
       × Shows (with_tables [] given (changed {A = A} at w (event.Detach device) reply.Done)) new
 
-  module _ (at : ℕ) (w : World) (s : State A) (attachments : Vec Attachment A) (device : DeviceNo) (a : Attachment) (file : FileNo) (ioas : ObjId) (table : Table (Held A)) (tidy : IsTidy at w) (shows : Shows w s) (none : first_true (detach_checks (view w) device) ≡ None)
+  module _ (at : ℕ) (w : World) (s : State A) (attachments : Vec Attachment A) (device : DeviceNo) (a : Attachment)
+      (file : FileNo) (ioas : ObjId) (table : Table (Held A)) (tidy : IsTidy at w) (shows : Shows w s)
+      (none : first_true (detach_checks (view w) device) ≡ None)
       (found : attachment_of s.attachments.items device ≡ Some a)
       (space : space_of (objects_in s.objects) (attachment_of s.attachments.items device) ≡ Some (file, ioas))
-      (pays : IsOrderly s.objects → HasAreas a.file ioas (all_paid device (areas_at s.objects.rows a.file ioas)) s.objects table)
+      (pays : IsOrderly s.objects → HasAreas a.file ioas
+      (all_paid device (areas_at s.objects.rows a.file ioas)) s.objects table)
       (without : attachments.items ≡ without_attachment device s.attachments.items) where
     end : Ending w device a ioas
     end = ending w s device a file ioas shows found space
 
     paid_shown : Shows (record w { areas = all_paid device w.areas }) (record s { objects = table })
-    paid_shown = shows_paid at w s device a.file ioas table tidy shows (space_here w s device a ioas shows found end) pays
+    paid_shown =
+        shows_paid at w s device a.file ioas table tidy shows (space_here w s device a ioas shows found end) pays
 
     others : attachments.items ≡ without_attachment device w.attachments
     others = rw (← shows.devices.attached) at without
@@ -172,27 +199,32 @@ module _ {A : Type 0} where
     unfolding changed
     ends = ap (detach_changes w device) end.found
 
-    -- these rows of tables are left, and the page tables that are kept stand with them where the frames of the others were given back
-    module _ (areas_gone pins_gone : ℕ → ℕ) (rows : List TableFrame) (kept : PageTables) (before : FramePool) (new : Table (Held A)) (memory : Memory) (pool : FramePool)
+    -- these rows of tables are left, and the page tables that are kept stand with them where the frames of the others
+    -- were given back
+    module _ (areas_gone pins_gone : ℕ → ℕ) (rows : List TableFrame) (kept : PageTables) (before : FramePool)
+        (new : Table (Held A)) (memory : Memory) (pool : FramePool)
         (objects : ObjectsShown w.settings w.closed left (all_paid device w.areas) new)
         (fewer : AreFewer areas_gone pins_gone w left (all_paid device w.areas))
         (frames : FramesShown w.settings.pool w.writes rows s.memory before)
         (tables : TablesShown (record w { objects = left; table_frames = rows }) kept before)
         (released : IsReleased areas_gone pins_gone s.memory memory before pool) where
-      pub shows_ended : Shows (record (settle w (detached w device a)) { table_frames = rows }) (record s { objects = new; page_tables = kept; attachments = attachments; memory = memory; pool = pool })
+      pub shows_ended : Shows (record (settle w (detached w device a)) { table_frames = rows })
+          (record s { objects = new; page_tables = kept; attachments = attachments; memory = memory; pool = pool })
       unfolding settle detached
       shows_ended =
           let next = next_pins at w device a tidy none end.found in
           let has = all_have (all_paid device w.areas) w.memory next.used in
           let after =
-          shown_after_it at w s tidy shows areas_gone pins_gone left (all_paid device w.areas) fewer rows before frames (at + 1) (settle w (detached w device a)) memory pool next refl refl has refl refl released in
+          shown_after_it at w s tidy shows areas_gone pins_gone left (all_paid device w.areas) fewer rows before frames
+          (at + 1) (settle w (detached w device a)) memory pool next refl refl has refl refl released in
           record {
             settings = shows.settings;
             limits = after.limits;
             allowed = shows.allowed;
             objects = objects;
             devices = record {
-              bindings = λ d. bindings_stay w.objects (without_attachment device w.attachments) a d ∙ shows.devices.bindings d;
+              bindings =
+                  λ d. bindings_stay w.objects (without_attachment device w.attachments) a d ∙ shows.devices.bindings d;
               attached = sym others;
             };
             users = after.users;
@@ -202,35 +234,55 @@ module _ {A : Type 0} where
               tables = tables.tables;
               widths = tables.widths;
               stand =
-                  tables_stand_after at w s tidy shows areas_gone pins_gone left (all_paid device w.areas) fewer rows before frames (at + 1) (settle w (detached w device a)) memory pool next refl refl has refl refl released
+                  tables_stand_after at w s tidy shows areas_gone pins_gone left (all_paid device w.areas) fewer rows
+                  before frames (at + 1) (settle w (detached w device a)) memory pool next refl
+                  refl has refl refl released
                   kept.tables tables.tables (λ f i page. paid_leads w.pins device w.areas f i page) tables.stand;
             };
           }
 
     -- ---- the page table stays
 
-    pub shows_detached : (via : Option FrameNo) (given : List FrameNo) → given ≡ [] → is_idle (objects_in table) attachments.items a.file a.hwpt ≡ false
+    pub shows_detached : (via : Option FrameNo) (given : List FrameNo) → given ≡ []
+        → is_idle (objects_in table) attachments.items a.file a.hwpt ≡ false
         → IsStep at w device via given (record s { objects = table; attachments = attachments })
     unfolding changed settle detached Answers
     shows_detached via given nothing busy =
-        let busy_w : is_idle w.objects (without_attachment device w.attachments) a.file a.hwpt ≡ false = rw (← others, paid_shown.objects.rows) busy in
+        let busy_w : is_idle w.objects (without_attachment device w.attachments) a.file a.hwpt ≡ false =
+        rw (← others, paid_shown.objects.rows) busy in
         let stays = none_goes w.objects (without_attachment device w.attachments) a tidy.ids busy_w in
         let fewer = fewer_none w device left (λ f i. ap (λ (l : List Object). has_hwpt l f i) stays) in
         let shown =
         shows_ended never never w.table_frames s.page_tables s.pool table s.memory s.pool
-        (record { rows = stays ∙ paid_shown.objects.rows; proper = paid_shown.objects.proper; spaces = paid_shown.objects.spaces; files = paid_shown.objects.files })
+        (record {
+          rows = stays ∙ paid_shown.objects.rows;
+          proper = paid_shown.objects.proper;
+          spaces = paid_shown.objects.spaces;
+          files = paid_shown.objects.files;
+        })
         fewer shows.frames
-        (record { tables = shows.tables.tables ∙ ap page_tables_among (sym stays); widths = shows.tables.widths; stand = shows.tables.stand })
+        (record {
+          tables = shows.tables.tables ∙ ap page_tables_among (sym stays);
+          widths = shows.tables.widths;
+          stand = shows.tables.stand;
+        })
         (nothing_released at w s tidy shows left (all_paid device w.areas) fewer)
         in
-        let of : a.device ≡ device = device_is a.device device (in_found (λ (b : Attachment). eqb b.device.0 device.0) w.attachments a end.found).1 in
+        let of : a.device ≡ device = device_is a.device device
+        (in_found (λ (b : Attachment). eqb b.device.0 device.0) w.attachments a end.found).1 in
         let leaves : leaves_table w.objects w.attachments (Some a) ≡ true =
-        ap (λ (d : DeviceNo). list_all (λ object. not (goes_with (without_attachment d w.attachments) a object)) w.objects) of
+        ap (λ (d : DeviceNo). list_all (λ object. not (goes_with (without_attachment d w.attachments) a object))
+        w.objects) of
         ∙ none_of w.objects (without_attachment device w.attachments) a tidy.ids busy_w
         in
-        let takes : leaves_table w.objects w.attachments (attachment_of w.attachments device) ≡ true = ap (leaves_table w.objects w.attachments) end.found ∙ leaves in
-        subst (λ (l : List FrameNo). IsStep at w device via l (record s { objects = table; attachments = attachments })) (sym nothing)
-        (still {A = A} at (event.Detach device) via reply.Done (record s { objects = table; attachments = attachments }) w tidy tt tt
+        let takes : leaves_table w.objects w.attachments (attachment_of w.attachments device) ≡ true =
+        ap (leaves_table w.objects w.attachments) end.found ∙ leaves in
+        subst (λ (l : List FrameNo). IsStep at w device via l (record s { objects = table; attachments = attachments }))
+        (sym nothing)
+        (still {A = A} at (event.Detach device) via reply.Done (record s {
+          objects = table;
+          attachments = attachments;
+        }) w tidy tt tt
         (subst (λ (v : World). Shows v (record s { objects = table; attachments = attachments })) (sym ends) shown)
         tt takes)
 
@@ -238,41 +290,63 @@ module _ {A : Type 0} where
 
     module _ (new : Table (Held A))
         (idle : is_idle (objects_in table) attachments.items a.file a.hwpt ≡ true)
-        (dropped : destroy_refusal table a.file of_kind.Hwpt a.hwpt ≡ None → new.rows ≡ removed a.file a.hwpt table.rows)
+        (dropped : destroy_refusal table a.file of_kind.Hwpt a.hwpt ≡ None
+        → new.rows ≡ removed a.file a.hwpt table.rows)
         (files : new.files ≡ table.files)
         (kept : PageTables) (before : FramePool)
         (is_kept : kept.tables ≡ without_hwpt a.file a.hwpt s.page_tables.tables)
-        (stand : IfAllStand s.pool s.page_tables.tables (λ frames leads. AllStand before (without_tables a.file a.hwpt frames) leads kept.tables))
-        (releases : IfAllStand s.pool s.page_tables.tables (λ frames leads. Releases (rows_found frames (hwpt_of s.page_tables.tables a.file a.hwpt)) s.pool before)) where
+        (stand : IfAllStand s.pool s.page_tables.tables
+        (λ frames leads. AllStand before (without_tables a.file a.hwpt frames) leads kept.tables))
+        (releases : IfAllStand s.pool s.page_tables.tables
+        (λ frames leads. Releases (rows_found frames (hwpt_of s.page_tables.tables a.file a.hwpt)) s.pool
+        before)) where
       one_left : left ≡ without_object a.file a.hwpt w.objects
-      one_left = one_goes w.objects (without_attachment device w.attachments) a tidy.ids (idle_in w.objects others paid_shown.objects.rows)
+      one_left = one_goes w.objects (without_attachment device w.attachments) a tidy.ids
+          (idle_in w.objects others paid_shown.objects.rows)
         where
-          idle_in : (objects : List Object) → attachments.items ≡ without_attachment device w.attachments → objects ≡ objects_in table → is_idle objects (without_attachment device w.attachments) a.file a.hwpt ≡ true
-          idle_in objects same rows = ap (λ (l : List Attachment). is_idle objects l a.file a.hwpt) (sym same) ∙ ap (λ (l : List Object). is_idle l attachments.items a.file a.hwpt) rows ∙ idle
+          idle_in : (objects : List Object) → attachments.items ≡ without_attachment device w.attachments
+              → objects ≡ objects_in table → is_idle objects
+              (without_attachment device w.attachments) a.file a.hwpt ≡ true
+          idle_in objects same rows = ap (λ (l : List Attachment). is_idle objects l a.file a.hwpt) (sym same)
+              ∙ ap (λ (l : List Object). is_idle l attachments.items a.file a.hwpt) rows ∙ idle
 
       -- what the page table is
-      of_world : (width : Width) × (automatic : Bool) × (kind_of w.objects a.file a.hwpt ≡ Some (kind.Hwpt ioas width automatic))
+      of_world : (width : Width) × (automatic : Bool)
+          × (kind_of w.objects a.file a.hwpt ≡ Some (kind.Hwpt ioas width automatic))
       of_world = table_of w.objects a ioas end.over
 
-      kind_table : (width : Width) (automatic : Bool) → kind_of w.objects a.file a.hwpt ≡ Some (kind.Hwpt ioas width automatic) → kind_of (objects_in table) a.file a.hwpt ≡ Some (kind.Hwpt ioas width automatic)
-      kind_table width automatic kind_w = sym (ap (λ (objects : List Object). kind_of objects a.file a.hwpt) paid_shown.objects.rows) ∙ kind_w
+      kind_table : (width : Width) (automatic : Bool)
+          → kind_of w.objects a.file a.hwpt ≡ Some (kind.Hwpt ioas width automatic)
+          → kind_of (objects_in table) a.file a.hwpt ≡ Some (kind.Hwpt ioas width automatic)
+      kind_table width automatic kind_w =
+          sym (ap (λ (objects : List Object). kind_of objects a.file a.hwpt) paid_shown.objects.rows) ∙ kind_w
 
       rows : new.rows ≡ removed a.file a.hwpt table.rows
-      rows = let (width, automatic, kind_w) = of_world in dropped (destroyable table a.file a.hwpt ioas width automatic paid_shown.objects.proper (kind_table width automatic kind_w))
+      rows = let (width, automatic, kind_w) = of_world in dropped
+          (destroyable table a.file a.hwpt ioas width automatic paid_shown.objects.proper
+          (kind_table width automatic kind_w))
 
       objects : left ≡ map object_of new.rows
-      objects = one_left ∙ ap (without_object a.file a.hwpt) paid_shown.objects.rows ∙ sym (objects-removed table.rows a.file a.hwpt) ∙ ap (map object_of) (sym rows)
+      objects = one_left ∙ ap (without_object a.file a.hwpt) paid_shown.objects.rows
+          ∙ sym (objects-removed table.rows a.file a.hwpt) ∙ ap (map object_of) (sym rows)
 
       areas : (f : FileNo) (i : ObjId) → areas_of (all_paid device w.areas) f i ≡ areas_at new.rows f i
       areas f i =
           let (width, automatic, kind_w) = of_world in
-          paid_shown.objects.spaces f i ∙ sym (areas_removed table.rows a.file a.hwpt ioas width automatic (kind_table width automatic kind_w) f i) ∙ ap (λ rows. areas_at rows f i) (sym rows)
+          paid_shown.objects.spaces f i ∙ sym (areas_removed table.rows a.file a.hwpt ioas width automatic
+          (kind_table width automatic kind_w) f i) ∙ ap (λ rows. areas_at rows f i) (sym rows)
 
       proper : list_all is_proper new.rows ≡ true
-      proper = ap (list_all is_proper) rows ∙ all_filter is_proper (λ row. not (is_at a.file a.hwpt row)) table.rows paid_shown.objects.proper
+      proper = ap (list_all is_proper) rows ∙ all_filter is_proper (λ row. not (is_at a.file a.hwpt row)) table.rows
+          paid_shown.objects.proper
 
       objects_shown : ObjectsShown w.settings w.closed left (all_paid device w.areas) new
-      objects_shown = record { rows = objects; proper = proper; spaces = areas; files = λ number. rw files (paid_shown.objects.files number) }
+      objects_shown = record {
+        rows = objects;
+        proper = proper;
+        spaces = areas;
+        files = λ number. rw files (paid_shown.objects.files number);
+      }
 
       had : has_hwpt w.objects a.file ioas ≡ true
       had = let (width, automatic, kind_w) = of_world in has_table w.objects a.file a.hwpt ioas width automatic kind_w
@@ -280,7 +354,10 @@ module _ {A : Type 0} where
       -- the areas that aren't translated any more
       own_left : own_areas new a.file ioas ≡ all_paid device (areas_of w.areas a.file ioas)
       own_left =
-          own_at new a.file ioas (record { proper = proper; ids = ap have_own_ids (sym objects) ∙ own_ids-filter _ w.objects tidy.ids })
+          own_at new a.file ioas (record {
+            proper = proper;
+            ids = ap have_own_ids (sym objects) ∙ own_ids-filter _ w.objects tidy.ids;
+          })
           ∙ sym (areas a.file ioas) ∙ paid_areas_of device w.areas a.file ioas
 
       -- ---- its tables
@@ -292,13 +369,16 @@ module _ {A : Type 0} where
       its_place : (h : Hwpt) × (hwpt_of s.page_tables.tables a.file a.hwpt ≡ Some h)
       its_place =
           let (width, automatic, kind_w) = of_world in
-          let (h, is, of_file, of_kind) = found_hwpt w.objects s.page_tables.tables a (kind.Hwpt ioas width automatic) shows.tables.tables kind_w refl in
+          let (h, is, of_file, of_kind) = found_hwpt w.objects s.page_tables.tables a (kind.Hwpt ioas width automatic)
+          shows.tables.tables kind_w refl in
           (h, is)
 
       frames_left : FramesShown w.settings.pool w.writes others_rows s.memory before
       frames_left =
           let (h, is) = its_place in
-          given_shown w.settings.pool w.writes w.table_frames (is_table_of a.file a.hwpt) (rows_found w.table_frames (hwpt_of s.page_tables.tables a.file a.hwpt)) s.memory s.pool before shows.frames
+          given_shown w.settings.pool w.writes w.table_frames (is_table_of a.file a.hwpt)
+          (rows_found w.table_frames (hwpt_of s.page_tables.tables a.file a.hwpt)) s.memory
+          s.pool before shows.frames
           (unreached w s shows tidy.tabled.owned)
           (named_rows w.table_frames s.page_tables.tables a.file a.hwpt h is)
           (releases w.table_frames (leads_of w) shows.tables.stand)
@@ -309,7 +389,9 @@ module _ {A : Type 0} where
             ap (map (λ (h : Hwpt). h.object)) is_kept
             ∙ tables_kept w.objects s.page_tables.tables shows.tables.tables shows.tables.stand.own a.file a.hwpt
             ∙ ap page_tables_among (sym one_left);
-        widths = ap (list_all has_own_width) is_kept ∙ tests_kept w.objects s.page_tables.tables shows.tables.tables shows.tables.stand.own a.file a.hwpt has_own_width shows.tables.widths;
+        widths = ap (list_all has_own_width) is_kept
+            ∙ tests_kept w.objects s.page_tables.tables shows.tables.tables shows.tables.stand.own a.file a.hwpt
+            has_own_width shows.tables.widths;
         stand = stand w.table_frames (leads_of w) shows.tables.stand;
       }
 
@@ -317,75 +399,134 @@ module _ {A : Type 0} where
       same_left : has_hwpt left a.file ioas ≡ has_hwpt (objects_of kept) a.file ioas
       same_left = sym (has_hwpt_kept (objects_of kept) left tables_left.tables a.file ioas)
 
-      module _ (listed given : List FrameNo) (nothing : listed ≡ []) (gives_back : IfAllStand s.pool s.page_tables.tables (λ frames leads. GivesBack (rows_found frames (hwpt_of s.page_tables.tables a.file a.hwpt)) listed given)) where
-        back : GivesBack (rows_found w.table_frames (hwpt_of s.page_tables.tables a.file a.hwpt)) [] given
-        back =
-            subst (λ (l : List FrameNo). GivesBack (rows_found w.table_frames (hwpt_of s.page_tables.tables a.file a.hwpt)) l given) nothing
-            (gives_back w.table_frames (leads_of w) shows.tables.stand)
+      module _ (listed given : List FrameNo) (nothing : listed ≡ [])
+          (gives_back : IfAllStand s.pool s.page_tables.tables
+          (λ frames leads. GivesBack (rows_found frames (hwpt_of s.page_tables.tables a.file a.hwpt)) listed given))
+        where
+          back : GivesBack (rows_found w.table_frames (hwpt_of s.page_tables.tables a.file a.hwpt)) [] given
+          back =
+              subst (λ (l : List FrameNo). GivesBack (rows_found w.table_frames
+              (hwpt_of s.page_tables.tables a.file a.hwpt)) l given) nothing
+              (gives_back w.table_frames (leads_of w) shows.tables.stand)
 
-        -- its frames are given back, and no others
-        given_once : (f : ℕ) → times_in given f ≡ tables_in (filter (is_table_of a.file a.hwpt) w.table_frames) f
-        given_once = let (h, is) = its_place in given_rows w.table_frames s.page_tables.tables a.file a.hwpt h is given (subst (λ (l : List FrameNo). IsPermutation (map (λ (row : TableRow). row.frame) (rows_found w.table_frames (hwpt_of s.page_tables.tables a.file a.hwpt))) l) (sym back.is) back.same)
+          -- its frames are given back, and no others
+          given_once : (f : ℕ) → times_in given f ≡ tables_in (filter (is_table_of a.file a.hwpt) w.table_frames) f
+          given_once =
+              let (h, is) = its_place in given_rows w.table_frames s.page_tables.tables a.file a.hwpt h is given
+              (subst (λ (l : List FrameNo). IsPermutation
+              (map (λ (row : TableRow). row.frame) (rows_found w.table_frames
+              (hwpt_of s.page_tables.tables a.file a.hwpt))) l) (sym back.is) back.same)
 
-        sorted : IsNonDecreasingBy (λ (f : FrameNo). f.0) given
-        sorted = subst (IsNonDecreasingBy (λ (f : FrameNo). f.0)) (sym back.is) back.rising
+          sorted : IsNonDecreasingBy (λ (f : FrameNo). f.0) given
+          sorted = subst (IsNonDecreasingBy (λ (f : FrameNo). f.0)) (sym back.is) back.rising
 
-        orphans : (t : TableFrame) → IsIn w.table_frames t → is_orphan left t ≡ is_table_of a.file a.hwpt t
-        orphans t within = ap (λ (l : List Object). is_orphan l t) one_left ∙ orphan_rows w.objects w.table_frames tidy.tabled.owned a.file a.hwpt t within
+          orphans : (t : TableFrame) → IsIn w.table_frames t → is_orphan left t ≡ is_table_of a.file a.hwpt t
+          orphans t within = ap (λ (l : List Object). is_orphan l t) one_left
+              ∙ orphan_rows w.objects w.table_frames tidy.tabled.owned a.file a.hwpt t within
 
-        none_missing : missing_tables left (all_paid device w.areas) w.table_frames ≡ []
-        unfolding changed settle detached
-        none_missing =
-            subst (λ (v : World). missing_tables v.objects v.areas w.table_frames ≡ []) ends
-            (none_after {A = A} at w (event.Detach device) reply.Done tt tidy.tabled.needed)
+          none_missing : missing_tables left (all_paid device w.areas) w.table_frames ≡ []
+          unfolding changed settle detached
+          none_missing =
+              subst (λ (v : World). missing_tables v.objects v.areas w.table_frames ≡ []) ends
+              (none_after {A = A} at w (event.Detach device) reply.Done tt tidy.tabled.needed)
 
-        moved : MovesTables {A = A} w (settle w (detached w device a)) (event.Detach device) reply.Done [] given × AreFramesChosen w (settle w (detached w device a)) [] given
-        unfolding settle detached
-        moved =
-            gives {A = A} w (settle w (detached w device a)) (event.Detach device) reply.Done (is_table_of a.file a.hwpt) given shows.frames.once given_once sorted orphans refl
-            (own_ids-filter _ w.objects tidy.ids) none_missing
+          moved : MovesTables {A = A} w (settle w (detached w device a)) (event.Detach device) reply.Done [] given
+              × AreFramesChosen w (settle w (detached w device a)) [] given
+          unfolding settle detached
+          moved =
+              gives {A = A} w (settle w (detached w device a)) (event.Detach device) reply.Done
+              (is_table_of a.file a.hwpt) given shows.frames.once given_once sorted orphans refl
+              (own_ids-filter _ w.objects tidy.ids) none_missing
 
-        rows_after : tables_after [] given (settle w (detached w device a)) ≡ others_rows
-        unfolding settle detached
-        rows_after = tables_beside {A = A} w (settle w (detached w device a)) (event.Detach device) reply.Done (is_table_of a.file a.hwpt) given shows.frames.once given_once sorted orphans refl
+          rows_after : tables_after [] given (settle w (detached w device a)) ≡ others_rows
+          unfolding settle detached
+          rows_after = tables_beside {A = A} w (settle w (detached w device a)) (event.Detach device) reply.Done
+              (is_table_of a.file a.hwpt) given shows.frames.once given_once sorted orphans refl
 
-        step : (via : Option FrameNo) (memory : Memory) (pool : FramePool)
-            → Shows (record (settle w (detached w device a)) { table_frames = others_rows }) (record s { objects = new; page_tables = kept; attachments = attachments; memory = memory; pool = pool })
-            → IsStep at w device via given (record s { objects = new; page_tables = kept; attachments = attachments; memory = memory; pool = pool })
-        unfolding with_tables Answers
-        step via memory pool shown =
-            let to : State A = record s { objects = new; page_tables = kept; attachments = attachments; memory = memory; pool = pool } in
-            let Left : World → Type 0 = λ (v : World).
-            MovesTables {A = A} w v (event.Detach device) reply.Done [] given × AreFramesChosen w v [] given × Shows (with_tables [] given v) to in
-            let of_rows : List TableFrame → Type 0 = λ (rows : List TableFrame). Shows (record (settle w (detached w device a)) { table_frames = rows }) to in
-            let here : Left (settle w (detached w device a)) = (moved.0, moved.1, subst of_rows (sym rows_after) shown) in
-            let (moves, chosen, after) = subst Left (sym ends) here in
-            (tt, tt, moves, chosen, after)
+          step : (via : Option FrameNo) (memory : Memory) (pool : FramePool)
+              → Shows (record (settle w (detached w device a)) { table_frames = others_rows }) (record s {
+                objects = new;
+                page_tables = kept;
+                attachments = attachments;
+                memory = memory;
+                pool = pool;
+              })
+              → IsStep at w device via given (record s {
+                objects = new;
+                page_tables = kept;
+                attachments = attachments;
+                memory = memory;
+                pool = pool;
+              })
+          unfolding with_tables Answers
+          step via memory pool shown =
+              let to : State A = record s {
+                objects = new;
+                page_tables = kept;
+                attachments = attachments;
+                memory = memory;
+                pool = pool;
+              } in
+              let Left : World → Type 0 = λ (v : World).
+              MovesTables {A = A} w v (event.Detach device) reply.Done [] given × AreFramesChosen w v [] given
+              × Shows (with_tables [] given v) to in
+              let of_rows : List TableFrame → Type 0 =
+              λ (rows : List TableFrame). Shows (record (settle w (detached w device a)) { table_frames = rows })
+              to in
+              let here : Left (settle w (detached w device a)) =
+              (moved.0, moved.1, subst of_rows (sym rows_after) shown) in
+              let (moves, chosen, after) = subst Left (sym ends) here in
+              (tt, tt, moves, chosen, after)
 
-        -- and another one over the address space stays
-        pub shows_dropped : (via : Option FrameNo) → has_hwpt (objects_of kept) a.file ioas ≡ true → IsStep at w device via given (record s { objects = new; page_tables = kept; attachments = attachments; pool = before })
-        shows_dropped via more =
-            let fewer = fewer_none w device left (all_stay w (without_attachment device w.attachments) a ioas tidy.ids end.over had (same_left ∙ more)) in
-            step via s.memory before
-            (shows_ended never never others_rows kept before new s.memory before objects_shown fewer frames_left tables_left
-            (released_none never never s.memory before (may_release_after at w s tidy shows never never left (all_paid device w.areas) fewer others_rows before frames_left)))
+          -- and another one over the address space stays
+          pub shows_dropped : (via : Option FrameNo) → has_hwpt (objects_of kept) a.file ioas ≡ true
+              → IsStep at w device via given (record s {
+                objects = new;
+                page_tables = kept;
+                attachments = attachments;
+                pool = before;
+              })
+          shows_dropped via more =
+              let fewer = fewer_none w device left (all_stay w (without_attachment device w.attachments) a ioas tidy.ids
+              end.over had (same_left ∙ more)) in
+              step via s.memory before
+              (shows_ended never never others_rows kept before new s.memory before objects_shown
+              fewer frames_left tables_left
+              (released_none never never s.memory before
+              (may_release_after at w s tidy shows never never left (all_paid device w.areas) fewer
+              others_rows before frames_left)))
 
       -- it was the last one
-      fewer_last : has_hwpt (objects_of kept) a.file ioas ≡ false → AreFewer never (over (own_areas new a.file ioas)) w left (all_paid device w.areas)
+      fewer_last : has_hwpt (objects_of kept) a.file ioas ≡ false
+          → AreFewer never (over (own_areas new a.file ioas)) w left (all_paid device w.areas)
       fewer_last last = record {
         over_left = λ n. let is = over_paid device w.areas n in omega (arith, is);
         translated_left =
-            λ n. ap (λ k. translated left (all_paid device w.areas) n + k) (ap (λ l. over l n) own_left ∙ over_paid device (areas_of w.areas a.file ioas) n)
+            λ n. ap (λ k. translated left (all_paid device w.areas) n + k) (ap (λ l. over l n) own_left
+            ∙ over_paid device (areas_of w.areas a.file ioas) n)
             ∙ ap (λ k. k + over (areas_of w.areas a.file ioas) n) (translated_paid left device w.areas n)
-            ∙ table_lost w.objects left w.areas a.file ioas had (same_left ∙ last) (others_stay w (without_attachment device w.attachments) a ioas tidy.ids end.over) n;
+            ∙ table_lost w.objects left w.areas a.file ioas had (same_left ∙ last)
+            (others_stay w (without_attachment device w.attachments) a ioas tidy.ids end.over) n;
       }
 
-      pub may_unpin : has_hwpt (objects_of kept) a.file ioas ≡ false → MayRelease never (over (own_areas new a.file ioas)) s.memory before.holds
-      may_unpin last = may_release_after at w s tidy shows never (over (own_areas new a.file ioas)) left (all_paid device w.areas) (fewer_last last) others_rows before frames_left
+      pub may_unpin : has_hwpt (objects_of kept) a.file ioas ≡ false
+          → MayRelease never (over (own_areas new a.file ioas)) s.memory before.holds
+      may_unpin last = may_release_after at w s tidy shows never (over (own_areas new a.file ioas)) left
+          (all_paid device w.areas) (fewer_last last) others_rows before frames_left
 
-      pub shows_last : (listed given : List FrameNo) → listed ≡ [] → IfAllStand s.pool s.page_tables.tables (λ frames leads. GivesBack (rows_found frames (hwpt_of s.page_tables.tables a.file a.hwpt)) listed given)
-          → (via : Option FrameNo) (memory : Memory) (pool : FramePool) → has_hwpt (objects_of kept) a.file ioas ≡ false → IsReleased never (over (own_areas new a.file ioas)) s.memory memory before pool
-          → IsStep at w device via given (record s { objects = new; page_tables = kept; attachments = attachments; memory = memory; pool = pool })
+      pub shows_last : (listed given : List FrameNo) → listed ≡ []
+          → IfAllStand s.pool s.page_tables.tables
+          (λ frames leads. GivesBack (rows_found frames (hwpt_of s.page_tables.tables a.file a.hwpt)) listed given)
+          → (via : Option FrameNo) (memory : Memory) (pool : FramePool) → has_hwpt (objects_of kept) a.file ioas ≡ false
+          → IsReleased never (over (own_areas new a.file ioas)) s.memory memory before pool
+          → IsStep at w device via given (record s {
+            objects = new;
+            page_tables = kept;
+            attachments = attachments;
+            memory = memory;
+            pool = pool;
+          })
       shows_last listed given nothing gives_back via memory pool last released =
           step listed given nothing gives_back via memory pool
-          (shows_ended never (over (own_areas new a.file ioas)) others_rows kept before new memory pool objects_shown (fewer_last last) frames_left tables_left released)
+          (shows_ended never (over (own_areas new a.file ioas)) others_rows kept before new memory pool objects_shown
+          (fewer_last last) frames_left tables_left released)

@@ -17,5 +17,8 @@ use Rattle.iofd_words.specs.declared.call_error.CallError.TheVariants.{Refused}
 use Rattle.server_state.proofs.NeverFull.{takes_object}
 
 module _ {A : Type 0} where
-  pub bind_taken : (w : World) (s : State A) (file : FileNo) (device : DeviceNo) (error : CallError) (r : Refusal) → Shows w s → first_true (bind_checks (view w) file device) ≡ None → error ≡ Refused r → IsWhy (insert_refusal s.objects file) error → ⊥
-  bind_taken w s file device error r shows none = takes_object w s file error r shows (bind_open w file device none) (bind_passed (view w) file device none).roomy
+  pub bind_taken : (w : World) (s : State A) (file : FileNo) (device : DeviceNo) (error : CallError) (r : Refusal)
+      → Shows w s → first_true (bind_checks (view w) file device) ≡ None → error ≡ Refused r
+      → IsWhy (insert_refusal s.objects file) error → ⊥
+  bind_taken w s file device error r shows none =
+      takes_object w s file error r shows (bind_open w file device none) (bind_passed (view w) file device none).roomy

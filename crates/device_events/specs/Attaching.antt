@@ -10,4 +10,5 @@ use Rattle.iofd_words.specs.declared.rows.Object.{Object}
 -- the page table is an automatic one, and no device translates by it
 abbrev pub is_idle : List Object → List Attachment → FileNo → ObjId → Bool
 is_idle objects attachments file hwpt =
-    elim (kind_of objects file hwpt) [ Some kind ↦ is_automatic kind | None ↦ false ] && not (has_device_on attachments file hwpt)
+    elim (kind_of objects file hwpt) [ Some kind ↦ is_automatic kind | None ↦ false ]
+    && not (has_device_on attachments file hwpt)

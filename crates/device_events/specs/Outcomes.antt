@@ -24,8 +24,8 @@ abbrev pub passes_at : Option FrameNo → List Outcome
 passes_at None = []
 passes_at (Some frame) = Passes frame ∷ []
 
--- the outcome that is given: a pass at the cached frame, if there is one; else what comes of it without a cached frame, or where
--- nothing may come of it (which no run leads to) a denial
+-- the outcome that is given: a pass at the cached frame, if there is one; else what comes of it without a cached frame,
+-- or where nothing may come of it (which no run leads to) a denial
 abbrev pub given_outcome : Option FrameNo → List Outcome → Outcome
 given_outcome (Some frame) outcomes = Passes frame
 given_outcome None outcomes = elim (without_cache outcomes) [ Some outcome ↦ outcome | None ↦ Denied WriteDenied ]

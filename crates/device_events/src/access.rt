@@ -213,7 +213,8 @@ fn by_phase(
 
 /// Whether the address is at or above the width of the device's tables.
 fn is_beyond<A: Allocator>(config: &Config<A>, device: DeviceNo, address: u64) -> bool
-    ensures { result ≡ option_map_or (λ d. nat_le (2 ^ bits_of d.width) address) (files.device_of config.now device) false }
+    ensures { result ≡ option_map_or (λ d. nat_le (2 ^ bits_of d.width) address)
+        (files.device_of config.now device) false }
 {
     match config.device(device) {
         Some(settings) => address >= settings.width().end(),

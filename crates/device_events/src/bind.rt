@@ -32,7 +32,8 @@ pub fn refusal<A: Allocator>(state: &State<A>, file: FileNo, device: DeviceNo) -
     None
 }
 
-/// What it does where nothing refuses it: the file has one more object, by which the device is bound, under an unused id.
+/// What it does where nothing refuses it: the file has one more object, by which the device is bound, under an unused
+/// id.
 ///
 /// The only error is want of memory. It leaves the world as it was.
 pub fn commit<A: Allocator>(

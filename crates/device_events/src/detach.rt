@@ -35,8 +35,8 @@ pub fn refusal<A: Allocator>(state: &State<A>, device: DeviceNo) -> Option<Cause
     None
 }
 
-/// What it does where nothing refuses it: the device owes no area a flush any more, and an automatic page table goes with
-/// its last device. The frames of its tables are given back, and are listed by rising number.
+/// What it does where nothing refuses it: the device owes no area a flush any more, and an automatic page table goes
+/// with its last device. The frames of its tables are given back, and are listed by rising number.
 ///
 /// The only error is want of memory for that list. It leaves the world as it was.
 pub fn commit<A: Allocator>(
@@ -91,7 +91,8 @@ fn is_idle<A: Allocator>(
 
 /// Whether the object is an automatic page table.
 fn is_automatic<A: Allocator>(table: &ObjectTable<Held<A>, A>, file: FileNo, id: ObjId) -> bool
-    ensures { result ≡ elim (objects.kind_of (objects_in table.now) file id) [ Some kind ↦ objects.is_automatic kind | None ↦ false ] }
+    ensures { result ≡ elim (objects.kind_of (objects_in table.now) file id)
+        [ Some kind ↦ objects.is_automatic kind | None ↦ false ] }
 {
     match lookups::kind_of(table, file, id) {
         Some(ObjectKind::Hwpt { automatic, .. }) => automatic,

@@ -16,5 +16,8 @@ use Rattle.iofd_words.specs.declared.call_error.CallError.TheVariants.{Refused}
 use Rattle.server_state.proofs.NeverFull.{takes_object}
 
 module _ {A : Type 0} where
-  pub alloc_taken : (w : World) (s : State A) (file : FileNo) (error : CallError) (r : Refusal) → Shows w s → first_true (ioas_alloc_checks (view w) file) ≡ None → error ≡ Refused r → IsWhy (insert_refusal s.objects file) error → ⊥
-  alloc_taken w s file error r shows none = takes_object w s file error r shows (alloc_open w file none) (alloc_passed (view w) file none).roomy
+  pub alloc_taken : (w : World) (s : State A) (file : FileNo) (error : CallError) (r : Refusal) → Shows w s
+      → first_true (ioas_alloc_checks (view w) file) ≡ None → error ≡ Refused r
+      → IsWhy (insert_refusal s.objects file) error → ⊥
+  alloc_taken w s file error r shows none =
+      takes_object w s file error r shows (alloc_open w file none) (alloc_passed (view w) file none).roomy

@@ -1,4 +1,5 @@
--- Areas or page tables let go of memory objects, over whatever frames page tables have in the pool: what is shown afterwards.
+-- Areas or page tables let go of memory objects, over whatever frames page tables have in the pool: what is shown
+-- afterwards.
 use Rattle.std.proofs.Common.{◌≡◌, ℕ, ltb, true, List, [], get_or, map, sym, ◌∙◌, ap, arith}
 use Rattle.std.specs.List.{count_by, filter}
 use Rattle.frame_memory.specs.Pool.{FramePool}
@@ -35,7 +36,8 @@ use Rattle.user_memory.specs.Memory.{Memory, areas_over, rows_of, table_pins}
 
 module _ {A : Type 0} (at : ℕ) (w : World) (s : State A) (tidy : IsTidy at w) (shows : Shows w s)
     (kept : List TableFrame) (tables : List Hwpt) (before : FramePool)
-    (shown : FramesShown w.settings.pool w.writes kept s.memory before) (stand : AllStand before kept (leads_of w) tables)
+    (shown : FramesShown w.settings.pool w.writes kept s.memory before)
+    (stand : AllStand before kept (leads_of w) tables)
     (areas pins : ℕ → ℕ) (objects : List Object) (left : List Area) (fewer : AreFewer areas pins w objects left) where
   -- they may let go
   pub may_free : MayRelease areas pins s.memory before.holds
@@ -54,36 +56,50 @@ module _ {A : Type 0} (at : ℕ) (w : World) (s : State A) (tidy : IsTidy at w) 
       (same_objects : new.objects ≡ objects) (same_areas : new.areas ≡ left)
       (memory : new.memory ≡ filter (λ (m : MemoryObject). ltb 0 (over left m.number)) w.memory)
       (same_pages : new.user_pages ≡ w.user_pages)
-      (is_settled : new.pins ≡ settled (pinned_pages w.objects w.areas w.memory w.access_pins) (pinned_pages new.objects new.areas new.memory new.access_pins) new.memory new.user_pages w.pins)
+      (is_settled : new.pins ≡ settled (pinned_pages w.objects w.areas w.memory w.access_pins)
+      (pinned_pages new.objects new.areas new.memory new.access_pins) new.memory new.user_pages w.pins)
       (released : IsReleased areas pins s.memory after before pool) where
     counts : (n : ℕ) → areas_over after n ≡ over left n
-    counts n = let less = released.less.areas n in let was = shows.pins.areas n in let few = fewer.over_left n in omega (arith, less, was, few)
+    counts n = let less = released.less.areas n in let was =
+        shows.pins.areas n in let few = fewer.over_left n in omega (arith, less, was, few)
 
     pinned_counts : (n : ℕ) → table_pins after n ≡ translated objects left n
-    pinned_counts n = let less = released.less.pins n in let was = shows.pins.tables n in let few = fewer.translated_left n in omega (arith, less, was, few)
+    pinned_counts n = let less = released.less.pins n in let was =
+        shows.pins.tables n in let few = fewer.translated_left n in omega (arith, less, was, few)
 
     pages_after : (user : UserNo) (page : ℕ) → frame_at w.user_pages user page ≡ frame_at after.pages user page
     pages_after user page = shows.users.pages user page ∙ ap (λ l. frame_at l user page) (sym released.settles.pages)
 
     users_freed : UsersShown w.user_pages after.pages
-    users_freed = record { pages = pages_after; counts = λ test. shows.users.counts test ∙ ap (count_by test) (sym released.settles.pages) }
+    users_freed = record {
+      pages = pages_after;
+      counts = λ test. shows.users.counts test ∙ ap (count_by test) (sym released.settles.pages);
+    }
 
     pins_freed : PinsShown new.objects new.areas new.memory new.pins after
     pins_freed =
         pins_follow at next w new s.memory after before pool tidy.pins pinned shows.pins is_settled
         (λ user page. ap (λ l. frame_at l user page) same_pages ∙ pages_after user page)
-        (memory ∙ rows_left after w.memory (rows_of s.memory) (over left) shows.pins.rows counts ∙ sym released.less.rows)
+        (memory ∙ rows_left after w.memory (rows_of s.memory) (over left) shows.pins.rows counts
+        ∙ sym released.less.rows)
         (λ n. counts n ∙ ap (λ (l : List Area). over l n) (sym same_areas))
-        (λ n. pinned_counts n ∙ ap (λ (l : List Object). translated l left n) (sym same_objects) ∙ ap (λ (l : List Area). translated new.objects l n) (sym same_areas))
+        (λ n. pinned_counts n ∙ ap (λ (l : List Object). translated l left n) (sym same_objects)
+        ∙ ap (λ (l : List Area). translated new.objects l n) (sym same_areas))
         released.settles
 
     frames_freed : FramesShown w.settings.pool w.writes kept after pool
     frames_freed =
-        frames.frames_follow w.settings.pool w.writes kept s.memory after before pool shown released.settles.holds released.settles.bytes
+        frames.frames_follow w.settings.pool w.writes kept s.memory after before pool shown
+        released.settles.holds released.settles.bytes
         (λ f named. settles_named s.memory after before pool released.settles f named)
 
     pub freed : AreShown new w.writes kept w.user_pages w.settings after pool
-    freed = record { limits = released.settles.limits ∙ shows.limits; users = users_freed; pins = pins_freed; frames = frames_freed }
+    freed = record {
+      limits = released.settles.limits ∙ shows.limits;
+      users = users_freed;
+      pins = pins_freed;
+      frames = frames_freed;
+    }
 
     -- the page tables stand, by where pages led
     pub tables_freed : AllStand pool kept (leads_of w) tables
@@ -94,11 +110,14 @@ module _ {A : Type 0} (at : ℕ) (w : World) (s : State A) (tidy : IsTidy at w) 
         (λ f held none. ap (λ (all : List (List ℕ)). get_or all f []) released.settles.bytes)
 
     -- and by where they lead now, where each address space with a page table keeps its areas
-    pub tables_lead : (some : FramePool) (rows : List TableFrame) (hwpts : List Hwpt) → map (λ (h : Hwpt). h.object) hwpts ≡ page_tables_among objects
-        → ((file : FileNo) (ioas : ObjId) → has_hwpt objects file ioas ≡ true → areas_of left file ioas ≡ areas_of w.areas file ioas)
+    pub tables_lead : (some : FramePool) (rows : List TableFrame) (hwpts : List Hwpt)
+        → map (λ (h : Hwpt). h.object) hwpts ≡ page_tables_among objects
+        → ((file : FileNo) (ioas : ObjId) → has_hwpt objects file ioas ≡ true
+        → areas_of left file ioas ≡ areas_of w.areas file ioas)
         → AllStand some rows (leads_of w) hwpts → AllStand some rows (leads_of new) hwpts
     tables_lead some rows hwpts are stay stands =
         spaces_alike w new objects hwpts some rows are
         (λ file ioas page has.
-        leads_left at w new s.memory after before pool areas pins objects left tidy.pins shows.pins pins_freed same_objects same_areas fewer released file ioas page has (stay file ioas has))
+        leads_left at w new s.memory after before pool areas pins objects left tidy.pins shows.pins pins_freed
+        same_objects same_areas fewer released file ioas page has (stay file ioas has))
         stands

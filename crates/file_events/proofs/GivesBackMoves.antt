@@ -25,16 +25,20 @@ use Rattle.server_state.specs.declared.state.State.{State}
 use Rattle.table_words.specs.Released.{GivesBack}
 use Rattle.table_words.specs.Rows.{TableRow}
 
-with_given : (v : World) (given : List FrameNo) (left : List TableFrame) → tables_after [] given v ≡ left → with_tables [] given v ≡ record v { table_frames = left }
+with_given : (v : World) (given : List FrameNo) (left : List TableFrame) → tables_after [] given v ≡ left
+    → with_tables [] given v ≡ record v { table_frames = left }
 unfolding with_tables
 with_given v given left is = ap (λ (tables : List TableFrame). record v { table_frames = tables }) is
 
-module _ {A : Type 0} (at : ℕ) (w : World) (s new : State A) (e : Event A) (via : Option FrameNo) (answer : Reply) (goes : TableFrame → Bool) (rows : List TableRow) (given : List FrameNo)
-    (tidy : IsTidy at w) (shows : Shows w s) (none : refusal w e ≡ None) (answers : Answers w e answer) (makes : MakesNone w e)
+module _ {A : Type 0} (at : ℕ) (w : World) (s new : State A) (e : Event A) (via : Option FrameNo) (answer : Reply)
+    (goes : TableFrame → Bool) (rows : List TableRow) (given : List FrameNo)
+    (tidy : IsTidy at w) (shows : Shows w s) (none : refusal w e ≡ None)
+    (answers : Answers w e answer) (makes : MakesNone w e)
     (orphans : (t : TableFrame) → IsIn w.table_frames t → is_orphan (changed at w e answer).objects t ≡ goes t)
     (back : GivesBack rows [] given)
     (counted : (f : ℕ) → rows_in_frame rows f ≡ tables_in (filter goes w.table_frames) f) where
-  pub gives_back : IsChosen w e via answer → Shows (record (changed at w e answer) { table_frames = filter (λ table. not (goes table)) w.table_frames }) new
+  pub gives_back : IsChosen w e via answer
+      → Shows (record (changed at w e answer) { table_frames = filter (λ table. not (goes table)) w.table_frames }) new
       → Answers w e answer × IsChosen w e via answer
       × MovesTables w (changed at w e answer) e answer [] given
       × AreFramesChosen w (changed at w e answer) [] given
@@ -44,11 +48,15 @@ module _ {A : Type 0} (at : ℕ) (w : World) (s new : State A) (e : Event A) (vi
       let stay = same_tables at w e answer in
       let same = λ (f : ℕ). given_times rows given back f ∙ counted f in
       let rises = given_rises rows given back in
-      let lacks_none : missing_tables left.objects left.areas left.table_frames ≡ [] = ap (missing_tables left.objects left.areas) stay ∙ none_after at w e answer makes tidy.tabled.needed in
-      let (moves, are_chosen) = gives w left e answer goes given shows.frames.once same rises orphans stay (keeps_own_ids at w e answer none answers tidy.ids) lacks_none in (
+      let lacks_none : missing_tables left.objects left.areas left.table_frames ≡ [] =
+      ap (missing_tables left.objects left.areas) stay ∙ none_after at w e answer makes tidy.tabled.needed in
+      let (moves, are_chosen) = gives w left e answer goes given shows.frames.once same rises orphans stay
+      (keeps_own_ids at w e answer none answers tidy.ids) lacks_none in (
         answers,
         chosen,
         moves,
         are_chosen,
-        subst (λ (v : World). Shows v new) (sym (with_given left given (filter (λ table. not (goes table)) w.table_frames) (tables_left w left e answer goes given shows.frames.once same rises orphans stay))) after,
+        subst (λ (v : World). Shows v new) (sym (with_given left given
+            (filter (λ table. not (goes table)) w.table_frames)
+            (tables_left w left e answer goes given shows.frames.once same rises orphans stay))) after,
       )

@@ -1,5 +1,6 @@
 -- What an object that goes leaves of a world, and its areas of what is kept.
-use Rattle.std.proofs.Common.{◌≡◌, Bool, true, false, cond, ◌&&◌, ◌||◌, not, eqb, is_some, Option, Some, None, List, [], ◌∷◌, map, refl, sym, ◌∙◌, ap, arith}
+use Rattle.std.proofs.Common.{◌≡◌, Bool, true, false, cond, ◌&&◌, ◌||◌, not, eqb, is_some, Option, Some, None, List, []}
+use Rattle.std.proofs.Common.{◌∷◌, map, refl, sym, ◌∙◌, ap, arith}
 use Rattle.std.specs.List.{find, filter, list_all, list_any}
 use Rattle.std.proofs.lemmas.Bool.Decides.{nat_tests}
 use Rattle.iofd_words.specs.Areas.{areas_of, is_of}
@@ -32,8 +33,10 @@ some_in {X = X} p xs any = by_found (find p xs) refl (sym (any_found p xs) ∙ a
     by_found (Some x) is some = let within = in_found p xs x is in (x, within.0, within.1)
 
 -- no object of its name passes a test that no object of its kind passes
-pub none_named : (p : Object → Bool) (objects : List Object) (file : FileNo) (id : ObjId) (k : ObjectKind) → have_own_ids objects ≡ true → kind_of objects file id ≡ Some k
-    → ((object : Object) → object.file ≡ file → object.kind ≡ k → p object ≡ false) → list_any (λ object. p object && not (not (is_object file id object))) objects ≡ false
+pub none_named : (p : Object → Bool) (objects : List Object) (file : FileNo) (id : ObjId) (k : ObjectKind)
+    → have_own_ids objects ≡ true → kind_of objects file id ≡ Some k
+    → ((object : Object) → object.file ≡ file → object.kind ≡ k → p object ≡ false)
+    → list_any (λ object. p object && not (not (is_object file id object))) objects ≡ false
 none_named p objects file id k unique is_kind fails =
     false_else (list_any (λ object. p object && not (not (is_object file id object))) objects)
     (λ any.
@@ -42,7 +45,8 @@ none_named p objects file id k unique is_kind fails =
     let names = and_true (eqb object.file.0 file.0) (eqb object.id.0 id.0) (twice (is_object file id object) parts.1) in
     let of_file = file_is object.file file names.0 in
     let of_id = id_is object.id id names.1 in
-    let found = sym (ap (λ (f : FileNo). kind_of objects f object.id) of_file ∙ ap (λ (i : ObjId). kind_of objects file i) of_id) ∙ kind_only objects object unique within in
+    let found = sym (ap (λ (f : FileNo). kind_of objects f object.id) of_file
+    ∙ ap (λ (i : ObjId). kind_of objects file i) of_id) ∙ kind_only objects object unique within in
     let same : object.kind ≡ k = cc in
     let no = fails object of_file same in
     differ (sym no ∙ parts.0))
@@ -55,20 +59,29 @@ none_named p objects file id k unique is_kind fails =
     differ is = cc
 
 -- such a test finds what it found
-pub found_without : (p : Object → Bool) (objects : List Object) (file : FileNo) (id : ObjId) (k : ObjectKind) → have_own_ids objects ≡ true → kind_of objects file id ≡ Some k
-    → ((object : Object) → object.file ≡ file → object.kind ≡ k → p object ≡ false) → find p (without_object file id objects) ≡ find p objects
-found_without p objects file id k unique is_kind fails = find-filter p (λ object. not (is_object file id object)) objects (none_named p objects file id k unique is_kind fails)
+pub found_without : (p : Object → Bool) (objects : List Object) (file : FileNo) (id : ObjId) (k : ObjectKind)
+    → have_own_ids objects ≡ true → kind_of objects file id ≡ Some k
+    → ((object : Object) → object.file ≡ file → object.kind ≡ k → p object ≡ false)
+    → find p (without_object file id objects) ≡ find p objects
+found_without p objects file id k unique is_kind fails =
+    find-filter p (λ object. not (is_object file id object)) objects
+    (none_named p objects file id k unique is_kind fails)
 
-pub any_without : (p : Object → Bool) (objects : List Object) (file : FileNo) (id : ObjId) (k : ObjectKind) → have_own_ids objects ≡ true → kind_of objects file id ≡ Some k
-    → ((object : Object) → object.file ≡ file → object.kind ≡ k → p object ≡ false) → list_any p (without_object file id objects) ≡ list_any p objects
+pub any_without : (p : Object → Bool) (objects : List Object) (file : FileNo) (id : ObjId) (k : ObjectKind)
+    → have_own_ids objects ≡ true → kind_of objects file id ≡ Some k
+    → ((object : Object) → object.file ≡ file → object.kind ≡ k → p object ≡ false)
+    → list_any p (without_object file id objects) ≡ list_any p objects
 any_without p objects file id k unique is_kind fails =
-    any_found p (without_object file id objects) ∙ ap (λ (o : Option Object). is_some o) (found_without p objects file id k unique is_kind fails) ∙ sym (any_found p objects)
+    any_found p (without_object file id objects)
+    ∙ ap (λ (o : Option Object). is_some o) (found_without p objects file id k unique is_kind fails)
+    ∙ sym (any_found p objects)
 
 none_left : {X : Type 0} (p : X → Bool) (xs : List X) → filter p xs ≡ [] → list_any p xs ≡ false
 none_left p [] none = refl
 none_left p (x ∷ xs) none = by_test (p x) none (λ later. none_left p xs later)
   where
-    by_test : (b : Bool) → cond b (x ∷ filter p xs) (filter p xs) ≡ [] → (filter p xs ≡ [] → list_any p xs ≡ false) → (b || list_any p xs) ≡ false
+    by_test : (b : Bool) → cond b (x ∷ filter p xs) (filter p xs) ≡ [] → (filter p xs ≡ [] → list_any p xs ≡ false)
+        → (b || list_any p xs) ≡ false
     by_test true none later = cc
     by_test false none later = later none
 
@@ -76,27 +89,35 @@ none_pass : {X : Type 0} (p : X → Bool) (xs : List X) → list_any p xs ≡ fa
 none_pass p [] none = refl
 none_pass p (x ∷ xs) none = by_test (p x) none (λ later. none_pass p xs later)
   where
-    by_test : (b : Bool) → (b || list_any p xs) ≡ false → (list_any p xs ≡ false → list_all (λ x. not (p x)) xs ≡ true) → (not b && list_all (λ x. not (p x)) xs) ≡ true
+    by_test : (b : Bool) → (b || list_any p xs) ≡ false → (list_any p xs ≡ false → list_all (λ x. not (p x)) xs ≡ true)
+        → (not b && list_all (λ x. not (p x)) xs) ≡ true
     by_test true none later = cc
     by_test false none later = later none
 
 -- what has no areas takes none with it
-pub areas_stay : (areas : List Area) (file : FileNo) (id : ObjId) → areas_of areas file id ≡ [] → filter (λ (area : Area). not (is_of file id area)) areas ≡ areas
+pub areas_stay : (areas : List Area) (file : FileNo) (id : ObjId) → areas_of areas file id ≡ []
+    → filter (λ (area : Area). not (is_of file id area)) areas ≡ areas
 areas_stay areas file id empty =
-    filter_all (λ (area : Area). not (is_of file id area)) areas (none_pass (is_of file id) areas (none_left (is_of file id) areas empty))
+    filter_all (λ (area : Area). not (is_of file id area)) areas
+    (none_pass (is_of file id) areas (none_left (is_of file id) areas empty))
 
 -- the areas of one address space go
-pub areas_here : (areas : List Area) (file : FileNo) (id : ObjId) → areas_of (filter (λ area. not (is_of file id area)) areas) file id ≡ []
+pub areas_here : (areas : List Area) (file : FileNo) (id : ObjId)
+    → areas_of (filter (λ area. not (is_of file id area)) areas) file id ≡ []
 areas_here [] file id = refl
 areas_here (area ∷ areas) file id = let rest = areas_here areas file id in grind (arith, nat_tests)
 
-pub areas_elsewhere : (areas : List Area) (file : FileNo) (id : ObjId) (f : FileNo) (i : ObjId) → is_space file id f i ≡ false → areas_of (filter (λ area. not (is_of file id area)) areas) f i ≡ areas_of areas f i
+pub areas_elsewhere : (areas : List Area) (file : FileNo) (id : ObjId) (f : FileNo) (i : ObjId)
+    → is_space file id f i ≡ false → areas_of (filter (λ area. not (is_of file id area)) areas) f i ≡ areas_of areas f i
 areas_elsewhere [] file id f i other = refl
-areas_elsewhere (area ∷ areas) file id f i other = let rest = areas_elsewhere areas file id f i other in grind (arith, nat_tests)
+areas_elsewhere (area ∷ areas) file id f i other =
+    let rest = areas_elsewhere areas file id f i other in grind (arith, nat_tests)
 
 module _ {A : Type 0} where
   -- the bound devices of a file
-  pub device_rows : (rows : List (Row (Held A))) (file : FileNo) → list_any (λ (object : Object). is_bound_device object.kind) (objects_of (map object_of rows) file) ≡ list_any (λ (row : Row (Held A)). is_bound_device (kind_in row.value)) (filter (is_of_file file) rows)
+  pub device_rows : (rows : List (Row (Held A))) (file : FileNo)
+      → list_any (λ (object : Object). is_bound_device object.kind) (objects_of (map object_of rows) file) ≡ list_any
+      (λ (row : Row (Held A)). is_bound_device (kind_in row.value)) (filter (is_of_file file) rows)
   device_rows [] file = refl
   device_rows (row ∷ rows) file = let rest = device_rows rows file in grind (arith, nat_tests)
 
@@ -106,15 +127,20 @@ module _ {A : Type 0} where
   rows_here [] file id = refl
   rows_here (row ∷ rows) file id = let rest = rows_here rows file id in grind (arith, nat_tests)
 
-  rows_elsewhere : (rows : List (Row (Held A))) (file : FileNo) (id : ObjId) (f : FileNo) (i : ObjId) → is_space file id f i ≡ false → areas_at (removed file id rows) f i ≡ areas_at rows f i
+  rows_elsewhere : (rows : List (Row (Held A))) (file : FileNo) (id : ObjId) (f : FileNo) (i : ObjId)
+      → is_space file id f i ≡ false → areas_at (removed file id rows) f i ≡ areas_at rows f i
   rows_elsewhere [] file id f i other = refl
-  rows_elsewhere (row ∷ rows) file id f i other = let rest = rows_elsewhere rows file id f i other in grind (arith, nat_tests)
+  rows_elsewhere (row ∷ rows) file id f i other =
+      let rest = rows_elsewhere rows file id f i other in grind (arith, nat_tests)
 
-  pub areas-removed : (areas : List Area) (rows : List (Row (Held A))) (file : FileNo) (id : ObjId) → ((f : FileNo) (i : ObjId) → areas_of areas f i ≡ areas_at rows f i)
-      → (f : FileNo) (i : ObjId) → areas_of (filter (λ area. not (is_of file id area)) areas) f i ≡ areas_at (removed file id rows) f i
+  pub areas-removed : (areas : List Area) (rows : List (Row (Held A))) (file : FileNo) (id : ObjId)
+      → ((f : FileNo) (i : ObjId) → areas_of areas f i ≡ areas_at rows f i)
+      → (f : FileNo) (i : ObjId) → areas_of (filter (λ area. not (is_of file id area)) areas) f i ≡ areas_at
+      (removed file id rows) f i
   areas-removed areas rows file id same f i = by_space (is_space file id f i) refl
     where
-      by_space : (b : Bool) → is_space file id f i ≡ b → areas_of (filter (λ area. not (is_of file id area)) areas) f i ≡ areas_at (removed file id rows) f i
+      by_space : (b : Bool) → is_space file id f i ≡ b
+          → areas_of (filter (λ area. not (is_of file id area)) areas) f i ≡ areas_at (removed file id rows) f i
       by_space true is =
           let names = and_true (eqb f.0 file.0) (eqb i.0 id.0) is in
           rw (file_is f file names.0, id_is i id names.1) (areas_here areas file id ∙ sym (rows_here rows file id))

@@ -21,53 +21,73 @@ filter_swapped : {X : Type 0} (p q : X → Bool) (xs : List X) → filter p (fil
 filter_swapped p q [] = refl
 filter_swapped p q (x ∷ xs) = by_tests (p x) (q x) refl refl (filter_swapped p q xs)
   where
-    by_tests : (a b : Bool) → p x ≡ a → q x ≡ b → filter p (filter q xs) ≡ filter q (filter p xs) → filter p (cond b (x ∷ filter q xs) (filter q xs)) ≡ filter q (cond a (x ∷ filter p xs) (filter p xs))
+    by_tests : (a b : Bool) → p x ≡ a → q x ≡ b → filter p (filter q xs) ≡ filter q (filter p xs)
+        → filter p (cond b (x ∷ filter q xs) (filter q xs)) ≡ filter q (cond a (x ∷ filter p xs) (filter p xs))
     by_tests true true is_p is_q rest = rw (is_p, is_q) (ap (λ l. x ∷ l) rest)
     by_tests true false is_p is_q rest = rw is_q rest
     by_tests false true is_p is_q rest = rw is_p rest
     by_tests false false is_p is_q rest = rest
 
-pub among_left : (q : Object → Bool) (objects : List Object) → page_tables_among (filter q objects) ≡ filter q (page_tables_among objects)
+pub among_left : (q : Object → Bool) (objects : List Object)
+    → page_tables_among (filter q objects) ≡ filter q (page_tables_among objects)
 among_left q objects = filter_swapped (λ (o : Object). is_hwpt o.kind) q objects
 
 -- no page table goes
-pub among_stay : (q : Object → Bool) (objects : List Object) → ((o : Object) → is_hwpt o.kind ≡ true → q o ≡ true) → page_tables_among (filter q objects) ≡ page_tables_among objects
+pub among_stay : (q : Object → Bool) (objects : List Object) → ((o : Object) → is_hwpt o.kind ≡ true → q o ≡ true)
+    → page_tables_among (filter q objects) ≡ page_tables_among objects
 among_stay q objects stays =
     among_left q objects
-    ∙ filter_all q (page_tables_among objects) (of_all q (page_tables_among objects) (λ o within. stays o (in_filter (λ (x : Object). is_hwpt x.kind) objects o within).1))
+    ∙ filter_all q (page_tables_among objects)
+    (of_all q (page_tables_among objects) (λ o within. stays o
+    (in_filter (λ (x : Object). is_hwpt x.kind) objects o within).1))
 
 -- ---- those that are kept
 
-objects_left : (q : Object → Bool) (tables : List Hwpt) → map (λ (h : Hwpt). h.object) (filter (λ (h : Hwpt). q h.object) tables) ≡ filter q (map (λ (h : Hwpt). h.object) tables)
+objects_left : (q : Object → Bool) (tables : List Hwpt)
+    → map (λ (h : Hwpt). h.object) (filter (λ (h : Hwpt). q h.object) tables) ≡ filter q
+    (map (λ (h : Hwpt). h.object) tables)
 objects_left q [] = refl
 objects_left q (h ∷ tables) = by_test (q h.object) (objects_left q tables)
   where
-    by_test : (b : Bool) → map (λ (h : Hwpt). h.object) (filter (λ (h : Hwpt). q h.object) tables) ≡ filter q (map (λ (h : Hwpt). h.object) tables)
-        → map (λ (h : Hwpt). h.object) (cond b (h ∷ filter (λ (h : Hwpt). q h.object) tables) (filter (λ (h : Hwpt). q h.object) tables))
-        ≡ cond b (h.object ∷ filter q (map (λ (h : Hwpt). h.object) tables)) (filter q (map (λ (h : Hwpt). h.object) tables))
+    by_test : (b : Bool) → map (λ (h : Hwpt). h.object) (filter (λ (h : Hwpt). q h.object) tables) ≡ filter q
+        (map (λ (h : Hwpt). h.object) tables)
+        → map (λ (h : Hwpt). h.object) (cond b (h ∷ filter (λ (h : Hwpt). q h.object) tables)
+        (filter (λ (h : Hwpt). q h.object) tables))
+        ≡ cond b (h.object ∷ filter q (map (λ (h : Hwpt). h.object) tables))
+        (filter q (map (λ (h : Hwpt). h.object) tables))
     by_test true rest = ap (λ (l : List Object). h.object ∷ l) rest
     by_test false rest = rest
 
 -- the first of an id is the only one
-without_is : (file : FileNo) (id : ObjId) (tables : List Hwpt) → have_own_ids (map (λ (h : Hwpt). h.object) tables) ≡ true → without_hwpt file id tables ≡ filter (λ (h : Hwpt). not (is_object file id h.object)) tables
+without_is : (file : FileNo) (id : ObjId) (tables : List Hwpt)
+    → have_own_ids (map (λ (h : Hwpt). h.object) tables) ≡ true
+    → without_hwpt file id tables ≡ filter (λ (h : Hwpt). not (is_object file id h.object)) tables
 without_is file id [] own = refl
-without_is file id (t ∷ tables) own = by_test (is_object file id t.object) refl (without_is file id tables (own_parts t tables own).1)
+without_is file id (t ∷ tables) own =
+    by_test (is_object file id t.object) refl (without_is file id tables (own_parts t tables own).1)
   where
-    apart : (a b : Object) → is_object file id a ≡ true → is_object a.file a.id b ≡ false → not (is_object file id b) ≡ true
+    apart : (a b : Object) → is_object file id a ≡ true → is_object a.file a.id b ≡ false
+        → not (is_object file id b) ≡ true
     apart a b here other = grind (arith, nat_tests)
 
-    by_test : (b : Bool) → is_object file id t.object ≡ b → without_hwpt file id tables ≡ filter (λ (h : Hwpt). not (is_object file id h.object)) tables
+    by_test : (b : Bool) → is_object file id t.object ≡ b
+        → without_hwpt file id tables ≡ filter (λ (h : Hwpt). not (is_object file id h.object)) tables
         → cond b tables (t ∷ without_hwpt file id tables)
-        ≡ cond (not b) (t ∷ filter (λ (h : Hwpt). not (is_object file id h.object)) tables) (filter (λ (h : Hwpt). not (is_object file id h.object)) tables)
+        ≡ cond (not b) (t ∷ filter (λ (h : Hwpt). not (is_object file id h.object)) tables)
+        (filter (λ (h : Hwpt). not (is_object file id h.object)) tables)
     by_test true is rest =
         sym (filter_all (λ (h : Hwpt). not (is_object file id h.object)) tables
-        (of_all (λ (h : Hwpt). not (is_object file id h.object)) tables (λ h within. apart t.object h.object is (first_alone t tables own h within))))
+        (of_all (λ (h : Hwpt). not (is_object file id h.object)) tables
+        (λ h within. apart t.object h.object is (first_alone t tables own h within))))
     by_test false is rest = ap (λ (l : List Hwpt). t ∷ l) rest
 
-module _ (objects : List Object) (tables : List Hwpt) (are : map (λ (h : Hwpt). h.object) tables ≡ page_tables_among objects) (widths : list_all has_own_width tables ≡ true) where
+module _ (objects : List Object) (tables : List Hwpt)
+    (are : map (λ (h : Hwpt). h.object) tables ≡ page_tables_among objects)
+    (widths : list_all has_own_width tables ≡ true) where
   -- one page table goes
   module _ (file : FileNo) (id : ObjId) (own : have_own_ids (map (λ (h : Hwpt). h.object) tables) ≡ true) where
-    pub one_left : map (λ (h : Hwpt). h.object) (without_hwpt file id tables) ≡ page_tables_among (without_object file id objects)
+    pub one_left : map (λ (h : Hwpt). h.object) (without_hwpt file id tables) ≡ page_tables_among
+        (without_object file id objects)
     one_left =
         ap (map (λ (h : Hwpt). h.object)) (without_is file id tables own)
         ∙ objects_left (λ (o : Object). not (is_object file id o)) tables
@@ -75,10 +95,12 @@ module _ (objects : List Object) (tables : List Hwpt) (are : map (λ (h : Hwpt).
         ∙ sym (among_left (λ (o : Object). not (is_object file id o)) objects)
 
     pub one_widths : list_all has_own_width (without_hwpt file id tables) ≡ true
-    one_widths = ap (list_all has_own_width) (without_is file id tables own) ∙ all_filter has_own_width (λ (h : Hwpt). not (is_object file id h.object)) tables widths
+    one_widths = ap (list_all has_own_width) (without_is file id tables own)
+        ∙ all_filter has_own_width (λ (h : Hwpt). not (is_object file id h.object)) tables widths
 
   -- all of a file go
-  pub file_left : (file : FileNo) → map (λ (h : Hwpt). h.object) (without_file file tables) ≡ page_tables_among (filter (λ (o : Object). not (eqb o.file.0 file.0)) objects)
+  pub file_left : (file : FileNo) → map (λ (h : Hwpt). h.object) (without_file file tables) ≡ page_tables_among
+      (filter (λ (o : Object). not (eqb o.file.0 file.0)) objects)
   file_left file =
       objects_left (λ (o : Object). not (eqb o.file.0 file.0)) tables
       ∙ ap (filter (λ (o : Object). not (eqb o.file.0 file.0))) are

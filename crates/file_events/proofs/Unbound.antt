@@ -1,11 +1,13 @@
 -- A device that is bound no more: its object goes, and by which object it is bound.
-use Rattle.std.proofs.Common.{◌≡◌, ℕ, Bool, true, false, cond, ◌&&◌, ◌||◌, not, eqb, Option, Some, None, List, [], ◌∷◌, map, refl, sym, ◌∙◌, ap, Vec, arith}
+use Rattle.std.proofs.Common.{◌≡◌, ℕ, Bool, true, false, cond, ◌&&◌, ◌||◌, not, eqb, Option, Some, None, List, [], ◌∷◌}
+use Rattle.std.proofs.Common.{map, refl, sym, ◌∙◌, ap, Vec, arith}
 use Rattle.std.specs.List.{filter, find}
 use Rattle.std.proofs.lemmas.Bool.Decides.{nat_tests}
 use Rattle.iofd_words.specs.Areas.{areas_of}
 use Rattle.iofd_words.specs.Checks.{is_device_object, unbind_checks}
 use Rattle.iofd_words.specs.FirstTrue.{first_true}
-use Rattle.iofd_words.specs.Objects.{binding_of, is_bound_as, is_bound_device, is_hwpt, is_ioas, is_object, kind_of, without_device_object, without_object}
+use Rattle.iofd_words.specs.Objects.{binding_of, is_bound_as, is_bound_device, is_hwpt, is_ioas, is_object, kind_of}
+use Rattle.iofd_words.specs.Objects.{without_device_object, without_object}
 use Rattle.iofd_words.specs.View.{view}
 use Rattle.iofd_words.specs.World.{World}
 use Rattle.iofd_words.specs.declared.numbers.DeviceNo.{DeviceNo}
@@ -178,7 +180,8 @@ module _ {A : Type 0} where
         tables = record {
           tables =
               shows.tables.tables
-              ∙ sym (among_stay (λ o. not (is_object file id o && is_bound_device o.kind)) w.objects (stay_tables file id));
+              ∙ sym (among_stay (λ o. not (is_object file id o && is_bound_device o.kind))
+              w.objects (stay_tables file id));
           widths = shows.tables.widths;
           stand = shows.tables.stand;
         };

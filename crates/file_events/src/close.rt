@@ -54,8 +54,9 @@ fn is_device<A: Allocator>(held: &Held<A>) -> bool
     matches!(held, Held::Device(_))
 }
 
-/// What it does where nothing refuses it: the file's objects, allowed ranges and attachments go, and its areas with their memory
-/// objects and the pins of their pages. Its page tables give the frames of their tables back, which are listed by rising number.
+/// What it does where nothing refuses it: the file's objects, allowed ranges and attachments go, and its areas with
+/// their memory objects and the pins of their pages. Its page tables give the frames of their tables back, which are
+/// listed by rising number.
 ///
 /// The only error is want of memory for that list. It leaves the world as it was.
 pub fn commit<A: Allocator>(
@@ -101,7 +102,8 @@ fn reserve_given<A: Allocator>(
     Ok(())
 }
 
-/// How many frames the tables of the file's page tables are in. It visits each entry of each table above the last level.
+/// How many frames the tables of the file's page tables are in. It visits each entry of each table above the last
+/// level.
 fn frames_of<A: Allocator>(state: &State<A>, file: FileNo) -> u64
     requires { IsKnown state.now }
     ensures { IfAllStand state.now.pool state.now.page_tables.tables (λ frames leads.
@@ -128,9 +130,11 @@ fn remove_areas<A: Allocator>(
     pool: &mut Pool<A>,
 )
     requires tables { objects_kept tables.now ≡ page_tables_among (objects_in table.now) }
-    requires may { MayRelease (over (areas_of_rows (rows_of table.now file))) (over (translated_of (objects_in table.now) (rows_of table.now file)))
+    requires may { MayRelease (over (areas_of_rows (rows_of table.now file)))
+        (over (translated_of (objects_in table.now) (rows_of table.now file)))
         memory.old pool.old.holds }
-    ensures { IsReleased (over (areas_of_rows (rows_of table.now file))) (over (translated_of (objects_in table.now) (rows_of table.now file)))
+    ensures { IsReleased (over (areas_of_rows (rows_of table.now file)))
+        (over (translated_of (objects_in table.now) (rows_of table.now file)))
         memory.old memory.new pool.old pool.new }
 {
     for object in table.iter(file) {

@@ -36,7 +36,8 @@ pub fn refusal<A: Allocator>(state: &State<A>, file: FileNo, id: ObjId) -> Optio
     None
 }
 
-/// Whether others stand on the file's object of this id and kind: page tables on an address space, devices on a page table.
+/// Whether others stand on the file's object of this id and kind: page tables on an address space, devices on a page
+/// table.
 fn is_used<A: Allocator>(state: &State<A>, file: FileNo, id: ObjId, kind: ObjectKind) -> bool
     requires { IsKnown state.now }
     ensures { result ≡ is_used (seen state.now) file id (Some kind) }

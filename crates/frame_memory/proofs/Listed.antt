@@ -1,5 +1,6 @@
 -- What the pages of a map are, told by what it finds at each key.
-use Rattle.std.proofs.Common.{◌≡◌, ℕ, zero, suc, ◌&&◌, Bool, true, false, cond, eqb, not, Option, Some, None, List, [], ◌∷◌, length, refl, sym, ap, ◌∙◌, subst, arith, ⊎_elim}
+use Rattle.std.proofs.Common.{◌≡◌, ℕ, zero, suc, ◌&&◌, Bool, true, false, cond, eqb, not, Option, Some, None, List, []}
+use Rattle.std.proofs.Common.{◌∷◌, length, refl, sym, ap, ◌∙◌, subst, arith, ⊎_elim}
 use Rattle.std.specs.List.{AllByRecursion, IsDistinct, filter, find, insert, list_all}
 use Rattle.std.specs.Prelude.{Result, Ok, Err}
 use Rattle.std.specs.Result.{IsOk, OnOk}
@@ -13,7 +14,8 @@ use Rattle.iofd_words.specs.declared.numbers.UserNo.{UserNo}
 use Rattle.iofd_words.specs.declared.rows.UserPage.{UserPage}
 use Rattle.frame_memory.specs.PageFrames.{is_same, pages_of}
 use Rattle.frame_memory.specs.UserPages.{are_rising, count_below, is_below, is_page, user_page, with_page, without_page}
-use Rattle.frame_memory.proofs.Rising.{find_inserted, find_passed, frame_at-find, frame_found, none_after, none_left, rising_less, rising_more, same_page}
+use Rattle.frame_memory.proofs.Rising.{find_inserted, find_passed, frame_at-find, frame_found, none_after, none_left}
+use Rattle.frame_memory.proofs.Rising.{rising_less, rising_more, same_page}
 
 abbrev pub Entries : Type 0
 Entries = List ((ℕ × ℕ) × FrameNo)
@@ -39,15 +41,19 @@ same_key k q same =
     λ i. (first i, second i)
 
 -- a key that differs from all isn't found
-pub not_among : (k : ℕ × ℕ) (es : Entries) → AllByRecursion (λ q. is_same k q ≡ false) (keys_of es) → lookup (is_same k) es ≡ None
+pub not_among : (k : ℕ × ℕ) (es : Entries) → AllByRecursion (λ q. is_same k q ≡ false) (keys_of es)
+    → lookup (is_same k) es ≡ None
 not_among k [] all = refl
 not_among k (e ∷ es) all = rw all.0 (not_among k es all.1)
 
-pub differs : (k : ℕ × ℕ) (es : Entries) → lookup (is_same k) es ≡ None → AllByRecursion (λ q. is_same k q ≡ false) (keys_of es)
+pub differs : (k : ℕ × ℕ) (es : Entries) → lookup (is_same k) es ≡ None
+    → AllByRecursion (λ q. is_same k q ≡ false) (keys_of es)
 differs k [] none = tt
 differs k (e ∷ es) none = by_test (is_same k e.0) refl none (differs k es)
   where
-    by_test : (b : Bool) → is_same k e.0 ≡ b → cond b (Some e.1) (lookup (is_same k) es) ≡ None → (lookup (is_same k) es ≡ None → AllByRecursion (λ q. is_same k q ≡ false) (keys_of es)) → AllByRecursion (λ q. is_same k q ≡ false) (keys_of (e ∷ es))
+    by_test : (b : Bool) → is_same k e.0 ≡ b → cond b (Some e.1) (lookup (is_same k) es) ≡ None
+        → (lookup (is_same k) es ≡ None → AllByRecursion (λ q. is_same k q ≡ false) (keys_of es))
+        → AllByRecursion (λ q. is_same k q ≡ false) (keys_of (e ∷ es))
     by_test true is found others = cc
     by_test false is later others = (is, others later)
 
@@ -58,7 +64,8 @@ abbrev pub row_found : UserNo → ℕ → Option FrameNo → Option UserPage
 row_found user page None = None
 row_found user page (Some frame) = Some (user_page user page frame)
 
-pub find_page : (es : Entries) → IsDistinct is_same (keys_of es) → (user : UserNo) (page : ℕ) → find (is_page user page) (pages_of es) ≡ row_found user page (lookup (is_same (key_of user page)) es)
+pub find_page : (es : Entries) → IsDistinct is_same (keys_of es) → (user : UserNo) (page : ℕ)
+    → find (is_page user page) (pages_of es) ≡ row_found user page (lookup (is_same (key_of user page)) es)
 find_page [] distinct user page = refl
 find_page (e ∷ es) distinct user page =
     let rest = find_page es (IsDistinct-tail is_same e.0 (keys_of es) distinct) user page in
@@ -69,7 +76,8 @@ find_page (e ∷ es) distinct user page =
     (λ (here : is_same (key_of user page) e.0 ≡ true).
     let same : key_of user page ≡ e.0 = same_key (key_of user page) e.0 here in
     let others = not_among e.0 es (IsDistinct-head is_same e.0 (keys_of es) distinct) in
-    let none : find (is_page user page) (pages_of es) ≡ None = rest ∙ ap (λ k. row_found user page (lookup (is_same k) es)) same ∙ ap (row_found user page) others in
+    let none : find (is_page user page) (pages_of es) ≡ None =
+    rest ∙ ap (λ k. row_found user page (lookup (is_same k) es)) same ∙ ap (row_found user page) others in
     find_inserted (is_page user page) (pages_of es) place row (tests ∙ here) none
     ∙ sym (ap (λ (k : ℕ × ℕ). Some (user_page (record { 0 = k.0 }) k.1 e.1)) same)
     ∙ sym (ap (λ (b : Bool). row_found user page (cond b (Some e.1) (lookup (is_same (key_of user page)) es))) here))
@@ -79,9 +87,11 @@ find_page (e ∷ es) distinct user page =
     ∙ sym (ap (λ (b : Bool). row_found user page (cond b (Some e.1) (lookup (is_same (key_of user page)) es))) other))
     (cases_Bool (is_same (key_of user page) e.0))
 
-pub frame_of_page : (es : Entries) → IsDistinct is_same (keys_of es) → (user : UserNo) (page : ℕ) → frame_at (pages_of es) user page ≡ lookup (is_same (key_of user page)) es
+pub frame_of_page : (es : Entries) → IsDistinct is_same (keys_of es) → (user : UserNo) (page : ℕ)
+    → frame_at (pages_of es) user page ≡ lookup (is_same (key_of user page)) es
 frame_of_page es distinct user page =
-    frame_at-find (pages_of es) user page ∙ ap frame_found (find_page es distinct user page) ∙ by_cases (lookup (is_same (key_of user page)) es)
+    frame_at-find (pages_of es) user page ∙ ap frame_found (find_page es distinct user page)
+    ∙ by_cases (lookup (is_same (key_of user page)) es)
   where
     by_cases : (o : Option FrameNo) → frame_found (row_found user page o) ≡ o
     by_cases None = refl
@@ -93,7 +103,8 @@ rising_pages (e ∷ es) distinct =
     let row = row_of e in
     let rest = IsDistinct-tail is_same e.0 (keys_of es) distinct in
     let others = not_among e.0 es (IsDistinct-head is_same e.0 (keys_of es) distinct) in
-    rising_more row (pages_of es) (rising_pages es rest) (find_page es rest row.user row.page ∙ ap (row_found row.user row.page) others)
+    rising_more row (pages_of es) (rising_pages es rest) (find_page es rest row.user row.page
+    ∙ ap (row_found row.user row.page) others)
 
 -- ---- rising pages are told by what is found among them
 
@@ -101,7 +112,8 @@ rising_pages (e ∷ es) distinct =
 is_first : (row : UserPage) → is_page row.user row.page row ≡ true
 is_first row = grind (arith, nat_tests)
 
-after_both : (row x : UserPage) → is_below row.user row.page x ≡ false → is_page row.user row.page x ≡ false → is_below x.user x.page row ≡ true
+after_both : (row x : UserPage) → is_below row.user row.page x ≡ false → is_page row.user row.page x ≡ false
+    → is_below x.user x.page row ≡ true
 after_both row x reached differ = grind (arith, nat_tests)
 
 not_below_first : (x y : UserPage) → is_below y.user y.page x ≡ true → is_below x.user x.page y ≡ false
@@ -114,7 +126,8 @@ not_below_itself : (row : UserPage) → is_below row.user row.page row ≡ false
 not_below_itself row = grind (arith, nat_tests)
 
 -- a row that stands before the first of others isn't found among them
-before_all : (x y : UserPage) (ys : List UserPage) → are_rising (y ∷ ys) ≡ true → is_below y.user y.page x ≡ true → find (is_page x.user x.page) (y ∷ ys) ≡ None
+before_all : (x y : UserPage) (ys : List UserPage) → are_rising (y ∷ ys) ≡ true → is_below y.user y.page x ≡ true
+    → find (is_page x.user x.page) (y ∷ ys) ≡ None
 before_all x y ys rising below =
     let parts = and_parts (list_all (λ next. is_below next.user next.page y) ys) (are_rising ys) rising in
     rw (not_same_behind x y below) (none_after x.user x.page y ys parts.0 (not_below_first x y below))
@@ -126,20 +139,23 @@ abbrev FindSame : List UserPage → List UserPage → Type 0
 FindSame xs ys = (user : UserNo) (page : ℕ) → find (is_page user page) xs ≡ find (is_page user page) ys
 
 -- where the first rows are of one page, they are one row
-same_first : (x y : UserPage) (xs ys : List UserPage) → FindSame (x ∷ xs) (y ∷ ys) → is_page x.user x.page y ≡ true → x ≡ y
+same_first : (x y : UserPage) (xs ys : List UserPage) → FindSame (x ∷ xs) (y ∷ ys) → is_page x.user x.page y ≡ true
+    → x ≡ y
 same_first x y xs ys same here =
     let there : find (is_page x.user x.page) (y ∷ ys) ≡ Some y = rw here refl in
     let one : Some x ≡ Some y = sym (found_first x xs) ∙ same x.user x.page ∙ there in
     cc
 
 -- behind one first row the same is found
-same_behind : (x : UserPage) (xs ys : List UserPage) → are_rising (x ∷ xs) ≡ true → are_rising (x ∷ ys) ≡ true → FindSame (x ∷ xs) (x ∷ ys) → FindSame xs ys
+same_behind : (x : UserPage) (xs ys : List UserPage) → are_rising (x ∷ xs) ≡ true → are_rising (x ∷ ys) ≡ true
+    → FindSame (x ∷ xs) (x ∷ ys) → FindSame xs ys
 same_behind x xs ys rising others same user page =
     let first = and_parts (list_all (λ next. is_below next.user next.page x) xs) (are_rising xs) rising in
     let second = and_parts (list_all (λ next. is_below next.user next.page x) ys) (are_rising ys) others in
     ⊎_elim
     (λ (here : is_page user page x ≡ true).
-    let none : (zs : List UserPage) → list_all (λ next. is_below next.user next.page x) zs ≡ true → find (is_page user page) zs ≡ None = λ zs after.
+    let none : (zs : List UserPage) → list_all (λ next. is_below next.user next.page x) zs ≡ true
+    → find (is_page user page) zs ≡ None = λ zs after.
     sym (same_page user page x zs here) ∙ none_after x.user x.page x zs after (not_below_itself x) in
     none xs first.0 ∙ sym (none ys second.0))
     (λ (other : is_page user page x ≡ false).
@@ -168,12 +184,14 @@ same_pages (x ∷ xs) (y ∷ ys) rising others same =
     let tails = same_tails (sym one) rising others same (same_pages xs ys) in
     ap (λ z. z ∷ xs) (sym one) ∙ ap (λ zs. y ∷ zs) tails)
     (λ (differ : is_page y.user y.page x ≡ false).
-    let none : Some y ≡ None = sym (found_first y ys) ∙ sym (same y.user y.page) ∙ before_all y x xs rising (after_both y x reached differ) in
+    let none : Some y ≡ None =
+    sym (found_first y ys) ∙ sym (same y.user y.page) ∙ before_all y x xs rising (after_both y x reached differ) in
     cc)
     (cases_Bool (is_page y.user y.page x)))
     (cases_Bool (is_below y.user y.page x))
   where
-    same_tails : x ≡ y → are_rising (x ∷ xs) ≡ true → are_rising (y ∷ ys) ≡ true → FindSame (x ∷ xs) (y ∷ ys) → (are_rising xs ≡ true → are_rising ys ≡ true → FindSame xs ys → xs ≡ ys) → xs ≡ ys
+    same_tails : x ≡ y → are_rising (x ∷ xs) ≡ true → are_rising (y ∷ ys) ≡ true → FindSame (x ∷ xs) (y ∷ ys)
+        → (are_rising xs ≡ true → are_rising ys ≡ true → FindSame xs ys → xs ≡ ys) → xs ≡ ys
     same_tails one rises rise finds behind =
         let P : UserPage → Type 0 = λ z. are_rising (z ∷ ys) ≡ true → FindSame (x ∷ xs) (z ∷ ys) → xs ≡ ys in
         subst P one
@@ -185,44 +203,60 @@ same_pages (x ∷ xs) (y ∷ ys) rising others same =
 
 -- ---- maps that find the same, one more, or one less
 
-pub same_map : (es fs : Entries) → IsDistinct is_same (keys_of es) → IsDistinct is_same (keys_of fs) → ((q : ℕ × ℕ) → lookup (is_same q) fs ≡ lookup (is_same q) es) → pages_of fs ≡ pages_of es
+pub same_map : (es fs : Entries) → IsDistinct is_same (keys_of es) → IsDistinct is_same (keys_of fs)
+    → ((q : ℕ × ℕ) → lookup (is_same q) fs ≡ lookup (is_same q) es) → pages_of fs ≡ pages_of es
 same_map es fs old new same =
-    same_pages (pages_of fs) (pages_of es) (rising_pages fs new) (rising_pages es old) (λ user page. find_page fs new user page ∙ ap (row_found user page) (same (key_of user page)) ∙ sym (find_page es old user page))
+    same_pages (pages_of fs) (pages_of es) (rising_pages fs new) (rising_pages es old)
+    (λ user page. find_page fs new user page ∙ ap (row_found user page) (same (key_of user page))
+    ∙ sym (find_page es old user page))
 
-pub one_added : (es fs : Entries) (user : UserNo) (page : ℕ) (frame : FrameNo) → IsDistinct is_same (keys_of es) → IsDistinct is_same (keys_of fs) → lookup (is_same (key_of user page)) es ≡ None → ((q : ℕ × ℕ) → lookup (is_same q) fs ≡ cond (is_same (key_of user page) q) (Some frame) (lookup (is_same q) es)) → pages_of fs ≡ with_page (pages_of es) user page frame
+pub one_added : (es fs : Entries) (user : UserNo) (page : ℕ) (frame : FrameNo) → IsDistinct is_same (keys_of es)
+    → IsDistinct is_same (keys_of fs) → lookup (is_same (key_of user page)) es ≡ None
+    → ((q : ℕ × ℕ) → lookup (is_same q) fs ≡ cond (is_same (key_of user page) q) (Some frame) (lookup (is_same q) es))
+    → pages_of fs ≡ with_page (pages_of es) user page frame
 one_added es fs user page frame old new absent updated =
     let k = key_of user page in
-    same_map ((k, frame) ∷ es) fs (IsDistinct-cons is_same k (keys_of es) (differs k es absent) old) new (λ q. updated q ∙ ap (λ (b : Bool). cond b (Some frame) (lookup (is_same q) es)) (flip k q))
+    same_map ((k, frame) ∷ es) fs (IsDistinct-cons is_same k (keys_of es) (differs k es absent) old) new (λ q. updated q
+    ∙ ap (λ (b : Bool). cond b (Some frame) (lookup (is_same q) es)) (flip k q))
 
 -- what fails a test is found as before when those that pass have gone
-find_left : (p q : UserPage → Bool) (rows : List UserPage) → ((row : UserPage) → p row ≡ true → q row ≡ false) → find p (filter (λ row. not (q row)) rows) ≡ find p rows
+find_left : (p q : UserPage → Bool) (rows : List UserPage) → ((row : UserPage) → p row ≡ true → q row ≡ false)
+    → find p (filter (λ row. not (q row)) rows) ≡ find p rows
 find_left p q [] apart = refl
 find_left p q (x ∷ rows) apart =
     let rest = find_left p q rows apart in
     ⊎_elim
     (λ (gone : q x ≡ true).
-    let other : p x ≡ false = ⊎_elim (λ (yes : p x ≡ true). let no = apart x yes in cc) (λ (no : p x ≡ false). no) (cases_Bool (p x)) in
+    let other : p x ≡ false =
+    ⊎_elim (λ (yes : p x ≡ true). let no = apart x yes in cc) (λ (no : p x ≡ false). no) (cases_Bool (p x)) in
     rw (gone, other) rest)
     (λ (stays : q x ≡ false). rw stays (ap (λ found. cond (p x) (Some x) found) rest))
     (cases_Bool (q x))
 
 -- a row isn't of two pages
-apart_pages : (user other : UserNo) (page at : ℕ) (row : UserPage) → is_same (key_of user page) (key_of other at) ≡ false → is_page other at row ≡ true → is_page user page row ≡ false
+apart_pages : (user other : UserNo) (page at : ℕ) (row : UserPage)
+    → is_same (key_of user page) (key_of other at) ≡ false → is_page other at row ≡ true → is_page user page row ≡ false
 apart_pages user other page at row differ here = grind (arith, nat_tests)
 
-find_without : (rows : List UserPage) (user other : UserNo) (page at : ℕ) → find (is_page other at) (without_page rows user page) ≡ cond (is_same (key_of user page) (key_of other at)) None (find (is_page other at) rows)
+find_without : (rows : List UserPage) (user other : UserNo) (page at : ℕ)
+    → find (is_page other at) (without_page rows user page) ≡ cond (is_same (key_of user page) (key_of other at)) None
+    (find (is_page other at) rows)
 find_without rows user other page at =
     ⊎_elim
     (λ (here : is_same (key_of user page) (key_of other at) ≡ true).
     let same : key_of user page ≡ key_of other at = same_key (key_of user page) (key_of other at) here in
     let P : ℕ × ℕ → Type 0 = λ k. find (is_page (record { 0 = k.0 }) k.1) (without_page rows user page) ≡ None in
-    subst P same (none_left (is_page user page) rows) ∙ sym (ap (λ (b : Bool). cond b None (find (is_page other at) rows)) here))
+    subst P same (none_left (is_page user page) rows)
+    ∙ sym (ap (λ (b : Bool). cond b None (find (is_page other at) rows)) here))
     (λ (differ : is_same (key_of user page) (key_of other at) ≡ false).
     find_left (is_page other at) (is_page user page) rows (λ row here. apart_pages user other page at row differ here)
     ∙ sym (ap (λ (b : Bool). cond b None (find (is_page other at) rows)) differ))
     (cases_Bool (is_same (key_of user page) (key_of other at)))
 
-pub one_removed : (es fs : Entries) (user : UserNo) (page : ℕ) → IsDistinct is_same (keys_of es) → IsDistinct is_same (keys_of fs) → ((q : ℕ × ℕ) → lookup (is_same q) fs ≡ cond (is_same (key_of user page) q) None (lookup (is_same q) es)) → pages_of fs ≡ without_page (pages_of es) user page
+pub one_removed : (es fs : Entries) (user : UserNo) (page : ℕ) → IsDistinct is_same (keys_of es)
+    → IsDistinct is_same (keys_of fs) → ((q : ℕ × ℕ)
+    → lookup (is_same q) fs ≡ cond (is_same (key_of user page) q) None (lookup (is_same q) es))
+    → pages_of fs ≡ without_page (pages_of es) user page
 one_removed es fs user page old new updated =
     let k = key_of user page in
     same_pages (pages_of fs) (without_page (pages_of es) user page)
@@ -235,7 +269,8 @@ one_removed es fs user page old new updated =
     ∙ ap (λ (o : Option UserPage). cond (is_same k (key_of other at)) None o) (sym (find_page es old other at))
     ∙ sym (find_without (pages_of es) user other page at))
   where
-    passed : (other : UserNo) (at : ℕ) (b : Bool) (o : Option FrameNo) → row_found other at (cond b None o) ≡ cond b None (row_found other at o)
+    passed : (other : UserNo) (at : ℕ) (b : Bool) (o : Option FrameNo)
+        → row_found other at (cond b None o) ≡ cond b None (row_found other at o)
     passed other at true o = refl
     passed other at false o = refl
 
@@ -253,22 +288,26 @@ length_pages (e ∷ es) =
     let row = row_of e in
     length_inserted (pages_of es) (count_below (pages_of es) row.user row.page) row ∙ ap suc (length_pages es)
 
-all_with : (p : UserPage → Bool) (rows : List UserPage) (n : ℕ) (row : UserPage) → list_all p (insert rows n row) ≡ (p row && list_all p rows)
+all_with : (p : UserPage → Bool) (rows : List UserPage) (n : ℕ) (row : UserPage)
+    → list_all p (insert rows n row) ≡ (p row && list_all p rows)
 all_with p [] zero row = refl
 all_with p [] (suc n) row = refl
 all_with p (x ∷ rows) zero row = refl
-all_with p (x ∷ rows) (suc n) row = ap (λ rest. p x && rest) (all_with p rows n row) ∙ swapped (p x) (p row) (list_all p rows)
+all_with p (x ∷ rows) (suc n) row =
+    ap (λ rest. p x && rest) (all_with p rows n row) ∙ swapped (p x) (p row) (list_all p rows)
   where
     swapped : (a b c : Bool) → (a && (b && c)) ≡ (b && (a && c))
     swapped true b c = refl
     swapped false true c = refl
     swapped false false c = refl
 
-pub all_frames : (test : FrameNo → Bool) (es : Entries) → list_all (λ row. test row.frame) (pages_of es) ≡ list_all test (values_of es)
+pub all_frames : (test : FrameNo → Bool) (es : Entries)
+    → list_all (λ row. test row.frame) (pages_of es) ≡ list_all test (values_of es)
 all_frames test [] = refl
 all_frames test (e ∷ es) =
     let row = row_of e in
-    all_with (λ r. test r.frame) (pages_of es) (count_below (pages_of es) row.user row.page) row ∙ ap (λ rest. test e.1 && rest) (all_frames test es)
+    all_with (λ r. test r.frame) (pages_of es) (count_below (pages_of es) row.user row.page) row
+    ∙ ap (λ rest. test e.1 && rest) (all_frames test es)
 
 -- ---- small steps
 
@@ -277,7 +316,8 @@ from_ok (Ok x) P ok said = said
 from_ok (Err y) P ok said = cc
 
 -- a page that has no frame isn't there
-pub not_found : (rows : List UserPage) (user : UserNo) (page : ℕ) → frame_at rows user page ≡ None → find (is_page user page) rows ≡ None
+pub not_found : (rows : List UserPage) (user : UserNo) (page : ℕ) → frame_at rows user page ≡ None
+    → find (is_page user page) rows ≡ None
 not_found rows user page absent = by_cases (find (is_page user page) rows) (sym (frame_at-find rows user page) ∙ absent)
   where
     by_cases : (o : Option UserPage) → frame_found o ≡ None → o ≡ None

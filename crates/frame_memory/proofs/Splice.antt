@@ -14,11 +14,15 @@ module _ (xs ys : List ℕ) (a k : ℕ) (within : a ≤ length xs) (long : lengt
   read_back = rw (splice_mid xs ys a k) (between-put_mid a k xs ys (a + k) within (omega arith))
 
   -- a part that ends before it, or begins behind it
-  pub read_apart : (at n : ℕ) → (at + n ≤ a) ⊎ (a + k ≤ at) → slice_range (splice xs a (a + k) ys) at (at + n) ≡ slice_range xs at (at + n)
+  pub read_apart : (at n : ℕ) → (at + n ≤ a) ⊎ (a + k ≤ at)
+      → slice_range (splice xs a (a + k) ys) at (at + n) ≡ slice_range xs at (at + n)
   read_apart at n apart =
       rw (splice_mid xs ys a k)
       (⊎_elim
       (λ (below : at + n ≤ a).
-      between_is (put_mid a k xs ys) at (at + n) ∙ ap (λ (zs : List ℕ). drop at zs) (take-put_mid_below a k xs ys (at + n) below within) ∙ sym (between_is xs at (at + n)))
-      (λ (above : a + k ≤ at). ap (λ (zs : List ℕ). take (at + n - at) zs) (drop-put_mid a k xs ys at above within long))
+      between_is (put_mid a k xs ys) at (at + n)
+      ∙ ap (λ (zs : List ℕ). drop at zs) (take-put_mid_below a k xs ys (at + n) below within)
+      ∙ sym (between_is xs at (at + n)))
+      (λ (above : a + k ≤ at). ap (λ (zs : List ℕ). take (at + n - at) zs)
+      (drop-put_mid a k xs ys at above within long))
       apart)

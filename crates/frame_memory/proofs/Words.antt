@@ -1,11 +1,13 @@
 -- One bit of the words that tell the free frames.
-use Rattle.std.proofs.Common.{zero, suc, ◌≡◌, ◌≢◌, ℕ, ◌+◌, ◌*◌, ◌/◌, ◌%◌, ◌^◌, ◌<◌, true, false, not, eqb, List, length, get_or, set, replicate, refl, arith, ⊎_elim}
+use Rattle.std.proofs.Common.{zero, suc, ◌≡◌, ◌≢◌, ℕ, ◌+◌, ◌*◌, ◌/◌, ◌%◌, ◌^◌, ◌<◌, true, false, not, eqb, List, length}
+use Rattle.std.proofs.Common.{get_or, set, replicate, refl, arith, ⊎_elim}
 use Rattle.std.specs.Int.{bit_at, bit_not, trailing_zeros, w64}
 use Rattle.std.specs.Int.RustNames.{bit_and, bit_or}
 use Rattle.std.proofs.lemmas.Bool.{cases_eq}
 use Rattle.std.proofs.lemmas.Bool.Decides.{nat_tests}
 use Rattle.std.proofs.lemmas.List.{get_or-set_same, get_or-set_other, length-set}
-use Rattle.std.proofs.lemmas.Nat.Bits.{bit_at-zero, bit_at-trailing_zeros, bit_at_set_same, bit_at_set_other, bit_at_clear_same, bit_at_clear_other}
+use Rattle.std.proofs.lemmas.Nat.Bits.{bit_at-zero, bit_at-trailing_zeros, bit_at_set_same, bit_at_set_other}
+use Rattle.std.proofs.lemmas.Nat.Bits.{bit_at_clear_same, bit_at_clear_other}
 use Rattle.frame_memory.specs.FreeMap.{has_frame, IsLeast, IsSummed}
 
 -- a frame's word and bit name it
@@ -13,10 +15,13 @@ same_place : (f g : ℕ) → f / 64 ≡ g / 64 → f % 64 ≡ g % 64 → f ≡ g
 same_place f g words bits = omega arith
 
 -- words that have another number in the place of a frame's word
-written : (words : List ℕ) (f n bit : ℕ) → f / 64 < length words → bit_at n (f % 64) ≡ bit → has_frame (set words (f / 64) n) f ≡ eqb bit 1
+written : (words : List ℕ) (f n bit : ℕ) → f / 64 < length words → bit_at n (f % 64) ≡ bit
+    → has_frame (set words (f / 64) n) f ≡ eqb bit 1
 written words f n bit room is = rw (get_or-set_same words (f / 64) n 0 room, is) refl
 
-written_other : (words : List ℕ) (f g n : ℕ) → f / 64 < length words → g ≢ f → ((i : ℕ) → i < 64 → i ≢ f % 64 → bit_at n i ≡ bit_at (get_or words (f / 64) 0) i) → has_frame (set words (f / 64) n) g ≡ has_frame words g
+written_other : (words : List ℕ) (f g n : ℕ) → f / 64 < length words → g ≢ f
+    → ((i : ℕ) → i < 64 → i ≢ f % 64 → bit_at n i ≡ bit_at (get_or words (f / 64) 0) i)
+    → has_frame (set words (f / 64) n) g ≡ has_frame words g
 written_other words f g n room differ same =
     ⊎_elim
     (λ (word_is : g / 64 ≡ f / 64).
@@ -38,23 +43,29 @@ some_bit n b is =
     ⊎_elim (λ (zero : n ≡ 0). absurd (let none : bit_at n b ≡ 0 = rw zero (bit_at-zero b) in omega (arith, none, is)))
     (λ (other : n ≢ 0). grind (arith, nat_tests)) (cases_eq n 0)
 
-module _ (words : List ℕ) (f w b : ℕ) (count : length words ≡ 64) (within : f < 4096) (word : w ≡ f / 64) (bit : b ≡ f % 64) where
+module _ (words : List ℕ) (f w b : ℕ) (count : length words ≡ 64) (within : f < 4096) (word : w ≡ f / 64)
+    (bit : b ≡ f % 64) where
   pub set_this : has_frame (set words w (with_bit (get_or words w 0) b)) f ≡ true
-  set_this = rw (word, bit) (written words f _ 1 (omega arith) (bit_at_set_same w64 (get_or words (f / 64) 0) (f % 64) (omega arith)))
+  set_this = rw (word, bit) (written words f _ 1 (omega arith)
+      (bit_at_set_same w64 (get_or words (f / 64) 0) (f % 64) (omega arith)))
 
   pub set_others : (g : ℕ) → g ≢ f → has_frame (set words w (with_bit (get_or words w 0) b)) g ≡ has_frame words g
   set_others g differ =
-      rw (word, bit) (written_other words f g _ (omega arith) differ (λ i small other. bit_at_set_other w64 (get_or words (f / 64) 0) (f % 64) (omega arith) i other))
+      rw (word, bit) (written_other words f g _ (omega arith) differ
+      (λ i small other. bit_at_set_other w64 (get_or words (f / 64) 0) (f % 64) (omega arith) i other))
 
   pub clear_this : has_frame (set words w (without_bit (get_or words w 0) b)) f ≡ false
-  clear_this = rw (word, bit) (written words f _ 0 (omega arith) (bit_at_clear_same w64 (get_or words (f / 64) 0) (f % 64) (omega arith)))
+  clear_this = rw (word, bit) (written words f _ 0 (omega arith)
+      (bit_at_clear_same w64 (get_or words (f / 64) 0) (f % 64) (omega arith)))
 
   pub clear_others : (g : ℕ) → g ≢ f → has_frame (set words w (without_bit (get_or words w 0) b)) g ≡ has_frame words g
   clear_others g differ =
-      rw (word, bit) (written_other words f g _ (omega arith) differ (λ i small other. bit_at_clear_other w64 (get_or words (f / 64) 0) (f % 64) (omega arith) i small other))
+      rw (word, bit) (written_other words f g _ (omega arith) differ
+      (λ i small other. bit_at_clear_other w64 (get_or words (f / 64) 0) (f % 64) (omega arith) i small other))
 
 -- a summary with one bit written, over words with one word written
-summed : (words : List ℕ) (summary new w n : ℕ) → IsSummed words summary → w < 64 → eqb (bit_at new w) 1 ≡ not (eqb n 0) → ((i : ℕ) → i < 64 → i ≢ w → bit_at new i ≡ bit_at summary i) → IsSummed (set words w n) new
+summed : (words : List ℕ) (summary new w n : ℕ) → IsSummed words summary → w < 64 → eqb (bit_at new w) 1 ≡ not (eqb n 0)
+    → ((i : ℕ) → i < 64 → i ≢ w → bit_at new i ≡ bit_at summary i) → IsSummed (set words w n) new
 summed words summary new w n is small here others = record {
   count = rw (length-set words w n) is.count;
   bits = λ k within. ⊎_elim
@@ -63,13 +74,16 @@ summed words summary new w n is small here others = record {
       (cases_eq k w);
 }
 
-pub summed-set : (words : List ℕ) (summary w b : ℕ) → IsSummed words summary → w < 64 → b < 64 → IsSummed (set words w (with_bit (get_or words w 0) b)) (with_bit summary w)
+pub summed-set : (words : List ℕ) (summary w b : ℕ) → IsSummed words summary → w < 64 → b < 64
+    → IsSummed (set words w (with_bit (get_or words w 0) b)) (with_bit summary w)
 summed-set words summary w b is small low =
     let some = some_bit _ b (bit_at_set_same w64 (get_or words w 0) b low) in
-    summed words summary _ w _ is small (rw (bit_at_set_same w64 summary w small, some) refl) (λ i within differ. bit_at_set_other w64 summary w small i differ)
+    summed words summary _ w _ is small (rw (bit_at_set_same w64 summary w small, some) refl)
+    (λ i within differ. bit_at_set_other w64 summary w small i differ)
 
 -- a word of which something is left
-pub summed-left : (words : List ℕ) (summary w b : ℕ) → IsSummed words summary → w < 64 → b < 64 → without_bit (get_or words w 0) b ≢ 0 → IsSummed (set words w (without_bit (get_or words w 0) b)) summary
+pub summed-left : (words : List ℕ) (summary w b : ℕ) → IsSummed words summary → w < 64 → b < 64
+    → without_bit (get_or words w 0) b ≢ 0 → IsSummed (set words w (without_bit (get_or words w 0) b)) summary
 summed-left words summary w b is small low left =
     let bits = is.bits w small in
     let n = without_bit (get_or words w 0) b in
@@ -77,9 +91,11 @@ summed-left words summary w b is small low left =
     summed words summary summary w n is small (grind (arith, nat_tests)) (λ i within differ. refl)
 
 -- a word of which nothing is left
-pub summed-none : (words : List ℕ) (summary w n : ℕ) → IsSummed words summary → w < 64 → n ≡ 0 → IsSummed (set words w n) (without_bit summary w)
+pub summed-none : (words : List ℕ) (summary w n : ℕ) → IsSummed words summary → w < 64 → n ≡ 0
+    → IsSummed (set words w n) (without_bit summary w)
 summed-none words summary w n is small none =
-    summed words summary _ w n is small (rw (bit_at_clear_same w64 summary w small, none) refl) (λ i within differ. bit_at_clear_other w64 summary w small i within differ)
+    summed words summary _ w n is small (rw (bit_at_clear_same w64 summary w small, none) refl)
+    (λ i within differ. bit_at_clear_other w64 summary w small i within differ)
 
 -- no frame is in words of zero
 zeros : (n i : ℕ) → ◌≡◌ {A = ℕ} (get_or (replicate n 0) i 0) 0
@@ -94,14 +110,18 @@ pub none_summed : IsSummed (replicate 64 0) 0
 none_summed = record { count = refl; bits = λ k within. rw (zeros 64 k, bit_at-zero) refl }
 
 -- a word whose bit in the summary is clear is 0
-empty_word : (words : List ℕ) (summary k : ℕ) → IsSummed words summary → k < 64 → bit_at summary k ≡ 0 → get_or words k 0 ≡ 0
+empty_word : (words : List ℕ) (summary k : ℕ) → IsSummed words summary → k < 64 → bit_at summary k ≡ 0
+    → get_or words k 0 ≡ 0
 empty_word words summary k is within off =
     let bits = is.bits k within in
     let clear : eqb (bit_at summary k) 1 ≡ false = rw off refl in
-    ⊎_elim (λ (none : get_or words k 0 ≡ 0). none) (λ (full : get_or words k 0 ≢ 0). grind (arith, nat_tests)) (cases_eq (get_or words k 0) 0)
+    ⊎_elim (λ (none : get_or words k 0 ≡ 0). none) (λ (full : get_or words k 0 ≢ 0). grind (arith, nat_tests))
+    (cases_eq (get_or words k 0) 0)
 
 -- the least frame: the lowest bit of the first word that isn't 0
-pub least : (words : List ℕ) (summary k : ℕ) → IsSummed words summary → summary ≢ 0 → summary < 2 ^ 64 → k ≡ trailing_zeros w64 summary → get_or words k 0 < 2 ^ 64 → IsLeast words (64 * k + trailing_zeros w64 (get_or words k 0))
+pub least : (words : List ℕ) (summary k : ℕ) → IsSummed words summary → summary ≢ 0 → summary < 2 ^ 64
+    → k ≡ trailing_zeros w64 summary → get_or words k 0 < 2 ^ 64
+    → IsLeast words (64 * k + trailing_zeros w64 (get_or words k 0))
 least words summary k is some small at low =
     let top = bit_at-trailing_zeros w64 summary (omega arith) small in
     let word = get_or words k 0 in

@@ -1,7 +1,9 @@
 //! The pool of frames.
 
-ghost use Rattle.std.specs.Prelude.{ℕ, ◌≡◌, ◌≢◌, ◌⊎◌, ◌<◌, ◌≤◌, ◌+◌, ◌-◌, ◌^◌, nat_lt, false, length, slice_index, replicate, is_some, IfOk, IfSome, IfNone, OnErr};
-ghost use Rattle.frame_memory.specs.Pool.{fresh, is_free, least_free, free_count, may_hold, with_holds, given, bytes_at, written, word_at, with_word, zeros, AreApart};
+ghost use Rattle.std.specs.Prelude.{ℕ, ◌≡◌, ◌≢◌, ◌⊎◌, ◌<◌, ◌≤◌, ◌+◌, ◌-◌, ◌^◌, nat_lt, false, length, slice_index};
+ghost use Rattle.std.specs.Prelude.{replicate, is_some, IfOk, IfSome, IfNone, OnErr};
+ghost use Rattle.frame_memory.specs.Pool.{fresh, is_free, least_free, free_count, may_hold, with_holds, given};
+ghost use Rattle.frame_memory.specs.Pool.{bytes_at, written, word_at, with_word, zeros, AreApart};
 
 use crate::content::{overwrite, word_of, zero_bytes};
 use crate::free_map::FreeMap;

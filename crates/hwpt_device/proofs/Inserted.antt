@@ -1,5 +1,6 @@
 -- A page table that maps no page comes beside others.
-use Rattle.std.proofs.Common.{◌≡◌, ℕ, ◌+◌, ◌≤◌, ◌⊎◌, inl, inr, Bool, true, false, cond, ◌&&◌, eqb, Option, Some, None, List, [], ◌∷◌, ◌++◌, map, refl, ap, subst, sym, ◌∙◌, arith, ◌||◌, IfSome, Ok, Result}
+use Rattle.std.proofs.Common.{◌≡◌, ℕ, ◌+◌, ◌≤◌, ◌⊎◌, inl, inr, Bool, true, false, cond, ◌&&◌, eqb, Option, Some, None}
+use Rattle.std.proofs.Common.{List, [], ◌∷◌, ◌++◌, map, refl, ap, subst, sym, ◌∙◌, arith, ◌||◌, IfSome, Ok, Result}
 use Rattle.std.specs.List.{filter, list_any}
 use Rattle.std.specs.Int.{from_le_bytes, w64}
 use Rattle.std.specs.Prelude.{◌*◌, slice_index, slice_range}
@@ -25,7 +26,8 @@ use Rattle.table_words.specs.Rows.{MappedPage, TableRow, page_at, table_at}
 use Rattle.table_words.specs.Stands.{TableRoot}
 use Rattle.table_words.specs.Taken.{names}
 use Rattle.hwpt_device.proofs.OwnIds.{is_object-sym, objects, own_with}
-use Rattle.hwpt_device.specs.PageTables.{AllStand, Hwpt, HwptStands, hwpt_at, root_frame, row_of, rows_of, tables_in, with_hwpt}
+use Rattle.hwpt_device.specs.PageTables.{AllStand, Hwpt, HwptStands, hwpt_at, root_frame, row_of, rows_of, tables_in}
+use Rattle.hwpt_device.specs.PageTables.{with_hwpt}
 
 eqb_same : (n : ℕ) → eqb n n ≡ true
 eqb_same n = grind (arith, nat_tests)
@@ -38,7 +40,8 @@ in_with h [] x (inl same) = inl same
 in_with h [] x (inr none) = absurd none
 in_with h (t ∷ tables) x within = by_order (comes_before h.object t.object) within (in_with h tables x)
   where
-    by_order : (b : Bool) → IsIn (cond b (h ∷ t ∷ tables) (t ∷ with_hwpt h tables)) x → (IsIn (with_hwpt h tables) x → (h ≡ x) ⊎ IsIn tables x)
+    by_order : (b : Bool) → IsIn (cond b (h ∷ t ∷ tables) (t ∷ with_hwpt h tables)) x
+        → (IsIn (with_hwpt h tables) x → (h ≡ x) ⊎ IsIn tables x)
         → (h ≡ x) ⊎ IsIn (t ∷ tables) x
     by_order true (inl same) later = inl same
     by_order true (inr rest) later = inr rest
@@ -52,32 +55,41 @@ in_with h (t ∷ tables) x within = by_order (comes_before h.object t.object) wi
 -- ---- its rows
 
 -- a row that is another page table's is passed over
-pub rows_without : (frames : List TableFrame) (row : TableFrame) (object : Object) → is_table_of object.file object.id row ≡ false
+pub rows_without : (frames : List TableFrame) (row : TableFrame) (object : Object)
+    → is_table_of object.file object.id row ≡ false
     → rows_of (frames ++ row ∷ []) object ≡ rows_of frames object
 rows_without [] row object other = rw other refl
-rows_without (t ∷ frames) row object other = by_test (is_table_of object.file object.id t) (rows_without frames row object other)
+rows_without (t ∷ frames) row object other =
+    by_test (is_table_of object.file object.id t) (rows_without frames row object other)
   where
     by_test : (b : Bool) → rows_of (frames ++ row ∷ []) object ≡ rows_of frames object
-        → map row_of (cond b (t ∷ filter (is_table_of object.file object.id) (frames ++ row ∷ [])) (filter (is_table_of object.file object.id) (frames ++ row ∷ [])))
-        ≡ map row_of (cond b (t ∷ filter (is_table_of object.file object.id) frames) (filter (is_table_of object.file object.id) frames))
+        → map row_of (cond b (t ∷ filter (is_table_of object.file object.id) (frames ++ row ∷ []))
+        (filter (is_table_of object.file object.id) (frames ++ row ∷ [])))
+        ≡ map row_of (cond b (t ∷ filter (is_table_of object.file object.id) frames)
+        (filter (is_table_of object.file object.id) frames))
     by_test true rest = ap (λ (l : List TableRow). row_of t ∷ l) rest
     by_test false rest = rest
 
 -- one that is its own comes last
-pub rows_with : (frames : List TableFrame) (row : TableFrame) (object : Object) → is_table_of object.file object.id row ≡ true
+pub rows_with : (frames : List TableFrame) (row : TableFrame) (object : Object)
+    → is_table_of object.file object.id row ≡ true
     → rows_of (frames ++ row ∷ []) object ≡ rows_of frames object ++ row_of row ∷ []
 rows_with [] row object own = rw own refl
 rows_with (t ∷ frames) row object own = by_test (is_table_of object.file object.id t) (rows_with frames row object own)
   where
     by_test : (b : Bool) → rows_of (frames ++ row ∷ []) object ≡ rows_of frames object ++ row_of row ∷ []
-        → map row_of (cond b (t ∷ filter (is_table_of object.file object.id) (frames ++ row ∷ [])) (filter (is_table_of object.file object.id) (frames ++ row ∷ [])))
-        ≡ map row_of (cond b (t ∷ filter (is_table_of object.file object.id) frames) (filter (is_table_of object.file object.id) frames)) ++ row_of row ∷ []
+        → map row_of (cond b (t ∷ filter (is_table_of object.file object.id) (frames ++ row ∷ []))
+        (filter (is_table_of object.file object.id) (frames ++ row ∷ [])))
+        ≡ map row_of (cond b (t ∷ filter (is_table_of object.file object.id) frames)
+        (filter (is_table_of object.file object.id) frames)) ++ row_of row ∷ []
     by_test true rest = ap (λ (l : List TableRow). row_of t ∷ l) rest
     by_test false rest = rest
 
 -- how many tables are in a frame
-pub tables_in_with : (frames : List TableFrame) (row : TableFrame) (frame : ℕ) → tables_in (frames ++ row ∷ []) frame ≡ tables_in frames frame + cond (eqb row.frame.0 frame) 1 0
-tables_in_with [] row frame = sum_by-cons (λ (x : TableFrame). cond {A = ℕ} (eqb x.frame.0 frame) 1 0) row [] ∙ omega arith
+pub tables_in_with : (frames : List TableFrame) (row : TableFrame) (frame : ℕ)
+    → tables_in (frames ++ row ∷ []) frame ≡ tables_in frames frame + cond (eqb row.frame.0 frame) 1 0
+tables_in_with [] row frame =
+    sum_by-cons (λ (x : TableFrame). cond {A = ℕ} (eqb x.frame.0 frame) 1 0) row [] ∙ omega arith
 tables_in_with (t ∷ frames) row frame =
     let one = sum_by-cons (λ (x : TableFrame). cond {A = ℕ} (eqb x.frame.0 frame) 1 0) t (frames ++ row ∷ []) in
     let all = sum_by-cons (λ (x : TableFrame). cond {A = ℕ} (eqb x.frame.0 frame) 1 0) t frames in
@@ -96,7 +108,8 @@ no_page page = refl
 
 -- ---- all stand
 
-module _ (old new : FramePool) (tables : List Hwpt) (h : Hwpt) (frames : List TableFrame) (leads : Object → ℕ → Option MappedPage)
+module _ (old new : FramePool) (tables : List Hwpt) (h : Hwpt) (frames : List TableFrame) (leads : Object → ℕ
+    → Option MappedPage)
     (free : slice_index old.holds h.table.root.0 ≡ 0)
     (becomes : Becomes old new h.table (root_row h.table ∷ []) [])
     (stand : AllStand old frames leads tables)
@@ -113,19 +126,23 @@ module _ (old new : FramePool) (tables : List Hwpt) (h : Hwpt) (frames : List Ta
       record { pages = []; found = λ page. no_page page ∙ sym (nowhere page); stands = rw rows becomes.stands }
 
   -- one whose rows are none doesn't stand
-  no_rows : (x : Hwpt) → HwptStands old frames (leads x.object) x → is_object h.object.file h.object.id x.object ≡ true → ⊥
+  no_rows : (x : Hwpt) → HwptStands old frames (leads x.object) x → is_object h.object.file h.object.id x.object ≡ true
+      → ⊥
   no_rows x stands is =
       let parts = and_true (eqb x.object.file.0 h.object.file.0) (eqb x.object.id.0 h.object.id.0) is in
       let file : x.object.file.0 ≡ h.object.file.0 = eqb-true x.object.file.0 h.object.file.0 parts.0 in
       let id : x.object.id.0 ≡ h.object.id.0 = eqb-true x.object.id.0 h.object.id.0 parts.1 in
       let rows : rows_of frames x.object ≡ [] =
       ap (λ (n : ℕ). map row_of (filter (λ (t : TableFrame). eqb t.file.0 n && eqb t.hwpt.0 x.object.id.0) frames)) file
-      ∙ ap (λ (n : ℕ). map row_of (filter (λ (t : TableFrame). eqb t.file.0 h.object.file.0 && eqb t.hwpt.0 n) frames)) id
+      ∙ ap (λ (n : ℕ). map row_of (filter (λ (t : TableFrame). eqb t.file.0 h.object.file.0 && eqb t.hwpt.0 n) frames))
+      id
       ∙ none in
-      no_table (levels_of x.table.width) x.table.root (ap (λ (l : List TableRow). table_at l (levels_of x.table.width) 0) (sym rows) ∙ stands.stands.at_root)
+      no_table (levels_of x.table.width) x.table.root
+      (ap (λ (l : List TableRow). table_at l (levels_of x.table.width) 0) (sym rows) ∙ stands.stands.at_root)
 
   -- another one
-  others : (x : Hwpt) → HwptStands old frames (leads x.object) x → (b : Bool) → is_table_of x.object.file x.object.id (root_frame h) ≡ b
+  others : (x : Hwpt) → HwptStands old frames (leads x.object) x → (b : Bool)
+      → is_table_of x.object.file x.object.id (root_frame h) ≡ b
       → HwptStands new (frames ++ root_frame h ∷ []) (leads x.object) x
   others x stands true is = absurd (no_rows x stands (is_object-sym h.object x.object ∙ is))
   others x stands false is =
@@ -133,9 +150,11 @@ module _ (old new : FramePool) (tables : List Hwpt) (h : Hwpt) (frames : List Ta
       record {
         pages = stands.pages;
         found = stands.found;
-        stands = rw rows (stands_still old new (levels_of x.table.width) x.table.root (rows_of frames x.object) stands.pages stands.stands
+        stands = rw rows (stands_still old new (levels_of x.table.width) x.table.root (rows_of frames x.object)
+            stands.pages stands.stands
             (record {
-              words = λ frame i named below. ap (λ (l : List ℕ). word_in l i) (becomes.others.bytes frame (unlike frame named));
+              words = λ frame i named below. ap (λ (l : List ℕ). word_in l i)
+                  (becomes.others.bytes frame (unlike frame named));
               holds = λ frame named. becomes.others.holds frame (unlike frame named);
             }));
       }
@@ -150,19 +169,23 @@ module _ (old new : FramePool) (tables : List Hwpt) (h : Hwpt) (frames : List Ta
           by_frame true is =
               let same : h.table.root.0 ≡ frame = eqb-true h.table.root.0 frame is in
               let one : slice_index old.holds frame ≡ 1 =
-              named_held old (levels_of x.table.width) x.table.root (rows_of frames x.object) stands.pages stands.stands frame named in
-              let zero_holds : slice_index old.holds frame ≡ 0 = ap (λ (n : ℕ). slice_index old.holds n) (sym same) ∙ free in
+              named_held old (levels_of x.table.width) x.table.root (rows_of frames x.object) stands.pages
+              stands.stands frame named in
+              let zero_holds : slice_index old.holds frame ≡ 0 =
+              ap (λ (n : ℕ). slice_index old.holds n) (sym same) ∙ free in
               absurd (omega (arith, one, zero_holds))
           by_frame false is = refl
 
   -- the root's frame held no table
-  held_in : (frame : ℕ) → (b : Bool) → eqb h.table.root.0 frame ≡ b → tables_in (frames ++ root_frame h ∷ []) frame ≤ slice_index new.holds frame
+  held_in : (frame : ℕ) → (b : Bool) → eqb h.table.root.0 frame ≡ b
+      → tables_in (frames ++ root_frame h ∷ []) frame ≤ slice_index new.holds frame
   held_in frame true is =
       let same : h.table.root.0 ≡ frame = eqb-true h.table.root.0 frame is in
       let few = stand.held frame in
       let zero_holds : slice_index old.holds frame ≡ 0 = ap (λ (n : ℕ). slice_index old.holds n) (sym same) ∙ free in
       let one : slice_index new.holds frame ≡ 1 =
-      named_held new (levels_of h.table.width) h.table.root (root_row h.table ∷ []) [] becomes.stands frame (rw is refl) in
+      named_held new (levels_of h.table.width) h.table.root (root_row h.table ∷ []) []
+      becomes.stands frame (rw is refl) in
       let counted : tables_in (frames ++ root_frame h ∷ []) frame ≡ tables_in frames frame + 1 =
       tables_in_with frames (root_frame h) frame ∙ ap (λ (b : Bool). tables_in frames frame + cond {A = ℕ} b 1 0) is in
       omega (arith, few, zero_holds, one, counted)
@@ -174,9 +197,11 @@ module _ (old new : FramePool) (tables : List Hwpt) (h : Hwpt) (frames : List Ta
       omega (arith, few, holds, counted)
 
   -- no other one has its id
-  new_id : (list : List Hwpt) → ((x : Hwpt) → IsIn list x → IsIn tables x) → list_any (is_object h.object.file h.object.id) (objects list) ≡ false
+  new_id : (list : List Hwpt) → ((x : Hwpt) → IsIn list x → IsIn tables x)
+      → list_any (is_object h.object.file h.object.id) (objects list) ≡ false
   new_id [] all = refl
-  new_id (t ∷ list) all = both_false _ _ (by_test (is_object h.object.file h.object.id t.object) refl) (new_id list (λ x within. all x (inr within)))
+  new_id (t ∷ list) all = both_false _ _ (by_test (is_object h.object.file h.object.id t.object) refl)
+      (new_id list (λ x within. all x (inr within)))
     where
       by_test : (b : Bool) → is_object h.object.file h.object.id t.object ≡ b → b ≡ false
       by_test false is = refl
@@ -190,7 +215,8 @@ module _ (old new : FramePool) (tables : List Hwpt) (h : Hwpt) (frames : List Ta
   }
     where
       by_place : (x : Hwpt) → (h ≡ x) ⊎ IsIn tables x → HwptStands new (frames ++ root_frame h ∷ []) (leads x.object) x
-      by_place x (inl same) = subst (λ (y : Hwpt). HwptStands new (frames ++ root_frame h ∷ []) (leads y.object) y) same first_stands
+      by_place x (inl same) =
+          subst (λ (y : Hwpt). HwptStands new (frames ++ root_frame h ∷ []) (leads y.object) y) same first_stands
       by_place x (inr there) = others x (stand.each x there) (is_table_of x.object.file x.object.id (root_frame h)) refl
 
 the_same : (a b : TableRoot) → ◌≡◌ {A = Result TableRoot Refusal} (Ok a) (Ok b) → a ≡ b
@@ -208,7 +234,8 @@ pub inserted : (old new : FramePool) (tables after : List Hwpt) (object : Object
     → AllStand new (frames ++ root_frame (hwpt_at object width frame) ∷ []) leads after)
 inserted old new tables after object width table r taken is becomes with = by_least (least_free old.holds) refl taken
   where
-    by_least : (o : Option ℕ) → least_free old.holds ≡ o → IfSome o (λ frame. r ≡ Ok (record { width = width; root = record { 0 = frame } }))
+    by_least : (o : Option ℕ) → least_free old.holds ≡ o
+        → IfSome o (λ frame. r ≡ Ok (record { width = width; root = record { 0 = frame } }))
         → IfSome o (λ frame. (frames : List TableFrame) (leads : Object → ℕ → Option MappedPage)
         → AllStand old frames leads tables → rows_of frames object ≡ [] → ((page : ℕ) → leads object page ≡ None)
         → AllStand new (frames ++ root_frame (hwpt_at object width frame) ∷ []) leads after)
@@ -216,5 +243,7 @@ inserted old new tables after object width table r taken is becomes with = by_le
     by_least (Some frame) least taken = λ frames leads stand none nowhere.
         let both = sym is ∙ taken in
         let same : table ≡ record { width = width; root = record { 0 = frame } } = the_same table _ both in
-        let free : slice_index old.holds frame ≡ 0 = eqb-true (slice_index old.holds frame) 0 (position-Some (λ count. eqb count 0) old.holds frame 0 least).1 in
-        rw (with, same) (inserted_stand old new tables (hwpt_at object width frame) frames leads free (subst (λ (t : TableRoot). Becomes old new t (root_row t ∷ []) []) same becomes) stand none nowhere)
+        let free : slice_index old.holds frame ≡ 0 =
+        eqb-true (slice_index old.holds frame) 0 (position-Some (λ count. eqb count 0) old.holds frame 0 least).1 in
+        rw (with, same) (inserted_stand old new tables (hwpt_at object width frame) frames leads free
+        (subst (λ (t : TableRoot). Becomes old new t (root_row t ∷ []) []) same becomes) stand none nowhere)

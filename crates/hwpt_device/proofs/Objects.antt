@@ -11,4 +11,5 @@ pub has_over_rows : (tables : List Hwpt) (file : FileNo) (ioas : ObjId)
     ≡ has_hwpt (map (λ h. h.object) tables) file ioas
 has_over_rows [] file ioas = refl
 has_over_rows (h ∷ tables) file ioas =
-    ap (λ (b : Bool). eqb h.object.file.0 file.0 && is_hwpt_over ioas h.object.kind || b) (has_over_rows tables file ioas)
+    ap (λ (b : Bool). eqb h.object.file.0 file.0 && is_hwpt_over ioas h.object.kind || b)
+    (has_over_rows tables file ioas)

@@ -16,24 +16,32 @@ use Rattle.hwpt_device.proofs.Staying.{named_within}
 use Rattle.hwpt_device.specs.PageTables.{KeepsOthers, row_of, rows_of, tables_in}
 
 -- a frame without tables is no row's of a page table
-pub unnamed : (frames : List TableFrame) (object : Object) (frame : ℕ) → tables_in frames frame ≡ 0 → names (rows_of frames object) frame ≡ false
-unnamed frames object frame none = false_else (names (rows_of frames object) frame) (λ named. let some = named_within frames object frame named in omega (arith, some, none))
+pub unnamed : (frames : List TableFrame) (object : Object) (frame : ℕ) → tables_in frames frame ≡ 0
+    → names (rows_of frames object) frame ≡ false
+unnamed frames object frame none = false_else (names (rows_of frames object) frame)
+    (λ named. let some = named_within frames object frame named in omega (arith, some, none))
 
 -- as a page table changes that gets more tables
-pub one_kept : (old new : FramePool) (table : TableRoot) (frames more : List TableFrame) (object : Object) (pages : List MappedPage) → list_all (is_table_of object.file object.id) more ≡ true
+pub one_kept : (old new : FramePool) (table : TableRoot) (frames more : List TableFrame) (object : Object)
+    (pages : List MappedPage) → list_all (is_table_of object.file object.id) more ≡ true
     → Becomes old new table (rows_of frames object ++ map row_of more) pages → KeepsOthers (frames ++ more) old new
 one_kept old new table frames more object pages own becomes frame none =
     becomes.others.bytes frame
-    (ap (λ (rows : List TableRow). names rows frame) (sym (rows_append frames more object ∙ ap (λ (l : List TableRow). rows_of frames object ++ l) (all_rows more object own)))
+    (ap (λ (rows : List TableRow). names rows frame)
+    (sym (rows_append frames more object ∙ ap (λ (l : List TableRow). rows_of frames object ++ l)
+    (all_rows more object own)))
     ∙ unnamed (frames ++ more) object frame none)
 
 -- and one that gets none
-pub none_more_kept : (old new : FramePool) (table : TableRoot) (frames : List TableFrame) (object : Object) (pages : List MappedPage)
+pub none_more_kept : (old new : FramePool) (table : TableRoot) (frames : List TableFrame) (object : Object)
+    (pages : List MappedPage)
     → Becomes old new table (rows_of frames object) pages → KeepsOthers frames old new
-none_more_kept old new table frames object pages becomes frame none = becomes.others.bytes frame (unnamed frames object frame none)
+none_more_kept old new table frames object pages becomes frame none =
+    becomes.others.bytes frame (unnamed frames object frame none)
 
 -- one change after the other
-pub kept_in_turn : (old mid new : FramePool) (frames more : List TableFrame) → KeepsOthers frames old mid → KeepsOthers (frames ++ more) mid new → KeepsOthers (frames ++ more) old new
+pub kept_in_turn : (old mid new : FramePool) (frames more : List TableFrame) → KeepsOthers frames old mid
+    → KeepsOthers (frames ++ more) mid new → KeepsOthers (frames ++ more) old new
 kept_in_turn old mid new frames more first later frame none =
     let sum = tables_append frames more frame in
     later frame none ∙ first frame (omega (arith, sum, none))

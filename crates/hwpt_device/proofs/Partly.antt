@@ -1,5 +1,6 @@
 -- Page tables that are told anew one after the other.
-use Rattle.std.proofs.Common.{◌≡◌, ℕ, zero, suc, ◌+◌, ◌<◌, ◌≤◌, Bool, true, false, cond, ◌||◌, Option, List, [], ◌∷◌, get_or, length, take, refl, ap, sym, ◌∙◌, inl, inr, arith}
+use Rattle.std.proofs.Common.{◌≡◌, ℕ, zero, suc, ◌+◌, ◌<◌, ◌≤◌, Bool, true, false, cond, ◌||◌, Option, List, [], ◌∷◌}
+use Rattle.std.proofs.Common.{get_or, length, take, refl, ap, sym, ◌∙◌, inl, inr, arith}
 use Rattle.std.specs.List.{list_any}
 use Rattle.std.proofs.Math.Seq.{take-suc}
 use Rattle.std.proofs.lemmas.List.Folds.{list_any-append}
@@ -33,17 +34,20 @@ at_in (t ∷ tables) zero d within = inl refl
 at_in (t ∷ tables) (suc n) d within = inr (at_in tables n d (omega (arith, within)))
 
 -- none before it has its id
-pub not_before : (tables : List Hwpt) (n : ℕ) (d : Hwpt) → have_own_ids (objects tables) ≡ true → n < length tables → is_among (take n tables) (get_or tables n d).object ≡ false
+pub not_before : (tables : List Hwpt) (n : ℕ) (d : Hwpt) → have_own_ids (objects tables) ≡ true → n < length tables
+    → is_among (take n tables) (get_or tables n d).object ≡ false
 not_before [] n d own within = absurd (omega arith)
 not_before (t ∷ tables) zero d own within = refl
 not_before (t ∷ tables) (suc n) d own within =
     let less : n < length tables = omega (arith, within) in
-    both_false _ _ (first_alone t tables own (get_or tables n d) (at_in tables n d less)) (not_before tables n d (own_parts t tables own).1 less)
+    both_false _ _ (first_alone t tables own (get_or tables n d) (at_in tables n d less))
+    (not_before tables n d (own_parts t tables own).1 less)
 
 among_all : (tables : List Hwpt) (x : Hwpt) → IsIn tables x → is_among tables x.object ≡ true
 among_all [] x within = absurd within
 among_all (t ∷ tables) x (inl same) =
-    let own : is_object t.object.file t.object.id x.object ≡ true = ap (λ (h : Hwpt). is_object t.object.file t.object.id h.object) (sym same) ∙ is_object-same t.object in
+    let own : is_object t.object.file t.object.id x.object ≡ true =
+    ap (λ (h : Hwpt). is_object t.object.file t.object.id h.object) (sym same) ∙ is_object-same t.object in
     rw own refl
 among_all (t ∷ tables) x (inr later) = either (is_object t.object.file t.object.id x.object) (among_all tables x later)
   where
@@ -53,30 +57,38 @@ among_all (t ∷ tables) x (inr later) = either (is_object t.object.file t.objec
 
 -- one more is done
 pub one_more_done : (tables : List Hwpt) (n : ℕ) (d : Hwpt) (object : Object) → n < length tables
-    → is_among (take (n + 1) tables) object ≡ (is_among (take n tables) object || is_object (get_or tables n d).object.file (get_or tables n d).object.id object)
+    → is_among (take (n + 1) tables) object ≡ (is_among (take n tables) object
+    || is_object (get_or tables n d).object.file (get_or tables n d).object.id object)
 one_more_done tables n d object within =
     let next : n + 1 ≡ suc n = omega arith in
     ap (λ (k : ℕ). is_among (take k tables) object) next
     ∙ ap (λ (l : List Hwpt). is_among l object) (take-suc tables n d within)
     ∙ list_any-append (λ h. is_object h.object.file h.object.id object) (take n tables) (get_or tables n d ∷ [])
-    ∙ ap (λ (b : Bool). is_among (take n tables) object || b) (or_none (is_object (get_or tables n d).object.file (get_or tables n d).object.id object))
+    ∙ ap (λ (b : Bool). is_among (take n tables) object || b)
+    (or_none (is_object (get_or tables n d).object.file (get_or tables n d).object.id object))
 
-module _ (pool : FramePool) (frames : List TableFrame) (leads others : Leads) (tables : List Hwpt) (n : ℕ) (d : Hwpt) (within : n < length tables) where
+module _ (pool : FramePool) (frames : List TableFrame) (leads others : Leads) (tables : List Hwpt) (n : ℕ) (d : Hwpt)
+    (within : n < length tables) where
   abbrev one : Hwpt
   one = get_or tables n d
 
   -- it is told anew
-  pub told_then : AllStand pool frames (retold one.object (others one.object) (partly (take n tables) leads others)) tables
+  pub told_then : AllStand pool frames (retold one.object (others one.object) (partly (take n tables) leads others))
+      tables
       → AllStand pool frames (partly (take (n + 1) tables) leads others) tables
   told_then stand =
-      all_told pool frames (retold one.object (others one.object) (partly (take n tables) leads others)) (partly (take (n + 1) tables) leads others) tables stand
+      all_told pool frames (retold one.object (others one.object) (partly (take n tables) leads others))
+      (partly (take (n + 1) tables) leads others) tables stand
       (λ x inside page. same x inside page (is_object one.object.file one.object.id x.object) refl)
     where
       same : (x : Hwpt) → IsIn tables x → (page : ℕ) (b : Bool) → is_object one.object.file one.object.id x.object ≡ b
-          → partly (take (n + 1) tables) leads others x.object page ≡ retold one.object (others one.object) (partly (take n tables) leads others) x.object page
+          → partly (take (n + 1) tables) leads others x.object page ≡ retold one.object (others one.object)
+          (partly (take n tables) leads others) x.object page
       same x inside page true is =
           let it : one ≡ x = the_only tables stand.own one x (at_in tables n d within) inside is in
-          let done : is_among (take (n + 1) tables) x.object ≡ true = one_more_done tables n d x.object within ∙ ap (λ (b : Bool). is_among (take n tables) x.object || b) is ∙ or_true (is_among (take n tables) x.object) in
+          let done : is_among (take (n + 1) tables) x.object ≡ true = one_more_done tables n d x.object within
+          ∙ ap (λ (b : Bool). is_among (take n tables) x.object || b) is
+          ∙ or_true (is_among (take n tables) x.object) in
           ap (λ (b : Bool). cond b (others x.object) (leads x.object) page) done
           ∙ ap (λ (h : Hwpt). others h.object page) (sym it)
           ∙ sym (ap (λ (b : Bool). cond b (others one.object) (partly (take n tables) leads others x.object) page) is)
@@ -85,15 +97,19 @@ module _ (pool : FramePool) (frames : List TableFrame) (leads others : Leads) (t
           or_true true = refl
           or_true false = refl
       same x inside page false is =
-          let done : is_among (take (n + 1) tables) x.object ≡ is_among (take n tables) x.object = one_more_done tables n d x.object within ∙ ap (λ (b : Bool). is_among (take n tables) x.object || b) is ∙ or_none (is_among (take n tables) x.object) in
+          let done : is_among (take (n + 1) tables) x.object ≡ is_among (take n tables) x.object =
+          one_more_done tables n d x.object within ∙ ap (λ (b : Bool). is_among (take n tables) x.object || b) is
+          ∙ or_none (is_among (take n tables) x.object) in
           ap (λ (b : Bool). cond b (others x.object) (leads x.object) page) done
           ∙ sym (ap (λ (b : Bool). cond b (others one.object) (partly (take n tables) leads others x.object) page) is)
 
   -- it leads as it did
-  pub same_then : ((page : ℕ) → others one.object page ≡ leads one.object page) → AllStand pool frames (partly (take n tables) leads others) tables
+  pub same_then : ((page : ℕ) → others one.object page ≡ leads one.object page)
+      → AllStand pool frames (partly (take n tables) leads others) tables
       → AllStand pool frames (partly (take (n + 1) tables) leads others) tables
   same_then still stand =
-      all_told pool frames (partly (take n tables) leads others) (partly (take (n + 1) tables) leads others) tables stand
+      all_told pool frames (partly (take n tables) leads others)
+      (partly (take (n + 1) tables) leads others) tables stand
       (λ x inside page. same x inside page (is_object one.object.file one.object.id x.object) refl)
     where
       either : (x : Hwpt) (page : ℕ) → others x.object page ≡ leads x.object page → (a b : Bool)
@@ -107,10 +123,13 @@ module _ (pool : FramePool) (frames : List TableFrame) (leads others : Leads) (t
           → partly (take (n + 1) tables) leads others x.object page ≡ partly (take n tables) leads others x.object page
       same x inside page true is =
           let it : one ≡ x = the_only tables stand.own one x (at_in tables n d within) inside is in
-          either x page (ap (λ (h : Hwpt). others h.object page) (sym it) ∙ still page ∙ ap (λ (h : Hwpt). leads h.object page) it)
+          either x page (ap (λ (h : Hwpt). others h.object page) (sym it) ∙ still page
+          ∙ ap (λ (h : Hwpt). leads h.object page) it)
           (is_among (take (n + 1) tables) x.object) (is_among (take n tables) x.object)
       same x inside page false is =
-          let done : is_among (take (n + 1) tables) x.object ≡ is_among (take n tables) x.object = one_more_done tables n d x.object within ∙ ap (λ (b : Bool). is_among (take n tables) x.object || b) is ∙ or_none (is_among (take n tables) x.object) in
+          let done : is_among (take (n + 1) tables) x.object ≡ is_among (take n tables) x.object =
+          one_more_done tables n d x.object within ∙ ap (λ (b : Bool). is_among (take n tables) x.object || b) is
+          ∙ or_none (is_among (take n tables) x.object) in
           ap (λ (b : Bool). cond b (others x.object) (leads x.object) page) done
 
 pub all_taken : (tables : List Hwpt) (n : ℕ) → length tables ≤ n → take n tables ≡ tables
@@ -120,11 +139,13 @@ all_taken (x ∷ xs) zero all = absurd (omega arith)
 all_taken (x ∷ xs) (suc n) all = ap (λ (l : List Hwpt). x ∷ l) (all_taken xs n (omega (arith, all)))
 
 -- none is done, and all are
-pub none_done : (pool : FramePool) (frames : List TableFrame) (leads others : Leads) (tables : List Hwpt) → AllStand pool frames leads tables
+pub none_done : (pool : FramePool) (frames : List TableFrame) (leads others : Leads) (tables : List Hwpt)
+    → AllStand pool frames leads tables
     → AllStand pool frames (partly (take 0 tables) leads others) tables
 none_done pool frames leads others tables stand = stand
 
-pub all_done : (pool : FramePool) (frames : List TableFrame) (leads others : Leads) (tables : List Hwpt) (n : ℕ) → length tables ≤ n
+pub all_done : (pool : FramePool) (frames : List TableFrame) (leads others : Leads) (tables : List Hwpt) (n : ℕ)
+    → length tables ≤ n
     → AllStand pool frames (partly (take n tables) leads others) tables → AllStand pool frames others tables
 all_done pool frames leads others tables n all stand =
     all_told pool frames (partly (take n tables) leads others) others tables stand

@@ -19,7 +19,8 @@ use Rattle.table_words.specs.Stands.{IfStands}
 use Rattle.hwpt_device.specs.PageTables.{AllStand, Hwpt, HwptStands, Stand, hwpt_of, walk_through}
 
 -- one that is found stands
-pub found_stands : (pool : FramePool) (frames : List TableFrame) (leads : Object → ℕ → Option MappedPage) (tables : List Hwpt)
+pub found_stands : (pool : FramePool) (frames : List TableFrame) (leads : Object → ℕ
+    → Option MappedPage) (tables : List Hwpt)
     (file : FileNo) (id : ObjId) (h : Hwpt)
     → AllStand pool frames leads tables → hwpt_of tables file id ≡ Some h → HwptStands pool frames (leads h.object) h
 found_stands pool frames leads tables file id h stand found =
@@ -39,7 +40,8 @@ pub walked : (pool : FramePool) (tables : List Hwpt) (file : FileNo) (id : ObjId
 walked pool tables file id h iova result found answer frames leads stand =
     let stands = found_stands pool frames leads tables file id h stand found in
     answer _ stands.pages stands.stands
-    ∙ ap (λ (o : Option MappedPage). cond (ltb iova (2 ^ bits_of h.table.width)) (led o) walk.Beyond) (stands.found (page_of iova))
+    ∙ ap (λ (o : Option MappedPage). cond (ltb iova (2 ^ bits_of h.table.width)) (led o) walk.Beyond)
+    (stands.found (page_of iova))
     ∙ sym (ap (walk_through leads iova) found)
   where
     led : Option MappedPage → Walk

@@ -60,7 +60,8 @@ impl<A: Allocator> PageTables<A> {
             AllStand pool.new (with_missing rows (tables_missing rows file ioas span self.old.tables) pool.old.holds)
             others self.old.tables) }
         ensures others { IfAllStand pool.old self.old.tables (λ rows leads.
-            KeepsOthers (with_missing rows (tables_missing rows file ioas span self.old.tables) pool.old.holds) pool.old pool.new) }
+            KeepsOthers (with_missing rows (tables_missing rows file ioas span self.old.tables) pool.old.holds) pool.old
+            pool.new) }
         ensures holds { IfAllStand pool.old self.old.tables (λ rows leads.
             pool.new.holds ≡ held_once pool.old.holds
             (frames_for (tables_missing rows file ioas span self.old.tables) pool.old.holds)) }
@@ -108,7 +109,8 @@ impl<A: Allocator> PageTables<A> {
             (with_missing rows (missing_found rows span (hwpt_of self.old.tables file id)) pool.old.holds)
             others self.old.tables) }
         ensures others { IfAllStand pool.old self.old.tables (λ rows leads.
-            KeepsOthers (with_missing rows (missing_found rows span (hwpt_of self.old.tables file id)) pool.old.holds) pool.old pool.new) }
+            KeepsOthers (with_missing rows (missing_found rows span (hwpt_of self.old.tables file id)) pool.old.holds)
+            pool.old pool.new) }
         ensures holds { IfAllStand pool.old self.old.tables (λ rows leads.
             pool.new.holds ≡ held_once pool.old.holds
             (frames_for (missing_found rows span (hwpt_of self.old.tables file id)) pool.old.holds)) }

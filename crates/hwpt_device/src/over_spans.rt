@@ -87,7 +87,8 @@ pub(crate) fn map<A: Allocator, B: Allocator>(
         AllStand pool.new (with_missing rows (tables_missing rows file ioas span tables.old) pool.old.holds)
         others tables.old) }
     ensures others { IfAllStand pool.old tables.old (λ rows leads.
-        KeepsOthers (with_missing rows (tables_missing rows file ioas span tables.old) pool.old.holds) pool.old pool.new) }
+        KeepsOthers (with_missing rows (tables_missing rows file ioas span tables.old) pool.old.holds) pool.old
+        pool.new) }
     ensures holds { IfAllStand pool.old tables.old (λ rows leads.
         pool.new.holds ≡ held_once pool.old.holds
         (frames_for (tables_missing rows file ioas span tables.old) pool.old.holds)) }

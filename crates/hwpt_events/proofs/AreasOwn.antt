@@ -26,31 +26,39 @@ use Rattle.hwpt_events.specs.Making.{made_object}
 
 -- the row of a page table's object
 abbrev pub row_of : {A : Type 0} → FileNo → ObjId → ObjId → Width → Bool → Row (Held A)
-row_of file ioas id width automatic = record { file = file; id = id; kind = of_kind.Hwpt; users = 0; value = held.Hwpt ioas width automatic }
+row_of file ioas id width automatic =
+    record { file = file; id = id; kind = of_kind.Hwpt; users = 0; value = held.Hwpt ioas width automatic }
 
-module _ {A : Type 0} (at : ℕ) (w : World) (s : State A) (tidy : IsTidy at w) (shows : Shows w s) (file : FileNo) (ioas id : ObjId) (width : Width) (automatic : Bool) (new : Table (Held A))
+module _ {A : Type 0} (at : ℕ) (w : World) (s : State A) (tidy : IsTidy at w) (shows : Shows w s) (file : FileNo)
+    (ioas id : ObjId) (width : Width) (automatic : Bool) (new : Table (Held A))
     (free : row_at s.objects file id ≡ None) (above : 0 < id.0) (below : id.0 < 2 ^ 31) where
   abbrev row : Row (Held A)
   row = row_of file ioas id width automatic
 
   -- the id is unused
   pub fresh_there : is_fresh w.objects file id ≡ true
-  fresh_there = ap (λ (objects : List Object). is_fresh objects file id) shows.objects.rows ∙ fresh_id s.objects.rows file id above below free
+  fresh_there = ap (λ (objects : List Object). is_fresh objects file id) shows.objects.rows
+      ∙ fresh_id s.objects.rows file id above below free
 
   module _ (rows : new.rows ≡ inserted row s.objects.rows) (files : new.files ≡ s.objects.files) where
     -- the object is there, and no area changes
-    pub objects_made : ObjectsShown w.settings w.closed (with_object (made_object file ioas id width automatic) w.objects) w.areas new
+    pub objects_made : ObjectsShown w.settings w.closed
+        (with_object (made_object file ioas id width automatic) w.objects) w.areas new
     objects_made = record {
-      rows = ap (with_object (made_object file ioas id width automatic)) shows.objects.rows ∙ sym (objects-inserted row s.objects.rows) ∙ ap (map object_of) (sym rows);
+      rows = ap (with_object (made_object file ioas id width automatic)) shows.objects.rows
+          ∙ sym (objects-inserted row s.objects.rows) ∙ ap (map object_of) (sym rows);
       proper = ap (list_all is_proper) rows ∙ proper-inserted row s.objects.rows refl shows.objects.proper;
-      spaces = λ f i. shows.objects.spaces f i ∙ sym (areas-inserted row s.objects.rows f i refl free) ∙ ap (λ (l : List (Row (Held A))). areas_at l f i) (sym rows);
+      spaces = λ f i. shows.objects.spaces f i ∙ sym (areas-inserted row s.objects.rows f i refl free)
+          ∙ ap (λ (l : List (Row (Held A))). areas_at l f i) (sym rows);
       files = λ number. rw files (shows.objects.files number);
     }
 
     orderly_made : IsOrderly new
     orderly_made = record {
       proper = objects_made.proper;
-      ids = ap have_own_ids (sym objects_made.rows) ∙ own_ids-with_object (made_object file ioas id width automatic) w.objects (unused w.objects file id fresh_there) tidy.ids;
+      ids = ap have_own_ids (sym objects_made.rows)
+          ∙ own_ids-with_object (made_object file ioas id width automatic) w.objects
+          (unused w.objects file id fresh_there) tidy.ids;
     }
 
     pub own_still : own_areas new file ioas ≡ areas_of w.areas file ioas

@@ -22,7 +22,8 @@ use Rattle.hwpt_events.specs.Pinning.{Stays}
 -- ---- room that is reserved isn't seen
 
 -- the page tables are told by their list
-tables_same : (w : World) (old new : PageTables) (pool : FramePool) → new.tables ≡ old.tables → TablesShown w old pool → TablesShown w new pool
+tables_same : (w : World) (old new : PageTables) (pool : FramePool) → new.tables ≡ old.tables → TablesShown w old pool
+    → TablesShown w new pool
 tables_same w old new pool same shown = record {
   tables = ap (map (λ (h : Hwpt). h.object)) same ∙ shown.tables;
   widths = ap (list_all has_own_width) same ∙ shown.widths;
@@ -30,7 +31,8 @@ tables_same w old new pool same shown = record {
 }
 
 module _ {A : Type 0} where
-  pub reserved_unseen : (w : World) (s new : State A) → new.objects.rows ≡ s.objects.rows → new.objects.files ≡ s.objects.files → new.page_tables.tables ≡ s.page_tables.tables
+  pub reserved_unseen : (w : World) (s new : State A) → new.objects.rows ≡ s.objects.rows
+      → new.objects.files ≡ s.objects.files → new.page_tables.tables ≡ s.page_tables.tables
       → new ≡ record s { objects = new.objects; page_tables = new.page_tables } → Shows w s → Shows w new
   reserved_unseen w s new rows files tables others shows =
       subst (Shows w) (sym others) (record {
@@ -52,17 +54,21 @@ module _ {A : Type 0} where
 
   -- ---- where memory was wanting nothing is seen to have changed
 
-  frames_stay : (w : World) (s : State A) (after : Memory) → ((f : ℕ) → reached after f ≡ reached s.memory f) → FramesShown w.settings.pool w.writes w.table_frames s.memory s.pool → FramesShown w.settings.pool w.writes w.table_frames after s.pool
+  frames_stay : (w : World) (s : State A) (after : Memory) → ((f : ℕ) → reached after f ≡ reached s.memory f)
+      → FramesShown w.settings.pool w.writes w.table_frames s.memory s.pool
+      → FramesShown w.settings.pool w.writes w.table_frames after s.pool
   frames_stay w s after same shown = record {
     size = shown.size;
     count = shown.count;
     full = λ f within some. shown.full f within (let is = same f in omega (arith, is, some));
     holds = λ f. shown.holds f ∙ ap (λ (n : ℕ). n + tables_in w.table_frames f) (sym (same f));
     once = shown.once;
-    written = λ f offset within below some. shown.written f offset within below (let is = same f in omega (arith, is, some));
+    written =
+        λ f offset within below some. shown.written f offset within below (let is = same f in omega (arith, is, some));
   }
 
-  pub shows_stayed : (w : World) (s : State A) (after : Memory) (pool : FramePool) → Stays s.memory after s.pool pool → Shows w s → Shows w (record s { memory = after; pool = pool })
+  pub shows_stayed : (w : World) (s : State A) (after : Memory) (pool : FramePool) → Stays s.memory after s.pool pool
+      → Shows w s → Shows w (record s { memory = after; pool = pool })
   shows_stayed w s after pool stays shows = record {
     settings = shows.settings;
     limits = stays.limits ∙ shows.limits;
@@ -74,9 +80,11 @@ module _ {A : Type 0} where
       counts = λ test. shows.users.counts test ∙ ap (count_by test) (sym stays.pages);
     };
     pins = pins_same w.objects w.areas w.memory w.pins s.memory after shows.pins stays.objects;
-    frames = subst (FramesShown w.settings.pool w.writes w.table_frames after) (sym stays.pool) (frames_stay w s after same shows.frames);
+    frames = subst (FramesShown w.settings.pool w.writes w.table_frames after) (sym stays.pool)
+        (frames_stay w s after same shows.frames);
     tables = subst (TablesShown w s.page_tables) (sym stays.pool) shows.tables;
   }
     where
       same : (f : ℕ) → reached after f ≡ reached s.memory f
-      same f = ap (λ (l : List UserPage). count_by (λ page. eqb page.frame.0 f) l + pins_on after.objects f) stays.pages ∙ ap (λ (n : ℕ). count_by (λ page. eqb page.frame.0 f) s.memory.pages + n) (stays.objects.named f)
+      same f = ap (λ (l : List UserPage). count_by (λ page. eqb page.frame.0 f) l + pins_on after.objects f) stays.pages
+          ∙ ap (λ (n : ℕ). count_by (λ page. eqb page.frame.0 f) s.memory.pages + n) (stays.objects.named f)

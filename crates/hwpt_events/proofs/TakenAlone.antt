@@ -1,5 +1,6 @@
 -- The frames that a new page table takes hold nothing else: each was free, and is taken once.
-use Rattle.std.proofs.Common.{◌≡◌, ℕ, ◌+◌, ◌<◌, ◌≤◌, Bool, true, false, cond, ◌||◌, not, eqb, ltb, Option, Some, None, List, [], ◌∷◌, map, refl, sym, ◌∙◌, ap, subst, arith, inl, inr}
+use Rattle.std.proofs.Common.{◌≡◌, ℕ, ◌+◌, ◌<◌, ◌≤◌, Bool, true, false, cond, ◌||◌, not, eqb, ltb, Option, Some, None}
+use Rattle.std.proofs.Common.{List, [], ◌∷◌, map, refl, sym, ◌∙◌, ap, subst, arith, inl, inr}
 use Rattle.std.specs.Prelude.{slice_index}
 use Rattle.std.specs.List.{count_by, filter, list_all, list_any}
 use Rattle.std.proofs.lemmas.Bool.Decides.{nat_tests}
@@ -38,13 +39,16 @@ some_there : {X : Type 0} (p : X → Bool) (xs : List X) → list_any p xs ≡ t
 some_there p [] some = cc
 some_there p (x ∷ xs) some = by_test (p x) refl some (some_there p xs)
   where
-    by_test : (b : Bool) → p x ≡ b → (b || list_any p xs) ≡ true → (list_any p xs ≡ true → IsThere p xs) → IsThere p (x ∷ xs)
+    by_test : (b : Bool) → p x ≡ b → (b || list_any p xs) ≡ true → (list_any p xs ≡ true → IsThere p xs)
+        → IsThere p (x ∷ xs)
     by_test true is some later = record { one = x; within = inl refl; passes = is }
-    by_test false is some later = let rest = later some in record { one = rest.one; within = inr rest.within; passes = rest.passes }
+    by_test false is some later =
+        let rest = later some in record { one = rest.one; within = inr rest.within; passes = rest.passes }
 
 -- one that is counted
 pub counted_there : {X : Type 0} (p : X → Bool) (xs : List X) → 0 < count_by p xs → IsThere p xs
-counted_there p xs more = some_there p xs (any_count p xs ∙ (let positive : ltb 0 (count_by p xs) ≡ true = search (more, arith, nat_tests) in positive))
+counted_there p xs more = some_there p xs (any_count p xs
+    ∙ (let positive : ltb 0 (count_by p xs) ≡ true = search (more, arith, nat_tests) in positive))
 
 -- frames of which each is another are there once at most
 pub each_once : (frames : List FrameNo) (f : ℕ) → are_different frames ≡ true → times_in frames f ≤ 1
@@ -55,11 +59,13 @@ each_once (x ∷ frames) f different =
     let all = count-cons (λ (y : FrameNo). eqb y.0 f) x frames in
     by_test (eqb x.0 f) refl parts.0 rest all
   where
-    by_test : (b : Bool) → eqb x.0 f ≡ b → not (is_among frames x) ≡ true → times_in frames f ≤ 1 → times_in (x ∷ frames) f ≡ cond b 1 0 + times_in frames f → times_in (x ∷ frames) f ≤ 1
+    by_test : (b : Bool) → eqb x.0 f ≡ b → not (is_among frames x) ≡ true → times_in frames f ≤ 1
+        → times_in (x ∷ frames) f ≡ cond b 1 0 + times_in frames f → times_in (x ∷ frames) f ≤ 1
     by_test false is apart rest all = omega (arith, rest, all)
     by_test true is apart rest all =
         let same : x.0 ≡ f = search (is, arith, nat_tests) in
-        let none : ltb 0 (times_in frames x.0) ≡ false = sym (any_count (λ (y : FrameNo). eqb y.0 x.0) frames) ∙ not_true_of (is_among frames x) apart in
+        let none : ltb 0 (times_in frames x.0) ≡ false =
+        sym (any_count (λ (y : FrameNo). eqb y.0 x.0) frames) ∙ not_true_of (is_among frames x) apart in
         let zero_there : times_in frames x.0 ≡ 0 = search (none, arith, nat_tests) in
         let here = ap (times_in frames) same in
         omega (arith, all, zero_there, here)
@@ -75,9 +81,11 @@ in_mapped_rows [] t within = absurd within
 in_mapped_rows (x ∷ frames) t (inl same) = inl (ap row_of same)
 in_mapped_rows (x ∷ frames) t (inr later) = inr (in_mapped_rows frames t later)
 
-module _ (objects : List Object) (tables : List Hwpt) (are : map (λ (h : Hwpt). h.object) tables ≡ page_tables_among objects) where
+module _ (objects : List Object) (tables : List Hwpt)
+    (are : map (λ (h : Hwpt). h.object) tables ≡ page_tables_among objects) where
   -- the page table of a row that isn't an orphan's is kept
-  pub its_table : (t : TableFrame) → is_owned objects t ≡ true → (h : Hwpt) × IsIn tables h × (is_table_of h.object.file h.object.id t ≡ true)
+  pub its_table : (t : TableFrame) → is_owned objects t ≡ true → (h : Hwpt) × IsIn tables h
+      × (is_table_of h.object.file h.object.id t ≡ true)
   its_table t owned = by_kind (kind_of objects t.file t.hwpt) refl
     where
       Kept : Type 0
@@ -86,13 +94,17 @@ module _ (objects : List Object) (tables : List Hwpt) (are : map (λ (h : Hwpt).
       of_kept : (k : ObjectKind) → kind_of objects t.file t.hwpt ≡ Some k → is_hwpt k ≡ true → Kept
       of_kept k is hwpt =
           let (object, found, within, of_file, of_id, of_kind) = object_of_kind objects t.file t.hwpt k is in
-          let among : IsIn (page_tables_among objects) object = in_kept (λ (o : Object). is_hwpt o.kind) objects object within (ap is_hwpt of_kind ∙ hwpt) in
-          let mapped : IsIn (map (λ (h : Hwpt). h.object) tables) object = subst (λ (l : List Object). IsIn l object) (sym are) among in
+          let among : IsIn (page_tables_among objects) object =
+          in_kept (λ (o : Object). is_hwpt o.kind) objects object within (ap is_hwpt of_kind ∙ hwpt) in
+          let mapped : IsIn (map (λ (h : Hwpt). h.object) tables) object =
+          subst (λ (l : List Object). IsIn l object) (sym are) among in
           let (h, there, same) = in_map (λ (h : Hwpt). h.object) tables object mapped in
           let file : t.file ≡ h.object.file = sym (ap (λ (o : Object). o.file) same ∙ of_file) in
           let id : t.hwpt ≡ h.object.id = sym (ap (λ (o : Object). o.id) same ∙ of_id) in
-          let one : eqb t.file.0 h.object.file.0 ≡ true = ap (λ (x : FileNo). eqb x.0 h.object.file.0) file ∙ itself_is h.object.file.0 in
-          let two : eqb t.hwpt.0 h.object.id.0 ≡ true = ap (λ (x : ObjId). eqb x.0 h.object.id.0) id ∙ itself_is h.object.id.0 in
+          let one : eqb t.file.0 h.object.file.0 ≡ true =
+          ap (λ (x : FileNo). eqb x.0 h.object.file.0) file ∙ itself_is h.object.file.0 in
+          let two : eqb t.hwpt.0 h.object.id.0 ≡ true =
+          ap (λ (x : ObjId). eqb x.0 h.object.id.0) id ∙ itself_is h.object.id.0 in
           (h, there, both_true _ _ one two)
         where
           itself_is : (n : ℕ) → eqb n n ≡ true
@@ -107,11 +119,16 @@ module _ (objects : List Object) (tables : List Hwpt) (are : map (λ (h : Hwpt).
           twice false is = cc
 
   -- on the frame of a table there is one hold
-  pub held_alone : (pool : FramePool) (frames : List TableFrame) (leads : Object → ℕ → Option MappedPage) (f : ℕ) → AllStand pool frames leads tables → list_all (is_owned objects) frames ≡ true → 0 < tables_in frames f → slice_index pool.holds f ≡ 1
+  pub held_alone : (pool : FramePool) (frames : List TableFrame) (leads : Object → ℕ → Option MappedPage) (f : ℕ)
+      → AllStand pool frames leads tables → list_all (is_owned objects) frames ≡ true → 0 < tables_in frames f
+      → slice_index pool.holds f ≡ 1
   held_alone pool frames leads f stand owned some =
       let there = counted_there (λ (table : TableFrame). eqb table.frame.0 f) frames some in
       let t = there.one in
       let (h, kept, its) = its_table t (of_each (is_owned objects) frames t owned there.within) in
-      let row : IsIn (rows_of frames h.object) (row_of t) = in_mapped_rows (filter (is_table_of h.object.file h.object.id) frames) t (in_kept (is_table_of h.object.file h.object.id) frames t there.within its) in
-      let named : names (rows_of frames h.object) f ≡ true = of_any (λ (r : TableRow). eqb r.frame.0 f) (rows_of frames h.object) (row_of t) row there.passes in
+      let row : IsIn (rows_of frames h.object) (row_of t) =
+      in_mapped_rows (filter (is_table_of h.object.file h.object.id) frames) t
+      (in_kept (is_table_of h.object.file h.object.id) frames t there.within its) in
+      let named : names (rows_of frames h.object) f ≡ true =
+      of_any (λ (r : TableRow). eqb r.frame.0 f) (rows_of frames h.object) (row_of t) row there.passes in
       table_held pool frames (leads h.object) h (stand.each h kept) f named

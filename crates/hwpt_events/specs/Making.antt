@@ -47,9 +47,9 @@ abbrev pub lacks_tables : View → FileNo → ObjId → Width → Bool
 lacks_tables v file ioas width =
     nat_lt v.free_count (length (lacking (λ place. false) (places_of width (live_pages (v.areas_of file ioas)))))
 
--- what a new page table of this width asks: that no area reaches beyond it, room in its file for one more object, of the
--- first over an address space that the pages it pins are there, and that its user may have so many pinned pages more, and
--- a free frame for each of its tables
+-- what a new page table of this width asks: that no area reaches beyond it, room in its file for one more object, of
+-- the first over an address space that the pages it pins are there, and that its user may have so many pinned pages
+-- more, and a free frame for each of its tables
 pub record IsRoomy (v : View) (file : FileNo) (ioas : ObjId) (width : Width) : Type 0 where
   pub opened : v.is_open file ≡ true
   pub space : has_ioas v.objects file ioas ≡ true

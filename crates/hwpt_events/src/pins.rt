@@ -16,8 +16,8 @@ pub(crate) fn lack_page<A: Allocator>(areas: &Areas<A>, memory: &UserMemory<A>) 
     areas.iter().any(|area| memory.lacks_page(area.memory))
 }
 
-/// How many pages the areas' memory objects have that aren't pinned, where one that several areas share counts for each:
-/// pinning them pins no more than that. It takes no memory.
+/// How many pages the areas' memory objects have that aren't pinned, where one that several areas share counts for
+/// each: pinning them pins no more than that. It takes no memory.
 pub(crate) fn most_new_pages<A: Allocator>(areas: &Areas<A>, memory: &UserMemory<A>) -> u128
     ensures value { result ≡ sum_by (λ area. new_pages memory.now area.memory) areas.now.areas }
     ensures most { newly_pinned memory.now (map (λ area. area.memory) areas.now.areas) ≤ result }

@@ -156,8 +156,8 @@ const FULL: &[(Call, Answer)] = &[
     (Call::Insert((1, 3), 1, Width::Bits39), Answer::Done),
 ];
 
-/// The first call that isn't answered so, in a pool of so many frames: of these rows while all memory is taken, of those
-/// while some is there, and of the last ones while all is taken again.
+/// The first call that isn't answered so, in a pool of so many frames: of these rows while all memory is taken, of
+/// those while some is there, and of the last ones while all is taken again.
 fn runs(
     alloc: Global,
     frames: u32,

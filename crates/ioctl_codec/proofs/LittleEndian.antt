@@ -24,14 +24,17 @@ pub length-to_le_bytes : (t : FieldType) (n : ℕ) → length (to_le_bytes (widt
 length-to_le_bytes U32 n = refl
 length-to_le_bytes U64 n = refl
 
-pub to_le_bytes-from_le_bytes : (t : FieldType) (bytes : List ℕ) → length bytes ≡ byte_len (width_of t) → IsBytes bytes → to_le_bytes (width_of t) (from_le_bytes (width_of t) bytes) ≡ bytes
+pub to_le_bytes-from_le_bytes : (t : FieldType) (bytes : List ℕ) → length bytes ≡ byte_len (width_of t) → IsBytes bytes
+    → to_le_bytes (width_of t) (from_le_bytes (width_of t) bytes) ≡ bytes
 to_le_bytes-from_le_bytes U32 bytes len fits = le_bytes_4 bytes _ len fits refl
 to_le_bytes-from_le_bytes U64 bytes len fits = le_bytes_8 bytes _ len fits refl
 
-pub from_le_bytes-to_le_bytes : (t : FieldType) (n : ℕ) → n < 2 ^ (8 * byte_len (width_of t)) → from_le_bytes (width_of t) (to_le_bytes (width_of t) n) ≡ n
+pub from_le_bytes-to_le_bytes : (t : FieldType) (n : ℕ) → n < 2 ^ (8 * byte_len (width_of t))
+    → from_le_bytes (width_of t) (to_le_bytes (width_of t) n) ≡ n
 from_le_bytes-to_le_bytes U32 n lt = from_le_bytes-to_le_bytes_4 n lt
 from_le_bytes-to_le_bytes U64 n lt = from_le_bytes-to_le_bytes_8 n lt
 
-pub from_le_bytes_below : (t : FieldType) (bytes : List ℕ) → IsBytes bytes → from_le_bytes (width_of t) bytes < 2 ^ (8 * byte_len (width_of t))
+pub from_le_bytes_below : (t : FieldType) (bytes : List ℕ) → IsBytes bytes
+    → from_le_bytes (width_of t) bytes < 2 ^ (8 * byte_len (width_of t))
 from_le_bytes_below U32 bytes fits = omega (arith, fits 0, fits 1, fits 2, fits 3)
 from_le_bytes_below U64 bytes fits = omega (arith, fits 0, fits 1, fits 2, fits 3, fits 4, fits 5, fits 6, fits 7)

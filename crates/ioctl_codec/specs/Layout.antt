@@ -1,7 +1,8 @@
 -- How a structure of the interface lies in memory. Every structure begins with `__u32 size`, the number of its
 -- bytes as the caller knows it. Its other fields follow at once, little-endian, in their order: the offset of a
 -- field is the sum of the widths before it, and is written nowhere.
-use Rattle.std.specs.Prelude.{◌≡◌, ℕ, ◌+◌, ◌-◌, ◌*◌, ◌^◌, ◌<◌, ◌≤◌, Bool, true, false, ◌&&◌, ◌==◌, IsTrue, List, [], ◌∷◌, ◌++◌, take, drop, replicate, slice_index, Option, unwrap_or, if◌then◌else◌}
+use Rattle.std.specs.Prelude.{◌≡◌, ℕ, ◌+◌, ◌-◌, ◌*◌, ◌^◌, ◌<◌, ◌≤◌, Bool, true, false, ◌&&◌, ◌==◌, IsTrue, List, []}
+use Rattle.std.specs.Prelude.{◌∷◌, ◌++◌, take, drop, replicate, slice_index, Option, unwrap_or, if◌then◌else◌}
 use Rattle.std.specs.Int.{Width, w32, w64, byte_len, from_le_bytes, to_le_bytes}
 use Rattle.std.specs.Int.RustNames.{bit_and}
 
@@ -109,7 +110,8 @@ value_in Reserved n = n
 abbrev pub carried : List Field → List ℕ → List ℕ
 carried [] numbers = []
 carried (field ∷ fields) [] = []
-carried (field ∷ fields) (n ∷ numbers) = if is_carried field.role then value_in field.role n ∷ carried fields numbers else carried fields numbers
+carried (field ∷ fields) (n ∷ numbers) =
+    if is_carried field.role then value_in field.role n ∷ carried fields numbers else carried fields numbers
 
 abbrev pub is_count : Role → Bool
 is_count (Flags known) = false
@@ -124,7 +126,8 @@ is_count Reserved = false
 -- how many entries follow a structure that carries these values: what its count says, and none if it has no count
 abbrev pub entry_count : List Field → List ℕ → ℕ
 entry_count [] values = 0
-entry_count (field ∷ fields) values = if is_count field.role then slice_index values 0 else entry_count fields (if is_carried field.role then drop 1 values else values)
+entry_count (field ∷ fields) values = if is_count field.role then slice_index values 0
+    else entry_count fields (if is_carried field.role then drop 1 values else values)
 
 -- what stands in a field for a carried value and for an answer, if there is one
 abbrev pub number_in : Role → ℕ → Option ℕ → ℕ
@@ -140,7 +143,8 @@ number_in Reserved value answer = 0
 -- the carried values in their fields, the answer in its field, and zeros
 abbrev pub filled : List Field → List ℕ → Option ℕ → List ℕ
 filled [] values answer = []
-filled (field ∷ fields) values answer = number_in field.role (slice_index values 0) answer ∷ filled fields (if is_carried field.role then drop 1 values else values) answer
+filled (field ∷ fields) values answer = number_in field.role (slice_index values 0) answer
+    ∷ filled fields (if is_carried field.role then drop 1 values else values) answer
 
 -- ---- bytes
 
@@ -153,14 +157,15 @@ spelled (field ∷ fields) (n ∷ numbers) = to_le_bytes (width field) n ++ spel
 -- the numbers that stand in the fields, the bytes being long enough
 abbrev pub numbers_at : List Field → List ℕ → List ℕ
 numbers_at [] bytes = []
-numbers_at (field ∷ fields) bytes = from_le_bytes (width field) (take (byte_len (width field)) bytes) ∷ numbers_at fields (drop (byte_len (width field)) bytes)
+numbers_at (field ∷ fields) bytes = from_le_bytes (width field) (take (byte_len (width field)) bytes)
+    ∷ numbers_at fields (drop (byte_len (width field)) bytes)
 
 -- the structure of these values, of its own length
 unfoldable pub structure_bytes : Structure → List ℕ → Option ℕ → List ℕ
 structure_bytes s values answer = to_le_bytes w32 (length_of s) ++ spelled s.fields (filled s.fields values answer)
 
--- THE LAYOUT OF A STRUCTURE: the bytes are a size, the structure's fields with these values in them, and a tail of zeros up to
--- the size. The size is at least the structure's own length, and at most 4096.
+-- THE LAYOUT OF A STRUCTURE: the bytes are a size, the structure's fields with these values in them, and a tail of
+-- zeros up to the size. The size is at least the structure's own length, and at most 4096.
 pub record IsLaidOut (s : Structure) (values bytes : List ℕ) : Type 0 where
   pub size : ℕ
   pub numbers : List ℕ

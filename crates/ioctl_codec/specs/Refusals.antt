@@ -1,5 +1,6 @@
 -- The refusals of bytes that spell no command, in their order.
-use Rattle.std.specs.Prelude.{◌≡◌, ℕ, ◌*◌, ◌<◌, ◌==◌, Bool, not, ◌||◌, nat_lt, List, [], ◌∷◌, ◌++◌, length, take, drop, Option, Some, None, Result, Ok, Err}
+use Rattle.std.specs.Prelude.{◌≡◌, ℕ, ◌*◌, ◌<◌, ◌==◌, Bool, not, ◌||◌, nat_lt, List, [], ◌∷◌, ◌++◌, length, take, drop}
+use Rattle.std.specs.Prelude.{Option, Some, None, Result, Ok, Err}
 use Rattle.std.specs.List.{list_all}
 use Rattle.std.specs.Int.{w32, from_le_bytes}
 use Rattle.iofd_words.specs.FirstTrue.{first_true}
@@ -51,7 +52,8 @@ after_size bytes = drop (size_at bytes) bytes
 
 -- why the bytes aren't such a structure with its entries, if they aren't
 unfoldable pub refusal_of : Structure → List ℕ → Option Cause
-refusal_of s bytes = first_true (size_checks (length_of s) bytes ++ field_checks (are_allowed s.fields (read_numbers s bytes)) (read_count s bytes) (after_size bytes))
+refusal_of s bytes = first_true (size_checks (length_of s) bytes
+    ++ field_checks (are_allowed s.fields (read_numbers s bytes)) (read_count s bytes) (after_size bytes))
 
 -- the number comes first
 abbrev pub refusal : ℕ → List ℕ → Option Cause

@@ -1,5 +1,6 @@
 -- Which bytes spell a command, its one canonical spelling, and what is written back for a reply.
-use Rattle.std.specs.Prelude.{◌≡◌, ℕ, ◌^◌, ◌<◌, nat_lt, List, [], ◌∷◌, ◌++◌, length, take, Option, Some, None, if◌then◌else◌}
+use Rattle.std.specs.Prelude.{◌≡◌, ℕ, ◌^◌, ◌<◌, nat_lt, List, [], ◌∷◌, ◌++◌, length, take, Option, Some, None}
+use Rattle.std.specs.Prelude.{if◌then◌else◌}
 use Rattle.iofd_words.specs.Bounds.{Bounds}
 use Rattle.iofd_words.specs.declared.reply.Reply.{Reply}
 use Rattle.iofd_words.specs.declared.reply.Reply.TheVariants as reply
@@ -7,7 +8,8 @@ use Rattle.ioctl_codec.specs.Layout.{structure_bytes, IsLaidOut, AreOfWidth, fil
 use Rattle.ioctl_codec.specs.Entries.{entries_bytes, AreAddresses}
 use Rattle.ioctl_codec.specs.Structures.{structure_of, values_of, entries_of, ioas_iova_ranges}
 use Rattle.ioctl_codec.specs.declared.command.Command.{Command}
-use Rattle.ioctl_codec.specs.declared.command.Command.TheVariants.{Destroy, IoasAlloc, IoasAllowIovas, IoasCopy, IoasMap, IoasUnmap, HwptAlloc}
+use Rattle.ioctl_codec.specs.declared.command.Command.TheVariants.{Destroy, IoasAlloc, IoasAllowIovas, IoasCopy}
+use Rattle.ioctl_codec.specs.declared.command.Command.TheVariants.{IoasMap, IoasUnmap, HwptAlloc}
 use Rattle.ioctl_codec.specs.declared.command.RangesRequest.{RangesRequest}
 
 module _ {A : Type 0} where
@@ -45,10 +47,12 @@ module _ {A : Type 0} where
   -- what is written back: the structure of its own length, whatever size came in, with the answer in its field, and
   -- without entries
   abbrev pub written_back : Command A → Reply → List ℕ
-  written_back c r = elim (answer_of c r) [ None ↦ [] | Some answer ↦ structure_bytes (structure_of c) (values_of c) answer ]
+  written_back c r =
+      elim (answer_of c r) [ None ↦ [] | Some answer ↦ structure_bytes (structure_of c) (values_of c) answer ]
 
 -- what is written back for IOVA_RANGES: the structure with the number of ranges that there are, whatever number of
 -- places came in, and the alignment of addresses; then the first ranges, as many as there are places for
 abbrev pub ranges_written_back : RangesRequest → List Bounds → List ℕ
 ranges_written_back request ranges =
-    structure_bytes ioas_iova_ranges (request.ioas.0 ∷ length ranges ∷ []) (Some 4096) ++ entries_bytes (take request.places ranges)
+    structure_bytes ioas_iova_ranges (request.ioas.0 ∷ length ranges ∷ []) (Some 4096)
+    ++ entries_bytes (take request.places ranges)

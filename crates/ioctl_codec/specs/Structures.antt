@@ -7,9 +7,11 @@ use Rattle.iofd_words.specs.declared.event.CopyRequest.{CopyRequest}
 use Rattle.iofd_words.specs.declared.event.MapRequest.{MapRequest}
 use Rattle.iofd_words.specs.declared.flags.MapFlags.{MapFlags}
 use Rattle.iofd_words.specs.declared.numbers.Iova.{Iova}
-use Rattle.ioctl_codec.specs.Layout.{Role, Flags, Argument, Answered, Chosen, Count, Output, Ignored, Reserved, Structure, u32, u64}
+use Rattle.ioctl_codec.specs.Layout.{Role, Flags, Argument, Answered, Chosen, Count, Output, Ignored, Reserved}
+use Rattle.ioctl_codec.specs.Layout.{Structure, u32, u64}
 use Rattle.ioctl_codec.specs.declared.command.Command.{Command}
-use Rattle.ioctl_codec.specs.declared.command.Command.TheVariants.{Destroy, IoasAlloc, IoasAllowIovas, IoasCopy, IoasIovaRanges, IoasMap, IoasUnmap, HwptAlloc}
+use Rattle.ioctl_codec.specs.declared.command.Command.TheVariants.{Destroy, IoasAlloc, IoasAllowIovas, IoasCopy}
+use Rattle.ioctl_codec.specs.declared.command.Command.TheVariants.{IoasIovaRanges, IoasMap, IoasUnmap, HwptAlloc}
 
 -- id
 abbrev pub destroy : Structure
@@ -30,15 +32,24 @@ iova_role false = Chosen
 
 -- flags, dst_ioas_id, src_ioas_id, length, dst_iova, src_iova, for flags that fix the target's address or leave it open
 abbrev pub ioas_copy : Bool → Structure
-ioas_copy fixed = record { number = 0x3B83; fields = u32 (Flags 7) ∷ u32 Argument ∷ u32 Argument ∷ u64 Argument ∷ u64 (iova_role fixed) ∷ u64 Argument ∷ [] }
+ioas_copy fixed = record {
+  number = 0x3B83;
+  fields = u32 (Flags 7) ∷ u32 Argument ∷ u32 Argument ∷ u64 Argument
+      ∷ u64 (iova_role fixed) ∷ u64 Argument ∷ [];
+}
 
 -- ioas_id, num_iovas (for how many ranges the caller has places), reserved, allowed_iovas, out_iova_alignment
 abbrev pub ioas_iova_ranges : Structure
-ioas_iova_ranges = record { number = 0x3B84; fields = u32 Argument ∷ u32 Argument ∷ u32 Reserved ∷ u64 Ignored ∷ u64 Output ∷ [] }
+ioas_iova_ranges =
+    record { number = 0x3B84; fields = u32 Argument ∷ u32 Argument ∷ u32 Reserved ∷ u64 Ignored ∷ u64 Output ∷ [] }
 
 -- flags, ioas_id, reserved, user_va, length, iova, for flags that fix the address or leave it open
 abbrev pub ioas_map : Bool → Structure
-ioas_map fixed = record { number = 0x3B85; fields = u32 (Flags 7) ∷ u32 Argument ∷ u32 Reserved ∷ u64 Argument ∷ u64 Argument ∷ u64 (iova_role fixed) ∷ [] }
+ioas_map fixed = record {
+  number = 0x3B85;
+  fields = u32 (Flags 7) ∷ u32 Argument ∷ u32 Reserved ∷ u64 Argument ∷ u64 Argument
+      ∷ u64 (iova_role fixed) ∷ [];
+}
 
 -- ioas_id, iova, length
 abbrev pub ioas_unmap : Structure
@@ -46,12 +57,15 @@ ioas_unmap = record { number = 0x3B86; fields = u32 Argument ∷ u64 Argument �
 
 -- flags (none is known), dev_id, pt_id (an address space), out_hwpt_id, reserved
 abbrev pub hwpt_alloc : Structure
-hwpt_alloc = record { number = 0x3B89; fields = u32 Reserved ∷ u32 Argument ∷ u32 Argument ∷ u32 Output ∷ u32 Reserved ∷ [] }
+hwpt_alloc =
+    record { number = 0x3B89; fields = u32 Reserved ∷ u32 Argument ∷ u32 Argument ∷ u32 Output ∷ u32 Reserved ∷ [] }
 
 abbrev pub structures : List Structure
-structures = destroy ∷ ioas_alloc ∷ ioas_allow_iovas ∷ ioas_copy true ∷ ioas_iova_ranges ∷ ioas_map true ∷ ioas_unmap ∷ hwpt_alloc ∷ []
+structures = destroy ∷ ioas_alloc ∷ ioas_allow_iovas ∷ ioas_copy true ∷ ioas_iova_ranges ∷ ioas_map true
+    ∷ ioas_unmap ∷ hwpt_alloc ∷ []
 
--- the structure of a command's number, if it's served (both of MAP, and both of COPY, have the same length and refusals)
+-- the structure of a command's number, if it's served (both of MAP, and both of COPY, have the same length and
+-- refusals)
 abbrev pub structure_at : ℕ → Option Structure
 structure_at nr = find (λ s. s.number == nr) structures
 

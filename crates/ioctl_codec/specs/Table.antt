@@ -1,6 +1,7 @@
 -- The table of structures in code, in the words of the layout, and the numbers of fields in an array.
 use Rattle.std.specs.Prelude.{ℕ, ◌+◌, ◌^◌, ◌%◌, Bool, false, ◌||◌, List, [], ◌∷◌, slice_index}
-use Rattle.ioctl_codec.specs.Layout.{Role, Flags, Argument, Answered, Count, Output, Ignored, Reserved, FieldType, U32, U64, Field, Structure, u32, u64, is_count}
+use Rattle.ioctl_codec.specs.Layout.{Role, Flags, Argument, Answered, Count, Output, Ignored, Reserved, FieldType, U32}
+use Rattle.ioctl_codec.specs.Layout.{U64, Field, Structure, u32, u64, is_count}
 use Rattle.ioctl_codec.specs.declared.structure.Role as roles
 use Rattle.ioctl_codec.specs.declared.structure.Role.TheVariants as role
 use Rattle.ioctl_codec.specs.declared.structure.Field as fields

@@ -5,9 +5,11 @@ ghost use Rattle.std.specs.Prelude.{◌≡◌, ◌≢◌, ◌*◌, ◌<◌, ◌�
 ghost use Rattle.iofd_words.specs.Rights.{is_fixed};
 ghost use Rattle.ioctl_codec.specs.Entries.{entries_at};
 ghost use Rattle.ioctl_codec.specs.Layout.{carried, length_of};
-ghost use Rattle.ioctl_codec.specs.Structures.{copy_values, ioas_allow_iovas, ioas_copy, ioas_map, map_values, structure_of, values_of, entries_of};
+ghost use Rattle.ioctl_codec.specs.Structures.{copy_values, ioas_allow_iovas, ioas_copy, ioas_map, map_values};
+ghost use Rattle.ioctl_codec.specs.Structures.{structure_of, values_of, entries_of};
 ghost use Rattle.ioctl_codec.specs.Spelling.{Spells};
-ghost use Rattle.ioctl_codec.specs.Refusals.{refusal_of, refusal, cause_of, refused_of, read_numbers, read_values, read_count, after_size, OnMemory, Gives, SpellsEntries};
+ghost use Rattle.ioctl_codec.specs.Refusals.{refusal_of, refusal, cause_of, refused_of, read_numbers, read_values};
+ghost use Rattle.ioctl_codec.specs.Refusals.{read_count, after_size, OnMemory, Gives, SpellsEntries};
 ghost use Rattle.ioctl_codec.specs.Table.{has_count, placed, structure_in};
 ghost use Rattle.ioctl_codec.specs.declared.command.Command.{Command};
 

@@ -4,7 +4,8 @@ ghost use Rattle.std.specs.Prelude.{◌≡◌, ◌^◌, ◌<◌, ◌≤◌, ◌+
 ghost use Rattle.iofd_words.specs.Rights.{is_fixed};
 ghost use Rattle.ioctl_codec.specs.Entries.{AreAddresses, entries_bytes};
 ghost use Rattle.ioctl_codec.specs.Layout.{AreOfWidth, filled, structure_bytes};
-ghost use Rattle.ioctl_codec.specs.Structures.{copy_values, entries_of, ioas_copy, ioas_map, is_spellable, map_values, structure_of, values_of};
+ghost use Rattle.ioctl_codec.specs.Structures.{copy_values, entries_of, ioas_copy, ioas_map, is_spellable, map_values};
+ghost use Rattle.ioctl_codec.specs.Structures.{structure_of, values_of};
 ghost use Rattle.ioctl_codec.specs.Spelling.{answer_of, canonical, ranges_written_back, written_back, Spells};
 
 use crate::command::{Command, RangesRequest, kept_iova};

@@ -13,7 +13,8 @@ of_file_1 n = grind (arith, nat_tests)
 pub of_file_2 : (n : ℕ) →
     ((nat_le 0 n && nat_le n 0x7fff) || ((nat_le 0x9000 n && nat_le n 0xffff_ffff_ffff) || false))
     ≡ (nat_lt n 0x1_0000_0000_0000_0000
-    && not ((nat_le 0x1_0000_0000_0000 n && nat_le n 0xffff_ffff_ffff_ffff) || ((nat_le 0x8000 n && nat_le n 0x8fff) || false)))
+    && not ((nat_le 0x1_0000_0000_0000 n && nat_le n 0xffff_ffff_ffff_ffff)
+    || ((nat_le 0x8000 n && nat_le n 0x8fff) || false)))
 of_file_2 n = grind (arith, nat_tests)
 
 pub of_all : (n : ℕ) →

@@ -3,7 +3,9 @@
 use Rattle.std.specs.Prelude.{true, List, [], ◌∷◌}
 use Rattle.std.specs.declared.alloc.Global.{Global}
 use Rattle.iofd_examples.specs.DebtScript.{gone, none_owes}
-use Rattle.iofd_examples.specs.Words.{answers_frame, answers_id, answers_iova, area_row, attach, bind, copy_in, detach, flush, hwpt_alloc, hwpt_row, ioas_alloc, ioas_row, map_in, memory_row, moving, refused, step, table_row, unmap_in, user_map, user_unmap}
+use Rattle.iofd_examples.specs.Words.{answers_frame, answers_id, answers_iova, area_row, attach, bind, copy_in, detach}
+use Rattle.iofd_examples.specs.Words.{flush, hwpt_alloc, hwpt_row, ioas_alloc, ioas_row, map_in, memory_row, moving}
+use Rattle.iofd_examples.specs.Words.{refused, step, table_row, unmap_in, user_map, user_unmap}
 use Rattle.iofd_words.specs.World.{World}
 use Rattle.iofd_words.specs.declared.record.Record.{Record}
 use Rattle.iofd_words.specs.declared.refusal.Cause.TheVariants as cause

@@ -3,7 +3,10 @@
 -- the second is only written.
 use Rattle.std.specs.Prelude.{ℕ, true, false, List, [], ◌∷◌}
 use Rattle.std.specs.declared.alloc.Global.{Global}
-use Rattle.iofd_examples.specs.Words.{Questions, Writes, answers_frame, answers_id, answers_iova, area_row, attach, attachment_row, bind, bytes, count, detach, device_read, device_row, fault, flush, hwpt_row, ioas_alloc, ioas_row, map_in, memory_row, moving, page_row, passed, pin_row, step, table_row, unmap_in, user_map}
+use Rattle.iofd_examples.specs.Words.{Questions, Writes, answers_frame, answers_id, answers_iova, area_row, attach}
+use Rattle.iofd_examples.specs.Words.{attachment_row, bind, bytes, count, detach, device_read, device_row, fault, flush}
+use Rattle.iofd_examples.specs.Words.{hwpt_row, ioas_alloc, ioas_row, map_in, memory_row, moving, page_row, passed}
+use Rattle.iofd_examples.specs.Words.{pin_row, step, table_row, unmap_in, user_map}
 use Rattle.iofd_words.specs.Settings.{DeviceSettings, Settings}
 use Rattle.iofd_words.specs.World.{World}
 use Rattle.iofd_words.specs.declared.fault.AccessKind.TheVariants.{Read, Write}

@@ -1,6 +1,6 @@
 -- A whole script, worked by hand: two files, one device, a mapped page, a write, and an UNMAP that waits for
--- a flush. Its records are a run; a few that differ from them in one place are not. The device's page table, of width 39
--- with one mapped page, has three tables: the root, one of level 2 and one of level 1.
+-- a flush. Its records are a run; a few that differ from them in one place are not. The device's page table, of width
+-- 39 with one mapped page, has three tables: the root, one of level 2 and one of level 1.
 use Rattle.std.specs.Prelude.{ℕ, false, List, [], ◌∷◌, ◌++◌, map}
 use Rattle.std.specs.declared.alloc.Global.{Global}
 use Rattle.iofd_words.specs.Settings.{Settings}
@@ -65,7 +65,13 @@ settings =
 
 -- the page at 0x10000 is mapped at 0x1000, for reads and writes
 abbrev map_page : Event Global
-map_page = event.Map (file 1) (record { flags = record { 0 = 7 }; ioas = id 1; user_va = 0x10000; length = 0x1000; iova = record { 0 = 0x1000 } })
+map_page = event.Map (file 1) (record {
+  flags = record { 0 = 7 };
+  ioas = id 1;
+  user_va = 0x10000;
+  length = 0x1000;
+  iova = record { 0 = 0x1000 };
+})
 
 abbrev unmap_page : Event Global
 unmap_page = event.Unmap (file 1) (record { ioas = id 1; iova = record { 0 = 0x1000 }; length = 0x1000 })
@@ -127,7 +133,8 @@ denied page = answer.Fault (record { source = record { 0 = 0x18 }; page = page; 
 
 -- the first address beyond the width, of an attached device and of one that isn't
 abbrev pub beyond_width : Answer
-beyond_width = answer.Fault (record { source = record { 0 = 0x18 }; page = 0x800_0000; kind = Read; reason = BeyondWidth })
+beyond_width =
+    answer.Fault (record { source = record { 0 = 0x18 }; page = 0x800_0000; kind = Read; reason = BeyondWidth })
 
 abbrev pub no_context : Answer
 no_context = answer.Fault (record { source = record { 0 = 0x18 }; page = 0x800_0000; kind = Read; reason = NoContext })
@@ -154,7 +161,8 @@ still_owed = step unmap_page (reply.Pending EAGAIN) ∷ []
 
 -- a write that is denied where the area is live, and one that is denied for another reason
 abbrev pub write_denied : FaultReason → Record Global
-write_denied reason = step write (reply.Fault (record { source = record { 0 = 0x18 }; page = 1; kind = Write; reason = reason }))
+write_denied reason =
+    step write (reply.Fault (record { source = record { 0 = 0x18 }; page = 1; kind = Write; reason = reason }))
 
 -- an id of the other file is found
 abbrev pub other_file : Record Global
@@ -176,7 +184,13 @@ too_early = step unmap_page (reply.Bytes 0x1000)
 abbrev pub wrong_cause : Record Global
 wrong_cause =
     step
-    (event.Map (file 1) (record { flags = record { 0 = 7 }; ioas = id 9; user_va = 0x10000; length = 0x1000; iova = record { 0 = 0x1001 } }))
+    (event.Map (file 1) (record {
+      flags = record { 0 = 7 };
+      ioas = id 9;
+      user_va = 0x10000;
+      length = 0x1000;
+      iova = record { 0 = 0x1001 };
+    }))
     (refused cause.Id)
 
 -- ---- frames of tables

@@ -4,7 +4,8 @@
 use Rattle.std.specs.Prelude.{ℕ, ◌+◌, ◌*◌, [], ◌∷◌, ◌++◌, map}
 use Rattle.std.specs.List.{range_with_len}
 use Rattle.iofd_examples.specs.ReadyWorld.{ready}
-use Rattle.iofd_examples.specs.Words.{Refusals, area_row, attach, bind, copy_in, file, hwpt_alloc, ioas_alloc, ioas_row, map_in}
+use Rattle.iofd_examples.specs.Words.{Refusals, area_row, attach, bind, copy_in, file, hwpt_alloc, ioas_alloc, ioas_row}
+use Rattle.iofd_examples.specs.Words.{map_in}
 use Rattle.iofd_words.specs.World.{World}
 use Rattle.iofd_words.specs.declared.refusal.Cause.TheVariants as cause
 use Rattle.iofd_words.specs.declared.rows.Phase.TheVariants.{Live}

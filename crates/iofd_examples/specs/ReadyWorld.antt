@@ -3,7 +3,10 @@
 -- device, an automatic one with another device, and four devices more; file 3 has nothing.
 use Rattle.std.specs.Prelude.{ℕ, true, false, List, [], ◌∷◌, ◌++◌}
 use Rattle.std.specs.declared.alloc.Global.{Global}
-use Rattle.iofd_examples.specs.Words.{allow_iovas, answers_frame, answers_id, answers_iova, area_row, attach, attachment_row, bind, device_row, file, from_to, hwpt_alloc, hwpt_row, id, ioas_alloc, ioas_row, map_in, memory_row, moving, page_row, pin_row, step, table_row, user_map}
+use Rattle.iofd_examples.specs.Words.{allow_iovas, answers_frame, answers_id, answers_iova, area_row, attach}
+use Rattle.iofd_examples.specs.Words.{attachment_row, bind, device_row, file, from_to, hwpt_alloc, hwpt_row, id}
+use Rattle.iofd_examples.specs.Words.{ioas_alloc, ioas_row, map_in, memory_row, moving, page_row, pin_row, step}
+use Rattle.iofd_examples.specs.Words.{table_row, user_map}
 use Rattle.iofd_words.specs.Bounds.{Bounds}
 use Rattle.iofd_words.specs.Settings.{DeviceSettings, Settings}
 use Rattle.iofd_words.specs.World.{World, opening}
@@ -192,8 +195,8 @@ without_free = record ready { settings = settings_of 8 }
 abbrev pub with_one_free : World
 with_one_free = record ready { settings = settings_of 9 }
 
--- the same where the memory of address space 11 is pinned already, by a copy in address space 9, over which a page table
--- stands: user 1 has as many pinned pages as it may
+-- the same where the memory of address space 11 is pinned already, by a copy in address space 9, over which a page
+-- table stands: user 1 has as many pinned pages as it may
 abbrev pub with_pinned : World
 with_pinned =
     record ready {

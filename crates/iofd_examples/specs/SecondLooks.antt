@@ -1,7 +1,8 @@
 -- What devices and users read in the worlds of the second script, what may come of devices' writes, and what is
 -- counted.
 use Rattle.std.specs.Prelude.{List, [], ◌∷◌}
-use Rattle.iofd_examples.specs.Words.{Questions, RangeQuestions, Writes, bytes, count, device_read, fault, from_to, held, passed, refused_look, user_read}
+use Rattle.iofd_examples.specs.Words.{Questions, RangeQuestions, Writes, bytes, count, device_read, fault, from_to}
+use Rattle.iofd_examples.specs.Words.{held, passed, refused_look, user_read}
 use Rattle.iofd_words.specs.Bounds.{Bounds}
 use Rattle.iofd_words.specs.declared.fault.AccessKind.TheVariants.{Read, Write}
 use Rattle.iofd_words.specs.declared.fault.FaultReason.TheVariants.{BeyondWidth, ReadDenied, WriteDenied}

@@ -5,7 +5,11 @@
 -- frame that is given out again.
 use Rattle.std.specs.Prelude.{ℕ, true, false, List, [], ◌∷◌}
 use Rattle.std.specs.declared.alloc.Global.{Global}
-use Rattle.iofd_examples.specs.Words.{allow_iovas, answers_frame, answers_id, answers_iova, area_row, attach, attachment_row, bind, close, copy_in, destroy, detach, device_row, device_write, fault, file, flush, from_to, hwpt_alloc, hwpt_row, id, ioas_alloc, ioas_row, map_in, memory_row, moving, page_row, passed, pin_row, step, table_row, unbind, unmap_in, user_map, user_unmap, user_write}
+use Rattle.iofd_examples.specs.Words.{allow_iovas, answers_frame, answers_id, answers_iova, area_row, attach}
+use Rattle.iofd_examples.specs.Words.{attachment_row, bind, close, copy_in, destroy, detach, device_row, device_write}
+use Rattle.iofd_examples.specs.Words.{fault, file, flush, from_to, hwpt_alloc, hwpt_row, id, ioas_alloc, ioas_row}
+use Rattle.iofd_examples.specs.Words.{map_in, memory_row, moving, page_row, passed, pin_row, step, table_row, unbind}
+use Rattle.iofd_examples.specs.Words.{unmap_in, user_map, user_unmap, user_write}
 use Rattle.iofd_words.specs.Settings.{Settings}
 use Rattle.iofd_words.specs.World.{World}
 use Rattle.iofd_words.specs.declared.fault.AccessKind.TheVariants.{Write}

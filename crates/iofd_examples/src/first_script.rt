@@ -19,16 +19,19 @@ pub fn lower_tables_may_go_first()
 /// While the device owes its flush, its write may pass and may be denied.
 pub fn owed_flush_leaves_both_answers()
     ensures passed { IsRun script.settings (script.beginning ++ script.still_owed ++ script.write_passed ∷ []) }
-    ensures denied { IsRun script.settings (script.beginning ++ script.still_owed ++ script.write_denied WriteDenied ∷ []) }
+    ensures denied { IsRun script.settings (script.beginning ++ script.still_owed
+        ++ script.write_denied WriteDenied ∷ []) }
 {}
 
 /// What the device is answered in that script, by the worlds that its records leave.
 pub fn worked_script_reads()
     ensures bytes { answers_to script.settings script.beginning (script.read 0x1ffe 2) ≡ script.bytes_read ∷ [] }
     ensures crossing { answers_to script.settings script.beginning (script.read 0x1fff 2) ≡ script.refused_read ∷ [] }
-    ensures beyond { answers_to script.settings script.beginning (script.read 0x80_0000_0000 1) ≡ script.beyond_width ∷ [] }
+    ensures beyond { answers_to script.settings script.beginning (script.read 0x80_0000_0000 1) ≡ script.beyond_width
+        ∷ [] }
     // no attachment comes before the width
-    ensures unattached { answers_to script.settings script.bound (script.read 0x80_0000_0000 1) ≡ script.no_context ∷ [] }
+    ensures unattached { answers_to script.settings script.bound (script.read 0x80_0000_0000 1) ≡ script.no_context
+        ∷ [] }
     ensures elsewhere { answers_to script.settings script.beginning (script.read 0x2000 1) ≡ script.denied 2 ∷ [] }
 {}
 
@@ -41,9 +44,11 @@ pub fn altered_scripts_are_no_runs()
     // a write to a live area is denied
     ensures live_denied { IsRun script.settings (script.beginning ++ script.write_denied WriteDenied ∷ []) → ⊥ }
     // a write is denied for the reason of a read, where the device still owes its flush
-    ensures other_reason { IsRun script.settings (script.beginning ++ script.still_owed ++ script.write_denied ReadDenied ∷ []) → ⊥ }
+    ensures other_reason { IsRun script.settings (script.beginning ++ script.still_owed
+        ++ script.write_denied ReadDenied ∷ []) → ⊥ }
     // a write passes after the flush that the device owed
-    ensures flushed_passes { IsRun script.settings (script.beginning ++ script.still_owed ++ script.flushed ++ script.write_passed ∷ []) → ⊥ }
+    ensures flushed_passes { IsRun script.settings (script.beginning ++ script.still_owed ++ script.flushed
+        ++ script.write_passed ∷ []) → ⊥ }
     // an object of another file is destroyed
     ensures other_file { IsRun script.settings (script.beginning ++ script.other_file ∷ []) → ⊥ }
     // an UNMAP answers its bytes before the flush

@@ -1,5 +1,5 @@
-//! For which causes events are refused in worlds that were written by hand, by the tables of events with the causes that
-//! apply to each. Each is the contract of a function that does nothing.
+//! For which causes events are refused in worlds that were written by hand, by the tables of events with the causes
+//! that apply to each. Each is the contract of a function that does nothing.
 
 ghost use Rattle.iofd_examples.specs.AccessRecords as accesses;
 ghost use Rattle.iofd_examples.specs.AllowRecords as ranges;

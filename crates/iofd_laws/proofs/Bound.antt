@@ -1,5 +1,6 @@
 -- Every device that is attached, or owes a flush, is bound to the file whose row names it.
-use Rattle.std.proofs.Common.{◌≡◌, ◌≢◌, ℕ, Bool, true, false, cond, ◌&&◌, ◌||◌, not, eqb, Option, Some, None, List, [], ◌∷◌, is_some, refl, sym, ap, ◌∙◌, arith, ⊎_elim}
+use Rattle.std.proofs.Common.{◌≡◌, ◌≢◌, ℕ, Bool, true, false, cond, ◌&&◌, ◌||◌, not, eqb, Option, Some, None, List, []}
+use Rattle.std.proofs.Common.{◌∷◌, is_some, refl, sym, ap, ◌∙◌, arith, ⊎_elim}
 use Rattle.std.specs.List.{filter, find, list_all, list_any}
 use Rattle.std.proofs.lemmas.Bool.{cases_eq, eqb-true}
 use Rattle.std.proofs.lemmas.Bool.Decides.{nat_tests}
@@ -8,7 +9,8 @@ use Rattle.iofd_words.specs.Attachments.{attachment_of, with_attachment}
 use Rattle.iofd_words.specs.Checks.{is_attached, is_device_object}
 use Rattle.iofd_rows.specs.Debts.{DebtsAttached, attach_once, debtors_of}
 use Rattle.iofd_rows.specs.Ids.{have_own_ids}
-use Rattle.iofd_words.specs.Objects.{binding_of, is_automatic, is_bound_as, is_bound_device, is_object, kind_of, objects_of, with_object, without_device_object}
+use Rattle.iofd_words.specs.Objects.{binding_of, is_automatic, is_bound_as, is_bound_device, is_object, kind_of}
+use Rattle.iofd_words.specs.Objects.{objects_of, with_object, without_device_object}
 use Rattle.iofd_words.specs.View.{view}
 use Rattle.iofd_words.specs.World.{World}
 use Rattle.iofd_words.specs.declared.numbers.DeviceNo.{DeviceNo}
@@ -43,7 +45,8 @@ abbrev pub attachments_bound : List Object → List Attachment → Bool
 attachments_bound objects attachments = list_all (λ (a : Attachment). is_bound_to objects a.file a.device.0) attachments
 
 abbrev pub debts_bound : List Object → List Area → Bool
-debts_bound objects areas = list_all (λ (area : Area). list_all (is_bound_to objects area.file) (owed_by [] area.phase)) areas
+debts_bound objects areas =
+    list_all (λ (area : Area). list_all (is_bound_to objects area.file) (owed_by [] area.phase)) areas
 
 pub record AreBound (w : World) : Type 0 where
   pub attachments : attachments_bound w.objects w.attachments ≡ true
@@ -51,49 +54,67 @@ pub record AreBound (w : World) : Type 0 where
 
 -- what was bound is bound still
 abbrev pub StayBound : List Object → List Object → Type 0
-StayBound old new = (file : FileNo) (device : ℕ) → is_bound_to old file device ≡ true → is_bound_to new file device ≡ true
+StayBound old new =
+    (file : FileNo) (device : ℕ) → is_bound_to old file device ≡ true → is_bound_to new file device ≡ true
 
 -- the rows of a world whose objects keep what is bound
-pub attachments_stay : (old new : List Object) (attachments : List Attachment) → StayBound old new → attachments_bound old attachments ≡ true → attachments_bound new attachments ≡ true
+pub attachments_stay : (old new : List Object) (attachments : List Attachment) → StayBound old new
+    → attachments_bound old attachments ≡ true → attachments_bound new attachments ≡ true
 attachments_stay old new attachments stay all = all_weaker _ _ attachments (λ a. stay a.file a.device.0) all
 
-pub find_stays : (old new : List Object) → ((device : DeviceNo) → binding_of new device ≡ binding_of old device) → StayBound old new
+pub find_stays : (old new : List Object) → ((device : DeviceNo) → binding_of new device ≡ binding_of old device)
+    → StayBound old new
 find_stays old new same = λ file device bound. ap (is_of_file file) (same (record { 0 = device })) ∙ bound
 
 -- ---- rows that come
 
-pub attachments-with_attachment : (objects : List Object) (attachment : Attachment) (attachments : List Attachment) → is_bound_to objects attachment.file attachment.device.0 ≡ true → attachments_bound objects attachments ≡ true → attachments_bound objects (with_attachment attachment attachments) ≡ true
+pub attachments-with_attachment : (objects : List Object) (attachment : Attachment) (attachments : List Attachment)
+    → is_bound_to objects attachment.file attachment.device.0 ≡ true → attachments_bound objects attachments ≡ true
+    → attachments_bound objects (with_attachment attachment attachments) ≡ true
 attachments-with_attachment objects attachment [] here all = both_true _ _ here refl
 attachments-with_attachment objects attachment (a ∷ attachments) here all =
     let parts = and_true (is_bound_to objects a.file a.device.0) (attachments_bound objects attachments) all in
     added _ (attachments-with_attachment objects attachment attachments here parts.1) parts.0
   where
-    added : (b : Bool) → attachments_bound objects (with_attachment attachment attachments) ≡ true → is_bound_to objects a.file a.device.0 ≡ true → attachments_bound objects (cond b (attachment ∷ a ∷ attachments) (a ∷ with_attachment attachment attachments)) ≡ true
+    added : (b : Bool) → attachments_bound objects (with_attachment attachment attachments) ≡ true
+        → is_bound_to objects a.file a.device.0 ≡ true
+        → attachments_bound objects (cond b (attachment ∷ a ∷ attachments) (a ∷ with_attachment attachment attachments))
+        ≡ true
     added true rest first = both_true _ _ here all
     added false rest first = both_true _ _ first rest
 
 -- ---- debts
 
 -- a debtor is attached, and so bound to its area's file
-pub debts_follow : (w : World) → DebtsAttached w → attachments_bound w.objects w.attachments ≡ true → debts_bound w.objects w.areas ≡ true
+pub debts_follow : (w : World) → DebtsAttached w → attachments_bound w.objects w.attachments ≡ true
+    → debts_bound w.objects w.areas ≡ true
 debts_follow w debts bound =
-    of_all (λ (area : Area). list_all (is_bound_to w.objects area.file) (owed_by [] area.phase)) w.areas (λ area within. by_phase area area.phase ((each_owed w debts).debtors area within))
+    of_all (λ (area : Area). list_all (is_bound_to w.objects area.file) (owed_by [] area.phase)) w.areas
+    (λ area within. by_phase area area.phase ((each_owed w debts).debtors area within))
   where
-    debtor_bound : (area : Area) (device : ℕ) → IsDebtor w.objects w.attachments area.file area.ioas device → is_bound_to w.objects area.file device ≡ true
+    debtor_bound : (area : Area) (device : ℕ) → IsDebtor w.objects w.attachments area.file area.ioas device
+        → is_bound_to w.objects area.file device ≡ true
     debtor_bound area device owes =
-        let parts = found_passes (λ (a : Attachment). is_bound_to w.objects a.file a.device.0) (λ (a : Attachment). eqb a.device.0 device) w.attachments owes.a bound owes.found in
+        let parts = found_passes (λ (a : Attachment). is_bound_to w.objects a.file a.device.0)
+        (λ (a : Attachment). eqb a.device.0 device) w.attachments owes.a bound owes.found in
         let here : is_bound_to w.objects area.file owes.a.device.0 ≡ true = rw owes.of_file at parts.0 in
         ap (is_bound_to w.objects area.file) (sym (eqb-true owes.a.device.0 device parts.1)) ∙ here
 
-    by_phase : (area : Area) (phase : Phase) → ((device : ℕ) → IsIn (debtors_of phase) device → IsDebtor w.objects w.attachments area.file area.ioas device) → list_all (is_bound_to w.objects area.file) (owed_by [] phase) ≡ true
+    by_phase : (area : Area) (phase : Phase)
+        → ((device : ℕ) → IsIn (debtors_of phase) device → IsDebtor w.objects w.attachments area.file area.ioas device)
+        → list_all (is_bound_to w.objects area.file) (owed_by [] phase) ≡ true
     by_phase area Live debtors = refl
-    by_phase area (Leaving owed tries) debtors = of_all (is_bound_to w.objects area.file) owed (λ device owes. debtor_bound area device (debtors device owes))
+    by_phase area (Leaving owed tries) debtors =
+        of_all (is_bound_to w.objects area.file) owed (λ device owes. debtor_bound area device (debtors device owes))
 
 -- ---- objects that come or go
 
 -- an object that isn't a device's
-pub stays-with_object : (object : Object) (objects : List Object) → ((device : DeviceNo) → is_bound_as device object.kind ≡ false) → StayBound objects (with_object object objects)
-stays-with_object object objects other = find_stays objects (with_object object objects) (λ device. find-with_object (λ o. is_bound_as device o.kind) object objects (other device))
+pub stays-with_object : (object : Object) (objects : List Object)
+    → ((device : DeviceNo) → is_bound_as device object.kind ≡ false) → StayBound objects (with_object object objects)
+stays-with_object object objects other =
+    find_stays objects (with_object object objects)
+    (λ device. find-with_object (λ o. is_bound_as device o.kind) object objects (other device))
 
 none_bound : (file : FileNo) (o : Option Object) → is_some o ≡ false → is_of_file file o ≡ true → ⊥
 none_bound file (Some object) is bound = cc
@@ -103,31 +124,42 @@ eqb_apart : (m n : ℕ) → m ≢ n → eqb m n ≡ false
 eqb_apart m n differ = grind (arith, nat_tests)
 
 -- a device that isn't bound yet
-pub stays-bind : (file : FileNo) (id : ObjId) (device : DeviceNo) (objects : List Object) → is_some (binding_of objects device) ≡ false → StayBound objects (with_object (record { file = file; id = id; kind = kind.Device device }) objects)
+pub stays-bind : (file : FileNo) (id : ObjId) (device : DeviceNo) (objects : List Object)
+    → is_some (binding_of objects device) ≡ false
+    → StayBound objects (with_object (record { file = file; id = id; kind = kind.Device device }) objects)
 stays-bind file id device objects unbound = λ own d bound.
     ⊎_elim
     (λ (same : device.0 ≡ d). absurd (none_bound own (binding_of objects device) unbound (rw (← same) at bound)))
     (λ (differ : device.0 ≢ d).
     let others : eqb device.0 d ≡ false = eqb_apart device.0 d differ in
-    rw (find-with_object (λ o. is_bound_as (record { 0 = d }) o.kind) (record { file = file; id = id; kind = kind.Device device }) objects others) bound)
+    rw (find-with_object (λ o. is_bound_as (record { 0 = d }) o.kind) (record {
+      file = file;
+      id = id;
+      kind = kind.Device device;
+    }) objects others) bound)
     (cases_eq device.0 d)
 
 -- an object that goes isn't a device's
-pub stays-filter : (goes : Object → Bool) (objects : List Object) → ((device : DeviceNo) → list_any (λ o. is_bound_as device o.kind && not (not (goes o))) objects ≡ false) → StayBound objects (filter (λ o. not (goes o)) objects)
-stays-filter goes objects others = find_stays objects (filter (λ o. not (goes o)) objects) (λ device. find-filter (λ o. is_bound_as device o.kind) (λ o. not (goes o)) objects (others device))
+pub stays-filter : (goes : Object → Bool) (objects : List Object)
+    → ((device : DeviceNo) → list_any (λ o. is_bound_as device o.kind && not (not (goes o))) objects ≡ false)
+    → StayBound objects (filter (λ o. not (goes o)) objects)
+stays-filter goes objects others = find_stays objects (filter (λ o. not (goes o)) objects)
+    (λ device. find-filter (λ o. is_bound_as device o.kind) (λ o. not (goes o)) objects (others device))
 
 no_device : (device : DeviceNo) (k : ObjectKind) → is_bound_device k ≡ false → is_bound_as device k ≡ false
 no_device device kind.Ioas is = refl
 no_device device (kind.Hwpt ioas width automatic) is = refl
 no_device device (kind.Device bound) is = cc
 
-pub no_device_either : (device : DeviceNo) (k : ObjectKind) (b : Bool) → is_bound_as device k ≡ true → not ((b && is_automatic k)) ≡ true
+pub no_device_either : (device : DeviceNo) (k : ObjectKind) (b : Bool) → is_bound_as device k ≡ true
+    → not ((b && is_automatic k)) ≡ true
 no_device_either device kind.Ioas b is = cc
 no_device_either device (kind.Hwpt ioas width automatic) b is = cc
 no_device_either device (kind.Device bound) true is = refl
 no_device_either device (kind.Device bound) false is = refl
 
-same_id : (file : FileNo) (id : ObjId) (first o : Object) → is_object file id first ≡ true → is_object first.file first.id o ≡ false → is_object file id o ≡ false
+same_id : (file : FileNo) (id : ObjId) (first o : Object) → is_object file id first ≡ true
+    → is_object first.file first.id o ≡ false → is_object file id o ≡ false
 same_id file id first o is other = grind (arith, nat_tests)
 
 and_no : (b : Bool) → (b && false) ≡ false
@@ -135,41 +167,66 @@ and_no true = refl
 and_no false = refl
 
 -- none of a file's objects is a device's
-pub file_without_devices : (device : DeviceNo) (file : FileNo) (objects : List Object) → list_any (λ o. is_bound_device o.kind) (objects_of objects file) ≡ false → list_any (λ o. is_bound_as device o.kind && not (not (eqb o.file.0 file.0))) objects ≡ false
+pub file_without_devices : (device : DeviceNo) (file : FileNo) (objects : List Object)
+    → list_any (λ o. is_bound_device o.kind) (objects_of objects file) ≡ false
+    → list_any (λ o. is_bound_as device o.kind && not (not (eqb o.file.0 file.0))) objects ≡ false
 file_without_devices device file [] none = refl
-file_without_devices device file (o ∷ objects) none = by_file (eqb o.file.0 file.0) none (file_without_devices device file objects)
+file_without_devices device file (o ∷ objects) none =
+    by_file (eqb o.file.0 file.0) none (file_without_devices device file objects)
   where
-    by_file : (b : Bool) → list_any (λ o. is_bound_device o.kind) (cond b (o ∷ objects_of objects file) (objects_of objects file)) ≡ false → (list_any (λ o. is_bound_device o.kind) (objects_of objects file) ≡ false → list_any (λ o. is_bound_as device o.kind && not (not (eqb o.file.0 file.0))) objects ≡ false) → ((is_bound_as device o.kind && not (not b)) || list_any (λ o. is_bound_as device o.kind && not (not (eqb o.file.0 file.0))) objects) ≡ false
+    by_file : (b : Bool) → list_any (λ o. is_bound_device o.kind)
+        (cond b (o ∷ objects_of objects file) (objects_of objects file)) ≡ false
+        → (list_any (λ o. is_bound_device o.kind) (objects_of objects file) ≡ false
+        → list_any (λ o. is_bound_as device o.kind && not (not (eqb o.file.0 file.0))) objects ≡ false)
+        → ((is_bound_as device o.kind && not (not b))
+        || list_any (λ o. is_bound_as device o.kind && not (not (eqb o.file.0 file.0))) objects) ≡ false
     by_file true is rest =
         let parts = or_false (is_bound_device o.kind) _ is in
         rw (no_device device o.kind parts.0) (rest parts.1)
     by_file false is rest = rw (and_no (is_bound_as device o.kind)) (rest is)
 
 -- what has no object of an id has none that is a device's
-none_left : (device : DeviceNo) (file : FileNo) (id : ObjId) (first : Object) (objects : List Object) → is_object file id first ≡ true → list_any (is_object first.file first.id) objects ≡ false → list_any (λ o. is_bound_as device o.kind && not (not (is_object file id o))) objects ≡ false
+none_left : (device : DeviceNo) (file : FileNo) (id : ObjId) (first : Object) (objects : List Object)
+    → is_object file id first ≡ true → list_any (is_object first.file first.id) objects ≡ false
+    → list_any (λ o. is_bound_as device o.kind && not (not (is_object file id o))) objects ≡ false
 none_left device file id first [] is none = refl
 none_left device file id first (o ∷ objects) is none =
     let parts = or_false (is_object first.file first.id o) (list_any (is_object first.file first.id) objects) none in
-    rw (same_id file id first o is parts.0, and_no (is_bound_as device o.kind)) (none_left device file id first objects is parts.1)
+    rw (same_id file id first o is parts.0, and_no (is_bound_as device o.kind))
+    (none_left device file id first objects is parts.1)
 
 -- the object of an id that is given isn't a device's
-pub id_without_device : (device : DeviceNo) (file : FileNo) (id : ObjId) (objects : List Object) → have_own_ids objects ≡ true → is_device_object (kind_of objects file id) ≡ false → list_any (λ o. is_bound_as device o.kind && not (not (is_object file id o))) objects ≡ false
+pub id_without_device : (device : DeviceNo) (file : FileNo) (id : ObjId) (objects : List Object)
+    → have_own_ids objects ≡ true → is_device_object (kind_of objects file id) ≡ false
+    → list_any (λ o. is_bound_as device o.kind && not (not (is_object file id o))) objects ≡ false
 id_without_device device file id [] own none = refl
 id_without_device device file id (o ∷ objects) own none =
     let owns = and_true (not (list_any (is_object o.file o.id) objects)) (have_own_ids objects) own in
     by_id (is_object file id o) refl none (not_true _ owns.0) (id_without_device device file id objects owns.1)
   where
-    by_id : (b : Bool) → is_object file id o ≡ b → is_device_object (elim (cond b (Some o) (find (is_object file id) objects)) [ Some object ↦ Some object.kind | None ↦ None ]) ≡ false → list_any (is_object o.file o.id) objects ≡ false → (is_device_object (kind_of objects file id) ≡ false → list_any (λ o. is_bound_as device o.kind && not (not (is_object file id o))) objects ≡ false) → ((is_bound_as device o.kind && not (not b)) || list_any (λ o. is_bound_as device o.kind && not (not (is_object file id o))) objects) ≡ false
+    by_id : (b : Bool) → is_object file id o ≡ b
+        → is_device_object (elim (cond b (Some o) (find (is_object file id) objects)) [
+          | Some object ↦ Some object.kind
+          | None ↦ None
+        ]) ≡ false → list_any (is_object o.file o.id) objects ≡ false
+        → (is_device_object (kind_of objects file id) ≡ false
+        → list_any (λ o. is_bound_as device o.kind && not (not (is_object file id o))) objects ≡ false)
+        → ((is_bound_as device o.kind && not (not b))
+        || list_any (λ o. is_bound_as device o.kind && not (not (is_object file id o))) objects) ≡ false
     by_id true is here others rest = rw (no_device device o.kind here) (none_left device file id o objects is others)
     by_id false is here others rest = rw (and_no (is_bound_as device o.kind)) (rest here)
 
 -- a device's object goes, of a device that isn't attached
-pub attachments-unbound : (w : World) (file : FileNo) (id : ObjId) → have_own_ids w.objects ≡ true → attach_once w.attachments ≡ true → is_attached (view w) (kind_of w.objects file id) ≡ false → attachments_bound w.objects w.attachments ≡ true
+pub attachments-unbound : (w : World) (file : FileNo) (id : ObjId) → have_own_ids w.objects ≡ true
+    → attach_once w.attachments ≡ true → is_attached (view w) (kind_of w.objects file id) ≡ false
+    → attachments_bound w.objects w.attachments ≡ true
     → attachments_bound (without_device_object file id w.objects) w.attachments ≡ true
 attachments-unbound w file id own once unattached bound =
     of_all (λ (a : Attachment). is_bound_to (without_device_object file id w.objects) a.file a.device.0) w.attachments
     (λ a within.
-    ap (is_of_file a.file) (find-filter (is_as a) stays w.objects (none_of (λ o. is_as a o && not (stays o)) w.objects (λ o among. false_else _ (λ both. other a within o among both))))
+    ap (is_of_file a.file) (find-filter (is_as a) stays w.objects
+    (none_of (λ o. is_as a o && not (stays o)) w.objects
+    (λ o among. false_else _ (λ both. other a within o among both))))
     ∙ of_each (λ (a : Attachment). is_bound_to w.objects a.file a.device.0) w.attachments a bound within)
   where
     is_as : Attachment → Object → Bool
@@ -179,10 +236,12 @@ attachments-unbound w file id own once unattached bound =
     stays o = not (is_object file id o && is_bound_device o.kind)
 
     -- an attached device isn't the one of the object that goes
-    never : (a : Attachment) → IsIn w.attachments a → (k : ObjectKind) → is_bound_as (record { 0 = a.device.0 }) k ≡ true → is_attached (view w) (Some k) ≡ false → ⊥
+    never : (a : Attachment) → IsIn w.attachments a → (k : ObjectKind)
+        → is_bound_as (record { 0 = a.device.0 }) k ≡ true → is_attached (view w) (Some k) ≡ false → ⊥
     never a within (kind.Device device) same unattached =
         let found = found_once w.attachments a once within in
-        let like = ap (λ (n : ℕ). is_some (attachment_of w.attachments (record { 0 = n }))) (eqb-true device.0 a.device.0 same) in
+        let like = ap (λ (n : ℕ). is_some (attachment_of w.attachments (record { 0 = n })))
+        (eqb-true device.0 a.device.0 same) in
         cc
     never a within kind.Ioas same unattached = cc
     never a within (kind.Hwpt ioas width automatic) same unattached = cc
@@ -191,9 +250,12 @@ attachments-unbound w file id own once unattached bound =
     goes true device is = refl
     goes false device is = cc
 
-    other : (a : Attachment) → IsIn w.attachments a → (o : Object) → IsIn w.objects o → (is_as a o && not (stays o)) ≡ true → ⊥
+    other : (a : Attachment) → IsIn w.attachments a → (o : Object) → IsIn w.objects o
+        → (is_as a o && not (stays o)) ≡ true → ⊥
     other a within o among both =
         let parts = and_true (is_as a o) (not (stays o)) both in
-        let names = and_true (eqb o.file.0 file.0) (eqb o.id.0 id.0) (goes (is_object file id o) (is_bound_device o.kind) parts.1) in
-        let kind : kind_of w.objects file id ≡ Some o.kind = rw (file_is o.file file names.0, id_is o.id id names.1) at (kind_only w.objects o own among) in
+        let names = and_true (eqb o.file.0 file.0) (eqb o.id.0 id.0)
+        (goes (is_object file id o) (is_bound_device o.kind) parts.1) in
+        let kind : kind_of w.objects file id ≡ Some o.kind =
+        rw (file_is o.file file names.0, id_is o.id id names.1) at (kind_only w.objects o own among) in
         never a within o.kind parts.0 (rw kind at unattached)

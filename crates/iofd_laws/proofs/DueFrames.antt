@@ -1,10 +1,18 @@
 -- Where an event is refused for want of frames, there are too few for what it needs.
-use Rattle.std.proofs.Common.{◌≡◌, ℕ, zero, suc, ◌+◌, ◌<◌, ◌≤◌, Bool, true, false, cond, ◌&&◌, ◌||◌, not, eqb, ltb, is_none, is_some, Option, Some, None, List, [], ◌∷◌, length, refl, ap, sym, ◌∙◌, subst, arith, inl}
+use Rattle.std.proofs.Common.{◌≡◌, ℕ, zero, suc, ◌+◌, ◌<◌, ◌≤◌, Bool, true, false, cond, ◌&&◌, ◌||◌, not, eqb, ltb}
+use Rattle.std.proofs.Common.{is_none, is_some, Option, Some, None, List, [], ◌∷◌, length, refl, ap, sym, ◌∙◌, subst}
+use Rattle.std.proofs.Common.{arith, inl}
 use Rattle.std.specs.List.{count_by, filter, list_all, list_any, range_with_len}
 use Rattle.std.proofs.lemmas.Bool.Decides.{nat_tests}
-use Rattle.iofd_words.specs.After.{attach_changes, attached, changed, copy_changes, hwpt_changes, map_changes, settle, target_changes}
+use Rattle.iofd_words.specs.After.{attach_changes, attached, changed, copy_changes, hwpt_changes, map_changes, settle}
+use Rattle.iofd_words.specs.After.{target_changes}
 use Rattle.iofd_words.specs.Answers.{Answers, IsHwptFor, IsHwptOf, IsMappedAt, IsTarget}
-use Rattle.iofd_words.specs.Checks.{allow_iovas_checks, attach_checks, bind_checks, bound_attach_checks, checks, close_checks, copy_checks, destroy_checks, detach_checks, device_write_checks, flush_checks, hwpt_alloc_checks, ioas_alloc_checks, lacks_attached_frames, lacks_mapped_frames, lacks_new_tables, map_checks, mapped_start, refusal, tables_to_map, target_checks, unbind_checks, unmap_checks, user_map_checks, user_unmap_checks, user_write_checks}
+use Rattle.iofd_words.specs.Checks.{allow_iovas_checks, attach_checks, bind_checks, bound_attach_checks, checks}
+use Rattle.iofd_words.specs.Checks.{close_checks, copy_checks, destroy_checks, detach_checks, device_write_checks}
+use Rattle.iofd_words.specs.Checks.{flush_checks, hwpt_alloc_checks, ioas_alloc_checks, lacks_attached_frames}
+use Rattle.iofd_words.specs.Checks.{lacks_mapped_frames, lacks_new_tables, map_checks, mapped_start, refusal}
+use Rattle.iofd_words.specs.Checks.{tables_to_map, target_checks, unbind_checks, unmap_checks, user_map_checks}
+use Rattle.iofd_words.specs.Checks.{user_unmap_checks, user_write_checks}
 use Rattle.iofd_words.specs.Copies.{placed_as}
 use Rattle.iofd_words.specs.Files.{device_of, is_open, user_of}
 use Rattle.iofd_words.specs.FirstTrue.{first_true}
@@ -59,16 +67,19 @@ abbrev is_frames : Cause → Bool
 is_frames cause.Frames = true
 is_frames c = false
 
-frames_row : (rows : List (Cause × Bool)) → first_true rows ≡ Some cause.Frames → list_any (λ row. is_frames row.0 && row.1) rows ≡ true
+frames_row : (rows : List (Cause × Bool)) → first_true rows ≡ Some cause.Frames
+    → list_any (λ row. is_frames row.0 && row.1) rows ≡ true
 frames_row [] none = cc
 frames_row ((name, test) ∷ rows) is = by_test test is (frames_row rows)
   where
-    by_test : (b : Bool) → cond b (Some name) (first_true rows) ≡ Some cause.Frames → (first_true rows ≡ Some cause.Frames → list_any (λ row. is_frames row.0 && row.1) rows ≡ true)
+    by_test : (b : Bool) → cond b (Some name) (first_true rows) ≡ Some cause.Frames
+        → (first_true rows ≡ Some cause.Frames → list_any (λ row. is_frames row.0 && row.1) rows ≡ true)
         → ((is_frames name && b) || list_any (λ row. is_frames row.0 && row.1) rows) ≡ true
     by_test true found later = let same : name ≡ cause.Frames = cc in rw same refl
     by_test false found later = either (is_frames name) (later found)
       where
-        either : (a : Bool) → list_any (λ row. is_frames row.0 && row.1) rows ≡ true → ((a && false) || list_any (λ row. is_frames row.0 && row.1) rows) ≡ true
+        either : (a : Bool) → list_any (λ row. is_frames row.0 && row.1) rows ≡ true
+            → ((a && false) || list_any (λ row. is_frames row.0 && row.1) rows) ≡ true
         either true rest = rest
         either false rest = rest
 
@@ -79,23 +90,30 @@ are_other (row ∷ rows) zero = not (is_frames row.0)
 are_other (row ∷ rows) (suc place) = not (is_frames row.0) && are_other rows place
 
 -- so it didn't refuse
-row_passed : (rows : List (Cause × Bool)) (place : ℕ) → first_true rows ≡ Some cause.Frames → are_other rows place ≡ true → test_at rows place ≡ false
+row_passed : (rows : List (Cause × Bool)) (place : ℕ) → first_true rows ≡ Some cause.Frames
+    → are_other rows place ≡ true → test_at rows place ≡ false
 row_passed [] place is other = refl
-row_passed (row ∷ rows) place is other = by_test (λ at found others. row_passed rows at found others) row.0 row.1 place is other
+row_passed (row ∷ rows) place is other =
+    by_test (λ at found others. row_passed rows at found others) row.0 row.1 place is other
   where
     refused : (name : Cause) → name ≡ cause.Frames → not (is_frames name) ≡ true → ⊥
     refused name same other = let never = rw same at other in cc
 
-    by_test : ((at : ℕ) → first_true rows ≡ Some cause.Frames → are_other rows at ≡ true → test_at rows at ≡ false) → (name : Cause) (test : Bool) (at : ℕ)
-        → cond test (Some name) (first_true rows) ≡ Some cause.Frames → are_other ((name, test) ∷ rows) at ≡ true → test_at ((name, test) ∷ rows) at ≡ false
+    by_test : ((at : ℕ) → first_true rows ≡ Some cause.Frames → are_other rows at ≡ true → test_at rows at ≡ false)
+        → (name : Cause) (test : Bool) (at : ℕ)
+        → cond test (Some name) (first_true rows) ≡ Some cause.Frames → are_other ((name, test) ∷ rows) at ≡ true
+        → test_at ((name, test) ∷ rows) at ≡ false
     by_test later name true zero found other = let same : name ≡ cause.Frames = cc in absurd (refused name same other)
-    by_test later name true (suc at) found other = let same : name ≡ cause.Frames = cc in absurd (refused name same (and_true (not (is_frames name)) (are_other rows at) other).0)
+    by_test later name true (suc at) found other = let same : name ≡ cause.Frames =
+        cc in absurd (refused name same (and_true (not (is_frames name)) (are_other rows at) other).0)
     by_test later name false zero found other = refl
-    by_test later name false (suc at) found other = later at found (and_true (not (is_frames name)) (are_other rows at) other).1
+    by_test later name false (suc at) found other =
+        later at found (and_true (not (is_frames name)) (are_other rows at) other).1
 
 -- ---- no more frames than there are
 
-again : (p : ℕ → Bool) (n : ℕ) (frames : List FrameNo) → are_different frames ≡ true → length frames ≤ suc (length (filter (λ (f : FrameNo). not (eqb f.0 n)) frames))
+again : (p : ℕ → Bool) (n : ℕ) (frames : List FrameNo) → are_different frames ≡ true
+    → length frames ≤ suc (length (filter (λ (f : FrameNo). not (eqb f.0 n)) frames))
 again p n [] differ = omega arith
 again p n (f ∷ frames) differ =
     let parts = and_true (not (is_among frames f)) (are_different frames) differ in
@@ -104,37 +122,52 @@ again p n (f ∷ frames) differ =
     moved : (m : ℕ) → eqb f.0 n ≡ true → not (eqb m f.0) ≡ true → not (eqb m n) ≡ true
     moved m is other = search (is, other, arith, nat_tests)
 
-    by_test : (b : Bool) → eqb f.0 n ≡ b → list_all (λ (other : FrameNo). not (eqb other.0 f.0)) frames ≡ true → length frames ≤ suc (length (filter (λ (g : FrameNo). not (eqb g.0 n)) frames))
-        → suc (length frames) ≤ suc (length (cond (not b) (f ∷ filter (λ (g : FrameNo). not (eqb g.0 n)) frames) (filter (λ (g : FrameNo). not (eqb g.0 n)) frames)))
+    by_test : (b : Bool) → eqb f.0 n ≡ b → list_all (λ (other : FrameNo). not (eqb other.0 f.0)) frames ≡ true
+        → length frames ≤ suc (length (filter (λ (g : FrameNo). not (eqb g.0 n)) frames))
+        → suc (length frames) ≤ suc (length (cond (not b) (f ∷ filter (λ (g : FrameNo). not (eqb g.0 n)) frames)
+        (filter (λ (g : FrameNo). not (eqb g.0 n)) frames)))
     by_test true is others rest =
-        let same = filter_all (λ (g : FrameNo). not (eqb g.0 n)) frames (of_all (λ (g : FrameNo). not (eqb g.0 n)) frames (λ g within. moved g.0 is (of_each (λ (other : FrameNo). not (eqb other.0 f.0)) frames g others within))) in
+        let same = filter_all (λ (g : FrameNo). not (eqb g.0 n)) frames
+        (of_all (λ (g : FrameNo). not (eqb g.0 n)) frames
+        (λ g within. moved g.0 is (of_each (λ (other : FrameNo). not (eqb other.0 f.0))
+        frames g others within))) in
         rw same (omega arith)
     by_test false is others rest = omega (arith, rest)
 
-differ_filter : (keeps : FrameNo → Bool) (frames : List FrameNo) → are_different frames ≡ true → are_different (filter keeps frames) ≡ true
+differ_filter : (keeps : FrameNo → Bool) (frames : List FrameNo) → are_different frames ≡ true
+    → are_different (filter keeps frames) ≡ true
 differ_filter keeps [] differ = refl
 differ_filter keeps (f ∷ frames) differ =
     let parts = and_true (not (is_among frames f)) (are_different frames) differ in
-    let others = all_filter (λ (other : FrameNo). not (eqb other.0 f.0)) keeps frames (none_all (λ (other : FrameNo). eqb other.0 f.0) frames parts.0) in
-    by_test (keeps f) (all_none (λ (other : FrameNo). eqb other.0 f.0) (filter keeps frames) others) (differ_filter keeps frames parts.1)
+    let others = all_filter (λ (other : FrameNo). not (eqb other.0 f.0)) keeps frames
+    (none_all (λ (other : FrameNo). eqb other.0 f.0) frames parts.0) in
+    by_test (keeps f) (all_none (λ (other : FrameNo). eqb other.0 f.0) (filter keeps frames) others)
+    (differ_filter keeps frames parts.1)
   where
-    by_test : (b : Bool) → not (is_among (filter keeps frames) f) ≡ true → are_different (filter keeps frames) ≡ true → are_different (cond b (f ∷ filter keeps frames) (filter keeps frames)) ≡ true
+    by_test : (b : Bool) → not (is_among (filter keeps frames) f) ≡ true → are_different (filter keeps frames) ≡ true
+        → are_different (cond b (f ∷ filter keeps frames) (filter keeps frames)) ≡ true
     by_test true first rest = both_true _ _ first rest
     by_test false first rest = rest
 
 -- frames of a range that pass, each once, are no more than so many of it
-no_more : (p : ℕ → Bool) (start len : ℕ) (frames : List FrameNo) → are_different frames ≡ true → ((f : FrameNo) → IsIn frames f → (p f.0 ≡ true) × (start ≤ f.0) × (f.0 < start + len)) → length frames ≤ count_by p (range_with_len start len)
+no_more : (p : ℕ → Bool) (start len : ℕ) (frames : List FrameNo) → are_different frames ≡ true
+    → ((f : FrameNo) → IsIn frames f → (p f.0 ≡ true) × (start ≤ f.0) × (f.0 < start + len))
+    → length frames ≤ count_by p (range_with_len start len)
 no_more p start zero [] differ each = omega arith
-no_more p start zero (f ∷ frames) differ each = let (passes, low, high) = each f (inl refl) in absurd (omega (arith, low, high))
+no_more p start zero (f ∷ frames) differ each =
+    let (passes, low, high) = each f (inl refl) in absurd (omega (arith, low, high))
 no_more p start (suc len) frames differ each =
     let others = filter (λ (f : FrameNo). not (eqb f.0 start)) frames in
-    let rest = no_more p (start + 1) len others (differ_filter (λ (f : FrameNo). not (eqb f.0 start)) frames differ) later in
-    subst (λ c. length frames ≤ c) (sym (count-cons p start (range_with_len (start + 1) len))) (by_test (p start) refl rest (again p start frames differ))
+    let rest =
+    no_more p (start + 1) len others (differ_filter (λ (f : FrameNo). not (eqb f.0 start)) frames differ) later in
+    subst (λ c. length frames ≤ c) (sym (count-cons p start (range_with_len (start + 1) len)))
+    (by_test (p start) refl rest (again p start frames differ))
   where
     past : (n : ℕ) → start ≤ n → not (eqb n start) ≡ true → start + 1 ≤ n
     past n low other = search (low, other, arith, nat_tests)
 
-    later : (f : FrameNo) → IsIn (filter (λ (f : FrameNo). not (eqb f.0 start)) frames) f → (p f.0 ≡ true) × (start + 1 ≤ f.0) × (f.0 < start + 1 + len)
+    later : (f : FrameNo) → IsIn (filter (λ (f : FrameNo). not (eqb f.0 start)) frames) f
+        → (p f.0 ≡ true) × (start + 1 ≤ f.0) × (f.0 < start + 1 + len)
     later f within =
         let (held, other) = in_filter (λ (f : FrameNo). not (eqb f.0 start)) frames f within in
         let (passes, low, high) = each f held in
@@ -144,14 +177,18 @@ no_more p start (suc len) frames differ each =
     unequal fails f within = by_same (eqb f.0 start) refl
       where
         by_same : (b : Bool) → eqb f.0 start ≡ b → not b ≡ true
-        by_same true is = let same : f.0 ≡ start = search (is, arith, nat_tests) in absurd (clash (p start) fails (ap p (sym same) ∙ (each f within).0))
+        by_same true is = let same : f.0 ≡ start =
+            search (is, arith, nat_tests) in absurd (clash (p start) fails (ap p (sym same) ∙ (each f within).0))
         by_same false is = refl
 
-    by_test : (b : Bool) → p start ≡ b → length (filter (λ (f : FrameNo). not (eqb f.0 start)) frames) ≤ count_by p (range_with_len (start + 1) len) → length frames ≤ suc (length (filter (λ (f : FrameNo). not (eqb f.0 start)) frames))
+    by_test : (b : Bool) → p start ≡ b → length (filter (λ (f : FrameNo). not (eqb f.0 start)) frames) ≤ count_by p
+        (range_with_len (start + 1) len) → length frames ≤ suc
+        (length (filter (λ (f : FrameNo). not (eqb f.0 start)) frames))
         → length frames ≤ cond b 1 0 + count_by p (range_with_len (start + 1) len)
     by_test true is rest one = omega (arith, rest, one)
     by_test false is rest one =
-        let same = filter_all (λ (f : FrameNo). not (eqb f.0 start)) frames (of_all (λ (f : FrameNo). not (eqb f.0 start)) frames (unequal is)) in
+        let same = filter_all (λ (f : FrameNo). not (eqb f.0 start)) frames
+        (of_all (λ (f : FrameNo). not (eqb f.0 start)) frames (unequal is)) in
         omega (arith, subst (λ list. length list ≤ count_by p (range_with_len (start + 1) len)) same rest)
 
 -- ---- an event that needs more tables than frames are free
@@ -166,20 +203,32 @@ module _ (w : World) where
   in_pool : (n : ℕ) → free n ≡ true → n < 0 + w.settings.pool
   in_pool n is = let below = (and_true (ltb n w.settings.pool) _ is).0 in search (below, arith, nat_tests)
 
-  within_free : (frames : List FrameNo) → are_different frames ≡ true → list_all (λ (f : FrameNo). free f.0) frames ≡ true → length frames ≤ count
-  within_free frames differ all = no_more free 0 w.settings.pool frames differ (λ f within. let passes = of_each (λ (f : FrameNo). free f.0) frames f all within in (passes, omega arith, in_pool f.0 passes))
+  within_free : (frames : List FrameNo) → are_different frames ≡ true
+      → list_all (λ (f : FrameNo). free f.0) frames ≡ true → length frames ≤ count
+  within_free frames differ all = no_more free 0 w.settings.pool frames differ
+      (λ f within. let passes = of_each (λ (f : FrameNo). free f.0) frames f all within in (
+        passes,
+        omega arith,
+        in_pool f.0 passes,
+      ))
 
-  overdrawn : {A : Type 0} (left : World) (e : Event A) (answer : Reply) (taken given : List FrameNo) → MovesTables w left e answer taken given → left.table_frames ≡ w.table_frames → list_all (is_owned left.objects) w.table_frames ≡ true
-      → ((table : TableFrame) → may_go left e answer table ≡ false) → count < length (missing_tables left.objects left.areas w.table_frames) → ⊥
+  overdrawn : {A : Type 0} (left : World) (e : Event A) (answer : Reply) (taken given : List FrameNo)
+      → MovesTables w left e answer taken given → left.table_frames ≡ w.table_frames
+      → list_all (is_owned left.objects) w.table_frames ≡ true
+      → ((table : TableFrame) → may_go left e answer table ≡ false)
+      → count < length (missing_tables left.objects left.areas w.table_frames) → ⊥
   overdrawn left e answer taken given moves same owned stay more =
       let none = none_goes w left e answer taken given moves owned stay in
-      let kept : kept_tables given left.table_frames ≡ w.table_frames = ap (λ g. kept_tables g left.table_frames) none ∙ none_given left.table_frames ∙ same in
+      let kept : kept_tables given left.table_frames ≡ w.table_frames =
+      ap (λ g. kept_tables g left.table_frames) none ∙ none_given left.table_frames ∙ same in
       let lengths = moves.enough ∙ ap length (ap (missing_tables left.objects left.areas) kept) in
       let most = within_free taken moves.different moves.free in
       omega (arith, lengths, most, more)
 
   -- a frame for a user's page, of none that are free
-  user_due : (user : UserNo) (va : ℕ) (frame : FrameNo) → first_true (user_map_checks (view w) user va) ≡ Some cause.Frames → is_free w.settings.pool w.user_pages w.pins w.table_frames frame.0 ≡ true → ⊥
+  user_due : (user : UserNo) (va : ℕ) (frame : FrameNo)
+      → first_true (user_map_checks (view w) user va) ≡ Some cause.Frames
+      → is_free w.settings.pool w.user_pages w.pins w.table_frames frame.0 ≡ true → ⊥
   unfolding user_map_checks
   user_due user va frame refused is_free_frame =
       let none = sym (or_none (eqb count 0)) ∙ frames_row (user_map_checks (view w) user va) refused in
@@ -191,9 +240,14 @@ above : (a b : ℕ) → ltb a b ≡ true → a < b
 above a b is = search (is, arith, nat_tests)
 
 -- an area at a fixed address, for whose tables frames lack
-fixed_more : (w : World) (file : FileNo) (request : MapRequest) (iova : Iova) → lacks_mapped_frames (view w) file request ≡ true → is_fixed request.flags ≡ true → iova ≡ request.iova → count w < tables_to_map (view w) file request.ioas (span_from iova.0 request.length)
+fixed_more : (w : World) (file : FileNo) (request : MapRequest) (iova : Iova)
+    → lacks_mapped_frames (view w) file request ≡ true → is_fixed request.flags ≡ true → iova ≡ request.iova
+    → count w < tables_to_map (view w) file request.ioas (span_from iova.0 request.length)
 fixed_more w file request iova lacks fixed at_iova =
-    above _ _ (sym (ap (λ (o : Option ℕ). elim o [ Some at ↦ ltb (count w) (tables_to_map (view w) file request.ioas (span_from at request.length)) | None ↦ false ]) start) ∙ lacks)
+    above _ _ (sym (ap (λ (o : Option ℕ). elim o [
+      | Some at ↦ ltb (count w) (tables_to_map (view w) file request.ioas (span_from at request.length))
+      | None ↦ false
+    ]) start) ∙ lacks)
   where
     start : mapped_start (view w) file request ≡ Some iova.0
     start = same (is_fixed request.flags) _ fixed
@@ -205,15 +259,21 @@ fixed_more w file request iova lacks fixed at_iova =
 -- ---- each event
 
 module _ {A : Type 0} (at : ℕ) (w : World) (has : HasTables w) (taken given : List FrameNo) where
-  map_due : (file : FileNo) (request : MapRequest) (iova : Iova) → first_true (map_checks (view w) file request) ≡ Some cause.Frames → is_fixed request.flags ≡ true → iova ≡ request.iova
-      → MovesTables {A = A} w (changed {A = A} at w (event.Map file request) (reply.Iova iova)) (event.Map file request) (reply.Iova iova) taken given → ⊥
+  map_due : (file : FileNo) (request : MapRequest) (iova : Iova)
+      → first_true (map_checks (view w) file request) ≡ Some cause.Frames → is_fixed request.flags ≡ true
+      → iova ≡ request.iova
+      → MovesTables {A = A} w (changed {A = A} at w (event.Map file request) (reply.Iova iova)) (event.Map file request)
+      (reply.Iova iova) taken given → ⊥
   unfolding changed settle map_checks
   map_due file request iova refused fixed at_iova moves = by_user (user_of w.settings file) refl moves
     where
       lacks : lacks_mapped_frames (view w) file request ≡ true
-      lacks = sym (or_none (lacks_mapped_frames (view w) file request)) ∙ frames_row (map_checks (view w) file request) refused
+      lacks = sym (or_none (lacks_mapped_frames (view w) file request))
+          ∙ frames_row (map_checks (view w) file request) refused
 
-      by_user : (user : Option UserNo) → user_of w.settings file ≡ user → MovesTables {A = A} w (map_changes at w file request iova user) (event.Map file request) (reply.Iova iova) taken given → ⊥
+      by_user : (user : Option UserNo) → user_of w.settings file ≡ user
+          → MovesTables {A = A} w (map_changes at w file request iova user) (event.Map file request)
+          (reply.Iova iova) taken given → ⊥
       by_user None is moves = never (sym (ap (λ (o : Option UserNo). is_some o) is) ∙ is_true)
         where
           not_not : (b : Bool) → not b ≡ false → b ≡ true
@@ -221,88 +281,141 @@ module _ {A : Type 0} (at : ℕ) (w : World) (has : HasTables w) (taken given : 
           not_not false is = cc
 
           is_true : is_some (user_of w.settings file) ≡ true
-          is_true = (and_true (is_some (user_of w.settings file)) (not (list_any (λ (f : FileNo). eqb f.0 file.0) w.closed)) (not_not (is_open w.settings w.closed file) (row_passed (map_checks (view w) file request) 0 refused refl))).0
+          is_true = (and_true (is_some (user_of w.settings file))
+              (not (list_any (λ (f : FileNo). eqb f.0 file.0) w.closed))
+              (not_not (is_open w.settings w.closed file)
+              (row_passed (map_checks (view w) file request) 0 refused refl))).0
       by_user (Some user) is moves =
-          overdrawn w {A = A} (map_changes at w file request iova (Some user)) (event.Map file request) (reply.Iova iova) taken given moves refl has.tables.owned (λ table. refl)
-          (subst (λ n. count w < n) (sym (mapped_tables w has at file request iova)) (fixed_more w file request iova lacks fixed at_iova))
+          overdrawn w {A = A} (map_changes at w file request iova (Some user)) (event.Map file request)
+          (reply.Iova iova) taken given moves refl has.tables.owned (λ table. refl)
+          (subst (λ n. count w < n) (sym (mapped_tables w has at file request iova))
+          (fixed_more w file request iova lacks fixed at_iova))
 
-  copy_due : (file : FileNo) (request : CopyRequest) (iova : Iova) → first_true (copy_checks (view w) file request) ≡ Some cause.Frames → is_fixed request.flags ≡ true → iova ≡ request.dst_iova
-      → MovesTables {A = A} w (changed {A = A} at w (event.Copy file request) (reply.Iova iova)) (event.Copy file request) (reply.Iova iova) taken given → ⊥
+  copy_due : (file : FileNo) (request : CopyRequest) (iova : Iova)
+      → first_true (copy_checks (view w) file request) ≡ Some cause.Frames → is_fixed request.flags ≡ true
+      → iova ≡ request.dst_iova
+      → MovesTables {A = A} w (changed {A = A} at w (event.Copy file request) (reply.Iova iova))
+      (event.Copy file request) (reply.Iova iova) taken given → ⊥
   unfolding changed settle copy_checks
   copy_due file request iova refused fixed at_iova moves = by_source (source_area w file request) refl moves
     where
       lacks : lacks_mapped_frames (view w) file (placed_as request) ≡ true
-      lacks = sym (or_none (lacks_mapped_frames (view w) file (placed_as request))) ∙ frames_row (copy_checks (view w) file request) refused
+      lacks = sym (or_none (lacks_mapped_frames (view w) file (placed_as request)))
+          ∙ frames_row (copy_checks (view w) file request) refused
 
       found : is_none (source_area w file request) ≡ false
       found = row_passed (copy_checks (view w) file request) 7 refused refl
 
-      by_source : (source : Option Area) → source_area w file request ≡ source → MovesTables {A = A} w (copy_changes w file request iova source) (event.Copy file request) (reply.Iova iova) taken given → ⊥
+      by_source : (source : Option Area) → source_area w file request ≡ source
+          → MovesTables {A = A} w (copy_changes w file request iova source) (event.Copy file request)
+          (reply.Iova iova) taken given → ⊥
       by_source None is moves = never (sym found ∙ ap (λ (o : Option Area). is_none o) is)
       by_source (Some source) is moves =
-          overdrawn w {A = A} (copy_changes w file request iova (Some source)) (event.Copy file request) (reply.Iova iova) taken given moves refl has.tables.owned (λ table. refl)
-          (subst (λ n. count w < n) (sym (mapped_tables w has source.memory file (placed_as request) iova)) (fixed_more w file (placed_as request) iova lacks fixed at_iova))
+          overdrawn w {A = A} (copy_changes w file request iova (Some source)) (event.Copy file request)
+          (reply.Iova iova) taken given moves refl has.tables.owned (λ table. refl)
+          (subst (λ n. count w < n) (sym (mapped_tables w has source.memory file (placed_as request) iova))
+          (fixed_more w file (placed_as request) iova lacks fixed at_iova))
 
-  hwpt_due : (file : FileNo) (request : HwptRequest) (id : ObjId) → first_true (hwpt_alloc_checks (view w) file request) ≡ Some cause.Frames → Answers {A = A} w (event.HwptAlloc file request) (reply.Id id)
-      → MovesTables {A = A} w (changed {A = A} at w (event.HwptAlloc file request) (reply.Id id)) (event.HwptAlloc file request) (reply.Id id) taken given → ⊥
+  hwpt_due : (file : FileNo) (request : HwptRequest) (id : ObjId)
+      → first_true (hwpt_alloc_checks (view w) file request) ≡ Some cause.Frames
+      → Answers {A = A} w (event.HwptAlloc file request) (reply.Id id)
+      → MovesTables {A = A} w (changed {A = A} at w (event.HwptAlloc file request) (reply.Id id))
+      (event.HwptAlloc file request) (reply.Id id) taken given → ⊥
   unfolding changed settle Answers hwpt_alloc_checks
-  hwpt_due file request id refused answers moves = by_device (settings_under w.settings w.objects file request.device) lacks moves
+  hwpt_due file request id refused answers moves =
+      by_device (settings_under w.settings w.objects file request.device) lacks moves
     where
-      lacks : lacks_new_tables (view w) file request.ioas (settings_under w.settings w.objects file request.device) ≡ true
-      lacks = sym (or_none (lacks_new_tables (view w) file request.ioas (settings_under w.settings w.objects file request.device))) ∙ frames_row (hwpt_alloc_checks (view w) file request) refused
+      lacks : lacks_new_tables (view w) file request.ioas
+          (settings_under w.settings w.objects file request.device) ≡ true
+      lacks = sym (or_none (lacks_new_tables (view w) file request.ioas
+          (settings_under w.settings w.objects file request.device)))
+          ∙ frames_row (hwpt_alloc_checks (view w) file request) refused
 
-      by_device : (d : Option DeviceSettings) → lacks_new_tables (view w) file request.ioas d ≡ true → MovesTables {A = A} w (hwpt_changes w file request.ioas id d) (event.HwptAlloc file request) (reply.Id id) taken given → ⊥
+      by_device : (d : Option DeviceSettings) → lacks_new_tables (view w) file request.ioas d ≡ true
+          → MovesTables {A = A} w (hwpt_changes w file request.ioas id d) (event.HwptAlloc file request)
+          (reply.Id id) taken given → ⊥
       by_device None lacks moves = never lacks
       by_device (Some d) lacks moves =
-          overdrawn w {A = A} (hwpt_changes w file request.ioas id (Some d)) (event.HwptAlloc file request) (reply.Id id) taken given moves refl (made_owned w has file request.ioas id d answers) (λ table. refl)
+          overdrawn w {A = A} (hwpt_changes w file request.ioas id (Some d)) (event.HwptAlloc file request)
+          (reply.Id id) taken given moves refl (made_owned w has file request.ioas id d answers) (λ table. refl)
           (subst (λ n. count w < n) (sym (made_tables w has file request.ioas id d answers)) (above _ _ lacks))
 
-  attach_due : (device : DeviceNo) (pt_id id : ObjId) → first_true (attach_checks (view w) device pt_id) ≡ Some cause.Frames → Answers {A = A} w (event.Attach device pt_id) (reply.Id id)
-      → MovesTables {A = A} w (changed {A = A} at w (event.Attach device pt_id) (reply.Id id)) (event.Attach device pt_id) (reply.Id id) taken given → ⊥
+  attach_due : (device : DeviceNo) (pt_id id : ObjId)
+      → first_true (attach_checks (view w) device pt_id) ≡ Some cause.Frames
+      → Answers {A = A} w (event.Attach device pt_id) (reply.Id id)
+      → MovesTables {A = A} w (changed {A = A} at w (event.Attach device pt_id) (reply.Id id))
+      (event.Attach device pt_id) (reply.Id id) taken given → ⊥
   unfolding changed settle attached Answers attach_checks
-  attach_due device pt_id id refused answers moves = by_binding (binding_of w.objects device) (device_of w.settings device) refl refused answers moves
+  attach_due device pt_id id refused answers moves =
+      by_binding (binding_of w.objects device) (device_of w.settings device) refl refused answers moves
     where
-      by_table : (bound : Object) (d : DeviceSettings) (o : Option Object) → automatic_hwpt w.objects bound.file pt_id d.width ≡ o → IsHwptFor w bound.file id o → (is_none o && lacks_new_tables (view w) bound.file pt_id (Some d)) ≡ true
-          → MovesTables {A = A} w (settle w (attached w device pt_id id bound d)) (event.Attach device pt_id) (reply.Id id) taken given → ⊥
+      by_table : (bound : Object) (d : DeviceSettings) (o : Option Object)
+          → automatic_hwpt w.objects bound.file pt_id d.width ≡ o → IsHwptFor w bound.file id o
+          → (is_none o && lacks_new_tables (view w) bound.file pt_id (Some d)) ≡ true
+          → MovesTables {A = A} w (settle w (attached w device pt_id id bound d)) (event.Attach device pt_id)
+          (reply.Id id) taken given → ⊥
       by_table bound d (Some automatic) lacks made new moves = never new
       by_table bound d None lacks made new moves =
-          overdrawn w {A = A} (settle w (attached w device pt_id id bound d)) (event.Attach device pt_id) (reply.Id id) taken given moves refl (attached_owned w has device pt_id id bound d lacks made) (λ table. refl)
+          overdrawn w {A = A} (settle w (attached w device pt_id id bound d)) (event.Attach device pt_id) (reply.Id id)
+          taken given moves refl (attached_owned w has device pt_id id bound d lacks made) (λ table. refl)
           (subst (λ n. count w < n) (sym (attached_tables w has device pt_id id bound d lacks made)) (above _ _ new))
 
-      by_kind : (bound : Object) (d : DeviceSettings) → device_of w.settings device ≡ Some d → (k : Option ObjectKind) → list_any (λ row. is_frames row.0 && row.1) (target_checks (view w) device pt_id bound.file k) ≡ true → IsTarget w bound.file pt_id id d.width k
-          → MovesTables {A = A} w (target_changes w device pt_id id bound d k) (event.Attach device pt_id) (reply.Id id) taken given → ⊥
+      by_kind : (bound : Object) (d : DeviceSettings) → device_of w.settings device ≡ Some d → (k : Option ObjectKind)
+          → list_any (λ row. is_frames row.0 && row.1) (target_checks (view w) device pt_id bound.file k) ≡ true
+          → IsTarget w bound.file pt_id id d.width k
+          → MovesTables {A = A} w (target_changes w device pt_id id bound d k) (event.Attach device pt_id)
+          (reply.Id id) taken given → ⊥
       by_kind bound d known (Some kind.Ioas) row made moves =
-          let lacks : lacks_attached_frames (view w) bound.file pt_id (device_of w.settings device) ≡ true = sym (or_none (lacks_attached_frames (view w) bound.file pt_id (device_of w.settings device))) ∙ row in
-          by_table bound d (automatic_hwpt w.objects bound.file pt_id d.width) refl made (subst (λ o. lacks_attached_frames (view w) bound.file pt_id o ≡ true) known lacks) moves
+          let lacks : lacks_attached_frames (view w) bound.file pt_id (device_of w.settings device) ≡ true =
+          sym (or_none (lacks_attached_frames (view w) bound.file pt_id (device_of w.settings device))) ∙ row in
+          by_table bound d (automatic_hwpt w.objects bound.file pt_id d.width) refl made
+          (subst (λ o. lacks_attached_frames (view w) bound.file pt_id o ≡ true) known lacks) moves
       by_kind bound d known (Some (kind.Hwpt ioas width automatic)) row made moves = never row
       by_kind bound d known (Some (kind.Device other)) row made moves = absurd made
       by_kind bound d known None row made moves = absurd made
 
-      by_device : (bound : Object) (s : Option DeviceSettings) → device_of w.settings device ≡ s → first_true (bound_attach_checks (view w) device pt_id bound.file) ≡ Some cause.Frames → IsHwptOf w pt_id id (Some bound) s
-          → MovesTables {A = A} w (attach_changes w device pt_id id (Some bound) s) (event.Attach device pt_id) (reply.Id id) taken given → ⊥
+      by_device : (bound : Object) (s : Option DeviceSettings) → device_of w.settings device ≡ s
+          → first_true (bound_attach_checks (view w) device pt_id bound.file) ≡ Some cause.Frames
+          → IsHwptOf w pt_id id (Some bound) s
+          → MovesTables {A = A} w (attach_changes w device pt_id id (Some bound) s) (event.Attach device pt_id)
+          (reply.Id id) taken given → ⊥
       by_device bound None known refused made moves = absurd made
-      by_device bound (Some d) known refused made moves = by_kind bound d known (kind_of w.objects bound.file pt_id) (frames_row (bound_attach_checks (view w) device pt_id bound.file) refused) made moves
+      by_device bound (Some d) known refused made moves =
+          by_kind bound d known (kind_of w.objects bound.file pt_id)
+          (frames_row (bound_attach_checks (view w) device pt_id bound.file) refused) made moves
 
       by_binding : (o : Option Object) (s : Option DeviceSettings) → device_of w.settings device ≡ s
-          → first_true (elim o [ None ↦ (cause.Id, true) ∷ [] | Some bound ↦ bound_attach_checks (view w) device pt_id bound.file ]) ≡ Some cause.Frames → IsHwptOf w pt_id id o s
-          → MovesTables {A = A} w (attach_changes w device pt_id id o s) (event.Attach device pt_id) (reply.Id id) taken given → ⊥
+          → first_true (elim o [
+            | None ↦ (cause.Id, true) ∷ []
+            | Some bound ↦ bound_attach_checks (view w) device pt_id bound.file
+          ]) ≡ Some cause.Frames
+          → IsHwptOf w pt_id id o s
+          → MovesTables {A = A} w (attach_changes w device pt_id id o s) (event.Attach device pt_id)
+          (reply.Id id) taken given → ⊥
       by_binding None s known refused made moves = absurd made
       by_binding (Some bound) s known refused made moves = by_device bound s known refused made moves
 
-  pub due : (e : Event A) (answer : Reply) → refusal w e ≡ Some cause.Frames → chooses_address e ≡ false → Answers w e answer → MovesTables w (changed at w e answer) e answer taken given → ⊥
-  unfolding Answers ioas_alloc_checks allow_iovas_checks unmap_checks destroy_checks close_checks user_unmap_checks user_write_checks bind_checks unbind_checks detach_checks flush_checks device_write_checks
-  due (event.Map file request) (reply.Iova iova) refused fixed answers moves = by_flag (is_fixed request.flags) refl fixed answers
+  pub due : (e : Event A) (answer : Reply) → refusal w e ≡ Some cause.Frames → chooses_address e ≡ false
+      → Answers w e answer → MovesTables w (changed at w e answer) e answer taken given → ⊥
+  unfolding Answers ioas_alloc_checks allow_iovas_checks unmap_checks destroy_checks close_checks user_unmap_checks
+      user_write_checks bind_checks unbind_checks detach_checks flush_checks device_write_checks
+  due (event.Map file request) (reply.Iova iova) refused fixed answers moves =
+      by_flag (is_fixed request.flags) refl fixed answers
     where
       by_flag : (b : Bool) → is_fixed request.flags ≡ b → not b ≡ false → IsMappedAt w file request b iova → ⊥
       by_flag true is fixed at_iova = map_due file request iova refused is at_iova moves
       by_flag false is fixed at_iova = never (sym fixed)
-  due (event.Copy file request) (reply.Iova iova) refused fixed answers moves = by_flag (is_fixed request.flags) refl fixed answers
+  due (event.Copy file request) (reply.Iova iova) refused fixed answers moves =
+      by_flag (is_fixed request.flags) refl fixed answers
     where
-      by_flag : (b : Bool) → is_fixed request.flags ≡ b → not b ≡ false → IsMappedAt w file (placed_as request) b iova → ⊥
+      by_flag : (b : Bool) → is_fixed request.flags ≡ b → not b ≡ false → IsMappedAt w file (placed_as request) b iova
+          → ⊥
       by_flag true is fixed at_iova = copy_due file request iova refused is at_iova moves
       by_flag false is fixed at_iova = never (sym fixed)
-  due (event.HwptAlloc file request) (reply.Id id) refused fixed answers moves = hwpt_due file request id refused answers moves
-  due (event.Attach device pt_id) (reply.Id id) refused fixed answers moves = attach_due device pt_id id refused answers moves
+  due (event.HwptAlloc file request) (reply.Id id) refused fixed answers moves =
+      hwpt_due file request id refused answers moves
+  due (event.Attach device pt_id) (reply.Id id) refused fixed answers moves =
+      attach_due device pt_id id refused answers moves
   due (event.UserMap user va) (reply.Frame frame) refused fixed answers moves = user_due w user va frame refused answers
   due (event.Map file request) answer refused fixed answers moves = absurd answers
   due (event.Copy file request) answer refused fixed answers moves = absurd answers

@@ -1,10 +1,13 @@
 -- An event of one file leaves the rows of each other file as they are.
-use Rattle.std.proofs.Common.{◌≡◌, ◌≢◌, ℕ, Bool, true, false, cond, ◌&&◌, ◌||◌, not, eqb, Option, Some, None, List, [], ◌∷◌, ◌++◌, map, sym, ◌∙◌, refl, ap, sym, ◌∙◌, arith}
+use Rattle.std.proofs.Common.{◌≡◌, ◌≢◌, ℕ, Bool, true, false, cond, ◌&&◌, ◌||◌, not, eqb, Option, Some, None, List, []}
+use Rattle.std.proofs.Common.{◌∷◌, ◌++◌, map, sym, ◌∙◌, refl, ap, sym, ◌∙◌, arith}
 use Rattle.std.specs.Prelude.{is_none}
 use Rattle.std.specs.List.{filter, list_all, list_any}
 use Rattle.std.proofs.lemmas.Bool.{eqb-true, true≢false}
 use Rattle.std.proofs.lemmas.Bool.Decides.{nat_tests}
-use Rattle.iofd_words.specs.After.{changed, copy_changes, map_changes, hwpt_changes, attach_changes, target_changes, detach_changes, settle, without_areas, attached, detached, joined, goes_with, mapped_area, with_hwpt}
+use Rattle.iofd_words.specs.After.{changed, copy_changes, map_changes, hwpt_changes, attach_changes, target_changes}
+use Rattle.iofd_words.specs.After.{detach_changes, settle, without_areas, attached, detached, joined, goes_with}
+use Rattle.iofd_words.specs.After.{mapped_area, with_hwpt}
 use Rattle.iofd_words.specs.Allowed.{AllowedRanges, with_allowed, without_allowed}
 use Rattle.iofd_words.specs.Areas.{all_paid, owed_by, paid, is_touched, leaving, with_area, with_phase}
 use Rattle.iofd_words.specs.Attachments.{attachment_of, with_attachment, without_attachment, devices_of}
@@ -14,7 +17,8 @@ use Rattle.iofd_words.specs.DeviceSet.{without_device}
 use Rattle.iofd_words.specs.Files.{user_of, device_of}
 use Rattle.iofd_laws.specs.Laws.{FileRows, IsOfAnother, file_of_device, rows_of}
 use Rattle.iofd_words.specs.FirstTrue.{first_true}
-use Rattle.iofd_words.specs.Objects.{automatic_hwpt, binding_of, comes_before, kind_of, objects_of, settings_under, with_object}
+use Rattle.iofd_words.specs.Objects.{automatic_hwpt, binding_of, comes_before, kind_of, objects_of, settings_under}
+use Rattle.iofd_words.specs.Objects.{with_object}
 use Rattle.iofd_words.specs.Run.{after, after_answer}
 use Rattle.iofd_words.specs.Settings.{DeviceSettings}
 use Rattle.iofd_words.specs.Tables.{with_tables}
@@ -47,35 +51,41 @@ use Rattle.iofd_runs.proofs.NotRefused.{detach_passed, flush_passed, passes}
 -- ---- filters
 
 -- what fails a test may go before the test
-filter_filter : {X : Type 0} (p q : X → Bool) (xs : List X) → ((x : X) → p x ≡ true → q x ≡ true) → filter p (filter q xs) ≡ filter p xs
+filter_filter : {X : Type 0} (p q : X → Bool) (xs : List X) → ((x : X) → p x ≡ true → q x ≡ true)
+    → filter p (filter q xs) ≡ filter p xs
 filter_filter p q [] keeps = refl
 filter_filter p q (x ∷ xs) keeps = by_tests (p x) (q x) refl refl (keeps x) (filter_filter p q xs keeps)
   where
-    by_tests : (a b : Bool) → p x ≡ a → q x ≡ b → (p x ≡ true → q x ≡ true) → filter p (filter q xs) ≡ filter p xs → filter p (cond b (x ∷ filter q xs) (filter q xs)) ≡ cond a (x ∷ filter p xs) (filter p xs)
+    by_tests : (a b : Bool) → p x ≡ a → q x ≡ b → (p x ≡ true → q x ≡ true) → filter p (filter q xs) ≡ filter p xs
+        → filter p (cond b (x ∷ filter q xs) (filter q xs)) ≡ cond a (x ∷ filter p xs) (filter p xs)
     by_tests true true pa qb keep rest = rw (pa, rest) refl
     by_tests true false pa qb keep rest = let is = keep pa in cc
     by_tests false true pa qb keep rest = rw (pa, rest) refl
     by_tests false false pa qb keep rest = rest
 
 -- rows of which each has q: a change that leaves what passes, and for which no other passes
-filter_map_same : {X : Type 0} (p q : X → Bool) (h : X → X) (xs : List X) → list_all q xs ≡ true → ((x : X) → p (h x) ≡ p x) → ((x : X) → p x ≡ true → q x ≡ true → h x ≡ x) → filter p (map h xs) ≡ filter p xs
+filter_map_same : {X : Type 0} (p q : X → Bool) (h : X → X) (xs : List X) → list_all q xs ≡ true
+    → ((x : X) → p (h x) ≡ p x) → ((x : X) → p x ≡ true → q x ≡ true → h x ≡ x) → filter p (map h xs) ≡ filter p xs
 filter_map_same p q h [] all like same = refl
 filter_map_same p q h (x ∷ xs) all like same =
     let parts = and_true (q x) (list_all q xs) all in
     rw (like x) (by_test (p x) (λ passes. same x passes parts.0) refl (filter_map_same p q h xs parts.1 like same))
   where
-    by_test : (a : Bool) → (p x ≡ true → h x ≡ x) → p x ≡ a → filter p (map h xs) ≡ filter p xs → cond a (h x ∷ filter p (map h xs)) (filter p (map h xs)) ≡ cond a (x ∷ filter p xs) (filter p xs)
+    by_test : (a : Bool) → (p x ≡ true → h x ≡ x) → p x ≡ a → filter p (map h xs) ≡ filter p xs
+        → cond a (h x ∷ filter p (map h xs)) (filter p (map h xs)) ≡ cond a (x ∷ filter p xs) (filter p xs)
     by_test true is passes rest = rw (is passes, rest) refl
     by_test false is passes rest = rest
 
 -- what fails a test may go before the test, among rows of which each has q
-filter_filter_of : {X : Type 0} (p q r : X → Bool) (xs : List X) → list_all q xs ≡ true → ((x : X) → p x ≡ true → q x ≡ true → r x ≡ true) → filter p (filter r xs) ≡ filter p xs
+filter_filter_of : {X : Type 0} (p q r : X → Bool) (xs : List X) → list_all q xs ≡ true
+    → ((x : X) → p x ≡ true → q x ≡ true → r x ≡ true) → filter p (filter r xs) ≡ filter p xs
 filter_filter_of p q r [] all keeps = refl
 filter_filter_of p q r (x ∷ xs) all keeps =
     let parts = and_true (q x) (list_all q xs) all in
     by_tests (p x) (r x) refl refl (λ passes. keeps x passes parts.0) (filter_filter_of p q r xs parts.1 keeps)
   where
-    by_tests : (a b : Bool) → p x ≡ a → r x ≡ b → (p x ≡ true → r x ≡ true) → filter p (filter r xs) ≡ filter p xs → filter p (cond b (x ∷ filter r xs) (filter r xs)) ≡ cond a (x ∷ filter p xs) (filter p xs)
+    by_tests : (a b : Bool) → p x ≡ a → r x ≡ b → (p x ≡ true → r x ≡ true) → filter p (filter r xs) ≡ filter p xs
+        → filter p (cond b (x ∷ filter r xs) (filter r xs)) ≡ cond a (x ∷ filter p xs) (filter p xs)
     by_tests true true pa rb keep rest = rw (pa, rest) refl
     by_tests true false pa rb keep rest = let is = keep pa in cc
     by_tests false true pa rb keep rest = rw (pa, rest) refl
@@ -86,38 +96,69 @@ other_file own file differ = grind (arith, nat_tests)
 
 -- ---- one more row of another file
 
-objects-with_object : (object : Object) (objects : List Object) (file : FileNo) → eqb object.file.0 file.0 ≡ false → objects_of (with_object object objects) file ≡ objects_of objects file
+objects-with_object : (object : Object) (objects : List Object) (file : FileNo) → eqb object.file.0 file.0 ≡ false
+    → objects_of (with_object object objects) file ≡ objects_of objects file
 objects-with_object object [] file differ = rw differ refl
-objects-with_object object (o ∷ objects) file differ = by_order (comes_before object o) (objects-with_object object objects file differ)
+objects-with_object object (o ∷ objects) file differ =
+    by_order (comes_before object o) (objects-with_object object objects file differ)
   where
-    by_order : (b : Bool) → objects_of (with_object object objects) file ≡ objects_of objects file → objects_of (cond b (object ∷ o ∷ objects) (o ∷ with_object object objects)) file ≡ objects_of (o ∷ objects) file
+    by_order : (b : Bool) → objects_of (with_object object objects) file ≡ objects_of objects file
+        → objects_of (cond b (object ∷ o ∷ objects) (o ∷ with_object object objects))
+        file ≡ objects_of (o ∷ objects) file
     by_order true rest = rw differ refl
     by_order false rest = ap (λ os. cond (eqb o.file.0 file.0) (o ∷ os) os) rest
 
-areas-with_area : (area : Area) (areas : List Area) (file : FileNo) → eqb area.file.0 file.0 ≡ false → filter (λ (a : Area). eqb a.file.0 file.0) (with_area area areas) ≡ filter (λ (a : Area). eqb a.file.0 file.0) areas
+areas-with_area : (area : Area) (areas : List Area) (file : FileNo) → eqb area.file.0 file.0 ≡ false
+    → filter (λ (a : Area). eqb a.file.0 file.0) (with_area area areas) ≡ filter
+    (λ (a : Area). eqb a.file.0 file.0) areas
 areas-with_area area [] file differ = rw differ refl
 areas-with_area area (a ∷ areas) file differ = by_order _ (areas-with_area area areas file differ)
   where
-    by_order : (b : Bool) → filter (λ (a : Area). eqb a.file.0 file.0) (with_area area areas) ≡ filter (λ (a : Area). eqb a.file.0 file.0) areas → filter (λ (a : Area). eqb a.file.0 file.0) (cond b (area ∷ a ∷ areas) (a ∷ with_area area areas)) ≡ filter (λ (a : Area). eqb a.file.0 file.0) (a ∷ areas)
+    by_order : (b : Bool) → filter (λ (a : Area). eqb a.file.0 file.0) (with_area area areas) ≡ filter
+        (λ (a : Area). eqb a.file.0 file.0) areas
+        → filter (λ (a : Area). eqb a.file.0 file.0) (cond b (area ∷ a ∷ areas) (a ∷ with_area area areas)) ≡ filter
+        (λ (a : Area). eqb a.file.0 file.0) (a ∷ areas)
     by_order true rest = rw differ refl
     by_order false rest = ap (λ as_. cond (eqb a.file.0 file.0) (a ∷ as_) as_) rest
 
-attachments-with_attachment_other : (attachment : Attachment) (attachments : List Attachment) (file : FileNo) → eqb attachment.file.0 file.0 ≡ false → filter (λ (a : Attachment). eqb a.file.0 file.0) (with_attachment attachment attachments) ≡ filter (λ (a : Attachment). eqb a.file.0 file.0) attachments
+attachments-with_attachment_other : (attachment : Attachment) (attachments : List Attachment) (file : FileNo)
+    → eqb attachment.file.0 file.0 ≡ false → filter (λ (a : Attachment). eqb a.file.0 file.0)
+    (with_attachment attachment attachments) ≡ filter (λ (a : Attachment). eqb a.file.0 file.0) attachments
 attachments-with_attachment_other attachment [] file differ = rw differ refl
-attachments-with_attachment_other attachment (a ∷ attachments) file differ = by_order _ (attachments-with_attachment_other attachment attachments file differ)
+attachments-with_attachment_other attachment (a ∷ attachments) file differ =
+    by_order _ (attachments-with_attachment_other attachment attachments file differ)
   where
-    by_order : (b : Bool) → filter (λ (a : Attachment). eqb a.file.0 file.0) (with_attachment attachment attachments) ≡ filter (λ (a : Attachment). eqb a.file.0 file.0) attachments → filter (λ (a : Attachment). eqb a.file.0 file.0) (cond b (attachment ∷ a ∷ attachments) (a ∷ with_attachment attachment attachments)) ≡ filter (λ (a : Attachment). eqb a.file.0 file.0) (a ∷ attachments)
+    by_order : (b : Bool) → filter (λ (a : Attachment). eqb a.file.0 file.0) (with_attachment attachment attachments)
+        ≡ filter (λ (a : Attachment). eqb a.file.0 file.0) attachments
+        → filter (λ (a : Attachment). eqb a.file.0 file.0)
+        (cond b (attachment ∷ a ∷ attachments) (a ∷ with_attachment attachment attachments)) ≡ filter
+        (λ (a : Attachment). eqb a.file.0 file.0) (a ∷ attachments)
     by_order true rest = rw differ refl
     by_order false rest = ap (λ others. cond (eqb a.file.0 file.0) (a ∷ others) others) rest
 
-closed_more : (files : List FileNo) (own file : FileNo) → eqb own.0 file.0 ≡ false → list_any (λ (f : FileNo). eqb f.0 file.0) (files ++ own ∷ []) ≡ list_any (λ (f : FileNo). eqb f.0 file.0) files
+closed_more : (files : List FileNo) (own file : FileNo) → eqb own.0 file.0 ≡ false
+    → list_any (λ (f : FileNo). eqb f.0 file.0) (files ++ own ∷ []) ≡ list_any (λ (f : FileNo). eqb f.0 file.0) files
 closed_more [] own file differ = rw differ refl
 closed_more (f ∷ files) own file differ = ap (λ b. eqb f.0 file.0 || b) (closed_more files own file differ)
 
 -- ---- each command
 
-same_rows : {objects objects' : List Object} {areas areas' : List Area} {allowed allowed' : List AllowedRanges} {attachments attachments' : List Attachment} {closed closed' : Bool} → objects ≡ objects' → areas ≡ areas' → allowed ≡ allowed' → attachments ≡ attachments' → closed ≡ closed'
-    → (let rows : FileRows = record { objects = objects; areas = areas; allowed = allowed; attachments = attachments; closed = closed } in rows) ≡ record { objects = objects'; areas = areas'; allowed = allowed'; attachments = attachments'; closed = closed' }
+same_rows : {objects objects' : List Object} {areas areas' : List Area} {allowed allowed' : List AllowedRanges}
+    {attachments attachments' : List Attachment} {closed closed' : Bool} → objects ≡ objects' → areas ≡ areas'
+    → allowed ≡ allowed' → attachments ≡ attachments' → closed ≡ closed'
+    → (let rows : FileRows = record {
+      objects = objects;
+      areas = areas;
+      allowed = allowed;
+      attachments = attachments;
+      closed = closed;
+    } in rows) ≡ record {
+      objects = objects';
+      areas = areas';
+      allowed = allowed';
+      attachments = attachments';
+      closed = closed';
+    }
 same_rows a b c d e = rw (a, b, c, d, e) refl
 
 -- the allowed ranges are those of an address space of this file
@@ -131,7 +172,8 @@ stays own file n b differ is = grind (arith, nat_tests)
 stays_too : (own file : FileNo) (n : ℕ) → own.0 ≢ file.0 → eqb n file.0 ≡ true → not (eqb n own.0) ≡ true
 stays_too own file n differ is = grind (arith, nat_tests)
 
-untouched : (own file : FileNo) (n : ℕ) (a b : Bool) → own.0 ≢ file.0 → eqb n file.0 ≡ true → ((eqb n own.0 && a) && b) ≡ false
+untouched : (own file : FileNo) (n : ℕ) (a b : Bool) → own.0 ≢ file.0 → eqb n file.0 ≡ true
+    → ((eqb n own.0 && a) && b) ≡ false
 untouched own file n a b differ is = grind (arith, nat_tests)
 
 all_three : (p q r s : Bool) → p ≡ false → (((p && q) && r) && s) ≡ false
@@ -143,54 +185,82 @@ files_differ own file n differ same = grind (arith, nat_tests)
 -- ---- a device that is bound to another file
 
 -- it isn't bound to this one
-bound_elsewhere : (objects : List Object) (device : DeviceNo) (object : Object) (file : FileNo) → binding_of objects device ≡ Some object → object.file.0 ≢ file.0 → is_bound_to objects file device.0 ≡ false
+bound_elsewhere : (objects : List Object) (device : DeviceNo) (object : Object) (file : FileNo)
+    → binding_of objects device ≡ Some object → object.file.0 ≢ file.0 → is_bound_to objects file device.0 ≡ false
 bound_elsewhere objects device object file is differ = ap (is_of_file file) is ∙ other_file object.file file differ
 
 -- so no debt of this file's areas is its own
-no_debt : (objects : List Object) (file : FileNo) (device : ℕ) (owed : List ℕ) → is_bound_to objects file device ≡ false → list_all (is_bound_to objects file) owed ≡ true → without_device device owed ≡ owed
+no_debt : (objects : List Object) (file : FileNo) (device : ℕ) (owed : List ℕ) → is_bound_to objects file device ≡ false
+    → list_all (is_bound_to objects file) owed ≡ true → without_device device owed ≡ owed
 no_debt objects file device [] elsewhere all = refl
 no_debt objects file device (d ∷ owed) elsewhere all =
     let parts = and_true (is_bound_to objects file d) (list_all (is_bound_to objects file) owed) all in
     by_test (eqb d device) refl parts.0 (no_debt objects file device owed elsewhere parts.1)
   where
-    by_test : (b : Bool) → eqb d device ≡ b → is_bound_to objects file d ≡ true → without_device device owed ≡ owed → cond (not b) (d ∷ without_device device owed) (without_device device owed) ≡ d ∷ owed
+    by_test : (b : Bool) → eqb d device ≡ b → is_bound_to objects file d ≡ true → without_device device owed ≡ owed
+        → cond (not b) (d ∷ without_device device owed) (without_device device owed) ≡ d ∷ owed
     by_test true same here rest = let is = eqb-true d device same in let like = ap (is_bound_to objects file) is in cc
     by_test false other here rest = ap (λ ds. d ∷ ds) rest
 
-paid_same : (objects : List Object) (file : FileNo) (device : DeviceNo) (phase : Phase) → is_bound_to objects file device.0 ≡ false → list_all (is_bound_to objects file) (owed_by [] phase) ≡ true → paid device phase ≡ phase
+paid_same : (objects : List Object) (file : FileNo) (device : DeviceNo) (phase : Phase)
+    → is_bound_to objects file device.0 ≡ false → list_all (is_bound_to objects file) (owed_by [] phase) ≡ true
+    → paid device phase ≡ phase
 paid_same objects file device Live elsewhere all = refl
-paid_same objects file device (Leaving owed tries) elsewhere all = ap (λ ds. Leaving ds tries) (no_debt objects file device.0 owed elsewhere all)
+paid_same objects file device (Leaving owed tries) elsewhere all =
+    ap (λ ds. Leaving ds tries) (no_debt objects file device.0 owed elsewhere all)
 
-areas_paid : (w : World) (device : DeviceNo) (object : Object) (file : FileNo) → AreBound w → binding_of w.objects device ≡ Some object → object.file.0 ≢ file.0 → filter (λ (a : Area). eqb a.file.0 file.0) (all_paid device w.areas) ≡ filter (λ (a : Area). eqb a.file.0 file.0) w.areas
+areas_paid : (w : World) (device : DeviceNo) (object : Object) (file : FileNo) → AreBound w
+    → binding_of w.objects device ≡ Some object → object.file.0 ≢ file.0
+    → filter (λ (a : Area). eqb a.file.0 file.0) (all_paid device w.areas) ≡ filter
+    (λ (a : Area). eqb a.file.0 file.0) w.areas
 areas_paid w device object file b is differ =
-    filter_map_same (λ (a : Area). eqb a.file.0 file.0) (λ (a : Area). list_all (is_bound_to w.objects a.file) (owed_by [] a.phase)) (λ (a : Area). with_phase (paid device a.phase) a) w.areas b.debts (λ a. refl)
-    (λ a same debts. ap (λ phase. with_phase phase a) (paid_same w.objects a.file device a.phase (bound_elsewhere w.objects device object a.file is (λ here. differ (here ∙ eqb-true a.file.0 file.0 same))) debts))
+    filter_map_same (λ (a : Area). eqb a.file.0 file.0)
+    (λ (a : Area). list_all (is_bound_to w.objects a.file) (owed_by [] a.phase))
+    (λ (a : Area). with_phase (paid device a.phase) a) w.areas b.debts (λ a. refl)
+    (λ a same debts. ap (λ phase. with_phase phase a)
+    (paid_same w.objects a.file device a.phase
+    (bound_elsewhere w.objects device object a.file is
+    (λ here. differ (here ∙ eqb-true a.file.0 file.0 same))) debts))
 
 -- the attachments of this file are not the device's
-attachments_same : (w : World) (device : DeviceNo) (object : Object) (file : FileNo) → AreBound w → binding_of w.objects device ≡ Some object → object.file.0 ≢ file.0 → filter (λ (a : Attachment). eqb a.file.0 file.0) (without_attachment device w.attachments) ≡ filter (λ (a : Attachment). eqb a.file.0 file.0) w.attachments
+attachments_same : (w : World) (device : DeviceNo) (object : Object) (file : FileNo) → AreBound w
+    → binding_of w.objects device ≡ Some object → object.file.0 ≢ file.0
+    → filter (λ (a : Attachment). eqb a.file.0 file.0) (without_attachment device w.attachments) ≡ filter
+    (λ (a : Attachment). eqb a.file.0 file.0) w.attachments
 attachments_same w device object file b is differ =
-    filter_filter_of (λ (a : Attachment). eqb a.file.0 file.0) (λ (a : Attachment). is_bound_to w.objects a.file a.device.0) (λ (a : Attachment). not (eqb a.device.0 device.0)) w.attachments b.attachments
+    filter_filter_of (λ (a : Attachment). eqb a.file.0 file.0)
+    (λ (a : Attachment). is_bound_to w.objects a.file a.device.0)
+    (λ (a : Attachment). not (eqb a.device.0 device.0)) w.attachments b.attachments
     (λ a same bound. not_false _ (by_device a same bound (eqb a.device.0 device.0) refl))
   where
-    by_device : (a : Attachment) → eqb a.file.0 file.0 ≡ true → is_bound_to w.objects a.file a.device.0 ≡ true → (d : Bool) → eqb a.device.0 device.0 ≡ d → d ≡ false
+    by_device : (a : Attachment) → eqb a.file.0 file.0 ≡ true → is_bound_to w.objects a.file a.device.0 ≡ true
+        → (d : Bool) → eqb a.device.0 device.0 ≡ d → d ≡ false
     by_device a same bound true here =
-        let elsewhere = bound_elsewhere w.objects device object a.file is (λ files. differ (files ∙ eqb-true a.file.0 file.0 same)) in
+        let elsewhere = bound_elsewhere w.objects device object a.file is
+        (λ files. differ (files ∙ eqb-true a.file.0 file.0 same)) in
         let like = ap (is_bound_to w.objects a.file) (eqb-true a.device.0 device.0 here) in
         cc
     by_device a same bound false here = refl
 
-hwpt_same : (bound : FileNo) (ioas id : ObjId) (width : Width) (automatic : Option Object) (objects : List Object) (file : FileNo) → eqb bound.0 file.0 ≡ false → objects_of (with_hwpt bound ioas id width automatic objects) file ≡ objects_of objects file
+hwpt_same : (bound : FileNo) (ioas id : ObjId) (width : Width) (automatic : Option Object) (objects : List Object)
+    (file : FileNo) → eqb bound.0 file.0 ≡ false
+    → objects_of (with_hwpt bound ioas id width automatic objects) file ≡ objects_of objects file
 hwpt_same bound ioas id width (Some object) objects file differ = refl
-hwpt_same bound ioas id width None objects file differ = objects-with_object (record { file = bound; id = id; kind = kind.Hwpt ioas width true }) objects file differ
+hwpt_same bound ioas id width None objects file differ =
+    objects-with_object (record { file = bound; id = id; kind = kind.Hwpt ioas width true }) objects file differ
 
 -- the page table that goes with its last device is of the device's file
-goes_elsewhere : (others : List Attachment) (a : Attachment) (file : FileNo) (o : Object) → a.file.0 ≢ file.0 → eqb o.file.0 file.0 ≡ true → not (goes_with others a o) ≡ true
-goes_elsewhere others a file o differ same = not_false _ (all_three (eqb o.file.0 a.file.0) _ _ _ (files_differ a.file file o.file.0 differ same))
+goes_elsewhere : (others : List Attachment) (a : Attachment) (file : FileNo) (o : Object) → a.file.0 ≢ file.0
+    → eqb o.file.0 file.0 ≡ true → not (goes_with others a o) ≡ true
+goes_elsewhere others a file o differ same =
+    not_false _ (all_three (eqb o.file.0 a.file.0) _ _ _ (files_differ a.file file o.file.0 differ same))
 
 -- the device of an attachment is bound to its file
-attached_file : (w : World) (device : DeviceNo) (object : Object) (a : Attachment) → AreBound w → binding_of w.objects device ≡ Some object → attachment_of w.attachments device ≡ Some a → object.file.0 ≡ a.file.0
+attached_file : (w : World) (device : DeviceNo) (object : Object) (a : Attachment) → AreBound w
+    → binding_of w.objects device ≡ Some object → attachment_of w.attachments device ≡ Some a → object.file.0 ≡ a.file.0
 attached_file w device object a b is found =
-    let parts = found_passes (λ (a : Attachment). is_bound_to w.objects a.file a.device.0) (λ (a : Attachment). eqb a.device.0 device.0) w.attachments a b.attachments found in
+    let parts = found_passes (λ (a : Attachment). is_bound_to w.objects a.file a.device.0)
+    (λ (a : Attachment). eqb a.device.0 device.0) w.attachments a b.attachments found in
     let same = eqb-true a.device.0 device.0 parts.1 in
     let bound = sym (ap (is_bound_to w.objects a.file) same) ∙ parts.0 in
     eqb-true object.file.0 a.file.0 (sym (ap (is_of_file a.file) is) ∙ bound)
@@ -200,57 +270,76 @@ attached_file w device object a b is found =
 phase_stays : (a : Area) (touched : Bool) (new : Phase) → touched ≡ false → with_phase (cond touched new a.phase) a ≡ a
 phase_stays a touched new is = rw is refl
 
-is_bound : (w : World) (device : DeviceNo) → is_none (binding_of w.objects device) ≡ false → (object : Object) × (binding_of w.objects device ≡ Some object)
+is_bound : (w : World) (device : DeviceNo) → is_none (binding_of w.objects device) ≡ false
+    → (object : Object) × (binding_of w.objects device ≡ Some object)
 is_bound w device some = by_option (binding_of w.objects device) refl some
   where
-    by_option : (o : Option Object) → binding_of w.objects device ≡ o → is_none o ≡ false → (object : Object) × (binding_of w.objects device ≡ Some object)
+    by_option : (o : Option Object) → binding_of w.objects device ≡ o → is_none o ≡ false
+        → (object : Object) × (binding_of w.objects device ≡ Some object)
     by_option None is some = absurd (true≢false some)
     by_option (Some object) is some = (object, is)
 
 -- the event isn't of the file that its device is bound to, if that is this one
-elsewhere : (w : World) (device : DeviceNo) (object : Object) (file : FileNo) → ((own : FileNo) → file_of_device w device ≡ Some own → own.0 ≢ file.0) → binding_of w.objects device ≡ Some object → object.file.0 ≢ file.0
-elsewhere w device object file another is = another object.file (ap (λ o. elim o [ Some bound ↦ Some bound.file | None ↦ None ]) is)
+elsewhere : (w : World) (device : DeviceNo) (object : Object) (file : FileNo)
+    → ((own : FileNo) → file_of_device w device ≡ Some own → own.0 ≢ file.0) → binding_of w.objects device ≡ Some object
+    → object.file.0 ≢ file.0
+elsewhere w device object file another is =
+    another object.file (ap (λ o. elim o [ Some bound ↦ Some bound.file | None ↦ None ]) is)
 
-flush_bound : (w : World) (device : DeviceNo) → first_true (flush_checks (view w) device) ≡ None → is_none (binding_of w.objects device) ≡ false
+flush_bound : (w : World) (device : DeviceNo) → first_true (flush_checks (view w) device) ≡ None
+    → is_none (binding_of w.objects device) ≡ false
 flush_bound w device none = flush_passed (view w) device none
 
-detach_is_bound : (w : World) (device : DeviceNo) → first_true (detach_checks (view w) device) ≡ None → is_none (binding_of w.objects device) ≡ false
+detach_is_bound : (w : World) (device : DeviceNo) → first_true (detach_checks (view w) device) ≡ None
+    → is_none (binding_of w.objects device) ≡ false
 detach_is_bound w device none = (detach_passed (view w) device none).bound
 
-pub keeps_others : {A : Type 0} → (at : ℕ) (w : World) (e : Event A) (answer : Reply) (file : FileNo) → AreBound w → refusal w e ≡ None → IsOfAnother w e file → rows_of file (changed at w e answer) ≡ rows_of file w
+pub keeps_others : {A : Type 0} → (at : ℕ) (w : World) (e : Event A) (answer : Reply) (file : FileNo) → AreBound w
+    → refusal w e ≡ None → IsOfAnother w e file → rows_of file (changed at w e answer) ≡ rows_of file w
 unfolding changed settle without_areas attached detached joined
 keeps_others at w (event.IoasAlloc f) (reply.Id id) file b none another =
     same_rows (objects-with_object _ w.objects file (other_file f file (another f refl))) refl refl refl refl
 keeps_others at w (event.AllowIovas f ioas ranges) reply.Done file b none another =
     let before : filter (are_of_file file) (without_allowed f ioas w.allowed) ≡ filter (are_of_file file) w.allowed =
     filter_filter _ _ w.allowed (λ r same. stays f file r.file.0 _ (another f refl) same) in
-    let gone : filter (are_of_file file) (with_allowed f ioas ranges w.allowed) ≡ filter (are_of_file file) w.allowed = rw (filter, other_file f file (another f refl)) before in
+    let gone : filter (are_of_file file) (with_allowed f ioas ranges w.allowed) ≡ filter (are_of_file file) w.allowed =
+    rw (filter, other_file f file (another f refl)) before in
     same_rows refl refl gone refl refl
 keeps_others at w (event.Map f request) (reply.Iova iova) file b none another = mapped (user_of w.settings f)
   where
     mapped : (user : Option UserNo) → rows_of file (map_changes at w f request iova user) ≡ rows_of file w
     mapped None = refl
-    mapped (Some user) = same_rows refl (areas-with_area (mapped_area at f request iova) w.areas file (other_file f file (another f refl))) refl refl refl
+    mapped (Some user) = same_rows refl (areas-with_area (mapped_area at f request iova) w.areas file
+        (other_file f file (another f refl))) refl refl refl
 keeps_others at w (event.Copy f request) (reply.Iova iova) file b none another = copied (source_area w f request)
   where
     copied : (source : Option Area) → rows_of file (copy_changes w f request iova source) ≡ rows_of file w
     copied None = refl
     copied (Some source) =
-        same_rows refl (areas-with_area (mapped_area source.memory f (placed_as request) iova) w.areas file (other_file f file (another f refl))) refl refl refl
+        same_rows refl (areas-with_area (mapped_area source.memory f (placed_as request) iova) w.areas file
+        (other_file f file (another f refl))) refl refl refl
 keeps_others at w (event.Unmap f request) (reply.Bytes count) file b none another =
-    same_rows refl (filter_filter _ _ w.areas (λ a same. not_false _ (untouched f file a.file.0 _ _ (another f refl) same))) refl refl refl
+    same_rows refl (filter_filter _ _ w.areas
+    (λ a same. not_false _ (untouched f file a.file.0 _ _ (another f refl) same))) refl refl refl
 keeps_others at w (event.Unmap f request) (reply.Pending errno) file b none another =
     same_rows refl
-    (filter_map_same _ (λ (a : Area). list_all (is_bound_to w.objects a.file) (owed_by [] a.phase)) (λ (a : Area). with_phase (cond (is_touched f request a) (leaving (devices_of w.objects w.attachments f request.ioas) a.phase) a.phase) a) w.areas
-    b.debts (λ a. refl) (λ a same _. phase_stays a (is_touched f request a) _ (untouched f file a.file.0 _ _ (another f refl) same)))
+    (filter_map_same _ (λ (a : Area). list_all (is_bound_to w.objects a.file) (owed_by [] a.phase))
+    (λ (a : Area). with_phase (cond (is_touched f request a)
+    (leaving (devices_of w.objects w.attachments f request.ioas) a.phase) a.phase) a) w.areas
+    b.debts (λ a. refl) (λ a same _. phase_stays a (is_touched f request a) _
+    (untouched f file a.file.0 _ _ (another f refl) same)))
     refl refl refl
-keeps_others at w (event.HwptAlloc f request) (reply.Id id) file b none another = made (settings_under w.settings w.objects f request.device)
+keeps_others at w (event.HwptAlloc f request) (reply.Id id) file b none another =
+    made (settings_under w.settings w.objects f request.device)
   where
-    made : (settings : Option DeviceSettings) → rows_of file (hwpt_changes w f request.ioas id settings) ≡ rows_of file w
+    made : (settings : Option DeviceSettings)
+        → rows_of file (hwpt_changes w f request.ioas id settings) ≡ rows_of file w
     made None = refl
-    made (Some settings) = same_rows (objects-with_object _ w.objects file (other_file f file (another f refl))) refl refl refl refl
+    made (Some settings) =
+        same_rows (objects-with_object _ w.objects file (other_file f file (another f refl))) refl refl refl refl
 keeps_others at w (event.Destroy f id) reply.Done file b none another =
-    same_rows (filter_filter _ _ w.objects (λ o same. stays f file o.file.0 _ (another f refl) same)) (filter_filter _ _ w.areas (λ a same. stays f file a.file.0 _ (another f refl) same))
+    same_rows (filter_filter _ _ w.objects (λ o same. stays f file o.file.0 _ (another f refl) same))
+    (filter_filter _ _ w.areas (λ a same. stays f file a.file.0 _ (another f refl) same))
     (filter_filter _ _ w.allowed (λ r same. stays f file r.file.0 _ (another f refl) same))
     refl refl
 keeps_others at w (event.Close f) reply.Done file b none another =
@@ -266,49 +355,59 @@ keeps_others at w (event.UserWrite user va bytes) reply.Done file b none another
 keeps_others at w (event.Bind f device) (reply.Id id) file b none another =
     same_rows (objects-with_object _ w.objects file (other_file f file (another f refl))) refl refl refl refl
 keeps_others at w (event.Unbind f id) reply.Done file b none another =
-    same_rows (filter_filter _ _ w.objects (λ o same. not_false _ (untouched f file o.file.0 _ _ (another f refl) same))) refl refl refl refl
-keeps_others at w (event.Attach device pt_id) (reply.Id id) file b none another = bound (binding_of w.objects device) refl (device_of w.settings device)
+    same_rows (filter_filter _ _ w.objects (λ o same. not_false _
+    (untouched f file o.file.0 _ _ (another f refl) same))) refl refl refl refl
+keeps_others at w (event.Attach device pt_id) (reply.Id id) file b none another =
+    bound (binding_of w.objects device) refl (device_of w.settings device)
   where
-    bound : (o : Option Object) → binding_of w.objects device ≡ o → (settings : Option DeviceSettings) → rows_of file (attach_changes w device pt_id id o settings) ≡ rows_of file w
+    bound : (o : Option Object) → binding_of w.objects device ≡ o → (settings : Option DeviceSettings)
+        → rows_of file (attach_changes w device pt_id id o settings) ≡ rows_of file w
     bound None is settings = refl
     bound (Some object) is None = refl
     bound (Some object) is (Some settings) = by_kind (kind_of w.objects object.file pt_id)
       where
-        by_kind : (k : Option ObjectKind) → rows_of file (target_changes w device pt_id id object settings k) ≡ rows_of file w
+        by_kind : (k : Option ObjectKind) → rows_of file
+            (target_changes w device pt_id id object settings k) ≡ rows_of file w
         by_kind (Some kind.Ioas) =
             let differ = elsewhere w device object file another is in
             same_rows
-            (hwpt_same object.file pt_id id settings.width (automatic_hwpt w.objects object.file pt_id settings.width) w.objects file (other_file object.file file differ))
+            (hwpt_same object.file pt_id id settings.width (automatic_hwpt w.objects object.file pt_id settings.width)
+            w.objects file (other_file object.file file differ))
             (areas_paid w device object file b is differ)
             refl
             (attachments-with_attachment_other _ w.attachments file (other_file object.file file differ))
             refl
         by_kind (Some (kind.Hwpt ioas width automatic)) =
             let differ = elsewhere w device object file another is in
-            same_rows refl (areas_paid w device object file b is differ) refl (attachments-with_attachment_other _ w.attachments file (other_file object.file file differ)) refl
+            same_rows refl (areas_paid w device object file b is differ) refl
+            (attachments-with_attachment_other _ w.attachments file (other_file object.file file differ)) refl
         by_kind k = refl
 keeps_others at w (event.Detach device) reply.Done file b none another =
     let bound = is_bound w device (detach_is_bound w device none) in
     attached_or_not bound.0 bound.1 (attachment_of w.attachments device) refl
   where
-    attached_or_not : (object : Object) → binding_of w.objects device ≡ Some object → (a : Option Attachment) → attachment_of w.attachments device ≡ a → rows_of file (detach_changes w device a) ≡ rows_of file w
+    attached_or_not : (object : Object) → binding_of w.objects device ≡ Some object → (a : Option Attachment)
+        → attachment_of w.attachments device ≡ a → rows_of file (detach_changes w device a) ≡ rows_of file w
     attached_or_not object is None found = refl
     attached_or_not object is (Some a) found =
         let differ = elsewhere w device object file another is in
         let own = attached_file w device object a b is found in
         same_rows
-        (filter_filter _ _ w.objects (λ o same. goes_elsewhere (without_attachment device w.attachments) a file o (λ here. differ (own ∙ here)) same))
+        (filter_filter _ _ w.objects (λ o same. goes_elsewhere (without_attachment device w.attachments) a file o
+        (λ here. differ (own ∙ here)) same))
         (areas_paid w device object file b is differ)
         refl
         (attachments_same w device object file b is differ)
         refl
 keeps_others at w (event.Flush device) reply.Done file b none another =
     let bound = is_bound w device (flush_bound w device none) in
-    same_rows refl (areas_paid w device bound.0 file b bound.1 (elsewhere w device bound.0 file another bound.1)) refl refl refl
+    same_rows refl (areas_paid w device bound.0 file b bound.1 (elsewhere w device bound.0 file another bound.1)) refl
+    refl refl
 keeps_others at w (event.DeviceWrite device iova bytes) (reply.Passed frame) file b none another = refl
 keeps_others at w e answer file b none another = refl
 
-pub after_keeps_others : {A : Type 0} (at : ℕ) (w : World) (r : Record A) (file : FileNo) → AreBound w → IsOfAnother w r.event file → rows_of file (after at w r) ≡ rows_of file w
+pub after_keeps_others : {A : Type 0} (at : ℕ) (w : World) (r : Record A) (file : FileNo) → AreBound w
+    → IsOfAnother w r.event file → rows_of file (after at w r) ≡ rows_of file w
 unfolding after with_tables
 after_keeps_others at w r file b another = by_refusal (refusal w r.event) refl
   where

@@ -1,7 +1,8 @@
 -- A page that stays pinned keeps its frame, and one that becomes pinned takes the frame that its user has there.
 use Rattle.std.proofs.Common.{ℕ, Bool, true, false, Option, Some, None, refl, sym, subst}
 use Rattle.std.specs.List.{list_any}
-use Rattle.iofd_words.specs.After.{attach_changes, changed, copy_changes, detach_changes, hwpt_changes, joined, map_changes, settle, target_changes}
+use Rattle.iofd_words.specs.After.{attach_changes, changed, copy_changes, detach_changes, hwpt_changes, joined}
+use Rattle.iofd_words.specs.After.{map_changes, settle, target_changes}
 use Rattle.iofd_words.specs.Attachments.{attachment_of}
 use Rattle.iofd_words.specs.Checks.{refusal}
 use Rattle.iofd_words.specs.Files.{device_of, user_of}
@@ -70,7 +71,8 @@ module _ (w : World) (page : ObjectPage) where
       copied (Some source) = settle_moves _
   changed_moves at (event.Unmap file request) (reply.Bytes count) = settle_moves _
   changed_moves at (event.Unmap file request) (reply.Pending errno) = same (pinned_frame w.pins page) _
-  changed_moves at (event.HwptAlloc file request) (reply.Id id) = made (settings_under w.settings w.objects file request.device)
+  changed_moves at (event.HwptAlloc file request) (reply.Id id) =
+      made (settings_under w.settings w.objects file request.device)
     where
       made : (settings : Option DeviceSettings) → pin_moves page w (hwpt_changes w file request.ioas id settings)
       made None = stays
@@ -83,9 +85,11 @@ module _ (w : World) (page : ObjectPage) where
   changed_moves at (event.UserWrite user va bytes) reply.Done = same (pinned_frame w.pins page) _
   changed_moves at (event.Bind file device) (reply.Id id) = same (pinned_frame w.pins page) _
   changed_moves at (event.Unbind file id) reply.Done = same (pinned_frame w.pins page) _
-  changed_moves at (event.Attach device pt_id) (reply.Id id) = bound (binding_of w.objects device) (device_of w.settings device)
+  changed_moves at (event.Attach device pt_id) (reply.Id id) =
+      bound (binding_of w.objects device) (device_of w.settings device)
     where
-      bound : (object : Option Object) (settings : Option DeviceSettings) → pin_moves page w (attach_changes w device pt_id id object settings)
+      bound : (object : Option Object) (settings : Option DeviceSettings)
+          → pin_moves page w (attach_changes w device pt_id id object settings)
       bound None settings = stays
       bound (Some object) None = stays
       bound (Some object) (Some settings) = by_kind (kind_of w.objects object.file pt_id)

@@ -1,11 +1,15 @@
 -- No event gives a user more pinned pages than its limit allows.
-use Rattle.std.proofs.Common.{◌≡◌, ℕ, ◌+◌, ◌/◌, ◌≤◌, Bool, true, false, cond, ◌&&◌, ◌||◌, not, eqb, ltb, is_none, is_some, Option, Some, None, List, [], ◌∷◌, ◌++◌, length, refl, ap, sym, subst, ◌∙◌, arith}
+use Rattle.std.proofs.Common.{◌≡◌, ℕ, ◌+◌, ◌/◌, ◌≤◌, Bool, true, false, cond, ◌&&◌, ◌||◌, not, eqb, ltb, is_none}
+use Rattle.std.proofs.Common.{is_some, Option, Some, None, List, [], ◌∷◌, ◌++◌, length, refl, ap, sym, subst, ◌∙◌}
+use Rattle.std.proofs.Common.{arith}
 use Rattle.std.specs.List.{count_by, filter, flat_map, list_any}
 use Rattle.std.proofs.lemmas.Bool.Decides.{nat_tests}
 use Rattle.std.proofs.lemmas.Bool.{eqb-true}
 use Rattle.std.proofs.lemmas.List.FromFn.{length-map-range_with_len}
 use Rattle.std.proofs.lemmas.List.Sums.{count_by-le-length, length-filter}
-use Rattle.iofd_words.specs.After.{changed, copy_changes, map_changes, hwpt_changes, attach_changes, target_changes, detach_changes, settle, without_areas, attached, detached, joined, goes_with, mapped_area, memory_object, with_hwpt}
+use Rattle.iofd_words.specs.After.{changed, copy_changes, map_changes, hwpt_changes, attach_changes, target_changes}
+use Rattle.iofd_words.specs.After.{detach_changes, settle, without_areas, attached, detached, joined, goes_with}
+use Rattle.iofd_words.specs.After.{mapped_area, memory_object, with_hwpt}
 use Rattle.iofd_words.specs.Allowed.{AllowedRanges}
 use Rattle.iofd_words.specs.Answers.{Answers}
 use Rattle.iofd_words.specs.Areas.{all_paid, areas_of, is_of, is_touched, paid, with_area}
@@ -14,7 +18,8 @@ use Rattle.iofd_words.specs.Checks.{copy_checks, map_checks, newly_pinned, passe
 use Rattle.iofd_words.specs.Copies.{placed_as}
 use Rattle.iofd_words.specs.Files.{device_of, limit_of, user_of}
 use Rattle.iofd_words.specs.FirstTrue.{first_true}
-use Rattle.iofd_words.specs.Objects.{automatic_hwpt, binding_of, has_hwpt, is_object, kind_of, settings_under, without_object}
+use Rattle.iofd_words.specs.Objects.{automatic_hwpt, binding_of, has_hwpt, is_object, kind_of, settings_under}
+use Rattle.iofd_words.specs.Objects.{without_object}
 use Rattle.iofd_words.specs.Pins.{ObjectPage, is_page, is_translated, pages_of, pinned_frame, settled, unpinned_pages}
 use Rattle.iofd_words.specs.Settings.{DeviceSettings, Settings}
 use Rattle.iofd_words.specs.Tables.{with_tables}
@@ -44,13 +49,16 @@ use Rattle.iofd_rows.specs.Pinned.{ArePinned}
 use Rattle.iofd_rows.proofs.Bools.{and_rest, and_true, both_true, clash, not_false, not_true}
 use Rattle.iofd_rows.proofs.Each.{IsIn, of_any, of_each}
 use Rattle.iofd_rows.proofs.ListTests.{false_else}
-use Rattle.iofd_rows.proofs.ObjectPages.{has_page, in_pinned, is_listed, listed_is, translated-map, translated-with_area, untranslated}
-use Rattle.iofd_rows.proofs.PageCounts.{count_either, count_none, count_weaker, page_count, page_count_bound, page_count_filter, page_count_last, page_count_none}
+use Rattle.iofd_rows.proofs.ObjectPages.{has_page, in_pinned, is_listed, listed_is, translated-map}
+use Rattle.iofd_rows.proofs.ObjectPages.{translated-with_area, untranslated}
+use Rattle.iofd_rows.proofs.PageCounts.{count_either, count_none, count_weaker, page_count, page_count_bound}
+use Rattle.iofd_rows.proofs.PageCounts.{page_count_filter, page_count_last, page_count_none}
 use Rattle.iofd_rows.proofs.PageLists.{in_pages, page_itself}
 use Rattle.iofd_rows.proofs.PageTables.{hwpt-filter}
 use Rattle.iofd_rows.proofs.PinsFollow.{pin_is_of, settled_at, settled_frame, settled_only}
 use Rattle.iofd_runs.specs.Owned.{is_of_files_user}
-use Rattle.iofd_runs.proofs.AttachedPages.{IsNew, had_before, never_pinned, none_new, over_number, over_space, unpinned, with_table}
+use Rattle.iofd_runs.proofs.AttachedPages.{IsNew, had_before, never_pinned, none_new, over_number, over_space, unpinned}
+use Rattle.iofd_runs.proofs.AttachedPages.{with_table}
 use Rattle.iofd_runs.proofs.CopiedPages.{IsAdded, added_page, pages_copied}
 use Rattle.iofd_runs.proofs.CopySource.{source_area, source_is}
 use Rattle.iofd_runs.proofs.KeepsOwned.{OwnedPins, keeps_owned_pins, later_owned, opening_owned, owner, tabled_owned}
@@ -77,23 +85,31 @@ flipped a b is = grind (arith, nat_tests)
 limit_stays : (limit held count : ℕ) → ltb limit (held + count) ≡ false → held + count ≤ limit
 limit_stays limit held count is = search (is, arith, nat_tests)
 
-within_limit : (v : View) (o : Option UserNo) (user : UserNo) (count limit : ℕ) → o ≡ Some user → limit_of v.settings user ≡ Some limit → passes_limit v o count ≡ false → v.held_by user + count ≤ limit
+within_limit : (v : View) (o : Option UserNo) (user : UserNo) (count limit : ℕ) → o ≡ Some user
+    → limit_of v.settings user ≡ Some limit → passes_limit v o count ≡ false → v.held_by user + count ≤ limit
 within_limit v None user count limit is has passed = cc
 within_limit v (Some other) user count limit is has passed =
     let same : other ≡ user = cc in
-    let here : elim (limit_of v.settings user) [ Some limit ↦ ltb limit (v.held_by user + count) | None ↦ false ] ≡ false = rw same at passed in
+    let here : elim (limit_of v.settings user) [
+      | Some limit ↦ ltb limit (v.held_by user + count)
+      | None ↦ false
+    ] ≡ false = rw same at passed in
     limit_stays limit (v.held_by user) count (rw has at here)
 
 -- ---- the pages of a memory object
 
 page_of_object : (m : MemoryObject) (page : ObjectPage) → IsIn (pages_of m) page → has_page page m ≡ true
-page_of_object m page within = sym (in_pages page m.number m.count) ∙ of_any (is_page page) (pages_of m) page within (page_itself page)
+page_of_object m page within =
+    sym (in_pages page m.number m.count) ∙ of_any (is_page page) (pages_of m) page within (page_itself page)
 
 number_of_page : (m : MemoryObject) (page : ObjectPage) → IsIn (pages_of m) page → page.memory ≡ m.number
-number_of_page m page within = eqb-true page.memory m.number (and_true (eqb page.memory m.number) (ltb page.index m.count) (page_of_object m page within)).0
+number_of_page m page within = eqb-true page.memory m.number
+    (and_true (eqb page.memory m.number) (ltb page.index m.count) (page_of_object m page within)).0
 
-listed_page : (memory : List MemoryObject) (m : MemoryObject) (page : ObjectPage) → IsIn memory m → IsIn (pages_of m) page → is_listed memory page ≡ true
-listed_page memory m page among within = listed_is memory page ∙ of_any (has_page page) memory m among (page_of_object m page within)
+listed_page : (memory : List MemoryObject) (m : MemoryObject) (page : ObjectPage) → IsIn memory m
+    → IsIn (pages_of m) page → is_listed memory page ≡ true
+listed_page memory m page among within =
+    listed_is memory page ∙ of_any (has_page page) memory m among (page_of_object m page within)
 
 -- ---- where pins follow
 
@@ -106,46 +122,71 @@ abbrev comes : World → World → ObjectPage → Bool
 comes old new page = list_any (is_page page) (pages_in new) && not (list_any (is_page page) (pages_in old))
 
 -- a page that has a pin had one before, or comes
-settle_pin : (w new : World) (page : ObjectPage) → has_pin (settle w new) page ≡ true → has_pin w page ≡ false → comes w new page ≡ true
+settle_pin : (w new : World) (page : ObjectPage) → has_pin (settle w new) page ≡ true → has_pin w page ≡ false
+    → comes w new page ≡ true
 unfolding settle
 settle_pin w new page some none =
-    by_tests (list_any (is_page page) (pages_in w)) (list_any (is_page page) (pages_in new)) (pinned_frame w.pins page) _
-    (ap (λ (o : Option FrameNo). is_some o) (sym (settled_frame (pages_in w) (pages_in new) new.memory new.user_pages w.pins page)) ∙ some) none
+    by_tests (list_any (is_page page) (pages_in w)) (list_any (is_page page) (pages_in new))
+    (pinned_frame w.pins page) _
+    (ap (λ (o : Option FrameNo). is_some o) (sym
+    (settled_frame (pages_in w) (pages_in new) new.memory new.user_pages w.pins page)) ∙ some) none
   where
-    by_tests : (was is : Bool) (old now : Option FrameNo) → is_some (settled_at was is old now) ≡ true → is_some old ≡ false → (is && not was) ≡ true
+    by_tests : (was is : Bool) (old now : Option FrameNo) → is_some (settled_at was is old now) ≡ true
+        → is_some old ≡ false → (is && not was) ≡ true
     by_tests was false old now some none = cc
     by_tests true true None now some none = cc
     by_tests false true None now some none = refl
     by_tests was true (Some old) now some none = cc
 
-held_settle : (w new : World) (user : UserNo) → held_in (settle w new) user ≡ page_count (has_pin (settle w new)) (of_user user) new.memory
+held_settle : (w new : World) (user : UserNo)
+    → held_in (settle w new) user ≡ page_count (has_pin (settle w new)) (of_user user) new.memory
 unfolding settle
 held_settle w new user = refl
 
-settle_held : (w new : World) (t : MemoryObject → Bool) (memory : List MemoryObject) → page_count (has_pin (settle w new)) t memory ≤ page_count (has_pin w) t memory + page_count (comes w new) t memory
-settle_held w new t memory = count_either (has_pin (settle w new)) (has_pin w) (comes w new) (flat_map pages_of (filter t memory)) (λ page within some none. settle_pin w new page some none)
+settle_held : (w new : World) (t : MemoryObject → Bool) (memory : List MemoryObject)
+    → page_count (has_pin (settle w new)) t memory ≤ page_count (has_pin w) t memory + page_count (comes w new) t memory
+settle_held w new t memory = count_either (has_pin (settle w new)) (has_pin w) (comes w new)
+    (flat_map pages_of (filter t memory)) (λ page within some none. settle_pin w new page some none)
 
 -- no page comes
-none_comes : (w new : World) (t : MemoryObject → Bool) (memory : List MemoryObject) → ((page : ObjectPage) → comes w new page ≡ true → ⊥) → page_count (has_pin (settle w new)) t memory ≤ page_count (has_pin w) t memory
+none_comes : (w new : World) (t : MemoryObject → Bool) (memory : List MemoryObject)
+    → ((page : ObjectPage) → comes w new page ≡ true → ⊥)
+    → page_count (has_pin (settle w new)) t memory ≤ page_count (has_pin w) t memory
 none_comes w new t memory never =
     let held = settle_held w new t memory in
-    let none = page_count_none (comes w new) t memory (λ m among is page within. false_else (comes w new page) (never page)) in
+    let none =
+    page_count_none (comes w new) t memory (λ m among is page within. false_else (comes w new page) (never page)) in
     omega (arith, held, none)
 
 -- areas and objects go
-gone_held : (w : World) (goes : Area → Bool) (left : List Object) (attachments : List Attachment) (allowed : List AllowedRanges) (closed : List FileNo) (user : UserNo) → ((file : FileNo) (ioas : ObjId) → has_hwpt left file ioas ≡ true → has_hwpt w.objects file ioas ≡ true)
-    → held_in (settle w (record (without_areas goes w) { objects = left; attachments = attachments; allowed = allowed; closed = closed })) user ≤ held_in w user
+gone_held : (w : World) (goes : Area → Bool) (left : List Object) (attachments : List Attachment)
+    (allowed : List AllowedRanges) (closed : List FileNo) (user : UserNo)
+    → ((file : FileNo) (ioas : ObjId) → has_hwpt left file ioas ≡ true → has_hwpt w.objects file ioas ≡ true)
+    → held_in (settle w (record (without_areas goes w) {
+      objects = left;
+      attachments = attachments;
+      allowed = allowed;
+      closed = closed;
+    })) user ≤ held_in w user
 unfolding without_areas
 gone_held w goes left attachments allowed closed user fewer =
     let stays : MemoryObject → Bool = λ m. list_any (λ (a : Area). eqb a.memory m.number && not (goes a)) w.areas in
-    let new : World = record (without_areas goes w) { objects = left; attachments = attachments; allowed = allowed; closed = closed } in
-    let held = none_comes w new (of_user user) (filter stays w.memory) (λ page is. let parts = and_true _ _ is in clash _ (not_true _ parts.1) (gone_within w goes left stays page fewer parts.0)) in
+    let new : World = record (without_areas goes w) {
+      objects = left;
+      attachments = attachments;
+      allowed = allowed;
+      closed = closed;
+    } in
+    let held = none_comes w new (of_user user) (filter stays w.memory)
+    (λ page is. let parts = and_true _ _ is in clash _ (not_true _ parts.1)
+    (gone_within w goes left stays page fewer parts.0)) in
     let fewer_objects = page_count_filter (has_pin w) (of_user user) stays w.memory in
     rw (held_settle w new user) (omega (arith, held, fewer_objects))
 
 -- ---- pages come, of memory objects that stay and are those of the file's user
 
-module _ (w new : World) (same : new.memory ≡ w.memory) (file : FileNo) (joins : MemoryObject → Bool) (user : UserNo) (limit : ℕ)
+module _ (w new : World) (same : new.memory ≡ w.memory) (file : FileNo) (joins : MemoryObject
+    → Bool) (user : UserNo) (limit : ℕ)
     (over : (m : MemoryObject) (page : ObjectPage) → IsIn (pages_of m) page → comes w new page ≡ true → joins m ≡ true)
     (free : (page : ObjectPage) → comes w new page ≡ true → is_none (pinned_frame w.pins page) ≡ true)
     (owned : (m : MemoryObject) → IsIn w.memory m → joins m ≡ true → is_of_files_user w.settings file m ≡ true) where
@@ -158,90 +199,137 @@ module _ (w new : World) (same : new.memory ≡ w.memory) (file : FileNo) (joins
   -- so many come as pages of those objects aren't pinned yet
   comes_count : page_count (comes w new) (of_user user) w.memory ≤ length joining
   comes_count =
-      let bound = page_count_bound (comes w new) is_unpinned (of_user user) joins w.memory (λ m among. by_tests m (of_user user m) (joins m) refl) in
-      let counted : length joining ≡ page_count is_unpinned joins w.memory = length-filter is_unpinned (flat_map pages_of (filter joins w.memory)) in
+      let bound = page_count_bound (comes w new) is_unpinned (of_user user) joins w.memory
+      (λ m among. by_tests m (of_user user m) (joins m) refl) in
+      let counted : length joining ≡ page_count is_unpinned joins w.memory =
+      length-filter is_unpinned (flat_map pages_of (filter joins w.memory)) in
       omega (arith, bound, counted)
     where
-      by_tests : (m : MemoryObject) (a b : Bool) → joins m ≡ b → cond a (count_by (comes w new) (pages_of m)) 0 ≤ cond b (count_by is_unpinned (pages_of m)) 0
+      by_tests : (m : MemoryObject) (a b : Bool) → joins m ≡ b
+          → cond a (count_by (comes w new) (pages_of m)) 0 ≤ cond b (count_by is_unpinned (pages_of m)) 0
       by_tests m false b is = omega arith
       by_tests m true true is = count_weaker (comes w new) is_unpinned (pages_of m) (λ page within now. free page now)
-      by_tests m true false is = let none = count_none (comes w new) (pages_of m) (λ page within. false_else (comes w new page) (λ now. clash _ is (over m page within now))) in omega (arith, none)
+      by_tests m true false is = let none = count_none (comes w new) (pages_of m)
+          (λ page within. false_else (comes w new page) (λ now. clash _ is (over m page within now))) in
+          omega (arith, none)
 
   -- and none where they aren't the user's
-  none_of_others : ((m : MemoryObject) → of_user user m ≡ true → is_of_files_user w.settings file m ≡ true → ⊥) → page_count (comes w new) (of_user user) w.memory ≡ 0
+  none_of_others : ((m : MemoryObject) → of_user user m ≡ true → is_of_files_user w.settings file m ≡ true → ⊥)
+      → page_count (comes w new) (of_user user) w.memory ≡ 0
   none_of_others others =
-      page_count_none (comes w new) (of_user user) w.memory (λ m among its page within. false_else (comes w new page) (λ now. others m its (owned m among (over m page within now))))
+      page_count_none (comes w new) (of_user user) w.memory
+      (λ m among its page within. false_else (comes w new page)
+      (λ now. others m its (owned m among (over m page within now))))
 
-  come_held : limit_of w.settings user ≡ Some limit → passes_limit (view w) (user_of w.settings file) (length joining) ≡ false → held_in w user ≤ limit → held_in (settle w new) user ≤ limit
+  come_held : limit_of w.settings user ≡ Some limit
+      → passes_limit (view w) (user_of w.settings file) (length joining) ≡ false → held_in w user ≤ limit
+      → held_in (settle w new) user ≤ limit
   come_held has passed before =
-      rw (held_settle w new user) (subst (λ (memory : List MemoryObject). page_count (has_pin (settle w new)) (of_user user) memory ≤ limit) (sym same) (by_owner (user_of w.settings file) refl))
+      rw (held_settle w new user) (subst (λ (memory : List MemoryObject). page_count (has_pin (settle w new))
+      (of_user user) memory ≤ limit) (sym same) (by_owner (user_of w.settings file) refl))
     where
-      held : page_count (has_pin (settle w new)) (of_user user) w.memory ≤ held_in w user + page_count (comes w new) (of_user user) w.memory
+      held : page_count (has_pin (settle w new)) (of_user user) w.memory ≤ held_in w user
+          + page_count (comes w new) (of_user user) w.memory
       held = settle_held w new (of_user user) w.memory
 
-      by_owner : (o : Option UserNo) → user_of w.settings file ≡ o → page_count (has_pin (settle w new)) (of_user user) w.memory ≤ limit
+      by_owner : (o : Option UserNo) → user_of w.settings file ≡ o
+          → page_count (has_pin (settle w new)) (of_user user) w.memory ≤ limit
       by_owner None is =
-          let none = none_of_others (λ m its own. let never : false ≡ true = sym (ap (λ (o : Option UserNo). elim o as (λ _. Bool) [ Some u ↦ eqb u.0 m.user.0 | None ↦ false ]) is) ∙ own in cc) in
+          let none = none_of_others (λ m its own. let never : false ≡ true = sym
+          (ap (λ (o : Option UserNo). elim o as (λ _. Bool) [ Some u ↦ eqb u.0 m.user.0 | None ↦ false ]) is)
+          ∙ own in cc) in
           omega (arith, held, none, before)
       by_owner (Some own) is = by_test (eqb own.0 user.0) refl
         where
           joined : (a b c : ℕ) → eqb a b ≡ true → eqb c b ≡ true → eqb c a ≡ true
           joined a b c first second = grind (arith, nat_tests)
 
-          by_test : (b : Bool) → eqb own.0 user.0 ≡ b → page_count (has_pin (settle w new)) (of_user user) w.memory ≤ limit
+          by_test : (b : Bool) → eqb own.0 user.0 ≡ b
+              → page_count (has_pin (settle w new)) (of_user user) w.memory ≤ limit
           by_test true alike =
-              let more = within_limit (view w) (user_of w.settings file) user (length joining) limit (is ∙ ap (λ (u : UserNo). Some u) (same_user own user alike)) has passed in
+              let more = within_limit (view w) (user_of w.settings file) user (length joining) limit (is
+              ∙ ap (λ (u : UserNo). Some u) (same_user own user alike)) has passed in
               omega (arith, held, comes_count, more)
           by_test false other =
-              let none = none_of_others (λ m its of_file. clash _ other (joined user.0 m.user.0 own.0 (flipped m.user.0 user.0 its) (sym (ap (λ (o : Option UserNo). elim o as (λ _. Bool) [ Some u ↦ eqb u.0 m.user.0 | None ↦ false ]) is) ∙ of_file))) in
+              let none = none_of_others (λ m its of_file. clash _ other
+              (joined user.0 m.user.0 own.0 (flipped m.user.0 user.0 its)
+              (sym (ap (λ (o : Option UserNo). elim o as (λ _. Bool) [
+                | Some u ↦ eqb u.0 m.user.0
+                | None ↦ false
+              ]) is) ∙ of_file))) in
               omega (arith, held, none, before)
 
 -- ---- a MAP
 
 abbrev mapped_world : ℕ → World → FileNo → MapRequest → Iova → UserNo → World
 mapped_world at w file request iova user =
-    record w { memory = w.memory ++ memory_object at user request ∷ []; areas = with_area (mapped_area at file request iova) w.areas }
+    record w {
+      memory = w.memory ++ memory_object at user request ∷ [];
+      areas = with_area (mapped_area at file request iova) w.areas;
+    }
 
 -- a page that is to be pinned then
-mapped_page : (at : ℕ) (w : World) (file : FileNo) (request : MapRequest) (iova : Iova) (user : UserNo) (page : ObjectPage) → list_any (is_page page) (pages_in (mapped_world at w file request iova user)) ≡ true → ((eqb at page.memory && has_hwpt w.objects file request.ioas) || is_translated w.objects w.areas page.memory) ≡ true
+mapped_page : (at : ℕ) (w : World) (file : FileNo) (request : MapRequest) (iova : Iova) (user : UserNo)
+    (page : ObjectPage) → list_any (is_page page) (pages_in (mapped_world at w file request iova user)) ≡ true
+    → ((eqb at page.memory && has_hwpt w.objects file request.ioas)
+    || is_translated w.objects w.areas page.memory) ≡ true
 mapped_page at w file request iova user page within =
     let area = mapped_area at file request iova in
     let memory : List MemoryObject = w.memory ++ memory_object at user request ∷ [] in
-    let parts = and_true (is_listed memory page) (is_translated w.objects (with_area area w.areas) page.memory) (sym (in_pinned w.objects (with_area area w.areas) memory w.access_pins page) ∙ within) in
+    let parts = and_true (is_listed memory page) (is_translated w.objects (with_area area w.areas) page.memory)
+    (sym (in_pinned w.objects (with_area area w.areas) memory w.access_pins page) ∙ within) in
     sym (translated-with_area w.objects area w.areas page.memory) ∙ parts.1
 
 -- no page of a memory object that stands comes
-none_old : (at : ℕ) (w : World) (file : FileNo) (request : MapRequest) (iova : Iova) (user : UserNo) (m : MemoryObject) (page : ObjectPage) → ArePinned at w → IsIn w.memory m → IsIn (pages_of m) page → comes w (mapped_world at w file request iova user) page ≡ true → ⊥
+none_old : (at : ℕ) (w : World) (file : FileNo) (request : MapRequest) (iova : Iova) (user : UserNo) (m : MemoryObject)
+    (page : ObjectPage) → ArePinned at w → IsIn w.memory m → IsIn (pages_of m) page
+    → comes w (mapped_world at w file request iova user) page ≡ true → ⊥
 none_old at w file request iova user m page p among within is =
-    let parts = and_true (list_any (is_page page) (pages_in (mapped_world at w file request iova user))) (not (list_any (is_page page) (pages_in w))) is in
-    let other : eqb at page.memory ≡ false = unlike m.number page.memory (of_each (λ (o : MemoryObject). ltb o.number at) w.memory m p.made among) (number_of_page m page within) in
-    let translated : is_translated w.objects w.areas page.memory ≡ true = rw other at (mapped_page at w file request iova user page parts.0) in
-    clash _ (not_true _ parts.1) (in_pinned w.objects w.areas w.memory w.access_pins page ∙ both_true _ _ (listed_page w.memory m page among within) translated)
+    let parts = and_true (list_any (is_page page) (pages_in (mapped_world at w file request iova user)))
+    (not (list_any (is_page page) (pages_in w))) is in
+    let other : eqb at page.memory ≡ false =
+    unlike m.number page.memory (of_each (λ (o : MemoryObject). ltb o.number at) w.memory m p.made among)
+    (number_of_page m page within) in
+    let translated : is_translated w.objects w.areas page.memory ≡ true =
+    rw other at (mapped_page at w file request iova user page parts.0) in
+    clash _ (not_true _ parts.1) (in_pinned w.objects w.areas w.memory w.access_pins page
+    ∙ both_true _ _ (listed_page w.memory m page among within) translated)
   where
     unlike : (n k : ℕ) → ltb n at ≡ true → k ≡ n → eqb at k ≡ false
     unlike n k before is = grind (arith, nat_tests)
 
 -- and without a page table none of the new memory object has a pin
-none_new_object : (at : ℕ) (w : World) (file : FileNo) (request : MapRequest) (iova : Iova) (user : UserNo) (page : ObjectPage) → ArePinned at w → has_hwpt w.objects file request.ioas ≡ false → IsIn (pages_of (memory_object at user request)) page → has_pin (settle w (mapped_world at w file request iova user)) page ≡ false
+none_new_object : (at : ℕ) (w : World) (file : FileNo) (request : MapRequest) (iova : Iova) (user : UserNo)
+    (page : ObjectPage) → ArePinned at w → has_hwpt w.objects file request.ioas ≡ false
+    → IsIn (pages_of (memory_object at user request)) page
+    → has_pin (settle w (mapped_world at w file request iova user)) page ≡ false
 unfolding settle
 none_new_object at w file request iova user page p table within =
     let new = mapped_world at w file request iova user in
     let same : page.memory ≡ at = number_of_page (memory_object at user request) page within in
-    let none : is_translated w.objects w.areas page.memory ≡ false = rw same (untranslated w.objects w.areas at (none_over at w.areas w.memory p.made p.sizes)) in
+    let none : is_translated w.objects w.areas page.memory ≡ false =
+    rw same (untranslated w.objects w.areas at (none_over at w.areas w.memory p.made p.sizes)) in
     false_else (has_pin (settle w new) page) (λ some.
-    no_table (eqb at page.memory) (has_hwpt w.objects file request.ioas) (is_translated w.objects w.areas page.memory) table none
-    (mapped_page at w file request iova user page (pin_is_of (settled (pages_in w) (pages_in new) new.memory new.user_pages w.pins) (pages_in new) page some (settled_only (pages_in w) (pages_in new) new.memory new.user_pages w.pins))))
+    no_table (eqb at page.memory) (has_hwpt w.objects file request.ioas)
+    (is_translated w.objects w.areas page.memory) table none
+    (mapped_page at w file request iova user page
+    (pin_is_of (settled (pages_in w) (pages_in new) new.memory new.user_pages w.pins) (pages_in new) page some
+    (settled_only (pages_in w) (pages_in new) new.memory new.user_pages w.pins))))
   where
-    no_table : (here has translated : Bool) → has ≡ false → translated ≡ false → ((here && has) || translated) ≡ true → ⊥
+    no_table : (here has translated : Bool) → has ≡ false → translated ≡ false → ((here && has) || translated) ≡ true
+        → ⊥
     no_table true false false a b is = cc
     no_table false false false a b is = cc
     no_table here true translated a b is = cc
     no_table here false true a b is = cc
 
-mapped_held : (at : ℕ) (w : World) (file : FileNo) (request : MapRequest) (iova : Iova) (user other : UserNo) (limit : ℕ) → ArePinned at w → first_true (map_checks (view w) file request) ≡ None → user_of w.settings file ≡ Some user → limit_of w.settings other ≡ Some limit → held_in w other ≤ limit
+mapped_held : (at : ℕ) (w : World) (file : FileNo) (request : MapRequest) (iova : Iova) (user other : UserNo)
+    (limit : ℕ) → ArePinned at w → first_true (map_checks (view w) file request) ≡ None
+    → user_of w.settings file ≡ Some user → limit_of w.settings other ≡ Some limit → held_in w other ≤ limit
     → held_in (settle w (mapped_world at w file request iova user)) other ≤ limit
 mapped_held at w file request iova user other limit p none is has before =
-    rw (held_settle w new other, page_count_last pinned (of_user other) w.memory object) (by_user (eqb user.0 other.0) refl)
+    rw (held_settle w new other, page_count_last pinned (of_user other) w.memory object)
+    (by_user (eqb user.0 other.0) refl)
   where
     new : World
     new = mapped_world at w file request iova user
@@ -254,45 +342,64 @@ mapped_held at w file request iova user other limit p none is has before =
 
     old : page_count pinned (of_user other) w.memory ≤ held_in w other
     old =
-        page_count_bound pinned (has_pin w) (of_user other) (of_user other) w.memory (λ m among. by_test m (of_user other m) (count_weaker pinned (has_pin w) (pages_of m) (λ page within some. had m page among within some (has_pin w page) refl)))
+        page_count_bound pinned (has_pin w) (of_user other) (of_user other) w.memory
+        (λ m among. by_test m (of_user other m) (count_weaker pinned (has_pin w) (pages_of m)
+        (λ page within some. had m page among within some (has_pin w page) refl)))
       where
-        had : (m : MemoryObject) (page : ObjectPage) → IsIn w.memory m → IsIn (pages_of m) page → pinned page ≡ true → (b : Bool) → has_pin w page ≡ b → b ≡ true
+        had : (m : MemoryObject) (page : ObjectPage) → IsIn w.memory m → IsIn (pages_of m) page → pinned page ≡ true
+            → (b : Bool) → has_pin w page ≡ b → b ≡ true
         had m page among within some true is = refl
-        had m page among within some false is = absurd (none_old at w file request iova user m page p among within (settle_pin w new page some is))
+        had m page among within some false is =
+            absurd (none_old at w file request iova user m page p among within (settle_pin w new page some is))
 
-        by_test : (m : MemoryObject) (b : Bool) → count_by pinned (pages_of m) ≤ count_by (has_pin w) (pages_of m) → cond b (count_by pinned (pages_of m)) 0 ≤ cond b (count_by (has_pin w) (pages_of m)) 0
+        by_test : (m : MemoryObject) (b : Bool) → count_by pinned (pages_of m) ≤ count_by (has_pin w) (pages_of m)
+            → cond b (count_by pinned (pages_of m)) 0 ≤ cond b (count_by (has_pin w) (pages_of m)) 0
         by_test m true fewer = fewer
         by_test m false fewer = omega arith
 
-    by_table : (b : Bool) → has_hwpt w.objects file request.ioas ≡ b → user ≡ other → held_in w other + count_by pinned (pages_of object) ≤ limit
+    by_table : (b : Bool) → has_hwpt w.objects file request.ioas ≡ b → user ≡ other
+        → held_in w other + count_by pinned (pages_of object) ≤ limit
     by_table true table same =
         let passed = map_passed (view w) file request none in
-        let more = within_limit (view w) (user_of w.settings file) other (request.length / 4096) limit (is ∙ ap (λ (u : UserNo). Some u) same) has (and_rest (has_hwpt w.objects file request.ioas) _ table passed.within_limit) in
+        let more = within_limit (view w) (user_of w.settings file) other (request.length / 4096) limit (is
+        ∙ ap (λ (u : UserNo). Some u) same) has (and_rest (has_hwpt w.objects file request.ioas) _
+        table passed.within_limit) in
         let pages = count_by-le-length pinned (pages_of object) in
-        let many : length (pages_of object) ≡ request.length / 4096 = length-map-range_with_len _ 0 (request.length / 4096) in
+        let many : length (pages_of object) ≡ request.length / 4096 =
+        length-map-range_with_len _ 0 (request.length / 4096) in
         omega (arith, more, pages, many)
     by_table false table same =
-        let nothing = count_none pinned (pages_of object) (λ page within. none_new_object at w file request iova user page p table within) in
+        let nothing = count_none pinned (pages_of object)
+        (λ page within. none_new_object at w file request iova user page p table within) in
         omega (arith, nothing, before)
 
-    by_user : (b : Bool) → eqb user.0 other.0 ≡ b → page_count pinned (of_user other) w.memory + cond b (count_by pinned (pages_of object)) 0 ≤ limit
-    by_user true same = let all = by_table (has_hwpt w.objects file request.ioas) refl (same_user user other same) in omega (arith, all, old)
+    by_user : (b : Bool) → eqb user.0 other.0 ≡ b
+        → page_count pinned (of_user other) w.memory + cond b (count_by pinned (pages_of object)) 0 ≤ limit
+    by_user true same = let all =
+        by_table (has_hwpt w.objects file request.ioas) refl (same_user user other same) in omega (arith, all, old)
     by_user false same = omega (arith, old, before)
 
 -- ---- a COPY
 
 abbrev copied_world : World → FileNo → CopyRequest → Iova → Area → World
-copied_world w file request iova source = record w { areas = with_area (mapped_area source.memory file (placed_as request) iova) w.areas }
+copied_world w file request iova source =
+    record w { areas = with_area (mapped_area source.memory file (placed_as request) iova) w.areas }
 
 -- what comes is of the source's memory object, and by a page table of the target
-copied_page : (w : World) (file : FileNo) (request : CopyRequest) (iova : Iova) (source : Area) (page : ObjectPage) → comes w (copied_world w file request iova source) page ≡ true → IsAdded w (mapped_area source.memory file (placed_as request) iova) page
+copied_page : (w : World) (file : FileNo) (request : CopyRequest) (iova : Iova) (source : Area) (page : ObjectPage)
+    → comes w (copied_world w file request iova source) page ≡ true
+    → IsAdded w (mapped_area source.memory file (placed_as request) iova) page
 copied_page w file request iova source page is =
-    let parts = and_true (list_any (is_page page) (pages_in (copied_world w file request iova source))) (not (list_any (is_page page) (pages_in w))) is in
+    let parts = and_true (list_any (is_page page) (pages_in (copied_world w file request iova source)))
+    (not (list_any (is_page page) (pages_in w))) is in
     added_page w (mapped_area source.memory file (placed_as request) iova) page parts.0 (not_true _ parts.1)
 
-copied_held : (at : ℕ) (w : World) (file : FileNo) (request : CopyRequest) (iova : Iova) (source : Area) (user : UserNo) (limit : ℕ) → OwnedPins at w → first_true (copy_checks (view w) file request) ≡ None → source_area w file request ≡ Some source → limit_of w.settings user ≡ Some limit
+copied_held : (at : ℕ) (w : World) (file : FileNo) (request : CopyRequest) (iova : Iova) (source : Area) (user : UserNo)
+    (limit : ℕ) → OwnedPins at w → first_true (copy_checks (view w) file request) ≡ None
+    → source_area w file request ≡ Some source → limit_of w.settings user ≡ Some limit
     → held_in w user ≤ limit → held_in (settle w (copied_world w file request iova source)) user ≤ limit
-copied_held at w file request iova source user limit p none found has before = by_table (has_hwpt w.objects file request.dst_ioas) refl
+copied_held at w file request iova source user limit p none found has before =
+    by_table (has_hwpt w.objects file request.dst_ioas) refl
   where
     new : World
     new = copied_world w file request iova source
@@ -300,22 +407,32 @@ copied_held at w file request iova source user limit p none found has before = b
     is_copied : MemoryObject → Bool
     is_copied m = eqb m.number source.memory
 
-    over : (m : MemoryObject) (page : ObjectPage) → IsIn (pages_of m) page → comes w new page ≡ true → is_copied m ≡ true
-    over m page within is = let added = copied_page w file request iova source page is in ap (λ (n : ℕ). eqb n source.memory) (sym (number_of_page m page within)) ∙ flipped source.memory page.memory added.of_memory
+    over : (m : MemoryObject) (page : ObjectPage) → IsIn (pages_of m) page → comes w new page ≡ true
+        → is_copied m ≡ true
+    over m page within is = let added = copied_page w file request iova source page is in ap
+        (λ (n : ℕ). eqb n source.memory) (sym (number_of_page m page within))
+        ∙ flipped source.memory page.memory added.of_memory
 
     owned : (m : MemoryObject) → IsIn w.memory m → is_copied m ≡ true → is_of_files_user w.settings file m ≡ true
     owned m among is =
         let stands = source_is w file request source found in
         owner w file request.src_ioas m p.areas among
-        (of_any (λ (a : Area). eqb a.memory m.number) (areas_of w.areas file request.src_ioas) source (in_kept (is_of file request.src_ioas) w.areas source stands.within stands.of_space) (flipped m.number source.memory is))
+        (of_any (λ (a : Area). eqb a.memory m.number) (areas_of w.areas file request.src_ioas) source
+        (in_kept (is_of file request.src_ioas) w.areas source stands.within stands.of_space)
+        (flipped m.number source.memory is))
 
     by_table : (b : Bool) → has_hwpt w.objects file request.dst_ioas ≡ b → held_in (settle w new) user ≤ limit
     by_table true table =
-        let passed = and_rest (has_hwpt w.objects file request.dst_ioas) _ table (copy_passed (view w) file request none).within_limit in
-        come_held w new refl file is_copied user limit over (λ page is. never_pinned at w page p.pins (copied_page w file request iova source page is).untranslated) owned has
-        (ap (λ (pages : List ObjectPage). passes_limit (view w) (user_of w.settings file) (length pages)) (sym (pages_copied w file request source found)) ∙ passed) before
+        let passed = and_rest (has_hwpt w.objects file request.dst_ioas) _ table
+        (copy_passed (view w) file request none).within_limit in
+        come_held w new refl file is_copied user limit over
+        (λ page is. never_pinned at w page p.pins (copied_page w file request iova source page is).untranslated)
+        owned has
+        (ap (λ (pages : List ObjectPage). passes_limit (view w) (user_of w.settings file) (length pages))
+        (sym (pages_copied w file request source found)) ∙ passed) before
     by_table false table =
-        let held = none_comes w new (of_user user) w.memory (λ page is. clash _ table (copied_page w file request iova source page is).has_table) in
+        let held = none_comes w new (of_user user) w.memory
+        (λ page is. clash _ table (copied_page w file request iova source page is).has_table) in
         rw (held_settle w new user) (omega (arith, held, before))
 
 -- ---- page tables come and go
@@ -324,126 +441,187 @@ abbrev moved_world : World → List Area → List Object → List Attachment →
 moved_world w areas left attachments = record w { objects = left; attachments = attachments; areas = areas }
 
 -- a page that comes is new
-comes_new : (w : World) (areas : List Area) (left : List Object) (attachments : List Attachment) (page : ObjectPage) → AlikeAreas w areas → comes w (moved_world w areas left attachments) page ≡ true → IsNew w left page
+comes_new : (w : World) (areas : List Area) (left : List Object) (attachments : List Attachment) (page : ObjectPage)
+    → AlikeAreas w areas → comes w (moved_world w areas left attachments) page ≡ true → IsNew w left page
 comes_new w areas left attachments page alike is =
-    let parts = and_true (list_any (is_page page) (pages_in (moved_world w areas left attachments))) (not (list_any (is_page page) (pages_in w))) is in
+    let parts = and_true (list_any (is_page page) (pages_in (moved_world w areas left attachments)))
+    (not (list_any (is_page page) (pages_in w))) is in
     moved_new w areas left page alike parts.0 (not_true _ parts.1)
 
 -- no page table comes
-fewer_held : (w : World) (areas : List Area) (left : List Object) (attachments : List Attachment) (user : UserNo) → AlikeAreas w areas → ((file : FileNo) (ioas : ObjId) → has_hwpt left file ioas ≡ true → has_hwpt w.objects file ioas ≡ true)
+fewer_held : (w : World) (areas : List Area) (left : List Object) (attachments : List Attachment) (user : UserNo)
+    → AlikeAreas w areas → ((file : FileNo) (ioas : ObjId) → has_hwpt left file ioas ≡ true
+    → has_hwpt w.objects file ioas ≡ true)
     → held_in (settle w (moved_world w areas left attachments)) user ≤ held_in w user
 fewer_held w areas left attachments user alike fewer =
     rw (held_settle w (moved_world w areas left attachments) user)
-    (none_comes w (moved_world w areas left attachments) (of_user user) w.memory (λ page is. none_new w left page fewer (comes_new w areas left attachments page alike is)))
+    (none_comes w (moved_world w areas left attachments) (of_user user) w.memory
+    (λ page is. none_new w left page fewer (comes_new w areas left attachments page alike is)))
 
 -- the areas with a device's debts paid
 alike_paid : (w : World) (device : DeviceNo) → AlikeAreas w (all_paid device w.areas)
 alike_paid w device = λ objects number. translated-map objects (λ a. paid device a.phase) w.areas number
 
 -- an address space gets its first page table
-module _ (at : ℕ) (w : World) (areas : List Area) (alike : AlikeAreas w areas) (file : FileNo) (ioas id : ObjId) (width : Width) (automatic : Bool) (attachments : List Attachment) (user : UserNo) (limit : ℕ) (p : OwnedPins at w) where
-  abbrev tables : List Object
-  tables = with_table file ioas id width automatic w.objects
+module _ (at : ℕ) (w : World) (areas : List Area) (alike : AlikeAreas w areas) (file : FileNo) (ioas id : ObjId)
+    (width : Width) (automatic : Bool) (attachments : List Attachment) (user : UserNo) (limit : ℕ) (p : OwnedPins at w)
+  where
+    abbrev tables : List Object
+    tables = with_table file ioas id width automatic w.objects
 
-  abbrev first_table : World
-  first_table = moved_world w areas tables attachments
+    abbrev first_table : World
+    first_table = moved_world w areas tables attachments
 
-  -- the memory object has an area in the address space
-  abbrev in_space : MemoryObject → Bool
-  in_space m = list_any (λ (a : Area). eqb a.memory m.number) (areas_of w.areas file ioas)
+    -- the memory object has an area in the address space
+    abbrev in_space : MemoryObject → Bool
+    in_space m = list_any (λ (a : Area). eqb a.memory m.number) (areas_of w.areas file ioas)
 
-  new_here : (page : ObjectPage) → comes w first_table page ≡ true → IsNew w tables page
-  new_here page is = comes_new w areas tables attachments page alike is
+    new_here : (page : ObjectPage) → comes w first_table page ≡ true → IsNew w tables page
+    new_here page is = comes_new w areas tables attachments page alike is
 
-  comes_over : (m : MemoryObject) (page : ObjectPage) → IsIn (pages_of m) page → comes w first_table page ≡ true → in_space m ≡ true
-  comes_over m page within is =
-      over_number w.areas file ioas page m.number (number_of_page m page within) (over_space w file ioas id width automatic page (new_here page is))
+    comes_over : (m : MemoryObject) (page : ObjectPage) → IsIn (pages_of m) page → comes w first_table page ≡ true
+        → in_space m ≡ true
+    comes_over m page within is =
+        over_number w.areas file ioas page m.number (number_of_page m page within)
+        (over_space w file ioas id width automatic page (new_here page is))
 
-  first_held : limit_of w.settings user ≡ Some limit → passes_limit (view w) (user_of w.settings file) (length (newly_pinned (view w) file ioas)) ≡ false → held_in w user ≤ limit → held_in (settle w first_table) user ≤ limit
-  first_held =
-      come_held w first_table refl file in_space user limit comes_over (λ page is. unpinned at w tables page p.pins (new_here page is)) (λ m among over. owner w file ioas m p.areas among over)
+    first_held : limit_of w.settings user ≡ Some limit
+        → passes_limit (view w) (user_of w.settings file) (length (newly_pinned (view w) file ioas)) ≡ false
+        → held_in w user ≤ limit → held_in (settle w first_table) user ≤ limit
+    first_held =
+        come_held w first_table refl file in_space user limit comes_over
+        (λ page is. unpinned at w tables page p.pins (new_here page is))
+        (λ m among over. owner w file ioas m p.areas among over)
 
 -- a page table is made
-table_held : (at : ℕ) (w : World) (areas : List Area) (file : FileNo) (ioas id : ObjId) (width : Width) (automatic : Bool) (attachments : List Attachment) (user : UserNo) (limit : ℕ) → AlikeAreas w areas → OwnedPins at w → passes_limit_attached (view w) file ioas ≡ false → limit_of w.settings user ≡ Some limit
-    → held_in w user ≤ limit → held_in (settle w (moved_world w areas (with_table file ioas id width automatic w.objects) attachments)) user ≤ limit
-table_held at w areas file ioas id width automatic attachments user limit alike p passed has before = by_table (has_hwpt w.objects file ioas) refl
+table_held : (at : ℕ) (w : World) (areas : List Area) (file : FileNo) (ioas id : ObjId) (width : Width)
+    (automatic : Bool) (attachments : List Attachment) (user : UserNo) (limit : ℕ) → AlikeAreas w areas → OwnedPins at w
+    → passes_limit_attached (view w) file ioas ≡ false → limit_of w.settings user ≡ Some limit
+    → held_in w user ≤ limit → held_in (settle w
+    (moved_world w areas (with_table file ioas id width automatic w.objects) attachments)) user ≤ limit
+table_held at w areas file ioas id width automatic attachments user limit alike p passed has before =
+    by_table (has_hwpt w.objects file ioas) refl
   where
-    by_table : (b : Bool) → has_hwpt w.objects file ioas ≡ b → held_in (settle w (moved_world w areas (with_table file ioas id width automatic w.objects) attachments)) user ≤ limit
+    by_table : (b : Bool) → has_hwpt w.objects file ioas ≡ b
+        → held_in (settle w (moved_world w areas (with_table file ioas id width automatic w.objects) attachments))
+        user ≤ limit
     by_table true had =
-        let held = fewer_held w areas (with_table file ioas id width automatic w.objects) attachments user alike (λ own space table. had_before w.objects file ioas id width automatic own space had table) in
+        let held = fewer_held w areas (with_table file ioas id width automatic w.objects) attachments user alike
+        (λ own space table. had_before w.objects file ioas id width automatic own space had table) in
         omega (arith, held, before)
     by_table false had =
-        first_held at w areas alike file ioas id width automatic attachments user limit p has (and_rest (not (has_hwpt w.objects file ioas)) _ (not_false _ had) passed) before
+        first_held at w areas alike file ioas id width automatic attachments user limit p has
+        (and_rest (not (has_hwpt w.objects file ioas)) _ (not_false _ had) passed) before
 
 -- a device is attached, by an automatic page table or by one that is made
-attached_held : (at : ℕ) (w : World) (device : DeviceNo) (file : FileNo) (ioas id : ObjId) (width : Width) (automatic : Option Object) (attachments : List Attachment) (user : UserNo) (limit : ℕ) → OwnedPins at w → passes_limit_attached (view w) file ioas ≡ false → limit_of w.settings user ≡ Some limit → held_in w user ≤ limit
-    → held_in (settle w (moved_world w (all_paid device w.areas) (with_hwpt file ioas id width automatic w.objects) attachments)) user ≤ limit
+attached_held : (at : ℕ) (w : World) (device : DeviceNo) (file : FileNo) (ioas id : ObjId) (width : Width)
+    (automatic : Option Object) (attachments : List Attachment) (user : UserNo) (limit : ℕ) → OwnedPins at w
+    → passes_limit_attached (view w) file ioas ≡ false → limit_of w.settings user ≡ Some limit → held_in w user ≤ limit
+    → held_in (settle w (moved_world w (all_paid device w.areas) (with_hwpt file ioas id width automatic w.objects)
+    attachments)) user ≤ limit
 attached_held at w device file ioas id width (Some automatic) attachments user limit p passed has before =
-    let held = fewer_held w (all_paid device w.areas) w.objects attachments user (alike_paid w device) (λ own space table. table) in
+    let held = fewer_held w (all_paid device w.areas) w.objects attachments user (alike_paid w device)
+    (λ own space table. table) in
     omega (arith, held, before)
 attached_held at w device file ioas id width None attachments user limit p passed has before =
-    table_held at w (all_paid device w.areas) file ioas id width true attachments user limit (alike_paid w device) p passed has before
+    table_held at w (all_paid device w.areas) file ioas id width true attachments user limit
+    (alike_paid w device) p passed has before
 
 -- ---- each event
 
-settled_limits : (w new : World) → new.settings ≡ w.settings → ((user : UserNo) (limit : ℕ) → limit_of w.settings user ≡ Some limit → held_in w user ≤ limit → held_in (settle w new) user ≤ limit) → WithinLimits w → WithinLimits (settle w new)
+settled_limits : (w new : World) → new.settings ≡ w.settings
+    → ((user : UserNo) (limit : ℕ) → limit_of w.settings user ≡ Some limit → held_in w user ≤ limit
+    → held_in (settle w new) user ≤ limit) → WithinLimits w → WithinLimits (settle w new)
 unfolding settle
 settled_limits w new same held within = λ user limit has.
     let is = ap (λ (s : Settings). limit_of s user) (sym same) ∙ has in
     held user limit is (within user limit is)
 
-gone_limits : (w : World) (goes : Area → Bool) (left : List Object) (attachments : List Attachment) (allowed : List AllowedRanges) (closed : List FileNo) → ((file : FileNo) (ioas : ObjId) → has_hwpt left file ioas ≡ true → has_hwpt w.objects file ioas ≡ true) → WithinLimits w
-    → WithinLimits (settle w (record (without_areas goes w) { objects = left; attachments = attachments; allowed = allowed; closed = closed }))
+gone_limits : (w : World) (goes : Area → Bool) (left : List Object) (attachments : List Attachment)
+    (allowed : List AllowedRanges) (closed : List FileNo)
+    → ((file : FileNo) (ioas : ObjId) → has_hwpt left file ioas ≡ true → has_hwpt w.objects file ioas ≡ true)
+    → WithinLimits w
+    → WithinLimits (settle w (record (without_areas goes w) {
+      objects = left;
+      attachments = attachments;
+      allowed = allowed;
+      closed = closed;
+    }))
 unfolding without_areas
 gone_limits w goes left attachments allowed closed fewer =
-    settled_limits w (record (without_areas goes w) { objects = left; attachments = attachments; allowed = allowed; closed = closed }) refl
-    (λ user limit is before. let held = gone_held w goes left attachments allowed closed user fewer in omega (arith, held, before))
+    settled_limits w (record (without_areas goes w) {
+      objects = left;
+      attachments = attachments;
+      allowed = allowed;
+      closed = closed;
+    }) refl
+    (λ user limit is before. let held = gone_held w goes left attachments allowed closed user fewer in
+    omega (arith, held, before))
 
-pub keeps_limits : {A : Type 0} → (at : ℕ) (w : World) (e : Event A) (answer : Reply) → refusal w e ≡ None → OwnedPins at w → WithinLimits w → WithinLimits (changed at w e answer)
+pub keeps_limits : {A : Type 0} → (at : ℕ) (w : World) (e : Event A) (answer : Reply) → refusal w e ≡ None
+    → OwnedPins at w → WithinLimits w → WithinLimits (changed at w e answer)
 unfolding changed without_areas attached detached joined
 keeps_limits at w (event.IoasAlloc file) (reply.Id id) none p within = within
 keeps_limits at w (event.Map file request) (reply.Iova iova) none p within = mapped (user_of w.settings file) refl
   where
-    mapped : (user : Option UserNo) → user_of w.settings file ≡ user → WithinLimits (map_changes at w file request iova user)
+    mapped : (user : Option UserNo) → user_of w.settings file ≡ user
+        → WithinLimits (map_changes at w file request iova user)
     mapped None is = within
-    mapped (Some user) is = settled_limits w (mapped_world at w file request iova user) refl (λ other limit has before. mapped_held at w file request iova user other limit p.pins none is has before) within
+    mapped (Some user) is = settled_limits w (mapped_world at w file request iova user) refl
+        (λ other limit has before. mapped_held at w file request iova user other limit p.pins none is has before) within
 keeps_limits at w (event.Copy file request) (reply.Iova iova) none p within = copied (source_area w file request) refl
   where
-    copied : (source : Option Area) → source_area w file request ≡ source → WithinLimits (copy_changes w file request iova source)
+    copied : (source : Option Area) → source_area w file request ≡ source
+        → WithinLimits (copy_changes w file request iova source)
     copied None is = within
-    copied (Some source) is = settled_limits w (copied_world w file request iova source) refl (λ user limit has before. copied_held at w file request iova source user limit p none is has before) within
-keeps_limits at w (event.Unmap file request) (reply.Bytes count) none p within = gone_limits w (is_touched file request) w.objects w.attachments w.allowed w.closed (λ own ioas has. has) within
+    copied (Some source) is = settled_limits w (copied_world w file request iova source) refl
+        (λ user limit has before. copied_held at w file request iova source user limit p none is has before) within
+keeps_limits at w (event.Unmap file request) (reply.Bytes count) none p within =
+    gone_limits w (is_touched file request) w.objects w.attachments w.allowed w.closed (λ own ioas has. has) within
 keeps_limits at w (event.Unmap file request) (reply.Pending errno) none p within = within
-keeps_limits at w (event.HwptAlloc file request) (reply.Id id) none p within = made (settings_under w.settings w.objects file request.device)
+keeps_limits at w (event.HwptAlloc file request) (reply.Id id) none p within =
+    made (settings_under w.settings w.objects file request.device)
   where
     made : (settings : Option DeviceSettings) → WithinLimits (hwpt_changes w file request.ioas id settings)
     made None = within
     made (Some settings) =
         let passed = hwpt_passed (view w) file request none in
-        settled_limits w (moved_world w w.areas (with_table file request.ioas id settings.width false w.objects) w.attachments) refl
-        (λ user limit has before. table_held at w w.areas file request.ioas id settings.width false w.attachments user limit (λ objects number. refl) p passed.within_limit has before) within
-keeps_limits at w (event.Destroy file id) reply.Done none p within = gone_limits w (is_of file id) (without_object file id w.objects) w.attachments _ w.closed (λ own ioas has. hwpt-filter (λ o. not (is_object file id o)) w.objects own ioas has) within
-keeps_limits at w (event.Close file) reply.Done none p within = gone_limits w (λ a. eqb a.file.0 file.0) _ _ _ _ (λ own ioas has. hwpt-filter (λ o. not (eqb o.file.0 file.0)) w.objects own ioas has) within
+        settled_limits w (moved_world w w.areas (with_table file request.ioas id settings.width false w.objects)
+        w.attachments) refl
+        (λ user limit has before. table_held at w w.areas file request.ioas id settings.width false w.attachments user
+        limit (λ objects number. refl) p passed.within_limit has before) within
+keeps_limits at w (event.Destroy file id) reply.Done none p within =
+    gone_limits w (is_of file id) (without_object file id w.objects) w.attachments _ w.closed
+    (λ own ioas has. hwpt-filter (λ o. not (is_object file id o)) w.objects own ioas has) within
+keeps_limits at w (event.Close file) reply.Done none p within =
+    gone_limits w (λ a. eqb a.file.0 file.0) _ _ _ _
+    (λ own ioas has. hwpt-filter (λ o. not (eqb o.file.0 file.0)) w.objects own ioas has) within
 keeps_limits at w (event.UserMap user va) (reply.Frame frame) none p within = within
 keeps_limits at w (event.AllowIovas file ioas ranges) reply.Done none p within = within
 keeps_limits at w (event.UserUnmap user va) reply.Done none p within = within
 keeps_limits at w (event.UserWrite user va bytes) reply.Done none p within = within
 keeps_limits at w (event.Bind file device) (reply.Id id) none p within = within
 keeps_limits at w (event.Unbind file id) reply.Done none p within = within
-keeps_limits at w (event.Attach device pt_id) (reply.Id id) none p within = bound (binding_of w.objects device) refl (device_of w.settings device)
+keeps_limits at w (event.Attach device pt_id) (reply.Id id) none p within =
+    bound (binding_of w.objects device) refl (device_of w.settings device)
   where
-    bound : (object : Option Object) → binding_of w.objects device ≡ object → (settings : Option DeviceSettings) → WithinLimits (attach_changes w device pt_id id object settings)
+    bound : (object : Option Object) → binding_of w.objects device ≡ object → (settings : Option DeviceSettings)
+        → WithinLimits (attach_changes w device pt_id id object settings)
     bound None is settings = within
     bound (Some object) is None = within
     bound (Some object) is (Some settings) = by_kind (kind_of w.objects object.file pt_id) refl
       where
-        by_kind : (k : Option ObjectKind) → kind_of w.objects object.file pt_id ≡ k → WithinLimits (target_changes w device pt_id id object settings k)
+        by_kind : (k : Option ObjectKind) → kind_of w.objects object.file pt_id ≡ k
+            → WithinLimits (target_changes w device pt_id id object settings k)
         by_kind (Some kind.Ioas) space =
             let automatic = automatic_hwpt w.objects object.file pt_id settings.width in
-            let attachments = with_attachment (record { device = device; file = object.file; hwpt = id }) w.attachments in
+            let attachments =
+            with_attachment (record { device = device; file = object.file; hwpt = id }) w.attachments in
             let passed = attach_passed (view w) device pt_id object is space none in
-            settled_limits w (moved_world w (all_paid device w.areas) (with_hwpt object.file pt_id id settings.width automatic w.objects) attachments) refl
-            (λ user limit has before. attached_held at w device object.file pt_id id settings.width automatic attachments user limit p passed.within_limit has before) within
+            settled_limits w (moved_world w (all_paid device w.areas)
+            (with_hwpt object.file pt_id id settings.width automatic w.objects) attachments) refl
+            (λ user limit has before. attached_held at w device object.file pt_id id settings.width automatic
+            attachments user limit p passed.within_limit has before) within
         by_kind (Some (kind.Hwpt ioas width automatic)) table = within
         by_kind k other = within
 keeps_limits at w (event.Detach device) reply.Done none p within = attached_or_not (attachment_of w.attachments device)
@@ -454,7 +632,10 @@ keeps_limits at w (event.Detach device) reply.Done none p within = attached_or_n
         let goes = goes_with (without_attachment device w.attachments) a in
         let left = filter (λ (o : Object). not (goes o)) w.objects in
         settled_limits w (moved_world w (all_paid device w.areas) left (without_attachment device w.attachments)) refl
-        (λ user limit has before. let held = fewer_held w (all_paid device w.areas) left (without_attachment device w.attachments) user (alike_paid w device) (λ own ioas table. hwpt-filter (λ o. not (goes o)) w.objects own ioas table) in omega (arith, held, before)) within
+        (λ user limit has before. let held = fewer_held w (all_paid device w.areas) left
+        (without_attachment device w.attachments) user (alike_paid w device)
+        (λ own ioas table. hwpt-filter (λ o. not (goes o)) w.objects own ioas table) in
+        omega (arith, held, before)) within
 keeps_limits at w (event.Flush device) reply.Done none p within = within
 keeps_limits at w (event.DeviceWrite device iova bytes) (reply.Passed frame) none p within = within
 keeps_limits at w e answer none p within = within
@@ -464,15 +645,20 @@ pub record KeptLimits (at : ℕ) (w : World) : Type 0 where
   pub pins : OwnedPins at w
   pub limits : WithinLimits w
 
-pub tabled_limits : (at : ℕ) (w : World) (taken given : List FrameNo) → KeptLimits at w → KeptLimits at (with_tables taken given w)
+pub tabled_limits : (at : ℕ) (w : World) (taken given : List FrameNo) → KeptLimits at w
+    → KeptLimits at (with_tables taken given w)
 unfolding with_tables
 tabled_limits at w taken given k = record { pins = tabled_owned at w taken given k.pins; limits = k.limits }
 
 pub later_limits : (at : ℕ) (w : World) → KeptLimits at w → KeptLimits (at + 1) w
 later_limits at w k = record { pins = later_owned at w k.pins; limits = k.limits }
 
-pub keeps_kept_limits : {A : Type 0} → (at : ℕ) (w : World) (e : Event A) (answer : Reply) → refusal w e ≡ None → Answers w e answer → KeptLimits at w → KeptLimits (at + 1) (changed at w e answer)
-keeps_kept_limits at w e answer none answers k = record { pins = keeps_owned_pins at w e answer none answers k.pins; limits = keeps_limits at w e answer none k.pins k.limits }
+pub keeps_kept_limits : {A : Type 0} → (at : ℕ) (w : World) (e : Event A) (answer : Reply) → refusal w e ≡ None
+    → Answers w e answer → KeptLimits at w → KeptLimits (at + 1) (changed at w e answer)
+keeps_kept_limits at w e answer none answers k = record {
+  pins = keeps_owned_pins at w e answer none answers k.pins;
+  limits = keeps_limits at w e answer none k.pins k.limits;
+}
 
 pub opening_limits : (settings : Settings) → KeptLimits 0 (opening settings)
 opening_limits settings = record { pins = opening_owned settings; limits = λ user limit is. omega arith }

@@ -1,8 +1,10 @@
 -- Each page in a user's memory has a frame of its own.
-use Rattle.std.proofs.Common.{◌≡◌, ℕ, zero, suc, ◌<◌, Bool, true, false, cond, ◌||◌, not, eqb, Option, Some, None, List, [], ◌∷◌, ◌++◌, map, Contains, refl, sym, ◌∙◌, subst, arith, IsTrue, inl, inr}
+use Rattle.std.proofs.Common.{◌≡◌, ℕ, zero, suc, ◌<◌, Bool, true, false, cond, ◌||◌, not, eqb, Option, Some, None, List}
+use Rattle.std.proofs.Common.{[], ◌∷◌, ◌++◌, map, Contains, refl, sym, ◌∙◌, subst, arith, IsTrue, inl, inr}
 use Rattle.std.specs.List.{filter, list_any}
 use Rattle.std.proofs.lemmas.Bool.Decides.{nat_tests}
-use Rattle.iofd_words.specs.After.{changed, copy_changes, map_changes, hwpt_changes, attach_changes, target_changes, detach_changes, settle, without_areas, attached, detached, joined}
+use Rattle.iofd_words.specs.After.{changed, copy_changes, map_changes, hwpt_changes, attach_changes, target_changes}
+use Rattle.iofd_words.specs.After.{detach_changes, settle, without_areas, attached, detached, joined}
 use Rattle.iofd_words.specs.Answers.{Answers, write_reply}
 use Rattle.iofd_words.specs.Attachments.{attachment_of}
 use Rattle.iofd_words.specs.Checks.{refusal}
@@ -38,10 +40,12 @@ use Rattle.iofd_rows.proofs.Bools.{or_false, and_true, both_false, both_true, no
 
 -- ---- a free frame is reached by nobody
 
-pub free_parts : (pool : ℕ) (pages : List UserPage) (pins : List Pin) (tables : List TableFrame) (frame : ℕ) → IsTrue (is_free pool pages pins tables frame) → (frame < pool) × (is_reached pages pins tables frame ≡ false)
+pub free_parts : (pool : ℕ) (pages : List UserPage) (pins : List Pin) (tables : List TableFrame) (frame : ℕ)
+    → IsTrue (is_free pool pages pins tables frame) → (frame < pool) × (is_reached pages pins tables frame ≡ false)
 free_parts pool pages pins tables frame free = grind (arith, nat_tests)
 
-pub no_page : (pages : List UserPage) (pins : List Pin) (tables : List TableFrame) (frame : ℕ) → is_reached pages pins tables frame ≡ false → list_any (λ (p : UserPage). eqb p.frame.0 frame) pages ≡ false
+pub no_page : (pages : List UserPage) (pins : List Pin) (tables : List TableFrame) (frame : ℕ)
+    → is_reached pages pins tables frame ≡ false → list_any (λ (p : UserPage). eqb p.frame.0 frame) pages ≡ false
 no_page pages pins tables frame free = grind (arith, nat_tests)
 
 pub flipped : (m n : ℕ) → eqb m n ≡ false → eqb n m ≡ false
@@ -52,44 +56,61 @@ refused_frame cause frame is = cc
 
 -- ---- one more page
 
-any_more : (pages : List UserPage) (page : UserPage) (frame : ℕ) → list_any (λ (p : UserPage). eqb p.frame.0 frame) (pages ++ page ∷ []) ≡ (list_any (λ (p : UserPage). eqb p.frame.0 frame) pages || eqb page.frame.0 frame)
+any_more : (pages : List UserPage) (page : UserPage) (frame : ℕ)
+    → list_any (λ (p : UserPage). eqb p.frame.0 frame)
+    (pages ++ page ∷ []) ≡ (list_any (λ (p : UserPage). eqb p.frame.0 frame) pages || eqb page.frame.0 frame)
 any_more [] page frame = grind (arith, nat_tests)
 any_more (p ∷ pages) page frame = let rest = any_more pages page frame in grind (arith, nat_tests)
 
-own_frames_more : (pages : List UserPage) (page : UserPage) → list_any (λ (p : UserPage). eqb p.frame.0 page.frame.0) pages ≡ false → have_own_frames pages ≡ true → have_own_frames (pages ++ page ∷ []) ≡ true
+own_frames_more : (pages : List UserPage) (page : UserPage)
+    → list_any (λ (p : UserPage). eqb p.frame.0 page.frame.0) pages ≡ false → have_own_frames pages ≡ true
+    → have_own_frames (pages ++ page ∷ []) ≡ true
 own_frames_more [] page free own = refl
 own_frames_more (p ∷ pages) page free own =
-    let frees = or_false (eqb p.frame.0 page.frame.0) (list_any (λ (q : UserPage). eqb q.frame.0 page.frame.0) pages) free in
-    let owns = and_true (not (list_any (λ (q : UserPage). eqb q.frame.0 p.frame.0) pages)) (have_own_frames pages) own in
+    let frees =
+    or_false (eqb p.frame.0 page.frame.0) (list_any (λ (q : UserPage). eqb q.frame.0 page.frame.0) pages) free in
+    let owns =
+    and_true (not (list_any (λ (q : UserPage). eqb q.frame.0 p.frame.0) pages)) (have_own_frames pages) own in
     let differ : eqb page.frame.0 p.frame.0 ≡ false = flipped p.frame.0 page.frame.0 frees.0 in
     let more = any_more pages page p.frame.0 ∙ both_false _ _ (not_true _ owns.0) differ in
     both_true _ _ (not_false _ more) (own_frames_more pages page frees.1 owns.1)
 
 -- ---- some pages go
 
-none_left : (stays : UserPage → Bool) (pages : List UserPage) (frame : ℕ) → list_any (λ (p : UserPage). eqb p.frame.0 frame) pages ≡ false → list_any (λ (p : UserPage). eqb p.frame.0 frame) (filter stays pages) ≡ false
+none_left : (stays : UserPage → Bool) (pages : List UserPage) (frame : ℕ)
+    → list_any (λ (p : UserPage). eqb p.frame.0 frame) pages ≡ false
+    → list_any (λ (p : UserPage). eqb p.frame.0 frame) (filter stays pages) ≡ false
 none_left stays [] frame none = refl
 none_left stays (p ∷ pages) frame none =
     let parts = or_false (eqb p.frame.0 frame) (list_any (λ (q : UserPage). eqb q.frame.0 frame) pages) none in
     by_test (stays p) parts.0 (none_left stays pages frame parts.1)
   where
-    by_test : (b : Bool) → eqb p.frame.0 frame ≡ false → list_any (λ (q : UserPage). eqb q.frame.0 frame) (filter stays pages) ≡ false → list_any (λ (q : UserPage). eqb q.frame.0 frame) (cond b (p ∷ filter stays pages) (filter stays pages)) ≡ false
+    by_test : (b : Bool) → eqb p.frame.0 frame ≡ false
+        → list_any (λ (q : UserPage). eqb q.frame.0 frame) (filter stays pages) ≡ false
+        → list_any (λ (q : UserPage). eqb q.frame.0 frame)
+        (cond b (p ∷ filter stays pages) (filter stays pages)) ≡ false
     by_test true here rest = both_false _ _ here rest
     by_test false here rest = rest
 
-own_frames-filter : (stays : UserPage → Bool) (pages : List UserPage) → have_own_frames pages ≡ true → have_own_frames (filter stays pages) ≡ true
+own_frames-filter : (stays : UserPage → Bool) (pages : List UserPage) → have_own_frames pages ≡ true
+    → have_own_frames (filter stays pages) ≡ true
 own_frames-filter stays [] own = refl
 own_frames-filter stays (p ∷ pages) own =
-    let owns = and_true (not (list_any (λ (q : UserPage). eqb q.frame.0 p.frame.0) pages)) (have_own_frames pages) own in
+    let owns =
+    and_true (not (list_any (λ (q : UserPage). eqb q.frame.0 p.frame.0) pages)) (have_own_frames pages) own in
     by_test (stays p) (none_left stays pages p.frame.0 (not_true _ owns.0)) (own_frames-filter stays pages owns.1)
   where
-    by_test : (b : Bool) → list_any (λ (q : UserPage). eqb q.frame.0 p.frame.0) (filter stays pages) ≡ false → have_own_frames (filter stays pages) ≡ true → have_own_frames (cond b (p ∷ filter stays pages) (filter stays pages)) ≡ true
+    by_test : (b : Bool) → list_any (λ (q : UserPage). eqb q.frame.0 p.frame.0) (filter stays pages) ≡ false
+        → have_own_frames (filter stays pages) ≡ true
+        → have_own_frames (cond b (p ∷ filter stays pages) (filter stays pages)) ≡ true
     by_test true none rest = both_true _ _ (not_false _ none) rest
     by_test false none rest = rest
 
 -- ---- every event keeps them apart
 
-pub keeps_own_frames : {A : Type 0} → (at : ℕ) (w : World) (e : Event A) (answer : Reply) → refusal w e ≡ None → Answers w e answer → have_own_frames w.user_pages ≡ true → have_own_frames (changed at w e answer).user_pages ≡ true
+pub keeps_own_frames : {A : Type 0} → (at : ℕ) (w : World) (e : Event A) (answer : Reply) → refusal w e ≡ None
+    → Answers w e answer → have_own_frames w.user_pages ≡ true
+    → have_own_frames (changed at w e answer).user_pages ≡ true
 unfolding changed settle without_areas attached detached joined Answers
 keeps_own_frames at w (event.IoasAlloc file) (reply.Id id) none answers own = own
 keeps_own_frames at w (event.Map file request) (reply.Iova iova) none answers own = mapped (user_of w.settings file)
@@ -104,32 +125,39 @@ keeps_own_frames at w (event.Copy file request) (reply.Iova iova) none answers o
     copied (Some source) = own
 keeps_own_frames at w (event.Unmap file request) (reply.Bytes count) none answers own = own
 keeps_own_frames at w (event.Unmap file request) (reply.Pending errno) none answers own = own
-keeps_own_frames at w (event.HwptAlloc file request) (reply.Id id) none answers own = made (settings_under w.settings w.objects file request.device)
+keeps_own_frames at w (event.HwptAlloc file request) (reply.Id id) none answers own =
+    made (settings_under w.settings w.objects file request.device)
   where
-    made : (settings : Option DeviceSettings) → have_own_frames (hwpt_changes w file request.ioas id settings).user_pages ≡ true
+    made : (settings : Option DeviceSettings)
+        → have_own_frames (hwpt_changes w file request.ioas id settings).user_pages ≡ true
     made None = own
     made (Some settings) = own
 keeps_own_frames at w (event.Destroy file id) reply.Done none answers own = own
 keeps_own_frames at w (event.Close file) reply.Done none answers own = own
 keeps_own_frames at w (event.UserMap user va) (reply.Frame frame) none answers own =
-    own_frames_more w.user_pages _ (no_page w.user_pages w.pins w.table_frames frame.0 (free_parts w.settings.pool w.user_pages w.pins w.table_frames frame.0 answers).1) own
+    own_frames_more w.user_pages _ (no_page w.user_pages w.pins w.table_frames frame.0
+    (free_parts w.settings.pool w.user_pages w.pins w.table_frames frame.0 answers).1) own
 keeps_own_frames at w (event.AllowIovas file ioas ranges) reply.Done none answers own = own
 keeps_own_frames at w (event.UserUnmap user va) reply.Done none answers own = own_frames-filter _ w.user_pages own
 keeps_own_frames at w (event.UserWrite user va bytes) reply.Done none answers own = own
 keeps_own_frames at w (event.Bind file device) (reply.Id id) none answers own = own
 keeps_own_frames at w (event.Unbind file id) reply.Done none answers own = own
-keeps_own_frames at w (event.Attach device pt_id) (reply.Id id) none answers own = bound (binding_of w.objects device) (device_of w.settings device)
+keeps_own_frames at w (event.Attach device pt_id) (reply.Id id) none answers own =
+    bound (binding_of w.objects device) (device_of w.settings device)
   where
-    bound : (object : Option Object) (settings : Option DeviceSettings) → have_own_frames (attach_changes w device pt_id id object settings).user_pages ≡ true
+    bound : (object : Option Object) (settings : Option DeviceSettings)
+        → have_own_frames (attach_changes w device pt_id id object settings).user_pages ≡ true
     bound None settings = own
     bound (Some object) None = own
     bound (Some object) (Some settings) = by_kind (kind_of w.objects object.file pt_id)
       where
-        by_kind : (k : Option ObjectKind) → have_own_frames (target_changes w device pt_id id object settings k).user_pages ≡ true
+        by_kind : (k : Option ObjectKind) → have_own_frames
+            (target_changes w device pt_id id object settings k).user_pages ≡ true
         by_kind (Some kind.Ioas) = own
         by_kind (Some (kind.Hwpt ioas width automatic)) = own
         by_kind k = own
-keeps_own_frames at w (event.Detach device) reply.Done none answers own = attached_or_not (attachment_of w.attachments device)
+keeps_own_frames at w (event.Detach device) reply.Done none answers own =
+    attached_or_not (attachment_of w.attachments device)
   where
     attached_or_not : (a : Option Attachment) → have_own_frames (detach_changes w device a).user_pages ≡ true
     attached_or_not None = own
@@ -141,15 +169,19 @@ keeps_own_frames at w e answer none answers own = own
 -- ---- a frame that is given out was free
 
 -- a write is not answered with a frame that is given out
-pub never_written : (w : World) (device : DeviceNo) (address : ℕ) (os : List Outcome) (frame : FrameNo) → Contains (map (write_reply w device address) os) (reply.Frame frame) → ⊥
+pub never_written : (w : World) (device : DeviceNo) (address : ℕ) (os : List Outcome) (frame : FrameNo)
+    → Contains (map (write_reply w device address) os) (reply.Frame frame) → ⊥
 never_written w device address [] frame (k, within, is) = absurd (omega (arith, within))
 never_written w device address (Passes f ∷ os) frame (zero, within, is) = cc
 never_written w device address (Denied reason ∷ os) frame (zero, within, is) = cc
-never_written w device address (o ∷ os) frame (suc k, within, is) = never_written w device address os frame (k, omega (arith, within), is)
+never_written w device address (o ∷ os) frame (suc k, within, is) =
+    never_written w device address os frame (k, omega (arith, within), is)
 
-pub given_free : {A : Type 0} → (w : World) (e : Event A) (frame : FrameNo) → Answers w e (reply.Frame frame) → WasFree w frame
+pub given_free : {A : Type 0} → (w : World) (e : Event A) (frame : FrameNo) → Answers w e (reply.Frame frame)
+    → WasFree w frame
 unfolding Answers
-given_free w (event.UserMap user va) frame answers = free_parts w.settings.pool w.user_pages w.pins w.table_frames frame.0 answers
+given_free w (event.UserMap user va) frame answers =
+    free_parts w.settings.pool w.user_pages w.pins w.table_frames frame.0 answers
 given_free w (event.DeviceWrite device iova bytes) frame answers =
     absurd (never_written w device iova.0 (outcomes w device iova.0 Write) frame answers)
 given_free w e frame answers = absurd answers
@@ -160,7 +192,8 @@ is_in [] x (k, within, is) = absurd (omega (arith, within))
 is_in (y ∷ ys) x (zero, within, is) = inl is
 is_in (y ∷ ys) x (suc k, within, is) = inr (is_in ys x (k, omega (arith, within), is))
 
-pub lawful_frame : {A : Type 0} (at : ℕ) (w : World) (r : Record A) (frame : FrameNo) → Lawful at w r → r.reply ≡ reply.Frame frame → WasFree w frame
+pub lawful_frame : {A : Type 0} (at : ℕ) (w : World) (r : Record A) (frame : FrameNo) → Lawful at w r
+    → r.reply ≡ reply.Frame frame → WasFree w frame
 unfolding Lawful
 lawful_frame {A = A} at w r frame lawful is = by_answer (refusal w r.event) lawful.0
   where
@@ -169,7 +202,8 @@ lawful_frame {A = A} at w r frame lawful is = by_answer (refusal w r.event) lawf
     by_answer None answer = given_free w r.event frame (subst (Answers w r.event) is answer)
 
 -- nor was one that is taken for a table reached
-pub lawful_taken : {A : Type 0} (at : ℕ) (w : World) (r : Record A) (frame : FrameNo) → Lawful at w r → Contains r.taken frame → WasFree w frame
+pub lawful_taken : {A : Type 0} (at : ℕ) (w : World) (r : Record A) (frame : FrameNo) → Lawful at w r
+    → Contains r.taken frame → WasFree w frame
 unfolding Lawful
 lawful_taken {A = A} at w r frame lawful has = by_answer (refusal w r.event) lawful.1
   where
@@ -177,4 +211,5 @@ lawful_taken {A = A} at w r frame lawful has = by_answer (refusal w r.event) law
     by_answer (Some cause) moves = absurd (is_in [] frame (subst (λ taken. Contains taken frame) moves.0 has))
     by_answer None moves =
         free_parts w.settings.pool w.user_pages w.pins w.table_frames frame.0
-        (of_each (λ (f : FrameNo). is_free w.settings.pool w.user_pages w.pins w.table_frames f.0) r.taken frame moves.free (is_in r.taken frame has))
+        (of_each (λ (f : FrameNo). is_free w.settings.pool w.user_pages w.pins w.table_frames f.0) r.taken frame
+        moves.free (is_in r.taken frame has))

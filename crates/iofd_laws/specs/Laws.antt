@@ -1,5 +1,6 @@
 -- What is true of every run, in the subject's words.
-use Rattle.std.specs.Prelude.{◌≡◌, ◌≢◌, ◌<◌, ◌≤◌, ℕ, Contains, IsTrue, Bool, true, false, nat_le, nat_lt, ◌||◌, ◌==◌, ◌&&◌, not, Option, Some, None, List, [], ◌∷◌, filter, find}
+use Rattle.std.specs.Prelude.{◌≡◌, ◌≢◌, ◌<◌, ◌≤◌, ℕ, Contains, IsTrue, Bool, true, false, nat_le, nat_lt, ◌||◌, ◌==◌}
+use Rattle.std.specs.Prelude.{◌&&◌, not, Option, Some, None, List, [], ◌∷◌, filter, find}
 use Rattle.std.specs.List.{list_all, list_any}
 use Rattle.iofd_words.specs.Allowed.{AllowedRanges}
 use Rattle.iofd_words.specs.Answers.{Answers}
@@ -84,7 +85,10 @@ pub record TablesServe (w : World) : Type 0 where
       → kind_of w.objects file id ≡ Some (kind.Hwpt ioas width automatic)
       → Contains w.areas area → IsTrue (is_of file ioas area && is_live area.phase) → IsTrue (holds area.span address)
       → 1 ≤ level → level < levels_of width
-      → IsTrue (has_table w.table_frames file id (record { level = level; first = first_address level (page_of address) }))
+      → IsTrue (has_table w.table_frames file id (record {
+        level = level;
+        first = first_address level (page_of address);
+      }))
   -- each row is of a page table that is there
   pub owned : list_all (λ table. not (is_orphan w.objects table)) w.table_frames ≡ true
 
@@ -145,7 +149,8 @@ has_memory file w number = list_any (λ area. area.file.0 == file.0 && area.memo
 abbrev pub object_numbered : List MemoryObject → ℕ → Option MemoryObject
 object_numbered memory number = find (λ m. m.number == number) memory
 
--- the memory object of this number is the same in both worlds, and each of its pages is pinned at the same frame or in neither
+-- the memory object of this number is the same in both worlds, and each of its pages is pinned at the same frame or in
+-- neither
 pub record SameMemory (number : ℕ) (old new : World) : Type 0 where
   pub object : object_numbered new.memory number ≡ object_numbered old.memory number
   pub pins : (index : ℕ) → pinned_frame new.pins (record { memory = number; index = index })
@@ -160,8 +165,8 @@ pub record Outlives (area : Area) (old new : World) : Type 0 where
 
 -- ---- pins
 
--- what a step may make of a page's pin: one that stays keeps its frame, and one that comes has the frame that is the page's
--- in its user's memory then
+-- what a step may make of a page's pin: one that stays keeps its frame, and one that comes has the frame that is the
+-- page's in its user's memory then
 abbrev pub PinMoves : Option FrameNo → Option FrameNo → Option FrameNo → Type 0
 PinMoves (Some old) (Some new) now = new ≡ old
 PinMoves None (Some new) now = now ≡ Some new

@@ -8,7 +8,8 @@ ghost use Rattle.iofd_runs.specs.InUsable.{AreasUsable};
 ghost use Rattle.iofd_runs.specs.Owned.{AreasOwned};
 ghost use Rattle.iofd_runs.specs.Rising.{objects_rise};
 ghost use Rattle.iofd_laws.specs.Laws.{chooses_address, have_own_frames, has_memory, held_in, HasRecord};
-ghost use Rattle.iofd_laws.specs.Laws.{IsOfAnother, SameMemory, TablesAlone, TablesServe, WasFree, rows_of, starts_rise};
+ghost use Rattle.iofd_laws.specs.Laws.{IsOfAnother, SameMemory, TablesAlone, TablesServe, WasFree, rows_of};
+ghost use Rattle.iofd_laws.specs.Laws.{starts_rise};
 ghost use Rattle.iofd_rows.specs.Ids.{AreBoundOnce, have_own_ids};
 ghost use Rattle.iofd_laws.specs.Laws.{Outlives, pin_moves};
 ghost use Rattle.iofd_rows.specs.Pinned.{ArePinned};
@@ -109,7 +110,8 @@ pub fn pins_are_those_of_pinned_pages<A: Allocator>()
 /// A record changes the frame of no page that stays pinned, whatever its user does. A page that becomes pinned has the
 /// frame that is the page's in its user's memory then.
 pub fn pins_keep_their_frames<A: Allocator>()
-    ensures { (settings : Settings) (before : List (Record A)) (r : Record A) (page : ObjectPage) → IsRun settings before →
+    ensures { (settings : Settings) (before : List (Record A)) (r : Record A) (page : ObjectPage)
+        → IsRun settings before →
         pin_moves page (world_of settings before) (after (length before) (world_of settings before) r) }
 {}
 
@@ -140,8 +142,8 @@ pub fn refusals_for_frames_are_due<A: Allocator>()
 {}
 
 /// In every run, each area begins at a page, is of whole pages and no longer than a user's memory, attachments rise by
-/// device, and users and pins have frames of the pool. Each object is of an open file, and each bound or attached device
-/// is one of the settings.
+/// device, and users and pins have frames of the pool. Each object is of an open file, and each bound or attached
+/// device is one of the settings.
 pub fn rows_fit<A: Allocator>()
     ensures { (settings : Settings) (records : List (Record A)) → IsRun settings records →
         RowsFit (world_of settings records) }

@@ -1,11 +1,14 @@
 -- A closed file has no rows, stays closed, and is refused.
-use Rattle.std.proofs.Common.{◌≡◌, ◌≢◌, ◌<◌, ℕ, zero, suc, Bool, true, false, cond, ◌&&◌, not, eqb, is_some, Option, Some, None, List, [], ◌∷◌, ◌++◌, length, refl, ap, sym, ◌∙◌, subst, arith, ◌⊎◌, inl, inr}
+use Rattle.std.proofs.Common.{◌≡◌, ◌≢◌, ◌<◌, ℕ, zero, suc, Bool, true, false, cond, ◌&&◌, not, eqb, is_some, Option}
+use Rattle.std.proofs.Common.{Some, None, List, [], ◌∷◌, ◌++◌, length, refl, ap, sym, ◌∙◌, subst, arith, ◌⊎◌, inl, inr}
 use Rattle.std.specs.List.{list_any}
 use Rattle.std.proofs.lemmas.Bool.Decides.{nat_tests}
 use Rattle.std.proofs.lemmas.Option.{slice_get_past}
 use Rattle.iofd_words.specs.After.{changed}
 use Rattle.iofd_words.specs.Allowed.{AllowedRanges}
-use Rattle.iofd_words.specs.Checks.{allow_iovas_checks, bind_checks, close_checks, copy_checks, destroy_checks, hwpt_alloc_checks, ioas_alloc_checks, map_checks, refusal, unbind_checks, unmap_checks}
+use Rattle.iofd_words.specs.Checks.{allow_iovas_checks, bind_checks, close_checks, copy_checks, destroy_checks}
+use Rattle.iofd_words.specs.Checks.{hwpt_alloc_checks, ioas_alloc_checks, map_checks, refusal, unbind_checks}
+use Rattle.iofd_words.specs.Checks.{unmap_checks}
 use Rattle.iofd_words.specs.Files.{is_open, user_of}
 use Rattle.iofd_words.specs.FirstTrue.{first_true}
 use Rattle.iofd_words.specs.Run.{IsRun, world_of}
@@ -38,11 +41,14 @@ use Rattle.iofd_promises.proofs.Rows.{within}
 abbrev is_closed : List FileNo → FileNo → Bool
 is_closed closed file = list_any (λ (f : FileNo). eqb f.0 file.0) closed
 
-opened : (settings : Settings) (closed : List FileNo) (file : FileNo) → is_open settings closed file ≡ true → is_closed closed file ≡ false
-opened settings closed file is = not_true _ (and_true (is_some (user_of settings file)) (not (is_closed closed file)) is).1
+opened : (settings : Settings) (closed : List FileNo) (file : FileNo) → is_open settings closed file ≡ true
+    → is_closed closed file ≡ false
+opened settings closed file is =
+    not_true _ (and_true (is_some (user_of settings file)) (not (is_closed closed file)) is).1
 
 -- a row of a file that isn't closed is of no closed one
-of_another : (closed : List FileNo) (file other : FileNo) → is_closed closed other ≡ false → IsIn closed file → other.0 ≢ file.0
+of_another : (closed : List FileNo) (file other : FileNo) → is_closed closed other ≡ false → IsIn closed file
+    → other.0 ≢ file.0
 of_another closed file other open_still there same =
     let here : eqb file.0 other.0 ≡ true = search (same, arith, nat_tests) in
     clash _ open_still (of_any (λ (f : FileNo). eqb f.0 other.0) closed file there here)
@@ -51,41 +57,57 @@ abbrev pub AllowedOpen : World → Type 0
 AllowedOpen w = (row : AllowedRanges) → IsIn w.allowed row → is_closed w.closed row.file ≡ false
 
 keeps_allowed : (w new : World) → FilesMove w new → AllowedOpen w → AllowedOpen new
-keeps_allowed w new (StayOpen closed came) open_all row there = subst (λ (files : List FileNo). is_closed files row.file ≡ false) (sym closed) (by_place (came row there))
+keeps_allowed w new (StayOpen closed came) open_all row there =
+    subst (λ (files : List FileNo). is_closed files row.file ≡ false) (sym closed) (by_place (came row there))
   where
     by_place : IsIn w.allowed row ⊎ (is_open w.settings w.closed row.file ≡ true) → is_closed w.closed row.file ≡ false
     by_place (inl old) = open_all row old
     by_place (inr is) = opened w.settings w.closed row.file is
 keeps_allowed w new (Closes file closed allowed) open_all row there =
-    let (old, stays) = in_filter (λ (r : AllowedRanges). not (eqb r.file.0 file.0)) w.allowed row (subst (λ (rows : List AllowedRanges). IsIn rows row) allowed there) in
+    let (old, stays) = in_filter (λ (r : AllowedRanges). not (eqb r.file.0 file.0)) w.allowed row
+    (subst (λ (rows : List AllowedRanges). IsIn rows row) allowed there) in
     let apart = not_true _ stays in
     let other : eqb file.0 row.file.0 ≡ false = search (apart, arith, nat_tests) in
-    subst (λ (files : List FileNo). is_closed files row.file ≡ false) (sym closed) (any_last (λ (f : FileNo). eqb f.0 row.file.0) w.closed file (open_all row old) other)
+    subst (λ (files : List FileNo). is_closed files row.file ≡ false) (sym closed)
+    (any_last (λ (f : FileNo). eqb f.0 row.file.0) w.closed file (open_all row old) other)
 
-pub allowed_open : {A : Type 0} (settings : Settings) (records : List (Record A)) → IsRun settings records → AllowedOpen (world_of settings records)
+pub allowed_open : {A : Type 0} (settings : Settings) (records : List (Record A)) → IsRun settings records
+    → AllowedOpen (world_of settings records)
 unfolding IsRun world_of with_tables
 allowed_open settings records run =
-    run_keeps AllowedOpen (λ w taken given open_all. open_all) (λ at w e answer none answers open_all. keeps_allowed w (changed at w e answer) (changed_moves at w e answer none answers).files open_all) 0 (opening settings) records run (λ row there. absurd there)
+    run_keeps AllowedOpen (λ w taken given open_all. open_all)
+    (λ at w e answer none answers open_all. keeps_allowed w (changed at w e answer)
+    (changed_moves at w e answer none answers).files open_all) 0 (opening settings) records run (λ
+    row there. absurd there)
 
-pub has_nothing : (w : World) (file : FileNo) → RowsFit w → IsSound w → AllowedOpen w → IsIn w.closed file → HasNothing w file
+pub has_nothing : (w : World) (file : FileNo) → RowsFit w → IsSound w → AllowedOpen w → IsIn w.closed file
+    → HasNothing w file
 has_nothing w file fits sound open_all there = record {
   objects = λ object has. of_objects object (within w.objects object has);
-  areas = λ area has. by_object area.file (object_of_kind w.objects area.file area.ioas _ ((each_owed w sound.debts).in_spaces area (within w.areas area has)));
-  attachments = λ a has. by_object a.file (object_of_kind w.objects a.file a.hwpt _ ((each_owed w sound.debts).tables a (within w.attachments a has)).table);
+  areas = λ area has. by_object area.file (object_of_kind w.objects area.file area.ioas _
+      ((each_owed w sound.debts).in_spaces area (within w.areas area has)));
+  attachments = λ a has. by_object a.file (object_of_kind w.objects a.file a.hwpt _
+      ((each_owed w sound.debts).tables a (within w.attachments a has)).table);
   allowed = λ row has. of_another w.closed file row.file (open_all row (within w.allowed row has)) there;
 }
   where
     of_objects : (object : Object) → IsIn w.objects object → object.file.0 ≢ file.0
-    of_objects object has = of_another w.closed file object.file (opened w.settings w.closed object.file (and_true (is_open w.settings w.closed object.file) (is_known_device w.settings object.kind) (of_each (is_known w.settings w.closed) w.objects object fits.known has)).0) there
+    of_objects object has = of_another w.closed file object.file
+        (opened w.settings w.closed object.file (and_true (is_open w.settings w.closed object.file)
+        (is_known_device w.settings object.kind)
+        (of_each (is_known w.settings w.closed) w.objects object fits.known has)).0) there
 
-    by_object : {P Q R : Object → Type 0} (own : FileNo) → (object : Object) × P object × IsIn w.objects object × (object.file ≡ own) × Q object × R object → own.0 ≢ file.0
+    by_object : {P Q R : Object → Type 0} (own : FileNo) → (object : Object) × P object × IsIn w.objects object
+        × (object.file ≡ own) × Q object × R object → own.0 ≢ file.0
     by_object own found same = of_objects found.0 found.2 (ap (λ (f : FileNo). f.0) found.3 ∙ same)
 
 -- ---- closed files
 
 pub stays_closed : (w new : World) (file : FileNo) → FilesMove w new → IsIn w.closed file → IsIn new.closed file
-stays_closed w new file (StayOpen closed came) there = subst (λ (files : List FileNo). IsIn files file) (sym closed) there
-stays_closed w new file (Closes other closed allowed) there = subst (λ (files : List FileNo). IsIn files file) (sym closed) (in_more w.closed there)
+stays_closed w new file (StayOpen closed came) there =
+    subst (λ (files : List FileNo). IsIn files file) (sym closed) there
+stays_closed w new file (Closes other closed allowed) there =
+    subst (λ (files : List FileNo). IsIn files file) (sym closed) (in_more w.closed there)
   where
     in_more : (files : List FileNo) → IsIn files file → IsIn (files ++ other ∷ []) file
     in_more [] there = absurd there
@@ -105,37 +127,47 @@ gone_closed w file (inl closed) = by_user (is_some (user_of w.settings file))
     by_user false = refl
 gone_closed w file (inr unknown) = ap (λ (b : Bool). b && not (is_closed w.closed file)) (by_number file.0 refl unknown)
   where
-    by_number : (n : ℕ) → file.0 ≡ n → (file.0 ≡ 0) ⊎ (length w.settings.files < file.0) → is_some (user_of w.settings file) ≡ false
+    by_number : (n : ℕ) → file.0 ≡ n → (file.0 ≡ 0) ⊎ (length w.settings.files < file.0)
+        → is_some (user_of w.settings file) ≡ false
     by_number zero is unknown = rw is refl
     by_number (suc n) is (inl none) = absurd (omega (arith, is, none))
-    by_number (suc n) is (inr above) = let past = slice_get_past w.settings.files n (omega (arith, is, above)) in rw (is, past) refl
+    by_number (suc n) is (inr above) =
+        let past = slice_get_past w.settings.files n (omega (arith, is, above)) in rw (is, past) refl
 
 abbrev first_row : List (Cause × Bool) → Option (Cause × Bool)
 first_row [] = None
 first_row (row ∷ rows) = Some row
 
 -- a table whose first row asks whether the file is open
-refuses : (w : World) (f file : FileNo) (rows : List (Cause × Bool)) → (let o : Option FileNo = Some f in o) ≡ Some file → is_open w.settings w.closed file ≡ false → first_row rows ≡ Some (cause.Id, not (is_open w.settings w.closed f)) → first_true rows ≡ Some cause.Id
+refuses : (w : World) (f file : FileNo) (rows : List (Cause × Bool)) → (let o : Option FileNo = Some f in o) ≡ Some file
+    → is_open w.settings w.closed file ≡ false → first_row rows ≡ Some (cause.Id, not (is_open w.settings w.closed f))
+    → first_true rows ≡ Some cause.Id
 refuses w f file [] is gone first = cc
 refuses w f file (row ∷ rows) is gone first =
     let same : f ≡ file = cc in
     let row_is : row ≡ (cause.Id, not (is_open w.settings w.closed f)) = cc in
     let gone_too : not (is_open w.settings w.closed f) ≡ true = ap not (ap (is_open w.settings w.closed) same ∙ gone) in
-    ap (λ (r : Cause × Bool). cond r.1 (Some r.0) (first_true rows)) row_is ∙ ap (λ (b : Bool). cond b (Some cause.Id) (first_true rows)) gone_too
+    ap (λ (r : Cause × Bool). cond r.1 (Some r.0) (first_true rows)) row_is
+    ∙ ap (λ (b : Bool). cond b (Some cause.Id) (first_true rows)) gone_too
 
-refuses_gone : {A : Type 0} → (w : World) (e : Event A) (file : FileNo) → file_named e ≡ Some file → is_open w.settings w.closed file ≡ false → refusal w e ≡ Some cause.Id
-unfolding ioas_alloc_checks allow_iovas_checks map_checks copy_checks unmap_checks hwpt_alloc_checks destroy_checks close_checks bind_checks unbind_checks
+refuses_gone : {A : Type 0} → (w : World) (e : Event A) (file : FileNo) → file_named e ≡ Some file
+    → is_open w.settings w.closed file ≡ false → refusal w e ≡ Some cause.Id
+unfolding ioas_alloc_checks allow_iovas_checks map_checks copy_checks unmap_checks hwpt_alloc_checks destroy_checks
+    close_checks bind_checks unbind_checks
 refuses_gone w (event.IoasAlloc f) file is gone = refuses w f file (ioas_alloc_checks (view w) f) is gone refl
-refuses_gone w (event.AllowIovas f ioas ranges) file is gone = refuses w f file (allow_iovas_checks (view w) f ioas ranges) is gone refl
+refuses_gone w (event.AllowIovas f ioas ranges) file is gone =
+    refuses w f file (allow_iovas_checks (view w) f ioas ranges) is gone refl
 refuses_gone w (event.Map f request) file is gone = refuses w f file (map_checks (view w) f request) is gone refl
 refuses_gone w (event.Copy f request) file is gone = refuses w f file (copy_checks (view w) f request) is gone refl
 refuses_gone w (event.Unmap f request) file is gone = refuses w f file (unmap_checks (view w) f request) is gone refl
-refuses_gone w (event.HwptAlloc f request) file is gone = refuses w f file (hwpt_alloc_checks (view w) f request) is gone refl
+refuses_gone w (event.HwptAlloc f request) file is gone =
+    refuses w f file (hwpt_alloc_checks (view w) f request) is gone refl
 refuses_gone w (event.Destroy f id) file is gone = refuses w f file (destroy_checks (view w) f id) is gone refl
 refuses_gone w (event.Close f) file is gone = refuses w f file (close_checks (view w) f) is gone refl
 refuses_gone w (event.Bind f device) file is gone = refuses w f file (bind_checks (view w) f device) is gone refl
 refuses_gone w (event.Unbind f id) file is gone = refuses w f file (unbind_checks (view w) f id) is gone refl
 refuses_gone w e file is gone = cc
 
-pub gone_refused : {A : Type 0} → (w : World) (e : Event A) (file : FileNo) → file_named e ≡ Some file → IsGone w file → refusal w e ≡ Some cause.Id
+pub gone_refused : {A : Type 0} → (w : World) (e : Event A) (file : FileNo) → file_named e ≡ Some file → IsGone w file
+    → refusal w e ≡ Some cause.Id
 gone_refused w e file is gone = refuses_gone w e file is (gone_closed w file gone)

@@ -25,18 +25,22 @@ Came objects object = IsIn objects object ⊎ (is_fresh objects object.file obje
 
 came_by : (old new : List Object) (x : Object) → ObjectsMove old new → IsIn new x → Came old x
 came_by old new x (Same is) within = inl (subst (λ (os : List Object). IsIn os x) is within)
-came_by old new x (Fewer stays is) within = inl (in_filter stays old x (subst (λ (os : List Object). IsIn os x) is within)).0
+came_by old new x (Fewer stays is) within =
+    inl (in_filter stays old x (subst (λ (os : List Object). IsIn os x) is within)).0
 came_by old new x (More object fresh room is) within =
     ⊎_elim
     (λ (new : object ≡ x). inr (subst (λ (o : Object). is_fresh old o.file o.id ≡ true) new fresh))
     (λ (before : IsIn old x). inl before)
     (in_with_object object old x (subst (λ (os : List Object). IsIn os x) is within))
 
-pub came : {A : Type 0} → (at : ℕ) (w : World) (e : Event A) (answer : Reply) → refusal w e ≡ None → Answers w e answer → (x : Object) → IsIn (changed at w e answer).objects x → Came w.objects x
-came at w e answer none answers x within = came_by w.objects (changed at w e answer).objects x (changed_moves at w e answer none answers).objects within
+pub came : {A : Type 0} → (at : ℕ) (w : World) (e : Event A) (answer : Reply) → refusal w e ≡ None → Answers w e answer
+    → (x : Object) → IsIn (changed at w e answer).objects x → Came w.objects x
+came at w e answer none answers x within =
+    came_by w.objects (changed at w e answer).objects x (changed_moves at w e answer none answers).objects within
 
 -- a name that had an object and has one still has the same one
-pub same_kind : (old new : List Object) (file : FileNo) (id : ObjId) (before k : ObjectKind) → have_own_ids old ≡ true → ((x : Object) → IsIn new x → Came old x)
+pub same_kind : (old new : List Object) (file : FileNo) (id : ObjId) (before k : ObjectKind) → have_own_ids old ≡ true
+    → ((x : Object) → IsIn new x → Came old x)
     → kind_of old file id ≡ Some before → kind_of new file id ≡ Some k → kind_of old file id ≡ Some k
 same_kind old new file id before k own each was is =
     let (x, first, within, of_file, of_id, of_kind) = object_of_kind new file id k is in

@@ -17,23 +17,33 @@ use Rattle.iofd_promises.proofs.Bytes.{reads_given, reads_not_given}
 use Rattle.iofd_promises.specs.Bytes.{reads}
 
 -- an answer that gives out no frame, or another one
-pub keeps_byte : (w new : World) (answer : Reply) (frame place : ℕ) → MemoryMoves w false answer new.user_pages new.writes → ((given : FrameNo) → answer ≡ reply.Frame given → given.0 ≢ frame)
+pub keeps_byte : (w new : World) (answer : Reply) (frame place : ℕ)
+    → MemoryMoves w false answer new.user_pages new.writes
+    → ((given : FrameNo) → answer ≡ reply.Frame given → given.0 ≢ frame)
     → reads new.writes frame place ≡ reads w.writes frame place
-keeps_byte w new answer frame place (SameMemory pages is) others = ap (λ (writes : List FrameWrite). reads writes frame place) is
-keeps_byte w new answer frame place (OnePage user va given passed free told pages is) others = ap (λ (writes : List FrameWrite). reads writes frame place) is ∙ reads_not_given given.0 frame place w.writes (others given told)
-keeps_byte w new answer frame place (FewerPages stays pages is) others = ap (λ (writes : List FrameWrite). reads writes frame place) is
+keeps_byte w new answer frame place (SameMemory pages is) others =
+    ap (λ (writes : List FrameWrite). reads writes frame place) is
+keeps_byte w new answer frame place (OnePage user va given passed free told pages is) others =
+    ap (λ (writes : List FrameWrite). reads writes frame place) is
+    ∙ reads_not_given given.0 frame place w.writes (others given told)
+keeps_byte w new answer frame place (FewerPages stays pages is) others =
+    ap (λ (writes : List FrameWrite). reads writes frame place) is
 keeps_byte w new answer frame place (Written never pages) others = cc
 
 -- a write is not answered with a frame that is given out
-pub never_written : (w : World) (device : DeviceNo) (address : ℕ) (os : List Outcome) (frame : FrameNo) → Contains (map (write_reply w device address) os) (reply.Frame frame) → ⊥
+pub never_written : (w : World) (device : DeviceNo) (address : ℕ) (os : List Outcome) (frame : FrameNo)
+    → Contains (map (write_reply w device address) os) (reply.Frame frame) → ⊥
 never_written w device address [] frame (k, within, is) = absurd (omega (arith, within))
 never_written w device address (Passes f ∷ os) frame (zero, within, is) = cc
 never_written w device address (Denied reason ∷ os) frame (zero, within, is) = cc
-never_written w device address (o ∷ os) frame (suc k, within, is) = never_written w device address os frame (k, omega (arith, within), is)
+never_written w device address (o ∷ os) frame (suc k, within, is) =
+    never_written w device address os frame (k, omega (arith, within), is)
 
 -- what a user is given reads zero
-pub gives_zero : {A : Type 0} → (at : ℕ) (w : World) (e : Event A) (frame : FrameNo) (place : ℕ) → Answers w e (reply.Frame frame) → reads (changed at w e (reply.Frame frame)).writes frame.0 place ≡ 0
+pub gives_zero : {A : Type 0} → (at : ℕ) (w : World) (e : Event A) (frame : FrameNo) (place : ℕ)
+    → Answers w e (reply.Frame frame) → reads (changed at w e (reply.Frame frame)).writes frame.0 place ≡ 0
 unfolding changed Answers
 gives_zero at w (event.UserMap user va) frame place answers = reads_given frame.0 place w.writes
-gives_zero at w (event.DeviceWrite device iova bytes) frame place answers = absurd (never_written w device iova.0 (outcomes w device iova.0 Write) frame answers)
+gives_zero at w (event.DeviceWrite device iova bytes) frame place answers =
+    absurd (never_written w device iova.0 (outcomes w device iova.0 Write) frame answers)
 gives_zero at w e frame place answers = absurd answers

@@ -24,9 +24,12 @@ use Rattle.iofd_promises.proofs.Widths.{IsOfWidth}
 abbrev AttachCame : World → List Object → Attachment → Type 0
 AttachCame w objects a = IsIn w.attachments a ⊎ IsOfWidth w.settings objects a
 
-attach_came : (w : World) (objects : List Object) (new : List Attachment) → AttachmentsMove w objects new → have_own_ids w.objects ≡ true → (a : Attachment) → IsIn new a → AttachCame w objects a
-attach_came w objects new (SameAttachments is) own a within = inl (subst (λ (those : List Attachment). IsIn those a) is within)
-attach_came w objects new (FewerAttachments stays is) own a within = inl (in_filter stays w.attachments a (subst (λ (those : List Attachment). IsIn those a) is within)).0
+attach_came : (w : World) (objects : List Object) (new : List Attachment) → AttachmentsMove w objects new
+    → have_own_ids w.objects ≡ true → (a : Attachment) → IsIn new a → AttachCame w objects a
+attach_came w objects new (SameAttachments is) own a within =
+    inl (subst (λ (those : List Attachment). IsIn those a) is within)
+attach_came w objects new (FewerAttachments stays is) own a within =
+    inl (in_filter stays w.attachments a (subst (λ (those : List Attachment). IsIn those a) is within)).0
 attach_came w objects new (OneAttachment attachment width is) own a within =
     ⊎_elim
     (λ (one : attachment ≡ a). inr (subst (IsOfWidth w.settings objects) one (width own)))
@@ -38,19 +41,26 @@ pub record WidthSound (settings : Settings) (w : World) : Type 0 where
   pub sound : IsSound w
   pub widths : (a : Attachment) → IsIn w.attachments a → IsOfWidth settings w.objects a
 
-pub keeps_widths : {A : Type 0} → (settings : Settings) (at : ℕ) (w : World) (e : Event A) (answer : Reply) → refusal w e ≡ None → Answers w e answer → WidthSound settings w → WidthSound settings (changed at w e answer)
+pub keeps_widths : {A : Type 0} → (settings : Settings) (at : ℕ) (w : World) (e : Event A) (answer : Reply)
+    → refusal w e ≡ None → Answers w e answer → WidthSound settings w → WidthSound settings (changed at w e answer)
 keeps_widths settings at w e answer none answers s = record {
   opened = changed_settings at w e answer ∙ s.opened;
   sound = keeps_sound at w e answer none answers s.sound;
-  widths = λ a within. by_row a (attach_came w (changed at w e answer).objects (changed at w e answer).attachments (changed_moves at w e answer none answers).attachments s.sound.own_ids a within);
+  widths = λ a within. by_row a (attach_came w (changed at w e answer).objects (changed at w e answer).attachments
+      (changed_moves at w e answer none answers).attachments s.sound.own_ids a within);
 }
   where
-    by_row : (a : Attachment) → AttachCame w (changed at w e answer).objects a → IsOfWidth settings (changed at w e answer).objects a
+    by_row : (a : Attachment) → AttachCame w (changed at w e answer).objects a
+        → IsOfWidth settings (changed at w e answer).objects a
     by_row a (inl old) = λ d ioas width automatic known table.
         let had = (each_owed w s.sound.debts).tables a old in
-        s.widths a old d ioas width automatic known (same_kind w.objects (changed at w e answer).objects a.file a.hwpt _ _ s.sound.own_ids (came at w e answer none answers) had.table table)
+        s.widths a old d ioas width automatic known
+        (same_kind w.objects (changed at w e answer).objects a.file a.hwpt _ _ s.sound.own_ids
+        (came at w e answer none answers) had.table table)
     by_row a (inr new) = λ d ioas width automatic known table. new d ioas width automatic (rw s.opened known) table
 
-pub tabled_widths : (settings : Settings) (w : World) (taken given : List FrameNo) → WidthSound settings w → WidthSound settings (with_tables taken given w)
+pub tabled_widths : (settings : Settings) (w : World) (taken given : List FrameNo) → WidthSound settings w
+    → WidthSound settings (with_tables taken given w)
 unfolding with_tables
-tabled_widths settings w taken given s = record { opened = s.opened; sound = tabled_sound w taken given s.sound; widths = s.widths }
+tabled_widths settings w taken given s =
+    record { opened = s.opened; sound = tabled_sound w taken given s.sound; widths = s.widths }

@@ -1,5 +1,7 @@
 -- What a MAP and a COPY make.
-use Rattle.std.proofs.Common.{◌≡◌, ◌≢◌, ◌⊎◌, ◌≤◌, Contains, sym, ℕ, zero, suc, ◌+◌, ◌-◌, ◌*◌, ◌/◌, ◌%◌, Bool, true, false, cond, ◌&&◌, eqb, ltb, is_none, is_some, Option, Some, None, List, [], ◌∷◌, ◌++◌, refl, arith, inl, inr}
+use Rattle.std.proofs.Common.{◌≡◌, ◌≢◌, ◌⊎◌, ◌≤◌, Contains, sym, ℕ, zero, suc, ◌+◌, ◌-◌, ◌*◌, ◌/◌, ◌%◌, Bool, true}
+use Rattle.std.proofs.Common.{false, cond, ◌&&◌, eqb, ltb, is_none, is_some, Option, Some, None, List, [], ◌∷◌, ◌++◌}
+use Rattle.std.proofs.Common.{refl, arith, inl, inr}
 use Rattle.std.proofs.Math.Nat.{div-add-mod}
 use Rattle.std.proofs.lemmas.Bool.Decides.{nat_tests}
 use Rattle.iofd_words.specs.After.{changed, copy_changes, map_changes, mapped_area, memory_object, settle}
@@ -38,17 +40,21 @@ use Rattle.iofd_promises.proofs.Rows.{contains, within}
 
 is_added : (area : Area) (areas : List Area) → IsIn (with_area area areas) area
 is_added area [] = inl refl
-is_added area (a ∷ areas) = by_order (is_of area.file area.ioas a && ltb area.span.first a.span.first) (is_added area areas)
+is_added area (a ∷ areas) =
+    by_order (is_of area.file area.ioas a && ltb area.span.first a.span.first) (is_added area areas)
   where
-    by_order : (b : Bool) → IsIn (with_area area areas) area → IsIn (cond b (area ∷ a ∷ areas) (a ∷ with_area area areas)) area
+    by_order : (b : Bool) → IsIn (with_area area areas) area
+        → IsIn (cond b (area ∷ a ∷ areas) (a ∷ with_area area areas)) area
     by_order true rest = inl refl
     by_order false rest = inr rest
 
 stays_in : (area : Area) (areas : List Area) (x : Area) → IsIn areas x → IsIn (with_area area areas) x
 stays_in area [] x there = absurd there
-stays_in area (a ∷ areas) x there = by_order (is_of area.file area.ioas a && ltb area.span.first a.span.first) there (stays_in area areas x)
+stays_in area (a ∷ areas) x there =
+    by_order (is_of area.file area.ioas a && ltb area.span.first a.span.first) there (stays_in area areas x)
   where
-    by_order : (b : Bool) → IsIn (a ∷ areas) x → (IsIn areas x → IsIn (with_area area areas) x) → IsIn (cond b (area ∷ a ∷ areas) (a ∷ with_area area areas)) x
+    by_order : (b : Bool) → IsIn (a ∷ areas) x → (IsIn areas x → IsIn (with_area area areas) x)
+        → IsIn (cond b (area ∷ a ∷ areas) (a ∷ with_area area areas)) x
     by_order true there rest = inr there
     by_order false (inl same) rest = inl same
     by_order false (inr later) rest = inr (rest later)
@@ -56,7 +62,8 @@ stays_in area (a ∷ areas) x there = by_order (is_of area.file area.ioas a && l
 comes_from : (area : Area) (areas : List Area) (x : Area) → IsIn (with_area area areas) x → (x ≡ area) ⊎ IsIn areas x
 comes_from area [] x (inl same) = inl (sym same)
 comes_from area [] x (inr none) = absurd none
-comes_from area (a ∷ areas) x there = by_order (is_of area.file area.ioas a && ltb area.span.first a.span.first) there (comes_from area areas x)
+comes_from area (a ∷ areas) x there =
+    by_order (is_of area.file area.ioas a && ltb area.span.first a.span.first) there (comes_from area areas x)
   where
     by_order : (b : Bool) → IsIn (cond b (area ∷ a ∷ areas) (a ∷ with_area area areas)) x
         → (IsIn (with_area area areas) x → (x ≡ area) ⊎ IsIn areas x) → (x ≡ area) ⊎ IsIn (a ∷ areas) x
@@ -90,7 +97,8 @@ writes_asked false false = refl
 end_is : (first count : ℕ) → eqb count 0 ≡ false → first + count - 1 + 1 ≡ first + count
 end_is first count some = let above : 1 ≤ count = search (some, arith, nat_tests) in omega (arith, above)
 
-new_area : (w new : World) (memory : ℕ) (file : FileNo) (request : MapRequest) (iova : Iova) → eqb request.length 0 ≡ false → new.areas ≡ with_area (mapped_area memory file request iova) w.areas
+new_area : (w new : World) (memory : ℕ) (file : FileNo) (request : MapRequest) (iova : Iova)
+    → eqb request.length 0 ≡ false → new.areas ≡ with_area (mapped_area memory file request iova) w.areas
     → NewArea w new file request.ioas iova request.length request.flags (mapped_area memory file request iova)
 new_area w new memory file request iova some is = record {
   there = rw is (contains _ area (is_added area w.areas));
@@ -120,26 +128,33 @@ whole_pages size whole =
     let parts = div-add-mod size 4096 in
     omega (arith, rest, parts)
 
-pub maps_asked : (A : Type 0) (at : ℕ) (w : World) (file : FileNo) (request : MapRequest) (iova : Iova) → ArePinned at w → refusal {A = A} w (event.Map file request) ≡ None → MapsAsked w (changed {A = A} at w (event.Map file request) (reply.Iova iova)) file request iova
+pub maps_asked : (A : Type 0) (at : ℕ) (w : World) (file : FileNo) (request : MapRequest) (iova : Iova) → ArePinned at w
+    → refusal {A = A} w (event.Map file request) ≡ None
+    → MapsAsked w (changed {A = A} at w (event.Map file request) (reply.Iova iova)) file request iova
 unfolding changed settle
-maps_asked A at w file request iova pins none = by_user (user_of w.settings file) refl (and_true (is_some (user_of w.settings file)) _ passed.opened).0
+maps_asked A at w file request iova pins none =
+    by_user (user_of w.settings file) refl (and_true (is_some (user_of w.settings file)) _ passed.opened).0
   where
     passed : MapPassed (view w) file request
     passed = map_passed (view w) file request none
 
     earlier : (other : MemoryObject) → IsIn w.memory other → other.number ≢ at
-    earlier other there same = let less = of_each (λ (m : MemoryObject). ltb m.number at) w.memory other pins.made there in search (less, same, arith, nat_tests)
+    earlier other there same = let less = of_each (λ (m : MemoryObject). ltb m.number at) w.memory other pins.made
+        there in search (less, same, arith, nat_tests)
 
-    by_user : (o : Option UserNo) → user_of w.settings file ≡ o → is_some o ≡ true → MapsAsked w (map_changes at w file request iova o) file request iova
+    by_user : (o : Option UserNo) → user_of w.settings file ≡ o → is_some o ≡ true
+        → MapsAsked w (map_changes at w file request iova o) file request iova
     by_user None is some = cc
     by_user (Some user) is some = by_number file.0 refl is
       where
-        by_number : (n : ℕ) → file.0 ≡ n → numbered w.settings.files n ≡ Some user → MapsAsked w (map_changes at w file request iova (Some user)) file request iova
+        by_number : (n : ℕ) → file.0 ≡ n → numbered w.settings.files n ≡ Some user
+            → MapsAsked w (map_changes at w file request iova (Some user)) file request iova
         by_number zero number is = cc
         by_number (suc n) number is =
             record {
               area = mapped_area at file request iova;
-              placed = new_area w (map_changes at w file request iova (Some user)) at file request iova passed.some refl;
+              placed =
+                  new_area w (map_changes at w file request iova (Some user)) at file request iova passed.some refl;
               object = memory_object at user request;
               there = contains _ (memory_object at user request) (last_in w.memory (memory_object at user request));
               number = refl;
@@ -158,14 +173,17 @@ is_mapped : (phase : Phase) → is_live phase ≡ true → phase ≡ Live
 is_mapped Live is = refl
 is_mapped (Leaving owed tries) is = cc
 
-pub maps_again : (A : Type 0) (at : ℕ) (w : World) (file : FileNo) (request : CopyRequest) (iova : Iova) → refusal {A = A} w (event.Copy file request) ≡ None → MapsAgain w (changed {A = A} at w (event.Copy file request) (reply.Iova iova)) file request iova
+pub maps_again : (A : Type 0) (at : ℕ) (w : World) (file : FileNo) (request : CopyRequest) (iova : Iova)
+    → refusal {A = A} w (event.Copy file request) ≡ None
+    → MapsAgain w (changed {A = A} at w (event.Copy file request) (reply.Iova iova)) file request iova
 unfolding changed settle
 maps_again A at w file request iova none = by_source (source_area w file request) refl passed.found
   where
     passed : CopyPassed (view w) file request
     passed = copy_passed (view w) file request none
 
-    by_source : (o : Option Area) → source_area w file request ≡ o → is_none o ≡ false → MapsAgain w (copy_changes w file request iova o) file request iova
+    by_source : (o : Option Area) → source_area w file request ≡ o → is_none o ≡ false
+        → MapsAgain w (copy_changes w file request iova o) file request iova
     by_source None is some = cc
     by_source (Some source) is some =
         let found = source_is w file request source is in
@@ -173,11 +191,13 @@ maps_again A at w file request iova none = by_source (source_area w file request
         let exact = end_is request.src_iova.0 request.length passed.some in
         record {
           area = mapped_area source.memory file (placed_as request) iova;
-          placed = new_area w (copy_changes w file request iova (Some source)) source.memory file (placed_as request) iova passed.some refl;
+          placed = new_area w (copy_changes w file request iova (Some source)) source.memory file
+              (placed_as request) iova passed.some refl;
           source = source;
           there = contains w.areas source found.within;
           of_file = found.of_file;
-          of_space = id_is source.ioas request.src_ioas (and_true (eqb source.file.0 file.0) (eqb source.ioas.0 request.src_ioas.0) found.of_space).1;
+          of_space = id_is source.ioas request.src_ioas
+              (and_true (eqb source.file.0 file.0) (eqb source.ioas.0 request.src_ioas.0) found.of_space).1;
           first = found.first;
           last = omega (arith, ends, exact);
           live = is_mapped source.phase found.live;

@@ -1,5 +1,6 @@
 -- A pin that a step brings has the frame of the page that it pins.
-use Rattle.std.proofs.Common.{◌≡◌, ℕ, ◌+◌, ◌/◌, not, eqb, Option, Some, None, List, refl, sym, ap, ◌∙◌, ◌⊎◌, inl, inr, ⊎_elim, subst, Contains}
+use Rattle.std.proofs.Common.{◌≡◌, ℕ, ◌+◌, ◌/◌, not, eqb, Option, Some, None, List, refl, sym, ap, ◌∙◌, ◌⊎◌, inl, inr}
+use Rattle.std.proofs.Common.{⊎_elim, subst, Contains}
 use Rattle.std.specs.List.{filter, filter_map, find, list_any}
 use Rattle.std.proofs.lemmas.Bool.{eqb-true}
 use Rattle.iofd_words.specs.After.{settle}
@@ -19,7 +20,8 @@ use Rattle.iofd_promises.proofs.UserPages.{page_at}
 
 -- a page's pin, by its frame, and its frame, by its memory object
 abbrev pin_with : ℕ → ℕ → Option FrameNo → Option Pin
-pin_with memory index o = elim o [ Some frame ↦ Some (record { memory = memory; index = index; frame = frame }) | None ↦ None ]
+pin_with memory index o =
+    elim o [ Some frame ↦ Some (record { memory = memory; index = index; frame = frame }) | None ↦ None ]
 
 abbrev frame_with : List UserPage → ℕ → Option MemoryObject → Option FrameNo
 frame_with pages index o = elim o [ Some m ↦ frame_at pages m.user (m.va / 4096 + index) | None ↦ None ]
@@ -28,7 +30,9 @@ module _ (w : World) (pin : Pin) where
   abbrev pub IsFrom : World → Type 0
   IsFrom new = IsIn w.pins pin ⊎ IsUsersPage new pin
 
-  by_frame : (new : World) (m : MemoryObject) (memory index : ℕ) (o : Option FrameNo) → IsIn new.memory m → m.number ≡ memory → frame_at new.user_pages m.user (m.va / 4096 + index) ≡ o → pin_with memory index o ≡ Some pin → IsUsersPage new pin
+  by_frame : (new : World) (m : MemoryObject) (memory index : ℕ) (o : Option FrameNo) → IsIn new.memory m
+      → m.number ≡ memory → frame_at new.user_pages m.user (m.va / 4096 + index) ≡ o
+      → pin_with memory index o ≡ Some pin → IsUsersPage new pin
   by_frame new m memory index None within number at is = cc
   by_frame new m memory index (Some frame) within number at is =
       let page = page_at new m.user (m.va / 4096 + index) frame at in
@@ -47,11 +51,13 @@ module _ (w : World) (pin : Pin) where
   of_now : (new : World) (page : ObjectPage) → pin_now new.memory new.user_pages page ≡ Some pin → IsUsersPage new pin
   of_now new page is = by_object (find (λ (m : MemoryObject). eqb m.number page.memory) new.memory) refl is
     where
-      by_object : (o : Option MemoryObject) → find (λ (m : MemoryObject). eqb m.number page.memory) new.memory ≡ o → pin_with page.memory page.index (frame_with new.user_pages page.index o) ≡ Some pin → IsUsersPage new pin
+      by_object : (o : Option MemoryObject) → find (λ (m : MemoryObject). eqb m.number page.memory) new.memory ≡ o
+          → pin_with page.memory page.index (frame_with new.user_pages page.index o) ≡ Some pin → IsUsersPage new pin
       by_object None found is = cc
       by_object (Some m) found is =
           let (within, same) = in_found (λ (m : MemoryObject). eqb m.number page.memory) new.memory m found in
-          by_frame new m page.memory page.index (frame_at new.user_pages m.user (m.va / 4096 + page.index)) within (eqb-true m.number page.memory same) refl is
+          by_frame new m page.memory page.index (frame_at new.user_pages m.user (m.va / 4096 + page.index)) within
+          (eqb-true m.number page.memory same) refl is
 
   settled_from : (new : World) → IsIn (settle w new).pins pin → IsFrom (settle w new)
   unfolding settle
@@ -59,17 +65,29 @@ module _ (w : World) (pin : Pin) where
       let before = pinned_pages w.objects w.areas w.memory w.access_pins in
       let next = pinned_pages new.objects new.areas new.memory new.access_pins in
       ⊎_elim
-      (λ (old : IsIn (filter (λ (p : Pin). list_any (is_page (page_of_pin p)) next) w.pins) pin). inl (in_filter _ w.pins pin old).0)
-      (λ (come : IsIn (filter_map (pin_now new.memory new.user_pages) (filter (λ page. not (list_any (is_page page) before)) next)) pin).
+      (λ (old : IsIn (filter (λ (p : Pin). list_any (is_page (page_of_pin p)) next) w.pins) pin). inl
+      (in_filter _ w.pins pin old).0)
+      (λ (come : IsIn (filter_map (pin_now new.memory new.user_pages)
+      (filter (λ page. not (list_any (is_page page) before)) next)) pin).
       let (page, there, is) = in_filter_map (pin_now new.memory new.user_pages) _ pin come in
       let users = of_now new page is in
-      inr (record { object = users.object; there = users.there; number = users.number; page = users.page; listed = users.listed; of_user = users.of_user; of_page = users.of_page; of_frame = users.of_frame }))
+      inr (record {
+        object = users.object;
+        there = users.there;
+        number = users.number;
+        page = users.page;
+        listed = users.listed;
+        of_user = users.of_user;
+        of_page = users.of_page;
+        of_frame = users.of_frame;
+      }))
       (in_append (filter (λ (p : Pin). list_any (is_page (page_of_pin p)) next) w.pins) _ pin within)
 
   pub pin_from : (new : World) → PinsMove w new → IsIn new.pins pin → IsFrom new
   unfolding settle
   pin_from new (SamePins is) within = inl (subst (λ (pins : List Pin). IsIn pins pin) is within)
-  pin_from new (Settled other is memory pages) within = from_settled (settled_from other (subst (λ (pins : List Pin). IsIn pins pin) is within))
+  pin_from new (Settled other is memory pages) within =
+      from_settled (settled_from other (subst (λ (pins : List Pin). IsIn pins pin) is within))
     where
       from_settled : IsFrom (settle w other) → IsFrom new
       from_settled (inl old) = inl old

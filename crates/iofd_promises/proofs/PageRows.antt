@@ -1,5 +1,6 @@
 -- Users' pages come by a UserMap alone, a free frame at a page that the user hasn't, and go by a UserUnmap.
-use Rattle.std.proofs.Common.{◌≡◌, ◌<◌, ℕ, ◌*◌, ◌/◌, ◌^◌, Bool, true, false, ◌&&◌, ◌||◌, not, eqb, leb, ltb, is_some, Option, Some, None, List, [], ◌∷◌, ◌++◌, refl, sym, ◌∙◌, subst, arith}
+use Rattle.std.proofs.Common.{◌≡◌, ◌<◌, ℕ, ◌*◌, ◌/◌, ◌^◌, Bool, true, false, ◌&&◌, ◌||◌, not, eqb, leb, ltb, is_some}
+use Rattle.std.proofs.Common.{Option, Some, None, List, [], ◌∷◌, ◌++◌, refl, sym, ◌∙◌, subst, arith}
 use Rattle.std.specs.List.{filter, find, list_all, list_any}
 use Rattle.std.proofs.Math.Nat.{div-lt_iff_lt-mul}
 use Rattle.std.proofs.lemmas.Bool.Decides.{nat_tests}
@@ -26,17 +27,25 @@ use Rattle.iofd_promises.proofs.Lists.{all_apart, apart-filter, apart-more}
 
 -- what holds of the users' pages where it holds with one more and of those that a filter keeps
 module _ (P : List UserPage → Type 0)
-    (adds : (w : World) (user : UserNo) (va : ℕ) (frame : FrameNo) → UserMapPassed (view w) user va → is_free w.settings.pool w.user_pages w.pins w.table_frames frame.0 ≡ true → P w.user_pages → P (w.user_pages ++ record { user = user; page = va / 4096; frame = frame } ∷ []))
+    (adds : (w : World) (user : UserNo) (va : ℕ) (frame : FrameNo) → UserMapPassed (view w) user va
+    → is_free w.settings.pool w.user_pages w.pins w.table_frames frame.0 ≡ true → P w.user_pages
+    → P (w.user_pages ++ record { user = user; page = va / 4096; frame = frame } ∷ []))
     (drops : (stays : UserPage → Bool) (pages : List UserPage) → P pages → P (filter stays pages)) where
-  pages_by : (w : World) (changes : Bool) (answer : Reply) (pages : List UserPage) (writes : List FrameWrite) → MemoryMoves w changes answer pages writes → P w.user_pages → P pages
+  pages_by : (w : World) (changes : Bool) (answer : Reply) (pages : List UserPage) (writes : List FrameWrite)
+      → MemoryMoves w changes answer pages writes → P w.user_pages → P pages
   pages_by w changes answer pages writes (SameMemory is same) p = subst P (sym is) p
-  pages_by w changes answer pages writes (OnePage user va frame passed free told is less) p = subst P (sym is) (adds w user va frame passed free p)
+  pages_by w changes answer pages writes (OnePage user va frame passed free told is less) p =
+      subst P (sym is) (adds w user va frame passed free p)
   pages_by w changes answer pages writes (FewerPages stays is same) p = subst P (sym is) (drops stays w.user_pages p)
   pages_by w changes answer pages writes (Written changed is) p = subst P (sym is) p
 
-  pub pages_of_run : {A : Type 0} (settings : Settings) (records : List (Record A)) → IsRun settings records → P [] → P (world_of settings records).user_pages
+  pub pages_of_run : {A : Type 0} (settings : Settings) (records : List (Record A)) → IsRun settings records → P []
+      → P (world_of settings records).user_pages
   unfolding IsRun world_of with_tables
-  pages_of_run settings records run none = run_keeps (λ w. P w.user_pages) (λ w taken given p. p) (λ at w e answer none answers p. pages_by w _ answer _ _ (changed_moves at w e answer none answers).memory p) 0 (opening settings) records run none
+  pages_of_run settings records run none =
+      run_keeps (λ w. P w.user_pages) (λ w taken given p. p)
+      (λ at w e answer none answers p. pages_by w _ answer _ _ (changed_moves at w e answer none answers).memory p) 0
+      (opening settings) records run none
 
 -- ---- two rows of one page, or of one frame
 
@@ -47,26 +56,41 @@ abbrev pub same_frame : UserPage → UserPage → Bool
 same_frame a b = eqb a.frame.0 b.frame.0
 
 -- a page that a look-up doesn't find has no row
-not_mapped : (pages : List UserPage) (user : UserNo) (page : ℕ) → is_some (frame_at pages user page) ≡ false → list_any (λ (p : UserPage). eqb p.user.0 user.0 && eqb p.page page) pages ≡ false
-not_mapped pages user page none = any_found (λ (p : UserPage). eqb p.user.0 user.0 && eqb p.page page) pages ∙ by_found (find (λ (p : UserPage). eqb p.user.0 user.0 && eqb p.page page) pages) none
+not_mapped : (pages : List UserPage) (user : UserNo) (page : ℕ) → is_some (frame_at pages user page) ≡ false
+    → list_any (λ (p : UserPage). eqb p.user.0 user.0 && eqb p.page page) pages ≡ false
+not_mapped pages user page none = any_found (λ (p : UserPage). eqb p.user.0 user.0 && eqb p.page page) pages
+    ∙ by_found (find (λ (p : UserPage). eqb p.user.0 user.0 && eqb p.page page) pages) none
   where
-    by_found : (o : Option UserPage) → is_some {T = FrameNo} (elim o [ Some p ↦ Some p.frame | None ↦ None ]) ≡ false → is_some o ≡ false
+    by_found : (o : Option UserPage) → is_some {T = FrameNo} (elim o [ Some p ↦ Some p.frame | None ↦ None ]) ≡ false
+        → is_some o ≡ false
     by_found None none = refl
     by_found (Some p) none = cc
 
-pub pages_apart : {A : Type 0} (settings : Settings) (records : List (Record A)) → IsRun settings records → all_apart same_page (world_of settings records).user_pages ≡ true
+pub pages_apart : {A : Type 0} (settings : Settings) (records : List (Record A)) → IsRun settings records
+    → all_apart same_page (world_of settings records).user_pages ≡ true
 pages_apart settings records run =
     pages_of_run (λ pages. all_apart same_page pages ≡ true)
-    (λ w user va frame passed free apart. apart-more same_page w.user_pages (record { user = user; page = va / 4096; frame = frame }) (not_mapped w.user_pages user (va / 4096) passed.unmapped) apart)
+    (λ w user va frame passed free apart. apart-more same_page w.user_pages (record {
+      user = user;
+      page = va / 4096;
+      frame = frame;
+    }) (not_mapped w.user_pages user (va / 4096) passed.unmapped) apart)
     (λ stays pages apart. apart-filter same_page stays pages apart) settings records run refl
 
-free_of_users : (w : World) (frame : FrameNo) → is_free w.settings.pool w.user_pages w.pins w.table_frames frame.0 ≡ true → list_any (λ (p : UserPage). eqb p.frame.0 frame.0) w.user_pages ≡ false
+free_of_users : (w : World) (frame : FrameNo)
+    → is_free w.settings.pool w.user_pages w.pins w.table_frames frame.0 ≡ true
+    → list_any (λ (p : UserPage). eqb p.frame.0 frame.0) w.user_pages ≡ false
 free_of_users w frame free = grind (arith, nat_tests)
 
-pub frames_apart : {A : Type 0} (settings : Settings) (records : List (Record A)) → IsRun settings records → all_apart same_frame (world_of settings records).user_pages ≡ true
+pub frames_apart : {A : Type 0} (settings : Settings) (records : List (Record A)) → IsRun settings records
+    → all_apart same_frame (world_of settings records).user_pages ≡ true
 frames_apart settings records run =
     pages_of_run (λ pages. all_apart same_frame pages ≡ true)
-    (λ w user va frame passed free apart. apart-more same_frame w.user_pages (record { user = user; page = va / 4096; frame = frame }) (free_of_users w frame free) apart)
+    (λ w user va frame passed free apart. apart-more same_frame w.user_pages (record {
+      user = user;
+      page = va / 4096;
+      frame = frame;
+    }) (free_of_users w frame free) apart)
     (λ stays pages apart. apart-filter same_frame stays pages apart) settings records run refl
 
 -- ---- below 2^48 bytes
@@ -80,12 +104,16 @@ low_page va aligned =
     let below : va < 2 ^ 36 * 4096 = search (parts.1, arith, nat_tests) in
     (div-lt_iff_lt-mul {k = 4096} {x = va} {y = 2 ^ 36} (omega arith)).1 below
 
-all_more : (p : UserPage → Bool) (pages : List UserPage) (page : UserPage) → p page ≡ true → list_all p pages ≡ true → list_all p (pages ++ page ∷ []) ≡ true
+all_more : (p : UserPage → Bool) (pages : List UserPage) (page : UserPage) → p page ≡ true → list_all p pages ≡ true
+    → list_all p (pages ++ page ∷ []) ≡ true
 all_more p [] page here all = both_true _ _ here refl
-all_more p (x ∷ pages) page here all = let parts = and_true (p x) (list_all p pages) all in both_true _ _ parts.0 (all_more p pages page here parts.1)
+all_more p (x ∷ pages) page here all =
+    let parts = and_true (p x) (list_all p pages) all in both_true _ _ parts.0 (all_more p pages page here parts.1)
 
-pub pages_low : {A : Type 0} (settings : Settings) (records : List (Record A)) → IsRun settings records → list_all is_low (world_of settings records).user_pages ≡ true
+pub pages_low : {A : Type 0} (settings : Settings) (records : List (Record A)) → IsRun settings records
+    → list_all is_low (world_of settings records).user_pages ≡ true
 pages_low settings records run =
     pages_of_run (λ pages. list_all is_low pages ≡ true)
-    (λ w user va frame passed free all. let low = low_page va passed.aligned in all_more is_low w.user_pages (record { user = user; page = va / 4096; frame = frame }) (search (low, arith, nat_tests)) all)
+    (λ w user va frame passed free all. let low = low_page va passed.aligned in all_more is_low w.user_pages
+    (record { user = user; page = va / 4096; frame = frame }) (search (low, arith, nat_tests)) all)
     (λ stays pages all. all_filter is_low stays pages all) settings records run refl

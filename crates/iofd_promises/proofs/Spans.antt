@@ -1,5 +1,6 @@
 -- Where areas lie: below 2^64, and below the width of each page table over them.
-use Rattle.std.proofs.Common.{◌≡◌, ◌<◌, ◌≤◌, ℕ, ◌+◌, ◌-◌, ◌^◌, Bool, true, false, ◌&&◌, ◌||◌, eqb, leb, ltb, List, None, refl, sym, ◌∙◌, arith}
+use Rattle.std.proofs.Common.{◌≡◌, ◌<◌, ◌≤◌, ℕ, ◌+◌, ◌-◌, ◌^◌, Bool, true, false, ◌&&◌, ◌||◌, eqb, leb, ltb, List, None}
+use Rattle.std.proofs.Common.{refl, sym, ◌∙◌, arith}
 use Rattle.std.specs.List.{list_all, list_any}
 use Rattle.std.proofs.lemmas.Bool.Decides.{nat_tests}
 use Rattle.iofd_words.specs.Bounds.{Bounds}
@@ -44,21 +45,29 @@ use Rattle.iofd_words.specs.declared.rows.Phase.{Phase}
 
 -- what holds of each area, whatever its phase
 module _ (p : Area → Bool) (phases : (phase : Phase) (area : Area) → p area ≡ true → p (with_phase phase area) ≡ true)
-    (places : (w : World) (memory : ℕ) (file : FileNo) (request : MapRequest) (iova : Iova) → PlacePassed (view w) file request → LiesAt (view w) file request iova.0 → p (mapped_area memory file request iova) ≡ true) where
+    (places : (w : World) (memory : ℕ) (file : FileNo) (request : MapRequest) (iova : Iova)
+    → PlacePassed (view w) file request → LiesAt (view w) file request iova.0
+    → p (mapped_area memory file request iova) ≡ true) where
   moved : (w : World) (new : List Area) → AreasMove w new → list_all p w.areas ≡ true → list_all p new ≡ true
   moved w new (SameAreas is) all = rw is all
   moved w new (FewerAreas stays is) all = rw is (all_filter p stays w.areas all)
-  moved w new (OtherPhases phase is) all = rw is (all_map p p _ w.areas (λ area holds. phases (phase area) area holds) all)
-  moved w new (OneArea memory file request iova passed lies is) all = rw is (all-with_area p (mapped_area memory file request iova) w.areas (places w memory file request iova passed lies) all)
+  moved w new (OtherPhases phase is) all =
+      rw is (all_map p p _ w.areas (λ area holds. phases (phase area) area holds) all)
+  moved w new (OneArea memory file request iova passed lies is) all =
+      rw is (all-with_area p (mapped_area memory file request iova) w.areas
+      (places w memory file request iova passed lies) all)
 
-  pub areas_keep : {A : Type 0} → (at : ℕ) (w : World) (e : Event A) (answer : Reply) → refusal w e ≡ None → Answers w e answer → list_all p w.areas ≡ true → list_all p (changed at w e answer).areas ≡ true
-  areas_keep at w e answer none answers all = moved w (changed at w e answer).areas (changed_moves at w e answer none answers).areas all
+  pub areas_keep : {A : Type 0} → (at : ℕ) (w : World) (e : Event A) (answer : Reply) → refusal w e ≡ None
+      → Answers w e answer → list_all p w.areas ≡ true → list_all p (changed at w e answer).areas ≡ true
+  areas_keep at w e answer none answers all =
+      moved w (changed at w e answer).areas (changed_moves at w e answer none answers).areas all
 
 -- it begins no later than it ends, below 2^64
 abbrev pub is_bounded : Area → Bool
 is_bounded area = leb area.span.first area.span.last && ltb area.span.last (2 ^ 64)
 
-placed_bounded : (iova length : ℕ) → is_above_sum iova length ≡ false → eqb length 0 ≡ false → (leb iova (iova + length - 1) && ltb (iova + length - 1) (2 ^ 64)) ≡ true
+placed_bounded : (iova length : ℕ) → is_above_sum iova length ≡ false → eqb length 0 ≡ false
+    → (leb iova (iova + length - 1) && ltb (iova + length - 1) (2 ^ 64)) ≡ true
 placed_bounded iova length sum some =
     let above : 1 ≤ length = search (some, arith, nat_tests) in
     let below : iova + length ≤ 2 ^ 64 = search (sum, arith, nat_tests) in
@@ -68,16 +77,19 @@ placed_bounded iova length sum some =
     let ends : ltb (iova + length - 1) (2 ^ 64) ≡ true = search (last, arith, nat_tests) in
     both_true _ _ begins ends
 
-pub bounded_of : {A : Type 0} (settings : Settings) (records : List (Record A)) → IsRun settings records → list_all is_bounded (world_of settings records).areas ≡ true
+pub bounded_of : {A : Type 0} (settings : Settings) (records : List (Record A)) → IsRun settings records
+    → list_all is_bounded (world_of settings records).areas ≡ true
 unfolding IsRun world_of with_tables
 bounded_of settings records run =
     run_keeps (λ w. list_all is_bounded w.areas ≡ true) (λ w taken given p. p)
-    (areas_keep is_bounded (λ phase area is. is) (λ w memory file request iova passed lies. placed_bounded iova.0 request.length lies.sum passed.some))
+    (areas_keep is_bounded (λ phase area is. is)
+    (λ w memory file request iova passed lies. placed_bounded iova.0 request.length lies.sum passed.some))
     0 (opening settings) records run refl
 
 -- ---- below the width of a page table
 
-kind_meets : (k : ObjectKind) (ioas : ObjId) (width : Width) (automatic : Bool) (span : Bounds) → k ≡ kind.Hwpt ioas width automatic → 2 ^ bits_of width ≤ span.last → span.first < 2 ^ 64
+kind_meets : (k : ObjectKind) (ioas : ObjId) (width : Width) (automatic : Bool) (span : Bounds)
+    → k ≡ kind.Hwpt ioas width automatic → 2 ^ bits_of width ≤ span.last → span.first < 2 ^ 64
     → (is_hwpt_over ioas k ≡ true) × (meets_some (beyond_table k) span ≡ true)
 kind_meets k ioas width automatic span is above low =
     let own : eqb ioas.0 ioas.0 ≡ true = search (arith, nat_tests) in
@@ -86,14 +98,17 @@ kind_meets k ioas width automatic span is above low =
     rw is (own, rw (ends, begins) refl)
 
 -- an area in usable addresses ends below 2^39 or 2^48, by the width of a page table of its address space
-pub below_width : (w : World) (area : Area) (object : Object) (width : Width) (automatic : Bool) → AreasUsable w → list_all is_bounded w.areas ≡ true → IsIn w.areas area → IsIn w.objects object
+pub below_width : (w : World) (area : Area) (object : Object) (width : Width) (automatic : Bool) → AreasUsable w
+    → list_all is_bounded w.areas ≡ true → IsIn w.areas area → IsIn w.objects object
     → object.file ≡ area.file → object.kind ≡ kind.Hwpt area.ioas width automatic → area.span.last < 2 ^ bits_of width
-below_width w area object width automatic usable bounded within there of_file is = by_test (ltb area.span.last (2 ^ bits_of width)) refl
+below_width w area object width automatic usable bounded within there of_file is =
+    by_test (ltb area.span.last (2 ^ bits_of width)) refl
   where
     clear : meets_some (unusable w.settings w.objects w.attachments area.file area.ioas) area.span ≡ false
     clear = not_true _ (of_each (is_in_usable w) w.areas area usable.usable within)
 
-    rows : (list_any (ends_in area.file area.ioas area.span) w.objects || list_any (keeps_of w.settings w.objects area.file area.ioas area.span) w.attachments) ≡ false
+    rows : (list_any (ends_in area.file area.ioas area.span) w.objects
+        || list_any (keeps_of w.settings w.objects area.file area.ioas area.span) w.attachments) ≡ false
     rows = sym (by_rows w.settings w.objects w.attachments area.file area.ioas area.span) ∙ clear
 
     none : ends_in area.file area.ioas area.span object ≡ false
@@ -102,7 +117,8 @@ below_width w area object width automatic usable bounded within there of_file is
     by_test : (b : Bool) → ltb area.span.last (2 ^ bits_of width) ≡ b → area.span.last < 2 ^ bits_of width
     by_test true below = search (below, arith, nat_tests)
     by_test false below =
-        let parts = and_true (leb area.span.first area.span.last) (ltb area.span.last (2 ^ 64)) (of_each is_bounded w.areas area bounded within) in
+        let parts = and_true (leb area.span.first area.span.last) (ltb area.span.last (2 ^ 64))
+        (of_each is_bounded w.areas area bounded within) in
         let above : 2 ^ bits_of width ≤ area.span.last = search (below, arith, nat_tests) in
         let low : area.span.first < 2 ^ 64 = search (parts.0, parts.1, arith, nat_tests) in
         let meets = kind_meets object.kind area.ioas width automatic area.span is above low in

@@ -1,10 +1,12 @@
 -- What an UNMAP names, waits for and takes away, and what a flush pays.
-use Rattle.std.proofs.Common.{◌≡◌, ◌≢◌, ◌≤◌, ℕ, suc, ◌+◌, ◌-◌, Bool, true, false, cond, ◌&&◌, ◌||◌, not, eqb, leb, List, [], ◌∷◌, length, Contains, refl, ap, sym, ◌∙◌, subst, arith, inl, inr}
+use Rattle.std.proofs.Common.{◌≡◌, ◌≢◌, ◌≤◌, ℕ, suc, ◌+◌, ◌-◌, Bool, true, false, cond, ◌&&◌, ◌||◌, not, eqb, leb, List}
+use Rattle.std.proofs.Common.{[], ◌∷◌, length, Contains, refl, ap, sym, ◌∙◌, subst, arith, inl, inr}
 use Rattle.std.specs.List.{list_any, sum_by}
 use Rattle.std.proofs.lemmas.Bool.{eqb-true}
 use Rattle.std.proofs.lemmas.Bool.Decides.{nat_tests}
 use Rattle.std.proofs.lemmas.List.Sums.{sum_by-cons}
-use Rattle.iofd_words.specs.Areas.{all_paid, areas_of, is_cut, is_everything, is_of, is_touched, is_waiting, leaving, owed_by, paid, touched, touched_bytes, unmapped_span, with_leaving, with_phase}
+use Rattle.iofd_words.specs.Areas.{all_paid, areas_of, is_cut, is_everything, is_of, is_touched, is_waiting, leaving}
+use Rattle.iofd_words.specs.Areas.{owed_by, paid, touched, touched_bytes, unmapped_span, with_leaving, with_phase}
 use Rattle.iofd_words.specs.Attachments.{devices_of}
 use Rattle.iofd_words.specs.DeviceSet.{without_device}
 use Rattle.iofd_words.specs.Span.{lies_in, meets, size_of, span_from}
@@ -28,13 +30,16 @@ use Rattle.iofd_promises.proofs.Spaces.{device_translates, translates_device}
 
 -- ---- what it names
 
-span_ends : (b : Bool) (first count : ℕ) → (b ≡ true → first ≡ 0) → ((cond b (record { first = 0; last = 0xffff_ffff_ffff_ffff }) (span_from first count)).first ≡ first)
-    × ((cond b (record { first = 0; last = 0xffff_ffff_ffff_ffff }) (span_from first count)).last ≡ cond b 0xffff_ffff_ffff_ffff (first + count - 1))
+span_ends : (b : Bool) (first count : ℕ) → (b ≡ true → first ≡ 0)
+    → ((cond b (record { first = 0; last = 0xffff_ffff_ffff_ffff }) (span_from first count)).first ≡ first)
+    × ((cond b (record { first = 0; last = 0xffff_ffff_ffff_ffff }) (span_from first count)).last ≡ cond b
+    0xffff_ffff_ffff_ffff (first + count - 1))
 span_ends true first count start = (sym (start refl), refl)
 span_ends false first count start = (refl, refl)
 
 from_zero : (request : UnmapRequest) → is_everything request ≡ true → request.iova.0 ≡ 0
-from_zero request is = eqb-true request.iova.0 0 (and_true (eqb request.iova.0 0) (eqb request.length 0xffff_ffff_ffff_ffff) is).0
+from_zero request is =
+    eqb-true request.iova.0 0 (and_true (eqb request.iova.0 0) (eqb request.length 0xffff_ffff_ffff_ffff) is).0
 
 pub first_is : (request : UnmapRequest) → (unmapped_span request).first ≡ request.iova.0
 first_is request = (span_ends (is_everything request) request.iova.0 request.length (from_zero request)).0
@@ -42,19 +47,28 @@ first_is request = (span_ends (is_everything request) request.iova.0 request.len
 pub last_is : (request : UnmapRequest) → (unmapped_span request).last ≡ last_named request
 last_is request = (span_ends (is_everything request) request.iova.0 request.length (from_zero request)).1
 
-pub touched_named : (file : FileNo) (request : UnmapRequest) (area : Area) → is_touched file request area ≡ is_named file request area
+pub touched_named : (file : FileNo) (request : UnmapRequest) (area : Area)
+    → is_touched file request area ≡ is_named file request area
 touched_named file request area =
-    ap (λ (last : ℕ). is_of file request.ioas area && (leb area.span.first last && leb (unmapped_span request).first area.span.last)) (last_is request)
-    ∙ ap (λ (first : ℕ). is_of file request.ioas area && (leb area.span.first (last_named request) && leb first area.span.last)) (first_is request)
+    ap (λ (last : ℕ). is_of file request.ioas area
+    && (leb area.span.first last && leb (unmapped_span request).first area.span.last)) (last_is request)
+    ∙ ap (λ (first : ℕ). is_of file request.ioas area
+    && (leb area.span.first (last_named request) && leb first area.span.last)) (first_is request)
 
 -- each that it names lies in it
-pub uncut_whole : (w : World) (file : FileNo) (request : UnmapRequest) (area : Area) → is_cut (unmapped_span request) (areas_of w.areas file request.ioas) ≡ false → IsIn w.areas area → is_named file request area ≡ true
+pub uncut_whole : (w : World) (file : FileNo) (request : UnmapRequest) (area : Area)
+    → is_cut (unmapped_span request) (areas_of w.areas file request.ioas) ≡ false → IsIn w.areas area
+    → is_named file request area ≡ true
     → (request.iova.0 ≤ area.span.first) × (area.span.last ≤ last_named request)
 uncut_whole w file request area uncut there named =
     let touched_it : is_touched file request area ≡ true = touched_named file request area ∙ named in
     let parts = and_true (is_of file request.ioas area) (meets area.span (unmapped_span request)) touched_it in
-    let none = each_not (λ (a : Area). meets a.span (unmapped_span request) && not (lies_in a.span (unmapped_span request))) (areas_of w.areas file request.ioas) area uncut (in_kept (is_of file request.ioas) w.areas area there parts.0) in
-    let lies = and_true (leb (unmapped_span request).first area.span.first) (leb area.span.last (unmapped_span request).last) (inside (meets area.span (unmapped_span request)) (lies_in area.span (unmapped_span request)) parts.1 none) in
+    let none = each_not (λ (a : Area). meets a.span (unmapped_span request)
+    && not (lies_in a.span (unmapped_span request))) (areas_of w.areas file request.ioas) area uncut (in_kept
+    (is_of file request.ioas) w.areas area there parts.0) in
+    let lies = and_true (leb (unmapped_span request).first area.span.first)
+    (leb area.span.last (unmapped_span request).last)
+    (inside (meets area.span (unmapped_span request)) (lies_in area.span (unmapped_span request)) parts.1 none) in
     let first = first_is request in
     let last = last_is request in
     (search (lies.0, first, arith, nat_tests), search (lies.1, last, arith, nat_tests))
@@ -66,13 +80,19 @@ uncut_whole w file request area uncut there named =
 
 -- ---- how many bytes
 
-pub bytes_are : (file : FileNo) (request : UnmapRequest) (areas : List Area) → touched_bytes areas file request ≡ bytes_named file request areas
+pub bytes_are : (file : FileNo) (request : UnmapRequest) (areas : List Area)
+    → touched_bytes areas file request ≡ bytes_named file request areas
 bytes_are file request [] = refl
-bytes_are file request (area ∷ areas) = by_test (is_touched file request area) (is_named file request area) refl (touched_named file request area) (bytes_are file request areas)
+bytes_are file request (area ∷ areas) = by_test (is_touched file request area) (is_named file request area) refl
+    (touched_named file request area) (bytes_are file request areas)
   where
-    by_test : (a b : Bool) → is_touched file request area ≡ a → a ≡ b → touched_bytes areas file request ≡ bytes_named file request areas
-        → sum_by (λ (x : Area). size_of x.span) (cond a (area ∷ touched areas file request) (touched areas file request)) ≡ cond b (area.span.last + 1 - area.span.first + bytes_named file request areas) (bytes_named file request areas)
-    by_test true true is same rest = sum_by-cons (λ (x : Area). size_of x.span) area (touched areas file request) ∙ ap (λ n. area.span.last + 1 - area.span.first + n) rest
+    by_test : (a b : Bool) → is_touched file request area ≡ a → a ≡ b
+        → touched_bytes areas file request ≡ bytes_named file request areas
+        → sum_by (λ (x : Area). size_of x.span) (cond a (area ∷ touched areas file request)
+        (touched areas file request)) ≡ cond b (area.span.last + 1 - area.span.first
+        + bytes_named file request areas) (bytes_named file request areas)
+    by_test true true is same rest = sum_by-cons (λ (x : Area). size_of x.span) area (touched areas file request)
+        ∙ ap (λ n. area.span.last + 1 - area.span.first + n) rest
     by_test false false is same rest = rest
     by_test true false is same rest = cc
     by_test false true is same rest = cc
@@ -81,37 +101,46 @@ bytes_are file request (area ∷ areas) = by_test (is_touched file request area)
 
 none_owed : (owed : List ℕ) (d : ℕ) → eqb (length owed) 0 ≡ true → IsIn owed d → ⊥
 none_owed [] d none there = there
-none_owed (x ∷ owed) d none there = let never : suc (length owed) ≡ 0 = eqb-true (suc (length owed)) 0 none in absurd (omega (arith, never))
+none_owed (x ∷ owed) d none there =
+    let never : suc (length owed) ≡ 0 = eqb-true (suc (length owed)) 0 none in absurd (omega (arith, never))
 
 some_owed : (owed : List ℕ) → not (eqb (length owed) 0) ≡ true → (d : ℕ) × IsIn owed d
 some_owed [] some = cc
 some_owed (d ∷ owed) some = (d, inl refl)
 
 -- the devices that owe an area are those of its address space, or those that it is owed by
-pub owing : (w : World) (area : Area) (phase : Phase) (device : DeviceNo) → have_own_ids w.objects ≡ true → Owes w area device phase → IsIn (owed_by (devices_of w.objects w.attachments area.file area.ioas) phase) device.0
+pub owing : (w : World) (area : Area) (phase : Phase) (device : DeviceNo) → have_own_ids w.objects ≡ true
+    → Owes w area device phase → IsIn (owed_by (devices_of w.objects w.attachments area.file area.ioas) phase) device.0
 owing w area Live device own owes = translates_device w area.file area.ioas device own owes
 owing w area (Leaving owed tries) device own owes = within owed device.0 owes
 
-pub owes_by : (w : World) (area : Area) (phase : Phase) (device : DeviceNo) → IsIn (owed_by (devices_of w.objects w.attachments area.file area.ioas) phase) device.0 → Owes w area device phase
+pub owes_by : (w : World) (area : Area) (phase : Phase) (device : DeviceNo)
+    → IsIn (owed_by (devices_of w.objects w.attachments area.file area.ioas) phase) device.0 → Owes w area device phase
 owes_by w area Live device there = device_translates w area.file area.ioas device there
 owes_by w area (Leaving owed tries) device there = contains owed device.0 there
 
 -- a touched area is of the request's address space
-space_of_touched : (file : FileNo) (request : UnmapRequest) (area : Area) → is_named file request area ≡ true → (area.file ≡ file) × (area.ioas ≡ request.ioas)
+space_of_touched : (file : FileNo) (request : UnmapRequest) (area : Area) → is_named file request area ≡ true
+    → (area.file ≡ file) × (area.ioas ≡ request.ioas)
 space_of_touched file request area named =
     let own = (and_true (eqb area.file.0 file.0 && eqb area.ioas.0 request.ioas.0) _ named).0 in
     let names = and_true (eqb area.file.0 file.0) (eqb area.ioas.0 request.ioas.0) own in
     (file_is area.file file names.0, id_is area.ioas request.ioas names.1)
 
-pub nobody_owes : (w : World) (file : FileNo) (request : UnmapRequest) (area : Area) (device : DeviceNo) → have_own_ids w.objects ≡ true → is_waiting w.areas (devices_of w.objects w.attachments file request.ioas) file request ≡ false
+pub nobody_owes : (w : World) (file : FileNo) (request : UnmapRequest) (area : Area) (device : DeviceNo)
+    → have_own_ids w.objects ≡ true → is_waiting w.areas
+    (devices_of w.objects w.attachments file request.ioas) file request ≡ false
     → IsIn w.areas area → is_named file request area ≡ true → Owes w area device area.phase → ⊥
 nobody_owes w file request area device own waits there named owes =
     let attached : List ℕ = devices_of w.objects w.attachments file request.ioas in
     let (of_file, of_space) = space_of_touched file request area named in
     let listed = in_kept (is_touched file request) w.areas area there (touched_named file request area ∙ named) in
-    let none = not_not _ (each_not (λ (a : Area). not (eqb (length (owed_by attached a.phase)) 0)) (touched w.areas file request) area waits listed) in
+    let none = not_not _ (each_not (λ (a : Area). not (eqb (length (owed_by attached a.phase)) 0))
+    (touched w.areas file request) area waits listed) in
     let here = owing w area area.phase device own owes in
-    let moved = subst (λ (i : ObjId). IsIn (owed_by (devices_of w.objects w.attachments file i) area.phase) device.0) of_space (subst (λ (f : FileNo). IsIn (owed_by (devices_of w.objects w.attachments f area.ioas) area.phase) device.0) of_file here) in
+    let moved = subst (λ (i : ObjId). IsIn (owed_by (devices_of w.objects w.attachments file i) area.phase) device.0)
+    of_space (subst (λ (f : FileNo). IsIn (owed_by (devices_of w.objects w.attachments f area.ioas) area.phase)
+    device.0) of_file here) in
     none_owed (owed_by attached area.phase) device.0 none moved
   where
     not_not : (b : Bool) → not b ≡ false → b ≡ true
@@ -129,39 +158,72 @@ some_in : {X : Type 0} (p : X → Bool) (xs : List X) → list_any p xs ≡ true
 some_in p [] some = cc
 some_in {X = X} p (x ∷ xs) some = by_test (p x) refl some (some_in p xs)
   where
-    by_test : (b : Bool) → p x ≡ b → (b || list_any p xs) ≡ true → (list_any p xs ≡ true → (y : X) × IsIn xs y × (p y ≡ true)) → (y : X) × IsIn (x ∷ xs) y × (p y ≡ true)
+    by_test : (b : Bool) → p x ≡ b → (b || list_any p xs) ≡ true
+        → (list_any p xs ≡ true → (y : X) × IsIn xs y × (p y ≡ true)) → (y : X) × IsIn (x ∷ xs) y × (p y ≡ true)
     by_test true is some later = (x, inl refl, is)
     by_test false is some later = let (y, there, passes) = later some in (y, inr there, passes)
 
-pub somebody_owes : (w : World) (file : FileNo) (request : UnmapRequest) → is_waiting w.areas (devices_of w.objects w.attachments file request.ioas) file request ≡ true → Owed w file request
+pub somebody_owes : (w : World) (file : FileNo) (request : UnmapRequest)
+    → is_waiting w.areas (devices_of w.objects w.attachments file request.ioas) file request ≡ true
+    → Owed w file request
 somebody_owes w file request waits =
     let attached : List ℕ = devices_of w.objects w.attachments file request.ioas in
-    let (area, listed, some) = some_in (λ (a : Area). not (eqb (length (owed_by attached a.phase)) 0)) (touched w.areas file request) waits in
+    let (area, listed, some) =
+    some_in (λ (a : Area). not (eqb (length (owed_by attached a.phase)) 0)) (touched w.areas file request) waits in
     let (there, is) = in_filter (is_touched file request) w.areas area listed in
     let named : is_named file request area ≡ true = sym (touched_named file request area) ∙ is in
     let (of_file, of_space) = space_of_touched file request area named in
     let (d, owed) = some_owed (owed_by attached area.phase) some in
-    let moved = subst (λ (i : ObjId). IsIn (owed_by (devices_of w.objects w.attachments area.file i) area.phase) d) (sym of_space) (subst (λ (f : FileNo). IsIn (owed_by (devices_of w.objects w.attachments f request.ioas) area.phase) d) (sym of_file) owed) in
-    record { area = area; there = there; named = named; device = record { 0 = d }; owes = owes_by w area area.phase (record { 0 = d }) moved }
+    let moved = subst (λ (i : ObjId). IsIn (owed_by (devices_of w.objects w.attachments area.file i) area.phase) d)
+    (sym of_space) (subst (λ (f : FileNo). IsIn
+    (owed_by (devices_of w.objects w.attachments f request.ioas) area.phase) d) (sym of_file) owed) in
+    record {
+      area = area;
+      there = there;
+      named = named;
+      device = record { 0 = d };
+      owes = owes_by w area area.phase (record { 0 = d }) moved;
+    }
 
 -- ---- areas leave
 
-leaves : (w : World) (area : Area) (phase : Phase) → have_own_ids w.objects ≡ true → LeavesBy w area phase (leaving (devices_of w.objects w.attachments area.file area.ioas) phase)
-leaves w area Live own = ((λ device. ((λ has. device_translates w area.file area.ioas device (within _ device.0 has)), (λ by. contains _ device.0 (translates_device w area.file area.ioas device own by)))), refl)
+leaves : (w : World) (area : Area) (phase : Phase) → have_own_ids w.objects ≡ true
+    → LeavesBy w area phase (leaving (devices_of w.objects w.attachments area.file area.ioas) phase)
+leaves w area Live own = (
+  (λ device. (
+    (λ has. device_translates w area.file area.ioas device (within _ device.0 has)),
+    (λ by. contains _ device.0 (translates_device w area.file area.ioas device own by)),
+  )),
+  refl,
+)
 leaves w area (Leaving owed tries) own = refl
 
-pub all_leave : (w : World) (file : FileNo) (request : UnmapRequest) (areas : List Area) → have_own_ids w.objects ≡ true → AllLeave w file request areas (with_leaving areas (devices_of w.objects w.attachments file request.ioas) file request)
+pub all_leave : (w : World) (file : FileNo) (request : UnmapRequest) (areas : List Area) → have_own_ids w.objects ≡ true
+    → AllLeave w file request areas (with_leaving areas
+    (devices_of w.objects w.attachments file request.ioas) file request)
 all_leave w file request [] own = tt
-all_leave w file request (area ∷ areas) own = (refl, leave (is_touched file request area) refl, stay (is_touched file request area) refl, all_leave w file request areas own)
+all_leave w file request (area ∷ areas) own = (
+  refl,
+  leave (is_touched file request area) refl,
+  stay (is_touched file request area) refl,
+  all_leave w file request areas own,
+)
   where
-    leave : (b : Bool) → is_touched file request area ≡ b → is_named file request area ≡ true → LeavesBy w area area.phase (cond b (leaving (devices_of w.objects w.attachments file request.ioas) area.phase) area.phase)
+    leave : (b : Bool) → is_touched file request area ≡ b → is_named file request area ≡ true
+        → LeavesBy w area area.phase (cond b (leaving (devices_of w.objects w.attachments file request.ioas) area.phase)
+        area.phase)
     leave true is named =
         let (of_file, of_space) = space_of_touched file request area named in
-        subst (λ (i : ObjId). LeavesBy w area area.phase (leaving (devices_of w.objects w.attachments file i) area.phase)) of_space
-        (subst (λ (f : FileNo). LeavesBy w area area.phase (leaving (devices_of w.objects w.attachments f area.ioas) area.phase)) of_file (leaves w area area.phase own))
+        subst (λ (i : ObjId). LeavesBy w area area.phase
+        (leaving (devices_of w.objects w.attachments file i) area.phase)) of_space
+        (subst (λ (f : FileNo). LeavesBy w area area.phase
+        (leaving (devices_of w.objects w.attachments f area.ioas) area.phase)) of_file
+        (leaves w area area.phase own))
     leave false is named = absurd (clash _ is (touched_named file request area ∙ named))
 
-    stay : (b : Bool) → is_touched file request area ≡ b → is_named file request area ≡ false → with_phase (cond b (leaving (devices_of w.objects w.attachments file request.ioas) area.phase) area.phase) area ≡ area
+    stay : (b : Bool) → is_touched file request area ≡ b → is_named file request area ≡ false
+        → with_phase (cond b (leaving (devices_of w.objects w.attachments file request.ioas) area.phase) area.phase)
+        area ≡ area
     stay true is other = absurd (clash _ (touched_named file request area ∙ other) is)
     stay false is other = refl
 
@@ -180,7 +242,8 @@ pays device (Leaving owed tries) = ((λ other. (paid_from other, paid_to other))
         differ n is same = search (is, same, arith, nat_tests)
 
     paid_to : (other : ℕ) → Contains owed other × (other ≢ device.0) → Contains (without_device device.0 owed) other
-    paid_to other has = contains _ other (in_kept (λ (d : ℕ). not (eqb d device.0)) owed other (within owed other has.0) (not_false _ (by_test (eqb other device.0) refl)))
+    paid_to other has = contains _ other (in_kept (λ (d : ℕ). not (eqb d device.0)) owed other (within owed other has.0)
+        (not_false _ (by_test (eqb other device.0) refl)))
       where
         by_test : (b : Bool) → eqb other device.0 ≡ b → b ≡ false
         by_test true is = absurd (has.1 (eqb-true other device.0 is))

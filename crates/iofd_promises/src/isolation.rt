@@ -26,8 +26,8 @@ pub fn new_pins_are_their_users_pages<A: Allocator>()
         Contains (world_of settings before).pins pin ⊎ IsUsersPage (world_of settings (before ++ r ∷ [])) pin }
 {}
 
-/// A frame that a record gives to a user or takes for a table was nobody's: no user's page, no pin and no table had it. No
-/// record takes a frame twice.
+/// A frame that a record gives to a user or takes for a table was nobody's: no user's page, no pin and no table had it.
+/// No record takes a frame twice.
 pub fn given_frames_were_nobodys<A: Allocator>()
     ensures to_users { (settings : Settings) (before : List (Record A)) (r : Record A) (frame : FrameNo) →
         IsRun settings (before ++ r ∷ []) → r.reply ≡ reply.Frame frame → IsNobodys (world_of settings before) frame }

@@ -14,8 +14,8 @@ ghost use Rattle.iofd_words.specs.declared.reply.Reply.TheVariants as reply;
 
 use std::alloc::Allocator;
 
-/// A MAP makes one area, at the address that it answers, of the length and with just the rights that were asked for. It lies
-/// over a new memory object: the pages that were asked for, of the user of the file. Every other area stands.
+/// A MAP makes one area, at the address that it answers, of the length and with just the rights that were asked for. It
+/// lies over a new memory object: the pages that were asked for, of the user of the file. Every other area stands.
 pub fn a_map_maps_what_was_asked<A: Allocator>()
     ensures { (settings : Settings) (before : List (Record A)) (r : Record A) (file : FileNo) (request : MapRequest)
         (iova : Iova) →
@@ -23,9 +23,9 @@ pub fn a_map_maps_what_was_asked<A: Allocator>()
         MapsAsked (world_of settings before) (world_of settings (before ++ r ∷ [])) file request iova }
 {}
 
-/// A COPY makes one area, at the address that it answers, of the length and with just the rights that were asked for. It
-/// lies over the memory object of the mapped area whose span is exactly the source range. Every other area stands, and
-/// no memory object comes.
+/// A COPY makes one area, at the address that it answers, of the length and with just the rights that were asked for.
+/// It lies over the memory object of the mapped area whose span is exactly the source range. Every other area stands,
+/// and no memory object comes.
 pub fn a_copy_maps_the_same_memory<A: Allocator>()
     ensures { (settings : Settings) (before : List (Record A)) (r : Record A) (file : FileNo) (request : CopyRequest)
         (iova : Iova) →

@@ -21,9 +21,9 @@ ghost use Rattle.iofd_words.specs.declared.rows.Phase.TheVariants.{Live};
 
 use std::alloc::Allocator;
 
-/// A device's write passes only at a frame that the device reaches: an area with the right to write is over the address,
-/// in the address space by which the device translates, mapped still or owed a flush by that device, and the frame is
-/// that of the pin of the page that lies there.
+/// A device's write passes only at a frame that the device reaches: an area with the right to write is over the
+/// address, in the address space by which the device translates, mapped still or owed a flush by that device, and the
+/// frame is that of the pin of the page that lies there.
 pub fn passed_writes_reach_their_frame<A: Allocator>()
     ensures { (settings : Settings) (before : List (Record A)) (r : Record A) (device : DeviceNo) (iova : Iova)
         (bytes : List ℕ) (frame : FrameNo) →

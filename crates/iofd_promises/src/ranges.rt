@@ -41,10 +41,11 @@ pub fn areas_avoid_what_devices_reserve<A: Allocator>()
         device.0 ≡ n + 1 → slice_get settings.devices n ≡ Some reserves → Avoids area reserves }
 {}
 
-/// An address that a MAP or a COPY is answered is one that the same command with the same rights could have named as its
-/// fixed one: then nothing would have refused it.
+/// An address that a MAP or a COPY is answered is one that the same command with the same rights could have named as
+/// its fixed one: then nothing would have refused it.
 pub fn chosen_addresses_could_be_fixed<A: Allocator>()
-    ensures maps { (settings : Settings) (before : List (Record A)) (r : Record A) (file : FileNo) (request : MapRequest)
+    ensures maps { (settings : Settings) (before : List (Record A)) (r : Record A)
+        (file : FileNo) (request : MapRequest)
         (flags : MapFlags) (iova : Iova) →
         IsRun settings (before ++ r ∷ []) → r.event ≡ event.Map file request → r.reply ≡ reply.Iova iova →
         is_fixed flags ≡ true → is_readable flags ≡ is_readable request.flags →

@@ -39,7 +39,8 @@ pub fn an_unmap_waits_for_who_owes<A: Allocator>()
         SameOthers (world_of settings before) (world_of settings (before ++ r ∷ [])) }
 {}
 
-/// A device's flush takes its own debts away, and nothing else: no other device's, no area, and no other row but tables.
+/// A device's flush takes its own debts away, and nothing else: no other device's, no area, and no other row but
+/// tables.
 pub fn a_flush_pays_its_own_debts<A: Allocator>()
     ensures paid { (settings : Settings) (before : List (Record A)) (r : Record A) (device : DeviceNo) →
         IsRun settings (before ++ r ∷ []) → r.event ≡ event.Flush device → r.reply ≡ reply.Done →

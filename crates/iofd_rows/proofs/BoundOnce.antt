@@ -1,8 +1,10 @@
 -- How many objects bind a device, after objects came or went.
-use Rattle.std.proofs.Common.{◌≡◌, ℕ, ◌+◌, ◌≤◌, Bool, true, false, cond, ◌&&◌, eqb, not, Option, Some, None, List, [], ◌∷◌, refl, sym, ◌∙◌, arith}
+use Rattle.std.proofs.Common.{◌≡◌, ℕ, ◌+◌, ◌≤◌, Bool, true, false, cond, ◌&&◌, eqb, not, Option, Some, None, List, []}
+use Rattle.std.proofs.Common.{◌∷◌, refl, sym, ◌∙◌, arith}
 use Rattle.std.specs.List.{count_by, filter, find}
 use Rattle.std.proofs.lemmas.Bool.Decides.{nat_tests}
-use Rattle.iofd_words.specs.Objects.{binding_of, comes_before, is_bound_as, is_bound_device, is_object, kind_of, with_object, without_device_object}
+use Rattle.iofd_words.specs.Objects.{binding_of, comes_before, is_bound_as, is_bound_device, is_object, kind_of}
+use Rattle.iofd_words.specs.Objects.{with_object, without_device_object}
 use Rattle.iofd_words.specs.declared.numbers.DeviceNo.{DeviceNo}
 use Rattle.iofd_words.specs.declared.numbers.FileNo.{FileNo}
 use Rattle.iofd_words.specs.declared.numbers.ObjId.{ObjId}
@@ -16,16 +18,20 @@ count-filter : {X : Type 0} (p q : X → Bool) (xs : List X) → count_by p (fil
 count-filter p q [] = omega arith
 count-filter p q (x ∷ xs) = rw (count-cons p x xs) (by_test (q x) (count-filter p q xs))
   where
-    by_test : (b : Bool) → count_by p (filter q xs) ≤ count_by p xs → count_by p (cond b (x ∷ filter q xs) (filter q xs)) ≤ cond (p x) 1 0 + count_by p xs
+    by_test : (b : Bool) → count_by p (filter q xs) ≤ count_by p xs
+        → count_by p (cond b (x ∷ filter q xs) (filter q xs)) ≤ cond (p x) 1 0 + count_by p xs
     by_test true rest = rw (count-cons p x (filter q xs)) (omega (arith, rest))
     by_test false rest = omega (arith, rest)
 
-count-with_object : (p : Object → Bool) (object : Object) (objects : List Object) → count_by p (with_object object objects) ≡ cond (p object) 1 0 + count_by p objects
+count-with_object : (p : Object → Bool) (object : Object) (objects : List Object)
+    → count_by p (with_object object objects) ≡ cond (p object) 1 0 + count_by p objects
 count-with_object p object [] = count-cons p object []
-count-with_object p object (o ∷ objects) = rw (count-cons p o objects) (by_order (comes_before object o) (count-with_object p object objects))
+count-with_object p object (o ∷ objects) =
+    rw (count-cons p o objects) (by_order (comes_before object o) (count-with_object p object objects))
   where
     by_order : (b : Bool) → count_by p (with_object object objects) ≡ cond (p object) 1 0 + count_by p objects
-        → count_by p (cond b (object ∷ o ∷ objects) (o ∷ with_object object objects)) ≡ cond (p object) 1 0 + (cond (p o) 1 0 + count_by p objects)
+        → count_by p (cond b (object ∷ o ∷ objects) (o ∷ with_object object objects)) ≡ cond (p object) 1 0
+        + (cond (p o) 1 0 + count_by p objects)
     by_order true rest = rw (count-cons p object (o ∷ objects), count-cons p o objects) refl
     by_order false rest = rw (count-cons p o (with_object object objects)) (omega (arith, rest))
 
@@ -34,7 +40,8 @@ pub none_counted : {X : Type 0} (p : X → Bool) (xs : List X) → find p xs ≡
 none_counted p [] none = refl
 none_counted p (x ∷ xs) none = rw (count-cons p x xs) (by_test (p x) none (none_counted p xs))
   where
-    by_test : (b : Bool) → cond b (Some x) (find p xs) ≡ None → (find p xs ≡ None → count_by p xs ≡ 0) → cond b 1 0 + count_by p xs ≡ 0
+    by_test : (b : Bool) → cond b (Some x) (find p xs) ≡ None → (find p xs ≡ None → count_by p xs ≡ 0)
+        → cond b 1 0 + count_by p xs ≡ 0
     by_test true none later = cc
     by_test false none later = let rest = later none in omega (arith, rest)
 
@@ -42,7 +49,8 @@ pub counted_none : {X : Type 0} (p : X → Bool) (xs : List X) → count_by p xs
 counted_none p [] none = refl
 counted_none p (x ∷ xs) none = by_test (p x) (sym (count-cons p x xs) ∙ none) (counted_none p xs)
   where
-    by_test : (b : Bool) → cond b 1 0 + count_by p xs ≡ 0 → (count_by p xs ≡ 0 → find p xs ≡ None) → cond b (Some x) (find p xs) ≡ None
+    by_test : (b : Bool) → cond b 1 0 + count_by p xs ≡ 0 → (count_by p xs ≡ 0 → find p xs ≡ None)
+        → cond b (Some x) (find p xs) ≡ None
     by_test true none later = absurd (more none)
       where
         more : 1 + count_by p xs ≡ 0 → ⊥
@@ -51,21 +59,31 @@ counted_none p (x ∷ xs) none = by_test (p x) (sym (count-cons p x xs) ∙ none
 
 -- ---- objects come and go
 
-pub once-filter : (keeps : Object → Bool) (objects : List Object) → AreBoundOnce objects → AreBoundOnce (filter keeps objects)
-once-filter keeps objects once device = let fewer = count-filter (λ object. is_bound_as device object.kind) keeps objects in let before = once device in omega (arith, fewer, before)
+pub once-filter : (keeps : Object → Bool) (objects : List Object) → AreBoundOnce objects
+    → AreBoundOnce (filter keeps objects)
+once-filter keeps objects once device = let fewer =
+    count-filter (λ object. is_bound_as device object.kind) keeps objects in let before =
+    once device in omega (arith, fewer, before)
 
 -- one that binds no device that was bound
-pub once-with_object : (object : Object) (objects : List Object) → ((device : DeviceNo) → is_bound_as device object.kind ≡ true → binding_of objects device ≡ None) → AreBoundOnce objects → AreBoundOnce (with_object object objects)
+pub once-with_object : (object : Object) (objects : List Object)
+    → ((device : DeviceNo) → is_bound_as device object.kind ≡ true → binding_of objects device ≡ None)
+    → AreBoundOnce objects → AreBoundOnce (with_object object objects)
 once-with_object object objects free once device =
-    rw (count-with_object (λ o. is_bound_as device o.kind) object objects) (by_test (is_bound_as device object.kind) refl)
+    rw (count-with_object (λ o. is_bound_as device o.kind) object objects)
+    (by_test (is_bound_as device object.kind) refl)
   where
-    by_test : (b : Bool) → is_bound_as device object.kind ≡ b → cond b 1 0 + count_by (λ o. is_bound_as device o.kind) objects ≤ 1
-    by_test true binds = let none = none_counted (λ (o : Object). is_bound_as device o.kind) objects (free device binds) in rw none (omega arith)
+    by_test : (b : Bool) → is_bound_as device object.kind ≡ b
+        → cond b 1 0 + count_by (λ o. is_bound_as device o.kind) objects ≤ 1
+    by_test true binds = let none =
+        none_counted (λ (o : Object). is_bound_as device o.kind) objects (free device binds) in rw none (omega arith)
     by_test false other = let before = once device in omega (arith, before)
 
 -- ---- the device of an object that goes is bound no more
 
-pub unbound_after : (objects : List Object) (file : FileNo) (id : ObjId) (device : DeviceNo) → kind_of objects file id ≡ Some (kind.Device device) → AreBoundOnce objects → binding_of (without_device_object file id objects) device ≡ None
+pub unbound_after : (objects : List Object) (file : FileNo) (id : ObjId) (device : DeviceNo)
+    → kind_of objects file id ≡ Some (kind.Device device) → AreBoundOnce objects
+    → binding_of (without_device_object file id objects) device ≡ None
 unbound_after objects file id device is once = last_goes objects is (once device)
   where
     binds : Object → Bool
@@ -85,12 +103,16 @@ unbound_after objects file id device is once = last_goes objects is (once device
     counted [] is = cc
     counted (o ∷ xs) is = rw (count-cons binds o xs) (by_name (is_object file id o) is (counted xs))
       where
-        by_name : (b : Bool) → elim (cond b (Some o) (find (is_object file id) xs)) as (λ _. Option ObjectKind) [ Some x ↦ Some x.kind | None ↦ None ] ≡ Some (kind.Device device)
-            → (kind_of xs file id ≡ Some (kind.Device device) → 1 ≤ count_by binds xs) → 1 ≤ cond (binds o) 1 0 + count_by binds xs
-        by_name true is later = let same : o.kind ≡ kind.Device device = cc in rw (kind_binds o.kind same).0 (omega arith)
+        by_name : (b : Bool) → elim (cond b (Some o) (find (is_object file id) xs)) as (λ _. Option ObjectKind)
+            [ Some x ↦ Some x.kind | None ↦ None ] ≡ Some (kind.Device device)
+            → (kind_of xs file id ≡ Some (kind.Device device) → 1 ≤ count_by binds xs)
+            → 1 ≤ cond (binds o) 1 0 + count_by binds xs
+        by_name true is later =
+            let same : o.kind ≡ kind.Device device = cc in rw (kind_binds o.kind same).0 (omega arith)
         by_name false is later = let rest = later is in omega (arith, rest)
 
-    last_goes : (xs : List Object) → kind_of xs file id ≡ Some (kind.Device device) → count_by binds xs ≤ 1 → find binds (filter (λ o. not (goes o)) xs) ≡ None
+    last_goes : (xs : List Object) → kind_of xs file id ≡ Some (kind.Device device) → count_by binds xs ≤ 1
+        → find binds (filter (λ o. not (goes o)) xs) ≡ None
     last_goes [] is few = cc
     last_goes (o ∷ xs) is few = by_name (is_object file id o) refl is (rw (count-cons binds o xs) at few) (last_goes xs)
       where
@@ -100,9 +122,16 @@ unbound_after objects file id device is once = last_goes objects is (once device
             let zero : count_by binds (filter (λ o. not (goes o)) xs) ≡ 0 = omega (arith, fewer, none) in
             counted_none binds (filter (λ o. not (goes o)) xs) zero
 
-        by_name : (b : Bool) → is_object file id o ≡ b → elim (cond b (Some o) (find (is_object file id) xs)) as (λ _. Option ObjectKind) [ Some x ↦ Some x.kind | None ↦ None ] ≡ Some (kind.Device device)
-            → cond (binds o) 1 0 + count_by binds xs ≤ 1 → (kind_of xs file id ≡ Some (kind.Device device) → count_by binds xs ≤ 1 → find binds (filter (λ o. not (goes o)) xs) ≡ None)
-            → find binds (cond (not (b && is_bound_device o.kind)) (o ∷ filter (λ o. not (goes o)) xs) (filter (λ o. not (goes o)) xs)) ≡ None
+        by_name : (b : Bool) → is_object file id o ≡ b
+            → elim (cond b (Some o) (find (is_object file id) xs)) as (λ _. Option ObjectKind) [
+              | Some x ↦ Some x.kind
+              | None ↦ None
+            ] ≡ Some (kind.Device device)
+            → cond (binds o) 1 0 + count_by binds xs ≤ 1
+            → (kind_of xs file id ≡ Some (kind.Device device) → count_by binds xs ≤ 1
+            → find binds (filter (λ o. not (goes o)) xs) ≡ None)
+            → find binds (cond (not (b && is_bound_device o.kind)) (o ∷ filter (λ o. not (goes o)) xs)
+            (filter (λ o. not (goes o)) xs)) ≡ None
         by_name true here is few later =
             let same : o.kind ≡ kind.Device device = cc in
             let parts = kind_binds o.kind same in
@@ -112,7 +141,8 @@ unbound_after objects file id device is once = last_goes objects is (once device
             below few = omega (arith, few)
         by_name false here is few later = by_test (binds o) few (counted xs is)
           where
-            by_test : (b : Bool) → cond b 1 0 + count_by binds xs ≤ 1 → 1 ≤ count_by binds xs → cond b (Some o) (find binds (filter (λ o. not (goes o)) xs)) ≡ None
+            by_test : (b : Bool) → cond b 1 0 + count_by binds xs ≤ 1 → 1 ≤ count_by binds xs
+                → cond b (Some o) (find binds (filter (λ o. not (goes o)) xs)) ≡ None
             by_test true few some = absurd (clash few some)
               where
                 clash : 1 + count_by binds xs ≤ 1 → 1 ≤ count_by binds xs → ⊥

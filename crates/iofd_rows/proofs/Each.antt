@@ -1,5 +1,6 @@
 -- What holds of each row of a list, said of any row that is in it.
-use Rattle.std.proofs.Common.{◌≡◌, Bool, true, false, cond, ◌||◌, Some, List, [], ◌∷◌, map, refl, ap, sym, ◌∙◌, ◌⊎◌, inl, inr, ⊎_elim}
+use Rattle.std.proofs.Common.{◌≡◌, Bool, true, false, cond, ◌||◌, Some, List, [], ◌∷◌, map, refl, ap, sym, ◌∙◌, ◌⊎◌}
+use Rattle.std.proofs.Common.{inl, inr, ⊎_elim}
 use Rattle.std.specs.List.{filter, find, list_all, list_any}
 use Rattle.iofd_words.specs.Areas.{with_area}
 use Rattle.iofd_words.specs.Attachments.{with_attachment}
@@ -41,7 +42,8 @@ pub in_found : {X : Type 0} (p : X → Bool) (xs : List X) (x : X) → find p xs
 in_found p [] x found = cc
 in_found p (y ∷ ys) x found = by_test (p y) refl found (λ later. in_found p ys x later)
   where
-    by_test : (b : Bool) → p y ≡ b → cond b (Some y) (find p ys) ≡ Some x → (find p ys ≡ Some x → IsIn ys x × (p x ≡ true)) → ((y ≡ x) ⊎ IsIn ys x) × (p x ≡ true)
+    by_test : (b : Bool) → p y ≡ b → cond b (Some y) (find p ys) ≡ Some x
+        → (find p ys ≡ Some x → IsIn ys x × (p x ≡ true)) → ((y ≡ x) ⊎ IsIn ys x) × (p x ≡ true)
     by_test true passes found later = let same : y ≡ x = cc in (inl same, ap p (sym same) ∙ passes)
     by_test false passes found later = let rest = later found in (inr rest.0, rest.1)
 
@@ -49,7 +51,8 @@ pub in_filter : {X : Type 0} (q : X → Bool) (xs : List X) (x : X) → IsIn (fi
 in_filter q [] x within = absurd within
 in_filter q (y ∷ ys) x within = by_test (q y) refl within (λ later. in_filter q ys x later)
   where
-    by_test : (b : Bool) → q y ≡ b → IsIn (cond b (y ∷ filter q ys) (filter q ys)) x → (IsIn (filter q ys) x → IsIn ys x × (q x ≡ true)) → ((y ≡ x) ⊎ IsIn ys x) × (q x ≡ true)
+    by_test : (b : Bool) → q y ≡ b → IsIn (cond b (y ∷ filter q ys) (filter q ys)) x
+        → (IsIn (filter q ys) x → IsIn ys x × (q x ≡ true)) → ((y ≡ x) ⊎ IsIn ys x) × (q x ≡ true)
     by_test true passes (inl same) later = (inl same, ap q (sym same) ∙ passes)
     by_test true passes (inr rest) later = let both = later rest in (inr both.0, both.1)
     by_test false passes rest later = let both = later rest in (inr both.0, both.1)
@@ -61,53 +64,71 @@ in_map h (x ∷ xs) y (inr later) = let rest = in_map h xs y later in (rest.0, i
 
 -- ---- one more row
 
-pub in_with_object : (object : Object) (objects : List Object) (x : Object) → IsIn (with_object object objects) x → (object ≡ x) ⊎ IsIn objects x
+pub in_with_object : (object : Object) (objects : List Object) (x : Object) → IsIn (with_object object objects) x
+    → (object ≡ x) ⊎ IsIn objects x
 in_with_object object [] x within = within
-in_with_object object (o ∷ objects) x within = by_order (comes_before object o) within (λ later. in_with_object object objects x later)
+in_with_object object (o ∷ objects) x within =
+    by_order (comes_before object o) within (λ later. in_with_object object objects x later)
   where
-    by_order : (b : Bool) → IsIn (cond b (object ∷ o ∷ objects) (o ∷ with_object object objects)) x → (IsIn (with_object object objects) x → (object ≡ x) ⊎ IsIn objects x) → (object ≡ x) ⊎ ((o ≡ x) ⊎ IsIn objects x)
+    by_order : (b : Bool) → IsIn (cond b (object ∷ o ∷ objects) (o ∷ with_object object objects)) x
+        → (IsIn (with_object object objects) x → (object ≡ x) ⊎ IsIn objects x)
+        → (object ≡ x) ⊎ ((o ≡ x) ⊎ IsIn objects x)
     by_order true within later = within
     by_order false (inl same) later = inr (inl same)
-    by_order false (inr rest) later = ⊎_elim (λ (new : object ≡ x). inl new) (λ (old : IsIn objects x). inr (inr old)) (later rest)
+    by_order false (inr rest) later =
+        ⊎_elim (λ (new : object ≡ x). inl new) (λ (old : IsIn objects x). inr (inr old)) (later rest)
 
-pub in_with_area : (area : Area) (areas : List Area) (x : Area) → IsIn (with_area area areas) x → (area ≡ x) ⊎ IsIn areas x
+pub in_with_area : (area : Area) (areas : List Area) (x : Area) → IsIn (with_area area areas) x
+    → (area ≡ x) ⊎ IsIn areas x
 in_with_area area [] x within = within
 in_with_area area (a ∷ areas) x within = by_order _ within (λ later. in_with_area area areas x later)
   where
-    by_order : (b : Bool) → IsIn (cond b (area ∷ a ∷ areas) (a ∷ with_area area areas)) x → (IsIn (with_area area areas) x → (area ≡ x) ⊎ IsIn areas x) → (area ≡ x) ⊎ ((a ≡ x) ⊎ IsIn areas x)
+    by_order : (b : Bool) → IsIn (cond b (area ∷ a ∷ areas) (a ∷ with_area area areas)) x
+        → (IsIn (with_area area areas) x → (area ≡ x) ⊎ IsIn areas x) → (area ≡ x) ⊎ ((a ≡ x) ⊎ IsIn areas x)
     by_order true within later = within
     by_order false (inl same) later = inr (inl same)
-    by_order false (inr rest) later = ⊎_elim (λ (new : area ≡ x). inl new) (λ (old : IsIn areas x). inr (inr old)) (later rest)
+    by_order false (inr rest) later =
+        ⊎_elim (λ (new : area ≡ x). inl new) (λ (old : IsIn areas x). inr (inr old)) (later rest)
 
-pub in_with_attachment : (attachment : Attachment) (attachments : List Attachment) (x : Attachment) → IsIn (with_attachment attachment attachments) x → (attachment ≡ x) ⊎ IsIn attachments x
+pub in_with_attachment : (attachment : Attachment) (attachments : List Attachment) (x : Attachment)
+    → IsIn (with_attachment attachment attachments) x → (attachment ≡ x) ⊎ IsIn attachments x
 in_with_attachment attachment [] x within = within
-in_with_attachment attachment (a ∷ attachments) x within = by_order _ within (λ later. in_with_attachment attachment attachments x later)
+in_with_attachment attachment (a ∷ attachments) x within =
+    by_order _ within (λ later. in_with_attachment attachment attachments x later)
   where
-    by_order : (b : Bool) → IsIn (cond b (attachment ∷ a ∷ attachments) (a ∷ with_attachment attachment attachments)) x → (IsIn (with_attachment attachment attachments) x → (attachment ≡ x) ⊎ IsIn attachments x) → (attachment ≡ x) ⊎ ((a ≡ x) ⊎ IsIn attachments x)
+    by_order : (b : Bool) → IsIn (cond b (attachment ∷ a ∷ attachments) (a ∷ with_attachment attachment attachments)) x
+        → (IsIn (with_attachment attachment attachments) x → (attachment ≡ x) ⊎ IsIn attachments x)
+        → (attachment ≡ x) ⊎ ((a ≡ x) ⊎ IsIn attachments x)
     by_order true within later = within
     by_order false (inl same) later = inr (inl same)
-    by_order false (inr rest) later = ⊎_elim (λ (new : attachment ≡ x). inl new) (λ (old : IsIn attachments x). inr (inr old)) (later rest)
+    by_order false (inr rest) later =
+        ⊎_elim (λ (new : attachment ≡ x). inl new) (λ (old : IsIn attachments x). inr (inr old)) (later rest)
 
 -- ---- the first row that passes
 
 -- it stays the first where it isn't taken away
-pub found_kept : {X : Type 0} (p q : X → Bool) (xs : List X) (x : X) → find p xs ≡ Some x → q x ≡ true → find p (filter q xs) ≡ Some x
+pub found_kept : {X : Type 0} (p q : X → Bool) (xs : List X) (x : X) → find p xs ≡ Some x → q x ≡ true
+    → find p (filter q xs) ≡ Some x
 found_kept p q [] x found kept = cc
 found_kept p q (y ∷ ys) x found kept = by_tests (p y) (q y) refl refl found (λ later. found_kept p q ys x later kept)
   where
-    by_tests : (a b : Bool) → p y ≡ a → q y ≡ b → cond a (Some y) (find p ys) ≡ Some x → (find p ys ≡ Some x → find p (filter q ys) ≡ Some x) → find p (cond b (y ∷ filter q ys) (filter q ys)) ≡ Some x
+    by_tests : (a b : Bool) → p y ≡ a → q y ≡ b → cond a (Some y) (find p ys) ≡ Some x
+        → (find p ys ≡ Some x → find p (filter q ys) ≡ Some x)
+        → find p (cond b (y ∷ filter q ys) (filter q ys)) ≡ Some x
     by_tests true true is here found later = rw is found
     by_tests true false is here found later = let same : y ≡ x = cc in let other = ap q same in cc
     by_tests false true is here found later = rw is (later found)
     by_tests false false is here found later = later found
 
 -- a new object is the first where no other passes
-pub found_new : (p : Object → Bool) (object : Object) (objects : List Object) → p object ≡ true → list_any p objects ≡ false → find p (with_object object objects) ≡ Some object
+pub found_new : (p : Object → Bool) (object : Object) (objects : List Object) → p object ≡ true
+    → list_any p objects ≡ false → find p (with_object object objects) ≡ Some object
 found_new p object [] passes none = rw passes refl
 found_new p object (o ∷ objects) passes none =
     let parts = or_false (p o) (list_any p objects) none in
     by_order (comes_before object o) parts.0 (found_new p object objects passes parts.1)
   where
-    by_order : (b : Bool) → p o ≡ false → find p (with_object object objects) ≡ Some object → find p (cond b (object ∷ o ∷ objects) (o ∷ with_object object objects)) ≡ Some object
+    by_order : (b : Bool) → p o ≡ false → find p (with_object object objects) ≡ Some object
+        → find p (cond b (object ∷ o ∷ objects) (o ∷ with_object object objects)) ≡ Some object
     by_order true other rest = rw passes refl
     by_order false other rest = rw other rest

@@ -1,5 +1,6 @@
 -- What rows that come and go leave of the law of debts.
-use Rattle.std.proofs.Common.{◌≡◌, ℕ, Bool, true, false, cond, not, eqb, Some, List, [], ◌∷◌, refl, ap, ◌∙◌, subst, arith, inl, inr, ⊎_elim, ◌⊎◌}
+use Rattle.std.proofs.Common.{◌≡◌, ℕ, Bool, true, false, cond, not, eqb, Some, List, [], ◌∷◌, refl, ap, ◌∙◌, subst}
+use Rattle.std.proofs.Common.{arith, inl, inr, ⊎_elim, ◌⊎◌}
 use Rattle.std.specs.List.{filter, list_any}
 use Rattle.std.proofs.lemmas.Bool.{eqb-true}
 use Rattle.std.proofs.lemmas.Bool.Decides.{nat_tests}
@@ -36,102 +37,140 @@ abbrev again : DeviceNo → List Attachment → Bool
 again device attachments = list_any (λ (a : Attachment). eqb a.device.0 device.0) attachments
 
 -- the first attachment of a device is its only one
-pub found_once : (attachments : List Attachment) (a : Attachment) → attach_once attachments ≡ true → IsIn attachments a → attachment_of attachments a.device ≡ Some a
+pub found_once : (attachments : List Attachment) (a : Attachment) → attach_once attachments ≡ true → IsIn attachments a
+    → attachment_of attachments a.device ≡ Some a
 found_once [] a once within = absurd within
 found_once (b ∷ attachments) a once within =
     let parts = and_true (not (again b.device attachments)) (attach_once attachments) once in
-    by_device (eqb b.device.0 a.device.0) refl within (not_true _ parts.0) (λ later. found_once attachments a parts.1 later)
+    by_device (eqb b.device.0 a.device.0) refl within (not_true _ parts.0)
+    (λ later. found_once attachments a parts.1 later)
   where
-    by_device : (t : Bool) → eqb b.device.0 a.device.0 ≡ t → (b ≡ a) ⊎ IsIn attachments a → again b.device attachments ≡ false → (IsIn attachments a → attachment_of attachments a.device ≡ Some a) → cond t (Some b) (attachment_of attachments a.device) ≡ Some a
+    by_device : (t : Bool) → eqb b.device.0 a.device.0 ≡ t → (b ≡ a) ⊎ IsIn attachments a
+        → again b.device attachments ≡ false → (IsIn attachments a → attachment_of attachments a.device ≡ Some a)
+        → cond t (Some b) (attachment_of attachments a.device) ≡ Some a
     by_device true is (inl same) other rest = rw same refl
-    by_device true is (inr later) other rest = let here = of_any (λ (c : Attachment). eqb c.device.0 b.device.0) attachments a later (eqb_flipped a.device.0 b.device.0 ∙ is) in cc
-    by_device false is (inl same) other rest = let here : eqb b.device.0 a.device.0 ≡ true = rw same (grind (arith, nat_tests)) in cc
+    by_device true is (inr later) other rest = let here =
+        of_any (λ (c : Attachment). eqb c.device.0 b.device.0) attachments a later (eqb_flipped a.device.0 b.device.0
+        ∙ is) in cc
+    by_device false is (inl same) other rest =
+        let here : eqb b.device.0 a.device.0 ≡ true = rw same (grind (arith, nat_tests)) in cc
     by_device false is (inr later) other rest = rest later
 
-again_filter : (q : Attachment → Bool) (device : DeviceNo) (attachments : List Attachment) → again device attachments ≡ false → again device (filter q attachments) ≡ false
+again_filter : (q : Attachment → Bool) (device : DeviceNo) (attachments : List Attachment)
+    → again device attachments ≡ false → again device (filter q attachments) ≡ false
 again_filter q device [] none = refl
 again_filter q device (a ∷ attachments) none =
     let parts = or_false (eqb a.device.0 device.0) (again device attachments) none in
     kept (q a) parts.0 (again_filter q device attachments parts.1)
   where
-    kept : (b : Bool) → eqb a.device.0 device.0 ≡ false → again device (filter q attachments) ≡ false → again device (cond b (a ∷ filter q attachments) (filter q attachments)) ≡ false
+    kept : (b : Bool) → eqb a.device.0 device.0 ≡ false → again device (filter q attachments) ≡ false
+        → again device (cond b (a ∷ filter q attachments) (filter q attachments)) ≡ false
     kept true here rest = rw here rest
     kept false here rest = rest
 
-pub once_filter : (q : Attachment → Bool) (attachments : List Attachment) → attach_once attachments ≡ true → attach_once (filter q attachments) ≡ true
+pub once_filter : (q : Attachment → Bool) (attachments : List Attachment) → attach_once attachments ≡ true
+    → attach_once (filter q attachments) ≡ true
 once_filter q [] once = refl
 once_filter q (a ∷ attachments) once =
     let parts = and_true (not (again a.device attachments)) (attach_once attachments) once in
     kept (q a) (again_filter q a.device attachments (not_true _ parts.0)) (once_filter q attachments parts.1)
   where
-    kept : (b : Bool) → again a.device (filter q attachments) ≡ false → attach_once (filter q attachments) ≡ true → attach_once (cond b (a ∷ filter q attachments) (filter q attachments)) ≡ true
+    kept : (b : Bool) → again a.device (filter q attachments) ≡ false → attach_once (filter q attachments) ≡ true
+        → attach_once (cond b (a ∷ filter q attachments) (filter q attachments)) ≡ true
     kept true here rest = rw (here, rest) refl
     kept false here rest = rest
 
-again_with : (attachment : Attachment) (attachments : List Attachment) (device : DeviceNo) → eqb attachment.device.0 device.0 ≡ false → again device attachments ≡ false → again device (with_attachment attachment attachments) ≡ false
+again_with : (attachment : Attachment) (attachments : List Attachment) (device : DeviceNo)
+    → eqb attachment.device.0 device.0 ≡ false → again device attachments ≡ false
+    → again device (with_attachment attachment attachments) ≡ false
 again_with attachment [] device differ none = rw differ refl
 again_with attachment (a ∷ attachments) device differ none =
     let parts = or_false (eqb a.device.0 device.0) (again device attachments) none in
     by_order _ parts.0 (again_with attachment attachments device differ parts.1)
   where
-    by_order : (b : Bool) → eqb a.device.0 device.0 ≡ false → again device (with_attachment attachment attachments) ≡ false → again device (cond b (attachment ∷ a ∷ attachments) (a ∷ with_attachment attachment attachments)) ≡ false
+    by_order : (b : Bool) → eqb a.device.0 device.0 ≡ false
+        → again device (with_attachment attachment attachments) ≡ false
+        → again device (cond b (attachment ∷ a ∷ attachments) (a ∷ with_attachment attachment attachments)) ≡ false
     by_order true here rest = rw differ none
     by_order false here rest = rw here rest
 
-pub once_with : (attachment : Attachment) (attachments : List Attachment) → again attachment.device attachments ≡ false → attach_once attachments ≡ true → attach_once (with_attachment attachment attachments) ≡ true
+pub once_with : (attachment : Attachment) (attachments : List Attachment) → again attachment.device attachments ≡ false
+    → attach_once attachments ≡ true → attach_once (with_attachment attachment attachments) ≡ true
 once_with attachment [] none once = refl
 once_with attachment (a ∷ attachments) none once =
     let nones = or_false (eqb a.device.0 attachment.device.0) (again attachment.device attachments) none in
     let parts = and_true (not (again a.device attachments)) (attach_once attachments) once in
-    let others = again_with attachment attachments a.device (eqb_flipped attachment.device.0 a.device.0 ∙ nones.0) (not_true _ parts.0) in
+    let others = again_with attachment attachments a.device (eqb_flipped attachment.device.0 a.device.0
+    ∙ nones.0) (not_true _ parts.0) in
     by_order _ others (once_with attachment attachments nones.1 parts.1)
   where
-    by_order : (b : Bool) → again a.device (with_attachment attachment attachments) ≡ false → attach_once (with_attachment attachment attachments) ≡ true → attach_once (cond b (attachment ∷ a ∷ attachments) (a ∷ with_attachment attachment attachments)) ≡ true
+    by_order : (b : Bool) → again a.device (with_attachment attachment attachments) ≡ false
+        → attach_once (with_attachment attachment attachments) ≡ true
+        → attach_once (cond b (attachment ∷ a ∷ attachments) (a ∷ with_attachment attachment attachments)) ≡ true
     by_order true here rest = rw (none, once) refl
     by_order false here rest = rw (here, rest) refl
 
-with_in : (attachment : Attachment) (attachments : List Attachment) (x : Attachment) → (attachment ≡ x) ⊎ IsIn attachments x → IsIn (with_attachment attachment attachments) x
+with_in : (attachment : Attachment) (attachments : List Attachment) (x : Attachment)
+    → (attachment ≡ x) ⊎ IsIn attachments x → IsIn (with_attachment attachment attachments) x
 with_in attachment [] x within = within
 with_in attachment (a ∷ attachments) x within = by_order _ within (λ w. with_in attachment attachments x w)
   where
-    by_order : (b : Bool) → (attachment ≡ x) ⊎ ((a ≡ x) ⊎ IsIn attachments x) → ((attachment ≡ x) ⊎ IsIn attachments x → IsIn (with_attachment attachment attachments) x) → IsIn (cond b (attachment ∷ a ∷ attachments) (a ∷ with_attachment attachment attachments)) x
+    by_order : (b : Bool) → (attachment ≡ x) ⊎ ((a ≡ x) ⊎ IsIn attachments x)
+        → ((attachment ≡ x) ⊎ IsIn attachments x → IsIn (with_attachment attachment attachments) x)
+        → IsIn (cond b (attachment ∷ a ∷ attachments) (a ∷ with_attachment attachment attachments)) x
     by_order true within rest = within
     by_order false (inl new) rest = inr (rest (inl new))
     by_order false (inr (inl same)) rest = inl same
     by_order false (inr (inr later)) rest = inr (rest (inr later))
 
 -- who is attached stays attached where one more is
-pub found_with : (attachment : Attachment) (attachments : List Attachment) (device : DeviceNo) (a : Attachment) → attach_once (with_attachment attachment attachments) ≡ true → attachment_of attachments device ≡ Some a → attachment_of (with_attachment attachment attachments) device ≡ Some a
+pub found_with : (attachment : Attachment) (attachments : List Attachment) (device : DeviceNo) (a : Attachment)
+    → attach_once (with_attachment attachment attachments) ≡ true → attachment_of attachments device ≡ Some a
+    → attachment_of (with_attachment attachment attachments) device ≡ Some a
 found_with attachment attachments device a once found =
     let parts = in_found (λ (a : Attachment). eqb a.device.0 device.0) attachments a found in
-    rw (← device_is a.device device parts.1) (found_once (with_attachment attachment attachments) a once (with_in attachment attachments a (inr parts.0)))
+    rw (← device_is a.device device parts.1)
+    (found_once (with_attachment attachment attachments) a once (with_in attachment attachments a (inr parts.0)))
 
 -- ---- debts that change
 
 -- what a payment leaves was owed before, by another device
-paid_before : (device : DeviceNo) (phase : Phase) (d : ℕ) → IsIn (debtors_of (paid device phase)) d → IsIn (debtors_of phase) d × (eqb d device.0 ≡ false)
+paid_before : (device : DeviceNo) (phase : Phase) (d : ℕ) → IsIn (debtors_of (paid device phase)) d
+    → IsIn (debtors_of phase) d × (eqb d device.0 ≡ false)
 paid_before device Live d within = absurd within
 paid_before device (Leaving owed tries) d within =
     let parts = in_filter (λ n. not (eqb n device.0)) owed d within in
     (parts.0, not_true _ parts.1)
 
 -- what holds of each area as the payment leaves it
-pub each_paid : (P : Area → Type 0) (device : DeviceNo) (areas : List Area) → ((area : Area) → IsIn areas area → P (with_phase (paid device area.phase) area)) → (area : Area) → IsIn (all_paid device areas) area → P area
+pub each_paid : (P : Area → Type 0) (device : DeviceNo) (areas : List Area)
+    → ((area : Area) → IsIn areas area → P (with_phase (paid device area.phase) area)) → (area : Area)
+    → IsIn (all_paid device areas) area → P area
 each_paid P device areas each area within =
     let (old, before, same) = in_map (λ (area : Area). with_phase (paid device area.phase) area) areas area within in
     subst P same (each old before)
 
 -- the debtors after a payment, by a step that keeps the other devices attached
-pub debtors_paid : (objects new : List Object) (attachments others : List Attachment) (device : DeviceNo) (areas : List Area) → EachOwed objects attachments areas → ((area : Area) (d : ℕ) → eqb d device.0 ≡ false → IsDebtor objects attachments area.file area.ioas d → IsDebtor new others area.file area.ioas d) → (area : Area) → IsIn (all_paid device areas) area → (d : ℕ) → IsIn (debtors_of area.phase) d → IsDebtor new others area.file area.ioas d
+pub debtors_paid : (objects new : List Object) (attachments others : List Attachment) (device : DeviceNo)
+    (areas : List Area) → EachOwed objects attachments areas
+    → ((area : Area) (d : ℕ) → eqb d device.0 ≡ false → IsDebtor objects attachments area.file area.ioas d
+    → IsDebtor new others area.file area.ioas d) → (area : Area) → IsIn (all_paid device areas) area → (d : ℕ)
+    → IsIn (debtors_of area.phase) d → IsDebtor new others area.file area.ioas d
 debtors_paid objects new attachments others device areas each stays =
-    each_paid (λ area. (d : ℕ) → IsIn (debtors_of area.phase) d → IsDebtor new others area.file area.ioas d) device areas
-    (λ area within d owes. let parts = paid_before device area.phase d owes in stays area d parts.1 (each.debtors area within d parts.0))
+    each_paid (λ area. (d : ℕ) → IsIn (debtors_of area.phase) d
+    → IsDebtor new others area.file area.ioas d) device areas
+    (λ area within d owes. let parts = paid_before device area.phase d owes in stays area d parts.1
+    (each.debtors area within d parts.0))
 
-pub spaces_paid : (objects : List Object) (device : DeviceNo) (areas : List Area) → ((area : Area) → IsIn areas area → IsSpace objects area.file area.ioas) → (area : Area) → IsIn (all_paid device areas) area → IsSpace objects area.file area.ioas
-spaces_paid objects device areas each = each_paid (λ area. IsSpace objects area.file area.ioas) device areas (λ area within. each area within)
+pub spaces_paid : (objects : List Object) (device : DeviceNo) (areas : List Area)
+    → ((area : Area) → IsIn areas area → IsSpace objects area.file area.ioas) → (area : Area)
+    → IsIn (all_paid device areas) area → IsSpace objects area.file area.ioas
+spaces_paid objects device areas each =
+    each_paid (λ area. IsSpace objects area.file area.ioas) device areas (λ area within. each area within)
 
 -- a flush
-pub owed_flush : (objects : List Object) (attachments : List Attachment) (areas : List Area) (device : DeviceNo) → EachOwed objects attachments areas → EachOwed objects attachments (all_paid device areas)
+pub owed_flush : (objects : List Object) (attachments : List Attachment) (areas : List Area) (device : DeviceNo)
+    → EachOwed objects attachments areas → EachOwed objects attachments (all_paid device areas)
 owed_flush objects attachments areas device each = record {
   once = each.once;
   debtors = debtors_paid objects objects attachments attachments device areas each (λ area d differ is. is);
@@ -144,10 +183,14 @@ owed_flush objects attachments areas device each = record {
 
 -- an object keeps its kind
 abbrev pub KindsStay : List Object → List Object → Type 0
-KindsStay old new = (file : FileNo) (id : ObjId) (k : ObjectKind) → kind_of old file id ≡ Some k → kind_of new file id ≡ Some k
+KindsStay old new =
+    (file : FileNo) (id : ObjId) (k : ObjectKind) → kind_of old file id ≡ Some k → kind_of new file id ≡ Some k
 
 -- whoever was attached is attached still, where attachments and objects stay
-pub debtor_stays : (old new : List Object) (attachments others : List Attachment) (file : FileNo) (ioas : ObjId) (device : ℕ) → KindsStay old new → ((a : Attachment) → attachment_of attachments (record { 0 = device }) ≡ Some a → attachment_of others (record { 0 = device }) ≡ Some a) → IsDebtor old attachments file ioas device → IsDebtor new others file ioas device
+pub debtor_stays : (old new : List Object) (attachments others : List Attachment) (file : FileNo) (ioas : ObjId)
+    (device : ℕ) → KindsStay old new → ((a : Attachment) → attachment_of attachments (record { 0 = device }) ≡ Some a
+    → attachment_of others (record { 0 = device }) ≡ Some a) → IsDebtor old attachments file ioas device
+    → IsDebtor new others file ioas device
 debtor_stays old new attachments others file ioas device stay found is = record {
   a = is.a;
   found = found is.a is.found;
@@ -158,22 +201,34 @@ debtor_stays old new attachments others file ioas device stay found is = record 
 }
 
 pub table_stays : (old new : List Object) (a : Attachment) → KindsStay old new → HasTable old a → HasTable new a
-table_stays old new a stay is = record { ioas = is.ioas; width = is.width; automatic = is.automatic; table = stay a.file a.hwpt _ is.table }
+table_stays old new a stay is =
+    record { ioas = is.ioas; width = is.width; automatic = is.automatic; table = stay a.file a.hwpt _ is.table }
 
 -- one more object, which if it is a page table is over an address space of its file
-pub spaces_with : (objects : List Object) (object : Object) → list_any (is_object object.file object.id) objects ≡ false → ((ioas : ObjId) → ioas_of object.kind ≡ Some ioas → IsSpace objects object.file ioas) → ((o : Object) → IsIn objects o → (ioas : ObjId) → ioas_of o.kind ≡ Some ioas → IsSpace objects o.file ioas) → (o : Object) → IsIn (with_object object objects) o → (ioas : ObjId) → ioas_of o.kind ≡ Some ioas → IsSpace (with_object object objects) o.file ioas
+pub spaces_with : (objects : List Object) (object : Object) → list_any (is_object object.file object.id) objects ≡ false
+    → ((ioas : ObjId) → ioas_of object.kind ≡ Some ioas → IsSpace objects object.file ioas)
+    → ((o : Object) → IsIn objects o → (ioas : ObjId) → ioas_of o.kind ≡ Some ioas → IsSpace objects o.file ioas)
+    → (o : Object) → IsIn (with_object object objects) o → (ioas : ObjId) → ioas_of o.kind ≡ Some ioas
+    → IsSpace (with_object object objects) o.file ioas
 spaces_with objects object free new each o within ioas over =
     ⊎_elim
-    (λ (same : object ≡ o). subst (λ (o : Object). ioas_of o.kind ≡ Some ioas → IsSpace (with_object object objects) o.file ioas) same (λ is. kind_before object objects object.file ioas kind.Ioas free (new ioas is)) over)
+    (λ (same : object ≡ o). subst (λ (o : Object). ioas_of o.kind ≡ Some ioas
+    → IsSpace (with_object object objects) o.file ioas) same (λ is. kind_before object objects object.file
+    ioas kind.Ioas free (new ioas is)) over)
     (λ (before : IsIn objects o). kind_before object objects o.file ioas kind.Ioas free (each o before ioas over))
     (in_with_object object objects o within)
 
-pub owed_object : (objects : List Object) (attachments : List Attachment) (areas : List Area) (object : Object) → list_any (is_object object.file object.id) objects ≡ false → ((ioas : ObjId) → ioas_of object.kind ≡ Some ioas → IsSpace objects object.file ioas) → EachOwed objects attachments areas → EachOwed (with_object object objects) attachments areas
+pub owed_object : (objects : List Object) (attachments : List Attachment) (areas : List Area) (object : Object)
+    → list_any (is_object object.file object.id) objects ≡ false
+    → ((ioas : ObjId) → ioas_of object.kind ≡ Some ioas → IsSpace objects object.file ioas)
+    → EachOwed objects attachments areas → EachOwed (with_object object objects) attachments areas
 owed_object objects attachments areas object free new each =
-    let stay : KindsStay objects (with_object object objects) = λ file id k is. kind_before object objects file id k free is in
+    let stay : KindsStay objects (with_object object objects) =
+    λ file id k is. kind_before object objects file id k free is in
     record {
       once = each.once;
-      debtors = λ area within device owes. debtor_stays objects (with_object object objects) attachments attachments area.file area.ioas device stay (λ a found. found) (each.debtors area within device owes);
+      debtors = λ area within device owes. debtor_stays objects (with_object object objects) attachments attachments
+          area.file area.ioas device stay (λ a found. found) (each.debtors area within device owes);
       tables = λ a within. table_stays objects (with_object object objects) a stay (each.tables a within);
       spaces = spaces_with objects object free new each.spaces;
       in_spaces = λ area within. stay area.file area.ioas kind.Ioas (each.in_spaces area within);
@@ -182,11 +237,15 @@ owed_object objects attachments areas object free new each =
 -- ---- areas that come, go and leave
 
 -- a live area of an address space that the file has
-pub owed_area : (objects : List Object) (attachments : List Attachment) (areas : List Area) (area : Area) → debtors_of area.phase ≡ [] → IsSpace objects area.file area.ioas → EachOwed objects attachments areas → EachOwed objects attachments (with_area area areas)
+pub owed_area : (objects : List Object) (attachments : List Attachment) (areas : List Area) (area : Area)
+    → debtors_of area.phase ≡ [] → IsSpace objects area.file area.ioas → EachOwed objects attachments areas
+    → EachOwed objects attachments (with_area area areas)
 owed_area objects attachments areas area none space each = record {
   once = each.once;
   debtors = λ x within. ⊎_elim
-      (λ (same : area ≡ x). subst (λ (x : Area). (device : ℕ) → IsIn (debtors_of x.phase) device → IsDebtor objects attachments x.file x.ioas device) same (λ device owes. absurd (subst (λ ds. IsIn ds device) none owes)))
+      (λ (same : area ≡ x). subst (λ (x : Area). (device : ℕ) → IsIn (debtors_of x.phase) device
+      → IsDebtor objects attachments x.file x.ioas device) same (λ device owes. absurd
+      (subst (λ ds. IsIn ds device) none owes)))
       (λ (before : IsIn areas x). each.debtors x before)
       (in_with_area area areas x within);
   tables = each.tables;
@@ -197,7 +256,8 @@ owed_area objects attachments areas area none space each = record {
       (in_with_area area areas x within);
 }
 
-pub owed_fewer : (objects : List Object) (attachments : List Attachment) (areas : List Area) (q : Area → Bool) → EachOwed objects attachments areas → EachOwed objects attachments (filter q areas)
+pub owed_fewer : (objects : List Object) (attachments : List Attachment) (areas : List Area) (q : Area → Bool)
+    → EachOwed objects attachments areas → EachOwed objects attachments (filter q areas)
 owed_fewer objects attachments areas q each = record {
   once = each.once;
   debtors = λ area within. each.debtors area (in_filter q areas area within).0;
@@ -207,31 +267,45 @@ owed_fewer objects attachments areas q each = record {
 }
 
 -- the devices attached to an address space are its debtors
-devices_debtors : (objects : List Object) (attachments : List Attachment) (file : FileNo) (ioas : ObjId) (device : ℕ) → attach_once attachments ≡ true → IsIn (devices_of objects attachments file ioas) device → IsDebtor objects attachments file ioas device
+devices_debtors : (objects : List Object) (attachments : List Attachment) (file : FileNo) (ioas : ObjId) (device : ℕ)
+    → attach_once attachments ≡ true → IsIn (devices_of objects attachments file ioas) device
+    → IsDebtor objects attachments file ioas device
 devices_debtors objects attachments file ioas device once within =
-    let (a, kept, same) = in_map (λ (a : Attachment). a.device.0) (filter (is_attached_to objects file ioas) attachments) device within in
+    let (a, kept, same) =
+    in_map (λ (a : Attachment). a.device.0) (filter (is_attached_to objects file ioas) attachments) device within in
     let (before, to) = in_filter (is_attached_to objects file ioas) attachments a kept in
-    subst (IsDebtor objects attachments file ioas) same (debtor_of objects attachments file ioas a.device.0 a (found_once attachments a once before) to)
+    subst (IsDebtor objects attachments file ioas) same
+    (debtor_of objects attachments file ioas a.device.0 a (found_once attachments a once before) to)
 
 -- an area after an UNMAP that is pending
 abbrev unmapped : List ℕ → FileNo → UnmapRequest → Area → Area
-unmapped devices file request area = with_phase (cond (is_touched file request area) (leaving devices area.phase) area.phase) area
+unmapped devices file request area =
+    with_phase (cond (is_touched file request area) (leaving devices area.phase) area.phase) area
 
 -- the areas that an UNMAP touches are leaving, and owed by those attached
-pub owed_leaving : (objects : List Object) (attachments : List Attachment) (areas : List Area) (file : FileNo) (request : UnmapRequest) → EachOwed objects attachments areas → EachOwed objects attachments (with_leaving areas (devices_of objects attachments file request.ioas) file request)
+pub owed_leaving : (objects : List Object) (attachments : List Attachment) (areas : List Area) (file : FileNo)
+    (request : UnmapRequest) → EachOwed objects attachments areas
+    → EachOwed objects attachments (with_leaving areas (devices_of objects attachments file request.ioas) file request)
 owed_leaving objects attachments areas file request each = record {
   once = each.once;
   debtors = λ area within.
-      let (old, before, same) = in_map (unmapped (devices_of objects attachments file request.ioas) file request) areas area within in
-      subst (λ (area : Area). (device : ℕ) → IsIn (debtors_of area.phase) device → IsDebtor objects attachments area.file area.ioas device) same (λ device. by_phase old device (is_touched file request old) refl old.phase (each.debtors old before device));
+      let (old, before, same) =
+      in_map (unmapped (devices_of objects attachments file request.ioas) file request) areas area within in
+      subst (λ (area : Area). (device : ℕ) → IsIn (debtors_of area.phase) device
+      → IsDebtor objects attachments area.file area.ioas device) same (λ device. by_phase old device
+      (is_touched file request old) refl old.phase (each.debtors old before device));
   tables = each.tables;
   spaces = each.spaces;
   in_spaces = λ area within.
-      let (old, before, same) = in_map (unmapped (devices_of objects attachments file request.ioas) file request) areas area within in
+      let (old, before, same) =
+      in_map (unmapped (devices_of objects attachments file request.ioas) file request) areas area within in
       subst (λ (area : Area). IsSpace objects area.file area.ioas) same (each.in_spaces old before);
 }
   where
-    by_phase : (area : Area) (device : ℕ) (touched : Bool) → is_touched file request area ≡ touched → (phase : Phase) → (IsIn (debtors_of phase) device → IsDebtor objects attachments area.file area.ioas device) → IsIn (debtors_of (cond touched (leaving (devices_of objects attachments file request.ioas) phase) phase)) device → IsDebtor objects attachments area.file area.ioas device
+    by_phase : (area : Area) (device : ℕ) (touched : Bool) → is_touched file request area ≡ touched → (phase : Phase)
+        → (IsIn (debtors_of phase) device → IsDebtor objects attachments area.file area.ioas device)
+        → IsIn (debtors_of (cond touched (leaving (devices_of objects attachments file request.ioas) phase) phase))
+        device → IsDebtor objects attachments area.file area.ioas device
     by_phase area device false is phase before owes = before owes
     by_phase area device true is (Leaving owed tries) before owes = before owes
     by_phase area device true is Live before owes =

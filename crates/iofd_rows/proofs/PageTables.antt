@@ -2,7 +2,8 @@
 use Rattle.std.proofs.Common.{◌≡◌, Bool, true, false, cond, ◌&&◌, ◌||◌, not, eqb, List, [], ◌∷◌, refl, ap, sym, ◌∙◌}
 use Rattle.std.specs.List.{filter, list_all, list_any}
 use Rattle.std.proofs.lemmas.Bool.{eqb-true}
-use Rattle.iofd_words.specs.Objects.{comes_before, has_hwpt, is_bound_device, is_hwpt_over, is_object, with_object, without_device_object}
+use Rattle.iofd_words.specs.Objects.{comes_before, has_hwpt, is_bound_device, is_hwpt_over, is_object, with_object}
+use Rattle.iofd_words.specs.Objects.{without_device_object}
 use Rattle.iofd_words.specs.Pins.{is_page, area_pages}
 use Rattle.iofd_words.specs.declared.numbers.FileNo.{FileNo}
 use Rattle.iofd_words.specs.declared.numbers.ObjId.{ObjId}
@@ -14,20 +15,26 @@ use Rattle.iofd_rows.proofs.Bools.{and_true, both_true, swapped}
 use Rattle.iofd_rows.proofs.ListTests.{alike, any-filter, any_weaker}
 use Rattle.iofd_rows.proofs.PageLists.{all_pages, any-pinned, pins_page, pages_by_area}
 
-any-with_object : (p : Object → Bool) (x : Object) (objects : List Object) → list_any p (with_object x objects) ≡ (p x || list_any p objects)
+any-with_object : (p : Object → Bool) (x : Object) (objects : List Object)
+    → list_any p (with_object x objects) ≡ (p x || list_any p objects)
 any-with_object p x [] = refl
 any-with_object p x (o ∷ objects) = by_order (comes_before x o) (any-with_object p x objects)
   where
-    by_order : (b : Bool) → list_any p (with_object x objects) ≡ (p x || list_any p objects) → list_any p (cond b (x ∷ o ∷ objects) (o ∷ with_object x objects)) ≡ (p x || list_any p (o ∷ objects))
+    by_order : (b : Bool) → list_any p (with_object x objects) ≡ (p x || list_any p objects)
+        → list_any p (cond b (x ∷ o ∷ objects) (o ∷ with_object x objects)) ≡ (p x || list_any p (o ∷ objects))
     by_order true rest = refl
     by_order false rest = rw rest (swapped (p x) (p o) (list_any p objects))
 
 -- one more object
-pub hwpt-with_object : (x : Object) (objects : List Object) (file : FileNo) (ioas : ObjId) → has_hwpt (with_object x objects) file ioas ≡ ((eqb x.file.0 file.0 && is_hwpt_over ioas x.kind) || has_hwpt objects file ioas)
-hwpt-with_object x objects file ioas = any-with_object (λ (o : Object). eqb o.file.0 file.0 && is_hwpt_over ioas o.kind) x objects
+pub hwpt-with_object : (x : Object) (objects : List Object) (file : FileNo) (ioas : ObjId)
+    → has_hwpt (with_object x objects) file ioas ≡ ((eqb x.file.0 file.0 && is_hwpt_over ioas x.kind)
+    || has_hwpt objects file ioas)
+hwpt-with_object x objects file ioas =
+    any-with_object (λ (o : Object). eqb o.file.0 file.0 && is_hwpt_over ioas o.kind) x objects
 
 -- one that is no page table
-pub same_hwpt : (x : Object) (objects : List Object) (file : FileNo) (ioas : ObjId) → is_hwpt_over ioas x.kind ≡ false → has_hwpt (with_object x objects) file ioas ≡ has_hwpt objects file ioas
+pub same_hwpt : (x : Object) (objects : List Object) (file : FileNo) (ioas : ObjId) → is_hwpt_over ioas x.kind ≡ false
+    → has_hwpt (with_object x objects) file ioas ≡ has_hwpt objects file ioas
 same_hwpt x objects file ioas none = hwpt-with_object x objects file ioas ∙ rw none (by_file (eqb x.file.0 file.0))
   where
     by_file : (b : Bool) → ((b && false) || has_hwpt objects file ioas) ≡ has_hwpt objects file ioas
@@ -35,16 +42,23 @@ same_hwpt x objects file ioas none = hwpt-with_object x objects file ioas ∙ rw
     by_file false = refl
 
 -- fewer objects
-pub hwpt-filter : (q : Object → Bool) (objects : List Object) (file : FileNo) (ioas : ObjId) → has_hwpt (filter q objects) file ioas ≡ true → has_hwpt objects file ioas ≡ true
+pub hwpt-filter : (q : Object → Bool) (objects : List Object) (file : FileNo) (ioas : ObjId)
+    → has_hwpt (filter q objects) file ioas ≡ true → has_hwpt objects file ioas ≡ true
 hwpt-filter q objects file ioas has =
-    any_weaker (λ o. q o && (eqb o.file.0 file.0 && is_hwpt_over ioas o.kind)) (λ (o : Object). eqb o.file.0 file.0 && is_hwpt_over ioas o.kind) objects (λ o both. (and_true (q o) (eqb o.file.0 file.0 && is_hwpt_over ioas o.kind) both).1)
+    any_weaker (λ o. q o && (eqb o.file.0 file.0 && is_hwpt_over ioas o.kind)) (λ (o : Object). eqb o.file.0 file.0
+    && is_hwpt_over ioas o.kind) objects (λ o both.
+    (and_true (q o) (eqb o.file.0 file.0 && is_hwpt_over ioas o.kind) both).1)
     (sym (any-filter (λ (o : Object). eqb o.file.0 file.0 && is_hwpt_over ioas o.kind) q objects) ∙ has)
 
 -- without a device's object
-pub hwpt-unbound : (objects : List Object) (device_file : FileNo) (id : ObjId) (file : FileNo) (ioas : ObjId) → has_hwpt (without_device_object device_file id objects) file ioas ≡ has_hwpt objects file ioas
+pub hwpt-unbound : (objects : List Object) (device_file : FileNo) (id : ObjId) (file : FileNo) (ioas : ObjId)
+    → has_hwpt (without_device_object device_file id objects) file ioas ≡ has_hwpt objects file ioas
 hwpt-unbound objects device_file id file ioas =
     alike _ _ (hwpt-filter stays objects file ioas)
-    (λ has. any-filter is_table stays objects ∙ any_weaker is_table (λ o. stays o && is_table o) objects (λ o table. both_true _ _ (no_device o.kind (is_object device_file id o) (and_true (eqb o.file.0 file.0) (is_hwpt_over ioas o.kind) table).1) table) has)
+    (λ has. any-filter is_table stays objects
+    ∙ any_weaker is_table (λ o. stays o && is_table o) objects
+    (λ o table. both_true _ _ (no_device o.kind (is_object device_file id o)
+    (and_true (eqb o.file.0 file.0) (is_hwpt_over ioas o.kind) table).1) table) has)
   where
     stays : Object → Bool
     stays o = not (is_object device_file id o && is_bound_device o.kind)
@@ -59,21 +73,32 @@ hwpt-unbound objects device_file id file ioas =
     no_device (kind.Device device) true table = cc
 
 -- the same address spaces, by the numbers that name them
-pub hwpt_alike : (objects : List Object) (file own : FileNo) (ioas over : ObjId) → eqb file.0 own.0 ≡ true → eqb ioas.0 over.0 ≡ true → has_hwpt objects own over ≡ has_hwpt objects file ioas
+pub hwpt_alike : (objects : List Object) (file own : FileNo) (ioas over : ObjId) → eqb file.0 own.0 ≡ true
+    → eqb ioas.0 over.0 ≡ true → has_hwpt objects own over ≡ has_hwpt objects file ioas
 hwpt_alike objects file own ioas over file_is ioas_is =
     let files : file.0 ≡ own.0 = eqb-true file.0 own.0 file_is in
     let spaces : ioas.0 ≡ over.0 = eqb-true ioas.0 over.0 ioas_is in
-    let same_file : record { 0 = own.0 } ≡ record { 0 = file.0 } = ap (λ n. let f : FileNo = record { 0 = n } in f) (sym files) in
-    let same_space : record { 0 = over.0 } ≡ record { 0 = ioas.0 } = ap (λ n. let i : ObjId = record { 0 = n } in i) (sym spaces) in
+    let same_file : record { 0 = own.0 } ≡ record { 0 = file.0 } =
+    ap (λ n. let f : FileNo = record { 0 = n } in f) (sym files) in
+    let same_space : record { 0 = over.0 } ≡ record { 0 = ioas.0 } =
+    ap (λ n. let i : ObjId = record { 0 = n } in i) (sym spaces) in
     ap (λ f. has_hwpt objects f over) same_file ∙ ap (has_hwpt objects file) same_space
 
 -- the same page tables pin the same pages
-pub pinned_alike : (objects left : List Object) (areas : List Area) → ((file : FileNo) (ioas : ObjId) → has_hwpt left file ioas ≡ has_hwpt objects file ioas) → pages_by_area left areas ≡ pages_by_area objects areas
+pub pinned_alike : (objects left : List Object) (areas : List Area)
+    → ((file : FileNo) (ioas : ObjId) → has_hwpt left file ioas ≡ has_hwpt objects file ioas)
+    → pages_by_area left areas ≡ pages_by_area objects areas
 pinned_alike objects left [] same = refl
 pinned_alike objects left (a ∷ areas) same = rw (same a.file a.ioas, pinned_alike objects left areas same) refl
 
 -- fewer page tables pin fewer pages
-pub pinned_within : (objects left : List Object) (areas : List Area) → ((file : FileNo) (ioas : ObjId) → has_hwpt left file ioas ≡ true → has_hwpt objects file ioas ≡ true) → list_all (λ page. list_any (is_page page) (pages_by_area objects areas)) (pages_by_area left areas) ≡ true
+pub pinned_within : (objects left : List Object) (areas : List Area)
+    → ((file : FileNo) (ioas : ObjId) → has_hwpt left file ioas ≡ true → has_hwpt objects file ioas ≡ true)
+    → list_all (λ page. list_any (is_page page) (pages_by_area objects areas)) (pages_by_area left areas) ≡ true
 pinned_within objects left areas fewer =
     all_pages (λ page. list_any (is_page page) (pages_by_area objects areas)) (pages_by_area left areas)
-    (λ page within. any-pinned objects areas page ∙ any_weaker (pins_page left page) (pins_page objects page) areas (λ a pins. let parts = and_true (has_hwpt left a.file a.ioas) (list_any (is_page page) (area_pages a)) pins in both_true _ _ (fewer a.file a.ioas parts.0) parts.1) (sym (any-pinned left areas page) ∙ within))
+    (λ page within. any-pinned objects areas page
+    ∙ any_weaker (pins_page left page) (pins_page objects page) areas
+    (λ a pins. let parts = and_true (has_hwpt left a.file a.ioas) (list_any (is_page page) (area_pages a))
+    pins in both_true _ _ (fewer a.file a.ioas parts.0) parts.1) (sym (any-pinned left areas page)
+    ∙ within))

@@ -1,6 +1,7 @@
--- Which spans can't be used, as objects and attachments come and go: a span that can be used still can, where no page table and no
--- attachment came that reaches it.
-use Rattle.std.proofs.Common.{◌≡◌, Bool, true, false, ◌&&◌, ◌||◌, eqb, Option, Some, None, List, [], ◌∷◌, refl, ap, sym, ◌∙◌, inl, inr}
+-- Which spans can't be used, as objects and attachments come and go: a span that can be used still can, where no page
+-- table and no attachment came that reaches it.
+use Rattle.std.proofs.Common.{◌≡◌, Bool, true, false, ◌&&◌, ◌||◌, eqb, Option, Some, None, List, [], ◌∷◌, refl, ap, sym}
+use Rattle.std.proofs.Common.{◌∙◌, inl, inr}
 use Rattle.std.specs.List.{filter, flat_map, list_any}
 use Rattle.std.proofs.lemmas.List.Folds.{list_any-append}
 use Rattle.iofd_words.specs.Attachments.{is_attached_to}
@@ -25,25 +26,35 @@ use Rattle.iofd_rows.proofs.Named.{kind_only, object_of_kind, some_passes}
 
 -- ---- by one row
 
-pub any-flat_map : {X Y : Type 0} (p : Y → Bool) (f : X → List Y) (xs : List X) → list_any p (flat_map f xs) ≡ list_any (λ x. list_any p (f x)) xs
+pub any-flat_map : {X Y : Type 0} (p : Y → Bool) (f : X → List Y) (xs : List X)
+    → list_any p (flat_map f xs) ≡ list_any (λ x. list_any p (f x)) xs
 any-flat_map p f [] = refl
-any-flat_map p f (x ∷ xs) = list_any-append p (f x) (flat_map f xs) ∙ ap (λ b. list_any p (f x) || b) (any-flat_map p f xs)
+any-flat_map p f (x ∷ xs) =
+    list_any-append p (f x) (flat_map f xs) ∙ ap (λ b. list_any p (f x) || b) (any-flat_map p f xs)
 
-pub by_rows : (settings : Settings) (objects : List Object) (attachments : List Attachment) (file : FileNo) (ioas : ObjId) (span : Bounds)
-    → meets_some (unusable settings objects attachments file ioas) span ≡ (list_any (ends_in file ioas span) objects || list_any (keeps_of settings objects file ioas span) attachments)
+pub by_rows : (settings : Settings) (objects : List Object) (attachments : List Attachment) (file : FileNo)
+    (ioas : ObjId) (span : Bounds)
+    → meets_some (unusable settings objects attachments file ioas) span ≡ (list_any (ends_in file ioas span) objects
+    || list_any (keeps_of settings objects file ioas span) attachments)
 by_rows settings objects attachments file ioas span =
-    list_any-append (λ (one : Bounds). meets one span) (beyond_tables objects file ioas) (reserved_in settings objects attachments file ioas)
+    list_any-append (λ (one : Bounds). meets one span) (beyond_tables objects file ioas)
+    (reserved_in settings objects attachments file ioas)
     ∙ rw (tables, devices) refl
   where
     tables : meets_some (beyond_tables objects file ioas) span ≡ list_any (ends_in file ioas span) objects
     tables =
-        any-flat_map (λ (one : Bounds). meets one span) (λ (object : Object). beyond_table object.kind) (filter (λ (object : Object). eqb object.file.0 file.0 && is_hwpt_over ioas object.kind) objects)
-        ∙ any-filter (λ (object : Object). meets_some (beyond_table object.kind) span) (λ (object : Object). eqb object.file.0 file.0 && is_hwpt_over ioas object.kind) objects
+        any-flat_map (λ (one : Bounds). meets one span) (λ (object : Object). beyond_table object.kind)
+        (filter (λ (object : Object). eqb object.file.0 file.0 && is_hwpt_over ioas object.kind) objects)
+        ∙ any-filter (λ (object : Object). meets_some (beyond_table object.kind) span)
+        (λ (object : Object). eqb object.file.0 file.0 && is_hwpt_over ioas object.kind) objects
 
-    devices : meets_some (reserved_in settings objects attachments file ioas) span ≡ list_any (keeps_of settings objects file ioas span) attachments
+    devices : meets_some (reserved_in settings objects attachments file ioas) span ≡ list_any
+        (keeps_of settings objects file ioas span) attachments
     devices =
-        any-flat_map (λ (one : Bounds). meets one span) (λ (a : Attachment). reserved_of (device_of settings a.device)) (filter (is_attached_to objects file ioas) attachments)
-        ∙ any-filter (λ (a : Attachment). meets_some (reserved_of (device_of settings a.device)) span) (is_attached_to objects file ioas) attachments
+        any-flat_map (λ (one : Bounds). meets one span) (λ (a : Attachment). reserved_of (device_of settings a.device))
+        (filter (is_attached_to objects file ioas) attachments)
+        ∙ any-filter (λ (a : Attachment). meets_some (reserved_of (device_of settings a.device)) span)
+        (is_attached_to objects file ioas) attachments
 
 -- ---- tests that fail
 
@@ -59,38 +70,59 @@ none_of p (x ∷ xs) each = both_false _ _ (each x (inl refl)) (none_of p xs (λ
 -- ---- rows come and go
 
 -- what was usable stays so, where each page table and each attachment that reaches the span was there before
-pub usable_still : (settings : Settings) (objects left : List Object) (attachments others : List Attachment) (file : FileNo) (ioas : ObjId) (span : Bounds)
+pub usable_still : (settings : Settings) (objects left : List Object) (attachments others : List Attachment)
+    (file : FileNo) (ioas : ObjId) (span : Bounds)
     → ((object : Object) → IsIn left object → ends_in file ioas span object ≡ true → IsIn objects object)
-    → ((a : Attachment) → IsIn others a → keeps_of settings left file ioas span a ≡ true → IsIn attachments a × (is_attached_to objects file ioas a ≡ true))
-    → meets_some (unusable settings objects attachments file ioas) span ≡ false → meets_some (unusable settings left others file ioas) span ≡ false
+    → ((a : Attachment) → IsIn others a → keeps_of settings left file ioas span a ≡ true
+    → IsIn attachments a × (is_attached_to objects file ioas a ≡ true))
+    → meets_some (unusable settings objects attachments file ioas) span ≡ false
+    → meets_some (unusable settings left others file ioas) span ≡ false
 usable_still settings objects left attachments others file ioas span of_object of_attachment clear =
-    let before = or_false (list_any (ends_in file ioas span) objects) (list_any (keeps_of settings objects file ioas span) attachments) (sym (by_rows settings objects attachments file ioas span) ∙ clear) in
+    let before = or_false (list_any (ends_in file ioas span) objects)
+    (list_any (keeps_of settings objects file ioas span) attachments)
+    (sym (by_rows settings objects attachments file ioas span) ∙ clear) in
     by_rows settings left others file ioas span
     ∙ both_false _ _
-    (none_of (ends_in file ioas span) left (λ object within. false_else _ (λ ends. clash _ (each_not (ends_in file ioas span) objects object before.0 (of_object object within ends)) ends)))
+    (none_of (ends_in file ioas span) left (λ object within. false_else _
+    (λ ends. clash _ (each_not (ends_in file ioas span) objects object before.0
+    (of_object object within ends)) ends)))
     (none_of (keeps_of settings left file ioas span) others (λ a within. false_else _ (λ keeps.
     let was = of_attachment a within keeps in
-    let parts = and_true (is_attached_to left file ioas a) (meets_some (reserved_of (device_of settings a.device)) span) keeps in
-    clash _ (each_not (keeps_of settings objects file ioas span) attachments a before.1 was.0) (both_true _ _ was.1 parts.1))))
+    let parts = and_true (is_attached_to left file ioas a)
+    (meets_some (reserved_of (device_of settings a.device)) span) keeps in
+    clash _ (each_not (keeps_of settings objects file ioas span) attachments a before.1 was.0)
+    (both_true _ _ was.1 parts.1))))
 
 -- an attachment to what is left was one before
-pub attached_of : (file : FileNo) (ioas : ObjId) (a : Attachment) (o k : Option ObjectKind) → o ≡ k → (eqb a.file.0 file.0 && elim o [ Some kind ↦ is_hwpt_over ioas kind | None ↦ false ]) ≡ true → (eqb a.file.0 file.0 && elim k [ Some kind ↦ is_hwpt_over ioas kind | None ↦ false ]) ≡ true
+pub attached_of : (file : FileNo) (ioas : ObjId) (a : Attachment) (o k : Option ObjectKind) → o ≡ k
+    → (eqb a.file.0 file.0 && elim o [ Some kind ↦ is_hwpt_over ioas kind | None ↦ false ]) ≡ true
+    → (eqb a.file.0 file.0 && elim k [ Some kind ↦ is_hwpt_over ioas kind | None ↦ false ]) ≡ true
 attached_of file ioas a o k same is = rw same at is
 
-pub attached_left : (q : Object → Bool) (objects : List Object) (file : FileNo) (ioas : ObjId) (a : Attachment) → have_own_ids objects ≡ true → is_attached_to (filter q objects) file ioas a ≡ true → is_attached_to objects file ioas a ≡ true
+pub attached_left : (q : Object → Bool) (objects : List Object) (file : FileNo) (ioas : ObjId) (a : Attachment)
+    → have_own_ids objects ≡ true → is_attached_to (filter q objects) file ioas a ≡ true
+    → is_attached_to objects file ioas a ≡ true
 attached_left q objects file ioas a own is =
     let parts = and_true (eqb a.file.0 file.0) _ is in
     let (k, found, over) = some_passes (is_hwpt_over ioas) (kind_of (filter q objects) a.file a.hwpt) parts.1 in
     let (object, first, within, of_file, of_id, of_kind) = object_of_kind (filter q objects) a.file a.hwpt k found in
     let was = kind_only objects object own (in_filter q objects object within).0 in
     let here : kind_of objects a.file a.hwpt ≡ Some k = rw (of_file, of_id, of_kind) at was in
-    attached_of file ioas a (kind_of (filter q objects) a.file a.hwpt) (kind_of objects a.file a.hwpt) (found ∙ sym here) is
+    attached_of file ioas a (kind_of (filter q objects) a.file a.hwpt) (kind_of objects a.file a.hwpt) (found
+    ∙ sym here) is
 
 -- where objects and attachments go, and nothing comes
-pub usable_left : (settings : Settings) (objects : List Object) (attachments others : List Attachment) (q : Object → Bool) (file : FileNo) (ioas : ObjId) (span : Bounds) → have_own_ids objects ≡ true → ((a : Attachment) → IsIn others a → IsIn attachments a)
-    → meets_some (unusable settings objects attachments file ioas) span ≡ false → meets_some (unusable settings (filter q objects) others file ioas) span ≡ false
+pub usable_left : (settings : Settings) (objects : List Object) (attachments others : List Attachment) (q : Object
+    → Bool) (file : FileNo) (ioas : ObjId) (span : Bounds) → have_own_ids objects ≡ true → ((a : Attachment)
+    → IsIn others a → IsIn attachments a)
+    → meets_some (unusable settings objects attachments file ioas) span ≡ false
+    → meets_some (unusable settings (filter q objects) others file ioas) span ≡ false
 usable_left settings objects attachments others q file ioas span own fewer clear =
     usable_still settings objects (filter q objects) attachments others file ioas span
     (λ object within ends. (in_filter q objects object within).0)
-    (λ a within keeps. (fewer a within, attached_left q objects file ioas a own (and_true (is_attached_to (filter q objects) file ioas a) _ keeps).0))
+    (λ a within keeps. (
+      fewer a within,
+      attached_left q objects file ioas a own
+          (and_true (is_attached_to (filter q objects) file ioas a) _ keeps).0,
+    ))
     clear

@@ -21,7 +21,8 @@ debtors_of (Leaving owed tries) = owed
 -- the device of this number is attached, and to this address space
 abbrev pub is_attached : List Object → List Attachment → FileNo → ObjId → ℕ → Bool
 is_attached objects attachments file ioas device =
-    elim (attachment_of attachments (record { 0 = device })) [ Some a ↦ is_attached_to objects file ioas a | None ↦ false ]
+    elim (attachment_of attachments (record { 0 = device }))
+    [ Some a ↦ is_attached_to objects file ioas a | None ↦ false ]
 
 -- the attachment is by a page table over an address space, both of the attachment's file
 abbrev pub is_by_table : List Object → Attachment → Bool
@@ -29,7 +30,8 @@ is_by_table objects a = elim (ioas_of_attachment objects a) [ Some ioas ↦ has_
 
 -- the object is over an address space of its file, if it is a page table
 abbrev pub is_over_space : List Object → Object → Bool
-is_over_space objects object = elim (ioas_of object.kind) [ Some ioas ↦ has_ioas objects object.file ioas | None ↦ true ]
+is_over_space objects object =
+    elim (ioas_of object.kind) [ Some ioas ↦ has_ioas objects object.file ioas | None ↦ true ]
 
 -- ---- all rows
 
@@ -42,7 +44,8 @@ pub record DebtsAttached (w : World) : Type 0 where
   -- each device is attached at most once
   pub once : attach_once w.attachments ≡ true
   -- each device that owes an area a flush is attached to that area's address space
-  pub debtors : list_all (λ area. list_all (is_attached w.objects w.attachments area.file area.ioas) (debtors_of area.phase)) w.areas ≡ true
+  pub debtors : list_all (λ area. list_all (is_attached w.objects w.attachments area.file area.ioas)
+      (debtors_of area.phase)) w.areas ≡ true
   -- each attachment is by a page table over an address space of its file
   pub tables : list_all (is_by_table w.objects) w.attachments ≡ true
   -- each page table is over an address space of its file

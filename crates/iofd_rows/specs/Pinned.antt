@@ -38,6 +38,8 @@ pub record ArePinned (at : ℕ) (w : World) : Type 0 where
   pub sizes : list_all (has_object w.memory) w.areas ≡ true
   pub used : list_all (λ m. list_any (λ area. area.memory == m.number) w.areas) w.memory ≡ true
   -- each page that is to be pinned has one pin, and no other has any
-  pub pinned : list_all (λ page. is_some (pinned_frame w.pins page)) (pinned_pages w.objects w.areas w.memory w.access_pins) ≡ true
-  pub only : list_all (λ pin. list_any (is_page (page_of_pin pin)) (pinned_pages w.objects w.areas w.memory w.access_pins)) w.pins ≡ true
+  pub pinned : list_all (λ page. is_some (pinned_frame w.pins page))
+      (pinned_pages w.objects w.areas w.memory w.access_pins) ≡ true
+  pub only : list_all (λ pin. list_any (is_page (page_of_pin pin))
+      (pinned_pages w.objects w.areas w.memory w.access_pins)) w.pins ≡ true
   pub once : differ (map page_of_pin w.pins) ≡ true

@@ -1,5 +1,6 @@
 -- What an attachment that comes or ends leaves of the law of debts.
-use Rattle.std.proofs.Common.{◌≡◌, ℕ, Bool, true, false, ◌&&◌, not, eqb, Option, Some, None, List, refl, ap, ◌∙◌, subst, arith, is_some, ⊎_elim}
+use Rattle.std.proofs.Common.{◌≡◌, ℕ, Bool, true, false, ◌&&◌, not, eqb, Option, Some, None, List, refl, ap, ◌∙◌, subst}
+use Rattle.std.proofs.Common.{arith, is_some, ⊎_elim}
 use Rattle.std.specs.List.{filter}
 use Rattle.std.proofs.lemmas.Bool.{eqb-true}
 use Rattle.std.proofs.lemmas.Bool.Decides.{nat_tests}
@@ -21,7 +22,8 @@ use Rattle.iofd_words.specs.declared.rows.ObjectKind.TheVariants as kind
 use Rattle.iofd_words.specs.declared.width.Width.{Width}
 use Rattle.iofd_rows.proofs.Bools.{and_true, not_false}
 use Rattle.iofd_rows.proofs.Each.{IsIn, found_kept, in_filter, in_found, in_with_attachment, of_any}
-use Rattle.iofd_rows.proofs.Moves.{KindsStay, debtors_paid, debtor_stays, found_with, once_filter, once_with, spaces_paid, spaces_with, table_stays}
+use Rattle.iofd_rows.proofs.Moves.{KindsStay, debtors_paid, debtor_stays, found_with, once_filter, once_with}
+use Rattle.iofd_rows.proofs.Moves.{spaces_paid, spaces_with, table_stays}
 use Rattle.iofd_rows.proofs.Named.{file_is, id_is, kind_before, kind_kept, kind_new, kind_only}
 use Rattle.iofd_rows.proofs.Owed.{EachOwed, HasTable, IsSpace}
 use Rattle.iofd_runs.proofs.OwnIds.{any_found, unused}
@@ -34,29 +36,41 @@ used_stays true q false used = let is = used refl in cc
 used_stays false q r used = refl
 
 -- a page table that a device is still on stays
-on_table_stays : (others : List Attachment) (a b : Attachment) (object : Object) → IsIn others b → object.file ≡ b.file → object.id ≡ b.hwpt → not (goes_with others a object) ≡ true
+on_table_stays : (others : List Attachment) (a b : Attachment) (object : Object) → IsIn others b → object.file ≡ b.file
+    → object.id ≡ b.hwpt → not (goes_with others a object) ≡ true
 on_table_stays others a b object within of_file of_id =
-    used_stays (is_object a.file a.hwpt object) (is_automatic object.kind) (has_device_on others a.file a.hwpt) (λ is. of_any (λ (c : Attachment). eqb c.file.0 a.file.0 && eqb c.hwpt.0 a.hwpt.0) others b within (on is))
+    used_stays (is_object a.file a.hwpt object) (is_automatic object.kind) (has_device_on others a.file a.hwpt)
+    (λ is. of_any (λ (c : Attachment). eqb c.file.0 a.file.0 && eqb c.hwpt.0 a.hwpt.0) others b within (on is))
   where
     on : is_object a.file a.hwpt object ≡ true → (eqb b.file.0 a.file.0 && eqb b.hwpt.0 a.hwpt.0) ≡ true
     on is = rw (of_file, of_id) at is
 
 -- an address space stays
-space_stays : (others : List Attachment) (a : Attachment) (object : Object) → object.kind ≡ kind.Ioas → not (goes_with others a object) ≡ true
+space_stays : (others : List Attachment) (a : Attachment) (object : Object) → object.kind ≡ kind.Ioas
+    → not (goes_with others a object) ≡ true
 space_stays others a object is =
     let manual : is_automatic object.kind ≡ false = ap is_automatic is in
-    not_manual (is_object a.file a.hwpt object) (is_automatic object.kind) (not (has_device_on others a.file a.hwpt)) manual
+    not_manual (is_object a.file a.hwpt object) (is_automatic object.kind)
+    (not (has_device_on others a.file a.hwpt)) manual
   where
     not_manual : (p q r : Bool) → q ≡ false → not ((p && q) && r) ≡ true
     not_manual true q r is = rw is refl
     not_manual false q r is = refl
 
-pub owed_detached : (objects : List Object) (attachments : List Attachment) (areas : List Area) (device : DeviceNo) (a : Attachment) → EachOwed objects attachments areas → EachOwed (filter (λ object. not (goes_with (without_attachment device attachments) a object)) objects) (without_attachment device attachments) (all_paid device areas)
+pub owed_detached : (objects : List Object) (attachments : List Attachment) (areas : List Area) (device : DeviceNo)
+    (a : Attachment) → EachOwed objects attachments areas
+    → EachOwed (filter (λ object. not (goes_with (without_attachment device attachments) a object)) objects)
+    (without_attachment device attachments) (all_paid device areas)
 owed_detached objects attachments areas device a each =
     let others : List Attachment = without_attachment device attachments in
     let left : List Object = filter (λ object. not (goes_with others a object)) objects in
-    let tables : (b : Attachment) (k : ObjectKind) → IsIn others b → kind_of objects b.file b.hwpt ≡ Some k → kind_of left b.file b.hwpt ≡ Some k = λ b k within is. kind_kept (λ object. not (goes_with others a object)) objects b.file b.hwpt k (λ object of_file of_id of_kind. on_table_stays others a b object within of_file of_id) is in
-    let spaces : (file : FileNo) (id : ObjId) → IsSpace objects file id → IsSpace left file id = λ file id is. kind_kept (λ object. not (goes_with others a object)) objects file id kind.Ioas (λ object of_file of_id of_kind. space_stays others a object of_kind) is in
+    let tables : (b : Attachment) (k : ObjectKind) → IsIn others b → kind_of objects b.file b.hwpt ≡ Some k
+    → kind_of left b.file b.hwpt ≡ Some k = λ b k within is. kind_kept (λ object. not (goes_with others a object))
+    objects b.file b.hwpt k (λ object of_file of_id of_kind. on_table_stays others a b object within of_file of_id)
+    is in
+    let spaces : (file : FileNo) (id : ObjId) → IsSpace objects file id
+    → IsSpace left file id = λ file id is. kind_kept (λ object. not (goes_with others a object)) objects file id
+    kind.Ioas (λ object of_file of_id of_kind. space_stays others a object of_kind) is in
     record {
       once = once_filter (λ (b : Attachment). not (eqb b.device.0 device.0)) attachments each.once;
       debtors = debtors_paid objects left attachments others device areas each (λ area d differ is.
@@ -70,29 +84,38 @@ owed_detached objects attachments areas device a each =
             table = tables is.a _ (in_found (λ (b : Attachment). eqb b.device.0 d) others is.a found).0 is.table;
           });
       tables = λ b within.
-          let is = each.tables b (in_filter (λ (b : Attachment). not (eqb b.device.0 device.0)) attachments b within).0 in
+          let is =
+          each.tables b (in_filter (λ (b : Attachment). not (eqb b.device.0 device.0)) attachments b within).0 in
           record { ioas = is.ioas; width = is.width; automatic = is.automatic; table = tables b _ within is.table };
-      spaces = λ object within ioas over. spaces object.file ioas (each.spaces object (in_filter (λ object. not (goes_with others a object)) objects object within).0 ioas over);
-      in_spaces = spaces_paid left device areas (λ area within. spaces area.file area.ioas (each.in_spaces area within));
+      spaces = λ object within ioas over. spaces object.file ioas
+          (each.spaces object (in_filter (λ object. not (goes_with others a object)) objects object within).0 ioas
+          over);
+      in_spaces =
+          spaces_paid left device areas (λ area within. spaces area.file area.ioas (each.in_spaces area within));
     }
   where
-    found_other : (b : Attachment) (d : ℕ) → eqb d device.0 ≡ false → attachment_of attachments (record { 0 = d }) ≡ Some b → attachment_of (without_attachment device attachments) (record { 0 = d }) ≡ Some b
+    found_other : (b : Attachment) (d : ℕ) → eqb d device.0 ≡ false
+        → attachment_of attachments (record { 0 = d }) ≡ Some b
+        → attachment_of (without_attachment device attachments) (record { 0 = d }) ≡ Some b
     found_other b d differ found =
         let passes = (in_found (λ (b : Attachment). eqb b.device.0 d) attachments b found).1 in
         let same = eqb-true b.device.0 d passes in
-        found_kept (λ (b : Attachment). eqb b.device.0 d) (λ (b : Attachment). not (eqb b.device.0 device.0)) attachments b found (rw same (not_false _ differ))
+        found_kept (λ (b : Attachment). eqb b.device.0 d) (λ (b : Attachment). not (eqb b.device.0 device.0))
+        attachments b found (rw same (not_false _ differ))
 
 -- ---- an attachment comes
 
 -- the page table of an attachment is over this address space, be it there already or new
 pub record IsMade (objects new : List Object) (file : FileNo) (ioas id : ObjId) : Type 0 where
   pub stay : KindsStay objects new
-  pub spaces : (object : Object) → IsIn new object → (over : ObjId) → ioas_of object.kind ≡ Some over → IsSpace new object.file over
+  pub spaces : (object : Object) → IsIn new object → (over : ObjId) → ioas_of object.kind ≡ Some over
+      → IsSpace new object.file over
   pub width : Width
   pub automatic : Bool
   pub table : kind_of new file id ≡ Some (kind.Hwpt ioas width automatic)
 
-automatic_kind : (k : ObjectKind) (ioas : ObjId) (width : Width) → is_automatic_over ioas width k ≡ true → (of : Width) × (k ≡ kind.Hwpt ioas of true)
+automatic_kind : (k : ObjectKind) (ioas : ObjId) (width : Width) → is_automatic_over ioas width k ≡ true
+    → (of : Width) × (k ≡ kind.Hwpt ioas of true)
 automatic_kind kind.Ioas ioas width is = cc
 automatic_kind (kind.Hwpt over of automatic) ioas width is =
     let parts = and_true (eqb over.0 ioas.0 && automatic) _ is in
@@ -101,9 +124,14 @@ automatic_kind (kind.Hwpt over of automatic) ioas width is =
     (of, rw (same, both.1) refl)
 automatic_kind (kind.Device device) ioas width is = cc
 
-pub is_made : (w : World) (file : FileNo) (ioas id : ObjId) (width : Width) (o : Option Object) → have_own_ids w.objects ≡ true → automatic_hwpt w.objects file ioas width ≡ o → IsHwptFor w file id o → IsSpace w.objects file ioas → ((object : Object) → IsIn w.objects object → (over : ObjId) → ioas_of object.kind ≡ Some over → IsSpace w.objects object.file over) → IsMade w.objects (with_hwpt file ioas id width o w.objects) file ioas id
+pub is_made : (w : World) (file : FileNo) (ioas id : ObjId) (width : Width) (o : Option Object)
+    → have_own_ids w.objects ≡ true → automatic_hwpt w.objects file ioas width ≡ o → IsHwptFor w file id o
+    → IsSpace w.objects file ioas → ((object : Object) → IsIn w.objects object → (over : ObjId)
+    → ioas_of object.kind ≡ Some over → IsSpace w.objects object.file over)
+    → IsMade w.objects (with_hwpt file ioas id width o w.objects) file ioas id
 is_made w file ioas id width (Some object) own found answers space spaces =
-    let (within, passes) = in_found (λ (object : Object). eqb object.file.0 file.0 && is_automatic_over ioas width object.kind) w.objects object found in
+    let (within, passes) = in_found (λ (object : Object). eqb object.file.0 file.0
+    && is_automatic_over ioas width object.kind) w.objects object found in
     let parts = and_true (eqb object.file.0 file.0) (is_automatic_over ioas width object.kind) passes in
     let (of, is_kind) = automatic_kind object.kind ioas width parts.1 in
     let of_file : object.file ≡ file = file_is object.file file parts.0 in
@@ -124,7 +152,8 @@ is_made w file ioas id width None own found answers space spaces =
 -- the one that is named
 pub is_there : (objects : List Object) (file : FileNo) (ioas id : ObjId) (width : Width) (automatic : Bool)
     → kind_of objects file id ≡ Some (kind.Hwpt ioas width automatic)
-    → ((object : Object) → IsIn objects object → (over : ObjId) → ioas_of object.kind ≡ Some over → IsSpace objects object.file over)
+    → ((object : Object) → IsIn objects object → (over : ObjId) → ioas_of object.kind ≡ Some over
+    → IsSpace objects object.file over)
     → IsMade objects objects file ioas id
 is_there objects file ioas id width automatic table spaces =
     record { stay = λ f i k is. is; spaces = spaces; width = width; automatic = automatic; table = table }
@@ -133,20 +162,29 @@ pub owed_attached : (objects new : List Object) (attachments : List Attachment) 
     → (device : DeviceNo) (file : FileNo) (ioas id : ObjId)
     → is_some (attachment_of attachments device) ≡ false → IsMade objects new file ioas id
     → EachOwed objects attachments areas
-    → EachOwed new (with_attachment (record { device = device; file = file; hwpt = id }) attachments) (all_paid device areas)
+    → EachOwed new (with_attachment (record { device = device; file = file; hwpt = id }) attachments)
+    (all_paid device areas)
 owed_attached objects new attachments areas device file ioas id none made each =
     let attachment : Attachment = record { device = device; file = file; hwpt = id } in
-    let once = once_with attachment attachments (any_found (λ (a : Attachment). eqb a.device.0 device.0) attachments ∙ none) each.once in
+    let once = once_with attachment attachments (any_found (λ (a : Attachment). eqb a.device.0 device.0) attachments
+    ∙ none) each.once in
     record {
       once = once;
-      debtors = debtors_paid objects new attachments (with_attachment attachment attachments) device areas each (λ area d differ is.
+      debtors = debtors_paid objects new attachments (with_attachment attachment attachments) device areas
+          each (λ area d differ is.
           debtor_stays objects new attachments (with_attachment attachment attachments) area.file area.ioas d made.stay
           (λ a found. found_with attachment attachments (record { 0 = d }) a once found)
           is);
       tables = λ a within. ⊎_elim
-          (λ (same : attachment ≡ a). subst (HasTable new) same (record { ioas = ioas; width = made.width; automatic = made.automatic; table = made.table }))
+          (λ (same : attachment ≡ a). subst (HasTable new) same (record {
+            ioas = ioas;
+            width = made.width;
+            automatic = made.automatic;
+            table = made.table;
+          }))
           (λ (before : IsIn attachments a). table_stays objects new a made.stay (each.tables a before))
           (in_with_attachment attachment attachments a within);
       spaces = made.spaces;
-      in_spaces = spaces_paid new device areas (λ area within. made.stay area.file area.ioas kind.Ioas (each.in_spaces area within));
+      in_spaces = spaces_paid new device areas
+          (λ area within. made.stay area.file area.ioas kind.Ioas (each.in_spaces area within));
     }

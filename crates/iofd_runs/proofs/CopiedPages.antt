@@ -1,5 +1,6 @@
 -- The pages that a COPY that nothing refuses pins anew are in their user's memory.
-use Rattle.std.proofs.Common.{◌≡◌, ℕ, Bool, true, false, ◌&&◌, ◌||◌, eqb, is_none, is_some, Option, Some, None, List, refl, ap, sym, ◌∙◌, arith, []}
+use Rattle.std.proofs.Common.{◌≡◌, ℕ, Bool, true, false, ◌&&◌, ◌||◌, eqb, is_none, is_some, Option, Some, None, List}
+use Rattle.std.proofs.Common.{refl, ap, sym, ◌∙◌, arith, []}
 use Rattle.std.specs.List.{filter, list_any}
 use Rattle.std.proofs.lemmas.Bool.Decides.{nat_tests}
 use Rattle.iofd_words.specs.After.{mapped_area}
@@ -8,7 +9,8 @@ use Rattle.iofd_words.specs.Checks.{copy_checks, newly_copied}
 use Rattle.iofd_words.specs.Copies.{placed_as}
 use Rattle.iofd_words.specs.FirstTrue.{first_true}
 use Rattle.iofd_words.specs.Objects.{has_hwpt}
-use Rattle.iofd_words.specs.Pins.{ObjectPage, frame_now, is_page, is_translated, pinned_frame, pinned_pages, unpinned_pages}
+use Rattle.iofd_words.specs.Pins.{ObjectPage, frame_now, is_page, is_translated, pinned_frame, pinned_pages}
+use Rattle.iofd_words.specs.Pins.{unpinned_pages}
 use Rattle.iofd_words.specs.View.{view}
 use Rattle.iofd_words.specs.World.{World}
 use Rattle.iofd_words.specs.declared.event.CopyRequest.{CopyRequest}
@@ -24,20 +26,25 @@ use Rattle.iofd_runs.proofs.AttachedPages.{never_pinned, there_now}
 use Rattle.iofd_runs.proofs.CopySource.{source_area}
 use Rattle.iofd_runs.proofs.NotRefused.{copy_passed}
 
--- what one more area over a memory object that stands adds to the pages that are to be pinned: those of that memory object, where
--- the area's address space has a page table, and no page table translated the object before
+-- what one more area over a memory object that stands adds to the pages that are to be pinned: those of that memory
+-- object, where the area's address space has a page table, and no page table translated the object before
 pub record IsAdded (w : World) (area : Area) (page : ObjectPage) : Type 0 where
   pub listed : is_listed w.memory page ≡ true
   pub of_memory : eqb area.memory page.memory ≡ true
   pub has_table : has_hwpt w.objects area.file area.ioas ≡ true
   pub untranslated : is_translated w.objects w.areas page.memory ≡ false
 
-pub added_page : (w : World) (area : Area) (page : ObjectPage) → list_any (is_page page) (pinned_pages w.objects (with_area area w.areas) w.memory w.access_pins) ≡ true → list_any (is_page page) (pinned_pages w.objects w.areas w.memory w.access_pins) ≡ false
+pub added_page : (w : World) (area : Area) (page : ObjectPage)
+    → list_any (is_page page) (pinned_pages w.objects (with_area area w.areas) w.memory w.access_pins) ≡ true
+    → list_any (is_page page) (pinned_pages w.objects w.areas w.memory w.access_pins) ≡ false
     → IsAdded w area page
 added_page w area page within before =
-    let now = and_true (is_listed w.memory page) (is_translated w.objects (with_area area w.areas) page.memory) (sym (in_pinned w.objects (with_area area w.areas) w.memory w.access_pins page) ∙ within) in
-    let old = and_rest (is_listed w.memory page) (is_translated w.objects w.areas page.memory) now.0 (sym (in_pinned w.objects w.areas w.memory w.access_pins page) ∙ before) in
-    let own = and_true (eqb area.memory page.memory) (has_hwpt w.objects area.file area.ioas) (of_new _ _ old (sym (translated-with_area w.objects area w.areas page.memory) ∙ now.1)) in
+    let now = and_true (is_listed w.memory page) (is_translated w.objects (with_area area w.areas) page.memory)
+    (sym (in_pinned w.objects (with_area area w.areas) w.memory w.access_pins page) ∙ within) in
+    let old = and_rest (is_listed w.memory page) (is_translated w.objects w.areas page.memory) now.0
+    (sym (in_pinned w.objects w.areas w.memory w.access_pins page) ∙ before) in
+    let own = and_true (eqb area.memory page.memory) (has_hwpt w.objects area.file area.ioas)
+    (of_new _ _ old (sym (translated-with_area w.objects area w.areas page.memory) ∙ now.1)) in
     record { listed = now.0; of_memory = own.0; has_table = own.1; untranslated = old }
   where
     of_new : (new was : Bool) → was ≡ false → (new || was) ≡ true → new ≡ true
@@ -45,26 +52,39 @@ added_page w area page within before =
     of_new false was none some = cc
 
 -- a page of the memory object of this number is one of its pages
-listed_there : (memory : List MemoryObject) (page : ObjectPage) (number : ℕ) → is_listed memory page ≡ true → eqb number page.memory ≡ true → is_listed (filter (λ (m : MemoryObject). eqb m.number number) memory) page ≡ true
+listed_there : (memory : List MemoryObject) (page : ObjectPage) (number : ℕ) → is_listed memory page ≡ true
+    → eqb number page.memory ≡ true → is_listed (filter (λ (m : MemoryObject). eqb m.number number) memory) page ≡ true
 listed_there memory page number listed of =
     listed_is (filter (λ (m : MemoryObject). eqb m.number number) memory) page
     ∙ any-filter (has_page page) (λ (m : MemoryObject). eqb m.number number) memory
     ∙ any_weaker (has_page page) (λ (m : MemoryObject). eqb m.number number && has_page page m) memory
-    (λ m has. both_true _ _ (joined m.number page.memory number (and_true (eqb page.memory m.number) _ has).0 of) has) (sym (listed_is memory page) ∙ listed)
+    (λ m has. both_true _ _ (joined m.number page.memory number (and_true (eqb page.memory m.number) _ has).0 of) has)
+    (sym (listed_is memory page) ∙ listed)
   where
     joined : (m p n : ℕ) → eqb p m ≡ true → eqb n p ≡ true → eqb m n ≡ true
     joined m p n first second = grind (arith, nat_tests)
 
-pub pages_copied : (w : World) (file : FileNo) (request : CopyRequest) (source : Area) → source_area w file request ≡ Some source
-    → newly_copied (view w) file request ≡ unpinned_pages (pinned_frame w.pins) (filter (λ (m : MemoryObject). eqb m.number source.memory) w.memory)
+pub pages_copied : (w : World) (file : FileNo) (request : CopyRequest) (source : Area)
+    → source_area w file request ≡ Some source
+    → newly_copied (view w) file request ≡ unpinned_pages (pinned_frame w.pins)
+    (filter (λ (m : MemoryObject). eqb m.number source.memory) w.memory)
 pages_copied w file request source found =
-    ap (λ (o : Option Area). elim o as (λ _. List ObjectPage) [ Some x ↦ unpinned_pages (pinned_frame w.pins) (filter (λ (m : MemoryObject). eqb m.number x.memory) w.memory) | None ↦ [] ]) found
+    ap (λ (o : Option Area). elim o as (λ _. List ObjectPage) [
+      | Some x ↦ unpinned_pages (pinned_frame w.pins)
+          (filter (λ (m : MemoryObject). eqb m.number x.memory) w.memory)
+      | None ↦ []
+    ]) found
 
-pub copied_present : (at : ℕ) (w : World) (file : FileNo) (request : CopyRequest) (iova : Iova) (source : Area) (page : ObjectPage) → ArePinned at w → first_true (copy_checks (view w) file request) ≡ None → source_area w file request ≡ Some source
-    → IsAdded w (mapped_area source.memory file (placed_as request) iova) page → is_some (frame_now w.memory w.user_pages page) ≡ true
+pub copied_present : (at : ℕ) (w : World) (file : FileNo) (request : CopyRequest) (iova : Iova) (source : Area)
+    (page : ObjectPage) → ArePinned at w → first_true (copy_checks (view w) file request) ≡ None
+    → source_area w file request ≡ Some source
+    → IsAdded w (mapped_area source.memory file (placed_as request) iova) page
+    → is_some (frame_now w.memory w.user_pages page) ≡ true
 copied_present at w file request iova source page p none found added =
-    let lacking = and_rest (has_hwpt w.objects file request.dst_ioas) _ added.has_table (copy_passed (view w) file request none).present in
+    let lacking = and_rest (has_hwpt w.objects file request.dst_ioas) _ added.has_table
+    (copy_passed (view w) file request none).present in
     there_now w (filter (λ (m : MemoryObject). eqb m.number source.memory) w.memory) page
-    (ap (list_any (λ page. is_none (frame_now w.memory w.user_pages page))) (sym (pages_copied w file request source found)) ∙ lacking)
+    (ap (list_any (λ page. is_none (frame_now w.memory w.user_pages page)))
+    (sym (pages_copied w file request source found)) ∙ lacking)
     (listed_there w.memory page source.memory added.listed added.of_memory)
     (never_pinned at w page p added.untranslated)

@@ -1,6 +1,7 @@
--- The area whose memory a COPY maps again: it stands, is live and of the source's address space, and its span is exactly the
--- source's. So the new area's memory object is there and has the new area's size.
-use Rattle.std.proofs.Common.{◌≡◌, ◌<◌, ℕ, ◌+◌, ◌-◌, ◌*◌, true, false, ◌&&◌, eqb, is_none, Option, Some, None, refl, ap, sym, ◌∙◌, arith}
+-- The area whose memory a COPY maps again: it stands, is live and of the source's address space, and its span is
+-- exactly the source's. So the new area's memory object is there and has the new area's size.
+use Rattle.std.proofs.Common.{◌≡◌, ◌<◌, ℕ, ◌+◌, ◌-◌, ◌*◌, true, false, ◌&&◌, eqb, is_none, Option, Some, None, refl, ap}
+use Rattle.std.proofs.Common.{sym, ◌∙◌, arith}
 use Rattle.std.specs.List.{list_any}
 use Rattle.std.proofs.lemmas.Bool.{eqb-true}
 use Rattle.std.proofs.lemmas.Bool.Decides.{nat_tests}
@@ -37,13 +38,15 @@ pub record IsSource (w : World) (file : FileNo) (request : CopyRequest) (source 
   pub first : source.span.first ≡ request.src_iova.0
   pub last : source.span.last ≡ request.src_iova.0 + request.length - 1
 
-pub source_is : (w : World) (file : FileNo) (request : CopyRequest) (source : Area) → source_area w file request ≡ Some source → IsSource w file request source
+pub source_is : (w : World) (file : FileNo) (request : CopyRequest) (source : Area)
+    → source_area w file request ≡ Some source → IsSource w file request source
 source_is w file request source found =
     let span = span_from request.src_iova.0 request.length in
     let listed = in_found (is_live_at span) (areas_of w.areas file request.src_ioas) source found in
     let stands = in_filter (is_of file request.src_ioas) w.areas source listed.0 in
     let names = and_true (eqb source.file.0 file.0) (eqb source.ioas.0 request.src_ioas.0) stands.1 in
-    let ends = and_true (is_live source.phase && eqb source.span.first span.first) (eqb source.span.last span.last) listed.1 in
+    let ends =
+    and_true (is_live source.phase && eqb source.span.first span.first) (eqb source.span.last span.last) listed.1 in
     let lives = and_true (is_live source.phase) (eqb source.span.first span.first) ends.0 in
     record {
       listed = listed.0;
@@ -56,27 +59,38 @@ source_is w file request source found =
     }
 
 -- a COPY that nothing refuses has one
-pub copy_source : (w : World) (file : FileNo) (request : CopyRequest) → first_true (copy_checks (view w) file request) ≡ None → (source : Area) × (source_area w file request ≡ Some source) × IsSource w file request source
-copy_source w file request none = by_found (source_area w file request) refl (copy_passed (view w) file request none).found
+pub copy_source : (w : World) (file : FileNo) (request : CopyRequest)
+    → first_true (copy_checks (view w) file request) ≡ None
+    → (source : Area) × (source_area w file request ≡ Some source) × IsSource w file request source
+copy_source w file request none =
+    by_found (source_area w file request) refl (copy_passed (view w) file request none).found
   where
-    by_found : (o : Option Area) → source_area w file request ≡ o → is_none o ≡ false → (source : Area) × (source_area w file request ≡ Some source) × IsSource w file request source
+    by_found : (o : Option Area) → source_area w file request ≡ o → is_none o ≡ false
+        → (source : Area) × (source_area w file request ≡ Some source) × IsSource w file request source
     by_found None is some = cc
     by_found (Some source) is some = (source, is, source_is w file request source is)
 
 -- ---- sizes
 
 -- two spans of one length have one size
-one_size : (first last new length : ℕ) (at : ℕ) → eqb length 0 ≡ false → first ≡ at → last ≡ at + length - 1 → last + 1 - first ≡ new + length - 1 + 1 - new
-one_size first last new length at some begins ends = let above : 0 < length = search (some, arith, nat_tests) in omega (arith, above)
+one_size : (first last new length : ℕ) (at : ℕ) → eqb length 0 ≡ false → first ≡ at → last ≡ at + length - 1
+    → last + 1 - first ≡ new + length - 1 + 1 - new
+one_size first last new length at some begins ends =
+    let above : 0 < length = search (some, arith, nat_tests) in omega (arith, above)
 
 -- the new area has the source's size
-pub copied_size : (w : World) (file : FileNo) (request : CopyRequest) (iova : Iova) (source : Area) → first_true (copy_checks (view w) file request) ≡ None → IsSource w file request source → size_of source.span ≡ size_of (span_from iova.0 request.length)
+pub copied_size : (w : World) (file : FileNo) (request : CopyRequest) (iova : Iova) (source : Area)
+    → first_true (copy_checks (view w) file request) ≡ None → IsSource w file request source
+    → size_of source.span ≡ size_of (span_from iova.0 request.length)
 copied_size w file request iova source none is =
-    one_size source.span.first source.span.last iova.0 request.length request.src_iova.0 (copy_passed (view w) file request none).some is.first is.last
+    one_size source.span.first source.span.last iova.0 request.length request.src_iova.0
+    (copy_passed (view w) file request none).some is.first is.last
 
 -- and its memory object is there, with that size
-pub copied_object : (at : ℕ) (w : World) (file : FileNo) (request : CopyRequest) (iova : Iova) (source : Area) → ArePinned at w → first_true (copy_checks (view w) file request) ≡ None → IsSource w file request source
+pub copied_object : (at : ℕ) (w : World) (file : FileNo) (request : CopyRequest) (iova : Iova) (source : Area)
+    → ArePinned at w → first_true (copy_checks (view w) file request) ≡ None → IsSource w file request source
     → has_object w.memory (mapped_area source.memory file (placed_as request) iova) ≡ true
 copied_object at w file request iova source p none is =
-    ap (λ (size : ℕ). list_any (λ (m : MemoryObject). eqb m.number source.memory && eqb (m.count * 4096) size) w.memory) (sym (copied_size w file request iova source none is))
+    ap (λ (size : ℕ). list_any (λ (m : MemoryObject). eqb m.number source.memory && eqb (m.count * 4096) size) w.memory)
+    (sym (copied_size w file request iova source none is))
     ∙ of_each (has_object w.memory) w.areas source p.sizes is.within

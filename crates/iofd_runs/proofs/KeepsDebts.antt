@@ -1,6 +1,8 @@
 -- Every event keeps each debtor attached to the address space of its area.
 use Rattle.std.proofs.Common.{◌≡◌, ℕ, true, false, not, Option, Some, None, List, refl}
-use Rattle.iofd_words.specs.After.{attach_changes, attached, changed, copy_changes, detach_changes, detached, hwpt_changes, joined, made_hwpt, map_changes, mapped_area, settle, target_changes, with_hwpt, without_areas}
+use Rattle.iofd_words.specs.After.{attach_changes, attached, changed, copy_changes, detach_changes, detached}
+use Rattle.iofd_words.specs.After.{hwpt_changes, joined, made_hwpt, map_changes, mapped_area, settle, target_changes}
+use Rattle.iofd_words.specs.After.{with_hwpt, without_areas}
 use Rattle.iofd_words.specs.Answers.{Answers, IsHwptOf, IsTarget}
 use Rattle.iofd_words.specs.Areas.{areas_of, is_touched}
 use Rattle.iofd_words.specs.Attachments.{attachment_of}
@@ -35,7 +37,8 @@ use Rattle.iofd_rows.proofs.Moves.{owed_area, owed_fewer, owed_flush, owed_leavi
 use Rattle.iofd_runs.proofs.ObjectsGo.{owed_closed, owed_destroyed, owed_unbound}
 use Rattle.iofd_rows.proofs.Owed.{EachOwed, IsSpace, debts_attached, each_owed, space_of}
 use Rattle.iofd_runs.proofs.OwnIds.{keeps_own_ids, unused}
-use Rattle.iofd_runs.proofs.NotRefused.{attach_passed, copy_passed, destroy_passed, hwpt_passed, join_passed, map_passed}
+use Rattle.iofd_runs.proofs.NotRefused.{attach_passed, copy_passed, destroy_passed, hwpt_passed, join_passed}
+use Rattle.iofd_runs.proofs.NotRefused.{map_passed}
 
 -- what holds of every world of a run
 pub record IsSound (w : World) : Type 0 where
@@ -47,33 +50,44 @@ IsOwed w = EachOwed w.objects w.attachments w.areas
 
 -- ---- what the refusals rule out
 
-map_has_space : (w : World) (file : FileNo) (request : MapRequest) → first_true (map_checks (view w) file request) ≡ None → has_ioas w.objects file request.ioas ≡ true
+map_has_space : (w : World) (file : FileNo) (request : MapRequest)
+    → first_true (map_checks (view w) file request) ≡ None → has_ioas w.objects file request.ioas ≡ true
 map_has_space w file request none = (map_passed (view w) file request none).space
 
-copy_has_space : (w : World) (file : FileNo) (request : CopyRequest) → first_true (copy_checks (view w) file request) ≡ None → has_ioas w.objects file request.dst_ioas ≡ true
+copy_has_space : (w : World) (file : FileNo) (request : CopyRequest)
+    → first_true (copy_checks (view w) file request) ≡ None → has_ioas w.objects file request.dst_ioas ≡ true
 copy_has_space w file request none = (copy_passed (view w) file request none).space
 
-destroy_unused : (w : World) (file : FileNo) (id : ObjId) → first_true (destroy_checks (view w) file id) ≡ None → is_used (view w) file id (kind_of w.objects file id) ≡ false
+destroy_unused : (w : World) (file : FileNo) (id : ObjId) → first_true (destroy_checks (view w) file id) ≡ None
+    → is_used (view w) file id (kind_of w.objects file id) ≡ false
 destroy_unused w file id none = (destroy_passed (view w) file id none).unused
 
 -- ---- each event
 
-keeps_owed : {A : Type 0} → (at : ℕ) (w : World) (e : Event A) (answer : Reply) → refusal w e ≡ None → Answers w e answer → have_own_ids w.objects ≡ true → IsOwed w → IsOwed (changed at w e answer)
+keeps_owed : {A : Type 0} → (at : ℕ) (w : World) (e : Event A) (answer : Reply) → refusal w e ≡ None
+    → Answers w e answer → have_own_ids w.objects ≡ true → IsOwed w → IsOwed (changed at w e answer)
 unfolding changed settle without_areas attached detached joined Answers
 keeps_owed at w (event.IoasAlloc file) (reply.Id id) none answers own each =
-    owed_object w.objects w.attachments w.areas (record { file = file; id = id; kind = kind.Ioas }) (unused w.objects file id answers) (λ ioas is. cc) each
+    owed_object w.objects w.attachments w.areas (record { file = file; id = id; kind = kind.Ioas })
+    (unused w.objects file id answers) (λ ioas is. cc) each
 keeps_owed at w (event.Map file request) (reply.Iova iova) none answers own each = mapped (user_of w.settings file)
   where
     mapped : (user : Option UserNo) → IsOwed (map_changes at w file request iova user)
     mapped None = each
-    mapped (Some user) = owed_area w.objects w.attachments w.areas (mapped_area at file request iova) refl (space_of w.objects file request.ioas (map_has_space w file request none)) each
-keeps_owed at w (event.Copy file request) (reply.Iova iova) none answers own each = copied (source_in (areas_of w.areas file request.src_ioas) request)
+    mapped (Some user) = owed_area w.objects w.attachments w.areas (mapped_area at file request iova) refl
+        (space_of w.objects file request.ioas (map_has_space w file request none)) each
+keeps_owed at w (event.Copy file request) (reply.Iova iova) none answers own each =
+    copied (source_in (areas_of w.areas file request.src_ioas) request)
   where
     copied : (source : Option Area) → IsOwed (copy_changes w file request iova source)
     copied None = each
-    copied (Some source) = owed_area w.objects w.attachments w.areas (mapped_area source.memory file (placed_as request) iova) refl (space_of w.objects file request.dst_ioas (copy_has_space w file request none)) each
-keeps_owed at w (event.Unmap file request) (reply.Bytes count) none answers own each = owed_fewer w.objects w.attachments w.areas (λ area. not (is_touched file request area)) each
-keeps_owed at w (event.Unmap file request) (reply.Pending errno) none answers own each = owed_leaving w.objects w.attachments w.areas file request each
+    copied (Some source) = owed_area w.objects w.attachments w.areas
+        (mapped_area source.memory file (placed_as request) iova) refl
+        (space_of w.objects file request.dst_ioas (copy_has_space w file request none)) each
+keeps_owed at w (event.Unmap file request) (reply.Bytes count) none answers own each =
+    owed_fewer w.objects w.attachments w.areas (λ area. not (is_touched file request area)) each
+keeps_owed at w (event.Unmap file request) (reply.Pending errno) none answers own each =
+    owed_leaving w.objects w.attachments w.areas file request each
 keeps_owed at w (event.HwptAlloc file request) (reply.Id id) none answers own each =
     made (settings_under w.settings w.objects file request.device)
   where
@@ -83,27 +97,35 @@ keeps_owed at w (event.HwptAlloc file request) (reply.Id id) none answers own ea
     made : (settings : Option DeviceSettings) → IsOwed (hwpt_changes w file request.ioas id settings)
     made None = each
     made (Some settings) =
-        owed_object w.objects w.attachments w.areas (made_hwpt file request.ioas id settings) (unused w.objects file id answers)
+        owed_object w.objects w.attachments w.areas (made_hwpt file request.ioas id settings)
+        (unused w.objects file id answers)
         (λ over is. let same : request.ioas ≡ over = cc in rw (← same) space)
         each
-keeps_owed at w (event.Destroy file id) reply.Done none answers own each = owed_destroyed w file id (destroy_unused w file id none) each
-keeps_owed at w (event.Close file) reply.Done none answers own each = owed_closed w.objects w.attachments w.areas file each
+keeps_owed at w (event.Destroy file id) reply.Done none answers own each =
+    owed_destroyed w file id (destroy_unused w file id none) each
+keeps_owed at w (event.Close file) reply.Done none answers own each =
+    owed_closed w.objects w.attachments w.areas file each
 keeps_owed at w (event.UserMap user va) (reply.Frame frame) none answers own each = each
 keeps_owed at w (event.AllowIovas file ioas ranges) reply.Done none answers own each = each
 keeps_owed at w (event.UserUnmap user va) reply.Done none answers own each = each
 keeps_owed at w (event.UserWrite user va bytes) reply.Done none answers own each = each
 keeps_owed at w (event.Bind file device) (reply.Id id) none answers own each =
-    owed_object w.objects w.attachments w.areas (record { file = file; id = id; kind = kind.Device device }) (unused w.objects file id answers) (λ ioas is. cc) each
+    owed_object w.objects w.attachments w.areas (record { file = file; id = id; kind = kind.Device device })
+    (unused w.objects file id answers) (λ ioas is. cc) each
 keeps_owed at w (event.Unbind file id) reply.Done none answers own each =
     owed_unbound w.objects w.attachments w.areas file id each
-keeps_owed at w (event.Attach device pt_id) (reply.Id id) none answers own each = bound (binding_of w.objects device) refl (device_of w.settings device) answers
+keeps_owed at w (event.Attach device pt_id) (reply.Id id) none answers own each =
+    bound (binding_of w.objects device) refl (device_of w.settings device) answers
   where
-    bound : (object : Option Object) → binding_of w.objects device ≡ object → (settings : Option DeviceSettings) → IsHwptOf w pt_id id object settings → IsOwed (attach_changes w device pt_id id object settings)
+    bound : (object : Option Object) → binding_of w.objects device ≡ object → (settings : Option DeviceSettings)
+        → IsHwptOf w pt_id id object settings → IsOwed (attach_changes w device pt_id id object settings)
     bound None is settings never = absurd never
     bound (Some object) is None never = absurd never
     bound (Some object) is (Some settings) hwpt = by_kind (kind_of w.objects object.file pt_id) refl hwpt
       where
-        by_kind : (k : Option ObjectKind) → kind_of w.objects object.file pt_id ≡ k → IsTarget w object.file pt_id id settings.width k → IsOwed (target_changes w device pt_id id object settings k)
+        by_kind : (k : Option ObjectKind) → kind_of w.objects object.file pt_id ≡ k
+            → IsTarget w object.file pt_id id settings.width k
+            → IsOwed (target_changes w device pt_id id object settings k)
         by_kind (Some kind.Ioas) space made =
             let automatic = automatic_hwpt w.objects object.file pt_id settings.width in
             let table = is_made w object.file pt_id id settings.width automatic own refl made space each.spaces in
@@ -115,19 +137,23 @@ keeps_owed at w (event.Attach device pt_id) (reply.Id id) none answers own each 
             let free = (join_passed (view w) device pt_id ioas width automatic object is named none).unattached in
             owed_attached w.objects w.objects w.attachments w.areas device object.file ioas id free table each
         by_kind k space never = each
-keeps_owed at w (event.Detach device) reply.Done none answers own each = attached_or_not (attachment_of w.attachments device)
+keeps_owed at w (event.Detach device) reply.Done none answers own each =
+    attached_or_not (attachment_of w.attachments device)
   where
     attached_or_not : (a : Option Attachment) → IsOwed (detach_changes w device a)
     attached_or_not None = each
     attached_or_not (Some a) = owed_detached w.objects w.attachments w.areas device a each
-keeps_owed at w (event.Flush device) reply.Done none answers own each = owed_flush w.objects w.attachments w.areas device each
+keeps_owed at w (event.Flush device) reply.Done none answers own each =
+    owed_flush w.objects w.attachments w.areas device each
 keeps_owed at w (event.DeviceWrite device iova bytes) (reply.Passed frame) none answers own each = each
 keeps_owed at w e answer none answers own each = each
 
-pub keeps_sound : {A : Type 0} → (at : ℕ) (w : World) (e : Event A) (answer : Reply) → refusal w e ≡ None → Answers w e answer → IsSound w → IsSound (changed at w e answer)
+pub keeps_sound : {A : Type 0} → (at : ℕ) (w : World) (e : Event A) (answer : Reply) → refusal w e ≡ None
+    → Answers w e answer → IsSound w → IsSound (changed at w e answer)
 keeps_sound at w e answer none answers sound = record {
   own_ids = keeps_own_ids at w e answer none answers sound.own_ids;
-  debts = debts_attached (changed at w e answer) (keeps_owed at w e answer none answers sound.own_ids (each_owed w sound.debts));
+  debts = debts_attached (changed at w e answer)
+      (keeps_owed at w e answer none answers sound.own_ids (each_owed w sound.debts));
 }
 
 -- the frames of tables are no part of it
@@ -135,5 +161,11 @@ pub tabled_sound : (w : World) (taken given : List FrameNo) → IsSound w → Is
 unfolding with_tables
 tabled_sound w taken given sound = record {
   own_ids = sound.own_ids;
-  debts = record { once = sound.debts.once; debtors = sound.debts.debtors; tables = sound.debts.tables; spaces = sound.debts.spaces; areas = sound.debts.areas };
+  debts = record {
+    once = sound.debts.once;
+    debtors = sound.debts.debtors;
+    tables = sound.debts.tables;
+    spaces = sound.debts.spaces;
+    areas = sound.debts.areas;
+  };
 }

@@ -1,10 +1,13 @@
 -- Every event leaves each area's memory object one of the user of the area's file.
-use Rattle.std.proofs.Common.{◌≡◌, ℕ, ◌+◌, Bool, true, false, ◌||◌, not, eqb, ltb, Option, Some, None, List, [], ◌∷◌, ◌++◌, refl, sym, ap, ◌∙◌, arith, ◌&&◌}
+use Rattle.std.proofs.Common.{◌≡◌, ℕ, ◌+◌, Bool, true, false, ◌||◌, not, eqb, ltb, Option, Some, None, List, [], ◌∷◌}
+use Rattle.std.proofs.Common.{◌++◌, refl, sym, ap, ◌∙◌, arith, ◌&&◌}
 use Rattle.std.specs.List.{filter, list_all, list_any}
 use Rattle.std.proofs.lemmas.Bool.{eqb-true}
 use Rattle.std.proofs.lemmas.Bool.Decides.{nat_tests}
 use Rattle.std.proofs.lemmas.List.Folds.{list_all-append}
-use Rattle.iofd_words.specs.After.{attach_changes, attached, changed, copy_changes, detach_changes, detached, hwpt_changes, joined, map_changes, mapped_area, memory_object, settle, target_changes, without_areas}
+use Rattle.iofd_words.specs.After.{attach_changes, attached, changed, copy_changes, detach_changes, detached}
+use Rattle.iofd_words.specs.After.{hwpt_changes, joined, map_changes, mapped_area, memory_object, settle}
+use Rattle.iofd_words.specs.After.{target_changes, without_areas}
 use Rattle.iofd_words.specs.Answers.{Answers}
 use Rattle.iofd_words.specs.Areas.{areas_of, is_of}
 use Rattle.iofd_words.specs.Attachments.{attachment_of}
@@ -51,24 +54,34 @@ flipped : (m n : ℕ) → eqb m n ≡ false → eqb n m ≡ false
 flipped m n other = grind (arith, nat_tests)
 
 -- the new memory object is under no area that stands
-owned_still : (settings : Settings) (memory : List MemoryObject) (m : MemoryObject) (areas : List Area) → list_any (λ (a : Area). eqb a.memory m.number) areas ≡ false → list_all (is_over_own settings memory) areas ≡ true → list_all (is_over_own settings (memory ++ m ∷ [])) areas ≡ true
+owned_still : (settings : Settings) (memory : List MemoryObject) (m : MemoryObject) (areas : List Area)
+    → list_any (λ (a : Area). eqb a.memory m.number) areas ≡ false → list_all (is_over_own settings memory) areas ≡ true
+    → list_all (is_over_own settings (memory ++ m ∷ [])) areas ≡ true
 owned_still settings memory m [] none owned = refl
 owned_still settings memory m (a ∷ areas) none owned =
     let others = or_false (eqb a.memory m.number) (list_any (λ (a : Area). eqb a.memory m.number) areas) none in
     let parts = and_true (is_over_own settings memory a) (list_all (is_over_own settings memory) areas) owned in
     both_true _ _
-    (list_all-append (λ (o : MemoryObject). not (eqb o.number a.memory) || is_of_files_user settings a.file o) memory (m ∷ [])
+    (list_all-append (λ (o : MemoryObject). not (eqb o.number a.memory)
+    || is_of_files_user settings a.file o) memory (m ∷ [])
     ∙ both_true _ _ parts.0 (both_true _ _ (or_left _ _ (not_false _ (flipped a.memory m.number others.0))) refl))
     (owned_still settings memory m areas others.1 parts.1)
 
 -- and the new area is over no other, and over one of its file's user
-owned_new : (at : ℕ) (settings : Settings) (memory : List MemoryObject) (file : FileNo) (request : MapRequest) (iova : Iova) (user : UserNo) → user_of settings file ≡ Some user → list_all (λ (m : MemoryObject). ltb m.number at) memory ≡ true
+owned_new : (at : ℕ) (settings : Settings) (memory : List MemoryObject) (file : FileNo) (request : MapRequest)
+    (iova : Iova) (user : UserNo) → user_of settings file ≡ Some user
+    → list_all (λ (m : MemoryObject). ltb m.number at) memory ≡ true
     → is_over_own settings (memory ++ memory_object at user request ∷ []) (mapped_area at file request iova) ≡ true
 owned_new at settings memory file request iova user is made =
-    list_all-append (λ (m : MemoryObject). not (eqb m.number at) || is_of_files_user settings file m) memory (memory_object at user request ∷ [])
+    list_all-append (λ (m : MemoryObject). not (eqb m.number at) || is_of_files_user settings file m) memory
+    (memory_object at user request ∷ [])
     ∙ both_true _ _
-    (all_weaker (λ (m : MemoryObject). ltb m.number at) (λ (m : MemoryObject). not (eqb m.number at) || is_of_files_user settings file m) memory (λ m before. or_left _ _ (not_false _ (unlike m.number before))) made)
-    (both_true _ _ (or_right (not (eqb at at)) _ (ap (λ (o : Option UserNo). elim o as (λ x. Bool) [ Some u ↦ eqb u.0 user.0 | None ↦ false ]) is ∙ eqb_same user.0)) refl)
+    (all_weaker (λ (m : MemoryObject). ltb m.number at) (λ (m : MemoryObject). not (eqb m.number at)
+    || is_of_files_user settings file m) memory (λ m before. or_left _ _
+    (not_false _ (unlike m.number before))) made)
+    (both_true _ _ (or_right (not (eqb at at)) _
+    (ap (λ (o : Option UserNo). elim o as (λ x. Bool) [ Some u ↦ eqb u.0 user.0 | None ↦ false ]) is
+    ∙ eqb_same user.0)) refl)
   where
     unlike : (n : ℕ) → ltb n at ≡ true → eqb n at ≡ false
     unlike n before = grind (arith, nat_tests)
@@ -76,71 +89,120 @@ owned_new at settings memory file request iova user is made =
 -- ---- a COPY
 
 -- the new area is over its source's memory object, and of its source's file
-owned_copy : (w : World) (file : FileNo) (request : CopyRequest) (iova : Iova) (source : Area) → IsSource w file request source → AreasOwned w → is_over_own w.settings w.memory (mapped_area source.memory file (placed_as request) iova) ≡ true
+owned_copy : (w : World) (file : FileNo) (request : CopyRequest) (iova : Iova) (source : Area)
+    → IsSource w file request source → AreasOwned w
+    → is_over_own w.settings w.memory (mapped_area source.memory file (placed_as request) iova) ≡ true
 owned_copy w file request iova source is o =
-    ap (λ (f : FileNo). list_all (λ (m : MemoryObject). not (eqb m.number source.memory) || is_of_files_user w.settings f m) w.memory) (sym is.of_file)
+    ap (λ (f : FileNo). list_all (λ (m : MemoryObject). not (eqb m.number source.memory)
+    || is_of_files_user w.settings f m) w.memory) (sym is.of_file)
     ∙ of_each (is_over_own w.settings w.memory) w.areas source o.owned is.within
 
 -- ---- memory objects go
 
-fewer_owned : (settings : Settings) (q : MemoryObject → Bool) (memory : List MemoryObject) (areas : List Area) → list_all (is_over_own settings memory) areas ≡ true → list_all (is_over_own settings (filter q memory)) areas ≡ true
+fewer_owned : (settings : Settings) (q : MemoryObject → Bool) (memory : List MemoryObject) (areas : List Area)
+    → list_all (is_over_own settings memory) areas ≡ true
+    → list_all (is_over_own settings (filter q memory)) areas ≡ true
 fewer_owned settings q memory areas owned =
-    all_weaker (is_over_own settings memory) (is_over_own settings (filter q memory)) areas (λ a over. all_filter (λ (m : MemoryObject). not (eqb m.number a.memory) || is_of_files_user settings a.file m) q memory over) owned
+    all_weaker (is_over_own settings memory) (is_over_own settings (filter q memory)) areas
+    (λ a over. all_filter (λ (m : MemoryObject). not (eqb m.number a.memory)
+    || is_of_files_user settings a.file m) q memory over) owned
 
 -- ---- each event
 
-pub keeps_owned : {A : Type 0} → (at : ℕ) (w : World) (e : Event A) (answer : Reply) → ArePinned at w → AreasOwned w → AreasOwned (changed at w e answer)
+pub keeps_owned : {A : Type 0} → (at : ℕ) (w : World) (e : Event A) (answer : Reply) → ArePinned at w → AreasOwned w
+    → AreasOwned (changed at w e answer)
 unfolding changed settle without_areas attached detached joined
 keeps_owned at w (event.IoasAlloc file) (reply.Id id) p o = record { owned = o.owned }
 keeps_owned at w (event.Map file request) (reply.Iova iova) p o = mapped (user_of w.settings file) refl
   where
-    mapped : (user : Option UserNo) → user_of w.settings file ≡ user → AreasOwned (map_changes at w file request iova user)
+    mapped : (user : Option UserNo) → user_of w.settings file ≡ user
+        → AreasOwned (map_changes at w file request iova user)
     mapped None is = o
     mapped (Some user) is =
         record {
           owned =
-              all-with_area (is_over_own w.settings (w.memory ++ memory_object at user request ∷ [])) (mapped_area at file request iova) w.areas
+              all-with_area (is_over_own w.settings (w.memory ++ memory_object at user request ∷ []))
+              (mapped_area at file request iova) w.areas
               (owned_new at w.settings w.memory file request iova user is p.made)
-              (owned_still w.settings w.memory (memory_object at user request) w.areas (none_over at w.areas w.memory p.made p.sizes) o.owned);
+              (owned_still w.settings w.memory (memory_object at user request) w.areas
+              (none_over at w.areas w.memory p.made p.sizes) o.owned);
         }
 keeps_owned at w (event.Copy file request) (reply.Iova iova) p o = copied (source_area w file request) refl
   where
-    copied : (source : Option Area) → source_area w file request ≡ source → AreasOwned (copy_changes w file request iova source)
+    copied : (source : Option Area) → source_area w file request ≡ source
+        → AreasOwned (copy_changes w file request iova source)
     copied None is = o
     copied (Some source) is =
-        record { owned = all-with_area (is_over_own w.settings w.memory) (mapped_area source.memory file (placed_as request) iova) w.areas (owned_copy w file request iova source (source_is w file request source is) o) o.owned }
-keeps_owned at w (event.Unmap file request) (reply.Bytes count) p o = record { owned = all_filter (is_over_own w.settings _) _ w.areas (fewer_owned w.settings _ w.memory w.areas o.owned) }
-keeps_owned at w (event.Unmap file request) (reply.Pending errno) p o = record { owned = all_map (is_over_own w.settings w.memory) (is_over_own w.settings w.memory) _ w.areas (λ a is. is) o.owned }
-keeps_owned at w (event.HwptAlloc file request) (reply.Id id) p o = made (settings_under w.settings w.objects file request.device)
+        record {
+          owned = all-with_area (is_over_own w.settings w.memory)
+              (mapped_area source.memory file (placed_as request) iova) w.areas
+              (owned_copy w file request iova source (source_is w file request source is) o) o.owned;
+        }
+keeps_owned at w (event.Unmap file request) (reply.Bytes count) p o =
+    record {
+      owned = all_filter (is_over_own w.settings _) _ w.areas
+          (fewer_owned w.settings _ w.memory w.areas o.owned);
+    }
+keeps_owned at w (event.Unmap file request) (reply.Pending errno) p o =
+    record {
+      owned = all_map (is_over_own w.settings w.memory) (is_over_own w.settings w.memory) _
+          w.areas (λ a is. is) o.owned;
+    }
+keeps_owned at w (event.HwptAlloc file request) (reply.Id id) p o =
+    made (settings_under w.settings w.objects file request.device)
   where
     made : (settings : Option DeviceSettings) → AreasOwned (hwpt_changes w file request.ioas id settings)
     made None = o
     made (Some settings) = record { owned = o.owned }
-keeps_owned at w (event.Destroy file id) reply.Done p o = record { owned = all_filter (is_over_own w.settings _) _ w.areas (fewer_owned w.settings _ w.memory w.areas o.owned) }
-keeps_owned at w (event.Close file) reply.Done p o = record { owned = all_filter (is_over_own w.settings _) _ w.areas (fewer_owned w.settings _ w.memory w.areas o.owned) }
+keeps_owned at w (event.Destroy file id) reply.Done p o =
+    record {
+      owned = all_filter (is_over_own w.settings _) _ w.areas
+          (fewer_owned w.settings _ w.memory w.areas o.owned);
+    }
+keeps_owned at w (event.Close file) reply.Done p o =
+    record {
+      owned = all_filter (is_over_own w.settings _) _ w.areas
+          (fewer_owned w.settings _ w.memory w.areas o.owned);
+    }
 keeps_owned at w (event.UserMap user va) (reply.Frame frame) p o = record { owned = o.owned }
 keeps_owned at w (event.AllowIovas file ioas ranges) reply.Done p o = record { owned = o.owned }
 keeps_owned at w (event.UserUnmap user va) reply.Done p o = record { owned = o.owned }
 keeps_owned at w (event.UserWrite user va bytes) reply.Done p o = record { owned = o.owned }
 keeps_owned at w (event.Bind file device) (reply.Id id) p o = record { owned = o.owned }
 keeps_owned at w (event.Unbind file id) reply.Done p o = record { owned = o.owned }
-keeps_owned at w (event.Attach device pt_id) (reply.Id id) p o = bound (binding_of w.objects device) (device_of w.settings device)
+keeps_owned at w (event.Attach device pt_id) (reply.Id id) p o =
+    bound (binding_of w.objects device) (device_of w.settings device)
   where
-    bound : (object : Option Object) (settings : Option DeviceSettings) → AreasOwned (attach_changes w device pt_id id object settings)
+    bound : (object : Option Object) (settings : Option DeviceSettings)
+        → AreasOwned (attach_changes w device pt_id id object settings)
     bound None settings = o
     bound (Some object) None = o
     bound (Some object) (Some settings) = by_kind (kind_of w.objects object.file pt_id)
       where
         by_kind : (k : Option ObjectKind) → AreasOwned (target_changes w device pt_id id object settings k)
-        by_kind (Some kind.Ioas) = record { owned = all_map (is_over_own w.settings w.memory) (is_over_own w.settings w.memory) _ w.areas (λ a is. is) o.owned }
-        by_kind (Some (kind.Hwpt ioas width automatic)) = record { owned = all_map (is_over_own w.settings w.memory) (is_over_own w.settings w.memory) _ w.areas (λ a is. is) o.owned }
+        by_kind (Some kind.Ioas) = record {
+          owned = all_map (is_over_own w.settings w.memory)
+              (is_over_own w.settings w.memory) _ w.areas (λ a is. is) o.owned;
+        }
+        by_kind (Some (kind.Hwpt ioas width automatic)) =
+            record {
+              owned = all_map (is_over_own w.settings w.memory) (is_over_own w.settings w.memory) _
+                  w.areas (λ a is. is) o.owned;
+            }
         by_kind k = o
 keeps_owned at w (event.Detach device) reply.Done p o = attached_or_not (attachment_of w.attachments device)
   where
     attached_or_not : (a : Option Attachment) → AreasOwned (detach_changes w device a)
     attached_or_not None = o
-    attached_or_not (Some a) = record { owned = all_map (is_over_own w.settings w.memory) (is_over_own w.settings w.memory) _ w.areas (λ a is. is) o.owned }
-keeps_owned at w (event.Flush device) reply.Done p o = record { owned = all_map (is_over_own w.settings w.memory) (is_over_own w.settings w.memory) _ w.areas (λ a is. is) o.owned }
+    attached_or_not (Some a) = record {
+      owned = all_map (is_over_own w.settings w.memory)
+          (is_over_own w.settings w.memory) _ w.areas (λ a is. is) o.owned;
+    }
+keeps_owned at w (event.Flush device) reply.Done p o =
+    record {
+      owned = all_map (is_over_own w.settings w.memory) (is_over_own w.settings w.memory) _
+          w.areas (λ a is. is) o.owned;
+    }
 keeps_owned at w (event.DeviceWrite device iova bytes) (reply.Passed frame) p o = record { owned = o.owned }
 keeps_owned at w e answer p o = o
 
@@ -149,15 +211,19 @@ pub record OwnedPins (at : ℕ) (w : World) : Type 0 where
   pub pins : ArePinned at w
   pub areas : AreasOwned w
 
-pub tabled_owned : (at : ℕ) (w : World) (taken given : List FrameNo) → OwnedPins at w → OwnedPins at (with_tables taken given w)
+pub tabled_owned : (at : ℕ) (w : World) (taken given : List FrameNo) → OwnedPins at w
+    → OwnedPins at (with_tables taken given w)
 unfolding with_tables
-tabled_owned at w taken given p = record { pins = tabled_pinned at w taken given p.pins; areas = record { owned = p.areas.owned } }
+tabled_owned at w taken given p =
+    record { pins = tabled_pinned at w taken given p.pins; areas = record { owned = p.areas.owned } }
 
 pub later_owned : (at : ℕ) (w : World) → OwnedPins at w → OwnedPins (at + 1) w
 later_owned at w p = record { pins = later_pinned at w p.pins; areas = p.areas }
 
-pub keeps_owned_pins : {A : Type 0} → (at : ℕ) (w : World) (e : Event A) (answer : Reply) → refusal w e ≡ None → Answers w e answer → OwnedPins at w → OwnedPins (at + 1) (changed at w e answer)
-keeps_owned_pins at w e answer none answers p = record { pins = keeps_pins at w e answer none answers p.pins; areas = keeps_owned at w e answer p.pins p.areas }
+pub keeps_owned_pins : {A : Type 0} → (at : ℕ) (w : World) (e : Event A) (answer : Reply) → refusal w e ≡ None
+    → Answers w e answer → OwnedPins at w → OwnedPins (at + 1) (changed at w e answer)
+keeps_owned_pins at w e answer none answers p =
+    record { pins = keeps_pins at w e answer none answers p.pins; areas = keeps_owned at w e answer p.pins p.areas }
 
 pub opening_owned : (settings : Settings) → OwnedPins 0 (opening settings)
 opening_owned settings = record { pins = opening_pinned settings; areas = record { owned = refl } }
@@ -168,26 +234,39 @@ flipped_true : (a b : ℕ) → eqb a b ≡ true → eqb b a ≡ true
 flipped_true a b is = grind (arith, nat_tests)
 
 -- the user of a memory object under an area of the address space is the file's
-pub owner : (w : World) (file : FileNo) (ioas : ObjId) (m : MemoryObject) → AreasOwned w → IsIn w.memory m → list_any (λ (a : Area). eqb a.memory m.number) (areas_of w.areas file ioas) ≡ true → is_of_files_user w.settings file m ≡ true
+pub owner : (w : World) (file : FileNo) (ioas : ObjId) (m : MemoryObject) → AreasOwned w → IsIn w.memory m
+    → list_any (λ (a : Area). eqb a.memory m.number) (areas_of w.areas file ioas) ≡ true
+    → is_of_files_user w.settings file m ≡ true
 owner w file ioas m owned among over =
     always w.areas
-    (any_of_all (is_over_own w.settings w.memory) (λ (a : Area). is_of file ioas a && eqb a.memory m.number) (λ (a : Area). is_of_files_user w.settings file m) w.areas
+    (any_of_all (is_over_own w.settings w.memory) (λ (a : Area). is_of file ioas a && eqb a.memory m.number)
+    (λ (a : Area). is_of_files_user w.settings file m) w.areas
     (λ a own both. of_area a own both) owned.owned
     (sym (any-filter (λ (a : Area). eqb a.memory m.number) (is_of file ioas) w.areas) ∙ over))
   where
-    always : (areas : List Area) → list_any (λ (a : Area). is_of_files_user w.settings file m) areas ≡ true → is_of_files_user w.settings file m ≡ true
+    always : (areas : List Area) → list_any (λ (a : Area). is_of_files_user w.settings file m) areas ≡ true
+        → is_of_files_user w.settings file m ≡ true
     always [] any = cc
     always (a ∷ areas) any = by_test (is_of_files_user w.settings file m) refl any (always areas)
       where
-        by_test : (b : Bool) → is_of_files_user w.settings file m ≡ b → (b || list_any (λ (a : Area). is_of_files_user w.settings file m) areas) ≡ true → (list_any (λ (a : Area). is_of_files_user w.settings file m) areas ≡ true → is_of_files_user w.settings file m ≡ true) → b ≡ true
+        by_test : (b : Bool) → is_of_files_user w.settings file m ≡ b
+            → (b || list_any (λ (a : Area). is_of_files_user w.settings file m) areas) ≡ true
+            → (list_any (λ (a : Area). is_of_files_user w.settings file m) areas ≡ true
+            → is_of_files_user w.settings file m ≡ true) → b ≡ true
         by_test true is any later = refl
         by_test false is any later = sym is ∙ later any
 
-    of_area : (a : Area) → is_over_own w.settings w.memory a ≡ true → (is_of file ioas a && eqb a.memory m.number) ≡ true → is_of_files_user w.settings file m ≡ true
+    of_area : (a : Area) → is_over_own w.settings w.memory a ≡ true
+        → (is_of file ioas a && eqb a.memory m.number) ≡ true → is_of_files_user w.settings file m ≡ true
     of_area a own both =
         let parts = and_true (is_of file ioas a) (eqb a.memory m.number) both in
         let space = and_true (eqb a.file.0 file.0) (eqb a.ioas.0 ioas.0) parts.0 in
         let same : a.file.0 ≡ file.0 = eqb-true a.file.0 file.0 space.0 in
-        let here : (not (eqb m.number a.memory) || is_of_files_user w.settings a.file m) ≡ true = of_each (λ (o : MemoryObject). not (eqb o.number a.memory) || is_of_files_user w.settings a.file o) w.memory m own among in
+        let here : (not (eqb m.number a.memory) || is_of_files_user w.settings a.file m) ≡ true =
+        of_each (λ (o : MemoryObject). not (eqb o.number a.memory)
+        || is_of_files_user w.settings a.file o) w.memory m own among in
         let its : is_of_files_user w.settings a.file m ≡ true = rw (flipped_true a.memory m.number parts.1) at here in
-        ap (λ (n : ℕ). elim (numbered w.settings.files n) as (λ _. Bool) [ Some user ↦ eqb user.0 m.user.0 | None ↦ false ]) (sym same) ∙ its
+        ap (λ (n : ℕ). elim (numbered w.settings.files n) as (λ _. Bool) [
+          | Some user ↦ eqb user.0 m.user.0
+          | None ↦ false
+        ]) (sym same) ∙ its

@@ -1,6 +1,7 @@
 -- Every event keeps the objects by rising file and id.
 use Rattle.std.proofs.Common.{◌≡◌, ℕ, true, false, Option, Some, None, List, refl}
-use Rattle.iofd_words.specs.After.{attach_changes, attached, changed, copy_changes, detach_changes, detached, hwpt_changes, joined, map_changes, settle, target_changes, with_hwpt, without_areas}
+use Rattle.iofd_words.specs.After.{attach_changes, attached, changed, copy_changes, detach_changes, detached}
+use Rattle.iofd_words.specs.After.{hwpt_changes, joined, map_changes, settle, target_changes, with_hwpt, without_areas}
 use Rattle.iofd_words.specs.Answers.{Answers, IsHwptFor, IsHwptOf, IsTarget}
 use Rattle.iofd_words.specs.Areas.{areas_of}
 use Rattle.iofd_words.specs.Attachments.{attachment_of}
@@ -37,15 +38,20 @@ pub opening_rises : (settings : Settings) → ObjectsRise (opening settings)
 opening_rises settings = refl
 
 -- one more object, of an id that its file didn't have
-one_more : (w : World) (file : FileNo) (id : ObjId) (k : ObjectKind) → is_fresh w.objects file id ≡ true → ObjectsRise w → objects_rise (with_object (record { file = file; id = id; kind = k }) w.objects) ≡ true
-one_more w file id k fresh rise = rise-with_object (record { file = file; id = id; kind = k }) w.objects (unused w.objects file id fresh) rise
+one_more : (w : World) (file : FileNo) (id : ObjId) (k : ObjectKind) → is_fresh w.objects file id ≡ true → ObjectsRise w
+    → objects_rise (with_object (record { file = file; id = id; kind = k }) w.objects) ≡ true
+one_more w file id k fresh rise =
+    rise-with_object (record { file = file; id = id; kind = k }) w.objects (unused w.objects file id fresh) rise
 
 -- the page table that an attachment makes or finds
-hwpt_rises : (w : World) (file : FileNo) (ioas id : ObjId) (width : Width) (automatic : Option Object) → IsHwptFor w file id automatic → ObjectsRise w → objects_rise (with_hwpt file ioas id width automatic w.objects) ≡ true
+hwpt_rises : (w : World) (file : FileNo) (ioas id : ObjId) (width : Width) (automatic : Option Object)
+    → IsHwptFor w file id automatic → ObjectsRise w
+    → objects_rise (with_hwpt file ioas id width automatic w.objects) ≡ true
 hwpt_rises w file ioas id width (Some object) answers rise = rise
 hwpt_rises w file ioas id width None answers rise = one_more w file id (kind.Hwpt ioas width true) answers rise
 
-pub keeps_rising : {A : Type 0} → (at : ℕ) (w : World) (e : Event A) (answer : Reply) → refusal w e ≡ None → Answers w e answer → ObjectsRise w → ObjectsRise (changed at w e answer)
+pub keeps_rising : {A : Type 0} → (at : ℕ) (w : World) (e : Event A) (answer : Reply) → refusal w e ≡ None
+    → Answers w e answer → ObjectsRise w → ObjectsRise (changed at w e answer)
 unfolding changed settle without_areas attached detached joined Answers
 keeps_rising at w (event.IoasAlloc file) (reply.Id id) none answers rise = one_more w file id kind.Ioas answers rise
 keeps_rising at w (event.AllowIovas file ioas ranges) reply.Done none answers rise = rise
@@ -54,14 +60,16 @@ keeps_rising at w (event.Map file request) (reply.Iova iova) none answers rise =
     mapped : (user : Option UserNo) → ObjectsRise (map_changes at w file request iova user)
     mapped None = rise
     mapped (Some user) = rise
-keeps_rising at w (event.Copy file request) (reply.Iova iova) none answers rise = copied (source_in (areas_of w.areas file request.src_ioas) request)
+keeps_rising at w (event.Copy file request) (reply.Iova iova) none answers rise =
+    copied (source_in (areas_of w.areas file request.src_ioas) request)
   where
     copied : (source : Option Area) → ObjectsRise (copy_changes w file request iova source)
     copied None = rise
     copied (Some source) = rise
 keeps_rising at w (event.Unmap file request) (reply.Bytes count) none answers rise = rise
 keeps_rising at w (event.Unmap file request) (reply.Pending errno) none answers rise = rise
-keeps_rising at w (event.HwptAlloc file request) (reply.Id id) none answers rise = made (settings_under w.settings w.objects file request.device)
+keeps_rising at w (event.HwptAlloc file request) (reply.Id id) none answers rise =
+    made (settings_under w.settings w.objects file request.device)
   where
     made : (settings : Option DeviceSettings) → ObjectsRise (hwpt_changes w file request.ioas id settings)
     made None = rise
@@ -71,19 +79,25 @@ keeps_rising at w (event.Close file) reply.Done none answers rise = rise-filter 
 keeps_rising at w (event.UserMap user va) (reply.Frame frame) none answers rise = rise
 keeps_rising at w (event.UserUnmap user va) reply.Done none answers rise = rise
 keeps_rising at w (event.UserWrite user va bytes) reply.Done none answers rise = rise
-keeps_rising at w (event.Bind file device) (reply.Id id) none answers rise = one_more w file id (kind.Device device) answers rise
+keeps_rising at w (event.Bind file device) (reply.Id id) none answers rise =
+    one_more w file id (kind.Device device) answers rise
 keeps_rising at w (event.Unbind file id) reply.Done none answers rise = rise-filter _ w.objects rise
-keeps_rising at w (event.Attach device pt_id) (reply.Id id) none answers rise = bound (binding_of w.objects device) (device_of w.settings device) answers
+keeps_rising at w (event.Attach device pt_id) (reply.Id id) none answers rise =
+    bound (binding_of w.objects device) (device_of w.settings device) answers
   where
-    bound : (object : Option Object) (settings : Option DeviceSettings) → IsHwptOf w pt_id id object settings → ObjectsRise (attach_changes w device pt_id id object settings)
+    bound : (object : Option Object) (settings : Option DeviceSettings) → IsHwptOf w pt_id id object settings
+        → ObjectsRise (attach_changes w device pt_id id object settings)
     bound None settings never = absurd never
     bound (Some object) None never = absurd never
     bound (Some object) (Some settings) hwpt = by_kind (kind_of w.objects object.file pt_id) hwpt
       where
-        by_kind : (k : Option ObjectKind) → IsTarget w object.file pt_id id settings.width k → ObjectsRise (target_changes w device pt_id id object settings k)
-        by_kind (Some kind.Ioas) made = hwpt_rises w object.file pt_id id settings.width (automatic_hwpt w.objects object.file pt_id settings.width) made rise
+        by_kind : (k : Option ObjectKind) → IsTarget w object.file pt_id id settings.width k
+            → ObjectsRise (target_changes w device pt_id id object settings k)
+        by_kind (Some kind.Ioas) made = hwpt_rises w object.file pt_id id settings.width
+            (automatic_hwpt w.objects object.file pt_id settings.width) made rise
         by_kind k never = rise
-keeps_rising at w (event.Detach device) reply.Done none answers rise = attached_or_not (attachment_of w.attachments device)
+keeps_rising at w (event.Detach device) reply.Done none answers rise =
+    attached_or_not (attachment_of w.attachments device)
   where
     attached_or_not : (a : Option Attachment) → ObjectsRise (detach_changes w device a)
     attached_or_not None = rise

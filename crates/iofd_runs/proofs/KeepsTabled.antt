@@ -19,14 +19,17 @@ use Rattle.iofd_runs.proofs.OwnIds.{keeps_own_ids}
 use Rattle.iofd_runs.proofs.SameTables.{same_tables}
 
 -- where the rows move as they may
-pub tables_moved : {A : Type 0} (w left : World) (e : Event A) (answer : Reply) (taken given : List FrameNo) → left.table_frames ≡ w.table_frames → have_own_ids left.objects ≡ true → MovesTables w left e answer taken given → AreTabled (with_tables taken given left)
+pub tables_moved : {A : Type 0} (w left : World) (e : Event A) (answer : Reply) (taken given : List FrameNo)
+    → left.table_frames ≡ w.table_frames → have_own_ids left.objects ≡ true → MovesTables w left e answer taken given
+    → AreTabled (with_tables taken given left)
 unfolding with_tables
 tables_moved w left e answer taken given same own moves =
     record {
       needed = tables_come left.objects left.areas kept taken moves.enough;
       owned =
           list_all-append (is_owned left.objects) kept new
-          ∙ both_true _ _ (kept_owned left.objects given left.table_frames (rw same moves.gone)) (new_owned left.objects left.areas kept taken own);
+          ∙ both_true _ _ (kept_owned left.objects given left.table_frames (rw same moves.gone))
+          (new_owned left.objects left.areas kept taken own);
     }
   where
     kept : List TableFrame
@@ -43,8 +46,14 @@ pub record HasTables (w : World) : Type 0 where
 pub opening_tables : (settings : Settings) → HasTables (opening settings)
 opening_tables settings = record { own_ids = refl; tables = record { needed = refl; owned = refl } }
 
-pub keeps_tables : {A : Type 0} → (at : ℕ) (w : World) (e : Event A) (answer : Reply) (taken given : List FrameNo) → refusal w e ≡ None → Answers w e answer → MovesTables w (changed at w e answer) e answer taken given → HasTables w → HasTables (with_tables taken given (changed at w e answer))
+pub keeps_tables : {A : Type 0} → (at : ℕ) (w : World) (e : Event A) (answer : Reply) (taken given : List FrameNo)
+    → refusal w e ≡ None → Answers w e answer → MovesTables w (changed at w e answer) e answer taken given → HasTables w
+    → HasTables (with_tables taken given (changed at w e answer))
 unfolding with_tables
 keeps_tables at w e answer taken given none answers moves has =
     let own = keeps_own_ids at w e answer none answers has.own_ids in
-    record { own_ids = own; tables = tables_moved w (changed at w e answer) e answer taken given (same_tables at w e answer) own moves }
+    record {
+      own_ids = own;
+      tables = tables_moved w (changed at w e answer) e answer taken given
+          (same_tables at w e answer) own moves;
+    }

@@ -1,5 +1,5 @@
--- Where a MAP or a COPY that nothing refuses puts its area, be the address fixed or chosen: at a page's border, in addresses that
--- can be used, and beside the areas that stand.
+-- Where a MAP or a COPY that nothing refuses puts its area, be the address fixed or chosen: at a page's border, in
+-- addresses that can be used, and beside the areas that stand.
 use Rattle.std.proofs.Common.{◌≡◌, ℕ, Bool, true, false, not, None, List, [], ◌∷◌, refl, sym, subst, arith}
 use Rattle.std.proofs.lemmas.Bool.Decides.{nat_tests}
 use Rattle.std.proofs.lemmas.Bool.{not-false}
@@ -32,7 +32,9 @@ pub record LiesAt (v : View) (file : FileNo) (request : MapRequest) (iova : ℕ)
   pub apart : areas_meet (span_from iova request.length) (v.areas_of file request.ioas) ≡ false
 
 -- what meets none of the occupied spans meets no unusable one and no area
-meets_parts : (unusable : List Bounds) (areas : List Area) (span : Bounds) → meets_some (occupied unusable areas) span ≡ false → (meets_some unusable span ≡ false) × (areas_meet span areas ≡ false)
+meets_parts : (unusable : List Bounds) (areas : List Area) (span : Bounds)
+    → meets_some (occupied unusable areas) span ≡ false → (meets_some unusable span ≡ false)
+    × (areas_meet span areas ≡ false)
 meets_parts [] [] span clear = (refl, refl)
 meets_parts [] (a ∷ areas) span clear =
     let parts = or_false (meets a.span span) (meets_some (occupied [] areas) span) clear in
@@ -43,15 +45,20 @@ meets_parts (one ∷ unusable) areas span clear =
     let rest = meets_parts unusable areas span parts.1 in
     (rw parts.0 rest.0, rest.1)
 
-chosen_lies : (v : View) (file : FileNo) (request : MapRequest) (iova : ℕ) → may_choose v file request iova ≡ true → LiesAt v file request iova
+chosen_lies : (v : View) (file : FileNo) (request : MapRequest) (iova : ℕ) → may_choose v file request iova ≡ true
+    → LiesAt v file request iova
 chosen_lies v file request iova may =
-    let below = and_true (not (is_above_sum iova request.length)) (fits request.length (choices v file request) (taken_spans v file request) iova) may in
+    let below = and_true (not (is_above_sum iova request.length))
+    (fits request.length (choices v file request) (taken_spans v file request) iova) may in
     let whole : is_whole iova ≡ true = let fit = below.1 in grind (arith, nat_tests) in
-    let free : meets_some (taken_spans v file request) (span_from iova request.length) ≡ false = let fit = below.1 in grind (arith, nat_tests) in
-    let clear = meets_parts (unusable_in v file request.ioas) (v.areas_of file request.ioas) (span_from iova request.length) free in
+    let free : meets_some (taken_spans v file request) (span_from iova request.length) ≡ false =
+    let fit = below.1 in grind (arith, nat_tests) in
+    let clear = meets_parts (unusable_in v file request.ioas) (v.areas_of file request.ioas)
+    (span_from iova request.length) free in
     record { sum = not_true _ below.0; whole = whole; usable = clear.0; apart = clear.1 }
 
-fixed_lies : (v : View) (file : FileNo) (request : MapRequest) → is_fixed request.flags ≡ true → PlacePassed v file request → LiesAt v file request request.iova.0
+fixed_lies : (v : View) (file : FileNo) (request : MapRequest) → is_fixed request.flags ≡ true
+    → PlacePassed v file request → LiesAt v file request request.iova.0
 fixed_lies v file request is passed =
     record {
       sum = and_rest (is_fixed request.flags) _ is passed.sum;
@@ -61,20 +68,28 @@ fixed_lies v file request is passed =
     }
 
 -- an area that is placed as the request says
-pub placed_lies : (w : World) (file : FileNo) (request : MapRequest) (iova : Iova) → PlacePassed (view w) file request → IsMappedAt w file request (is_fixed request.flags) iova → LiesAt (view w) file request iova.0
+pub placed_lies : (w : World) (file : FileNo) (request : MapRequest) (iova : Iova) → PlacePassed (view w) file request
+    → IsMappedAt w file request (is_fixed request.flags) iova → LiesAt (view w) file request iova.0
 placed_lies w file request iova passed is =
     by_flag (is_fixed request.flags) refl is
   where
-    by_flag : (b : Bool) → is_fixed request.flags ≡ b → IsMappedAt w file request b iova → LiesAt (view w) file request iova.0
+    by_flag : (b : Bool) → is_fixed request.flags ≡ b → IsMappedAt w file request b iova
+        → LiesAt (view w) file request iova.0
     by_flag true fixed at =
         let here = fixed_lies (view w) file request fixed passed in
         subst (λ (i : Iova). LiesAt (view w) file request i.0) (sym at) here
     by_flag false fixed chosen = chosen_lies (view w) file request iova.0 chosen
 
 -- a MAP's
-pub lies_at : (w : World) (file : FileNo) (request : MapRequest) (iova : Iova) → first_true (map_checks (view w) file request) ≡ None → IsMappedAt w file request (is_fixed request.flags) iova → LiesAt (view w) file request iova.0
+pub lies_at : (w : World) (file : FileNo) (request : MapRequest) (iova : Iova)
+    → first_true (map_checks (view w) file request) ≡ None → IsMappedAt w file request (is_fixed request.flags) iova
+    → LiesAt (view w) file request iova.0
 lies_at w file request iova none is = placed_lies w file request iova (map_place (view w) file request none) is
 
 -- a COPY's
-pub copy_lies_at : (w : World) (file : FileNo) (request : CopyRequest) (iova : Iova) → first_true (copy_checks (view w) file request) ≡ None → IsMappedAt w file (placed_as request) (is_fixed request.flags) iova → LiesAt (view w) file (placed_as request) iova.0
-copy_lies_at w file request iova none is = placed_lies w file (placed_as request) iova (copy_place (view w) file request none) is
+pub copy_lies_at : (w : World) (file : FileNo) (request : CopyRequest) (iova : Iova)
+    → first_true (copy_checks (view w) file request) ≡ None
+    → IsMappedAt w file (placed_as request) (is_fixed request.flags) iova
+    → LiesAt (view w) file (placed_as request) iova.0
+copy_lies_at w file request iova none is =
+    placed_lies w file (placed_as request) iova (copy_place (view w) file request none) is

@@ -16,74 +16,100 @@ pub before_through : (a b c : Object) → comes_before a b ≡ true → comes_be
 before_through a b c first then = grind (arith, nat_tests)
 
 -- one of two objects comes before the other, unless they have one file and one id
-pub before_or_after : (a b : Object) → is_object a.file a.id b ≡ false → comes_before a b ≡ false → comes_before b a ≡ true
+pub before_or_after : (a b : Object) → is_object a.file a.id b ≡ false → comes_before a b ≡ false
+    → comes_before b a ≡ true
 before_or_after a b other after = grind (arith, nat_tests)
 
 -- what comes before the first object comes before all
-all_after : (object first : Object) (objects : List Object) → comes_before object first ≡ true → list_all (comes_before first) objects ≡ true → list_all (comes_before object) objects ≡ true
-all_after object first objects before above = all_weaker (comes_before first) (comes_before object) objects (λ later after. before_through object first later before after) above
+all_after : (object first : Object) (objects : List Object) → comes_before object first ≡ true
+    → list_all (comes_before first) objects ≡ true → list_all (comes_before object) objects ≡ true
+all_after object first objects before above =
+    all_weaker (comes_before first) (comes_before object) objects
+    (λ later after. before_through object first later before after) above
 
 -- ---- one more object
 
 -- one that comes before all is the first
-pub with_first : (object : Object) (objects : List Object) → list_all (comes_before object) objects ≡ true → with_object object objects ≡ object ∷ objects
+pub with_first : (object : Object) (objects : List Object) → list_all (comes_before object) objects ≡ true
+    → with_object object objects ≡ object ∷ objects
 with_first object [] before = refl
-with_first object (o ∷ objects) before = rw (and_true (comes_before object o) (list_all (comes_before object) objects) before).0 refl
+with_first object (o ∷ objects) before =
+    rw (and_true (comes_before object o) (list_all (comes_before object) objects) before).0 refl
 
 -- one whose id its file doesn't have
-pub rise-with_object : (object : Object) (objects : List Object) → list_any (is_object object.file object.id) objects ≡ false → objects_rise objects ≡ true → objects_rise (with_object object objects) ≡ true
+pub rise-with_object : (object : Object) (objects : List Object)
+    → list_any (is_object object.file object.id) objects ≡ false → objects_rise objects ≡ true
+    → objects_rise (with_object object objects) ≡ true
 rise-with_object object [] free rise = refl
 rise-with_object object (o ∷ objects) free rise =
-    let frees = or_false (is_object object.file object.id o) (list_any (is_object object.file object.id) objects) free in
+    let frees =
+    or_false (is_object object.file object.id o) (list_any (is_object object.file object.id) objects) free in
     let rises = and_true (list_all (comes_before o) objects) (objects_rise objects) rise in
     by_order (comes_before object o) refl frees.0 rises.0 (rise-with_object object objects frees.1 rises.1)
   where
-    by_order : (b : Bool) → comes_before object o ≡ b → is_object object.file object.id o ≡ false → list_all (comes_before o) objects ≡ true → objects_rise (with_object object objects) ≡ true
+    by_order : (b : Bool) → comes_before object o ≡ b → is_object object.file object.id o ≡ false
+        → list_all (comes_before o) objects ≡ true → objects_rise (with_object object objects) ≡ true
         → objects_rise (cond b (object ∷ o ∷ objects) (o ∷ with_object object objects)) ≡ true
-    by_order true before other above rest = both_true _ _ (both_true _ _ before (all_after object o objects before above)) rise
-    by_order false after other above rest = both_true _ _ (known_one (comes_before o) object objects (before_or_after object o other after) above) rest
+    by_order true before other above rest =
+        both_true _ _ (both_true _ _ before (all_after object o objects before above)) rise
+    by_order false after other above rest =
+        both_true _ _ (known_one (comes_before o) object objects (before_or_after object o other after) above) rest
 
 -- ---- fewer objects
 
-pub rise-filter : (keeps : Object → Bool) (objects : List Object) → objects_rise objects ≡ true → objects_rise (filter keeps objects) ≡ true
+pub rise-filter : (keeps : Object → Bool) (objects : List Object) → objects_rise objects ≡ true
+    → objects_rise (filter keeps objects) ≡ true
 rise-filter keeps [] rise = refl
 rise-filter keeps (o ∷ objects) rise =
     let rises = and_true (list_all (comes_before o) objects) (objects_rise objects) rise in
     by_test (keeps o) (all_filter (comes_before o) keeps objects rises.0) (rise-filter keeps objects rises.1)
   where
-    by_test : (b : Bool) → list_all (comes_before o) (filter keeps objects) ≡ true → objects_rise (filter keeps objects) ≡ true → objects_rise (cond b (o ∷ filter keeps objects) (filter keeps objects)) ≡ true
+    by_test : (b : Bool) → list_all (comes_before o) (filter keeps objects) ≡ true
+        → objects_rise (filter keeps objects) ≡ true
+        → objects_rise (cond b (o ∷ filter keeps objects) (filter keeps objects)) ≡ true
     by_test true above rest = both_true _ _ above rest
     by_test false above rest = rest
 
 -- ---- what a filter keeps of one more object
 
 -- one that passes is one more of those that pass
-pub filter-with_object : (test : Object → Bool) (object : Object) (objects : List Object) → test object ≡ true → objects_rise objects ≡ true → filter test (with_object object objects) ≡ with_object object (filter test objects)
+pub filter-with_object : (test : Object → Bool) (object : Object) (objects : List Object) → test object ≡ true
+    → objects_rise objects ≡ true → filter test (with_object object objects) ≡ with_object object (filter test objects)
 filter-with_object test object [] passes rise = rw passes refl
 filter-with_object test object (o ∷ objects) passes rise =
     let rises = and_true (list_all (comes_before o) objects) (objects_rise objects) rise in
     by_order (comes_before object o) refl rises.0 (filter-with_object test object objects passes rises.1)
   where
     -- it comes first
-    first : comes_before object o ≡ true → list_all (comes_before o) objects ≡ true → with_object object (filter test (o ∷ objects)) ≡ object ∷ filter test (o ∷ objects)
-    first before above = with_first object (filter test (o ∷ objects)) (all_filter (comes_before object) test (o ∷ objects) (both_true _ _ before (all_after object o objects before above)))
+    first : comes_before object o ≡ true → list_all (comes_before o) objects ≡ true
+        → with_object object (filter test (o ∷ objects)) ≡ object ∷ filter test (o ∷ objects)
+    first before above = with_first object (filter test (o ∷ objects))
+        (all_filter (comes_before object) test (o ∷ objects)
+        (both_true _ _ before (all_after object o objects before above)))
 
     -- it comes later
-    by_test : (b : Bool) → comes_before object o ≡ false → filter test (with_object object objects) ≡ with_object object (filter test objects)
-        → cond b (o ∷ filter test (with_object object objects)) (filter test (with_object object objects)) ≡ with_object object (cond b (o ∷ filter test objects) (filter test objects))
+    by_test : (b : Bool) → comes_before object o ≡ false
+        → filter test (with_object object objects) ≡ with_object object (filter test objects)
+        → cond b (o ∷ filter test (with_object object objects)) (filter test (with_object object objects)) ≡ with_object
+        object (cond b (o ∷ filter test objects) (filter test objects))
     by_test true after rest = rw (after, rest) refl
     by_test false after rest = rest
 
-    by_order : (b : Bool) → comes_before object o ≡ b → list_all (comes_before o) objects ≡ true → filter test (with_object object objects) ≡ with_object object (filter test objects)
-        → filter test (cond b (object ∷ o ∷ objects) (o ∷ with_object object objects)) ≡ with_object object (filter test (o ∷ objects))
+    by_order : (b : Bool) → comes_before object o ≡ b → list_all (comes_before o) objects ≡ true
+        → filter test (with_object object objects) ≡ with_object object (filter test objects)
+        → filter test (cond b (object ∷ o ∷ objects) (o ∷ with_object object objects)) ≡ with_object object
+        (filter test (o ∷ objects))
     by_order true before above rest = rw passes (sym (first before above))
     by_order false after above rest = by_test (test o) after rest
 
 -- one that doesn't pass changes nothing of those that do
-pub filter-with_other : (test : Object → Bool) (object : Object) (objects : List Object) → test object ≡ false → filter test (with_object object objects) ≡ filter test objects
+pub filter-with_other : (test : Object → Bool) (object : Object) (objects : List Object) → test object ≡ false
+    → filter test (with_object object objects) ≡ filter test objects
 filter-with_other test object [] fails = rw fails refl
-filter-with_other test object (o ∷ objects) fails = by_order (comes_before object o) (filter-with_other test object objects fails)
+filter-with_other test object (o ∷ objects) fails =
+    by_order (comes_before object o) (filter-with_other test object objects fails)
   where
-    by_order : (b : Bool) → filter test (with_object object objects) ≡ filter test objects → filter test (cond b (object ∷ o ∷ objects) (o ∷ with_object object objects)) ≡ filter test (o ∷ objects)
+    by_order : (b : Bool) → filter test (with_object object objects) ≡ filter test objects
+        → filter test (cond b (object ∷ o ∷ objects) (o ∷ with_object object objects)) ≡ filter test (o ∷ objects)
     by_order true rest = rw fails refl
     by_order false rest = ap (λ (os : List Object). cond (test o) (o ∷ os) os) rest

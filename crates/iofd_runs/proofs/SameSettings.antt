@@ -1,6 +1,7 @@
 -- No event changes what a server was opened with.
 use Rattle.std.proofs.Common.{◌≡◌, ℕ, Option, Some, None, List, refl, ◌∙◌}
-use Rattle.iofd_words.specs.After.{attach_changes, attached, changed, copy_changes, detach_changes, detached, hwpt_changes, joined, map_changes, settle, target_changes, without_areas}
+use Rattle.iofd_words.specs.After.{attach_changes, attached, changed, copy_changes, detach_changes, detached}
+use Rattle.iofd_words.specs.After.{hwpt_changes, joined, map_changes, settle, target_changes, without_areas}
 use Rattle.iofd_words.specs.Answers.{Answers}
 use Rattle.iofd_words.specs.Areas.{areas_of}
 use Rattle.iofd_words.specs.Attachments.{attachment_of}
@@ -23,7 +24,8 @@ use Rattle.iofd_words.specs.declared.rows.Object.{Object}
 use Rattle.iofd_words.specs.declared.rows.ObjectKind.{ObjectKind}
 use Rattle.iofd_words.specs.declared.rows.ObjectKind.TheVariants as kind
 
-pub changed_settings : {A : Type 0} → (at : ℕ) (w : World) (e : Event A) (answer : Reply) → (changed at w e answer).settings ≡ w.settings
+pub changed_settings : {A : Type 0} → (at : ℕ) (w : World) (e : Event A) (answer : Reply)
+    → (changed at w e answer).settings ≡ w.settings
 unfolding changed settle without_areas attached detached joined
 changed_settings at w (event.IoasAlloc file) (reply.Id id) = refl
 changed_settings at w (event.Map file request) (reply.Iova iova) = mapped (user_of w.settings file)
@@ -31,7 +33,8 @@ changed_settings at w (event.Map file request) (reply.Iova iova) = mapped (user_
     mapped : (user : Option UserNo) → (map_changes at w file request iova user).settings ≡ w.settings
     mapped None = refl
     mapped (Some user) = refl
-changed_settings at w (event.Copy file request) (reply.Iova iova) = copied (source_in (areas_of w.areas file request.src_ioas) request)
+changed_settings at w (event.Copy file request) (reply.Iova iova) =
+    copied (source_in (areas_of w.areas file request.src_ioas) request)
   where
     copied : (source : Option Area) → (copy_changes w file request iova source).settings ≡ w.settings
     copied None = refl
@@ -52,9 +55,11 @@ changed_settings at w (event.UserUnmap user va) reply.Done = refl
 changed_settings at w (event.UserWrite user va bytes) reply.Done = refl
 changed_settings at w (event.Bind file device) (reply.Id id) = refl
 changed_settings at w (event.Unbind file id) reply.Done = refl
-changed_settings at w (event.Attach device pt_id) (reply.Id id) = bound (binding_of w.objects device) (device_of w.settings device)
+changed_settings at w (event.Attach device pt_id) (reply.Id id) =
+    bound (binding_of w.objects device) (device_of w.settings device)
   where
-    bound : (object : Option Object) (settings : Option DeviceSettings) → (attach_changes w device pt_id id object settings).settings ≡ w.settings
+    bound : (object : Option Object) (settings : Option DeviceSettings)
+        → (attach_changes w device pt_id id object settings).settings ≡ w.settings
     bound None settings = refl
     bound (Some object) None = refl
     bound (Some object) (Some settings) = by_kind (kind_of w.objects object.file pt_id)
@@ -72,9 +77,11 @@ changed_settings at w (event.DeviceWrite device iova bytes) (reply.Passed frame)
 changed_settings at w e answer = refl
 
 -- for a run
-pub keeps_settings : {A : Type 0} → (settings : Settings) (at : ℕ) (w : World) (e : Event A) (answer : Reply) → refusal w e ≡ None → Answers w e answer → w.settings ≡ settings → (changed at w e answer).settings ≡ settings
+pub keeps_settings : {A : Type 0} → (settings : Settings) (at : ℕ) (w : World) (e : Event A) (answer : Reply)
+    → refusal w e ≡ None → Answers w e answer → w.settings ≡ settings → (changed at w e answer).settings ≡ settings
 keeps_settings settings at w e answer none answers is = changed_settings at w e answer ∙ is
 
-pub tabled_settings : (settings : Settings) (w : World) (taken given : List FrameNo) → w.settings ≡ settings → (with_tables taken given w).settings ≡ settings
+pub tabled_settings : (settings : Settings) (w : World) (taken given : List FrameNo) → w.settings ≡ settings
+    → (with_tables taken given w).settings ≡ settings
 unfolding with_tables
 tabled_settings settings w taken given is = is

@@ -1,4 +1,5 @@
--- Where areas begin, how long they are and which rights they give, in which order attachments stand, and that rows name frames, files and devices that there are.
+-- Where areas begin, how long they are and which rights they give, in which order attachments stand, and that rows name
+-- frames, files and devices that there are.
 use Rattle.std.specs.Prelude.{◌≡◌, ◌^◌, Bool, true, ◌&&◌, nat_le, nat_lt, List, [], ◌∷◌}
 use Rattle.std.specs.List.{list_all}
 use Rattle.iofd_words.specs.Files.{is_device, is_open}
@@ -43,6 +44,7 @@ pub record RowsFit (w : World) : Type 0 where
   pub user_frames : list_all (λ p. nat_lt p.frame.0 w.settings.pool) w.user_pages ≡ true
   pub pin_frames : list_all (λ pin. nat_lt pin.frame.0 w.settings.pool) w.pins ≡ true
   -- each object is of a file that is there and isn't closed, and a bound device is one of the settings
-  pub known : list_all (λ object. is_open w.settings w.closed object.file && is_known_device w.settings object.kind) w.objects ≡ true
+  pub known : list_all (λ object. is_open w.settings w.closed object.file
+      && is_known_device w.settings object.kind) w.objects ≡ true
   -- the attached devices are of the settings
   pub attached : list_all (λ a. is_device w.settings a.device) w.attachments ≡ true

@@ -18,4 +18,5 @@ pub record AreasUsable (w : World) : Type 0 where
   pub usable : list_all (is_in_usable w) w.areas ≡ true
   -- each range that an address space allows does
   pub ranges : (file : FileNo) (ioas : ObjId)
-      → list_any (meets_some (unusable w.settings w.objects w.attachments file ioas)) (allowed_of w.allowed file ioas) ≡ false
+      → list_any (meets_some (unusable w.settings w.objects w.attachments file ioas))
+      (allowed_of w.allowed file ioas) ≡ false

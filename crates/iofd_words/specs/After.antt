@@ -1,5 +1,6 @@
 -- The world after an event that nothing refused, by the answer that the record has.
-use Rattle.std.specs.Prelude.{ℕ, ◌/◌, Bool, true, false, ◌==◌, ◌&&◌, not, Option, Some, None, List, [], ◌∷◌, ◌++◌, filter}
+use Rattle.std.specs.Prelude.{ℕ, ◌/◌, Bool, true, false, ◌==◌, ◌&&◌, not, Option, Some, None, List, [], ◌∷◌, ◌++◌}
+use Rattle.std.specs.Prelude.{filter}
 use Rattle.std.specs.List.{list_any}
 use Rattle.iofd_words.specs.Allowed.{with_allowed, without_allowed}
 use Rattle.iofd_words.specs.Areas.{areas_of, is_of, is_touched, with_area, with_leaving, all_paid}
@@ -8,7 +9,8 @@ use Rattle.iofd_words.specs.Bounds.{Bounds}
 use Rattle.iofd_words.specs.Copies.{placed_as, source_in}
 use Rattle.iofd_words.specs.Files.{user_of, device_of}
 use Rattle.iofd_words.specs.Frames.{frame_at, with_write, without_frame, without_page}
-use Rattle.iofd_words.specs.Objects.{automatic_hwpt, binding_of, is_automatic, is_object, kind_of, settings_under, with_object, without_device_object, without_object}
+use Rattle.iofd_words.specs.Objects.{automatic_hwpt, binding_of, is_automatic, is_object, kind_of, settings_under}
+use Rattle.iofd_words.specs.Objects.{with_object, without_device_object, without_object}
 use Rattle.iofd_words.specs.Pages.{page_of, offset_of}
 use Rattle.iofd_words.specs.Pins.{pinned_pages, settled}
 use Rattle.iofd_words.specs.Rights.{is_writeable, rights_of}
@@ -39,7 +41,8 @@ use Rattle.iofd_words.specs.declared.width.Width.{Width}
 
 -- ---- pins follow the areas and the page tables
 
--- the new world with its pins: a page that stays pinned keeps its pin, a newly pinned one takes the frame that its user has there now
+-- the new world with its pins: a page that stays pinned keeps its pin, a newly pinned one takes the frame that its user
+-- has there now
 unfoldable pub settle : World → World → World
 settle old new =
     record new {
@@ -57,7 +60,13 @@ settle old new =
 -- the memory object that a MAP makes; the position of its record is its number
 abbrev pub memory_object : ℕ → UserNo → MapRequest → MemoryObject
 memory_object at user request =
-    record { number = at; user = user; va = request.user_va; count = request.length / 4096; writable = is_writeable request.flags }
+    record {
+      number = at;
+      user = user;
+      va = request.user_va;
+      count = request.length / 4096;
+      writable = is_writeable request.flags;
+    }
 
 -- the area lies at the address that was answered, over the memory object of this number
 abbrev pub mapped_area : ℕ → FileNo → MapRequest → Iova → Area
@@ -105,7 +114,8 @@ with_hwpt file ioas id width None objects =
 unfoldable pub attached : World → DeviceNo → ObjId → ObjId → Object → DeviceSettings → World
 attached w device ioas id bound settings =
     record w {
-      objects = with_hwpt bound.file ioas id settings.width (automatic_hwpt w.objects bound.file ioas settings.width) w.objects;
+      objects = with_hwpt bound.file ioas id settings.width
+          (automatic_hwpt w.objects bound.file ioas settings.width) w.objects;
       attachments = with_attachment (record { device = device; file = bound.file; hwpt = id }) w.attachments;
       areas = all_paid device w.areas;
     }
@@ -159,10 +169,11 @@ hwpt_changes w file ioas id None = w
 hwpt_changes w file ioas id (Some settings) =
     settle w (record w { objects = with_object (made_hwpt file ioas id settings) w.objects })
 
--- ---- the world after each event, by the kind of its answer; each other kind is no answer of the event, and leaves the world
+-- ---- the world after each event, by the kind of its answer; each other kind is no answer of it, and leaves the world
 
 abbrev pub allocated : World → FileNo → Reply → World
-allocated w file (reply.Id id) = record w { objects = with_object (record { file = file; id = id; kind = kind.Ioas }) w.objects }
+allocated w file (reply.Id id) =
+    record w { objects = with_object (record { file = file; id = id; kind = kind.Ioas }) w.objects }
 allocated w file answer = w
 
 abbrev pub ranges_allowed : World → FileNo → ObjId → List Bounds → Reply → World
@@ -174,7 +185,8 @@ mapped at w file request (reply.Iova iova) = map_changes at w file request iova 
 mapped at w file request answer = w
 
 abbrev pub copied : World → FileNo → CopyRequest → Reply → World
-copied w file request (reply.Iova iova) = copy_changes w file request iova (source_in (areas_of w.areas file request.src_ioas) request)
+copied w file request (reply.Iova iova) =
+    copy_changes w file request iova (source_in (areas_of w.areas file request.src_ioas) request)
 copied w file request answer = w
 
 abbrev pub unmapped : World → FileNo → UnmapRequest → Reply → World

@@ -36,7 +36,8 @@ abbrev pub IsHwptFor : World → FileNo → ObjId → Option Object → Type 0
 IsHwptFor w file id (Some automatic) = id ≡ automatic.id
 IsHwptFor w file id None = IsTrue (is_fresh w.objects file id)
 
--- the page table, by what the file has under the id that the attachment names: an address space, or the page table itself
+-- the page table, by what the file has under the id that the attachment names: an address space, or the page table
+-- itself
 abbrev pub IsTarget : World → FileNo → ObjId → ObjId → Width → Option ObjectKind → Type 0
 IsTarget w file pt_id id width (Some kind.Ioas) = IsHwptFor w file id (automatic_hwpt w.objects file pt_id width)
 IsTarget w file pt_id id width (Some (kind.Hwpt ioas of automatic)) = id ≡ pt_id
@@ -47,7 +48,8 @@ IsTarget w file pt_id id width None = ⊥
 abbrev pub IsHwptOf : World → ObjId → ObjId → Option Object → Option DeviceSettings → Type 0
 IsHwptOf w pt_id id None settings = ⊥
 IsHwptOf w pt_id id (Some bound) None = ⊥
-IsHwptOf w pt_id id (Some bound) (Some settings) = IsTarget w bound.file pt_id id settings.width (kind_of w.objects bound.file pt_id)
+IsHwptOf w pt_id id (Some bound) (Some settings) =
+    IsTarget w bound.file pt_id id settings.width (kind_of w.objects bound.file pt_id)
 
 -- how the outcome of a write is told
 abbrev pub write_reply : World → DeviceNo → ℕ → Outcome → Reply
@@ -94,7 +96,8 @@ unfoldable pub Answers : {A : Type 0} → World → Event A → Reply → Type 0
 Answers w (event.IoasAlloc file) answer = AnswersId (λ id. IsTrue (is_fresh w.objects file id)) answer
 Answers w (event.AllowIovas file ioas ranges) answer = AnswersDone answer
 Answers w (event.Map file request) answer = AnswersIova (IsMappedAt w file request (is_fixed request.flags)) answer
-Answers w (event.Copy file request) answer = AnswersIova (IsMappedAt w file (placed_as request) (is_fixed request.flags)) answer
+Answers w (event.Copy file request) answer =
+    AnswersIova (IsMappedAt w file (placed_as request) (is_fixed request.flags)) answer
 Answers w (event.Unmap file request) answer = UnmapAnswers w file request answer
 Answers w (event.HwptAlloc file request) answer = AnswersId (λ id. IsTrue (is_fresh w.objects file id)) answer
 Answers w (event.Destroy file id) answer = AnswersDone answer

@@ -1,5 +1,6 @@
 -- The areas of address spaces: live, or leaving until the devices that may have cached them have flushed.
-use Rattle.std.specs.Prelude.{ℕ, Bool, ◌==◌, ◌&&◌, not, nat_le, nat_lt, Option, List, [], ◌∷◌, length, map, filter, find, sum_by, if◌then◌else◌}
+use Rattle.std.specs.Prelude.{ℕ, Bool, ◌==◌, ◌&&◌, not, nat_le, nat_lt, Option, List, [], ◌∷◌, length, map, filter}
+use Rattle.std.specs.Prelude.{find, sum_by, if◌then◌else◌}
 use Rattle.std.specs.List.{list_any}
 use Rattle.iofd_words.specs.Bounds.{Bounds}
 use Rattle.iofd_words.specs.Span.{holds, meets, lies_in, size_of, span_from}
@@ -71,7 +72,8 @@ meets_area areas file ioas span = areas_meet span (areas_of areas file ioas)
 abbrev pub with_area : Area → List Area → List Area
 with_area area [] = area ∷ []
 with_area area (a ∷ areas) =
-    if is_of area.file area.ioas a && nat_lt area.span.first a.span.first then area ∷ a ∷ areas else a ∷ with_area area areas
+    if is_of area.file area.ioas a && nat_lt area.span.first a.span.first then area ∷ a ∷ areas
+    else a ∷ with_area area areas
 
 -- the device owes no area a flush any more
 abbrev pub all_paid : DeviceNo → List Area → List Area
@@ -85,7 +87,8 @@ is_everything request = request.iova.0 == 0 && request.length == 0xffff_ffff_fff
 
 abbrev pub unmapped_span : UnmapRequest → Bounds
 unmapped_span request =
-    if is_everything request then record { first = 0; last = 0xffff_ffff_ffff_ffff } else span_from request.iova.0 request.length
+    if is_everything request then record { first = 0; last = 0xffff_ffff_ffff_ffff }
+    else span_from request.iova.0 request.length
 
 -- the areas of its address space that meet its span
 abbrev pub is_touched : FileNo → UnmapRequest → Area → Bool
@@ -96,7 +99,8 @@ touched areas file request = filter (is_touched file request) areas
 
 -- some device still has to flush before the touched areas may go
 abbrev pub is_waiting : List Area → List ℕ → FileNo → UnmapRequest → Bool
-is_waiting areas attached file request = list_any (λ area. not (length (owed_by attached area.phase) == 0)) (touched areas file request)
+is_waiting areas attached file request =
+    list_any (λ area. not (length (owed_by attached area.phase) == 0)) (touched areas file request)
 
 -- how many bytes go
 abbrev pub touched_bytes : List Area → FileNo → UnmapRequest → ℕ
@@ -105,4 +109,5 @@ touched_bytes areas file request = sum_by (λ area. size_of area.span) (touched 
 -- all touched areas are leaving
 abbrev pub with_leaving : List Area → List ℕ → FileNo → UnmapRequest → List Area
 with_leaving areas attached file request =
-    map (λ area. with_phase (if is_touched file request area then leaving attached area.phase else area.phase) area) areas
+    map (λ area. with_phase (if is_touched file request area then leaving attached area.phase else area.phase) area)
+    areas

@@ -1,6 +1,7 @@
--- The refusals of each event, in their order, by what they read of a world: the first test that is true gives the cause. A closed
--- or unknown file comes before all.
-use Rattle.std.specs.Prelude.{ℕ, ◌+◌, ◌/◌, ◌^◌, Bool, true, false, ◌==◌, ◌&&◌, ◌||◌, not, nat_le, nat_lt, Option, Some, None, is_some, is_none, List, [], ◌∷◌, ◌++◌, filter, length, map, sum_by, if◌then◌else◌}
+-- The refusals of each event, in their order, by what they read of a world: the first test that is true gives the
+-- cause. A closed or unknown file comes before all.
+use Rattle.std.specs.Prelude.{ℕ, ◌+◌, ◌/◌, ◌^◌, Bool, true, false, ◌==◌, ◌&&◌, ◌||◌, not, nat_le, nat_lt, Option, Some}
+use Rattle.std.specs.Prelude.{None, is_some, is_none, List, [], ◌∷◌, ◌++◌, filter, length, map, sum_by, if◌then◌else◌}
 use Rattle.std.specs.List.{list_any, list_all, range_with_len}
 use Rattle.iofd_words.specs.Allowed.{are_ranges}
 use Rattle.iofd_words.specs.Areas.{areas_meet, has_no_room, is_cut, is_everything, unmapped_span}
@@ -9,7 +10,8 @@ use Rattle.iofd_words.specs.Files.{is_user, is_device, limit_of, user_of, device
 use Rattle.iofd_words.specs.Bounds.{Bounds}
 use Rattle.iofd_words.specs.Copies.{is_writable, placed_as, source_in}
 use Rattle.iofd_words.specs.FirstTrue.{first_true}
-use Rattle.iofd_words.specs.Objects.{kind_of, has_ioas, has_hwpt, automatic_hwpt, is_full, is_hwpt_over, objects_of, is_bound_device, device_in, device_under, settings_under}
+use Rattle.iofd_words.specs.Objects.{kind_of, has_ioas, has_hwpt, automatic_hwpt, is_full, is_hwpt_over, objects_of}
+use Rattle.iofd_words.specs.Objects.{is_bound_device, device_in, device_under, settings_under}
 use Rattle.iofd_words.specs.Pages.{is_whole, page_of, is_above_sum, is_above_user, crosses}
 use Rattle.iofd_words.specs.Pins.{ObjectPage, unpinned_pages}
 use Rattle.iofd_words.specs.Ranges.{meets_some}
@@ -51,13 +53,14 @@ has_pages frame_at user page count = list_all (λ i. is_some (frame_at user (pag
 abbrev pub unusable_in : View → FileNo → ObjId → List Bounds
 unusable_in v file ioas = unusable v.settings v.objects v.attachments file ioas
 
--- a MAP's fixed address, or none where the server chooses; sums and multiples of a fixed address are checked, and its span must be
--- free and usable
+-- a MAP's fixed address, or none where the server chooses; sums and multiples of a fixed address are checked, and its
+-- span must be free and usable
 abbrev pub mapped_span : MapRequest → Bounds
 mapped_span request = span_from request.iova.0 request.length
 
 abbrev pub is_outside_usable : View → FileNo → MapRequest → Bool
-is_outside_usable v file request = is_fixed request.flags && meets_some (unusable_in v file request.ioas) (mapped_span request)
+is_outside_usable v file request =
+    is_fixed request.flags && meets_some (unusable_in v file request.ioas) (mapped_span request)
 
 abbrev pub overlaps : View → FileNo → MapRequest → Bool
 overlaps v file request = is_fixed request.flags && areas_meet (mapped_span request) (v.areas_of file request.ioas)
@@ -69,11 +72,12 @@ choices v file request = allowed_spans (v.allowed_of file request.ioas)
 abbrev pub taken_spans : View → FileNo → MapRequest → List Bounds
 taken_spans v file request = occupied (unusable_in v file request.ioas) (v.areas_of file request.ioas)
 
--- the server may choose this address for a MAP: a multiple of a page, from which on the span lies in the allowed ranges, can be used
--- and meets no area
+-- the server may choose this address for a MAP: a multiple of a page, from which on the span lies in the allowed
+-- ranges, can be used and meets no area
 abbrev pub may_choose : View → FileNo → MapRequest → ℕ → Bool
 may_choose v file request start =
-    not (is_above_sum start request.length) && fits request.length (choices v file request) (taken_spans v file request) start
+    not (is_above_sum start request.length) && fits request.length (choices v file request)
+    (taken_spans v file request) start
 
 -- there is such an address: where one may be chosen, one may that has nothing before it
 abbrev pub has_choice : View → FileNo → MapRequest → Bool
@@ -88,13 +92,18 @@ lacks_choice v file request = not (is_fixed request.flags) && not (has_choice v 
 abbrev pub lacks_mapped_page : View → FileNo → MapRequest → Bool
 lacks_mapped_page v file request =
     has_hwpt v.objects file request.ioas
-    && elim (user_of v.settings file) [ Some user ↦ not (has_pages v.frame_at user (page_of request.user_va) (request.length / 4096)) | None ↦ true ]
+    && elim (user_of v.settings file) [
+      | Some user ↦ not
+          (has_pages v.frame_at user (page_of request.user_va) (request.length / 4096))
+      | None ↦ true
+    ]
 
 -- the pages that the first page table of an address space pins: of the memory objects of all its areas, those that
 -- aren't pinned yet
 abbrev pub newly_pinned : View → FileNo → ObjId → List ObjectPage
 newly_pinned v file ioas =
-    unpinned_pages v.pinned_frame (filter (λ m. list_any (λ area. area.memory == m.number) (v.areas_of file ioas)) v.memory)
+    unpinned_pages v.pinned_frame (filter (λ m. list_any (λ area. area.memory == m.number) (v.areas_of file ioas))
+    v.memory)
 
 -- they are needed
 abbrev pub lacks_attached_page : View → FileNo → ObjId → Bool
@@ -127,7 +136,8 @@ abbrev pub is_source_writable : View → FileNo → CopyRequest → Bool
 is_source_writable v file request =
     elim (source_of v file request) [ Some source ↦ is_writable v.memory source.memory | None ↦ false ]
 
--- the pages that a COPY into an address space with a page table pins: those of the source's memory object that aren't pinned yet
+-- the pages that a COPY into an address space with a page table pins: those of the source's memory object that aren't
+-- pinned yet
 abbrev pub newly_copied : View → FileNo → CopyRequest → List ObjectPage
 newly_copied v file request =
     elim (source_of v file request) [
@@ -138,7 +148,8 @@ newly_copied v file request =
 -- they are needed
 abbrev pub lacks_copied_page : View → FileNo → CopyRequest → Bool
 lacks_copied_page v file request =
-    has_hwpt v.objects file request.dst_ioas && list_any (λ page. is_none (v.frame_now page)) (newly_copied v file request)
+    has_hwpt v.objects file request.dst_ioas
+    && list_any (λ page. is_none (v.frame_now page)) (newly_copied v file request)
 
 -- with them the user would have more than the limit allows
 abbrev pub passes_limit_copied : View → FileNo → CopyRequest → Bool
@@ -149,7 +160,8 @@ passes_limit_copied v file request =
 -- how many tables an object lacks to map these pages, where it is a page table over the address space
 abbrev pub tables_lacked : View → FileNo → ObjId → List ℕ → ObjectKind → ℕ
 tables_lacked v file id pages kind.Ioas = 0
-tables_lacked v file id pages (kind.Hwpt ioas width automatic) = length (lacking (v.has_table file id) (places_of width pages))
+tables_lacked v file id pages (kind.Hwpt ioas width automatic) =
+    length (lacking (v.has_table file id) (places_of width pages))
 tables_lacked v file id pages (kind.Device device) = 0
 
 -- all page tables of the address space together
@@ -166,7 +178,8 @@ least (n ∷ numbers) = elim (least numbers) [ Some other ↦ Some (if nat_lt ot
 abbrev pub mapped_start : View → FileNo → MapRequest → Option ℕ
 mapped_start v file request =
     if is_fixed request.flags then Some request.iova.0
-    else least (filter (may_choose v file request) (starts_to_try (choices v file request) (taken_spans v file request)))
+    else least (filter (may_choose v file request)
+    (starts_to_try (choices v file request) (taken_spans v file request)))
 
 -- fewer frames are free than the page tables lack tables to map the area there
 abbrev pub lacks_mapped_frames : View → FileNo → MapRequest → Bool
@@ -224,7 +237,8 @@ narrows_by_width v file ioas (Some device) = narrows_without v file ioas (beyond
 -- an attachment would have to make a page table, and the file has no room for it
 abbrev pub lacks_room_for_hwpt : View → FileNo → ObjId → Option DeviceSettings → Bool
 lacks_room_for_hwpt v file ioas None = false
-lacks_room_for_hwpt v file ioas (Some device) = is_none (automatic_hwpt v.objects file ioas device.width) && is_full v.objects file
+lacks_room_for_hwpt v file ioas (Some device) =
+    is_none (automatic_hwpt v.objects file ioas device.width) && is_full v.objects file
 
 -- the device's tables don't have this width
 abbrev pub has_other_width : Option DeviceSettings → Width → Bool
@@ -254,7 +268,8 @@ user_access_checks v user va len =
     ∷ (cause.Absent, is_none (v.frame_at user (page_of va)))
     ∷ []
 
--- those of Attach, of a device that isn't attached, by what its file has under the id: an address space, or a page table
+-- those of Attach, of a device that isn't attached, by what its file has under the id: an address space, or a page
+-- table
 abbrev pub target_checks : View → DeviceNo → ObjId → FileNo → Option ObjectKind → List (Cause × Bool)
 target_checks v device pt_id file (Some kind.Ioas) =
     (cause.Narrow, narrows v file pt_id (device_of v.settings device))
@@ -294,7 +309,11 @@ unfoldable pub map_checks : View → FileNo → MapRequest → List (Cause × Bo
 map_checks v file request =
     (cause.Id, not (v.is_open file))
     ∷ (cause.NoRight, not (is_readable request.flags || is_writeable request.flags))
-    ∷ (cause.Sum, is_above_sum request.user_va request.length || (is_fixed request.flags && is_above_sum request.iova.0 request.length))
+    ∷ (
+      cause.Sum,
+      is_above_sum request.user_va request.length
+          || (is_fixed request.flags && is_above_sum request.iova.0 request.length),
+    )
     ∷ (cause.Align, request.length == 0 || not (is_whole request.length && is_whole request.user_va))
     ∷ (cause.Align, is_fixed request.flags && not (is_whole request.iova.0))
     ∷ (cause.Absent, is_above_user request.user_va request.length)
@@ -311,7 +330,11 @@ unfoldable pub copy_checks : View → FileNo → CopyRequest → List (Cause × 
 copy_checks v file request =
     (cause.Id, not (v.is_open file))
     ∷ (cause.NoRight, not (is_readable request.flags || is_writeable request.flags))
-    ∷ (cause.Sum, is_above_sum request.src_iova.0 request.length || (is_fixed request.flags && is_above_sum request.dst_iova.0 request.length))
+    ∷ (
+      cause.Sum,
+      is_above_sum request.src_iova.0 request.length
+          || (is_fixed request.flags && is_above_sum request.dst_iova.0 request.length),
+    )
     ∷ (cause.Align, request.length == 0 || not (is_whole request.length && is_whole request.src_iova.0))
     ∷ (cause.Align, is_fixed request.flags && not (is_whole request.dst_iova.0))
     ∷ (cause.Id, not (has_ioas v.objects file request.dst_ioas))
@@ -332,7 +355,11 @@ unmap_checks v file request =
     ∷ (cause.Sum, is_above_sum request.iova.0 request.length)
     ∷ (cause.Align, request.length == 0)
     ∷ (cause.Id, not (has_ioas v.objects file request.ioas))
-    ∷ (cause.Span, not (is_everything request) && not (areas_meet (unmapped_span request) (v.areas_of file request.ioas)))
+    ∷ (
+      cause.Span,
+      not (is_everything request)
+          && not (areas_meet (unmapped_span request) (v.areas_of file request.ioas)),
+    )
     ∷ (cause.Span, is_cut (unmapped_span request) (v.areas_of file request.ioas))
     ∷ []
 
@@ -397,7 +424,10 @@ unbind_checks v file id =
 
 unfoldable pub attach_checks : View → DeviceNo → ObjId → List (Cause × Bool)
 attach_checks v device pt_id =
-    elim (v.binding_of device) [ None ↦ (cause.Id, true) ∷ [] | Some bound ↦ bound_attach_checks v device pt_id bound.file ]
+    elim (v.binding_of device) [
+      | None ↦ (cause.Id, true) ∷ []
+      | Some bound ↦ bound_attach_checks v device pt_id bound.file
+    ]
 
 unfoldable pub detach_checks : View → DeviceNo → List (Cause × Bool)
 detach_checks v device =

@@ -1,4 +1,5 @@
--- What a COPY names: the area whose memory is mapped again, and where it comes to lie (uapi header, `struct iommu_ioas_copy`).
+-- What a COPY names: the area whose memory is mapped again, and where it comes to lie (uapi header, `struct
+-- iommu_ioas_copy`).
 use Rattle.std.specs.Prelude.{ℕ, ◌==◌, ◌&&◌, Bool, Option, List, find}
 use Rattle.std.specs.List.{list_any}
 use Rattle.iofd_words.specs.Bounds.{Bounds}
@@ -12,7 +13,13 @@ use Rattle.iofd_words.specs.declared.rows.MemoryObject.{MemoryObject}
 -- the copy comes to lie where a MAP of that length into the target would; which memory a MAP maps isn't asked for that
 abbrev pub placed_as : CopyRequest → MapRequest
 placed_as request =
-    record { flags = request.flags; ioas = request.dst_ioas; user_va = 0; length = request.length; iova = request.dst_iova }
+    record {
+      flags = request.flags;
+      ioas = request.dst_ioas;
+      user_va = 0;
+      length = request.length;
+      iova = request.dst_iova;
+    }
 
 -- an area that is live and has exactly this span
 abbrev pub is_live_at : Bounds → Area → Bool

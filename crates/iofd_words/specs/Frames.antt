@@ -1,5 +1,6 @@
 -- Who reaches a frame, and what its bytes are.
-use Rattle.std.specs.Prelude.{ℕ, ◌+◌, ◌-◌, Bool, ◌==◌, ◌&&◌, ◌||◌, not, nat_le, nat_lt, Option, Some, None, List, [], ◌∷◌, length, map, filter, find, slice_index, if◌then◌else◌}
+use Rattle.std.specs.Prelude.{ℕ, ◌+◌, ◌-◌, Bool, ◌==◌, ◌&&◌, ◌||◌, not, nat_le, nat_lt, Option, Some, None, List, []}
+use Rattle.std.specs.Prelude.{◌∷◌, length, map, filter, find, slice_index, if◌then◌else◌}
 use Rattle.std.specs.List.{count_by, list_any, range_with_len}
 use Rattle.iofd_words.specs.declared.numbers.FrameNo.{FrameNo}
 use Rattle.iofd_words.specs.declared.numbers.UserNo.{UserNo}
@@ -19,7 +20,8 @@ without_page pages user page = filter (λ p. not (p.user.0 == user.0 && p.page =
 -- a user's memory, a pin or a page table names the frame
 abbrev pub is_reached : List UserPage → List Pin → List TableFrame → ℕ → Bool
 is_reached pages pins tables frame =
-    list_any (λ p. p.frame.0 == frame) pages || list_any (λ pin. pin.frame.0 == frame) pins || list_any (λ table. table.frame.0 == frame) tables
+    list_any (λ p. p.frame.0 == frame) pages || list_any (λ pin. pin.frame.0 == frame) pins
+    || list_any (λ table. table.frame.0 == frame) tables
 
 -- a frame of the pool that nobody reaches
 abbrev pub is_free : ℕ → List UserPage → List Pin → List TableFrame → ℕ → Bool

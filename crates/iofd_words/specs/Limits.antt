@@ -11,7 +11,11 @@ abbrev pub first_outside : Settings → Option ConfigError
 first_outside s = first_true (
     (field.Pool, not (is_between 1 4096 s.pool))
     ∷ (field.Users, not (is_between 1 255 (length s.users)))
-    ∷ (field.Files, not (is_between 1 1024 (length s.files) && list_all (λ user. is_between 1 (length s.users) user.0) s.files))
+    ∷ (
+      field.Files,
+      not (is_between 1 1024 (length s.files)
+          && list_all (λ user. is_between 1 (length s.users) user.0) s.files),
+    )
     ∷ (field.Devices, not (nat_le (length s.devices) 256 && list_all is_device_in_limits s.devices))
     ∷ (field.Passes, not (is_between 1 1024 s.passes))
     ∷ [])

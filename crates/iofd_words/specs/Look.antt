@@ -41,8 +41,8 @@ ranges_checks v file ioas =
     ∷ (cause.Id, not (has_ioas v.objects file ioas))
     ∷ []
 
--- the usable ranges of an address space: by rising start, no two of them overlap or adjoin, and they hold just the addresses that
--- can be used
+-- the usable ranges of an address space: by rising start, no two of them overlap or adjoin, and they hold just the
+-- addresses that can be used
 pub record AreUsableRanges (v : View) (file : FileNo) (ioas : ObjId) (ranges : List Bounds) : Type 0 where
   pub merged : AreMerged ranges
   pub set : (n : ℕ) → in_spans ranges n ≡ (nat_lt n (2 ^ 64) && not (in_spans (unusable_in v file ioas) n))
@@ -59,7 +59,8 @@ user_bytes w address len (Some frame) = answer.Read (bytes_at w.writes frame.0 (
 
 -- the lawful answers to a question that nothing refuses, by the world and the records that led to it
 abbrev pub lawful_answers : {A : Type 0} → World → List (Record A) → Query → List Answer
-lawful_answers w records (DeviceRead device iova len) = map (read_answer w device iova.0 len) (outcomes w device iova.0 Read)
+lawful_answers w records (DeviceRead device iova len) =
+    map (read_answer w device iova.0 len) (outcomes w device iova.0 Read)
 lawful_answers w records (UserRead user va len) = user_bytes w va len (frame_at w.user_pages user (page_of va))
 lawful_answers w records FreeFrames = answer.Count (free_count w.settings.pool w.user_pages w.pins w.table_frames) ∷ []
 lawful_answers w records (Held user) = answer.Count (held_by (pinned_frame w.pins) w.memory user) ∷ []

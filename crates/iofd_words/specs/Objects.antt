@@ -1,5 +1,6 @@
 -- The objects of a file (iommufd.rst, "User Objects").
-use Rattle.std.specs.Prelude.{◌-◌, ◌^◌, Bool, true, false, ◌==◌, ◌&&◌, ◌||◌, not, nat_le, nat_lt, Option, Some, None, is_some, List, [], ◌∷◌, length, filter, find, if◌then◌else◌}
+use Rattle.std.specs.Prelude.{◌-◌, ◌^◌, Bool, true, false, ◌==◌, ◌&&◌, ◌||◌, not, nat_le, nat_lt, Option, Some, None}
+use Rattle.std.specs.Prelude.{is_some, List, [], ◌∷◌, length, filter, find, if◌then◌else◌}
 use Rattle.std.specs.List.{list_any}
 use Rattle.iofd_words.specs.Files.{device_of}
 use Rattle.iofd_words.specs.Settings.{Settings, DeviceSettings, is_between}
@@ -36,7 +37,8 @@ is_hwpt_over ioas (kind.Device device) = false
 -- an automatic one of the width
 abbrev pub is_automatic_over : ObjId → Width → ObjectKind → Bool
 is_automatic_over ioas width kind.Ioas = false
-is_automatic_over ioas width (kind.Hwpt over of automatic) = over.0 == ioas.0 && automatic && (bits_of of == bits_of width)
+is_automatic_over ioas width (kind.Hwpt over of automatic) =
+    over.0 == ioas.0 && automatic && (bits_of of == bits_of width)
 is_automatic_over ioas width (kind.Device device) = false
 
 abbrev pub is_automatic : ObjectKind → Bool
@@ -86,7 +88,8 @@ has_hwpt objects file ioas = list_any (λ object. object.file.0 == file.0 && is_
 
 -- the automatic page table of this width
 abbrev pub automatic_hwpt : List Object → FileNo → ObjId → Width → Option Object
-automatic_hwpt objects file ioas width = find (λ object. object.file.0 == file.0 && is_automatic_over ioas width object.kind) objects
+automatic_hwpt objects file ioas width =
+    find (λ object. object.file.0 == file.0 && is_automatic_over ioas width object.kind) objects
 
 -- the device that the file has under this id
 abbrev pub device_under : List Object → FileNo → ObjId → Option DeviceNo

@@ -1,7 +1,8 @@
--- Pinned pages: those of memory objects that an area in an address space with a hardware page table translates, or that an access
--- object has pinned (iommufd.rst, "User Objects", on struct iopt_pages). A page keeps the frame that it had when it was pinned,
--- whatever its user does, for as long as it stays pinned.
-use Rattle.std.specs.Prelude.{ℕ, ◌+◌, ◌*◌, ◌/◌, Bool, false, ◌==◌, ◌&&◌, ◌||◌, not, Option, Some, None, is_some, is_none, List, ◌++◌, map, filter, find}
+-- Pinned pages: those of memory objects that an area in an address space with a hardware page table translates, or that
+-- an access object has pinned (iommufd.rst, "User Objects", on struct iopt_pages). A page keeps the frame that it had
+-- when it was pinned, whatever its user does, for as long as it stays pinned.
+use Rattle.std.specs.Prelude.{ℕ, ◌+◌, ◌*◌, ◌/◌, Bool, false, ◌==◌, ◌&&◌, ◌||◌, not, Option, Some, None, is_some}
+use Rattle.std.specs.Prelude.{is_none, List, ◌++◌, map, filter, find}
 use Rattle.std.specs.List.{count_by, list_any, list_all, flat_map, filter_map, range_with_len}
 use Rattle.iofd_words.specs.Bounds.{Bounds}
 use Rattle.iofd_words.specs.Pages.{page_of}
@@ -49,9 +50,11 @@ span_of_page area index = span_from (area.span.first + 4096 * index) 4096
 
 -- some area over the memory object of this number stands in an address space that has a hardware page table
 abbrev pub is_translated : List Object → List Area → ℕ → Bool
-is_translated objects areas number = list_any (λ area. area.memory == number && has_hwpt objects area.file area.ioas) areas
+is_translated objects areas number =
+    list_any (λ area. area.memory == number && has_hwpt objects area.file area.ioas) areas
 
--- the access pin covers this page of the area: its access object is one of the area's address space, and the page lies in its span
+-- the access pin covers this page of the area: its access object is one of the area's address space, and the page lies
+-- in its span
 abbrev pub covers_page : List Object → ℕ → AccessPin → Area → Bool
 covers_page objects index pin area =
     area.file.0 == pin.file.0
@@ -61,11 +64,13 @@ covers_page objects index pin area =
 -- some access pin covers the page, in some area over its memory object
 abbrev pub is_accessed : List Object → List Area → List AccessPin → ObjectPage → Bool
 is_accessed objects areas access_pins page =
-    list_any (λ pin. list_any (λ area. area.memory == page.memory && covers_page objects page.index pin area) areas) access_pins
+    list_any (λ pin. list_any (λ area. area.memory == page.memory && covers_page objects page.index pin area) areas)
+    access_pins
 
 -- the page of a memory object is to be pinned
 abbrev pub is_pinned : List Object → List Area → List AccessPin → ObjectPage → Bool
-is_pinned objects areas access_pins page = is_translated objects areas page.memory || is_accessed objects areas access_pins page
+is_pinned objects areas access_pins page =
+    is_translated objects areas page.memory || is_accessed objects areas access_pins page
 
 -- the pages that are to be pinned, each once
 abbrev pub pinned_pages : List Object → List Area → List MemoryObject → List AccessPin → List ObjectPage
@@ -76,11 +81,19 @@ pinned_pages objects areas memory access_pins = filter (is_pinned objects areas 
 -- the frame that is the page's in its user's memory now
 abbrev pub frame_now : List MemoryObject → List UserPage → ObjectPage → Option FrameNo
 frame_now memory user_pages page =
-    elim (find (λ m. m.number == page.memory) memory) [ Some m ↦ frame_at user_pages m.user (page_of m.va + page.index) | None ↦ None ]
+    elim (find (λ m. m.number == page.memory) memory)
+    [ Some m ↦ frame_at user_pages m.user (page_of m.va + page.index) | None ↦ None ]
 
 abbrev pub pin_now : List MemoryObject → List UserPage → ObjectPage → Option Pin
 pin_now memory user_pages page =
-    elim (frame_now memory user_pages page) [ Some frame ↦ Some (record { memory = page.memory; index = page.index; frame = frame }) | None ↦ None ]
+    elim (frame_now memory user_pages page) [
+      | Some frame ↦ Some (record {
+        memory = page.memory;
+        index = page.index;
+        frame = frame;
+      })
+      | None ↦ None
+    ]
 
 -- each of these pages is in its user's memory, by a look-up of the frames that pages have there now
 abbrev pub are_present : (ObjectPage → Option FrameNo) → List ObjectPage → Bool
@@ -94,7 +107,8 @@ settled before after memory user_pages pins =
 
 -- the frame that a page was pinned at
 abbrev pub pinned_frame : List Pin → ObjectPage → Option FrameNo
-pinned_frame pins page = elim (find (λ pin. is_page (page_of_pin pin) page) pins) [ Some pin ↦ Some pin.frame | None ↦ None ]
+pinned_frame pins page =
+    elim (find (λ pin. is_page (page_of_pin pin) page) pins) [ Some pin ↦ Some pin.frame | None ↦ None ]
 
 -- ---- how many are charged to a user
 

@@ -5,7 +5,8 @@
 --   3. a live area of its address space holds the address and has the right: it passes, at the frame of the page's pin;
 --   4. a leaving area does, and the device still owes it a flush: it passes so, or is denied as in 5;
 --   5. else it is denied for want of the right, a write or a read.
--- `access_outcomes` is the whole, by what is read of a world, and `outcomes` the same of a world; the words before are its parts.
+-- `access_outcomes` is the whole, by what is read of a world, and `outcomes` the same of a world; the words before are
+-- its parts.
 use Rattle.std.specs.Prelude.{ℕ, ◌-◌, ◌/◌, ◌^◌, nat_le, Option, Some, None, List, [], ◌∷◌, ◌++◌, if◌then◌else◌}
 use Rattle.iofd_words.specs.Areas.{area_at}
 use Rattle.iofd_words.specs.Attachments.{attachment_of, ioas_of_attachment}
@@ -75,7 +76,8 @@ unfoldable pub access_outcomes : View → DeviceNo → ℕ → AccessKind → Li
 access_outcomes v device address kind =
     elim (attachment_of v.attachments device) [
       | None ↦ Denied NoContext ∷ []
-      | Some a ↦ by_width (device_of v.settings device) address (Denied BeyondWidth ∷ []) (translated v device address kind a)
+      | Some a ↦ by_width (device_of v.settings device) address (Denied BeyondWidth ∷ [])
+          (translated v device address kind a)
     ]
 
 -- the same, in this world

@@ -1,7 +1,9 @@
 -- The table of refusals: number, errno, cause. Errno numbers are Linux's (`errno-base.h`, `errno.h`).
 use Rattle.std.specs.Prelude.{ℕ}
 use Rattle.iofd_words.specs.declared.refusal.Errno.{Errno}
-use Rattle.iofd_words.specs.declared.refusal.Errno.TheVariants.{EPERM, ENOENT, E2BIG, EAGAIN, ENOMEM, EFAULT, EBUSY, EEXIST, EINVAL, ENOTTY, ENOSPC, EDEADLOCK, EOVERFLOW, EMSGSIZE, EOPNOTSUPP, EADDRINUSE}
+use Rattle.iofd_words.specs.declared.refusal.Errno.TheVariants.{EPERM, ENOENT, E2BIG, EAGAIN, ENOMEM, EFAULT, EBUSY}
+use Rattle.iofd_words.specs.declared.refusal.Errno.TheVariants.{EEXIST, EINVAL, ENOTTY, ENOSPC, EDEADLOCK, EOVERFLOW}
+use Rattle.iofd_words.specs.declared.refusal.Errno.TheVariants.{EMSGSIZE, EOPNOTSUPP, EADDRINUSE}
 use Rattle.iofd_words.specs.declared.refusal.Cause.{Cause}
 use Rattle.iofd_words.specs.declared.refusal.Cause.TheVariants as cause
 

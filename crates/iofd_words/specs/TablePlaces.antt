@@ -1,6 +1,7 @@
--- Which tables a page table needs (VT-d, "Second-Stage Translation"): its root, and each table below it through which a page that it
--- maps goes. A table is known by its level and by the first address that goes through it.
-use Rattle.std.specs.Prelude.{ℕ, ◌-◌, ◌/◌, zero, suc, Bool, true, false, ◌==◌, ◌&&◌, ◌||◌, List, [], ◌∷◌, filter, if◌then◌else◌}
+-- Which tables a page table needs (VT-d, "Second-Stage Translation"): its root, and each table below it through which a
+-- page that it maps goes. A table is known by its level and by the first address that goes through it.
+use Rattle.std.specs.Prelude.{ℕ, ◌-◌, ◌/◌, zero, suc, Bool, true, false, ◌==◌, ◌&&◌, ◌||◌, List, [], ◌∷◌, filter}
+use Rattle.std.specs.Prelude.{if◌then◌else◌}
 use Rattle.std.specs.List.{flat_map, list_any, range_with_len}
 use Rattle.iofd_words.specs.Bounds.{Bounds}
 use Rattle.iofd_words.specs.Levels.{first_address, levels_of}
@@ -33,8 +34,8 @@ places_from (suc level) page =
 abbrev pub root_place : Width → TablePlace
 root_place width = record { level = levels_of width; first = 0 }
 
--- the tables of a page table of this width that maps these pages: the root, and page after page those below it, from the upper
--- one down
+-- the tables of a page table of this width that maps these pages: the root, and page after page those below it, from
+-- the upper one down
 abbrev pub places_of : Width → List ℕ → List TablePlace
 places_of width pages = root_place width ∷ flat_map (places_from (levels_of width - 1)) pages
 

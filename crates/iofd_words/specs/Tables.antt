@@ -1,7 +1,8 @@
--- Frames of the pool that hold the tables of page tables: which a step takes, and which it gives back. A step takes a frame for each
--- table that is needed and has none; a table goes with its page table. An UNMAP that answers bytes may give back tables that no area
--- needs any more.
-use Rattle.std.specs.Prelude.{◌≡◌, ◌+◌, ◌*◌, ◌^◌, Bool, true, false, ◌==◌, ◌&&◌, ◌||◌, not, nat_lt, Some, None, List, [], ◌∷◌, ◌++◌, filter, length, map}
+-- Frames of the pool that hold the tables of page tables: which a step takes, and which it gives back. A step takes a
+-- frame for each table that is needed and has none; a table goes with its page table. An UNMAP that answers bytes may
+-- give back tables that no area needs any more.
+use Rattle.std.specs.Prelude.{◌≡◌, ◌+◌, ◌*◌, ◌^◌, Bool, true, false, ◌==◌, ◌&&◌, ◌||◌, not, nat_lt, Some, None, List}
+use Rattle.std.specs.Prelude.{[], ◌∷◌, ◌++◌, filter, length, map}
 use Rattle.std.specs.List.{flat_map, list_all, list_any}
 use Rattle.iofd_words.specs.Areas.{areas_meet, areas_of}
 use Rattle.iofd_words.specs.Bounds.{Bounds}
@@ -32,7 +33,8 @@ pub record MissingTable : Type 0 where
   pub hwpt : ObjId
   pub place : TablePlace
 
--- those of an object: a page table has them for the pages of the live areas of its address space, another object has none
+-- those of an object: a page table has them for the pages of the live areas of its address space, another object has
+-- none
 abbrev pub missing_of_kind : List Area → List TableFrame → FileNo → ObjId → ObjectKind → List MissingTable
 missing_of_kind areas tables file id kind.Ioas = []
 missing_of_kind areas tables file id (kind.Hwpt ioas width automatic) =
@@ -43,7 +45,8 @@ missing_of_kind areas tables file id (kind.Device device) = []
 abbrev pub missing_of : List Area → List TableFrame → Object → List MissingTable
 missing_of areas tables object = missing_of_kind areas tables object.file object.id object.kind
 
--- those of all page tables: by rising file and then by rising id, of each by rising first address and then from the root down
+-- those of all page tables: by rising file and then by rising id, of each by rising first address and then from the
+-- root down
 abbrev pub missing_tables : List Object → List Area → List TableFrame → List MissingTable
 missing_tables objects areas tables = flat_map (missing_of areas tables) objects
 
@@ -119,7 +122,8 @@ unfoldable pub with_tables : List FrameNo → List FrameNo → World → World
 with_tables taken given w = record w { table_frames = tables_after taken given w }
 
 -- what the step from a world to the one that the event has left may take and give back
-pub record MovesTables {A : Type 0} (w left : World) (e : Event A) (answer : Reply) (taken given : List FrameNo) : Type 0 where
+pub record MovesTables {A : Type 0} (w left : World) (e : Event A) (answer : Reply)
+    (taken given : List FrameNo) : Type 0 where
   -- a frame for each table that is missing, each another one that is free
   pub enough : length taken ≡ length (missing_tables left.objects left.areas (kept_tables given left.table_frames))
   pub free : list_all (λ frame. is_free w.settings.pool w.user_pages w.pins w.table_frames frame.0) taken ≡ true
@@ -127,5 +131,6 @@ pub record MovesTables {A : Type 0} (w left : World) (e : Event A) (answer : Rep
   -- the tables of page tables that are gone, and others that may go, by rising frame
   pub gone : list_all (λ table. not (is_orphan left.objects table) || is_among given table.frame) w.table_frames ≡ true
   pub may : list_all (λ frame. list_any
-      (λ table. table.frame.0 == frame.0 && (is_orphan left.objects table || may_go left e answer table)) w.table_frames) given ≡ true
+      (λ table. table.frame.0 == frame.0 && (is_orphan left.objects table || may_go left e answer table))
+      w.table_frames) given ≡ true
   pub rising : are_rising given ≡ true

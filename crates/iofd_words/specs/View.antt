@@ -1,5 +1,5 @@
--- What the refusals and the policy ask of a world. A server that keeps a world in a way of its own gives the same answers. What has
--- no order in the subject (pins, users' pages, frames) is looked up, and never compared as a list.
+-- What the refusals and the policy ask of a world. A server that keeps a world in a way of its own gives the same
+-- answers. What has no order in the subject (pins, users' pages, frames) is looked up, and never compared as a list.
 use Rattle.std.specs.Prelude.{ℕ, Bool, Option, List}
 use Rattle.iofd_words.specs.Allowed.{allowed_of}
 use Rattle.iofd_words.specs.Areas as area

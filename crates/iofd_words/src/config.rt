@@ -32,7 +32,12 @@ impl<A: Allocator> Model for DeviceConfig<A> {
 
     ghost Value = { DeviceSettings };
 
-    ghost view = { λ device. record { source = device.source; width = device.width; x86 = device.x86; reserved = device.reserved } };
+    ghost view = { λ device. record {
+      source = device.source;
+      width = device.width;
+      x86 = device.x86;
+      reserved = device.reserved;
+    } };
 }
 
 impl<A: Allocator> DeviceConfig<A> {
@@ -143,9 +148,21 @@ impl<A: Allocator> Model for Config<A> {
 
     ghost use Rattle.iofd_words.specs.Limits.{first_outside};
 
-    ghost view = { λ c. record { pool = c.pool; users = c.users.items; files = c.files.items; devices = c.devices.items; passes = c.passes } };
+    ghost view = { λ c. record {
+      pool = c.pool;
+      users = c.users.items;
+      files = c.files.items;
+      devices = c.devices.items;
+      passes = c.passes;
+    } };
 
-    ghost invariant = { λ c. first_outside (record { pool = c.pool; users = c.users.items; files = c.files.items; devices = c.devices.items; passes = c.passes }) ≡ None };
+    ghost invariant = { λ c. first_outside (record {
+      pool = c.pool;
+      users = c.users.items;
+      files = c.files.items;
+      devices = c.devices.items;
+      passes = c.passes;
+    }) ≡ None };
 }
 
 impl<A: Allocator> Config<A> {
@@ -161,7 +178,13 @@ impl<A: Allocator> Config<A> {
         devices: Vec<DeviceConfig<A>, A>,
         passes: u16,
     ) -> Result<Config<A>, ConfigError>
-        ensures { result ≡ opened (record { pool = pool; users = users.items; files = files.items; devices = devices.items; passes = passes }) }
+        ensures { result ≡ opened (record {
+          pool = pool;
+          users = users.items;
+          files = files.items;
+          devices = devices.items;
+          passes = passes;
+        }) }
     {
         match first_outside(pool, &users, &files, &devices, passes) {
             Some(error) => Err(error),
@@ -265,7 +288,13 @@ fn first_outside<A: Allocator>(
     devices: &[DeviceConfig<A>],
     passes: u16,
 ) -> Option<ConfigError>
-    ensures { result ≡ first_outside (record { pool = pool; users = users.now; files = files.now; devices = devices.now; passes = passes }) }
+    ensures { result ≡ first_outside (record {
+      pool = pool;
+      users = users.now;
+      files = files.now;
+      devices = devices.now;
+      passes = passes;
+    }) }
 {
     if !is_between(1, 4096, pool as usize) {
         return Some(ConfigError::Pool);

@@ -20,8 +20,8 @@ pub struct MapRequest {
     pub iova: Iova,
 }
 
-/// What IOAS_COPY asks for (uapi header, `struct iommu_ioas_copy`): the memory mapped at exactly the source range is mapped in the
-/// target as well. Lengths and addresses are in bytes.
+/// What IOAS_COPY asks for (uapi header, `struct iommu_ioas_copy`): the memory mapped at exactly the source range is
+/// mapped in the target as well. Lengths and addresses are in bytes.
 #[derive(Clone, Copy, PartialEq, Eq, Debug)]
 pub struct CopyRequest {
     pub flags: MapFlags,
@@ -41,8 +41,8 @@ pub struct UnmapRequest {
     pub length: u64,
 }
 
-/// What HWPT_ALLOC asks for (uapi header, `struct iommu_hwpt_alloc`): a page table of the device's width over an address space,
-/// both by their ids in the file.
+/// What HWPT_ALLOC asks for (uapi header, `struct iommu_hwpt_alloc`): a page table of the device's width over an
+/// address space, both by their ids in the file.
 #[derive(Clone, Copy, PartialEq, Eq, Debug)]
 pub struct HwptRequest {
     pub device: ObjId,

@@ -81,8 +81,8 @@ pub struct Pin {
     pub frame: FrameNo,
 }
 
-/// Whole pages of an address space that an access object has pinned, for writes too where `write` is true. Equal ones may
-/// stand side by side.
+/// Whole pages of an address space that an access object has pinned, for writes too where `write` is true. Equal ones
+/// may stand side by side.
 #[derive(Clone, Copy, PartialEq, Eq, Debug)]
 pub struct AccessPin {
     pub file: FileNo,

@@ -1,5 +1,6 @@
 -- What is written in turn.
-use Rattle.std.proofs.Common.{◌≡◌, ℕ, zero, suc, ◌<◌, Option, Some, None, List, [], ◌∷◌, ◌++◌, length, take, Result, Ok, Err, IfOk, OnErr, inl, inr, refl, sym, ◌∙◌, ap, subst, arith}
+use Rattle.std.proofs.Common.{◌≡◌, ℕ, zero, suc, ◌<◌, Option, Some, None, List, [], ◌∷◌, ◌++◌, length, take, Result, Ok}
+use Rattle.std.proofs.Common.{Err, IfOk, OnErr, inl, inr, refl, sym, ◌∙◌, ap, subst, arith}
 use Rattle.std.proofs.lemmas.List.{append_assoc, append-nil}
 use Rattle.std.specs.Io.KnownBytes.{Appends}
 use Rattle.std.specs.Option.{IfSome, option_map}
@@ -13,11 +14,13 @@ use Rattle.iommufd_script.specs.Opening.{script_of}
 use Rattle.iommufd_script.specs.declared.line.Step.{Step}
 
 -- bytes, and then more
-pub appends_more : (old mid new : Option (List ℕ)) (first second : List ℕ) → Appends old mid first → Appends mid new second → Appends old new (first ++ second)
+pub appends_more : (old mid new : Option (List ℕ)) (first second : List ℕ) → Appends old mid first
+    → Appends mid new second → Appends old new (first ++ second)
 appends_more None mid new first second begin more = tt
 appends_more (Some xs) None new first second begin more = absurd begin
 appends_more (Some xs) (Some ys) None first second begin more = absurd more
-appends_more (Some xs) (Some ys) (Some zs) first second begin more = more ∙ ap (λ l. l ++ second) begin ∙ append_assoc xs first second
+appends_more (Some xs) (Some ys) (Some zs) first second begin more =
+    more ∙ ap (λ l. l ++ second) begin ∙ append_assoc xs first second
 
 -- no bytes
 pub appends_none : (known : Option (List ℕ)) → Appends known known []
@@ -28,39 +31,48 @@ pub on_err : {T E P : Type 0} (r : Result T E) → P → OnErr r P
 on_err (Ok x) p = tt
 on_err (Err e) p = p
 
-pub split_on : (steps first left others : List Step) (step : Step) → steps ≡ first ++ left → left ≡ step ∷ others → steps ≡ (first ++ step ∷ []) ++ others
-split_on steps first left others step split next = split ∙ ap (λ l. first ++ l) next ∙ sym (append_assoc first (step ∷ []) others)
+pub split_on : (steps first left others : List Step) (step : Step) → steps ≡ first ++ left → left ≡ step ∷ others
+    → steps ≡ (first ++ step ∷ []) ++ others
+split_on steps first left others step split next =
+    split ∙ ap (λ l. first ++ l) next ∙ sym (append_assoc first (step ∷ []) others)
 
 -- from one server on, the lines of some steps are out, which leads to another
 module _ {A : Type 0} where
   abbrev pub Leads : Server A → List Step → List ℕ → Server A → Type 0
-  Leads s first out now = (others : List Step) (rest : List ℕ) → StepsText now others rest → StepsText s (first ++ others) (out ++ rest)
+  Leads s first out now =
+      (others : List Step) (rest : List ℕ) → StepsText now others rest → StepsText s (first ++ others) (out ++ rest)
 
-  pub leads_on : (s now after : Server A) (first : List Step) (step : Step) (out line : List ℕ) → Leads s first out now → IsAnswered now step line after
+  pub leads_on : (s now after : Server A) (first : List Step) (step : Step) (out line : List ℕ) → Leads s first out now
+      → IsAnswered now step line after
       → Leads s (first ++ step ∷ []) (out ++ line) after
   leads_on s now after first step out line leads answered others rest later =
-      rw (append_assoc first (step ∷ []) others, append_assoc out line rest) (leads (step ∷ others) (line ++ rest) (line, after, rest, answered, later, refl))
+      rw (append_assoc first (step ∷ []) others, append_assoc out line rest)
+      (leads (step ∷ others) (line ++ rest) (line, after, rest, answered, later, refl))
 
   -- no step is left
-  pub whole_text : (s now : Server A) (steps first left : List Step) (out : List ℕ) → Leads s first out now → steps ≡ first ++ left → left ≡ [] → StepsText s steps out
+  pub whole_text : (s now : Server A) (steps first left : List Step) (out : List ℕ) → Leads s first out now
+      → steps ≡ first ++ left → left ≡ [] → StepsText s steps out
   whole_text s now steps first left out leads split none =
       let all : steps ≡ first ++ [] = split ∙ ap (λ l. first ++ l) none in
       rw all (subst (StepsText s (first ++ [])) (append-nil out) (leads [] [] refl))
 
   -- of the next step's line there's a front
-  pub begun_text : (s now after : Server A) (steps first left others : List Step) (step : Step) (out line front : List ℕ) → Leads s first out now → steps ≡ first ++ left
+  pub begun_text : (s now after : Server A) (steps first left others : List Step) (step : Step)
+      (out line front : List ℕ) → Leads s first out now → steps ≡ first ++ left
       → left ≡ step ∷ others → IsAnswered now step line after → IsFront front line → BeginsLines s steps (out ++ front)
   begun_text s now after steps first left others step out line front leads split next answered short = record {
     first = first ++ step ∷ [];
     others = others;
     split = split_on steps first left others step split next;
     text = out ++ line;
-    lines = subst (λ l. StepsText s (first ++ step ∷ []) (out ++ l)) (append-nil line) (leads (step ∷ []) (line ++ []) (line, after, [], answered, refl, refl));
+    lines = subst (λ l. StepsText s (first ++ step ∷ []) (out ++ l)) (append-nil line)
+        (leads (step ∷ []) (line ++ []) (line, after, [], answered, refl, refl));
     front = (short.0, short.1, ap (λ l. out ++ l) short.2 ∙ sym (append_assoc out front short.0));
   }
 
   -- a beginning of what is written for a head and steps is one of the script's text
-  pub begins_text : (input out : List ℕ) (settings : Settings) (steps : List Step) → script_of input ≡ Ok (settings, steps) → BeginsRunText A settings steps out → BeginsText A input out
+  pub begins_text : (input out : List ℕ) (settings : Settings) (steps : List Step)
+      → script_of input ≡ Ok (settings, steps) → BeginsRunText A settings steps out → BeginsText A input out
   begins_text input out settings steps good begun = elim begun [
     | inl lines ↦ inr (inl (record { settings = settings; steps = steps; good = good; lines = lines }))
     | inr front ↦ inr (inr front)
@@ -68,10 +80,17 @@ module _ {A : Type 0} where
 
 -- what is written for a head and steps is a text of the script that says them
 module _ {A : Type 0} where
-  pub read_text : (input out : List ℕ) (status : ℕ) (settings : Settings) (steps : List Step) → script_of input ≡ Ok (settings, steps) → IsRunText A settings steps out status
+  pub read_text : (input out : List ℕ) (status : ℕ) (settings : Settings) (steps : List Step)
+      → script_of input ≡ Ok (settings, steps) → IsRunText A settings steps out status
       → IsReadText A input out status
   read_text input out status settings steps good text = elim text [
-    | inl lines ↦ inr (inl (record { settings = settings; steps = steps; good = good; lines = lines.0; status_is = lines.1 }))
+    | inl lines ↦ inr (inl (record {
+      settings = settings;
+      steps = steps;
+      good = good;
+      lines = lines.0;
+      status_is = lines.1;
+    }))
     | inr without ↦ inr (inr (without, (settings, steps), good))
   ]
 
@@ -87,7 +106,9 @@ take_short (suc limit) [] short = refl
 take_short (suc limit) (x ∷ xs) short = ap (λ l. x ∷ l) (take_short limit xs (omega (arith, short)))
 
 -- what was read is all that there was, where it's fewer bytes than were asked for
-pub all_read : (known : Option (List ℕ)) (limit : ℕ) (before items : List ℕ) → before ≡ [] → IfSome (option_map (take limit) known) (λ xs. items ≡ before ++ xs) → length items < limit → IfSome known (λ input. items ≡ input)
+pub all_read : (known : Option (List ℕ)) (limit : ℕ) (before items : List ℕ) → before ≡ []
+    → IfSome (option_map (take limit) known) (λ xs. items ≡ before ++ xs) → length items < limit
+    → IfSome known (λ input. items ≡ input)
 all_read None limit before items none read short = tt
 all_read (Some xs) limit before items none read short =
     let is : items ≡ take limit xs = read ∙ ap (λ l. l ++ take limit xs) none in

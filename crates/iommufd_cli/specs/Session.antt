@@ -12,11 +12,13 @@ module _ {A : Type 0} where
   abbrev pub StepsText : Server A → List Step → List ℕ → Type 0
   StepsText s [] out = out ≡ []
   StepsText s (step ∷ steps) out =
-      (text : List ℕ) × (after : Server A) × (rest : List ℕ) × IsAnswered s step text after × StepsText after steps rest × (out ≡ text ++ rest)
+      (text : List ℕ) × (after : Server A) × (rest : List ℕ) × IsAnswered s step text after
+      × StepsText after steps rest × (out ≡ text ++ rest)
 
 -- the lines of the steps, from a server on that was just opened
 abbrev pub SessionText : Type 0 → Settings → List Step → List ℕ → Type 0
-SessionText A settings steps out = (s : Server A) × (s.history ≡ record { settings = settings; records = [] }) × StepsText s steps out
+SessionText A settings steps out =
+    (s : Server A) × (s.history ≡ record { settings = settings; records = [] }) × StepsText s steps out
 
 -- the script has a bad line: its number alone, and status 1
 pub record IsBad (input out : List ℕ) (status : ℕ) : Type 0 where
@@ -45,7 +47,8 @@ IsRunText A settings steps out status = (SessionText A settings steps out × (st
 -- a text of a script whose bytes are at hand, and the status: a bad one needs no memory
 abbrev pub IsReadText : Type 0 → List ℕ → List ℕ → ℕ → Type 0
 IsReadText A input out status =
-    IsBad input out status ⊎ IsGood A input out status ⊎ (IsWithoutMemory out status × (good : Settings × List Step) × (script_of input ≡ Ok good))
+    IsBad input out status ⊎ IsGood A input out status
+    ⊎ (IsWithoutMemory out status × (good : Settings × List Step) × (script_of input ≡ Ok good))
 
 -- a text of the script, and the status
 abbrev pub IsText : Type 0 → List ℕ → List ℕ → ℕ → Type 0

@@ -53,12 +53,14 @@ module _ {A : Type 0} where
 
   -- an event: it is recorded, and the line tells its reply; or memory was wanting
   abbrev pub IsApplied : Server A → Event A → List ℕ → Server A → Type 0
-  IsApplied s e text after = ((reply : Reply) × IsRecorded s e reply after × (text ≡ line (event_text e reply))) ⊎ IsWanting s e text after
+  IsApplied s e text after =
+      ((reply : Reply) × IsRecorded s e reply after × (text ≡ line (event_text e reply))) ⊎ IsWanting s e text after
 
   -- the question for usable ranges: nothing changes. Where it isn't refused, the line tells them, or memory was wanting
   abbrev pub AreTold : Server A → FileNo → RangesRequest → List ℕ → Type 0
   AreTold s file request text =
-      ((ranges : List Bounds) × AreUsableRanges (view (world s.history)) file request.ioas ranges × (text ≡ line (ranges_text request ranges)))
+      ((ranges : List Bounds) × AreUsableRanges (view (world s.history)) file request.ioas ranges
+      × (text ≡ line (ranges_text request ranges)))
       ⊎ (text ≡ line memory_text)
 
   abbrev pub IsRanges : Server A → FileNo → RangesRequest → List ℕ → Server A → Type 0
@@ -73,7 +75,8 @@ module _ {A : Type 0} where
   abbrev pub IsCommanded : Server A → FileNo → Command A → List ℕ → Server A → Type 0
   IsCommanded s file (command.Destroy id) text after = IsApplied s (event.Destroy file id) text after
   IsCommanded s file command.IoasAlloc text after = IsApplied s (event.IoasAlloc file) text after
-  IsCommanded s file (command.IoasAllowIovas ioas ranges) text after = IsApplied s (event.AllowIovas file ioas ranges) text after
+  IsCommanded s file (command.IoasAllowIovas ioas ranges) text after =
+      IsApplied s (event.AllowIovas file ioas ranges) text after
   IsCommanded s file (command.IoasIovaRanges request) text after = IsRanges s file request text after
   IsCommanded s file (command.IoasMap request) text after = IsApplied s (event.Map file request) text after
   IsCommanded s file (command.IoasCopy request) text after = IsApplied s (event.Copy file request) text after
@@ -124,6 +127,7 @@ module _ {A : Type 0} where
   IsAnswered s (step.Detach device) text after = IsApplied s (event.Detach device) text after
   IsAnswered s (step.Flush device) text after = IsApplied s (event.Flush device) text after
   IsAnswered s (step.DeviceRead device iova len) text after = IsAsked s (query.DeviceRead device iova len) text after
-  IsAnswered s (step.DeviceWrite device iova bytes) text after = IsApplied s (event.DeviceWrite device iova bytes) text after
+  IsAnswered s (step.DeviceWrite device iova bytes) text after =
+      IsApplied s (event.DeviceWrite device iova bytes) text after
   IsAnswered s step.FreeFrames text after = IsAsked s query.FreeFrames text after
   IsAnswered s (step.Held user) text after = IsAsked s (query.Held user) text after

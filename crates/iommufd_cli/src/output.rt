@@ -10,7 +10,8 @@ use std::io::{self, ErrorKind, Write};
 /// front of the bytes was written.
 pub(crate) fn put<W: Write>(writer: &mut W, bytes: &[u8]) -> io::Result<()>
     ensures ok { OnOk result (Appends (W.contents writer.old) (W.contents writer.new) bytes.now) }
-    ensures err { OnErr result (Writes (λ front. IsFront front bytes.now) (W.contents writer.old) (W.contents writer.new)) }
+    ensures err { OnErr result (Writes (λ front. IsFront front bytes.now) (W.contents writer.old)
+        (W.contents writer.new)) }
     ensures retried { IfErr result IsFinal }
 {
     let mut rest = bytes;

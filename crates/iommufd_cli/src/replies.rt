@@ -2,7 +2,9 @@
 
 ghost use Rattle.std.specs.Prelude.{◌≡◌, ◌≤◌, ◌<◌, ◌^◌, ◌+◌, ◌*◌, ◌++◌, IfOk, codes, length, decimal};
 ghost use Rattle.hex.specs.Hex.{encode_lower};
-ghost use Rattle.iommufd_cli.specs.Replies.{line, refusal_text, pending_text, memory_text, no_memory_text, bad_line_text, fault_text, reply_text, written_text, ioctl_text, answer_text, places_text, ranges_text};
+ghost use Rattle.iommufd_cli.specs.Replies.{line, refusal_text, pending_text, memory_text, no_memory_text};
+ghost use Rattle.iommufd_cli.specs.Replies.{bad_line_text, fault_text, reply_text, written_text, ioctl_text};
+ghost use Rattle.iommufd_cli.specs.Replies.{answer_text, places_text, ranges_text};
 
 use crate::line::Line;
 use crate::names::{name_of_cause, name_of_kind};
@@ -167,9 +169,9 @@ pub fn bad_line(number: u64) -> Line
     line
 }
 
-/// The line for the usable ranges of an address space, which the request asks for: `0`, or `90 Places` where it has fewer
-/// places than there are ranges, and in hex what is written back. A line feed ends it. It may be long, so it takes memory,
-/// and fails only where that does.
+/// The line for the usable ranges of an address space, which the request asks for: `0`, or `90 Places` where it has
+/// fewer places than there are ranges, and in hex what is written back. A line feed ends it. It may be long, so it
+/// takes memory, and fails only where that does.
 pub fn ranges_line<A: Allocator + Copy>(
     alloc: A,
     request: RangesRequest,

@@ -32,7 +32,8 @@ pub fn session<R: Read, W: Write, A: Allocator + Copy>(
     writer: &mut W,
 ) -> Result<u8, CliFault>
     ensures text { IfOk result (λ status. IfSome (R.remaining reader.old) (λ input.
-        Writes (λ out. IsText A input out status × IsWithin input out status) (W.contents writer.old) (W.contents writer.new))) }
+        Writes (λ out. IsText A input out status × IsWithin input out status) (W.contents writer.old)
+        (W.contents writer.new))) }
     ensures fault { IfErr result (λ fault.
         Leaves A fault (R.remaining reader.old) (W.contents writer.old) (W.contents writer.new)) }
 {
@@ -66,7 +67,8 @@ fn run_script<W: Write, A: Allocator + Copy>(
 ) -> io::Result<u8>
     ensures text { IfOk result (λ status.
         Writes (λ out. IsRunText A config.now steps.old out status) (W.contents writer.old) (W.contents writer.new)) }
-    ensures begun { OnErr result (Writes (BeginsRunText A config.now steps.old) (W.contents writer.old) (W.contents writer.new)) }
+    ensures begun { OnErr result (Writes (BeginsRunText A config.now steps.old) (W.contents writer.old)
+        (W.contents writer.new)) }
     ensures retried { IfErr result IsFinal }
 {
     match Core::new(alloc, config) {
@@ -80,7 +82,8 @@ fn run_script<W: Write, A: Allocator + Copy>(
 
 // All bytes of the reader; None where there is no memory for them.
 fn read_all<R: Read, A: Allocator>(alloc: A, reader: &mut R) -> Result<Option<Vec<u8, A>>, CliFault>
-    ensures bytes { IfOk result (λ read. IfSome read (λ bytes. IfSome (R.remaining reader.old) (λ input. bytes.items ≡ input))) }
+    ensures bytes { IfOk result (λ read. IfSome read
+        (λ bytes. IfSome (R.remaining reader.old) (λ input. bytes.items ≡ input))) }
     ensures most { IfOk result (λ read. IfSome read (λ bytes. length bytes.items ≤ 2 ^ 24)) }
     ensures fault { IfErr result (λ fault. IsReadFault fault (R.remaining reader.old)) }
 {
@@ -95,8 +98,10 @@ fn read_all<R: Read, A: Allocator>(alloc: A, reader: &mut R) -> Result<Option<Ve
 
 // One line alone, and status 1.
 fn told<W: Write>(writer: &mut W, line: &Line) -> io::Result<u8>
-    ensures text { IfOk result (λ status. (status ≡ 1) × Appends (W.contents writer.old) (W.contents writer.new) line.now) }
-    ensures begun { OnErr result (Writes (λ out. IsFront out line.now) (W.contents writer.old) (W.contents writer.new)) }
+    ensures text { IfOk result (λ status. (status ≡ 1)
+        × Appends (W.contents writer.old) (W.contents writer.new) line.now) }
+    ensures begun { OnErr result (Writes (λ out. IsFront out line.now) (W.contents writer.old)
+        (W.contents writer.new)) }
     ensures retried { IfErr result IsFinal }
 {
     put(writer, line.as_slice())?;
@@ -111,7 +116,8 @@ fn run_steps<W: Write, A: Allocator + Copy>(
     writer: &mut W,
 ) -> io::Result<()>
     ensures text { OnOk result (Writes (StepsText core.old steps.old) (W.contents writer.old) (W.contents writer.new)) }
-    ensures begun { OnErr result (Writes (BeginsLines core.old steps.old) (W.contents writer.old) (W.contents writer.new)) }
+    ensures begun { OnErr result (Writes (BeginsLines core.old steps.old) (W.contents writer.old)
+        (W.contents writer.new)) }
     ensures retried { IfErr result IsFinal }
 {
     let mut line = Line::new();

@@ -2,7 +2,8 @@
 
 ghost use Rattle.std.specs.Prelude.{◌≡◌, ◌⊎◌, ◌<◌, ◌^◌, ℕ, List, length};
 ghost use Rattle.iommufd_cli.specs.Replies.{command_of, event_text, line, memory_text, ranges_text};
-ghost use Rattle.iommufd_cli.specs.Steps.{IsAnswered, IsApplied, IsAsked, IsCommanded, IsDecoded, IsIoctl, IsRanges, text_of};
+ghost use Rattle.iommufd_cli.specs.Steps.{IsAnswered, IsApplied, IsAsked, IsCommanded, IsDecoded, IsIoctl, IsRanges};
+ghost use Rattle.iommufd_cli.specs.Steps.{text_of};
 
 use crate::line::Line;
 use crate::replies::ranges_line;
@@ -194,7 +195,8 @@ fn told_ranges<A: Allocator + Copy>(
     out: &mut Line,
 ) -> Option<Vec<u8, A>>
     requires { length ranges.now < 2 ^ 32 }
-    ensures { (text_of result out.new ≡ line (ranges_text request ranges.now)) ⊎ (text_of result out.new ≡ line memory_text) }
+    ensures { (text_of result out.new ≡ line (ranges_text request ranges.now))
+        ⊎ (text_of result out.new ≡ line memory_text) }
 {
     match ranges_line(alloc, request, ranges) {
         Ok(text) => return Some(text),

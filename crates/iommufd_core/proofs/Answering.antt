@@ -1,4 +1,5 @@
--- The record of an event that is refused, and of one that is carried out, with the frames of tables that it moves or doesn't.
+-- The record of an event that is refused, and of one that is carried out, with the frames of tables that it moves or
+-- doesn't.
 use Rattle.std.proofs.Common.{◌≡◌, ℕ, Option, Some, None, Result, Ok, Err, List, refl, sym, subst, []}
 use Rattle.std.specs.Result.{IfOk, OnErr}
 use Rattle.iofd_words.specs.After.{changed}
@@ -20,24 +21,28 @@ use Rattle.server_state.specs.Step.{ChosenSteps, MovingSteps, Steps, recorded}
 use Rattle.server_state.specs.declared.state.State.{State}
 
 module _ (A : Type 0) (at : ℕ) (w : World) (pass : PassNo) (e : Event A) where
-  pub refused_lawful : (cause : Cause) → refusal w e ≡ Some cause → Lawful at w (recorded {A = A} pass e (reply.Refused (record { cause = cause })) [] [])
+  pub refused_lawful : (cause : Cause) → refusal w e ≡ Some cause
+      → Lawful at w (recorded {A = A} pass e (reply.Refused (record { cause = cause })) [] [])
   unfolding Lawful
   refused_lawful cause is =
       let told = recorded {A = A} pass e (reply.Refused (record { cause = cause })) [] [] in
       (subst (IsAnswer w told) (sym is) refl, subst (MovesFrames at w told) (sym is) (refl, refl))
 
-  pub refused_after : (cause : Cause) (answer : Reply) → refusal w e ≡ Some cause → after at w (recorded {A = A} pass e answer [] []) ≡ w
+  pub refused_after : (cause : Cause) (answer : Reply) → refusal w e ≡ Some cause
+      → after at w (recorded {A = A} pass e answer [] []) ≡ w
   unfolding after
   refused_after cause answer is = rw (is, after_answer) refl
 
   module _ (answer : Reply) (taken given : List FrameNo) (none : refusal w e ≡ None) where
-    pub answered_lawful : Answers w e answer → MovesTables w (changed at w e answer) e answer taken given → Lawful at w (recorded {A = A} pass e answer taken given)
+    pub answered_lawful : Answers w e answer → MovesTables w (changed at w e answer) e answer taken given
+        → Lawful at w (recorded {A = A} pass e answer taken given)
     unfolding Lawful
     answered_lawful answers moves =
         let told = recorded {A = A} pass e answer taken given in
         (subst (IsAnswer w told) (sym none) answers, subst (MovesFrames at w told) (sym none) moves)
 
-    pub answered_after : after at w (recorded {A = A} pass e answer taken given) ≡ with_tables taken given (changed at w e answer)
+    pub answered_after : after at w (recorded {A = A} pass e answer taken given) ≡ with_tables taken
+        given (changed at w e answer)
     unfolding after
     answered_after = rw (none, after_answer) refl
 
@@ -51,11 +56,14 @@ on_err (Ok x) P Q weaker known = known
 on_err (Err e) P Q weaker known = weaker known
 
 -- a commit that moves no frames of tables
-module _ {A : Type 0} (at : ℕ) (e : Event A) (via : Option FrameNo) (old new : State A) (answer : Reply) (taken given : List FrameNo) (no_taken : taken ≡ []) (no_given : given ≡ []) (makes : (w : World) → MakesNone w e) (takes : (w : World) → TakesNone w e) where
+module _ {A : Type 0} (at : ℕ) (e : Event A) (via : Option FrameNo) (old new : State A) (answer : Reply)
+    (taken given : List FrameNo) (no_taken : taken ≡ []) (no_given : given ≡ []) (makes : (w : World)
+    → MakesNone w e) (takes : (w : World) → TakesNone w e) where
   pub none_moved : ChosenSteps at e via old answer new → MovingSteps at e via old answer taken given new
   none_moved steps = rw (no_taken, no_given) (chosen_moves at e via answer new old steps makes (λ w tidy none. takes w))
 
   -- and of which there is one answer, or the server's is any
-  pub none_chosen : Steps at e old answer new → ((w : World) → IsChosen w e via answer) → MovingSteps at e via old answer taken given new
+  pub none_chosen : Steps at e old answer new → ((w : World) → IsChosen w e via answer)
+      → MovingSteps at e via old answer taken given new
   none_chosen steps chosen =
       none_moved (λ w tidy shows none may. let (answers, after) = steps w tidy shows none in (answers, chosen w, after))

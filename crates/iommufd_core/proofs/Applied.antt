@@ -1,5 +1,6 @@
 -- What applying an event makes of what a core keeps.
-use Rattle.std.proofs.Common.{◌≡◌, ℕ, suc, Bool, true, false, ◌||◌, eqb, is_none, Option, Some, None, List, [], ◌∷◌, ◌++◌, length, Contains, refl, sym, ◌∙◌, ap, subst, arith}
+use Rattle.std.proofs.Common.{◌≡◌, ℕ, suc, Bool, true, false, ◌||◌, eqb, is_none, Option, Some, None, List, [], ◌∷◌}
+use Rattle.std.proofs.Common.{◌++◌, length, Contains, refl, sym, ◌∙◌, ap, subst, arith}
 use Rattle.std.specs.List.{list_any}
 use Rattle.std.proofs.lemmas.Bool.Decides.{nat_tests}
 use Rattle.iofd_rows.proofs.Bools.{and_true}
@@ -42,58 +43,76 @@ after_settings at w r = by_cause (refusal w r.event)
 
 pass_found : (frame : FrameNo) (os : List Outcome) → list_any (is_pass_at frame) os ≡ true → Contains os (Passes frame)
 pass_found frame [] is = cc
-pass_found frame (Denied reason ∷ os) is = let rest = pass_found frame os is in (suc rest.0, omega (arith, rest.1), rest.2)
+pass_found frame (Denied reason ∷ os) is =
+    let rest = pass_found frame os is in (suc rest.0, omega (arith, rest.1), rest.2)
 pass_found frame (Passes at ∷ os) is = by_test (eqb at.0 frame.0) refl is (λ later. pass_found frame os later)
   where
-    by_test : (b : Bool) → eqb at.0 frame.0 ≡ b → (b || list_any (is_pass_at frame) os) ≡ true → (list_any (is_pass_at frame) os ≡ true → Contains os (Passes frame)) → Contains (Passes at ∷ os) (Passes frame)
-    by_test true same is later = let numbers : at.0 ≡ frame.0 = search (same, arith, nat_tests) in (0, omega arith, ap (λ n. Passes (record { 0 = n })) numbers)
+    by_test : (b : Bool) → eqb at.0 frame.0 ≡ b → (b || list_any (is_pass_at frame) os) ≡ true
+        → (list_any (is_pass_at frame) os ≡ true → Contains os (Passes frame))
+        → Contains (Passes at ∷ os) (Passes frame)
+    by_test true same is later = let numbers : at.0 ≡ frame.0 =
+        search (same, arith, nat_tests) in (0, omega arith, ap (λ n. Passes (record { 0 = n })) numbers)
     by_test false same is later = let rest = later is in (suc rest.0, omega (arith, rest.1), rest.2)
 
-pub may_use : {A : Type 0} (h : History A) (e : Event A) (via : Option FrameNo) → may_apply h e via ≡ true → MayUse (world h) e via
+pub may_use : {A : Type 0} (h : History A) (e : Event A) (via : Option FrameNo) → may_apply h e via ≡ true
+    → MayUse (world h) e via
 may_use h e None is = tt
 may_use h (event.DeviceWrite device iova bytes) (Some frame) is =
-    pass_found frame (outcomes (world h) device iova.0 Write) (and_true (is_none _) (list_any (is_pass_at frame) (outcomes (world h) device iova.0 Write)) is).1
+    pass_found frame (outcomes (world h) device iova.0 Write)
+    (and_true (is_none _) (list_any (is_pass_at frame) (outcomes (world h) device iova.0 Write)) is).1
 may_use h e (Some frame) is = cc
 
 -- ---- the fields
 
 module _ {A : Type 0} (old new : State A) (records : List (Record A)) (kept : IsKept old records) where
-  same_config : (w : World) → Shows (world_of old.config records) old → Shows w new → w.settings ≡ (world_of old.config records).settings → new.config ≡ old.config
+  same_config : (w : World) → Shows (world_of old.config records) old → Shows w new
+      → w.settings ≡ (world_of old.config records).settings → new.config ≡ old.config
   same_config w shows shown same = sym shown.settings ∙ same ∙ shows.settings
 
   pub unchanged_config : TidyShowsSame (length records) old new → new.config ≡ old.config
-  unchanged_config stays = same_config (world_of old.config records) kept.shows (stays (world_of old.config records) (tidy_run old.config records kept.run) kept.shows) refl
+  unchanged_config stays = same_config (world_of old.config records) kept.shows
+      (stays (world_of old.config records) (tidy_run old.config records kept.run) kept.shows) refl
 
   pub unchanged_kept : TidyShowsSame (length records) old new → IsKept new records
   unchanged_kept stays =
       let config = unchanged_config stays in
       record {
         run = rw config kept.run;
-        shows = subst (λ settings. Shows (world_of settings records) new) (sym config) (stays (world_of old.config records) (tidy_run old.config records kept.run) kept.shows);
+        shows = subst (λ settings. Shows (world_of settings records) new) (sym config)
+            (stays (world_of old.config records) (tidy_run old.config records kept.run) kept.shows);
       }
 
-  module _ (pass : PassNo) (e : Event A) (via : Option FrameNo) (answer : Reply) (taken given : List FrameNo) (may : MayUse (world_of old.config records) e via) (answered : Answered (length records) e via old answer taken given new) where
+  module _ (pass : PassNo) (e : Event A) (via : Option FrameNo) (answer : Reply) (taken given : List FrameNo)
+      (may : MayUse (world_of old.config records) e via)
+      (answered : Answered (length records) e via old answer taken given new) where
     told : Lawful (length records) (world_of old.config records) (recorded {A = A} pass e answer taken given)
         × (refusal (world_of old.config records) e ≡ None
-        → IsChosen (world_of old.config records) e via answer × AreFramesChosen (world_of old.config records) (changed (length records) (world_of old.config records) e answer) taken given)
+        → IsChosen (world_of old.config records) e via answer
+        × AreFramesChosen (world_of old.config records)
+        (changed (length records) (world_of old.config records) e answer) taken given)
         × Shows (after (length records) (world_of old.config records) (recorded {A = A} pass e answer taken given)) new
     told = answered pass (world_of old.config records) (tidy_run old.config records kept.run) kept.shows (λ none. may)
 
     pub applied_config : new.config ≡ old.config
     applied_config =
-        same_config (after (length records) (world_of old.config records) (recorded pass e answer taken given)) kept.shows told.2
+        same_config (after (length records) (world_of old.config records) (recorded pass e answer taken given))
+        kept.shows told.2
         (after_settings (length records) (world_of old.config records) (recorded pass e answer taken given))
 
     pub applied_kept : IsKept new (records ++ recorded pass e answer taken given ∷ [])
     applied_kept =
         record {
           run = rw applied_config (run_more old.config records (recorded pass e answer taken given) kept.run told.0);
-          shows = subst (λ settings. Shows (world_of settings (records ++ recorded pass e answer taken given ∷ [])) new) (sym applied_config)
+          shows = subst (λ settings. Shows (world_of settings (records ++ recorded pass e answer taken given ∷ [])) new)
+              (sym applied_config)
               (rw (world_more old.config records (recorded pass e answer taken given)) told.2);
         }
 
-    pub applied_chosen : refusal (world_of old.config records) e ≡ None → IsChosen (world_of old.config records) e via answer
+    pub applied_chosen : refusal (world_of old.config records) e ≡ None
+        → IsChosen (world_of old.config records) e via answer
     applied_chosen none = (told.1 none).0
 
-    pub applied_frames : refusal (world_of old.config records) e ≡ None → AreFramesChosen (world_of old.config records) (changed (length records) (world_of old.config records) e answer) taken given
+    pub applied_frames : refusal (world_of old.config records) e ≡ None
+        → AreFramesChosen (world_of old.config records)
+        (changed (length records) (world_of old.config records) e answer) taken given
     applied_frames none = (told.1 none).1

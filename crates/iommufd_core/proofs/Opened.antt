@@ -1,5 +1,6 @@
 -- What is kept at the opening shows the world of the opening.
-use Rattle.std.proofs.Common.{◌≡◌, ℕ, zero, suc, ◌+◌, ◌-◌, Bool, true, false, ◌&&◌, eqb, ltb, is_some, List, [], ◌∷◌, length, replicate, get_or, slice_index, refl, sym, ◌∙◌, ap, subst, arith}
+use Rattle.std.proofs.Common.{◌≡◌, ℕ, zero, suc, ◌+◌, ◌-◌, Bool, true, false, ◌&&◌, eqb, ltb, is_some, List, [], ◌∷◌}
+use Rattle.std.proofs.Common.{length, replicate, get_or, slice_index, refl, sym, ◌∙◌, ap, subst, arith}
 use Rattle.std.specs.List.{count_by, slice_get}
 use Rattle.std.proofs.lemmas.Bool.Decides.{nat_tests}
 use Rattle.std.proofs.lemmas.List.{get_or-replicate, length-replicate}
@@ -24,7 +25,8 @@ some_below [] n = refl
 some_below (x ∷ xs) zero = refl
 some_below (x ∷ xs) (suc n) = some_below xs n
 
-open_at : (files : List UserNo) (n : ℕ) → (ltb 0 n && get_or (replicate (length files) true) (n - 1) false) ≡ (is_some (file.numbered files n) && true)
+open_at : (files : List UserNo) (n : ℕ) → (ltb 0 n && get_or (replicate (length files) true) (n - 1) false)
+    ≡ (is_some (file.numbered files n) && true)
 open_at files zero = refl
 open_at files (suc n) =
     let before : suc n - 1 ≡ n = omega arith in
@@ -35,7 +37,8 @@ open_at files (suc n) =
     and_whole true = refl
     and_whole false = refl
 
-pub all_open : (A : Type 0) (settings : Settings) (number : FileNo) → is_open (fresh_table {V = Held A} (length settings.files)) number ≡ file.is_open settings [] number
+pub all_open : (A : Type 0) (settings : Settings) (number : FileNo)
+    → is_open (fresh_table {V = Held A} (length settings.files)) number ≡ file.is_open settings [] number
 all_open A settings number = open_at settings.files number.0
 
 -- ---- the frames

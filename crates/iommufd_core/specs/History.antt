@@ -30,7 +30,8 @@ pub record History (A : Type 0) : Type 0 where
 -- what may_pass asks: nothing refuses the access, and the policy lets it pass at this frame
 abbrev pub passes_in : World → DeviceNo → Iova → ℕ → AccessKind → FrameNo → Bool
 passes_in w device iova len kind frame =
-    is_none (first_true (query_checks (view w) (DeviceRead device iova len))) && list_any (is_pass_at frame) (outcomes w device iova.0 kind)
+    is_none (first_true (query_checks (view w) (DeviceRead device iova len)))
+    && list_any (is_pass_at frame) (outcomes w device iova.0 kind)
 
 module _ {A : Type 0} where
   -- the world that the records have left
@@ -50,5 +51,6 @@ module _ {A : Type 0} where
   -- an act may be applied: it has no cached frame, or is a device's write that may pass at that frame
   abbrev pub may_apply : History A → Event A → Option FrameNo → Bool
   may_apply h e None = true
-  may_apply h (event.DeviceWrite device iova bytes) (Some frame) = passes_in (world h) device iova (length bytes) Write frame
+  may_apply h (event.DeviceWrite device iova bytes) (Some frame) =
+      passes_in (world h) device iova (length bytes) Write frame
   may_apply h e (Some frame) = false

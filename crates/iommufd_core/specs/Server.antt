@@ -11,8 +11,8 @@ pub record Server (A : Type 0) : Type 0 where
   pub history : History A
   pub room : ℕ
 
--- the kinds of event that may take memory beside their record's: those by which something comes, and those by which page tables may
--- go, for the list of the frames that they give back
+-- the kinds of event that may take memory beside their record's: those by which something comes, and those by which
+-- page tables may go, for the list of the frames that they give back
 abbrev pub takes_memory : {A : Type 0} → Event A → Bool
 takes_memory (event.IoasAlloc file) = true
 takes_memory (event.AllowIovas file ioas ranges) = nat_lt 0 (length ranges)
@@ -32,7 +32,8 @@ takes_memory (event.Detach device) = true
 takes_memory (event.Flush device) = false
 takes_memory (event.DeviceWrite device iova bytes) = false
 
--- the only time at which memory may be wanting: there is no place for the record, or for the list that the event carries, or nothing
--- refuses the event and it is of a kind that may take memory
+-- the only time at which memory may be wanting: there is no place for the record, or for the list that the event
+-- carries, or nothing refuses the event and it is of a kind that may take memory
 abbrev pub MayWant : {A : Type 0} → Server A → Event A → Type 0
-MayWant s e = ((s.room ≡ 0) ⊎ (0 < length (ranges_of e))) ⊎ ((refusal (world s.history) e ≡ None) × IsTrue (takes_memory e))
+MayWant s e =
+    ((s.room ≡ 0) ⊎ (0 < length (ranges_of e))) ⊎ ((refusal (world s.history) e ≡ None) × IsTrue (takes_memory e))

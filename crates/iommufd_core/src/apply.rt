@@ -65,20 +65,22 @@ impl<A: Allocator + Copy> Core<A> {
     }
 
     /// Applies an event: exactly one record is appended, of this caller, with the event, its reply and the frames that
-    /// it took for tables and gave back, at the position that the stamp names. Without a cached frame a device's write that may pass or be denied, since
-    /// a flush is owed, is denied; with one it passes there.
+    /// it took for tables and gave back, at the position that the stamp names. Without a cached frame a device's write
+    /// that may pass or be denied, since a flush is owed, is denied; with one it passes there.
     ///
     /// NoMemory comes only where a growth was really refused, and leaves everything as it was.
     pub fn apply(&mut self, pass: PassNo, act: &Act<A>) -> Result<Stamp, NoMemory>
         requires { IsTrue (may_apply self.old.history act.now.event act.now.via) }
-        ensures record { IfOk result (λ stamp. HasOneMore pass act.now.event stamp.reply self.old.history self.new.history) }
+        ensures record { IfOk result (λ stamp. HasOneMore pass act.now.event stamp.reply
+            self.old.history self.new.history) }
         ensures at { IfOk result (λ stamp. stamp.at ≡ length self.old.history.records) }
         ensures run { IsRun self.new.history.settings self.new.history.records }
         ensures chosen { IfOk result (λ stamp.
-            checks.refusal (world self.old.history) act.now.event ≡ None → IsChosen (world self.old.history) act.now.event act.now.via stamp.reply) }
+            checks.refusal (world self.old.history) act.now.event ≡ None
+            → IsChosen (world self.old.history) act.now.event act.now.via stamp.reply) }
 
-        // Want of memory comes only where the record has no place, or the list that the event carries, or to an event that
-        // nothing refuses and by which something comes or page tables go. It changes nothing.
+        // Want of memory comes only where the record has no place, or the list that the event carries, or to an event
+        // that nothing refuses and by which something comes or page tables go. It changes nothing.
         ensures memory { OnErr result (MayWant self.old act.now.event) }
         ensures unchanged { OnErr result (self.new.history ≡ self.old.history) }
     {

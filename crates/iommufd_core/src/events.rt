@@ -31,7 +31,8 @@ pub(crate) fn answer<A: Allocator + Copy>(
     ensures ok { IfOk result (λ reply.
         Answered at act.now.event act.now.via state.old reply taken.new.items given.new.items state.new) }
     ensures err { OnErr result (TidyShowsSame at state.old state.new) }
-    ensures memory { OnErr result ((first_true (checks (seen state.old) act.now.event) ≡ None) × IsTrue (takes_memory act.now.event)) }
+    ensures memory { OnErr result ((first_true (checks (seen state.old) act.now.event) ≡ None)
+        × IsTrue (takes_memory act.now.event)) }
 {
     match refusal(state, &act.event) {
         Some(cause) => Ok(Reply::Refused(Refusal { cause })),

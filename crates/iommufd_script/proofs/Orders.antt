@@ -1,5 +1,7 @@
 -- A text whose lines say the head in its order, within the limits, and then the steps, is read as these.
-use Rattle.std.proofs.Common.{◌≡◌, ℕ, ◌+◌, ◌<◌, ◌≤◌, Bool, true, false, ◌&&◌, not, cond, ltb, leb, nat_le, List, [], ◌∷◌, ◌++◌, length, map, option_map, append_assoc, Option, Some, None, Result, Ok, refl, sym, ap, subst, ◌∙◌, arith}
+use Rattle.std.proofs.Common.{◌≡◌, ℕ, ◌+◌, ◌<◌, ◌≤◌, Bool, true, false, ◌&&◌, not, cond, ltb, leb, nat_le, List, []}
+use Rattle.std.proofs.Common.{◌∷◌, ◌++◌, length, map, option_map, append_assoc, Option, Some, None, Result, Ok, refl}
+use Rattle.std.proofs.Common.{sym, ap, subst, ◌∙◌, arith}
 use Rattle.std.proofs.lemmas.Bool.{lt-ltb, leb-true}
 use Rattle.std.proofs.lemmas.List.{append-nil}
 use Rattle.std.specs.List.{fold, list_all}
@@ -9,8 +11,10 @@ use Rattle.iofd_words.specs.Settings.{Settings, DeviceSettings, is_between, is_d
 use Rattle.iofd_words.specs.declared.config.ConfigError.TheVariants as field
 use Rattle.iofd_words.specs.declared.numbers.UserNo.{UserNo}
 use Rattle.iommufd_script.specs.Lines.{lines, line_of}
-use Rattle.iommufd_script.specs.Script.{start, after, bad_or, first_bad, first_bad_line, step_before, steps_in, steps_of}
-use Rattle.iommufd_script.specs.Opening.{set_by, nothing_set, headings, heading_before, settings_of, script_or, script_of}
+use Rattle.iommufd_script.specs.Script.{start, after, bad_or, first_bad, first_bad_line, step_before, steps_in}
+use Rattle.iommufd_script.specs.Script.{steps_of}
+use Rattle.iommufd_script.specs.Opening.{set_by, nothing_set, headings, heading_before, settings_of, script_or}
+use Rattle.iommufd_script.specs.Opening.{script_of}
 use Rattle.iommufd_script.specs.Shape.{unless_skipped, said, user_line, file_line, device_line, in_order, IsScript}
 use Rattle.iommufd_script.specs.declared.line.HeadLine.{HeadLine}
 use Rattle.iommufd_script.specs.declared.line.HeadLine.TheVariants as heading
@@ -40,25 +44,31 @@ steps_said [] = []
 steps_said (l ∷ more) = step_before (Some l) (steps_said more)
 
 -- what was said determines what is read
-record IsReadSo (n : ℕ) (p : Place) (w : List Line) (bad : Option ℕ) (hs : List HeadLine) (steps : List Step) : Type 0 where
-  bad_is : run p w ≡ true → bad ≡ None
-  heads_are : hs ≡ heads w
-  steps_are : steps ≡ steps_said w
+record IsReadSo (n : ℕ) (p : Place) (w : List Line) (bad : Option ℕ) (hs : List HeadLine) (steps : List Step) : Type 0
+  where
+    bad_is : run p w ≡ true → bad ≡ None
+    heads_are : hs ≡ heads w
+    steps_are : steps ≡ steps_said w
 
 abbrev ReadSo : ℕ → List (List ℕ) → Type 0
-ReadSo n texts = (p : Place) (w : List Line) → said texts ≡ Some w → IsReadSo n p w (first_bad n p texts) (headings texts) (steps_in texts)
+ReadSo n texts = (p : Place) (w : List Line) → said texts ≡ Some w
+    → IsReadSo n p w (first_bad n p texts) (headings texts) (steps_in texts)
 
-some_said : (more : Option (List Line)) (l : Line) (w : List Line) → option_map (λ others. unless_skipped l others) more ≡ Some w → (rest : List Line) × (more ≡ Some rest) × (unless_skipped l rest ≡ w)
+some_said : (more : Option (List Line)) (l : Line) (w : List Line)
+    → option_map (λ others. unless_skipped l others) more ≡ Some w → (rest : List Line) × (more ≡ Some rest)
+    × (unless_skipped l rest ≡ w)
 some_said None l w e = absurd cc
 some_said (Some rest) l w e = (rest, refl, cc)
 
-run_some : (o : Option Place) (n : ℕ) (goes : Place → Bool) (others : Place → Option ℕ) → ((next : Place) → goes next ≡ true → others next ≡ None) → if_some o goes ≡ true → bad_or n o others ≡ None
+run_some : (o : Option Place) (n : ℕ) (goes : Place → Bool) (others : Place → Option ℕ)
+    → ((next : Place) → goes next ≡ true → others next ≡ None) → if_some o goes ≡ true → bad_or n o others ≡ None
 run_some None n goes others h e = absurd cc
 run_some (Some next) n goes others h e = h next e
 
 said_line : (n : ℕ) (texts : List (List ℕ)) → ReadSo (n + 1) texts → (p : Place) (w : List Line) (l : Option Line)
     → option_and_then (λ first. option_map (λ others. unless_skipped first others) (said texts)) l ≡ Some w
-    → IsReadSo n p w (bad_or (n + 1) (after p l) (λ next. first_bad (n + 1) next texts)) (heading_before l (headings texts)) (step_before l (steps_in texts))
+    → IsReadSo n p w (bad_or (n + 1) (after p l) (λ next. first_bad (n + 1) next texts))
+    (heading_before l (headings texts)) (step_before l (steps_in texts))
 said_line n texts others p w None e = absurd cc
 said_line n texts others p w (Some line.Skipped) e =
     let found = some_said (said texts) line.Skipped w e in
@@ -68,8 +78,10 @@ said_line n texts others p w (Some (line.Head h)) e =
     let found = some_said (said texts) (line.Head h) w e in
     let read = others p found.0 found.1 in
     record {
-      bad_is = λ goes. run_some (after p (Some (line.Head h))) (n + 1) (λ next. run next found.0) (λ next. first_bad (n + 1) next texts)
-          (λ next h. let there = others next found.0 found.1 in there.bad_is h) (subst (λ (v : List Line). run p v ≡ true) (sym found.2) goes);
+      bad_is = λ goes. run_some (after p (Some (line.Head h))) (n + 1) (λ next. run next found.0)
+          (λ next. first_bad (n + 1) next texts)
+          (λ next h. let there = others next found.0 found.1 in there.bad_is h)
+          (subst (λ (v : List Line). run p v ≡ true) (sym found.2) goes);
       heads_are = ap (heading_before (Some (line.Head h))) read.heads_are ∙ ap heads found.2;
       steps_are = read.steps_are ∙ ap steps_said found.2;
     }
@@ -77,8 +89,10 @@ said_line n texts others p w (Some (line.Step step)) e =
     let found = some_said (said texts) (line.Step step) w e in
     let read = others p found.0 found.1 in
     record {
-      bad_is = λ goes. run_some (after p (Some (line.Step step))) (n + 1) (λ next. run next found.0) (λ next. first_bad (n + 1) next texts)
-          (λ next h. let there = others next found.0 found.1 in there.bad_is h) (subst (λ (v : List Line). run p v ≡ true) (sym found.2) goes);
+      bad_is = λ goes. run_some (after p (Some (line.Step step))) (n + 1) (λ next. run next found.0)
+          (λ next. first_bad (n + 1) next texts)
+          (λ next h. let there = others next found.0 found.1 in there.bad_is h)
+          (subst (λ (v : List Line). run p v ≡ true) (sym found.2) goes);
       heads_are = read.heads_are ∙ ap heads found.2;
       steps_are = ap (λ (rest : List Step). step ∷ rest) read.steps_are ∙ ap steps_said found.2;
     }
@@ -104,7 +118,8 @@ read_so n (text ∷ texts) p w e =
 abbrev at : ℕ → ℕ → ℕ → Place
 at users files devices = record { pool = true; users = users; files = files; devices = devices; begun = false }
 
-users_run : (u : ℕ) (users : List ℕ) (more : List Line) → u + length users ≤ 255 → run (at u 0 0) (map user_line users ++ more) ≡ run (at (u + length users) 0 0) more
+users_run : (u : ℕ) (users : List ℕ) (more : List Line) → u + length users ≤ 255
+    → run (at u 0 0) (map user_line users ++ more) ≡ run (at (u + length users) 0 0) more
 users_run u [] more h = ap (λ (k : ℕ). run (at k 0 0) more) (omega arith)
 users_run u (limit ∷ users) more h =
     let room : ltb u 255 ≡ true = lt-ltb u 255 (omega arith) in
@@ -112,7 +127,8 @@ users_run u (limit ∷ users) more h =
     let count : u + 1 + length users ≡ u + length (limit ∷ users) = omega arith in
     rw room (next ∙ ap (λ (k : ℕ). run (at k 0 0) more) count)
 
-files_run : (u f : ℕ) (files : List UserNo) (more : List Line) → f + length files ≤ 1024 → list_all (λ user. is_between 1 u user.0) files ≡ true
+files_run : (u f : ℕ) (files : List UserNo) (more : List Line) → f + length files ≤ 1024
+    → list_all (λ user. is_between 1 u user.0) files ≡ true
     → run (at u f 0) (map file_line files ++ more) ≡ run (at u (f + length files) 0) more
 files_run u f [] more h e = ap (λ (k : ℕ). run (at u k 0) more) (omega arith)
 files_run u f (user ∷ files) more h e =
@@ -123,7 +139,8 @@ files_run u f (user ∷ files) more h e =
     rw (parts.0, room) (next ∙ ap (λ (k : ℕ). run (at u k 0) more) count)
 
 devices_run : (u f d : ℕ) (devices : List DeviceSettings) (more : List Line) → 0 < f → d + length devices ≤ 256
-    → list_all is_device_in_limits devices ≡ true → run (at u f d) (map device_line devices ++ more) ≡ run (at u f (d + length devices)) more
+    → list_all is_device_in_limits devices ≡ true
+    → run (at u f d) (map device_line devices ++ more) ≡ run (at u f (d + length devices)) more
 devices_run u f d [] more h few ok = ap (λ (k : ℕ). run (at u f k) more) (omega arith)
 devices_run u f d (device ∷ devices) more h few ok =
     let parts = and-parts (is_device_in_limits device) (list_all is_device_in_limits devices) ok in
@@ -139,7 +156,8 @@ stays false p goes e = absurd cc
 
 steps_run : (p : Place) (steps : List Step) → p.begun ≡ true → run p (map (λ step. line.Step step) steps) ≡ true
 steps_run p [] begun = begun
-steps_run p (step ∷ steps) begun = stays p.begun p (λ next. run next (map (λ step. line.Step step) steps)) begun ∙ steps_run p steps begun
+steps_run p (step ∷ steps) begun =
+    stays p.begun p (λ next. run next (map (λ step. line.Step step) steps)) begun ∙ steps_run p steps begun
 
 steps_back : (steps : List Step) → steps_said (map (λ step. line.Step step) steps) ≡ steps
 steps_back [] = refl
@@ -149,30 +167,45 @@ no_steps_in_users : (users : List ℕ) (more : List Line) → steps_said (map us
 no_steps_in_users [] more = refl
 no_steps_in_users (limit ∷ users) more = no_steps_in_users users more
 
-no_steps_in_files : (files : List UserNo) (more : List Line) → steps_said (map file_line files ++ more) ≡ steps_said more
+no_steps_in_files : (files : List UserNo) (more : List Line)
+    → steps_said (map file_line files ++ more) ≡ steps_said more
 no_steps_in_files [] more = refl
 no_steps_in_files (user ∷ files) more = no_steps_in_files files more
 
-no_steps_in_devices : (devices : List DeviceSettings) (more : List Line) → steps_said (map device_line devices ++ more) ≡ steps_said more
+no_steps_in_devices : (devices : List DeviceSettings) (more : List Line)
+    → steps_said (map device_line devices ++ more) ≡ steps_said more
 no_steps_in_devices [] more = refl
 no_steps_in_devices (device ∷ devices) more = no_steps_in_devices devices more
 
-users_set : (s : Settings) (users : List ℕ) (more : List Line) → fold set_by s (heads (map user_line users ++ more)) ≡ fold set_by (record s { users = s.users ++ users }) (heads more)
-users_set s [] more = ap (λ (users : List ℕ). fold set_by (record s { users = users }) (heads more)) (sym (append-nil s.users))
+users_set : (s : Settings) (users : List ℕ) (more : List Line)
+    → fold set_by s (heads (map user_line users ++ more)) ≡ fold set_by
+    (record s { users = s.users ++ users }) (heads more)
+users_set s [] more =
+    ap (λ (users : List ℕ). fold set_by (record s { users = users }) (heads more)) (sym (append-nil s.users))
 users_set s (limit ∷ users) more =
-    users_set (set_by s (heading.User limit)) users more ∙ ap (λ (all : List ℕ). fold set_by (record s { users = all }) (heads more)) (append_assoc s.users (limit ∷ []) users)
+    users_set (set_by s (heading.User limit)) users more
+    ∙ ap (λ (all : List ℕ). fold set_by (record s { users = all }) (heads more))
+    (append_assoc s.users (limit ∷ []) users)
 
-files_set : (s : Settings) (files : List UserNo) (more : List Line) → fold set_by s (heads (map file_line files ++ more)) ≡ fold set_by (record s { files = s.files ++ files }) (heads more)
-files_set s [] more = ap (λ (files : List UserNo). fold set_by (record s { files = files }) (heads more)) (sym (append-nil s.files))
+files_set : (s : Settings) (files : List UserNo) (more : List Line)
+    → fold set_by s (heads (map file_line files ++ more)) ≡ fold set_by
+    (record s { files = s.files ++ files }) (heads more)
+files_set s [] more =
+    ap (λ (files : List UserNo). fold set_by (record s { files = files }) (heads more)) (sym (append-nil s.files))
 files_set s (user ∷ files) more =
-    files_set (set_by s (heading.File user)) files more ∙ ap (λ (all : List UserNo). fold set_by (record s { files = all }) (heads more)) (append_assoc s.files (user ∷ []) files)
+    files_set (set_by s (heading.File user)) files more
+    ∙ ap (λ (all : List UserNo). fold set_by (record s { files = all }) (heads more))
+    (append_assoc s.files (user ∷ []) files)
 
 devices_set : (s : Settings) (devices : List DeviceSettings) (more : List Line)
-    → fold set_by s (heads (map device_line devices ++ more)) ≡ fold set_by (record s { devices = s.devices ++ devices }) (heads more)
-devices_set s [] more = ap (λ (devices : List DeviceSettings). fold set_by (record s { devices = devices }) (heads more)) (sym (append-nil s.devices))
+    → fold set_by s (heads (map device_line devices ++ more)) ≡ fold set_by
+    (record s { devices = s.devices ++ devices }) (heads more)
+devices_set s [] more = ap (λ (devices : List DeviceSettings). fold set_by (record s { devices = devices })
+    (heads more)) (sym (append-nil s.devices))
 devices_set s (device ∷ devices) more =
     devices_set (set_by s (heading.Device device.source device.width device.x86 device.reserved)) devices more
-    ∙ ap (λ (all : List DeviceSettings). fold set_by (record s { devices = all }) (heads more)) (append_assoc s.devices (device ∷ []) devices)
+    ∙ ap (λ (all : List DeviceSettings). fold set_by (record s { devices = all }) (heads more))
+    (append_assoc s.devices (device ∷ []) devices)
 
 -- ---- the whole script
 
@@ -181,27 +214,36 @@ ends steps = line.Head heading.Begin ∷ map (λ step. line.Step step) steps
 
 head_run : (pool : ℕ) (users : List ℕ) (files : List UserNo) (devices : List DeviceSettings) (steps : List Step)
     → is_between 1 4096 pool ≡ true → length users ≤ 255 → 0 < length files → length files ≤ 1024
-    → list_all (λ user. is_between 1 (length users) user.0) files ≡ true → length devices ≤ 256 → list_all is_device_in_limits devices ≡ true
-    → run start (line.Head (heading.Pool pool) ∷ (map user_line users ++ (map file_line files ++ (map device_line devices ++ ends steps)))) ≡ true
+    → list_all (λ user. is_between 1 (length users) user.0) files ≡ true → length devices ≤ 256
+    → list_all is_device_in_limits devices ≡ true
+    → run start (line.Head (heading.Pool pool)
+    ∷ (map user_line users ++ (map file_line files ++ (map device_line devices ++ ends steps)))) ≡ true
 head_run pool users files devices steps pool_ok few_users some few_files owned few_devices limits =
     let some_file : ltb 0 (length files) ≡ true = lt-ltb 0 (length files) some in
     let rest = map device_line devices ++ ends steps in
-    let begun : Place = record { pool = true; users = length users; files = length files; devices = length devices; begun = true } in
+    let begun : Place =
+    record { pool = true; users = length users; files = length files; devices = length devices; begun = true } in
     let no_more : 0 + length users ≡ length users = omega arith in
     let nor_more : 0 + length files ≡ length files = omega arith in
-    let first = users_run 0 users (map file_line files ++ rest) (omega (arith, few_users)) ∙ ap (λ (k : ℕ). run (at k 0 0) (map file_line files ++ rest)) no_more in
-    let second = files_run (length users) 0 files rest (omega (arith, few_files)) owned ∙ ap (λ (k : ℕ). run (at (length users) k 0) rest) nor_more in
+    let first = users_run 0 users (map file_line files ++ rest) (omega (arith, few_users))
+    ∙ ap (λ (k : ℕ). run (at k 0 0) (map file_line files ++ rest)) no_more in
+    let second = files_run (length users) 0 files rest (omega (arith, few_files)) owned
+    ∙ ap (λ (k : ℕ). run (at (length users) k 0) rest) nor_more in
     let nor_devices : 0 + length devices ≡ length devices = omega arith in
-    let third = devices_run (length users) (length files) 0 devices (ends steps) some (omega (arith, few_devices)) limits
+    let third =
+    devices_run (length users) (length files) 0 devices (ends steps) some (omega (arith, few_devices)) limits
     ∙ ap (λ (k : ℕ). run (at (length users) (length files) k) (ends steps)) nor_devices in
-    let last : run (at (length users) (length files) (length devices)) (ends steps) ≡ true = rw some_file (steps_run begun steps refl) in
+    let last : run (at (length users) (length files) (length devices)) (ends steps) ≡ true =
+    rw some_file (steps_run begun steps refl) in
     rw pool_ok (first ∙ (second ∙ (third ∙ last)))
 
 head_steps : (pool : ℕ) (users : List ℕ) (files : List UserNo) (devices : List DeviceSettings) (steps : List Step)
-    → steps_said (line.Head (heading.Pool pool) ∷ (map user_line users ++ (map file_line files ++ (map device_line devices ++ ends steps)))) ≡ steps
+    → steps_said (line.Head (heading.Pool pool)
+    ∷ (map user_line users ++ (map file_line files ++ (map device_line devices ++ ends steps)))) ≡ steps
 head_steps pool users files devices steps =
     let rest = map device_line devices ++ ends steps in
-    no_steps_in_users users (map file_line files ++ rest) ∙ (no_steps_in_files files rest ∙ (no_steps_in_devices devices (ends steps) ∙ steps_back steps))
+    no_steps_in_users users (map file_line files ++ rest)
+    ∙ (no_steps_in_files files rest ∙ (no_steps_in_devices devices (ends steps) ∙ steps_back steps))
 
 head_set : (settings : Settings) (steps : List Step) → settings.passes ≡ 1
     → fold set_by nothing_set (heads (in_order settings steps)) ≡ settings
@@ -210,8 +252,10 @@ head_set s steps one =
     let zero_ : Settings = record { pool = s.pool; users = []; files = []; devices = []; passes = 1 } in
     let users_ : Settings = record { pool = s.pool; users = s.users; files = []; devices = []; passes = 1 } in
     let files_ : Settings = record { pool = s.pool; users = s.users; files = s.files; devices = []; passes = 1 } in
-    let with_passes = λ (n : ℕ). let t : Settings = record { pool = s.pool; users = s.users; files = s.files; devices = s.devices; passes = n } in t in
-    users_set zero_ s.users (map file_line s.files ++ rest) ∙ (files_set users_ s.files rest ∙ (devices_set files_ s.devices (ends steps) ∙ ap with_passes (sym one)))
+    let with_passes = λ (n : ℕ). let t : Settings =
+    record { pool = s.pool; users = s.users; files = s.files; devices = s.devices; passes = n } in t in
+    users_set zero_ s.users (map file_line s.files ++ rest)
+    ∙ (files_set users_ s.files rest ∙ (devices_set files_ s.devices (ends steps) ∙ ap with_passes (sym one)))
 
 -- within the limits, part by part
 record IsWithin (s : Settings) : Type 0 where
@@ -222,7 +266,8 @@ record IsWithin (s : Settings) : Type 0 where
   few_devices : nat_le (length s.devices) 256 ≡ true
   devices : list_all is_device_in_limits s.devices ≡ true
 
-pass : {A : Type 0} (k : A) (b : Bool) (others : Option A) → cond (not b) (Some k) others ≡ None → (b ≡ true) × (others ≡ None)
+pass : {A : Type 0} (k : A) (b : Bool) (others : Option A) → cond (not b) (Some k) others ≡ None
+    → (b ≡ true) × (others ≡ None)
 pass k true others e = (refl, e)
 pass k false others e = absurd cc
 
@@ -257,7 +302,8 @@ read_as texts s steps shape =
     let some : 1 ≤ length s.files = leb-true 1 (length s.files) files.0 in
     let few_devices : length s.devices ≤ 256 = leb-true (length s.devices) 256 inside.few_devices in
     let goes =
-    head_run s.pool s.users s.files s.devices steps inside.pool (leb-true (length s.users) 255 users.1) (omega (arith, some))
+    head_run s.pool s.users s.files s.devices steps inside.pool
+    (leb-true (length s.users) 255 users.1) (omega (arith, some))
     (leb-true (length s.files) 1024 files.1) inside.owned few_devices inside.devices in
     record {
       good = read.bad_is goes;
@@ -265,10 +311,12 @@ read_as texts s steps shape =
       taken = read.steps_are ∙ head_steps s.pool s.users s.files s.devices steps;
     }
 
-pub shape_good : (texts : List (List ℕ)) (s : Settings) (steps : List Step) → IsScript texts s steps → first_bad 0 start texts ≡ None
+pub shape_good : (texts : List (List ℕ)) (s : Settings) (steps : List Step) → IsScript texts s steps
+    → first_bad 0 start texts ≡ None
 shape_good texts s steps shape = let read = read_as texts s steps shape in read.good
 
-pub shape_script : (text : List ℕ) (settings : Settings) (steps : List Step) → IsScript (lines text) settings steps → script_of text ≡ Ok (settings, steps)
+pub shape_script : (text : List ℕ) (settings : Settings) (steps : List Step) → IsScript (lines text) settings steps
+    → script_of text ≡ Ok (settings, steps)
 unfolding script_of settings_of first_bad_line
 shape_script text s steps shape =
     let read = read_as (lines text) s steps shape in

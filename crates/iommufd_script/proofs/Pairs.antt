@@ -1,5 +1,6 @@
 -- Pairs of digits, by the place of the byte.
-use Rattle.std.proofs.Common.{◌≡◌, ℕ, zero, suc, ◌+◌, ◌*◌, ◌/◌, ◌<◌, Bool, true, get_or, List, [], ◌∷◌, length, refl, sym, ap, ◌∙◌, arith}
+use Rattle.std.proofs.Common.{◌≡◌, ℕ, zero, suc, ◌+◌, ◌*◌, ◌/◌, ◌<◌, Bool, true, get_or, List, [], ◌∷◌, length, refl}
+use Rattle.std.proofs.Common.{sym, ap, ◌∙◌, arith}
 use Rattle.std.proofs.lemmas.Bool.Decides.{nat_tests}
 use Rattle.std.specs.Char.{digit_value}
 use Rattle.std.specs.List.{list_all}
@@ -10,7 +11,8 @@ length_pairs [] = refl
 length_pairs (high ∷ []) = refl
 length_pairs (high ∷ low ∷ text) = let rest = length_pairs text in omega arith
 
-pub pair_at : (text : List ℕ) (i : ℕ) → 2 * i + 1 < length text → get_or (pairs text) i 0 ≡ 16 * digit_value (get_or text (2 * i) 0) + digit_value (get_or text (2 * i + 1) 0)
+pub pair_at : (text : List ℕ) (i : ℕ) → 2 * i + 1 < length text
+    → get_or (pairs text) i 0 ≡ 16 * digit_value (get_or text (2 * i) 0) + digit_value (get_or text (2 * i + 1) 0)
 pair_at [] i h = absurd (omega arith)
 pair_at (high ∷ []) i h = absurd (omega arith)
 pair_at (high ∷ low ∷ text) zero h = refl
@@ -19,7 +21,9 @@ pair_at (high ∷ low ∷ text) (suc i) h =
     let second : 2 * suc i + 1 ≡ suc (suc (2 * i + 1)) = omega arith in
     let high_is = ap (λ (k : ℕ). get_or (high ∷ low ∷ text) k 0) first in
     let low_is = ap (λ (k : ℕ). get_or (high ∷ low ∷ text) k 0) second in
-    pair_at text i (omega arith) ∙ sym (ap (λ (d : ℕ). 16 * digit_value d + digit_value (get_or (high ∷ low ∷ text) (2 * suc i + 1) 0)) high_is ∙ ap (λ (d : ℕ). 16 * digit_value (get_or text (2 * i) 0) + digit_value d) low_is)
+    pair_at text i (omega arith) ∙ sym (ap (λ (d : ℕ). 16 * digit_value d
+    + digit_value (get_or (high ∷ low ∷ text) (2 * suc i + 1) 0)) high_is
+    ∙ ap (λ (d : ℕ). 16 * digit_value (get_or text (2 * i) 0) + digit_value d) low_is)
 
 pub passes_at : (p : ℕ → Bool) (xs : List ℕ) (i : ℕ) → i < length xs → list_all p xs ≡ true → p (get_or xs i 0) ≡ true
 passes_at p [] i h e = absurd (omega arith)
@@ -29,5 +33,6 @@ passes_at p (x ∷ xs) (suc i) h e = grind (arith, passes_at p xs i)
 small : (c : ℕ) → is_lower_digit c ≡ true → digit_value c < 16
 small c e = let d = digit_value c in grind (arith, nat_tests)
 
-pub lower_small : (text : List ℕ) (i : ℕ) → i < length text → list_all is_lower_digit text ≡ true → digit_value (get_or text i 0) < 16
+pub lower_small : (text : List ℕ) (i : ℕ) → i < length text → list_all is_lower_digit text ≡ true
+    → digit_value (get_or text i 0) < 16
 lower_small text i h e = small (get_or text i 0) (passes_at is_lower_digit text i h e)

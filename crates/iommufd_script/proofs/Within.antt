@@ -1,5 +1,7 @@
 -- A script with no bad line opens a server within the limits.
-use Rattle.std.proofs.Common.{◌≡◌, ℕ, zero, suc, ◌+◌, ◌<◌, ◌≤◌, Bool, true, false, ◌&&◌, not, cond, eqb, ltb, leb, nat_le, List, [], ◌∷◌, ◌++◌, length, map, option_map, append_assoc, Option, Some, None, Ok, refl, sym, ap, subst, ◌∙◌, arith}
+use Rattle.std.proofs.Common.{◌≡◌, ℕ, zero, suc, ◌+◌, ◌<◌, ◌≤◌, Bool, true, false, ◌&&◌, not, cond, eqb, ltb, leb}
+use Rattle.std.proofs.Common.{nat_le, List, [], ◌∷◌, ◌++◌, length, map, option_map, append_assoc, Option, Some, None}
+use Rattle.std.proofs.Common.{Ok, refl, sym, ap, subst, ◌∙◌, arith}
 use Rattle.std.proofs.lemmas.Bool.{le-leb, leb-true, ltb-true, eqb-true}
 use Rattle.std.proofs.lemmas.List.{length-append, append-nil, map-append}
 use Rattle.std.proofs.lemmas.List.Folds.{list_all-append}
@@ -9,9 +11,11 @@ use Rattle.iofd_words.specs.Limits.{first_outside}
 use Rattle.iofd_words.specs.Settings.{Settings, DeviceSettings, is_between, is_device_in_limits}
 use Rattle.iofd_words.specs.declared.numbers.UserNo.{UserNo}
 use Rattle.iommufd_script.specs.Lines.{lines, line_of}
-use Rattle.iommufd_script.specs.Script.{start, allows, behind, after, bad_or, first_bad, first_bad_line, step_before, steps_in, steps_of}
+use Rattle.iommufd_script.specs.Script.{start, allows, behind, after, bad_or, first_bad, first_bad_line, step_before}
+use Rattle.iommufd_script.specs.Script.{steps_in, steps_of}
 use Rattle.iommufd_script.specs.Shape.{unless_skipped, said, user_line, file_line, device_line, in_order, IsScript}
-use Rattle.iommufd_script.specs.Opening.{set_by, nothing_set, headings, heading_before, settings_of, script_or, script_of}
+use Rattle.iommufd_script.specs.Opening.{set_by, nothing_set, headings, heading_before, settings_of, script_or}
+use Rattle.iommufd_script.specs.Opening.{script_of}
 use Rattle.iommufd_script.specs.declared.line.HeadLine.{HeadLine}
 use Rattle.iommufd_script.specs.declared.line.HeadLine.TheVariants as heading
 use Rattle.iommufd_script.specs.declared.line.Line.{Line}
@@ -47,10 +51,16 @@ within : (p : Place) (s : Settings) → IsSet p s → 0 < p.files → first_outs
 within p s set some =
     let users = set.files_after some in
     let pool_ok : is_between 1 4096 s.pool ≡ true = set.pool (set.users_after users) in
-    let users_ok : is_between 1 255 (length s.users) ≡ true = between 1 255 (length s.users) (omega (arith, set.users_are, users)) (omega (arith, set.users_are, set.few_users)) in
-    let files_ok : is_between 1 1024 (length s.files) ≡ true = between 1 1024 (length s.files) (omega (arith, set.files_are, some)) (omega (arith, set.files_are, set.few_files)) in
-    let devices_ok : nat_le (length s.devices) 256 ≡ true = le-leb (length s.devices) 256 (omega (arith, set.devices_are, set.few_devices)) in
-    let passes_ok : is_between 1 1024 s.passes ≡ true = between 1 1024 s.passes (omega (arith, set.passes)) (omega (arith, set.passes)) in
+    let users_ok : is_between 1 255 (length s.users) ≡ true =
+    between 1 255 (length s.users) (omega (arith, set.users_are, users))
+    (omega (arith, set.users_are, set.few_users)) in
+    let files_ok : is_between 1 1024 (length s.files) ≡ true =
+    between 1 1024 (length s.files) (omega (arith, set.files_are, some))
+    (omega (arith, set.files_are, set.few_files)) in
+    let devices_ok : nat_le (length s.devices) 256 ≡ true =
+    le-leb (length s.devices) 256 (omega (arith, set.devices_are, set.few_devices)) in
+    let passes_ok : is_between 1 1024 s.passes ≡ true =
+    between 1 1024 s.passes (omega (arith, set.passes)) (omega (arith, set.passes)) in
     rw (pool_ok, users_ok, files_ok, set.owned, devices_ok, set.devices, passes_ok) refl
 
 no_files : (users : ℕ) (files : List UserNo) → length files ≡ 0 → are_users users files ≡ true
@@ -60,10 +70,13 @@ no_files users (file ∷ files) e = absurd (omega arith)
 one_more : {A : Type 0} (xs : List A) (x : A) (n : ℕ) → length xs ≡ n → length (xs ++ x ∷ []) ≡ n + 1
 one_more xs x n e = omega (arith, length-append xs (x ∷ []), e)
 
-all_more : {A : Type 0} (test : A → Bool) (xs : List A) (x : A) → list_all test xs ≡ true → test x ≡ true → list_all test (xs ++ x ∷ []) ≡ true
-all_more test xs x e f = list_all-append test xs (x ∷ []) ∙ and-both (list_all test xs) (test x && true) e (and-both (test x) true f refl)
+all_more : {A : Type 0} (test : A → Bool) (xs : List A) (x : A) → list_all test xs ≡ true → test x ≡ true
+    → list_all test (xs ++ x ∷ []) ≡ true
+all_more test xs x e f =
+    list_all-append test xs (x ∷ []) ∙ and-both (list_all test xs) (test x && true) e (and-both (test x) true f refl)
 
-kept_pool : (p : Place) (s : Settings) (frames : ℕ) → IsSet p s → allows p (heading.Pool frames) ≡ true → IsSet (behind p (heading.Pool frames)) (set_by s (heading.Pool frames))
+kept_pool : (p : Place) (s : Settings) (frames : ℕ) → IsSet p s → allows p (heading.Pool frames) ≡ true
+    → IsSet (behind p (heading.Pool frames)) (set_by s (heading.Pool frames))
 kept_pool p s frames set ok =
     let parts = and-parts (not p.pool) (is_between 1 4096 frames) ok in
     record {
@@ -82,7 +95,8 @@ kept_pool p s frames set ok =
       devices_after = set.devices_after;
     }
 
-kept_user : (p : Place) (s : Settings) (limit : ℕ) → IsSet p s → allows p (heading.User limit) ≡ true → IsSet (behind p (heading.User limit)) (set_by s (heading.User limit))
+kept_user : (p : Place) (s : Settings) (limit : ℕ) → IsSet p s → allows p (heading.User limit) ≡ true
+    → IsSet (behind p (heading.User limit)) (set_by s (heading.User limit))
 kept_user p s limit set ok =
     let parts = and-parts (p.pool && eqb p.files 0) (ltb p.users 255) ok in
     let early = and-parts p.pool (eqb p.files 0) parts.0 in
@@ -104,7 +118,8 @@ kept_user p s limit set ok =
       devices_after = set.devices_after;
     }
 
-kept_file : (p : Place) (s : Settings) (user : UserNo) → IsSet p s → allows p (heading.File user) ≡ true → IsSet (behind p (heading.File user)) (set_by s (heading.File user))
+kept_file : (p : Place) (s : Settings) (user : UserNo) → IsSet p s → allows p (heading.File user) ≡ true
+    → IsSet (behind p (heading.File user)) (set_by s (heading.File user))
 kept_file p s user set ok =
     let parts = and-parts (is_between 1 p.users user.0 && eqb p.devices 0) (ltb p.files 1024) ok in
     let early = and-parts (is_between 1 p.users user.0) (eqb p.devices 0) parts.0 in
@@ -120,7 +135,8 @@ kept_file p s user set ok =
       files_are = one_more s.files user p.files set.files_are;
       few_files = omega arith;
       files_after = λ h. omega (arith, least, most);
-      owned = all_more (λ owner. is_between 1 (length s.users) owner.0) s.files user set.owned (between 1 (length s.users) user.0 least (omega (arith, most, set.users_are)));
+      owned = all_more (λ owner. is_between 1 (length s.users) owner.0) s.files user set.owned
+          (between 1 (length s.users) user.0 least (omega (arith, most, set.users_are)));
       devices_are = set.devices_are;
       few_devices = set.few_devices;
       devices = set.devices;
@@ -181,17 +197,21 @@ not-true : (b : Bool) → not b ≡ true → b ≡ false
 not-true true e = absurd cc
 not-true false e = refl
 
-joined : (pool users files devices more : List Line) → (pool ++ (users ++ (files ++ devices))) ++ more ≡ pool ++ (users ++ (files ++ (devices ++ more)))
+joined : (pool users files devices more : List Line)
+    → (pool ++ (users ++ (files ++ devices))) ++ more ≡ pool ++ (users ++ (files ++ (devices ++ more)))
 joined pool users files devices more = simp append_assoc
 
 begun_whole : (p : Place) (s : Settings) → p.pool ≡ true → (more : List Line)
-    → so_far p s ++ more ≡ line.Head (heading.Pool s.pool) ∷ (map user_line s.users ++ (map file_line s.files ++ (map device_line s.devices ++ more)))
+    → so_far p s ++ more ≡ line.Head (heading.Pool s.pool)
+    ∷ (map user_line s.users ++ (map file_line s.files ++ (map device_line s.devices ++ more)))
 begun_whole p s pool more =
     joined (pool_part p.pool s.pool) (map user_line s.users) (map file_line s.files) (map device_line s.devices) more
-    ∙ ap (λ (b : Bool). pool_part b s.pool ++ (map user_line s.users ++ (map file_line s.files ++ (map device_line s.devices ++ more)))) pool
+    ∙ ap (λ (b : Bool). pool_part b s.pool ++ (map user_line s.users
+    ++ (map file_line s.files ++ (map device_line s.devices ++ more)))) pool
 
 grown_pool : (p : Place) (s : Settings) (frames : ℕ) → IsSet p s → allows p (heading.Pool frames) ≡ true
-    → so_far (behind p (heading.Pool frames)) (set_by s (heading.Pool frames)) ≡ so_far p s ++ line.Head (heading.Pool frames) ∷ []
+    → so_far (behind p (heading.Pool frames)) (set_by s (heading.Pool frames)) ≡ so_far p s
+    ++ line.Head (heading.Pool frames) ∷ []
 grown_pool p s frames set ok =
     let parts = and-parts (not p.pool) (is_between 1 4096 frames) ok in
     let no_pool = not-true p.pool parts.0 in
@@ -204,7 +224,8 @@ grown_pool p s frames set ok =
     rw (no_pool, users, files, devices) refl
 
 grown_user : (p : Place) (s : Settings) (limit : ℕ) → IsSet p s → allows p (heading.User limit) ≡ true
-    → so_far (behind p (heading.User limit)) (set_by s (heading.User limit)) ≡ so_far p s ++ line.Head (heading.User limit) ∷ []
+    → so_far (behind p (heading.User limit)) (set_by s (heading.User limit)) ≡ so_far p s
+    ++ line.Head (heading.User limit) ∷ []
 grown_user p s limit set ok =
     let parts = and-parts (p.pool && eqb p.files 0) (ltb p.users 255) ok in
     let early = and-parts p.pool (eqb p.files 0) parts.0 in
@@ -215,7 +236,8 @@ grown_user p s limit set ok =
     rw (files, devices) (simp (map-append, append-nil, append_assoc))
 
 grown_file : (p : Place) (s : Settings) (user : UserNo) → IsSet p s → allows p (heading.File user) ≡ true
-    → so_far (behind p (heading.File user)) (set_by s (heading.File user)) ≡ so_far p s ++ line.Head (heading.File user) ∷ []
+    → so_far (behind p (heading.File user)) (set_by s (heading.File user)) ≡ so_far p s
+    ++ line.Head (heading.File user) ∷ []
 grown_file p s user set ok =
     let parts = and-parts (is_between 1 p.users user.0 && eqb p.devices 0) (ltb p.files 1024) ok in
     let early = and-parts (is_between 1 p.users user.0) (eqb p.devices 0) parts.0 in
@@ -223,31 +245,37 @@ grown_file p s user set ok =
     rw devices (simp (map-append, append-nil, append_assoc))
 
 grown_device : (p : Place) (s : Settings) (device : DeviceSettings)
-    → so_far (behind p (device_heading device)) (set_by s (device_heading device)) ≡ so_far p s ++ line.Head (device_heading device) ∷ []
+    → so_far (behind p (device_heading device)) (set_by s (device_heading device)) ≡ so_far p s
+    ++ line.Head (device_heading device) ∷ []
 grown_device p s device = simp (map-append, append_assoc)
 
 -- what reading the lines behind a place of the head comes to
-record IsRead (p : Place) (s : Settings) (l : Option Line) (texts : List (List ℕ)) (more : Option (List Line)) : Type 0 where
-  outside : first_outside (fold set_by s (heading_before l (headings texts))) ≡ None
-  one_pass : (fold set_by s (heading_before l (headings texts))).passes ≡ 1
-  rest : List Line
-  rest_is : more ≡ Some rest
-  whole : so_far p s ++ rest ≡ in_order (fold set_by s (heading_before l (headings texts))) (step_before l (steps_in texts))
+record IsRead (p : Place) (s : Settings) (l : Option Line) (texts : List (List ℕ)) (more : Option (List Line)) : Type 0
+  where
+    outside : first_outside (fold set_by s (heading_before l (headings texts))) ≡ None
+    one_pass : (fold set_by s (heading_before l (headings texts))).passes ≡ 1
+    rest : List Line
+    rest_is : more ≡ Some rest
+    whole : so_far p s ++ rest ≡ in_order (fold set_by s (heading_before l (headings texts)))
+        (step_before l (steps_in texts))
 
 -- the same, of all the lines
 abbrev IsReadAll : Place → Settings → List (List ℕ) → Type 0
 IsReadAll p s texts = IsRead p s (Some line.Skipped) texts (said texts)
 
 abbrev Good : ℕ → List (List ℕ) → Type 0
-Good n texts = (p : Place) (s : Settings) → p.begun ≡ false → IsSet p s → first_bad n p texts ≡ None → IsReadAll p s texts
+Good n texts =
+    (p : Place) (s : Settings) → p.begun ≡ false → IsSet p s → first_bad n p texts ≡ None → IsReadAll p s texts
 
-allowed : (n : ℕ) (next : Place) (b : Bool) (others : Place → Option ℕ) → bad_or n (cond b (Some next) None) others ≡ None → (b ≡ true) × (others next ≡ None)
+allowed : (n : ℕ) (next : Place) (b : Bool) (others : Place → Option ℕ)
+    → bad_or n (cond b (Some next) None) others ≡ None → (b ≡ true) × (others next ≡ None)
 allowed n next true others e = (refl, e)
 allowed n next false others e = absurd cc
 
 -- behind `begin` there are steps alone
 steps_line : (n : ℕ) (texts : List (List ℕ)) (p : Place) (l : Option Line)
-    → (first_bad (n + 1) p texts ≡ None → said texts ≡ Some (map (λ step. line.Step step) (steps_in texts))) → p.begun ≡ true
+    → (first_bad (n + 1) p texts ≡ None → said texts ≡ Some (map (λ step. line.Step step) (steps_in texts)))
+    → p.begun ≡ true
     → bad_or (n + 1) (after p l) (λ next. first_bad (n + 1) next texts) ≡ None
     → said_then l (said texts) ≡ Some (map (λ step. line.Step step) (step_before l (steps_in texts)))
 steps_line n texts p None others begun good = absurd cc
@@ -261,16 +289,21 @@ steps_line n texts p (Some (line.Step step)) others begun good =
     let open_ = allowed (n + 1) p p.begun (λ next. first_bad (n + 1) next texts) good in
     ap (option_map (λ rest. line.Step step ∷ rest)) (others open_.1)
 
-steps_alone : (n : ℕ) (texts : List (List ℕ)) (p : Place) → p.begun ≡ true → first_bad n p texts ≡ None → said texts ≡ Some (map (λ step. line.Step step) (steps_in texts))
+steps_alone : (n : ℕ) (texts : List (List ℕ)) (p : Place) → p.begun ≡ true → first_bad n p texts ≡ None
+    → said texts ≡ Some (map (λ step. line.Step step) (steps_in texts))
 steps_alone n [] p begun good = refl
-steps_alone n (text ∷ texts) p begun good = steps_line n texts p (line_of text) (steps_alone (n + 1) texts p begun) begun good
+steps_alone n (text ∷ texts) p begun good =
+    steps_line n texts p (line_of text) (steps_alone (n + 1) texts p begun) begun good
 
 -- one more line of the head, which isn't `begin`
-read_more : (p : Place) (s : Settings) (h : HeadLine) (texts : List (List ℕ)) → so_far (behind p h) (set_by s h) ≡ so_far p s ++ line.Head h ∷ []
-    → IsReadAll (behind p h) (set_by s h) texts → (headings_are : heading_before (Some (line.Head h)) (headings texts) ≡ h ∷ headings texts)
+read_more : (p : Place) (s : Settings) (h : HeadLine) (texts : List (List ℕ))
+    → so_far (behind p h) (set_by s h) ≡ so_far p s ++ line.Head h ∷ []
+    → IsReadAll (behind p h) (set_by s h) texts
+    → (headings_are : heading_before (Some (line.Head h)) (headings texts) ≡ h ∷ headings texts)
     → IsRead p s (Some (line.Head h)) texts (said_then (Some (line.Head h)) (said texts))
 read_more p s h texts grown read heads =
-    let same : fold set_by s (heading_before (Some (line.Head h)) (headings texts)) ≡ fold set_by (set_by s h) (headings texts) = ap (fold set_by s) heads in
+    let same : fold set_by s (heading_before (Some (line.Head h)) (headings texts)) ≡ fold set_by (set_by s h)
+    (headings texts) = ap (fold set_by s) heads in
     record {
       outside = ap first_outside same ∙ read.outside;
       one_pass = ap (λ (t : Settings). t.passes) same ∙ read.one_pass;
@@ -282,18 +315,24 @@ read_more p s h texts grown read heads =
           ∙ (read.whole ∙ ap (λ (t : Settings). in_order t (steps_in texts)) (sym same)));
     }
 
-by_heading : (n : ℕ) (texts : List (List ℕ)) → Good n texts → (p : Place) (s : Settings) (h : HeadLine) → p.begun ≡ false → IsSet p s → allows p h ≡ true
-    → first_bad n (behind p h) texts ≡ None → IsRead p s (Some (line.Head h)) texts (said_then (Some (line.Head h)) (said texts))
+by_heading : (n : ℕ) (texts : List (List ℕ)) → Good n texts → (p : Place) (s : Settings) (h : HeadLine)
+    → p.begun ≡ false → IsSet p s → allows p h ≡ true
+    → first_bad n (behind p h) texts ≡ None → IsRead p s (Some (line.Head h)) texts
+    (said_then (Some (line.Head h)) (said texts))
 by_heading n texts others p s (heading.Pool frames) head set ok good =
-    let h = heading.Pool frames in read_more p s h texts (grown_pool p s frames set ok) (others (behind p h) (set_by s h) head (kept_pool p s frames set ok) good) refl
+    let h = heading.Pool frames in read_more p s h texts (grown_pool p s frames set ok)
+    (others (behind p h) (set_by s h) head (kept_pool p s frames set ok) good) refl
 by_heading n texts others p s (heading.User limit) head set ok good =
-    let h = heading.User limit in read_more p s h texts (grown_user p s limit set ok) (others (behind p h) (set_by s h) head (kept_user p s limit set ok) good) refl
+    let h = heading.User limit in read_more p s h texts (grown_user p s limit set ok)
+    (others (behind p h) (set_by s h) head (kept_user p s limit set ok) good) refl
 by_heading n texts others p s (heading.File user) head set ok good =
-    let h = heading.File user in read_more p s h texts (grown_file p s user set ok) (others (behind p h) (set_by s h) head (kept_file p s user set ok) good) refl
+    let h = heading.File user in read_more p s h texts (grown_file p s user set ok)
+    (others (behind p h) (set_by s h) head (kept_file p s user set ok) good) refl
 by_heading n texts others p s (heading.Device source width x86 reserved) head set ok good =
     let device : DeviceSettings = record { source = source; width = width; x86 = x86; reserved = reserved } in
     let h = heading.Device source width x86 reserved in
-    read_more p s h texts (grown_device p s device) (others (behind p h) (set_by s h) head (kept_device p s device set ok) good) refl
+    read_more p s h texts (grown_device p s device)
+    (others (behind p h) (set_by s h) head (kept_device p s device set ok) good) refl
 by_heading n texts others p s heading.Begin head set ok good =
     let some : 0 < p.files = ltb-true 0 p.files ok in
     let pool = set.users_after (set.files_after some) in
@@ -302,12 +341,15 @@ by_heading n texts others p s heading.Begin head set ok good =
       outside = within p s set some;
       one_pass = set.passes;
       rest = line.Head heading.Begin ∷ steps;
-      rest_is = ap (option_map (λ others. line.Head heading.Begin ∷ others)) (steps_alone n texts (behind p heading.Begin) refl good);
+      rest_is = ap (option_map (λ others. line.Head heading.Begin ∷ others))
+          (steps_alone n texts (behind p heading.Begin) refl good);
       whole = begun_whole p s pool (line.Head heading.Begin ∷ steps);
     }
 
-by_line : (n : ℕ) (texts : List (List ℕ)) → Good (n + 1) texts → (p : Place) (s : Settings) (l : Option Line) → p.begun ≡ false → IsSet p s
-    → bad_or (n + 1) (after p l) (λ next. first_bad (n + 1) next texts) ≡ None → IsRead p s l texts (said_then l (said texts))
+by_line : (n : ℕ) (texts : List (List ℕ)) → Good (n + 1) texts → (p : Place) (s : Settings) (l : Option Line)
+    → p.begun ≡ false → IsSet p s
+    → bad_or (n + 1) (after p l) (λ next. first_bad (n + 1) next texts) ≡ None
+    → IsRead p s l texts (said_then l (said texts))
 by_line n texts others p s None head set good = absurd cc
 by_line n texts others p s (Some line.Skipped) head set good =
     let read = others p s head set good in
@@ -318,7 +360,8 @@ by_line n texts others p s (Some line.Skipped) head set good =
       rest_is = ap (option_map (λ others. others)) read.rest_is;
       whole = read.whole;
     }
-by_line n texts others p s (Some (line.Step step)) head set good = absurd (let shut = allowed (n + 1) p p.begun (λ next. first_bad (n + 1) next texts) good in cc)
+by_line n texts others p s (Some (line.Step step)) head set good =
+    absurd (let shut = allowed (n + 1) p p.begun (λ next. first_bad (n + 1) next texts) good in cc)
 by_line n texts others p s (Some (line.Head h)) head set good =
     let open_ = allowed (n + 1) (behind p h) (not p.begun && allows p h) (λ next. first_bad (n + 1) next texts) good in
     let ok = and-parts (not p.begun) (allows p h) open_.0 in
@@ -360,7 +403,8 @@ pub good_settings : (text : List ℕ) → first_bad_line text ≡ None → first
 unfolding settings_of first_bad_line
 good_settings text good = let read = good_read (lines text) good in read.outside
 
-pub good_shape : (texts : List (List ℕ)) → first_bad 0 start texts ≡ None → IsScript texts (fold set_by nothing_set (headings texts)) (steps_in texts)
+pub good_shape : (texts : List (List ℕ)) → first_bad 0 start texts ≡ None
+    → IsScript texts (fold set_by nothing_set (headings texts)) (steps_in texts)
 good_shape texts good =
     let read = good_read texts good in
     record {
@@ -369,12 +413,17 @@ good_shape texts good =
       one_pass = read.one_pass;
     }
 
-or_good : (s t : Settings) (steps more : List Step) (o : Option ℕ) → script_or s steps o ≡ Ok (t, more) → (o ≡ None) × (s ≡ t) × (steps ≡ more)
-or_good s t steps more None e = let pair : (s, steps) ≡ (t, more) = cc in (refl, ap (λ (x : Settings × List Step). x.0) pair, ap (λ (x : Settings × List Step). x.1) pair)
+or_good : (s t : Settings) (steps more : List Step) (o : Option ℕ) → script_or s steps o ≡ Ok (t, more)
+    → (o ≡ None) × (s ≡ t) × (steps ≡ more)
+or_good s t steps more None e = let pair : (s, steps) ≡ (t, more) =
+    cc in (refl, ap (λ (x : Settings × List Step). x.0) pair, ap (λ (x : Settings × List Step). x.1) pair)
 or_good s t steps more (Some n) e = absurd cc
 
-pub script_shape : (text : List ℕ) (settings : Settings) (steps : List Step) → script_of text ≡ Ok (settings, steps) → IsScript (lines text) settings steps
+pub script_shape : (text : List ℕ) (settings : Settings) (steps : List Step) → script_of text ≡ Ok (settings, steps)
+    → IsScript (lines text) settings steps
 unfolding script_of settings_of first_bad_line
 script_shape text settings steps e =
     let good = or_good (settings_of text) settings (steps_of text) steps (first_bad_line text) e in
-    subst (λ (s : Settings). IsScript (lines text) s steps) good.1 (subst (λ (more : List Step). IsScript (lines text) (settings_of text) more) good.2 (good_shape (lines text) good.0))
+    subst (λ (s : Settings). IsScript (lines text) s steps) good.1
+    (subst (λ (more : List Step). IsScript (lines text) (settings_of text) more) good.2
+    (good_shape (lines text) good.0))

@@ -1,5 +1,6 @@
 -- The fields of a line, parted by single spaces, and what each kind of field may be.
-use Rattle.std.specs.Prelude.{ℕ, ◌==◌, Bool, true, false, if◌then◌else◌, List, [], ◌∷◌, length, codes, Option, Some, None, option_map, is_some, nat_le}
+use Rattle.std.specs.Prelude.{ℕ, ◌==◌, Bool, true, false, if◌then◌else◌, List, [], ◌∷◌, length, codes, Option, Some}
+use Rattle.std.specs.Prelude.{None, option_map, is_some, nat_le}
 use Rattle.std.specs.List.{slice_split, list_all}
 use Rattle.std.specs.Option.{option_and_then}
 use Rattle.std.specs.Str.{bytes_eq}
@@ -53,7 +54,8 @@ ValueOf Spans = List Bounds
 
 -- the width that a field names
 abbrev pub width_of : List ℕ → Option Width
-width_of text = if bytes_eq text (codes "39") then Some Bits39 else if bytes_eq text (codes "48") then Some Bits48 else None
+width_of text =
+    if bytes_eq text (codes "39") then Some Bits39 else if bytes_eq text (codes "48") then Some Bits48 else None
 
 -- the value, if there is one and it passes
 abbrev pub kept_if : {A : Type 0} → (A → Bool) → Option A → Option A
@@ -69,7 +71,8 @@ span_from_to first last = if nat_le first last then Some (record { first = first
 abbrev pub span_of_parts : List (List ℕ) → Option Bounds
 span_of_parts [] = None
 span_of_parts (first ∷ []) = None
-span_of_parts (first ∷ last ∷ []) = option_and_then (λ low. option_and_then (span_from_to low) (hexadecimal 64 last)) (hexadecimal 64 first)
+span_of_parts (first ∷ last ∷ []) =
+    option_and_then (λ low. option_and_then (span_from_to low) (hexadecimal 64 last)) (hexadecimal 64 first)
 span_of_parts (first ∷ last ∷ more ∷ others) = None
 
 -- its first and its last number in hexadecimal, as `1000-1fff`; the last isn't below the first

@@ -2,7 +2,8 @@
 use Rattle.std.specs.Prelude.{ℕ, List, [], ◌∷◌, codes, Option}
 use Rattle.std.specs.Str.{bytes_eq}
 use Rattle.iofd_words.specs.FirstTrue.{first_true}
-use Rattle.iommufd_script.specs.Fields.{Kind, Decimal, Hex, Length, Source, AddressWidth, Bytes, Access, Mark, Spans, Makes, read}
+use Rattle.iommufd_script.specs.Fields.{Kind, Decimal, Hex, Length, Source, AddressWidth, Bytes, Access, Mark, Spans}
+use Rattle.iommufd_script.specs.Fields.{Makes, read}
 use Rattle.iommufd_script.specs.declared.keyword.HeadKeyword.{HeadKeyword}
 use Rattle.iommufd_script.specs.declared.keyword.HeadKeyword.TheVariants as head
 use Rattle.iommufd_script.specs.declared.keyword.StepKeyword.{StepKeyword}
@@ -65,11 +66,15 @@ step_keyword word = first_true (
 
 abbrev pub step_row : StepKeyword → Row Step
 -- file, command number, the command's bytes
-step_row step.Ioctl = record { kinds = Decimal 16 ∷ Hex 32 ∷ Bytes ∷ []; makes = λ file number bytes. made.Ioctl (record { 0 = file }) number bytes }
+step_row step.Ioctl = record {
+  kinds = Decimal 16 ∷ Hex 32 ∷ Bytes ∷ [];
+  makes = λ file number bytes. made.Ioctl (record { 0 = file }) number bytes;
+}
 -- file
 step_row step.Close = record { kinds = Decimal 16 ∷ []; makes = λ file. made.Close (record { 0 = file }) }
 -- user, address
-step_row step.UserMap = record { kinds = Decimal 16 ∷ Hex 64 ∷ []; makes = λ user va. made.UserMap (record { 0 = user }) va }
+step_row step.UserMap =
+    record { kinds = Decimal 16 ∷ Hex 64 ∷ []; makes = λ user va. made.UserMap (record { 0 = user }) va }
 -- user, address
 step_row step.UserUnmap = record {
   kinds = Decimal 16 ∷ Hex 64 ∷ [];
@@ -86,22 +91,34 @@ step_row step.UserWrite = record {
   makes = λ user va bytes. made.UserWrite (record { 0 = user }) va bytes;
 }
 -- file, device
-step_row step.Bind = record { kinds = Decimal 16 ∷ Decimal 16 ∷ []; makes = λ file device. made.Bind (record { 0 = file }) (record { 0 = device }) }
+step_row step.Bind = record {
+  kinds = Decimal 16 ∷ Decimal 16 ∷ [];
+  makes = λ file device. made.Bind (record { 0 = file }) (record { 0 = device });
+}
 -- file, id of a device's object
 step_row step.Unbind = record {
   kinds = Decimal 16 ∷ Decimal 32 ∷ [];
   makes = λ file id. made.Unbind (record { 0 = file }) (record { 0 = id });
 }
 -- device, id of an address space or of a page table
-step_row step.Attach = record { kinds = Decimal 16 ∷ Decimal 32 ∷ []; makes = λ device id. made.Attach (record { 0 = device }) (record { 0 = id }) }
+step_row step.Attach = record {
+  kinds = Decimal 16 ∷ Decimal 32 ∷ [];
+  makes = λ device id. made.Attach (record { 0 = device }) (record { 0 = id });
+}
 -- device
 step_row step.Detach = record { kinds = Decimal 16 ∷ []; makes = λ device. made.Detach (record { 0 = device }) }
 -- device
 step_row step.Flush = record { kinds = Decimal 16 ∷ []; makes = λ device. made.Flush (record { 0 = device }) }
 -- device, address, how many bytes
-step_row step.DeviceRead = record { kinds = Decimal 16 ∷ Hex 64 ∷ Length ∷ []; makes = λ device iova len. made.DeviceRead (record { 0 = device }) (record { 0 = iova }) len }
+step_row step.DeviceRead = record {
+  kinds = Decimal 16 ∷ Hex 64 ∷ Length ∷ [];
+  makes = λ device iova len. made.DeviceRead (record { 0 = device }) (record { 0 = iova }) len;
+}
 -- device, address, bytes
-step_row step.DeviceWrite = record { kinds = Decimal 16 ∷ Hex 64 ∷ Access ∷ []; makes = λ device iova bytes. made.DeviceWrite (record { 0 = device }) (record { 0 = iova }) bytes }
+step_row step.DeviceWrite = record {
+  kinds = Decimal 16 ∷ Hex 64 ∷ Access ∷ [];
+  makes = λ device iova bytes. made.DeviceWrite (record { 0 = device }) (record { 0 = iova }) bytes;
+}
 step_row step.FreeFrames = record { kinds = []; makes = made.FreeFrames }
 -- user
 step_row step.Held = record { kinds = Decimal 16 ∷ []; makes = λ user. made.Held (record { 0 = user }) }

@@ -1,5 +1,6 @@
 -- A whole script: the order of its lines, its first bad line, and what a script with no bad line says.
-use Rattle.std.specs.Prelude.{ℕ, ◌+◌, ◌==◌, ◌&&◌, Bool, true, false, not, nat_lt, if◌then◌else◌, List, [], ◌∷◌, Option, Some, None}
+use Rattle.std.specs.Prelude.{ℕ, ◌+◌, ◌==◌, ◌&&◌, Bool, true, false, not, nat_lt, if◌then◌else◌, List, [], ◌∷◌, Option}
+use Rattle.std.specs.Prelude.{Some, None}
 use Rattle.iofd_words.specs.Settings.{is_between, is_device_in_limits}
 use Rattle.iommufd_script.specs.Lines.{lines, line_of}
 use Rattle.iommufd_script.specs.declared.line.HeadLine.{HeadLine}
@@ -39,7 +40,8 @@ behind place heading.Begin = record place { begun = true }
 abbrev pub after : Place → Option Line → Option Place
 after place None = None
 after place (Some line.Skipped) = Some place
-after place (Some (line.Head heading)) = if not place.begun && allows place heading then Some (behind place heading) else None
+after place (Some (line.Head heading)) =
+    if not place.begun && allows place heading then Some (behind place heading) else None
 after place (Some (line.Step step)) = if place.begun then Some place else None
 
 -- ---- the first bad line, counted from 1

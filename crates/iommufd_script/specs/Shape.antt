@@ -1,5 +1,6 @@
 -- A good script, apart from how it's read: the head's lines in their order, and then the steps.
-use Rattle.std.specs.Prelude.{◌≡◌, ℕ, ◌+◌, ◌-◌, ◌≤◌, take, List, [], ◌∷◌, ◌++◌, length, map, Option, Some, None, option_map}
+use Rattle.std.specs.Prelude.{◌≡◌, ℕ, ◌+◌, ◌-◌, ◌≤◌, take, List, [], ◌∷◌, ◌++◌, length, map, Option, Some, None}
+use Rattle.std.specs.Prelude.{option_map}
 use Rattle.std.specs.Option.{option_and_then}
 use Rattle.iofd_words.specs.Limits.{first_outside}
 use Rattle.iofd_words.specs.Settings.{Settings, DeviceSettings}
@@ -18,7 +19,8 @@ unless_skipped (line.Step step) others = line.Step step ∷ others
 -- what the lines say, where each is of the grammar; empty lines and comments are left out
 abbrev pub said : List (List ℕ) → Option (List Line)
 said [] = Some []
-said (text ∷ texts) = option_and_then (λ first. option_map (λ others. unless_skipped first others) (said texts)) (line_of text)
+said (text ∷ texts) =
+    option_and_then (λ first. option_map (λ others. unless_skipped first others) (said texts)) (line_of text)
 
 abbrev pub user_line : ℕ → Line
 user_line limit = line.Head (heading.User limit)
@@ -46,7 +48,8 @@ pub record IsScript (texts : List (List ℕ)) (settings : Settings) (steps : Lis
 
 -- the lines may still become a good script
 abbrev pub IsBeginning : List (List ℕ) → Type 0
-IsBeginning texts = (more : List (List ℕ)) × (settings : Settings) × (steps : List Step) × IsScript (texts ++ more) settings steps
+IsBeginning texts =
+    (more : List (List ℕ)) × (settings : Settings) × (steps : List Step) × IsScript (texts ++ more) settings steps
 
 -- N of `bad line N`: the lines before it may still become a good script, and with it they can't. Where there is
 -- no such line among them, N is the number of lines plus 1.

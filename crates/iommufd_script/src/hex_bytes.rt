@@ -1,6 +1,7 @@
 //! Bytes that a script spells in hexadecimal.
 
-ghost use Rattle.std.specs.Prelude.{◌≡◌, ◌==◌, ◌%◌, ◌/◌, ◌&&◌, ◌≤◌, Some, IfOk, OnErr, length, nat_lt, slice_index, if◌then◌else◌, None, true, ◌<◌, ◌+◌, ◌*◌};
+ghost use Rattle.std.specs.Prelude.{◌≡◌, ◌==◌, ◌%◌, ◌/◌, ◌&&◌, ◌≤◌, Some, IfOk, OnErr, length, nat_lt, slice_index};
+ghost use Rattle.std.specs.Prelude.{if◌then◌else◌, None, true, ◌<◌, ◌+◌, ◌*◌};
 ghost use Rattle.std.specs.Char.{digit_value};
 ghost use Rattle.std.specs.List.{list_all};
 ghost use Rattle.iommufd_script.specs.Digits.{bytes_of, is_lower_digit, pairs};

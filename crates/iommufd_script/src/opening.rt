@@ -28,7 +28,13 @@ impl<A: Allocator> Model for Head<A> {
 
     ghost Value = { Settings };
 
-    ghost view = { λ head. record { pool = head.pool; users = head.users.items; files = head.files.items; devices = head.devices.items; passes = 1 } };
+    ghost view = { λ head. record {
+      pool = head.pool;
+      users = head.users.items;
+      files = head.files.items;
+      devices = head.devices.items;
+      passes = 1;
+    } };
 }
 
 impl<A: Allocator + Copy> Head<A> {

@@ -1,6 +1,7 @@
 //! The spans that a script reserves for a device.
 
-ghost use Rattle.std.specs.Prelude.{◌≡◌, ◌&&◌, [], ◌∷◌, ◌<◌, MatchOption, IfOk, OnErr, Some, None, true, length, nat_le, if◌then◌else◌};
+ghost use Rattle.std.specs.Prelude.{◌≡◌, ◌&&◌, [], ◌∷◌, ◌<◌, MatchOption, IfOk, OnErr, Some, None, true, length};
+ghost use Rattle.std.specs.Prelude.{nat_le, if◌then◌else◌};
 ghost use Rattle.std.specs.List.{list_all};
 ghost use Rattle.iofd_words.specs.Settings.{is_reserved_span};
 ghost use Rattle.iommufd_script.specs.Fields.{are_spans, fields_left, span_of, spans_in};

@@ -1,5 +1,8 @@
--- The numbers of a span taken out of merged spans: which numbers are in the set then, and that the spans are merged again.
-use Rattle.std.proofs.Common.{◌≡◌, ℕ, zero, suc, ◌+◌, ◌-◌, ◌<◌, ◌≤◌, min, max, true, false, not, ltb, ◌||◌, ◌&&◌, List, [], ◌∷◌, ◌++◌, length, take, drop, get_or, set, map, refl, sym, ap, ◌∙◌, subst, arith, ⊎_elim}
+-- The numbers of a span taken out of merged spans: which numbers are in the set then, and that the spans are merged
+-- again.
+use Rattle.std.proofs.Common.{◌≡◌, ℕ, zero, suc, ◌+◌, ◌-◌, ◌<◌, ◌≤◌, min, max, true, false, not, ltb, ◌||◌, ◌&&◌, List}
+use Rattle.std.proofs.Common.{[], ◌∷◌, ◌++◌, length, take, drop, get_or, set, map, refl, sym, ap, ◌∙◌, subst, arith}
+use Rattle.std.proofs.Common.{⊎_elim}
 use Rattle.std.specs.List.{filter, insert, prefix_len}
 use Rattle.std.proofs.lemmas.Bool.{cases_lt}
 use Rattle.std.proofs.lemmas.Bool.Decides.{nat_tests}
@@ -27,7 +30,8 @@ without_span cut [] = []
 without_span cut (span ∷ spans) = (part_below cut span ++ part_above cut span) ++ without_span cut spans
 
 -- one span put in the place of another, and one behind it
-pub set-inserted : (xs : List Bounds) (i : ℕ) (a b : Bounds) → i < length xs → set (insert xs (i + 1) b) i a ≡ take i xs ++ (a ∷ b ∷ drop (i + 1) xs)
+pub set-inserted : (xs : List Bounds) (i : ℕ) (a b : Bounds) → i < length xs
+    → set (insert xs (i + 1) b) i a ≡ take i xs ++ (a ∷ b ∷ drop (i + 1) xs)
 set-inserted [] i a b within = absurd (omega arith)
 set-inserted (x ∷ xs) zero a b within = refl
 set-inserted (x ∷ xs) (suc i) a b within =
@@ -39,7 +43,8 @@ in_spans-append [] ys n = refl
 in_spans-append (x ∷ xs) ys n = let rest = in_spans-append xs ys n in grind (arith, nat_tests)
 
 -- the parts of a span hold what it holds and the cut doesn't
-parts-set : (cut x : Bounds) → cut.first ≤ cut.last → (n : ℕ) → in_spans (part_below cut x ++ part_above cut x) n ≡ (holds x n && not (holds cut n))
+parts-set : (cut x : Bounds) → cut.first ≤ cut.last → (n : ℕ)
+    → in_spans (part_below cut x ++ part_above cut x) n ≡ (holds x n && not (holds cut n))
 parts-set cut x ordered n =
     ⊎_elim
     (λ (below : x.first < cut.first).
@@ -54,7 +59,8 @@ parts-set cut x ordered n =
     (cases_lt cut.last x.last))
     (cases_lt x.first cut.first)
 
-without-set : (cut : Bounds) (xs : List Bounds) → cut.first ≤ cut.last → (n : ℕ) → in_spans (without_span cut xs) n ≡ (in_spans xs n && not (holds cut n))
+without-set : (cut : Bounds) (xs : List Bounds) → cut.first ≤ cut.last → (n : ℕ)
+    → in_spans (without_span cut xs) n ≡ (in_spans xs n && not (holds cut n))
 without-set cut [] ordered n = refl
 without-set cut (x ∷ xs) ordered n =
     let own = parts-set cut x ordered n in
@@ -62,7 +68,8 @@ without-set cut (x ∷ xs) ordered n =
     let both = in_spans-append (part_below cut x ++ part_above cut x) (without_span cut xs) n in
     grind (arith, nat_tests)
 
-without-merged : (cut : Bounds) (low : ℕ) (xs : List Bounds) → cut.first ≤ cut.last → AreMergedFrom low xs → AreMergedFrom low (without_span cut xs)
+without-merged : (cut : Bounds) (low : ℕ) (xs : List Bounds) → cut.first ≤ cut.last → AreMergedFrom low xs
+    → AreMergedFrom low (without_span cut xs)
 without-merged cut low [] ordered merged = merged
 without-merged cut low (x ∷ xs) ordered merged =
     let from = merged.0 in
@@ -77,7 +84,12 @@ without-merged cut low (x ∷ xs) ordered merged =
     rw (test, test_above) (from, omega arith, (omega arith, omega arith, rest)))
     (λ (not_above : x.last ≤ cut.last).
     let test_above : ltb cut.last x.last ≡ false = grind (arith, nat_tests) in
-    rw (test, test_above) (from, omega arith, merged-lower (x.last + 2) (min x.last (cut.first - 1) + 2) (without_span cut xs) (omega arith) rest))
+    rw (test, test_above) (
+      from,
+      omega arith,
+      merged-lower (x.last + 2) (min x.last (cut.first - 1) + 2)
+          (without_span cut xs) (omega arith) rest,
+    ))
     (cases_lt cut.last x.last))
     (λ (not_below : cut.first ≤ x.first).
     let test : ltb x.first cut.first ≡ false = grind (arith, nat_tests) in
@@ -97,7 +109,8 @@ NoneAround cut [] = Unit {0}
 NoneAround cut (x ∷ xs) = (x.first < cut.first → x.last ≤ cut.last) × NoneAround cut xs
 
 -- then each is left out or trimmed
-trims : (cut : Bounds) (xs : List Bounds) → cut.first ≤ cut.last → NoneAround cut xs → map (trimmed cut) (filter (λ (x : Bounds). not (lies_in x cut)) xs) ≡ without_span cut xs
+trims : (cut : Bounds) (xs : List Bounds) → cut.first ≤ cut.last → NoneAround cut xs
+    → map (trimmed cut) (filter (λ (x : Bounds). not (lies_in x cut)) xs) ≡ without_span cut xs
 trims cut [] ordered none = refl
 trims cut (x ∷ xs) ordered none =
     let rest = trims cut xs ordered none.1 in
@@ -107,14 +120,20 @@ trims cut (x ∷ xs) ordered none =
     let test : ltb x.first cut.first ≡ true = grind (arith, nat_tests) in
     let test_above : ltb cut.last x.last ≡ false = grind (arith, nat_tests) in
     let outside : lies_in x cut ≡ false = grind (arith, nat_tests) in
-    rw (outside, outside, test, test_above) (ap (λ ys. record { first = x.first; last = min x.last (cut.first - 1) } ∷ ys) rest))
+    rw (outside, outside, test, test_above) (ap (λ ys. record {
+      first = x.first;
+      last = min x.last (cut.first - 1);
+    } ∷ ys) rest))
     (λ (not_below : cut.first ≤ x.first).
     let test : ltb x.first cut.first ≡ false = grind (arith, nat_tests) in
     ⊎_elim
     (λ (above : cut.last < x.last).
     let test_above : ltb cut.last x.last ≡ true = grind (arith, nat_tests) in
     let outside : lies_in x cut ≡ false = grind (arith, nat_tests) in
-    rw (outside, outside, test, test_above) (ap (λ ys. record { first = max x.first (cut.last + 1); last = x.last } ∷ ys) rest))
+    rw (outside, outside, test, test_above) (ap (λ ys. record {
+      first = max x.first (cut.last + 1);
+      last = x.last;
+    } ∷ ys) rest))
     (λ (not_above : x.last ≤ cut.last).
     let test_above : ltb cut.last x.last ≡ false = grind (arith, nat_tests) in
     let inside : lies_in x cut ≡ true = grind (arith, nat_tests) in
@@ -124,17 +143,21 @@ trims cut (x ∷ xs) ordered none =
 
 above-none : (cut : Bounds) (low : ℕ) (xs : List Bounds) → AreMergedFrom low xs → cut.first ≤ low → NoneAround cut xs
 above-none cut low [] merged from = tt
-above-none cut low (x ∷ xs) merged from =
-    (λ below. absurd (omega (arith, merged.0)), above-none cut (x.last + 2) xs merged.2 (omega (arith, merged.0, merged.1)))
+above-none cut low (x ∷ xs) merged from = (
+  λ below. absurd (omega (arith, merged.0)),
+  above-none cut (x.last + 2) xs merged.2 (omega (arith, merged.0, merged.1)),
+)
 
-none-around : (cut : Bounds) (low : ℕ) (xs : List Bounds) → cut.first ≤ cut.last → AreMergedFrom low xs → HasAround false xs (prefix_len (λ (x : Bounds). ltb x.last cut.first) xs) cut → NoneAround cut xs
+none-around : (cut : Bounds) (low : ℕ) (xs : List Bounds) → cut.first ≤ cut.last → AreMergedFrom low xs
+    → HasAround false xs (prefix_len (λ (x : Bounds). ltb x.last cut.first) xs) cut → NoneAround cut xs
 none-around cut low [] ordered merged around = tt
 none-around cut low (x ∷ xs) ordered merged around =
     let own = merged.1 in
     ⊎_elim
     (λ (ended : x.last < cut.first).
     let test : ltb x.last cut.first ≡ true = grind (arith, nat_tests) in
-    let next : 1 + prefix_len (λ (y : Bounds). ltb y.last cut.first) xs ≡ suc (prefix_len (λ (y : Bounds). ltb y.last cut.first) xs) = omega arith in
+    let next : 1 + prefix_len (λ (y : Bounds). ltb y.last cut.first) xs ≡ suc
+    (prefix_len (λ (y : Bounds). ltb y.last cut.first) xs) = omega arith in
     let later = rw (test, next) at around in
     (λ below. omega arith, none-around cut (x.last + 2) xs ordered merged.2 (λ within. later (omega arith))))
     (λ (reached : cut.first ≤ x.last).
@@ -144,7 +167,8 @@ none-around cut low (x ∷ xs) ordered merged around =
     (cases_lt x.last cut.first)
 
 -- spans above the cut stay as they are
-above-same : (cut : Bounds) (low : ℕ) (xs : List Bounds) → cut.first ≤ cut.last → AreMergedFrom low xs → cut.last < low → without_span cut xs ≡ xs
+above-same : (cut : Bounds) (low : ℕ) (xs : List Bounds) → cut.first ≤ cut.last → AreMergedFrom low xs → cut.last < low
+    → without_span cut xs ≡ xs
 above-same cut low [] ordered merged from = refl
 above-same cut low (x ∷ xs) ordered merged from =
     let low_first = merged.0 in
@@ -156,7 +180,8 @@ above-same cut low (x ∷ xs) ordered merged from =
     rw (test, test_above, same) (ap (λ ys. x ∷ ys) rest)
 
 -- the span that goes on below the cut and above it leaves two
-splits : (cut : Bounds) (low : ℕ) (xs : List Bounds) → cut.first ≤ cut.last → AreMergedFrom low xs → (i : ℕ) → i ≡ prefix_len (λ (x : Bounds). ltb x.last cut.first) xs → HasAround true xs i cut
+splits : (cut : Bounds) (low : ℕ) (xs : List Bounds) → cut.first ≤ cut.last → AreMergedFrom low xs → (i : ℕ)
+    → i ≡ prefix_len (λ (x : Bounds). ltb x.last cut.first) xs → HasAround true xs i cut
     → take i xs ++ (halves cut (get_or xs i cut) ++ drop (i + 1) xs) ≡ without_span cut xs
 splits cut low [] ordered merged i place around = absurd (omega (arith, around.0))
 splits cut low (x ∷ xs) ordered merged zero place around =
@@ -167,13 +192,18 @@ splits cut low (x ∷ xs) ordered merged zero place around =
     let test_above : ltb cut.last x.last ≡ true = grind (arith, nat_tests) in
     let low_end : min x.last (cut.first - 1) ≡ cut.first - 1 = omega arith in
     let high_start : max x.first (cut.last + 1) ≡ cut.last + 1 = omega arith in
-    rw (test, test_above, low_end, high_start) (ap (λ ys. record { first = x.first; last = cut.first - 1 } ∷ record { first = cut.last + 1; last = x.last } ∷ ys) (sym rest))
+    rw (test, test_above, low_end, high_start)
+    (ap (λ ys. record { first = x.first; last = cut.first - 1 } ∷ record {
+      first = cut.last + 1;
+      last = x.last;
+    } ∷ ys) (sym rest))
 splits cut low (x ∷ xs) ordered merged (suc i) place around =
     let own = merged.1 in
     ⊎_elim
     (λ (ended : x.last < cut.first).
     let before : ltb x.last cut.first ≡ true = grind (arith, nat_tests) in
-    let later : i ≡ prefix_len (λ (y : Bounds). ltb y.last cut.first) xs = (let here = rw before at place in omega arith) in
+    let later : i ≡ prefix_len (λ (y : Bounds). ltb y.last cut.first) xs =
+    (let here = rw before at place in omega arith) in
     let rest = splits cut (x.last + 2) xs ordered merged.2 i later (omega (arith, around.0), around.1, around.2) in
     let test : ltb x.first cut.first ≡ true = grind (arith, nat_tests) in
     let test_above : ltb cut.last x.last ≡ false = grind (arith, nat_tests) in
@@ -191,18 +221,26 @@ pub record IsCutOut (cut : Bounds) (xs ys : List Bounds) : Type 0 where
   pub set : (n : ℕ) → in_spans ys n ≡ (in_spans xs n && not (holds cut n))
   pub merged : AreMerged ys
 
-cut_out : (cut : Bounds) (xs ys : List Bounds) → AreMerged xs → cut.first ≤ cut.last → ys ≡ without_span cut xs → IsCutOut cut xs ys
+cut_out : (cut : Bounds) (xs ys : List Bounds) → AreMerged xs → cut.first ≤ cut.last → ys ≡ without_span cut xs
+    → IsCutOut cut xs ys
 cut_out cut xs ys merged ordered is =
-    record { set = λ n. ap (λ zs. in_spans zs n) is ∙ without-set cut xs ordered n; merged = subst AreMerged (sym is) (without-merged cut 0 xs ordered merged) }
+    record {
+      set = λ n. ap (λ zs. in_spans zs n) is ∙ without-set cut xs ordered n;
+      merged = subst AreMerged (sym is) (without-merged cut 0 xs ordered merged);
+    }
 
-pub cut_out-split : (cut : Bounds) (xs ys : List Bounds) (i : ℕ) → AreMerged xs → cut.first ≤ cut.last → i ≡ prefix_len (λ (x : Bounds). ltb x.last cut.first) xs → HasAround true xs i cut
+pub cut_out-split : (cut : Bounds) (xs ys : List Bounds) (i : ℕ) → AreMerged xs → cut.first ≤ cut.last
+    → i ≡ prefix_len (λ (x : Bounds). ltb x.last cut.first) xs → HasAround true xs i cut
     → ys ≡ take i xs ++ (halves cut (get_or xs i cut) ++ drop (i + 1) xs) → IsCutOut cut xs ys
-cut_out-split cut xs ys i merged ordered place around is = cut_out cut xs ys merged ordered (is ∙ splits cut 0 xs ordered merged i place around)
+cut_out-split cut xs ys i merged ordered place around is =
+    cut_out cut xs ys merged ordered (is ∙ splits cut 0 xs ordered merged i place around)
 
-pub cut_out-trim : (cut : Bounds) (xs ys : List Bounds) (i : ℕ) → AreMerged xs → cut.first ≤ cut.last → i ≡ prefix_len (λ (x : Bounds). ltb x.last cut.first) xs → HasAround false xs i cut
+pub cut_out-trim : (cut : Bounds) (xs ys : List Bounds) (i : ℕ) → AreMerged xs → cut.first ≤ cut.last
+    → i ≡ prefix_len (λ (x : Bounds). ltb x.last cut.first) xs → HasAround false xs i cut
     → ys ≡ map (trimmed cut) (filter (λ (x : Bounds). not (lies_in x cut)) xs) → IsCutOut cut xs ys
 cut_out-trim cut xs ys i merged ordered place around is =
-    cut_out cut xs ys merged ordered (is ∙ trims cut xs ordered (none-around cut 0 xs ordered merged (subst (λ (k : ℕ). HasAround false xs k cut) place around)))
+    cut_out cut xs ys merged ordered (is ∙ trims cut xs ordered
+    (none-around cut 0 xs ordered merged (subst (λ (k : ℕ). HasAround false xs k cut) place around)))
 
 -- a span that goes on around the cut is one of the spans
 pub around-splits : (cut : Bounds) (xs : List Bounds) (i : ℕ) → HasAround true xs i cut → splits_one xs cut ≡ true

@@ -1,5 +1,6 @@
 -- Where some start fits, one of those that are tried does.
-use Rattle.std.proofs.Common.{◌≡◌, ℕ, ◌+◌, ◌-◌, ◌%◌, ◌<◌, ◌≤◌, Bool, true, false, not, leb, ◌==◌, ◌&&◌, ◌⊎◌, inl, inr, List, [], ◌∷◌, ◌++◌, map, refl, arith, ⊎_elim}
+use Rattle.std.proofs.Common.{◌≡◌, ℕ, ◌+◌, ◌-◌, ◌%◌, ◌<◌, ◌≤◌, Bool, true, false, not, leb, ◌==◌, ◌&&◌, ◌⊎◌, inl, inr}
+use Rattle.std.proofs.Common.{List, [], ◌∷◌, ◌++◌, map, refl, arith, ⊎_elim}
 use Rattle.std.specs.Prelude.{◌↔◌}
 use Rattle.std.specs.Bool.{IsTrue}
 use Rattle.std.specs.List.{list_all, list_any}
@@ -32,12 +33,14 @@ none-under x c (d ∷ ds) none = (λ low. absurd (grind (arith, nat_tests)), non
 
 under-higher : (x c e : ℕ) (cs : List ℕ) → c ≤ e → AllUnder x c cs → AllUnder x e cs
 under-higher x c e [] less under = tt
-under-higher x c e (d ∷ ds) less under = (λ low. (let at = under.0 low in omega arith), under-higher x c e ds less under.1)
+under-higher x c e (d ∷ ds) less under =
+    (λ low. (let at = under.0 low in omega arith), under-higher x c e ds less under.1)
 
 decide : (x c d : ℕ) → ((d ≤ x) × (c < d)) ⊎ (d ≤ x → d ≤ c)
 decide x c d =
     ⊎_elim
-    (λ (above : c < d). ⊎_elim (λ (out : x < d). inr (λ low. absurd (omega arith))) (λ (low : d ≤ x). inl (low, above)) (cases_lt x d))
+    (λ (above : c < d). ⊎_elim (λ (out : x < d). inr (λ low. absurd (omega arith)))
+    (λ (low : d ≤ x). inl (low, above)) (cases_lt x d))
     (λ (at : d ≤ c). inr (λ low. at))
     (cases_lt c d)
 
@@ -83,7 +86,8 @@ top-exists x (d ∷ ds) some =
     (cases_Bool (list_any (λ e. leb e x) ds))
 
 -- a span that holds the number begins, rounded up, no higher than a multiple of a page
-held-tried : (x : ℕ) (xs : List Bounds) (others : List ℕ) → x % 4096 ≡ 0 → in_spans xs x ≡ true → list_any (λ d. leb d x) (map (λ s. whole_from s.first) xs ++ others) ≡ true
+held-tried : (x : ℕ) (xs : List Bounds) (others : List ℕ) → x % 4096 ≡ 0 → in_spans xs x ≡ true
+    → list_any (λ d. leb d x) (map (λ s. whole_from s.first) xs ++ others) ≡ true
 held-tried x [] others whole held = absurd (cc)
 held-tried x (s ∷ xs) others whole held =
     ⊎_elim
@@ -91,7 +95,8 @@ held-tried x (s ∷ xs) others whole held =
     let low : s.first ≤ x = grind (arith, nat_tests) in
     let up = whole_from-least s.first x low whole in
     grind (arith, nat_tests))
-    (λ (not_here : holds s x ≡ false). let rest = held-tried x xs others whole (grind (arith, nat_tests)) in grind (arith, nat_tests))
+    (λ (not_here : holds s x ≡ false). let rest = held-tried x xs others whole (grind (arith, nat_tests)) in
+    grind (arith, nat_tests))
     (cases_Bool (holds s x))
 
 wholes-spans : (xs areas : List Bounds) → list_all (λ d. d % 4096 == 0) (starts_to_try xs areas) ≡ true
@@ -105,16 +110,19 @@ wholes-spans (s ∷ xs) areas =
     let rest = wholes-spans xs areas in
     grind (arith, nat_tests)
 
-under-spans : (x c : ℕ) (xs areas : List Bounds) → AllUnder x c (starts_to_try xs areas) → AllUnder x c (map (λ s. whole_from s.first) xs)
+under-spans : (x c : ℕ) (xs areas : List Bounds) → AllUnder x c (starts_to_try xs areas)
+    → AllUnder x c (map (λ s. whole_from s.first) xs)
 under-spans x c [] areas under = tt
 under-spans x c (s ∷ xs) areas under = (under.0, under-spans x c xs areas under.1)
 
-under-areas : (x c : ℕ) (xs areas : List Bounds) → AllUnder x c (starts_to_try xs areas) → AllUnder x c (map (λ a. whole_from (a.last + 1)) areas)
+under-areas : (x c : ℕ) (xs areas : List Bounds) → AllUnder x c (starts_to_try xs areas)
+    → AllUnder x c (map (λ a. whole_from (a.last + 1)) areas)
 under-areas x c [] areas under = under
 under-areas x c (s ∷ xs) areas under = under-areas x c xs areas under.1
 
 -- what lies between that start and the fit is in the set
-held-down : (x c : ℕ) (xs : List Bounds) → x % 4096 ≡ 0 → in_spans xs x ≡ true → AllUnder x c (map (λ s. whole_from s.first) xs) → (n : ℕ) → c ≤ n → n ≤ x → in_spans xs n ≡ true
+held-down : (x c : ℕ) (xs : List Bounds) → x % 4096 ≡ 0 → in_spans xs x ≡ true
+    → AllUnder x c (map (λ s. whole_from s.first) xs) → (n : ℕ) → c ≤ n → n ≤ x → in_spans xs n ≡ true
 held-down x c [] whole held under n low high = held
 held-down x c (s ∷ xs) whole held under n low high =
     ⊎_elim
@@ -124,16 +132,19 @@ held-down x c (s ∷ xs) whole held under n low high =
     let above = whole_from-above s.first in
     let from : s.first ≤ n = omega arith in
     grind (arith, nat_tests))
-    (λ (not_here : holds s x ≡ false). let rest = held-down x c xs whole (grind (arith, nat_tests)) under.1 n low high in grind (arith, nat_tests))
+    (λ (not_here : holds s x ≡ false). let rest = held-down x c xs whole (grind (arith, nat_tests)) under.1 n low
+    high in grind (arith, nat_tests))
     (cases_Bool (holds s x))
 
 -- and no area ends there
-clear-down : (x c length : ℕ) (areas : List Bounds) → x % 4096 ≡ 0 → 0 < length → c ≤ x → AreOrdered areas → AllUnder x c (map (λ a. whole_from (a.last + 1)) areas)
+clear-down : (x c length : ℕ) (areas : List Bounds) → x % 4096 ≡ 0 → 0 < length → c ≤ x → AreOrdered areas
+    → AllUnder x c (map (λ a. whole_from (a.last + 1)) areas)
     → ((n : ℕ) → x ≤ n → n < x + length → in_spans areas n ≡ false) → meets_some areas (span_from c length) ≡ false
 clear-down x c length [] whole some low ordered under beside = refl
 clear-down x c length (a ∷ areas) whole some low ordered under beside =
     let own = ordered.0 in
-    let rest = clear-down x c length areas whole some low ordered.1 under.1 (λ n from to. (let isnt = beside n from to in grind (arith, nat_tests))) in
+    let rest = clear-down x c length areas whole some low ordered.1 under.1
+    (λ n from to. (let isnt = beside n from to in grind (arith, nat_tests))) in
     let out : meets a (span_from c length) ≡ false =
     ⊎_elim
     (λ (ended : a.last < x).
@@ -145,7 +156,8 @@ clear-down x c length (a ∷ areas) whole some low ordered under beside =
     ⊎_elim
     (λ (ahead : x < a.first).
     ⊎_elim
-    (λ (inside : a.first < x + length). let isnt = beside a.first (omega arith) inside in absurd (grind (arith, nat_tests)))
+    (λ (inside : a.first < x + length). let isnt = beside a.first (omega arith) inside in absurd
+    (grind (arith, nat_tests)))
     (λ (over : x + length ≤ a.first). let far : c + length - 1 < a.first = omega arith in grind (arith, nat_tests))
     (cases_lt a.first (x + length)))
     (λ (begun : a.first ≤ x). let isnt = beside x (omega arith) (omega arith) in absurd (grind (arith, nat_tests)))
@@ -153,12 +165,14 @@ clear-down x c length (a ∷ areas) whole some low ordered under beside =
     (cases_lt a.last x) in
     grind (arith, nat_tests)
 
-pub fit-has_fit : (length : ℕ) (spans areas : List Bounds) (x : ℕ) → AreOrdered areas → IsFit length spans areas x → has_fit length spans areas ≡ true
+pub fit-has_fit : (length : ℕ) (spans areas : List Bounds) (x : ℕ) → AreOrdered areas → IsFit length spans areas x
+    → has_fit length spans areas ≡ true
 fit-has_fit length spans areas x ordered fit =
     let some = fit.some in
     let whole = fit.whole in
     let held = fit.inside x (omega arith) (omega arith) in
-    let found = top-exists x (starts_to_try spans areas) (held-tried x spans (map (λ a. whole_from (a.last + 1)) areas) whole held) in
+    let found = top-exists x (starts_to_try spans areas)
+    (held-tried x spans (map (λ a. whole_from (a.last + 1)) areas) whole held) in
     let c = found.0 in
     let is = found.1 in
     let low = is.below in
@@ -173,14 +187,16 @@ fit-has_fit length spans areas x ordered fit =
     is.among (fits length spans areas) (grind (arith, nat_tests))
 
 -- what the test of one start says
-clear-beside : (areas : List Bounds) (span : Bounds) (n : ℕ) → meets_some areas span ≡ false → span.first ≤ n → n ≤ span.last → in_spans areas n ≡ false
+clear-beside : (areas : List Bounds) (span : Bounds) (n : ℕ) → meets_some areas span ≡ false → span.first ≤ n
+    → n ≤ span.last → in_spans areas n ≡ false
 clear-beside [] span n clear low high = refl
 clear-beside (a ∷ areas) span n clear low high =
     let own : meets a span ≡ false = grind (arith, nat_tests) in
     let rest = clear-beside areas span n (grind (arith, nat_tests)) low high in
     grind (arith, nat_tests)
 
-fits-fit : (length : ℕ) (spans areas : List Bounds) (x : ℕ) → fits length spans areas x ≡ true → IsFit length spans areas x
+fits-fit : (length : ℕ) (spans areas : List Bounds) (x : ℕ) → fits length spans areas x ≡ true
+    → IsFit length spans areas x
 fits-fit length spans areas x passes =
     let whole : x % 4096 ≡ 0 = grind (arith, nat_tests) in
     let some : 0 < length = grind (arith, nat_tests) in
@@ -196,48 +212,63 @@ fits-fit length spans areas x passes =
 any-one : (p : ℕ → Bool) (cs : List ℕ) → list_any p cs ≡ true → (c : ℕ) × (p c ≡ true)
 any-one p [] some = absurd (cc)
 any-one p (c ∷ cs) some =
-    ⊎_elim (λ (here : p c ≡ true). (c, here)) (λ (not_here : p c ≡ false). any-one p cs (grind (arith, nat_tests))) (cases_Bool (p c))
+    ⊎_elim (λ (here : p c ≡ true). (c, here)) (λ (not_here : p c ≡ false). any-one p cs (grind (arith, nat_tests)))
+    (cases_Bool (p c))
 
-pub has_fit-fit : (length : ℕ) (spans areas : List Bounds) → has_fit length spans areas ≡ true → (x : ℕ) × IsFit length spans areas x
+pub has_fit-fit : (length : ℕ) (spans areas : List Bounds) → has_fit length spans areas ≡ true
+    → (x : ℕ) × IsFit length spans areas x
 has_fit-fit length spans areas some =
     let one = any-one (fits length spans areas) (starts_to_try spans areas) some in
     (one.0, fits-fit length spans areas one.0 one.1)
 
-all-beside : (areas : List Bounds) (span : Bounds) → span.first ≤ span.last → AreOrdered areas → ((n : ℕ) → span.first ≤ n → n ≤ span.last → in_spans areas n ≡ false) → meets_some areas span ≡ false
+all-beside : (areas : List Bounds) (span : Bounds) → span.first ≤ span.last → AreOrdered areas
+    → ((n : ℕ) → span.first ≤ n → n ≤ span.last → in_spans areas n ≡ false) → meets_some areas span ≡ false
 all-beside [] span ordered areas_ordered beside = refl
 all-beside (a ∷ areas) span ordered areas_ordered beside =
     let own = areas_ordered.0 in
-    let rest = all-beside areas span ordered areas_ordered.1 (λ n low high. (let isnt = beside n low high in grind (arith, nat_tests))) in
+    let rest = all-beside areas span ordered areas_ordered.1
+    (λ n low high. (let isnt = beside n low high in grind (arith, nat_tests))) in
     ⊎_elim
     (λ (met : meets a span ≡ true).
     ⊎_elim
-    (λ (before : a.first < span.first). let isnt = beside span.first (omega arith) ordered in absurd (grind (arith, nat_tests)))
-    (λ (after : span.first ≤ a.first). let isnt = beside a.first after (grind (arith, nat_tests)) in absurd (grind (arith, nat_tests)))
+    (λ (before : a.first < span.first). let isnt = beside span.first (omega arith) ordered in absurd
+    (grind (arith, nat_tests)))
+    (λ (after : span.first ≤ a.first). let isnt = beside a.first after (grind (arith, nat_tests)) in absurd
+    (grind (arith, nat_tests)))
     (cases_lt a.first span.first))
     (λ (clear : meets a span ≡ false). grind (arith, nat_tests))
     (cases_Bool (meets a span))
 
-fit-fits : (length : ℕ) (spans areas : List Bounds) (x : ℕ) → AreOrdered areas → IsFit length spans areas x → fits length spans areas x ≡ true
+fit-fits : (length : ℕ) (spans areas : List Bounds) (x : ℕ) → AreOrdered areas → IsFit length spans areas x
+    → fits length spans areas x ≡ true
 fit-fits length spans areas x ordered fit =
     let some = fit.some in
     let whole = fit.whole in
-    let covered = all-covered_by spans (span_from x length) (omega arith) (λ n low high. fit.inside n low (omega arith)) in
-    let clear = all-beside areas (span_from x length) (omega arith) ordered (λ n low high. fit.beside n low (omega arith)) in
+    let covered =
+    all-covered_by spans (span_from x length) (omega arith) (λ n low high. fit.inside n low (omega arith)) in
+    let clear =
+    all-beside areas (span_from x length) (omega arith) ordered (λ n low high. fit.beside n low (omega arith)) in
     grind (arith, nat_tests)
 
-pub fits-tells : (length : ℕ) (spans areas : List Bounds) (x : ℕ) → AreOrdered areas → IsTrue (fits length spans areas x) ↔ IsFit length spans areas x
+pub fits-tells : (length : ℕ) (spans areas : List Bounds) (x : ℕ) → AreOrdered areas
+    → IsTrue (fits length spans areas x) ↔ IsFit length spans areas x
 fits-tells length spans areas x ordered = (fits-fit length spans areas x, fit-fits length spans areas x ordered)
 
-pub has_fit-tells : (length : ℕ) (spans areas : List Bounds) → AreOrdered areas → IsTrue (has_fit length spans areas) ↔ ((x : ℕ) × IsFit length spans areas x)
-has_fit-tells length spans areas ordered = (has_fit-fit length spans areas, λ one. fit-has_fit length spans areas one.0 ordered one.1)
+pub has_fit-tells : (length : ℕ) (spans areas : List Bounds) → AreOrdered areas
+    → IsTrue (has_fit length spans areas) ↔ ((x : ℕ) × IsFit length spans areas x)
+has_fit-tells length spans areas ordered =
+    (has_fit-fit length spans areas, λ one. fit-has_fit length spans areas one.0 ordered one.1)
 
 -- what fits hangs on which numbers are in the set and in no area, and on nothing else
-pub fit-moves : (length : ℕ) (spans areas others beside : List Bounds) → ((n : ℕ) → (in_spans spans n && not (in_spans areas n)) ≡ (in_spans others n && not (in_spans beside n)))
+pub fit-moves : (length : ℕ) (spans areas others beside : List Bounds)
+    → ((n : ℕ) → (in_spans spans n && not (in_spans areas n)) ≡ (in_spans others n && not (in_spans beside n)))
     → (x : ℕ) → IsFit length spans areas x → IsFit length others beside x
 fit-moves length spans areas others beside same x fit =
     record {
       whole = fit.whole;
       some = fit.some;
-      inside = λ n low high. (let is = same n in let held = fit.inside n low high in let clear = fit.beside n low high in grind (arith, nat_tests));
-      beside = λ n low high. (let is = same n in let held = fit.inside n low high in let clear = fit.beside n low high in grind (arith, nat_tests));
+      inside = λ n low high. (let is = same n in let held = fit.inside n low high in let clear = fit.beside n low
+          high in grind (arith, nat_tests));
+      beside = λ n low high. (let is = same n in let held = fit.inside n low high in let clear = fit.beside n low
+          high in grind (arith, nat_tests));
     }

@@ -10,7 +10,8 @@ abbrev pub SameNumbers : List Bounds → List Bounds → Type 0
 SameNumbers xs ys = (n : ℕ) → in_spans xs n ≡ in_spans ys n
 
 -- neither begins below the other
-first-same : (a b : ℕ) (x y : Bounds) (xs ys : List Bounds) → AreMergedFrom a (x ∷ xs) → AreMergedFrom b (y ∷ ys) → SameNumbers (x ∷ xs) (y ∷ ys) → y.first ≤ x.first
+first-same : (a b : ℕ) (x y : Bounds) (xs ys : List Bounds) → AreMergedFrom a (x ∷ xs) → AreMergedFrom b (y ∷ ys)
+    → SameNumbers (x ∷ xs) (y ∷ ys) → y.first ≤ x.first
 first-same a b x y xs ys x_merged y_merged same =
     ⊎_elim
     (λ (below : x.first < y.first).
@@ -23,7 +24,8 @@ first-same a b x y xs ys x_merged y_merged same =
     (cases_lt x.first y.first)
 
 -- nor ends below it
-last-same : (a b : ℕ) (x y : Bounds) (xs ys : List Bounds) → AreMergedFrom a (x ∷ xs) → AreMergedFrom b (y ∷ ys) → SameNumbers (x ∷ xs) (y ∷ ys) → y.first ≤ x.first → y.last ≤ x.last
+last-same : (a b : ℕ) (x y : Bounds) (xs ys : List Bounds) → AreMergedFrom a (x ∷ xs) → AreMergedFrom b (y ∷ ys)
+    → SameNumbers (x ∷ xs) (y ∷ ys) → y.first ≤ x.first → y.last ≤ x.last
 last-same a b x y xs ys x_merged y_merged same begins =
     ⊎_elim
     (λ (below : x.last < y.last).
@@ -34,7 +36,8 @@ last-same a b x y xs ys x_merged y_merged same begins =
     (λ (at : y.last ≤ x.last). at)
     (cases_lt x.last y.last)
 
-rest-same : (a b : ℕ) (x y : Bounds) (xs ys : List Bounds) → AreMergedFrom a (x ∷ xs) → AreMergedFrom b (y ∷ ys) → SameNumbers (x ∷ xs) (y ∷ ys) → x.first ≡ y.first → x.last ≡ y.last → SameNumbers xs ys
+rest-same : (a b : ℕ) (x y : Bounds) (xs ys : List Bounds) → AreMergedFrom a (x ∷ xs) → AreMergedFrom b (y ∷ ys)
+    → SameNumbers (x ∷ xs) (y ∷ ys) → x.first ≡ y.first → x.last ≡ y.last → SameNumbers xs ys
 rest-same a b x y xs ys x_merged y_merged same first last n =
     let is = same n in
     ⊎_elim
@@ -56,8 +59,10 @@ ends-same x y first last =
 
 pub spans-same : (a b : ℕ) (xs ys : List Bounds) → AreMergedFrom a xs → AreMergedFrom b ys → SameNumbers xs ys → xs ≡ ys
 spans-same a b [] [] x_merged y_merged same = refl
-spans-same a b [] (y ∷ ys) x_merged y_merged same = let is = same y.first in let own = y_merged.1 in absurd (grind (arith, nat_tests))
-spans-same a b (x ∷ xs) [] x_merged y_merged same = let is = same x.first in let own = x_merged.1 in absurd (grind (arith, nat_tests))
+spans-same a b [] (y ∷ ys) x_merged y_merged same =
+    let is = same y.first in let own = y_merged.1 in absurd (grind (arith, nat_tests))
+spans-same a b (x ∷ xs) [] x_merged y_merged same =
+    let is = same x.first in let own = x_merged.1 in absurd (grind (arith, nat_tests))
 spans-same a b (x ∷ xs) (y ∷ ys) x_merged y_merged same =
     let back = mirrored (x ∷ xs) (y ∷ ys) same in
     let low = first-same a b x y xs ys x_merged y_merged same in
@@ -66,5 +71,6 @@ spans-same a b (x ∷ xs) (y ∷ ys) x_merged y_merged same =
     let above = last-same a b x y xs ys x_merged y_merged same low in
     let under = last-same b a y x ys xs y_merged x_merged back high in
     let last : x.last ≡ y.last = omega arith in
-    let rest = spans-same (x.last + 2) (y.last + 2) xs ys x_merged.2 y_merged.2 (rest-same a b x y xs ys x_merged y_merged same first last) in
+    let rest = spans-same (x.last + 2) (y.last + 2) xs ys x_merged.2 y_merged.2
+    (rest-same a b x y xs ys x_merged y_merged same first last) in
     ap (λ (z : Bounds). z ∷ xs) (ends-same x y first last) ∙ ap (λ zs. y ∷ zs) rest

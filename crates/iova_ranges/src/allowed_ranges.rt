@@ -1,6 +1,7 @@
 //! The ranges to which the addresses that the server chooses are bounded, by address space.
 
-ghost use Rattle.std.specs.Prelude.{ℕ, ◌≡◌, ◌<◌, [], MatchOption, IfOk, OnOk, OnErr, length, filter, find, not, ◌==◌, ◌&&◌, ◌||◌, ◌++◌, ◌∷◌, ◌≤◌, if◌then◌else◌, vec_len, vec_capacity};
+ghost use Rattle.std.specs.Prelude.{ℕ, ◌≡◌, ◌<◌, [], MatchOption, IfOk, OnOk, OnErr, length, filter, find, not, ◌==◌};
+ghost use Rattle.std.specs.Prelude.{◌&&◌, ◌||◌, ◌++◌, ◌∷◌, ◌≤◌, if◌then◌else◌, vec_len, vec_capacity};
 ghost use Rattle.std.specs.Option.{option_copied};
 ghost use Rattle.iofd_words.specs.Allowed.{allowed_of, is_allowed_in, without_allowed};
 ghost use Rattle.iofd_words.specs.Ranges.{AreMerged, in_spans};

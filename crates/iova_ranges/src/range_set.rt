@@ -1,6 +1,7 @@
 //! The set of ranges.
 
-ghost use Rattle.std.specs.Prelude.{◌≡◌, ◌==◌, ◌↔◌, ◌||◌, ◌&&◌, not, ℕ, ◌+◌, ◌<◌, ◌≤◌, [], length, IsTrue, IfOk, IfSome, IfNone, MatchOption, OnOk, OnErr};
+ghost use Rattle.std.specs.Prelude.{◌≡◌, ◌==◌, ◌↔◌, ◌||◌, ◌&&◌, not, ℕ, ◌+◌, ◌<◌, ◌≤◌, [], length, IsTrue, IfOk};
+ghost use Rattle.std.specs.Prelude.{IfSome, IfNone, MatchOption, OnOk, OnErr};
 ghost use Rattle.iofd_words.specs.Span.{holds};
 ghost use Rattle.iofd_words.specs.Fits.{StartsRise, IsFit};
 ghost use Rattle.iofd_words.specs.Ranges.{AreMerged, in_spans};

@@ -1,6 +1,7 @@
 //! The spans that devices keep for themselves.
 
-ghost use Rattle.std.specs.Prelude.{◌≡◌, ℕ, ◌+◌, ◌<◌, ◌≤◌, ◌&&◌, ◌++◌, [], not, length, IfOk, OnOk, OnErr, vec_len, vec_capacity};
+ghost use Rattle.std.specs.Prelude.{◌≡◌, ℕ, ◌+◌, ◌<◌, ◌≤◌, ◌&&◌, ◌++◌, [], not, length, IfOk, OnOk, OnErr, vec_len};
+ghost use Rattle.std.specs.Prelude.{vec_capacity};
 ghost use Rattle.iofd_words.specs.Ranges.{AreMerged, in_spans};
 ghost use Rattle.iova_ranges.specs.Reserved.{rows_of, without_owner, is_reserved, meets_reserved};
 

@@ -13,5 +13,6 @@ module _ {K Z : Type 0} where
   top_or d (x ∷ xs) = x.1
 
   -- what the slot in front has, told twice
-  pub top_is : (lane : ℕ) (x y : Option (Arc K Z)) (c cs ds : List (ℕ × Option (Arc K Z))) → c ≡ (lane, x) ∷ cs → c ≡ (lane, y) ∷ ds → x ≡ y
+  pub top_is : (lane : ℕ) (x y : Option (Arc K Z)) (c cs ds : List (ℕ × Option (Arc K Z))) → c ≡ (lane, x) ∷ cs
+      → c ≡ (lane, y) ∷ ds → x ≡ y
   top_is lane x y c cs ds p q = ap (top_or x) (sym p ∙ q)

@@ -1,5 +1,6 @@
 -- Lists of passes, looked up by place.
-use Rattle.std.proofs.Common.{◌≡◌, ℕ, zero, suc, ◌+◌, ◌<◌, ◌≤◌, List, [], ◌∷◌, ◌++◌, length, get_or, slice_get, Some, sym, refl, ap, ◌∙◌, subst, ◌⊎◌, inl, inr, arith}
+use Rattle.std.proofs.Common.{◌≡◌, ℕ, zero, suc, ◌+◌, ◌<◌, ◌≤◌, List, [], ◌∷◌, ◌++◌, length, get_or, slice_get, Some}
+use Rattle.std.proofs.Common.{sym, refl, ap, ◌∙◌, subst, ◌⊎◌, inl, inr, arith}
 use mathlib.Core.Logic.{dite}
 use native.Mathlib.Decide.{ℕ_discrete}
 use mathlib.Core.Option.{some}
@@ -17,10 +18,16 @@ module _ {A : Type 0} where
   get_inside (y ∷ xs) (suc i) x e = let h = get_inside xs i x e in omega arith
 
   -- what holds of the elements below n, and of the next one
-  pub one_further : (P : A → Type 0) (xs : List A) (n : ℕ) (x : A) → ((i : ℕ) (p : A) → i < n → slice_get xs i ≡ Some p → P p) → slice_get xs n ≡ Some x → P x → (i : ℕ) (p : A) → i < n + 1 → slice_get xs i ≡ Some p → P p
-  one_further P xs n x below at here i p lt e = dite (ℕ_discrete i n) (λ same. let one : Some x ≡ Some p = sym at ∙ (ap (slice_get xs) (sym same) ∙ e) in let is : x ≡ p = cc in subst P is here) (λ ne. below i p (omega arith) e)
+  pub one_further : (P : A → Type 0) (xs : List A) (n : ℕ) (x : A)
+      → ((i : ℕ) (p : A) → i < n → slice_get xs i ≡ Some p → P p) → slice_get xs n ≡ Some x → P x → (i : ℕ) (p : A)
+      → i < n + 1 → slice_get xs i ≡ Some p → P p
+  one_further P xs n x below at here i p lt e =
+      dite (ℕ_discrete i n) (λ same. let one : Some x ≡ Some p = sym at
+      ∙ (ap (slice_get xs) (sym same) ∙ e) in let is : x ≡ p = cc in subst P is here) (λ ne.
+      below i p (omega arith) e)
 
-  pub all_of : (P : A → Type 0) (xs : List A) (n : ℕ) → length xs ≤ n → ((i : ℕ) (p : A) → i < n → slice_get xs i ≡ Some p → P p) → (i : ℕ) (p : A) → slice_get xs i ≡ Some p → P p
+  pub all_of : (P : A → Type 0) (xs : List A) (n : ℕ) → length xs ≤ n
+      → ((i : ℕ) (p : A) → i < n → slice_get xs i ≡ Some p → P p) → (i : ℕ) (p : A) → slice_get xs i ≡ Some p → P p
   all_of P xs n le below i p e = let lt = get_inside xs i p e in below i p (omega arith) e
 
   -- a list without its last element
@@ -31,7 +38,8 @@ module _ {A : Type 0} where
       at_end [] x = refl
       at_end (y ∷ ys) x = at_end ys x
 
-  pub front_at : (xs ys : List A) (x y : A) (i : ℕ) → xs ≡ ys ++ x ∷ [] → slice_get ys i ≡ Some y → slice_get xs i ≡ Some y
+  pub front_at : (xs ys : List A) (x y : A) (i : ℕ) → xs ≡ ys ++ x ∷ [] → slice_get ys i ≡ Some y
+      → slice_get xs i ≡ Some y
   front_at xs ys x y i is e = ap (λ l. slice_get l i) is ∙ longer ys i e
     where
       longer : (ys : List A) (i : ℕ) → slice_get ys i ≡ Some y → slice_get (ys ++ x ∷ []) i ≡ Some y
@@ -39,7 +47,8 @@ module _ {A : Type 0} where
       longer (z ∷ ys) zero e = e
       longer (z ∷ ys) (suc i) e = longer ys i e
 
-  pub either_at : (xs ys : List A) (x y : A) (i : ℕ) → xs ≡ ys ++ x ∷ [] → slice_get xs i ≡ Some y → (slice_get ys i ≡ Some y) ⊎ (x ≡ y)
+  pub either_at : (xs ys : List A) (x y : A) (i : ℕ) → xs ≡ ys ++ x ∷ [] → slice_get xs i ≡ Some y
+      → (slice_get ys i ≡ Some y) ⊎ (x ≡ y)
   either_at xs ys x y i is e = go ys i (sym (ap (λ l. slice_get l i) is) ∙ e)
     where
       go : (ys : List A) (i : ℕ) → slice_get (ys ++ x ∷ []) i ≡ Some y → (slice_get ys i ≡ Some y) ⊎ (x ≡ y)

@@ -1,5 +1,6 @@
 -- What a lock gives back at its end.
-use Rattle.std.specs.Prelude.{◌≡◌, ◌≢◌, ◌⊎◌, ℕ, ◌<◌, ◌≤◌, true, false, List, [], length, drop, slice_get, slice_index, Some, is_some}
+use Rattle.std.specs.Prelude.{◌≡◌, ◌≢◌, ◌⊎◌, ℕ, ◌<◌, ◌≤◌, true, false, List, [], length, drop, slice_get, slice_index}
+use Rattle.std.specs.Prelude.{Some, is_some}
 use mathlib.Core.Option.{some}
 use lib.ListN.{get_elem?}
 use Rattle.std.specs.Arc.{arc_value}
@@ -36,19 +37,24 @@ module _ {K A S E : Type 0} {g : kept.Ghosts K A S E} where
   -- the view has these passes besides, and is otherwise as it was
   pub record Gathers (v : View E) (passes : List (Pass K A S E g)) (w : View E) : Type 0 where
     pub view : w ≡ record v { others = w.others }
-    pub others : (i : ℕ) (p : Pass K A S E g) → slice_get passes i ≡ Some p → (j : ℕ) × (get_elem? w.others j ≡ some (known_of p))
+    pub others : (i : ℕ) (p : Pass K A S E g) → slice_get passes i ≡ Some p
+        → (j : ℕ) × (get_elem? w.others j ≡ some (known_of p))
 
-  -- The history is the opening value's and then the records of all passes: of each just those that it made, in its order, and of no others. It
-  -- begins with what each had seen.
+  -- The history is the opening value's and then the records of all passes: of each just those that it made, in its
+  -- order, and of no others. It begins with what each had seen.
   pub record EndsWith (lock : LaneLock K A S E) (passes : List (Pass K A S E g)) (history : List E) : Type 0 where
     pub opened : StartsWith history (opening_of g.history lock)
     pub all : (n : ℕ) → n < passes_of lock → HasNumber passes n
-    pub each : (i : ℕ) (p : Pass K A S E g) → slice_get passes i ≡ Some p → Legal g.maker (length (opening_of g.history lock)) history (number_of p) (view_of p).seen (view_of p).made
-    pub foreign : (n : ℕ) → passes_of lock ≤ n → made_by g.maker n (drop (length (opening_of g.history lock)) history) ≡ []
+    pub each : (i : ℕ) (p : Pass K A S E g) → slice_get passes i ≡ Some p
+        → Legal g.maker (length (opening_of g.history lock)) history (number_of p) (view_of p).seen (view_of p).made
+    pub foreign : (n : ℕ) → passes_of lock ≤ n
+        → made_by g.maker n (drop (length (opening_of g.history lock)) history) ≡ []
 
   -- a pass is missing, or holds a lane
   abbrev pub IsNotAll : LaneLock K A S E → List (Pass K A S E g) → Type 0
-  IsNotAll lock passes = ((n : ℕ) × (n < passes_of lock) × IsAbsent passes n) ⊎ ((i : ℕ) × (p : Pass K A S E g) × (slice_get passes i ≡ Some p) × ((k : ℕ) × (slice_index (view_of p).held k ≢ 0)))
+  IsNotAll lock passes = ((n : ℕ) × (n < passes_of lock) × IsAbsent passes n)
+      ⊎ ((i : ℕ) × (p : Pass K A S E g) × (slice_get passes i ≡ Some p)
+      × ((k : ℕ) × (slice_index (view_of p).held k ≢ 0)))
 
   -- lock and passes come back, since a pass is missing or holds a lane; or a share of the value at the lock's end
   abbrev pub GivesAllBack : LaneLock K A S E → List (Pass K A S E g) → CloseError K A S E g → Type 0

@@ -6,8 +6,10 @@ use Rattle.lane_lock.specs.History.{StartsWith}
 use Rattle.lane_lock.specs.Steps.{Mine, share_history}
 use Rattle.lane_lock.specs.Views.{IsLegal}
 
--- The pass has lane k alone, which it has emptied, and beside it a share of all that it has seen, which is legal for it.
-pub record HasOneLane {K E Z : Type 0} (hist : K → List E) (by : E → ℕ) (m : Mine K E Z) (k : ℕ) (share : Option (Arc K Z)) : Type 0 where
+-- The pass has lane k alone, which it has emptied, and beside it a share of all that it has seen, which is legal for
+-- it.
+pub record HasOneLane {K E Z : Type 0} (hist : K → List E) (by : E
+    → ℕ) (m : Mine K E Z) (k : ℕ) (share : Option (Arc K Z)) : Type 0 where
   pub there : is_some share ≡ true
   pub shows : share_history hist share [] ≡ m.0.seen
   pub opened : StartsWith m.0.seen m.0.opening
@@ -17,8 +19,10 @@ pub record HasOneLane {K E Z : Type 0} (hist : K → List E) (by : E → ℕ) (m
   pub alone : (i : ℕ) → i ≢ k → slice_index m.0.held i ≡ 0
   pub pinned : m.0.pin ≢ 0
 
--- The pass has all lanes. It has emptied lane 0, and has beside it a share of all that it has seen, which is legal for it.
-pub record HasAllLanes {K E Z : Type 0} (hist : K → List E) (by : E → ℕ) (lanes : ℕ) (m : Mine K E Z) (share : Option (Arc K Z)) : Type 0 where
+-- The pass has all lanes. It has emptied lane 0, and has beside it a share of all that it has seen, which is legal for
+-- it.
+pub record HasAllLanes {K E Z : Type 0} (hist : K → List E) (by : E
+    → ℕ) (lanes : ℕ) (m : Mine K E Z) (share : Option (Arc K Z)) : Type 0 where
   pub there : is_some share ≡ true
   pub shows : share_history hist share [] ≡ m.0.seen
   pub opened : StartsWith m.0.seen m.0.opening

@@ -1,5 +1,6 @@
 -- The slots that a writer has taken.
-use Rattle.std.specs.Prelude.{◌≡◌, ◌⊎◌, ℕ, ◌<◌, ◌≤◌, List, [], ◌∷◌, ◌++◌, length, drop, slice_index, Option, Some, None, zero, suc}
+use Rattle.std.specs.Prelude.{◌≡◌, ◌⊎◌, ℕ, ◌<◌, ◌≤◌, List, [], ◌∷◌, ◌++◌, length, drop, slice_index, Option, Some, None}
+use Rattle.std.specs.Prelude.{zero, suc}
 use Rattle.std.specs.Arc.{arc_value}
 use Rattle.std.specs.declared.sync.Arc.{Arc}
 use Rattle.atomic_table.specs.Table.{rest}
@@ -15,10 +16,13 @@ module _ {K Z : Type 0} where
   abbrev pub Anything : Option (Arc K Z) → Type 0
   Anything x = Unit {0}
 
-  -- the lanes from n down to 1 were taken last, the highest in front, each with something in its slot of which P holds; below them lies the rest
-  abbrev pub Stack : (Option (Arc K Z) → Type 0) → ℕ → List (ℕ × Option (Arc K Z)) → List (ℕ × Option (Arc K Z)) → Type 0
+  -- the lanes from n down to 1 were taken last, the highest in front, each with something in its slot of which P holds;
+  -- below them lies the rest
+  abbrev pub Stack : (Option (Arc K Z) → Type 0) → ℕ → List (ℕ × Option (Arc K Z)) → List (ℕ × Option (Arc K Z))
+      → Type 0
   Stack P zero hand below = hand ≡ below
-  Stack P (suc n) hand below = (x : Option (Arc K Z)) × (hand ≡ (suc n, x) ∷ rest hand) × P x × Stack P n (rest hand) below
+  Stack P (suc n) hand below =
+      (x : Option (Arc K Z)) × (hand ≡ (suc n, x) ∷ rest hand) × P x × Stack P n (rest hand) below
 
   -- of the lanes from n down to 1 those above k were emptied and lie behind lane 0
   pub record Dropped (n k : ℕ) (hand : List (ℕ × Option (Arc K Z))) : Type 0 where
@@ -45,7 +49,12 @@ module _ {K E Z : Type 0} where
 
   -- all lanes were put back, with the history h, and what the pass made grew by what h has more than the pass had seen
   pub record AllBack (m : Mine K E Z) (h : List E) (m' : Mine K E Z) : Type 0 where
-    pub view : m'.0 ≡ record m.0 { held = m'.0.held; seen = h; made = m.0.made ++ drop (length m.0.seen) h; pin = m'.0.pin }
+    pub view : m'.0 ≡ record m.0 {
+      held = m'.0.held;
+      seen = h;
+      made = m.0.made ++ drop (length m.0.seen) h;
+      pin = m'.0.pin;
+    }
     pub hand : m'.1 ≡ []
     pub long : length m'.0.held ≡ length m.0.held
     pub blank : (k : ℕ) → slice_index m'.0.held k ≡ 0

@@ -14,8 +14,8 @@ made_by by p (x ∷ xs) = if by x == p then x ∷ made_by by p xs else made_by b
 abbrev pub longer : {E : Type 0} → List E → List E → List E
 longer xs ys = if ltb (length ys) (length xs) then xs else ys
 
--- The history is legal for pass p: it begins with what p has seen, and after the first `base` records, those of the opening value, p's records
--- are those that p made, in that order, all of which p has seen.
+-- The history is legal for pass p: it begins with what p has seen, and after the first `base` records, those of the
+-- opening value, p's records are those that p made, in that order, all of which p has seen.
 pub record Legal {E : Type 0} (by : E → ℕ) (base : ℕ) (history : List E) (p : ℕ) (seen made : List E) : Type 0 where
   pub begins : StartsWith history seen
   pub makes : made_by by p (drop base history) ≡ made

@@ -32,8 +32,8 @@ module _ {E : Type 0} where
   abbrev pub KeepsLanes : View E → View E → Type 0
   KeepsLanes v w = (k : ℕ) → slice_index w.held k ≡ slice_index v.held k
 
-  -- One more take met a lane that was held: this lane, by this holder, a pass of the lock. It is another pass unless this
-  -- one held the lane before.
+  -- One more take met a lane that was held: this lane, by this holder, a pass of the lock. It is another pass unless
+  -- this one held the lane before.
   pub record MetHeld (v w : View E) (lane holder : ℕ) : Type 0 where
     pub counted : w.busy ≡ v.busy + 1
     pub noted : w.lane ≡ lane
@@ -43,7 +43,8 @@ module _ {E : Type 0} where
 
   -- a read was refused: its lane was held, or empty
   abbrev pub RefusesRead : View E → View E → ℕ → NotNow → Type 0
-  RefusesRead v w lane (refusal.Busy b) = KeepsHistory v w × KeepsLanes v w × (b.lane ≡ lane) × MetHeld v w lane b.holder.0
+  RefusesRead v w lane (refusal.Busy b) =
+      KeepsHistory v w × KeepsLanes v w × (b.lane ≡ lane) × MetHeld v w lane b.holder.0
   RefusesRead v w lane Shared = KeepsHistory v w × KeepsLanes v w × (w.busy ≡ v.busy)
 
   -- a write was refused: a lane was held, and all lanes that were taken are home again
@@ -64,10 +65,11 @@ module _ {E : Type 0} where
     pub maker : by x ≡ v.number
 
 -- a writer that took the lanes below b's by the word w met this lane held
-pub record Stops {K E Z : Type 0} (hist : K → List E) (m : Mine K E Z) (w : ℕ) (b : Busy) (m' : Mine K E Z) : Type 0 where
-  pub above : 0 < b.lane
-  pub before : Mine K E Z
-  pub climbed : Climbed hist m w (b.lane - 1) before
-  pub found : ℕ
-  pub noting : m' ≡ (noted before.0 b.lane found, before.1)
-  pub met : MetHeld m.0 m'.0 b.lane b.holder.0
+pub record Stops {K E Z : Type 0} (hist : K → List E) (m : Mine K E Z) (w : ℕ) (b : Busy) (m' : Mine K E Z) : Type 0
+  where
+    pub above : 0 < b.lane
+    pub before : Mine K E Z
+    pub climbed : Climbed hist m w (b.lane - 1) before
+    pub found : ℕ
+    pub noting : m' ≡ (noted before.0 b.lane found, before.1)
+    pub met : MetHeld m.0 m'.0 b.lane b.holder.0

@@ -56,8 +56,8 @@ module _ {K A S E : Type 0} {g : kept.Ghosts K A S E} where
   abbrev pub ShowsValue : Pass K A S E g → K → Type 0
   ShowsValue p value = (a : Arc K Global) × (p.share ≡ Some a) × (arc_value a ≡ value)
 
-  -- Under the guard the act was applied to the value that the guard showed, and gave this stamp: one record was appended, which the pass made.
-  -- All that the pass has seen is then the history of the new value.
+  -- Under the guard the act was applied to the value that the guard showed, and gave this stamp: one record was
+  -- appended, which the pass made. All that the pass has seen is then the history of the new value.
   pub record Commits (before : Pass K A S E g) (act : A) (stamp : S) (after : Pass K A S E g) : Type 0 where
     pub value : K
     pub shown : ShowsValue before value

@@ -21,19 +21,20 @@ abbrev pub At : Type 0 → Type 0 → Type 0
 At K Z = Step (Option (Arc K Z))
 
 module _ {K E Z : Type 0} where
-  -- A lane was taken whose slot has x. With a share its history is seen, which begins with the opening one and is legal for
-  -- the pass; if a lane pins what it has seen, it has seen it all before.
+  -- A lane was taken whose slot has x. With a share its history is seen, which begins with the opening one and is legal
+  -- for the pass; if a lane pins what it has seen, it has seen it all before.
   abbrev pub Takes : (K → List E) → (E → ℕ) → View E → ℕ → ℕ → Option (Arc K Z) → View E → Type 0
   Takes hist by v k w None v' = (v' ≡ holding v k w) × (k ≢ 0)
   Takes hist by v k w (Some a) v' =
       (v' ≡ seeing v k w (hist (arc_value a))) × StartsWith (hist (arc_value a)) v.seen × IsLegal by v'
       × (v.pin ≢ 0 → hist (arc_value a) ≡ v.seen) × StartsWith (hist (arc_value a)) v.opening
 
-  -- Taking a lane, to read or to write. At 0 it was at home, and the pass has it and what its slot had; at another word it was held, and the
-  -- pass notes that. The word names a pass of the lock, and this pass only if it held the lane.
+  -- Taking a lane, to read or to write. At 0 it was at home, and the pass has it and what its slot had; at another word
+  -- it was held, and the pass notes that. The word names a pass of the lock, and this pass only if it held the lane.
   abbrev pub took : (K → List E) → (E → ℕ) → At K Z → Mine K E Z → ℕ → Mine K E Z → Type 0
   took hist by st m r m' =
-      (r ≡ 0 → (x : Option (Arc K Z)) × (m'.1 ≡ (st.word, x) ∷ m.1) × Takes hist by m.0 st.word st.second x m'.0 × (slice_index m.0.held st.word ≡ 0))
+      (r ≡ 0 → (x : Option (Arc K Z)) × (m'.1 ≡ (st.word, x) ∷ m.1) × Takes hist by m.0 st.word st.second x m'.0
+      × (slice_index m.0.held st.word ≡ 0))
       × (r ≢ 0 → (m' ≡ (noted m.0 st.word r, m.1)) × ((q : ℕ) × (q < 1024) × Names q r)
       × (Names m.0.number r → slice_index m.0.held st.word ≡ r) × ((q : ℕ) → Names q r → q < m.0.passes))
 
@@ -64,11 +65,14 @@ module _ {K E Z : Type 0} where
   top_history hist [] h = h
   top_history hist (x ∷ xs) h = share_history hist x.1 h
 
-  -- lane 0 can be put back with one more record: its share shows all that the pass has seen, and one more record of the pass
+  -- lane 0 can be put back with one more record: its share shows all that the pass has seen, and one more record of the
+  -- pass
   abbrev pub Writes : (K → List E) → (E → ℕ) → Mine K E Z → Type 0
-  Writes hist by m = (a : Arc K Z) × (x : E) × (m.1 ≡ (0, Some a) ∷ rest m.1) × (hist (arc_value a) ≡ m.0.seen ++ x ∷ []) × (by x ≡ m.0.number)
+  Writes hist by m = (a : Arc K Z) × (x : E) × (m.1 ≡ (0, Some a) ∷ rest m.1)
+      × (hist (arc_value a) ≡ m.0.seen ++ x ∷ []) × (by x ≡ m.0.number)
 
-  -- Lane 0 was put back with one more record. Lane 1, if there is one, now pins what the pass has seen, and else no lane does.
+  -- Lane 0 was put back with one more record. Lane 1, if there is one, now pins what the pass has seen, and else no
+  -- lane does.
   abbrev pub committed : (K → List E) → At K Z → Mine K E Z → ℕ → Mine K E Z → Type 0
   committed hist st m r m' =
       (m' ≡ (written m.0 st.word (top_history hist m.1 m.0.seen) m'.0.pin, rest m.1)) × (1 < st.slots → m'.0.pin ≡ 2)

@@ -1,5 +1,6 @@
 -- What a step makes of the view of the seat that makes it.
-use Rattle.std.specs.Prelude.{◌≡◌, ◌≢◌, ℕ, ◌+◌, true, false, List, [], ◌∷◌, ◌++◌, length, drop, replicate, slice_index, slice_set, zero, suc}
+use Rattle.std.specs.Prelude.{◌≡◌, ◌≢◌, ℕ, ◌+◌, true, false, List, [], ◌∷◌, ◌++◌, length, drop, replicate, slice_index}
+use Rattle.std.specs.Prelude.{slice_set, zero, suc}
 use mathlib.Core.Option.{some}
 use lib.ListN.{get_elem?}
 use Rattle.lane_lock.specs.declared.table.View.{View}
@@ -26,7 +27,8 @@ module _ {E : Type 0} where
 
   -- the view after lane k was put back with the history h, which one more record of its pass ends
   abbrev pub written : View E → ℕ → List E → ℕ → View E
-  written v k h pin = record v { held = slice_set v.held k 0; seen = h; made = v.made ++ drop (length v.seen) h; pin = pin }
+  written v k h pin =
+      record v { held = slice_set v.held k 0; seen = h; made = v.made ++ drop (length v.seen) h; pin = pin }
 
   -- one more take found a lane held: lane k, by the word w
   abbrev pub noted : View E → ℕ → ℕ → View E
@@ -46,12 +48,38 @@ module _ {E : Type 0} where
 
   -- a view that stands for no pass, and knows that the history begins so
   abbrev pub note_of : List E → View E
-  note_of seen = record { stands = false; number = 0; opening = []; passes = 0; seen = seen; made = []; others = []; held = []; pin = 0; busy = 0; lane = 0; word = 0 }
+  note_of seen = record {
+    stands = false;
+    number = 0;
+    opening = [];
+    passes = 0;
+    seen = seen;
+    made = [];
+    others = [];
+    held = [];
+    pin = 0;
+    busy = 0;
+    lane = 0;
+    word = 0;
+  }
 
   -- the first of these passes, alone in a view
   abbrev pub alone : List E → ℕ → ℕ → List (Known E) → View E
   alone opening passes lanes [] = note_of []
-  alone opening passes lanes (o ∷ os) = record { stands = true; number = o.number; opening = opening; passes = passes; seen = o.seen; made = o.made; others = []; held = replicate lanes 0; pin = 0; busy = 0; lane = 0; word = 0 }
+  alone opening passes lanes (o ∷ os) = record {
+    stands = true;
+    number = o.number;
+    opening = opening;
+    passes = passes;
+    seen = o.seen;
+    made = o.made;
+    others = [];
+    held = replicate lanes 0;
+    pin = 0;
+    busy = 0;
+    lane = 0;
+    word = 0;
+  }
 
   -- the view without its first further pass, and that pass alone
   abbrev pub without_one : View E → View E
@@ -62,7 +90,8 @@ module _ {E : Type 0} where
 
   -- there is a first further pass, with a number of its own
   abbrev pub HasApart : View E → Type 0
-  HasApart v = (o : Known E) × (v.others ≡ o ∷ tail v.others) × (v.number ≢ o.number) × ((i : ℕ) (u : Known E) → get_elem? (tail v.others) i ≡ some u → u.number ≢ o.number)
+  HasApart v = (o : Known E) × (v.others ≡ o ∷ tail v.others) × (v.number ≢ o.number)
+      × ((i : ℕ) (u : Known E) → get_elem? (tail v.others) i ≡ some u → u.number ≢ o.number)
 
   -- a note of what the view has seen, for another pass to learn
   abbrev pub note : View E → View E

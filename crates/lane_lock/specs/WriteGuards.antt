@@ -10,7 +10,9 @@ use Rattle.lane_lock.specs.Outcomes.{RefusesWrite}
 use Rattle.lane_lock.specs.Passes.{SamePass, view_of}
 
 module _ (K A S E : RattleType) (g : kept.Ghosts K.Denot A.Denot S.Denot E.Denot) (lanes : ℕ) where
-  -- where the write was refused, the pass has made nothing and holds what it held; else it ends as it is once the guard is gone
-  abbrev pub RestsUnlessWriting : MutBor (Pass K.Denot A.Denot S.Denot E.Denot g) → Result (WriteGuard K.Denot A.Denot S.Denot E.Denot g) Busy → Fml
+  -- where the write was refused, the pass has made nothing and holds what it held; else it ends as it is once the guard
+  -- is gone
+  abbrev pub RestsUnlessWriting : MutBor (Pass K.Denot A.Denot S.Denot E.Denot g)
+      → Result (WriteGuard K.Denot A.Denot S.Denot E.Denot g) Busy → Fml
   RestsUnlessWriting p r = RestsIfErr (the_row K A S E g) p (λ it. it.pass.ghost_name) r
       (λ last. IfErr r (λ b. SamePass p.now last × RefusesWrite (view_of p.now) (view_of last) lanes b))

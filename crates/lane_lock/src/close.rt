@@ -1,6 +1,7 @@
 //! The end of a lock.
 
-ghost use Rattle.std.specs.Prelude.{◌≡◌, ℕ, ◌<◌, [], length, Some, slice_get, is_some, true, false, MatchBool, MatchResult, IfOk, IfErr};
+ghost use Rattle.std.specs.Prelude.{◌≡◌, ℕ, ◌<◌, [], length, Some, slice_get, is_some, true, false, MatchBool};
+ghost use Rattle.std.specs.Prelude.{MatchResult, IfOk, IfErr};
 ghost use Rattle.std.specs.Arc.{arc_value};
 ghost use Rattle.lane_lock.specs.Closing.{AllHere, Closes};
 ghost use Rattle.lane_lock.specs.Ending.{Gathers, HasNumber, IsAbsent, AllIdle, SomeBusy, EndsWith, GivesAllBack};

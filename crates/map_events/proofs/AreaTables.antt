@@ -1,6 +1,7 @@
--- An area that is mapped: the tables that were missing for it are in the least free frames, and what is kept then shows the world after the
--- MAP, with these tables.
-use Rattle.std.proofs.Common.{◌≡◌, ℕ, zero, suc, ◌+◌, ◌<◌, ◌≤◌, Bool, true, false, cond, ◌&&◌, not, eqb, ltb, is_some, List, [], ◌∷◌, ◌++◌, length, refl, sym, ◌∙◌, ap, subst, arith}
+-- An area that is mapped: the tables that were missing for it are in the least free frames, and what is kept then shows
+-- the world after the MAP, with these tables.
+use Rattle.std.proofs.Common.{◌≡◌, ℕ, zero, suc, ◌+◌, ◌<◌, ◌≤◌, Bool, true, false, cond, ◌&&◌, not, eqb, ltb, is_some}
+use Rattle.std.proofs.Common.{List, [], ◌∷◌, ◌++◌, length, refl, sym, ◌∙◌, ap, subst, arith}
 use Rattle.std.specs.Prelude.{slice_index}
 use Rattle.std.specs.List.{count_by, list_all}
 use Rattle.std.proofs.lemmas.Bool.Decides.{nat_tests}
@@ -17,7 +18,8 @@ use Rattle.iofd_words.specs.Areas.{areas_meet, areas_of}
 use Rattle.iofd_words.specs.Checks.{tables_to_map}
 use Rattle.iofd_words.specs.Frames.{frame_at, is_free}
 use Rattle.iofd_words.specs.Objects.{has_hwpt, is_hwpt, is_hwpt_over}
-use Rattle.iofd_words.specs.Tables.{MissingTable, MovesTables, are_different, in_frames, is_orphan, missing_tables, tables_after, with_tables}
+use Rattle.iofd_words.specs.Tables.{MissingTable, MovesTables, are_different, in_frames, is_orphan, missing_tables}
+use Rattle.iofd_words.specs.Tables.{tables_after, with_tables}
 use Rattle.iofd_words.specs.World.{World}
 use Rattle.iofd_words.specs.declared.event.Event.{Event}
 use Rattle.iofd_words.specs.declared.event.MapRequest.{MapRequest}
@@ -66,11 +68,18 @@ and_none true b = refl
 and_none false b = refl
 
 -- how many tables it takes is told alike by the world and by what is kept
-pub needed_told : {A : Type 0} (at : ℕ) (w : World) (s : State A) (a : Area) → IsTidy at w → Shows w s → tables_needed w.table_frames a.file a.ioas a.span s.page_tables.tables ≡ tables_to_map (seen s) a.file a.ioas a.span
-needed_told at w s a tidy shows = known_needed s (record { at = at; world = w; tidy = tidy; shows = shows }) a.file a.ioas a.span
+pub needed_told : {A : Type 0} (at : ℕ) (w : World) (s : State A) (a : Area) → IsTidy at w → Shows w s
+    → tables_needed w.table_frames a.file a.ioas a.span s.page_tables.tables ≡ tables_to_map
+    (seen s) a.file a.ioas a.span
+needed_told at w s a tidy shows =
+    known_needed s (record { at = at; world = w; tidy = tidy; shows = shows }) a.file a.ioas a.span
 
-module _ {A : Type 0} (at : ℕ) (w : World) (s : State A) (tidy : IsTidy at w) (shows : Shows w s) (number : ℕ) (file : FileNo) (request : MapRequest) (iova : Iova) (objects : List MemoryObject) (after : Memory) (pool : FramePool)
-    (comes : Comes w s (mapped_area number file request iova) objects after pool) (enough : tables_to_map (seen s) file request.ioas (mapped_area number file request iova).span ≤ free_count s.pool.holds) where
+module _ {A : Type 0} (at : ℕ) (w : World) (s : State A) (tidy : IsTidy at w) (shows : Shows w s) (number : ℕ)
+    (file : FileNo) (request : MapRequest) (iova : Iova) (objects : List MemoryObject)
+    (after : Memory) (pool : FramePool)
+    (comes : Comes w s (mapped_area number file request iova) objects after pool)
+    (enough : tables_to_map (seen s) file request.ioas (mapped_area number file request iova).span
+    ≤ free_count s.pool.holds) where
   abbrev new_area : Area
   new_area = mapped_area number file request iova
 
@@ -86,29 +95,36 @@ module _ {A : Type 0} (at : ℕ) (w : World) (s : State A) (tidy : IsTidy at w) 
   -- ---- how many tables are missing
 
   missing_many : length missing ≡ tables_to_map (seen s) file request.ioas new_area.span
-  missing_many = missing_counted w.table_frames file request.ioas new_area.span tables ∙ needed_told at w s new_area tidy shows
+  missing_many =
+      missing_counted w.table_frames file request.ioas new_area.span tables ∙ needed_told at w s new_area tidy shows
 
   missing_few : length missing ≤ free_count s.pool.holds
   missing_few = omega (arith, missing_many, enough)
 
   few_free : length missing ≤ free_count pool.holds
   few_free =
-      let same = count_alike pool.holds s.pool.holds (free_mapped at w s tidy shows number file request iova objects after pool comes) in
+      let same = count_alike pool.holds s.pool.holds
+      (free_mapped at w s tidy shows number file request iova objects after pool comes) in
       omega (arith, missing_few, same)
 
   -- there are frames for them
   pub frames_there : tables_needed w.table_frames file request.ioas new_area.span tables ≤ free_count pool.holds
-  frames_there = let many = missing_counted w.table_frames file request.ioas new_area.span tables in omega (arith, many, few_free)
+  frames_there =
+      let many = missing_counted w.table_frames file request.ioas new_area.span tables in omega (arith, many, few_free)
 
   missing_is : missing_tables w.objects (world.with_area new_area w.areas) w.table_frames ≡ missing
-  missing_is = missing_mapped w.areas w.table_frames new_area refl w.objects tables shows.tables.tables shows.tables.widths tidy.tabled.needed
+  missing_is = missing_mapped w.areas w.table_frames new_area refl w.objects tables shows.tables.tables
+      shows.tables.widths tidy.tabled.needed
 
   -- ---- once it is mapped
 
-  module _ (kept : PageTables) (made : FramePool) (taken : List FrameNo) (kept_is : kept ≡ s.page_tables) (is : IfAllStand pool tables (IsAreaMapped after new_area tables pool made [] taken)) (bytes : length made.bytes ≡ length made.holds)
+  module _ (kept : PageTables) (made : FramePool) (taken : List FrameNo) (kept_is : kept ≡ s.page_tables)
+      (is : IfAllStand pool tables (IsAreaMapped after new_area tables pool made [] taken))
+      (bytes : length made.bytes ≡ length made.holds)
       (apart : areas_meet new_area.span (areas_of w.areas file request.ioas) ≡ false) where
     mapped : IsAreaMapped after new_area tables pool made [] taken w.table_frames (leads_of w)
-    mapped = is w.table_frames (leads_of w) (stand_pinned at w s tidy shows number file request iova objects after pool comes)
+    mapped = is w.table_frames (leads_of w) (stand_pinned at w s tidy shows number file request iova
+        objects after pool comes)
 
     taken_is : taken ≡ least_frames pool.holds (length missing)
     taken_is = mapped.out
@@ -117,13 +133,16 @@ module _ {A : Type 0} (at : ℕ) (w : World) (s : State A) (tidy : IsTidy at w) 
     long = ap (λ (fs : List FrameNo). length fs) taken_is ∙ length_least pool.holds (length missing) few_free
 
     least : taken ≡ least_frames s.pool.holds (length missing)
-    least = taken_is ∙ least_frames_alike (length missing) pool.holds s.pool.holds (free_mapped at w s tidy shows number file request iova objects after pool comes)
+    least = taken_is ∙ least_frames_alike (length missing) pool.holds s.pool.holds
+        (free_mapped at w s tidy shows number file request iova objects after pool comes)
 
     -- the step moves the frames that it may, and those that are chosen
-    pub moves_mapped : {E : Type 0} (e : Event E) (answer : Reply) → list_all (λ table. not (is_orphan w.objects table)) w.table_frames ≡ true
+    pub moves_mapped : {E : Type 0} (e : Event E) (answer : Reply)
+        → list_all (λ table. not (is_orphan w.objects table)) w.table_frames ≡ true
         → MovesTables w left e answer taken [] × AreFramesChosen w left taken []
     unfolding settle
-    moves_mapped e answer owned = free_frames.takes w s shows left e answer taken (length missing) (ap (λ (l : List MissingTable). length l) (sym missing_is)) missing_few least refl owned
+    moves_mapped e answer owned = free_frames.takes w s shows left e answer taken (length missing)
+        (ap (λ (l : List MissingTable). length l) (sym missing_is)) missing_few least refl owned
 
     -- ---- the frames
 
@@ -131,7 +150,8 @@ module _ {A : Type 0} (at : ℕ) (w : World) (s : State A) (tidy : IsTidy at w) 
     rows_now = ap (λ (fs : List FrameNo). w.table_frames ++ in_frames missing fs) (sym taken_is)
 
     none_reached : (f : ℕ) → 0 < tables_in w.table_frames f → reached after f ≡ 0
-    none_reached f some = none (reached after f) (settles_named s.memory after s.pool pool comes.settles f) (unreached w s shows tidy.tabled.owned f some)
+    none_reached f some = none (reached after f) (settles_named s.memory after s.pool pool comes.settles f)
+        (unreached w s shows tidy.tabled.owned f some)
       where
         none : (n : ℕ) → (0 < n → 0 < reached s.memory f) → reached s.memory f ≡ 0 → n ≡ 0
         none zero more gone = refl
@@ -140,14 +160,19 @@ module _ {A : Type 0} (at : ℕ) (w : World) (s : State A) (tidy : IsTidy at w) 
     was_free : (x : ℕ) → 0 < times_in taken x → (x < length pool.holds) × (slice_index pool.holds x ≡ 0)
     was_free x some =
         let there = counted_there (λ (y : FrameNo). eqb y.0 x) taken some in
-        let all : list_all (λ (frame : FrameNo). is_free w.settings.pool w.user_pages w.pins w.table_frames frame.0) taken ≡ true =
-        ap (list_all (λ (frame : FrameNo). is_free w.settings.pool w.user_pages w.pins w.table_frames frame.0)) least ∙ free_frames.least_are_free w s shows (length missing) in
-        let free = and_true (ltb there.one.0 w.settings.pool) _ (of_each (λ (frame : FrameNo). is_free w.settings.pool w.user_pages w.pins w.table_frames frame.0) taken there.one all there.within) in
+        let all : list_all (λ (frame : FrameNo). is_free w.settings.pool w.user_pages w.pins w.table_frames frame.0)
+        taken ≡ true =
+        ap (list_all (λ (frame : FrameNo). is_free w.settings.pool w.user_pages w.pins w.table_frames frame.0)) least
+        ∙ free_frames.least_are_free w s shows (length missing) in
+        let free = and_true (ltb there.one.0 w.settings.pool) _
+        (of_each (λ (frame : FrameNo). is_free w.settings.pool w.user_pages w.pins w.table_frames frame.0) taken
+        there.one all there.within) in
         let below : there.one.0 < w.settings.pool = let low = free.0 in search (low, arith, nat_tests) in
         let same : there.one.0 ≡ x = let it = there.passes in search (it, arith, nat_tests) in
         let size = (frames_mapped at w s tidy shows number file request iova objects after pool comes).size in
         let among : are_frames (least_frames pool.holds (length missing)) x ≡ true =
-        ap (λ (fs : List FrameNo). are_frames fs x) (sym taken_is) ∙ of_any (λ (y : FrameNo). eqb y.0 x) taken there.one there.within there.passes in
+        ap (λ (fs : List FrameNo). are_frames fs x) (sym taken_is)
+        ∙ of_any (λ (y : FrameNo). eqb y.0 x) taken there.one there.within there.passes in
         (omega (arith, below, same, size), least_are_free pool.holds (length missing) x among)
 
     frames_taken : FramesShown w.settings.pool w.writes (w.table_frames ++ in_frames missing taken) after made
@@ -163,50 +188,78 @@ module _ {A : Type 0} (at : ℕ) (w : World) (s : State A) (tidy : IsTidy at w) 
 
     -- ---- where pages lead
 
-    by_kind : (f : FileNo) (page : ℕ) (k : ObjectKind) → ((i : ObjId) → is_hwpt_over i k ≡ true → has_hwpt w.objects f i ≡ true)
+    by_kind : (f : FileNo) (page : ℕ) (k : ObjectKind)
+        → ((i : ObjId) → is_hwpt_over i k ≡ true → has_hwpt w.objects f i ≡ true)
         → leads_by_kind left.pins (world.with_area new_area w.areas) f k page
-        ≡ cond ((eqb f.0 file.0 && is_hwpt_over request.ioas k) && is_some (live_area_at page (new_area ∷ []))) (leads_in (memory.pinned_frame after) (new_area ∷ []) page) (leads_by_kind w.pins w.areas f k page)
+        ≡ cond ((eqb f.0 file.0 && is_hwpt_over request.ioas k) && is_some (live_area_at page (new_area ∷ [])))
+        (leads_in (memory.pinned_frame after) (new_area ∷ []) page) (leads_by_kind w.pins w.areas f k page)
     by_kind f page kind.Ioas over = rw (and_none (eqb f.0 file.0) (is_some (live_area_at page (new_area ∷ [])))) refl
-    by_kind f page (kind.Hwpt i width automatic) over = page_leads at w s tidy shows number file request iova objects after pool comes apart f i page (over i same)
+    by_kind f page (kind.Hwpt i width automatic) over =
+        page_leads at w s tidy shows number file request iova objects after pool comes apart f i page (over i same)
       where
         same : eqb i.0 i.0 ≡ true
         same = grind (arith, nat_tests)
-    by_kind f page (kind.Device device) over = rw (and_none (eqb f.0 file.0) (is_some (live_area_at page (new_area ∷ [])))) refl
+    by_kind f page (kind.Device device) over =
+        rw (and_none (eqb f.0 file.0) (is_some (live_area_at page (new_area ∷ [])))) refl
 
-    leads_alike : (h : Hwpt) → IsIn tables h → (page : ℕ) → leads_of left h.object page ≡ area_leads after new_area (leads_of w) h.object page
+    leads_alike : (h : Hwpt) → IsIn tables h → (page : ℕ)
+        → leads_of left h.object page ≡ area_leads after new_area (leads_of w) h.object page
     unfolding settle
     leads_alike h within page =
-        let there : IsIn (page_tables_among w.objects) h.object = subst (λ (os : List Object). IsIn os h.object) shows.tables.tables (in_list (λ (h : Hwpt). h.object) tables h within) in
+        let there : IsIn (page_tables_among w.objects) h.object =
+        subst (λ (os : List Object). IsIn os h.object) shows.tables.tables
+        (in_list (λ (h : Hwpt). h.object) tables h within) in
         let among = (in_filter (λ (o : Object). is_hwpt o.kind) w.objects h.object there).0 in
         let here : eqb h.object.file.0 h.object.file.0 ≡ true = grind (arith, nat_tests) in
-        by_kind h.object.file page h.object.kind (λ i over. of_any (λ (o : Object). eqb o.file.0 h.object.file.0 && is_hwpt_over i o.kind) w.objects h.object among (both_true _ _ here over))
+        by_kind h.object.file page h.object.kind
+        (λ i over. of_any (λ (o : Object). eqb o.file.0 h.object.file.0 && is_hwpt_over i o.kind) w.objects h.object
+        among (both_true _ _ here over))
 
     stand_taken : AllStand made (w.table_frames ++ in_frames missing taken) (leads_of left) tables
     stand_taken =
-        stand_alike made (w.table_frames ++ in_frames missing taken) (area_leads after new_area (leads_of w)) (leads_of left) tables leads_alike
-        (subst (λ (rows : List TableFrame). AllStand made rows (area_leads after new_area (leads_of w)) tables) rows_now mapped.stand)
+        stand_alike made (w.table_frames ++ in_frames missing taken) (area_leads after new_area (leads_of w))
+        (leads_of left) tables leads_alike
+        (subst (λ (rows : List TableFrame). AllStand made rows (area_leads after new_area (leads_of w)) tables) rows_now
+        mapped.stand)
 
     -- ---- all of it
 
     tables_now : tables_after taken [] left ≡ w.table_frames ++ in_frames missing taken
     unfolding settle
     tables_now =
-        ap (λ (rows : List TableFrame). rows ++ in_frames (missing_tables w.objects (world.with_area new_area w.areas) rows) taken) (none_given w.table_frames)
+        ap (λ (rows : List TableFrame). rows ++ in_frames
+        (missing_tables w.objects (world.with_area new_area w.areas) rows) taken) (none_given w.table_frames)
         ∙ ap (λ (l : List MissingTable). w.table_frames ++ in_frames l taken) missing_is
 
-    pub mapped_shows : (table : Table (Held A)) → ObjectsShown w.settings w.closed w.objects (world.with_area new_area w.areas) table
-        → Shows (with_tables taken [] left) (record s { objects = table; page_tables = kept; memory = after; pool = made })
+    pub mapped_shows : (table : Table (Held A))
+        → ObjectsShown w.settings w.closed w.objects (world.with_area new_area w.areas) table
+        → Shows (with_tables taken [] left) (record s {
+          objects = table;
+          page_tables = kept;
+          memory = after;
+          pool = made;
+        })
     unfolding settle with_tables
     mapped_shows table shown =
-        subst (λ (k : PageTables). Shows (with_tables taken [] left) (record s { objects = table; page_tables = k; memory = after; pool = made })) (sym kept_is)
-        (subst (λ (rows : List TableFrame). Shows (record left { table_frames = rows }) (record s { objects = table; memory = after; pool = made })) (sym tables_now) (record {
+        subst (λ (k : PageTables). Shows (with_tables taken [] left) (record s {
+          objects = table;
+          page_tables = k;
+          memory = after;
+          pool = made;
+        })) (sym kept_is)
+        (subst (λ (rows : List TableFrame). Shows (record left { table_frames = rows }) (record s {
+          objects = table;
+          memory = after;
+          pool = made;
+        })) (sym tables_now) (record {
           settings = shows.settings;
           limits = comes.settles.limits ∙ shows.limits;
           allowed = shows.allowed;
           objects = shown;
           devices = shows.devices;
           users = record {
-            pages = λ u page. shows.users.pages u page ∙ ap (λ (rows : List UserPage). frame_at rows u page) (sym comes.settles.pages);
+            pages = λ u page. shows.users.pages u page
+                ∙ ap (λ (rows : List UserPage). frame_at rows u page) (sym comes.settles.pages);
             counts = λ test. shows.users.counts test ∙ ap (count_by test) (sym comes.settles.pages);
           };
           pins = comes.pins;

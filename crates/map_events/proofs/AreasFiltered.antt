@@ -13,21 +13,28 @@ module _ (x : Area) where
   same_space = grind (arith, nat_tests)
 
   -- among those of its address space
-  pub with_area_own : (areas : List Area) → areas_of (world.with_area x areas) x.file x.ioas ≡ own.with_area x (areas_of areas x.file x.ioas)
+  pub with_area_own : (areas : List Area) → areas_of (world.with_area x areas) x.file x.ioas ≡ own.with_area x
+      (areas_of areas x.file x.ioas)
   with_area_own [] = rw same_space refl
-  with_area_own (a ∷ areas) = by_tests (is_of x.file x.ioas a) (ltb x.span.first a.span.first) refl refl (with_area_own areas)
+  with_area_own (a ∷ areas) =
+      by_tests (is_of x.file x.ioas a) (ltb x.span.first a.span.first) refl refl (with_area_own areas)
     where
-      by_tests : (b l : Bool) → is_of x.file x.ioas a ≡ b → ltb x.span.first a.span.first ≡ l → areas_of (world.with_area x areas) x.file x.ioas ≡ own.with_area x (areas_of areas x.file x.ioas)
-          → areas_of (cond (b && l) (x ∷ a ∷ areas) (a ∷ world.with_area x areas)) x.file x.ioas ≡ own.with_area x (cond b (a ∷ areas_of areas x.file x.ioas) (areas_of areas x.file x.ioas))
+      by_tests : (b l : Bool) → is_of x.file x.ioas a ≡ b → ltb x.span.first a.span.first ≡ l
+          → areas_of (world.with_area x areas) x.file x.ioas ≡ own.with_area x (areas_of areas x.file x.ioas)
+          → areas_of (cond (b && l) (x ∷ a ∷ areas) (a ∷ world.with_area x areas)) x.file x.ioas ≡ own.with_area x
+          (cond b (a ∷ areas_of areas x.file x.ioas) (areas_of areas x.file x.ioas))
       by_tests true true is before rest = rw (same_space, is, before) refl
       by_tests true false is before rest = rw (is, before, rest) refl
       by_tests false l is before rest = rw is rest
 
   -- another address space has those that it had
-  pub with_area_other : (areas : List Area) (f : FileNo) (i : ObjId) → is_of f i x ≡ false → areas_of (world.with_area x areas) f i ≡ areas_of areas f i
+  pub with_area_other : (areas : List Area) (f : FileNo) (i : ObjId) → is_of f i x ≡ false
+      → areas_of (world.with_area x areas) f i ≡ areas_of areas f i
   with_area_other [] f i other = rw other refl
-  with_area_other (a ∷ areas) f i other = by_order (is_of x.file x.ioas a && ltb x.span.first a.span.first) (with_area_other areas f i other)
+  with_area_other (a ∷ areas) f i other =
+      by_order (is_of x.file x.ioas a && ltb x.span.first a.span.first) (with_area_other areas f i other)
     where
-      by_order : (b : Bool) → areas_of (world.with_area x areas) f i ≡ areas_of areas f i → areas_of (cond b (x ∷ a ∷ areas) (a ∷ world.with_area x areas)) f i ≡ areas_of (a ∷ areas) f i
+      by_order : (b : Bool) → areas_of (world.with_area x areas) f i ≡ areas_of areas f i
+          → areas_of (cond b (x ∷ a ∷ areas) (a ∷ world.with_area x areas)) f i ≡ areas_of (a ∷ areas) f i
       by_order true rest = rw other refl
       by_order false rest = ap (λ (l : List Area). cond (is_of f i a) (a ∷ l) l) rest

@@ -1,5 +1,7 @@
 -- The search for the least address that may be chosen: it starts at 0, and goes behind what is in the way.
-use Rattle.std.proofs.Common.{◌≡◌, ℕ, ◌+◌, ◌-◌, ◌%◌, ◌<◌, ◌≤◌, Bool, true, false, ◌&&◌, ◌||◌, not, leb, Option, Some, None, find, is_none, is_some, List, [], ◌∷◌, map, MatchOption, refl, ap, sym, ◌∙◌, ⊎_elim, arith}
+use Rattle.std.proofs.Common.{◌≡◌, ℕ, ◌+◌, ◌-◌, ◌%◌, ◌<◌, ◌≤◌, Bool, true, false, ◌&&◌, ◌||◌, not, leb, Option, Some}
+use Rattle.std.proofs.Common.{None, find, is_none, is_some, List, [], ◌∷◌, map, MatchOption, refl, ap, sym, ◌∙◌, ⊎_elim}
+use Rattle.std.proofs.Common.{arith}
 use Rattle.std.specs.List.{list_any}
 use Rattle.std.proofs.lemmas.Bool.Decides.{nat_tests}
 use Rattle.std.proofs.lemmas.Bool.{cases_lt}
@@ -35,17 +37,23 @@ use Rattle.server_state.specs.Reach.{IsOneOf}
 abbrev spans_of : List Area → List Bounds
 spans_of areas = map (λ (a : Area). a.span) areas
 
-any-spans : (test : Bounds → Bool) (areas : List Area) → list_any test (spans_of areas) ≡ list_any (λ (a : Area). test a.span) areas
+any-spans : (test : Bounds → Bool) (areas : List Area)
+    → list_any test (spans_of areas) ≡ list_any (λ (a : Area). test a.span) areas
 any-spans test [] = refl
 any-spans test (a ∷ areas) = ap (λ b. test a.span || b) (any-spans test areas)
 
-pub no_area : (span : Bounds) (areas : List Area) → AreKept areas → find (λ (a : Area). leb span.first a.span.last) areas ≡ None → areas_meet span areas ≡ false
+pub no_area : (span : Bounds) (areas : List Area) → AreKept areas
+    → find (λ (a : Area). leb span.first a.span.last) areas ≡ None → areas_meet span areas ≡ false
 no_area span areas kept none = meets_none span areas kept.apart none
 
-pub area_behind : (span : Bounds) (areas : List Area) (a : Area) → AreKept areas → find (λ (a : Area). leb span.first a.span.last) areas ≡ Some a → leb a.span.first span.last ≡ false → areas_meet span areas ≡ false
+pub area_behind : (span : Bounds) (areas : List Area) (a : Area) → AreKept areas
+    → find (λ (a : Area). leb span.first a.span.last) areas ≡ Some a → leb a.span.first span.last ≡ false
+    → areas_meet span areas ≡ false
 area_behind span areas a kept found behind = meets_some span areas a kept.apart found ∙ behind
 
-pub area_met : (span : Bounds) (areas : List Area) (a : Area) → find (λ (a : Area). leb span.first a.span.last) areas ≡ Some a → leb a.span.first span.last ≡ true → IsOneOf (spans_of areas) span a.span
+pub area_met : (span : Bounds) (areas : List Area) (a : Area)
+    → find (λ (a : Area). leb span.first a.span.last) areas ≡ Some a → leb a.span.first span.last ≡ true
+    → IsOneOf (spans_of areas) span a.span
 area_met span areas a found begins =
     let place = in_found (λ (a : Area). leb span.first a.span.last) areas a found in
     record {
@@ -54,18 +62,28 @@ area_met span areas a found begins =
     }
 
 -- what can't be used, and the areas
-pub nothing_else : (unusable : List Bounds) (areas : List Area) (span : Bounds) (o : Option Bounds) → ranges.meets_some unusable span ≡ false
+pub nothing_else : (unusable : List Bounds) (areas : List Area) (span : Bounds) (o : Option Bounds)
+    → ranges.meets_some unusable span ≡ false
     → MatchOption o (areas_meet span areas ≡ false) (IsOneOf (spans_of areas) span)
     → MatchOption o (ranges.meets_some (occupied unusable areas) span ≡ false) (IsOneOf (occupied unusable areas) span)
 nothing_else unusable areas span None free clear =
     list_any-append (λ (one : Bounds). meets one span) unusable (spans_of areas)
     ∙ both_false _ _ free (any-spans (λ (one : Bounds). meets one span) areas ∙ clear)
 nothing_else unusable areas span (Some one) free is =
-    record { met = is.met; among = λ test passes. list_any-append test unusable (spans_of areas) ∙ or_right (list_any test unusable) _ (is.among test passes) }
+    record {
+      met = is.met;
+      among = λ test passes. list_any-append test unusable (spans_of areas)
+          ∙ or_right (list_any test unusable) _ (is.among test passes);
+    }
 
-pub unusable_one : (unusable : List Bounds) (areas : List Area) (span one : Bounds) → IsOneOf unusable span one → IsOneOf (occupied unusable areas) span one
+pub unusable_one : (unusable : List Bounds) (areas : List Area) (span one : Bounds) → IsOneOf unusable span one
+    → IsOneOf (occupied unusable areas) span one
 unusable_one unusable areas span one is =
-    record { met = is.met; among = λ test passes. list_any-append test unusable (spans_of areas) ∙ or_left (list_any test unusable) _ (is.among test passes) }
+    record {
+      met = is.met;
+      among = λ test passes. list_any-append test unusable (spans_of areas)
+          ∙ or_left (list_any test unusable) _ (is.among test passes);
+    }
 
 -- ---- the search
 
@@ -86,24 +104,33 @@ module _ (v : View) (file : FileNo) (request : MapRequest) where
     pub free : ranges.meets_some taken (span_from x request.length) ≡ false
 
   pub parts : (x : ℕ) → may_choose v file request x ≡ true → IsChoice x
-  parts x may = record { sum = grind (arith, nat_tests); whole = grind (arith, nat_tests); inside = grind (arith, nat_tests); free = grind (arith, nat_tests) }
+  parts x may = record {
+    sum = grind (arith, nat_tests);
+    whole = grind (arith, nat_tests);
+    inside = grind (arith, nat_tests);
+    free = grind (arith, nat_tests);
+  }
 
   -- what is taken and meets the span stands in its way
-  pub taken_in_the_way : (span one : Bounds) → 0 < request.length → span ≡ span_from span.first request.length → IsOneOf taken span one → IsInTheWay v file request span one
+  pub taken_in_the_way : (span one : Bounds) → 0 < request.length → span ≡ span_from span.first request.length
+      → IsOneOf taken span one → IsInTheWay v file request span one
   taken_in_the_way span one some from is =
       let lasts : span.last ≡ span.first + request.length - 1 = ap (λ (s : Bounds). s.last) from in
       let met = is.met in
       record {
         reaches = grind (arith, nat_tests);
         none = λ x low high. false_else (may_choose v file request x) (λ may.
-            clash _ (parts x may).free (is.among (λ (o : Bounds). meets o (span_from x request.length)) (in_the_way x lasts low high)));
+            clash _ (parts x may).free (is.among (λ (o : Bounds). meets o (span_from x request.length))
+            (in_the_way x lasts low high)));
       }
     where
-      in_the_way : (x : ℕ) → span.last ≡ span.first + request.length - 1 → span.first ≤ x → x ≤ one.last → meets one (span_from x request.length) ≡ true
+      in_the_way : (x : ℕ) → span.last ≡ span.first + request.length - 1 → span.first ≤ x → x ≤ one.last
+          → meets one (span_from x request.length) ≡ true
       in_the_way x lasts low high = let met = is.met in grind (arith, nat_tests)
 
   -- and so do addresses that aren't allowed
-  pub gap_in_the_way : (span gap : Bounds) → 0 < request.length → span ≡ span_from span.first request.length → IsGap (choices v file request) span gap → IsInTheWay v file request span gap
+  pub gap_in_the_way : (span gap : Bounds) → 0 < request.length → span ≡ span_from span.first request.length
+      → IsGap (choices v file request) span gap → IsInTheWay v file request span gap
   gap_in_the_way span gap some from is =
       let lasts : span.last ≡ span.first + request.length - 1 = ap (λ (s : Bounds). s.last) from in
       let met = is.met in
@@ -113,7 +140,8 @@ module _ (v : View) (file : FileNo) (request : MapRequest) where
             let all = covered_by-all (choices v file request) (span_from x request.length) (parts x may).inside in
             ⊎_elim
             (λ (before : x < gap.first).
-            clash _ (is.out gap.first (omega arith) is.ordered) (all gap.first (omega (arith, before)) (ends x lasts low)))
+            clash _ (is.out gap.first (omega arith) is.ordered)
+            (all gap.first (omega (arith, before)) (ends x lasts low)))
             (λ (inside : gap.first ≤ x). clash _ (is.out x inside high) (all x (omega arith) (omega (arith, some))))
             (cases_lt x gap.first));
       }
@@ -122,7 +150,8 @@ module _ (v : View) (file : FileNo) (request : MapRequest) where
       ends x lasts low = let met = is.met in grind (arith, nat_tests)
 
   -- behind what is in the way
-  pub goes_on : (start : ℕ) (one : Bounds) → IsSearched start → IsInTheWay v file request (span_from start request.length) one → IsSearched (whole_from (one.last + 1))
+  pub goes_on : (start : ℕ) (one : Bounds) → IsSearched start
+      → IsInTheWay v file request (span_from start request.length) one → IsSearched (whole_from (one.last + 1))
   goes_on start one searched is =
       record { below = below; whole = omega arith }
     where
@@ -136,7 +165,8 @@ module _ (v : View) (file : FileNo) (request : MapRequest) where
           (cases_lt x start))
 
   -- an address at which the span would end above all may not be chosen
-  pub none_above : (start : ℕ) → IsSearched start → 18446744073709551616 < start + request.length → (x : ℕ) → may_choose v file request x ≡ false
+  pub none_above : (start : ℕ) → IsSearched start → 18446744073709551616 < start + request.length → (x : ℕ)
+      → may_choose v file request x ≡ false
   none_above start searched above x =
       false_else (may_choose v file request x) (λ may.
       let told = (parts x may).sum in
@@ -148,7 +178,8 @@ module _ (v : View) (file : FileNo) (request : MapRequest) where
   pub begins : IsSearched 0
   begins = record { below = λ x under. absurd (omega (arith, under)); whole = refl }
 
-  pub found : (start : ℕ) → 0 < request.length → start + request.length ≤ 18446744073709551616 → IsSearched start → IsClear v file request (span_from start request.length) → may_choose v file request start ≡ true
+  pub found : (start : ℕ) → 0 < request.length → start + request.length ≤ 18446744073709551616 → IsSearched start
+      → IsClear v file request (span_from start request.length) → may_choose v file request start ≡ true
   found start some high searched clear =
       let inside = clear.inside in
       let free = clear.free in
@@ -157,39 +188,56 @@ module _ (v : View) (file : FileNo) (request : MapRequest) where
 
   pub is_least : (start : ℕ) → IsSearched start → (x : ℕ) → may_choose v file request x ≡ true → start ≤ x
   is_least start searched x may =
-      ⊎_elim (λ (before : x < start). absurd (clash _ (searched.below x before) may)) (λ (from : start ≤ x). from) (cases_lt x start)
+      ⊎_elim (λ (before : x < start). absurd (clash _ (searched.below x before) may))
+      (λ (from : start ≤ x). from) (cases_lt x start)
 
   -- where an address may be chosen, one of those that are tried may and isn't above it
-  pub tried_below : (start : ℕ) → may_choose v file request start ≡ true → list_any (λ s. leb s start && may_choose v file request s) (starts_to_try (choices v file request) taken) ≡ true
+  pub tried_below : (start : ℕ) → may_choose v file request start ≡ true
+      → list_any (λ s. leb s start && may_choose v file request s) (starts_to_try (choices v file request) taken) ≡ true
   tried_below start may =
       let sum = (parts start may).sum in
       let fit : fits request.length (choices v file request) taken start ≡ true = grind (arith, nat_tests) in
-      any_weaker (λ s. leb s start && fits request.length (choices v file request) taken s) (λ s. leb s start && may_choose v file request s) (starts_to_try (choices v file request) taken) (λ s is. below s sum is)
+      any_weaker (λ s. leb s start && fits request.length (choices v file request) taken s) (λ s. leb s start
+      && may_choose v file request s) (starts_to_try (choices v file request) taken) (λ s is. below s sum is)
       (start_found request.length (choices v file request) taken start fit)
     where
-      below : (s : ℕ) → is_above_sum start request.length ≡ false → (leb s start && fits request.length (choices v file request) taken s) ≡ true → (leb s start && may_choose v file request s) ≡ true
+      below : (s : ℕ) → is_above_sum start request.length ≡ false
+          → (leb s start && fits request.length (choices v file request) taken s) ≡ true
+          → (leb s start && may_choose v file request s) ≡ true
       below s sum is = grind (arith, nat_tests)
 
   pub is_there : (start : ℕ) → may_choose v file request start ≡ true → has_choice v file request ≡ true
   is_there start may =
-      any_weaker (λ s. leb s start && may_choose v file request s) (may_choose v file request) (starts_to_try (choices v file request) taken) (λ s both. (and_true (leb s start) (may_choose v file request s) both).1) (tried_below start may)
+      any_weaker (λ s. leb s start && may_choose v file request s) (may_choose v file request)
+      (starts_to_try (choices v file request) taken)
+      (λ s both. (and_true (leb s start) (may_choose v file request s) both).1) (tried_below start may)
 
   -- each step of the search goes on
-  pub rises : (start : ℕ) (one : Bounds) → IsInTheWay v file request (span_from start request.length) one → start < whole_from (one.last + 1)
+  pub rises : (start : ℕ) (one : Bounds) → IsInTheWay v file request (span_from start request.length) one
+      → start < whole_from (one.last + 1)
   rises start one is = let reaches = is.reaches in omega (arith, reaches)
 
 -- allowed and free, or behind a gap
-pub clear_or_gap : (v : View) (file : FileNo) (request : MapRequest) (span : Bounds) (o : Option Bounds) → 0 < request.length → span ≡ span_from span.first request.length → span.first ≤ span.last → ranges.meets_some (taken_spans v file request) span ≡ false
-    → MatchOption o (AllIn (choices v file request) span) (IsGap (choices v file request) span) → MatchOption o (IsClear v file request span) (IsInTheWay v file request span)
-clear_or_gap v file request span None some from ordered free all = record { inside = all-covered_by (choices v file request) span ordered all; free = free }
-clear_or_gap v file request span (Some gap) some from ordered free is = gap_in_the_way v file request span gap some from is
+pub clear_or_gap : (v : View) (file : FileNo) (request : MapRequest) (span : Bounds) (o : Option Bounds)
+    → 0 < request.length → span ≡ span_from span.first request.length → span.first ≤ span.last
+    → ranges.meets_some (taken_spans v file request) span ≡ false
+    → MatchOption o (AllIn (choices v file request) span) (IsGap (choices v file request) span)
+    → MatchOption o (IsClear v file request span) (IsInTheWay v file request span)
+clear_or_gap v file request span None some from ordered free all =
+    record { inside = all-covered_by (choices v file request) span ordered all; free = free }
+clear_or_gap v file request span (Some gap) some from ordered free is =
+    gap_in_the_way v file request span gap some from is
 
 pub fewer_left : (start next high : ℕ) → start < next → start < high → high - next < high - start
 fewer_left start next high above below = omega (arith, above, below)
 
 -- what the search tells
-pub choice_told : (v : View) (file : FileNo) (request : MapRequest) (o : Option Bounds) → MatchOption o ((x : ℕ) → may_choose v file request x ≡ false) (IsLeastSpan v file request) → is_none o ≡ not (has_choice v file request)
-choice_told v file request None fails = sym (ap not (none_of (may_choose v file request) (starts_to_try (choices v file request) (taken_spans v file request)) fails))
+pub choice_told : (v : View) (file : FileNo) (request : MapRequest) (o : Option Bounds)
+    → MatchOption o ((x : ℕ) → may_choose v file request x ≡ false) (IsLeastSpan v file request)
+    → is_none o ≡ not (has_choice v file request)
+choice_told v file request None fails = sym
+    (ap not (none_of (may_choose v file request) (starts_to_try (choices v file request) (taken_spans v file request))
+    fails))
   where
     none_of : (p : ℕ → Bool) (starts : List ℕ) → ((x : ℕ) → p x ≡ false) → list_any p starts ≡ false
     none_of p [] fails = refl
@@ -203,7 +251,8 @@ none_told (Some x) true is = cc
 none_told (Some x) false is = refl
 
 -- a place is a span of the length
-pub is_spanned : (v : View) (file : FileNo) (request : MapRequest) (span : Bounds) → IsPlace v file request span → span ≡ span_from span.first request.length
+pub is_spanned : (v : View) (file : FileNo) (request : MapRequest) (span : Bounds) → IsPlace v file request span
+    → span ≡ span_from span.first request.length
 is_spanned v file request span place = by_flag (is_fixed request.flags) place
   where
     by_flag : (fixed : Bool) → IsPlaceBy v file request fixed span → span ≡ span_from span.first request.length

@@ -1,5 +1,6 @@
 -- The world after a COPY is shown.
-use Rattle.std.proofs.Common.{◌≡◌, ℕ, ◌+◌, ◌<◌, ◌≤◌, ◌^◌, Bool, true, false, Option, Some, None, List, [], length, sym, ◌∙◌, ap, subst, arith}
+use Rattle.std.proofs.Common.{◌≡◌, ℕ, ◌+◌, ◌<◌, ◌≤◌, ◌^◌, Bool, true, false, Option, Some, None, List, [], length, sym}
+use Rattle.std.proofs.Common.{◌∙◌, ap, subst, arith}
 use Rattle.std.specs.Prelude.{if◌then◌else◌}
 use Rattle.std.proofs.lemmas.Bool.Decides.{nat_tests}
 use Rattle.area_map.specs.Areas as own
@@ -54,7 +55,9 @@ pub record IsOver (w : World) (file : FileNo) (request : CopyRequest) (number : 
   pub is : IsSource w file request source
   pub same : source.memory ≡ number
 
-pub is_over : (w : World) (file : FileNo) (request : CopyRequest) (number : ℕ) → first_true (copy_checks (view w) file request) ≡ None → number_of (source_area w file request) ≡ Some number → IsOver w file request number
+pub is_over : (w : World) (file : FileNo) (request : CopyRequest) (number : ℕ)
+    → first_true (copy_checks (view w) file request) ≡ None → number_of (source_area w file request) ≡ Some number
+    → IsOver w file request number
 is_over w file request number none named =
     let (source, found, is) = copy_source w file request none in
     let told : Some source.memory ≡ Some number = sym (ap number_of found) ∙ named in
@@ -64,14 +67,21 @@ module _ {A : Type 0} where
   -- the record of the COPY, and the world after it
   abbrev pub IsCopiedAs : ℕ → World → FileNo → CopyRequest → Iova → List FrameNo → State A → Type 0
   IsCopiedAs at w file request iova taken new =
-      MovesTables {A = A} w (changed {A = A} at w (event.Copy file request) (reply.Iova iova)) (event.Copy file request) (reply.Iova iova) taken []
+      MovesTables {A = A} w (changed {A = A} at w (event.Copy file request) (reply.Iova iova)) (event.Copy file request)
+      (reply.Iova iova) taken []
       × AreFramesChosen w (changed {A = A} at w (event.Copy file request) (reply.Iova iova)) taken []
       × Shows (with_tables taken [] (changed {A = A} at w (event.Copy file request) (reply.Iova iova))) new
 
-  module _ (at : ℕ) (w : World) (s : State A) (tidy : IsTidy at w) (shows : Shows w s) (file : FileNo) (request : CopyRequest) (iova : Iova) (number : ℕ) (after : Memory) (pool : FramePool) (pinned : Bool)
-      (none : first_true (copy_checks (view w) file request) ≡ None) (place : IsMappedAt w file (placed_as request) (is_fixed request.flags) iova) (over : IsOver w file request number)
-      (pinned_is : pinned ≡ has_hwpt (objects_in s.objects) file request.dst_ioas) (has : HasShare (if pinned then 1 else 0) number s.memory after) (settles : Settles s.memory after s.pool pool)
-      (enough : tables_to_map (seen s) file request.dst_ioas (mapped_area number file (placed_as request) iova).span ≤ free_count s.pool.holds) where
+  module _ (at : ℕ) (w : World) (s : State A) (tidy : IsTidy at w) (shows : Shows w s) (file : FileNo)
+      (request : CopyRequest) (iova : Iova) (number : ℕ) (after : Memory) (pool : FramePool) (pinned : Bool)
+      (none : first_true (copy_checks (view w) file request) ≡ None)
+      (place : IsMappedAt w file (placed_as request) (is_fixed request.flags) iova)
+      (over : IsOver w file request number)
+      (pinned_is : pinned ≡ has_hwpt (objects_in s.objects) file request.dst_ioas)
+      (has : HasShare (if pinned then 1 else 0) number s.memory after)
+      (settles : Settles s.memory after s.pool pool)
+      (enough : tables_to_map (seen s) file request.dst_ioas (mapped_area number file (placed_as request) iova).span
+      ≤ free_count s.pool.holds) where
     abbrev source : Area
     source = over.source
 
@@ -84,35 +94,65 @@ module _ {A : Type 0} where
     shared : HasShare (if pinned then 1 else 0) source.memory s.memory after
     shared = subst (λ (n : ℕ). HasShare (if pinned then 1 else 0) n s.memory after) (sym over.same) has
 
-    pub can_copy : (room : ℕ) → tables_to_map (seen s) file request.dst_ioas new_area.span ≤ room → is_whole_pages new_area.span ≡ true → meets_some (unusable_in (seen s) file request.dst_ioas) new_area.span ≡ false → iova.0 < 2 ^ 64
-        → (0 < new_area.rights.0) × (new_area.rights.0 < 4) → pinned ≡ true → CanMapArea pool s.page_tables.tables after (mapped_area number file (placed_as request) iova) room
+    pub can_copy : (room : ℕ) → tables_to_map (seen s) file request.dst_ioas new_area.span ≤ room
+        → is_whole_pages new_area.span ≡ true → meets_some (unusable_in (seen s) file request.dst_ioas)
+        new_area.span ≡ false → iova.0 < 2 ^ 64
+        → (0 < new_area.rights.0) × (new_area.rights.0 < 4) → pinned ≡ true
+        → CanMapArea pool s.page_tables.tables after (mapped_area number file (placed_as request) iova) room
     can_copy room roomy whole clear low rights translated =
-        let found = copy_found at w s tidy shows file request iova source after pool pinned next pinned_is shared settles none over.is in
-        subst (λ (n : ℕ). CanMapArea pool s.page_tables.tables after (mapped_area n file (placed_as request) iova) room) over.same
-        (may_map at w s tidy shows source.memory file (placed_as request) iova w.memory after pool (copy_comes at w s tidy shows file request iova source after pool pinned next pinned_is shared settles) enough room roomy whole clear low
-        (copy_pinned at w s tidy shows file request iova source after pool pinned next pinned_is shared settles translated)
+        let found = copy_found at w s tidy shows file request iova source after pool pinned next pinned_is
+        shared settles none over.is in
+        subst (λ (n : ℕ). CanMapArea pool s.page_tables.tables after (mapped_area n file (placed_as request) iova) room)
+        over.same
+        (may_map at w s tidy shows source.memory file (placed_as request) iova w.memory after pool
+        (copy_comes at w s tidy shows file request iova source after pool pinned next pinned_is shared settles)
+        enough room roomy whole clear low
+        (copy_pinned at w s tidy shows file request iova source after pool pinned next pinned_is
+        shared settles translated)
         found.object found.found found.size rights)
 
-    pub shows_copied : (table : Table (Held A)) (kept : PageTables) (made : FramePool) (taken : List FrameNo) → kept ≡ s.page_tables
-        → IfAllStand pool s.page_tables.tables (IsAreaMapped after (mapped_area number file (placed_as request) iova) s.page_tables.tables pool made [] taken)
+    pub shows_copied : (table : Table (Held A)) (kept : PageTables) (made : FramePool) (taken : List FrameNo)
+        → kept ≡ s.page_tables
+        → IfAllStand pool s.page_tables.tables (IsAreaMapped after (mapped_area number file (placed_as request) iova)
+        s.page_tables.tables pool made [] taken)
         → length made.bytes ≡ length made.holds
-        → (IsOrderly s.objects → HasAreas file request.dst_ioas (own.with_area (mapped_area number file (placed_as request) iova) (areas_at s.objects.rows file request.dst_ioas)) s.objects table)
-        → IsCopiedAs at w file request iova taken (record s { objects = table; page_tables = kept; memory = after; pool = made })
+        → (IsOrderly s.objects → HasAreas file request.dst_ioas
+        (own.with_area (mapped_area number file (placed_as request) iova)
+        (areas_at s.objects.rows file request.dst_ioas)) s.objects table)
+        → IsCopiedAs at w file request iova taken (record s {
+          objects = table;
+          page_tables = kept;
+          memory = after;
+          pool = made;
+        })
     unfolding changed
     shows_copied table kept made taken kept_is mapped bytes inserted =
-        let coming = copy_comes at w s tidy shows file request iova source after pool pinned next pinned_is shared settles in
+        let coming =
+        copy_comes at w s tidy shows file request iova source after pool pinned next pinned_is shared settles in
         let apart = (copy_lies_at w file request iova none place).apart in
         let back = sym over.same in
-        let is = subst (λ (n : ℕ). IfAllStand pool s.page_tables.tables (IsAreaMapped after (mapped_area n file (placed_as request) iova) s.page_tables.tables pool made [] taken)) back mapped in
-        let added = subst (λ (n : ℕ). IsOrderly s.objects → HasAreas file request.dst_ioas (own.with_area (mapped_area n file (placed_as request) iova) (areas_at s.objects.rows file request.dst_ioas)) s.objects table) back inserted in
-        let moves = moves_mapped at w s tidy shows source.memory file (placed_as request) iova w.memory after pool coming enough kept made taken kept_is is bytes apart {E = A} (event.Copy file request) (reply.Iova iova) tidy.tabled.owned in
+        let is = subst (λ (n : ℕ). IfAllStand pool s.page_tables.tables
+        (IsAreaMapped after (mapped_area n file (placed_as request) iova) s.page_tables.tables pool made
+        [] taken)) back mapped in
+        let added = subst (λ (n : ℕ). IsOrderly s.objects
+        → HasAreas file request.dst_ioas (own.with_area (mapped_area n file (placed_as request) iova)
+        (areas_at s.objects.rows file request.dst_ioas)) s.objects table) back inserted in
+        let moves = moves_mapped at w s tidy shows source.memory file (placed_as request) iova w.memory after pool
+        coming enough kept made taken kept_is is bytes apart {E = A} (event.Copy file request)
+        (reply.Iova iova) tidy.tabled.owned in
         let P = λ (o : Option Area).
         MovesTables {A = A} w (copy_changes w file request iova o) (event.Copy file request) (reply.Iova iova) taken []
         × AreFramesChosen w (copy_changes w file request iova o) taken []
-        × Shows (with_tables taken [] (copy_changes w file request iova o)) (record s { objects = table; page_tables = kept; memory = after; pool = made }) in
+        × Shows (with_tables taken [] (copy_changes w file request iova o)) (record s {
+          objects = table;
+          page_tables = kept;
+          memory = after;
+          pool = made;
+        }) in
         subst P (sym over.found) (
           moves.0,
           moves.1,
-          mapped_shows at w s tidy shows source.memory file (placed_as request) iova w.memory after pool coming enough kept made taken kept_is is bytes apart table
+          mapped_shows at w s tidy shows source.memory file (placed_as request) iova w.memory after pool coming enough
+              kept made taken kept_is is bytes apart table
               (objects_mapped w s new_area table (orderly at w s tidy shows) shows added),
         )

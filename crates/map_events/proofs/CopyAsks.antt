@@ -1,8 +1,11 @@
 -- What a COPY asks of the memory object under its source.
-use Rattle.std.proofs.Common.{◌≡◌, ℕ, Bool, true, false, ◌&&◌, ◌||◌, not, eqb, is_none, Option, Some, None, List, [], ◌∷◌, length, refl, sym, ◌∙◌, ap}
+use Rattle.std.proofs.Common.{◌≡◌, ℕ, Bool, true, false, ◌&&◌, ◌||◌, not, eqb, is_none, Option, Some, None, List, []}
+use Rattle.std.proofs.Common.{◌∷◌, length, refl, sym, ◌∙◌, ap}
 use Rattle.std.specs.List.{filter, list_any}
 use Rattle.iofd_words.specs.Areas.{has_no_room}
-use Rattle.iofd_words.specs.Checks.{copy_checks, is_outside_usable, is_source_writable, lacks_choice, lacks_copied_page, lacks_mapped_frames, newly_copied, overlaps, passes_limit, passes_limit_copied, source_of}
+use Rattle.iofd_words.specs.Checks.{copy_checks, is_outside_usable, is_source_writable, lacks_choice, lacks_copied_page}
+use Rattle.iofd_words.specs.Checks.{lacks_mapped_frames, newly_copied, overlaps, passes_limit, passes_limit_copied}
+use Rattle.iofd_words.specs.Checks.{source_of}
 use Rattle.iofd_words.specs.Copies.{is_writable, placed_as}
 use Rattle.iofd_words.specs.Files.{user_of}
 use Rattle.iofd_words.specs.FirstTrue.{first_true}
@@ -25,43 +28,65 @@ use Rattle.user_memory.specs.Memory.{lacks_page, new_pages}
 
 -- ---- by the number of the source's memory object
 
-module _ (v : View) (file : FileNo) (request : CopyRequest) (number : ℕ) (is : number_of (source_of v file request) ≡ Some number) where
-  pub newly_is : newly_copied v file request ≡ unpinned_pages v.pinned_frame (filter (λ m. eqb m.number number) v.memory)
+module _ (v : View) (file : FileNo) (request : CopyRequest) (number : ℕ)
+    (is : number_of (source_of v file request) ≡ Some number) where
+  pub newly_is : newly_copied v file request ≡ unpinned_pages v.pinned_frame
+      (filter (λ m. eqb m.number number) v.memory)
   newly_is = by_source (source_of v file request) is
     where
       by_source : (o : Option Area) → number_of o ≡ Some number
-          → elim o as (λ _. List ObjectPage) [ Some source ↦ unpinned_pages v.pinned_frame (filter (λ m. eqb m.number source.memory) v.memory) | None ↦ [] ] ≡ unpinned_pages v.pinned_frame (filter (λ m. eqb m.number number) v.memory)
+          → elim o as (λ _. List ObjectPage) [
+            | Some source ↦ unpinned_pages v.pinned_frame
+                (filter (λ m. eqb m.number source.memory) v.memory)
+            | None ↦ []
+          ] ≡ unpinned_pages v.pinned_frame (filter (λ m. eqb m.number number) v.memory)
       by_source None named = cc
-      by_source (Some source) named = let same : source.memory ≡ number = cc in ap (λ (n : ℕ). unpinned_pages v.pinned_frame (filter (λ m. eqb m.number n) v.memory)) same
+      by_source (Some source) named = let same : source.memory ≡ number =
+          cc in ap (λ (n : ℕ). unpinned_pages v.pinned_frame (filter (λ m. eqb m.number n) v.memory)) same
 
   pub writable_is : is_source_writable v file request ≡ is_writable v.memory number
   writable_is = by_source (source_of v file request) is
     where
-      by_source : (o : Option Area) → number_of o ≡ Some number → elim o as (λ _. Bool) [ Some source ↦ is_writable v.memory source.memory | None ↦ false ] ≡ is_writable v.memory number
+      by_source : (o : Option Area) → number_of o ≡ Some number
+          → elim o as (λ _. Bool) [
+            | Some source ↦ is_writable v.memory source.memory
+            | None ↦ false
+          ] ≡ is_writable v.memory number
       by_source None named = cc
       by_source (Some source) named = let same : source.memory ≡ number = cc in ap (is_writable v.memory) same
 
 -- ---- what is kept tells the same
 
-module _ {A : Type 0} (s : State A) (file : FileNo) (request : CopyRequest) (number : ℕ) (is : number_of (source_of (seen s) file request) ≡ Some number) (told : ObjectsTell s.memory.objects) (translated : has_hwpt (seen s).objects file request.dst_ioas ≡ true) where
+module _ {A : Type 0} (s : State A) (file : FileNo) (request : CopyRequest) (number : ℕ)
+    (is : number_of (source_of (seen s) file request) ≡ Some number) (told : ObjectsTell s.memory.objects)
+    (translated : has_hwpt (seen s).objects file request.dst_ioas ≡ true) where
   pub lacks_told : lacks_page s.memory number ≡ lacks_copied_page (seen s) file request
   lacks_told =
       lacks_one s.memory number told
-      ∙ ap (λ pages. list_any (λ page. is_none ((seen s).frame_now page)) pages) (sym (newly_is (seen s) file request number is))
-      ∙ ap (λ b. b && list_any (λ page. is_none ((seen s).frame_now page)) (newly_copied (seen s) file request)) (sym translated)
+      ∙ ap (λ pages. list_any (λ page. is_none ((seen s).frame_now page)) pages)
+      (sym (newly_is (seen s) file request number is))
+      ∙ ap (λ b. b && list_any (λ page. is_none ((seen s).frame_now page)) (newly_copied (seen s) file request))
+      (sym translated)
 
-  pub limit_told : passes_limit (seen s) (user_of s.config file) (new_pages s.memory number) ≡ passes_limit_copied (seen s) file request
+  pub limit_told : passes_limit (seen s) (user_of s.config file) (new_pages s.memory number)
+      ≡ passes_limit_copied (seen s) file request
   limit_told =
-      ap (passes_limit (seen s) (user_of s.config file)) (pages_of_one s.memory number told ∙ ap (λ pages. length pages) (sym (newly_is (seen s) file request number is)))
-      ∙ ap (λ b. b && passes_limit (seen s) (user_of s.config file) (length (newly_copied (seen s) file request))) (sym translated)
+      ap (passes_limit (seen s) (user_of s.config file)) (pages_of_one s.memory number told
+      ∙ ap (λ pages. length pages) (sym (newly_is (seen s) file request number is)))
+      ∙ ap (λ b. b && passes_limit (seen s) (user_of s.config file) (length (newly_copied (seen s) file request)))
+      (sym translated)
 
 -- ---- the rows of its refusals
 
 -- those behind the one of the source, where none before them holds
-pub rows_behind : (v : View) (file : FileNo) (request : CopyRequest) → v.is_open file ≡ true → (is_readable request.flags || is_writeable request.flags) ≡ true
-    → is_above_sum request.src_iova.0 request.length ≡ false → (is_fixed request.flags && is_above_sum request.dst_iova.0 request.length) ≡ false
-    → eqb request.length 0 ≡ false → (is_whole request.length && is_whole request.src_iova.0) ≡ true → (is_fixed request.flags && not (is_whole request.dst_iova.0)) ≡ false
-    → has_ioas v.objects file request.dst_ioas ≡ true → has_ioas v.objects file request.src_ioas ≡ true → is_none (source_of v file request) ≡ false
+pub rows_behind : (v : View) (file : FileNo) (request : CopyRequest) → v.is_open file ≡ true
+    → (is_readable request.flags || is_writeable request.flags) ≡ true
+    → is_above_sum request.src_iova.0 request.length ≡ false
+    → (is_fixed request.flags && is_above_sum request.dst_iova.0 request.length) ≡ false
+    → eqb request.length 0 ≡ false → (is_whole request.length && is_whole request.src_iova.0) ≡ true
+    → (is_fixed request.flags && not (is_whole request.dst_iova.0)) ≡ false
+    → has_ioas v.objects file request.dst_ioas ≡ true → has_ioas v.objects file request.src_ioas ≡ true
+    → is_none (source_of v file request) ≡ false
     → first_true (copy_checks v file request) ≡ first_true (
     (cause.Rights, is_writeable request.flags && not (is_source_writable v file request))
     ∷ (cause.Reserved, is_outside_usable v file (placed_as request))
@@ -72,4 +97,5 @@ pub rows_behind : (v : View) (file : FileNo) (request : CopyRequest) → v.is_op
     ∷ (cause.Frames, lacks_mapped_frames v file (placed_as request))
     ∷ [])
 unfolding copy_checks
-rows_behind v file request opened right source_sum sum some whole starts target source found = rw (opened, right, source_sum, sum, some, whole, starts, target, source, found) refl
+rows_behind v file request opened right source_sum sum some whole starts target source found =
+    rw (opened, right, source_sum, sum, some, whole, starts, target, source, found) refl

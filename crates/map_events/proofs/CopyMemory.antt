@@ -32,9 +32,12 @@ use Rattle.server_state.specs.declared.state.State.{State}
 use Rattle.user_memory.specs.Changes.{HasShare, Settles}
 use Rattle.user_memory.specs.Memory.{Memory, rows_of, table_pins}
 
-module _ {A : Type 0} (at : ℕ) (w : World) (s : State A) (tidy : IsTidy at w) (shows : Shows w s) (file : FileNo) (request : CopyRequest) (iova : Iova) (source : Area) (after : Memory) (pool : FramePool) (pinned : Bool)
-    (next : OwnPins (at + 1) (copy_changes w file request iova (Some source))) (pinned_is : pinned ≡ has_hwpt (objects_in s.objects) file request.dst_ioas)
-    (has : HasShare (if pinned then 1 else 0) source.memory s.memory after) (settles : Settles s.memory after s.pool pool) where
+module _ {A : Type 0} (at : ℕ) (w : World) (s : State A) (tidy : IsTidy at w) (shows : Shows w s) (file : FileNo)
+    (request : CopyRequest) (iova : Iova) (source : Area) (after : Memory) (pool : FramePool) (pinned : Bool)
+    (next : OwnPins (at + 1) (copy_changes w file request iova (Some source)))
+    (pinned_is : pinned ≡ has_hwpt (objects_in s.objects) file request.dst_ioas)
+    (has : HasShare (if pinned then 1 else 0) source.memory s.memory after)
+    (settles : Settles s.memory after s.pool pool) where
   abbrev new_area : Area
   new_area = mapped_area source.memory file (placed_as request) iova
 
@@ -42,10 +45,13 @@ module _ {A : Type 0} (at : ℕ) (w : World) (s : State A) (tidy : IsTidy at w) 
   copy_comes =
       record {
         pins =
-            shared_shown at (at + 1) w new_area pinned s.memory after s.pool pool tidy.pins next.pins shows.pins shows.users.pages
-            (pinned_is ∙ ap (λ (objects : List Object). has_hwpt objects file request.dst_ioas) (sym shows.objects.rows)) has settles;
+            shared_shown at (at + 1) w new_area pinned s.memory after s.pool pool tidy.pins next.pins
+            shows.pins shows.users.pages
+            (pinned_is ∙ ap (λ (objects : List Object). has_hwpt objects file request.dst_ioas)
+            (sym shows.objects.rows)) has settles;
         settles = settles;
-        stays = more_pinned (cond pinned 1 0) source.memory s.memory after (more_shared (cond pinned 1 0) source.memory s.memory after has) shows.pins.invariant;
+        stays = more_pinned (cond pinned 1 0) source.memory s.memory after
+            (more_shared (cond pinned 1 0) source.memory s.memory after has) shows.pins.invariant;
         grows = λ number. let pins = has.pins number in omega (arith, pins);
         same = λ a within page. ap (λ (rows : List MemoryObject). has_page rows (object_page page a)) has.rows;
       }
@@ -53,15 +59,20 @@ module _ {A : Type 0} (at : ℕ) (w : World) (s : State A) (tidy : IsTidy at w) 
   -- the object is pinned where a page table translates the new area
   pub copy_pinned : pinned ≡ true → 0 < table_pins after source.memory
   copy_pinned translated =
-      let more : table_pins after source.memory ≡ table_pins s.memory source.memory + 1 = more_pins (cond pinned 1 0) source.memory s.memory after (more_shared (cond pinned 1 0) source.memory s.memory after has) ∙ ap (λ (b : Bool). table_pins s.memory source.memory + cond b 1 0) translated in
+      let more : table_pins after source.memory ≡ table_pins s.memory source.memory + 1 =
+      more_pins (cond pinned 1 0) source.memory s.memory after
+      (more_shared (cond pinned 1 0) source.memory s.memory after has)
+      ∙ ap (λ (b : Bool). table_pins s.memory source.memory + cond b 1 0) translated in
       omega (arith, more)
 
   -- it is there, and has the size of the new area
-  pub copy_found : first_true (copy_checks (view w) file request) ≡ None → IsSource w file request source → IsFound (rows_of after) source.memory (size_of new_area.span)
+  pub copy_found : first_true (copy_checks (view w) file request) ≡ None → IsSource w file request source
+      → IsFound (rows_of after) source.memory (size_of new_area.span)
   copy_found none is =
       let under = object_under at w source is.within tidy.pins in
       record {
         object = under.object;
-        found = ap (find (λ (row : MemoryObject). eqb row.number source.memory)) (has.rows ∙ sym shows.pins.rows) ∙ under.found;
+        found = ap (find (λ (row : MemoryObject). eqb row.number source.memory)) (has.rows ∙ sym shows.pins.rows)
+            ∙ under.found;
         size = under.size ∙ copied_size w file request iova source none is;
       }

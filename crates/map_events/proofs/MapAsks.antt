@@ -1,5 +1,6 @@
 -- What a MAP that nothing refuses asks of the users' memory.
-use Rattle.std.proofs.Common.{eqb, ◌≡◌, ℕ, ◌+◌, ◌*◌, ◌≤◌, ◌/◌, Bool, true, false, ◌&&◌, not, ltb, Option, Some, None, refl, sym, ◌∙◌, ap, arith}
+use Rattle.std.proofs.Common.{eqb, ◌≡◌, ℕ, ◌+◌, ◌*◌, ◌≤◌, ◌/◌, Bool, true, false, ◌&&◌, not, ltb, Option, Some, None}
+use Rattle.std.proofs.Common.{refl, sym, ◌∙◌, ap, arith}
 use Rattle.std.specs.List.{list_all}
 use Rattle.std.proofs.Math.Nat.{div-mul-le_self}
 use Rattle.std.proofs.lemmas.Bool.Decides.{nat_tests}
@@ -23,12 +24,16 @@ use Rattle.server_state.specs.declared.state.State.{State}
 use Rattle.server_state.proofs.Limits.{room_there}
 
 module _ {A : Type 0} where
-  module _ (at : ℕ) (s : State A) (file : FileNo) (request : MapRequest) (user : UserNo) (granted : IsGrantedAt at (event.Map file request) s) (is_user_of : user_of s.config file ≡ Some user) where
+  module _ (at : ℕ) (s : State A) (file : FileNo) (request : MapRequest) (user : UserNo)
+      (granted : IsGrantedAt at (event.Map file request) s) (is_user_of : user_of s.config file ≡ Some user) where
     rows : MapPassed (seen s) file request
-    rows = map_passed (seen s) file request (same_refusal granted.world s granted.shows granted.tidy.tabled.owned {E = A} (event.Map file request) ∙ granted.none)
+    rows = map_passed (seen s) file request (same_refusal granted.world s granted.shows granted.tidy.tabled.owned
+        {E = A} (event.Map file request) ∙ granted.none)
 
     pub placed : PlacePassed (seen s) file request
-    placed = map_place (seen s) file request (same_refusal granted.world s granted.shows granted.tidy.tabled.owned {E = A} (event.Map file request) ∙ granted.none)
+    placed = map_place (seen s) file request
+        (same_refusal granted.world s granted.shows granted.tidy.tabled.owned {E = A} (event.Map file request)
+        ∙ granted.none)
 
     pub some_length : eqb request.length 0 ≡ false
     some_length = rows.some
@@ -39,20 +44,30 @@ module _ {A : Type 0} where
     pub within_user : request.user_va + request.length / 4096 * 4096 ≤ 281474976710656
     within_user =
         let less = div-mul-le_self request.length 4096 in
-        let most : request.user_va + request.length ≤ 281474976710656 = let is = rows.in_user in grind (arith, nat_tests) in
+        let most : request.user_va + request.length ≤ 281474976710656 =
+        let is = rows.in_user in grind (arith, nat_tests) in
         omega (arith, less, most)
 
     pub rising : list_all (λ (other : MemoryObject). ltb other.number at) (rows_of s.memory) ≡ true
-    rising = ap (list_all (λ (other : MemoryObject). ltb other.number at)) (sym granted.shows.pins.rows) ∙ granted.tidy.pins.made
+    rising = ap (list_all (λ (other : MemoryObject). ltb other.number at)) (sym granted.shows.pins.rows)
+        ∙ granted.tidy.pins.made
 
-    pub pages_there : (pinned : Bool) → pinned ≡ has_hwpt (objects_in s.objects) file request.ioas → pinned ≡ true → has_pages (frame_at s.memory.pages) user (page_of request.user_va) (request.length / 4096) ≡ true
-    pages_there pinned is translated = by_user (user_of s.config file) is_user_of (rest (has_hwpt (objects_in s.objects) file request.ioas) _ (sym is ∙ translated) rows.present)
+    pub pages_there : (pinned : Bool) → pinned ≡ has_hwpt (objects_in s.objects) file request.ioas → pinned ≡ true
+        → has_pages (frame_at s.memory.pages) user (page_of request.user_va) (request.length / 4096) ≡ true
+    pages_there pinned is translated = by_user (user_of s.config file) is_user_of
+        (rest (has_hwpt (objects_in s.objects) file request.ioas) _ (sym is ∙ translated) rows.present)
       where
         rest : (b c : Bool) → b ≡ true → (b && c) ≡ false → c ≡ false
         rest true c is both = both
         rest false c is both = cc
 
-        by_user : (o : Option UserNo) → o ≡ Some user → elim o [ Some u ↦ not (has_pages (frame_at s.memory.pages) u (page_of request.user_va) (request.length / 4096)) | None ↦ true ] ≡ false → has_pages (frame_at s.memory.pages) user (page_of request.user_va) (request.length / 4096) ≡ true
+        by_user : (o : Option UserNo) → o ≡ Some user
+            → elim o [
+              | Some u ↦ not (has_pages (frame_at s.memory.pages) u (page_of request.user_va)
+                  (request.length / 4096))
+              | None ↦ true
+            ] ≡ false
+            → has_pages (frame_at s.memory.pages) user (page_of request.user_va) (request.length / 4096) ≡ true
         by_user None is lacks = cc
         by_user (Some u) is lacks = let same : u ≡ user = cc in twice _ (rw same at lacks)
           where
@@ -60,10 +75,13 @@ module _ {A : Type 0} where
             twice true is = refl
             twice false is = cc
 
-    pub limit_kept : is_user s.config user ≡ true → (pinned : Bool) → pinned ≡ has_hwpt (objects_in s.objects) file request.ioas → pinned ≡ true → has_room s.memory user (request.length / 4096) ≡ true
+    pub limit_kept : is_user s.config user ≡ true → (pinned : Bool)
+        → pinned ≡ has_hwpt (objects_in s.objects) file request.ioas → pinned ≡ true
+        → has_room s.memory user (request.length / 4096) ≡ true
     limit_kept known pinned is translated =
         room_there granted.world s user (request.length / 4096) granted.shows known
-        (ap (λ (o : Option UserNo). passes_limit (seen s) o (request.length / 4096)) (sym is_user_of) ∙ rest (has_hwpt (objects_in s.objects) file request.ioas) _ (sym is ∙ translated) rows.within_limit)
+        (ap (λ (o : Option UserNo). passes_limit (seen s) o (request.length / 4096)) (sym is_user_of)
+        ∙ rest (has_hwpt (objects_in s.objects) file request.ioas) _ (sym is ∙ translated) rows.within_limit)
       where
         rest : (b c : Bool) → b ≡ true → (b && c) ≡ false → c ≡ false
         rest true c is both = both

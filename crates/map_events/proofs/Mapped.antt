@@ -41,46 +41,73 @@ use Rattle.object_table.specs.Table.{Table}
 use Rattle.map_events.proofs.AreaPlaced.{objects_mapped}
 
 -- the pins of the world with the area
-pub own_next : (at : ℕ) (w : World) (file : FileNo) (request : MapRequest) (iova : Iova) (user : UserNo) → IsTidy at w → first_true (map_checks (view w) file request) ≡ None → IsMappedAt w file request (is_fixed request.flags) iova
+pub own_next : (at : ℕ) (w : World) (file : FileNo) (request : MapRequest) (iova : Iova) (user : UserNo) → IsTidy at w
+    → first_true (map_checks (view w) file request) ≡ None → IsMappedAt w file request (is_fixed request.flags) iova
     → user_of w.settings file ≡ Some user → OwnPins (at + 1) (mapped_world at w file request iova user)
 unfolding changed Answers
 own_next at w file request iova user tidy none place known =
-    let next : OwnPins (at + 1) (map_changes at w file request iova (user_of w.settings file)) = keeps_own_pins {A = ℕ} at w (event.Map file request) (reply.Iova iova) none place (record { pins = tidy.pins; own = tidy.own }) in
+    let next : OwnPins (at + 1) (map_changes at w file request iova (user_of w.settings file)) =
+    keeps_own_pins {A = ℕ} at w (event.Map file request) (reply.Iova iova) none place
+    (record { pins = tidy.pins; own = tidy.own }) in
     subst (λ (o : Option UserNo). OwnPins (at + 1) (map_changes at w file request iova o)) known next
 
 module _ {A : Type 0} where
   -- the record of the MAP, and the world after it
   abbrev pub IsMappedAs : ℕ → World → FileNo → MapRequest → Iova → List FrameNo → State A → Type 0
   IsMappedAs at w file request iova taken new =
-      MovesTables {A = A} w (changed {A = A} at w (event.Map file request) (reply.Iova iova)) (event.Map file request) (reply.Iova iova) taken []
+      MovesTables {A = A} w (changed {A = A} at w (event.Map file request) (reply.Iova iova)) (event.Map file request)
+      (reply.Iova iova) taken []
       × AreFramesChosen w (changed {A = A} at w (event.Map file request) (reply.Iova iova)) taken []
       × Shows (with_tables taken [] (changed {A = A} at w (event.Map file request) (reply.Iova iova))) new
 
-  module _ (at : ℕ) (w : World) (s : State A) (tidy : IsTidy at w) (shows : Shows w s) (file : FileNo) (request : MapRequest) (iova : Iova) (user : UserNo) (table : Table (Held A)) (after : Memory) (pool : FramePool) (pinned : Bool)
-      (none : first_true (map_checks (view w) file request) ≡ None) (place : IsMappedAt w file request (is_fixed request.flags) iova) (is_user : user_of s.config file ≡ Some user)
-      (pinned_is : pinned ≡ has_hwpt (objects_in s.objects) file request.ioas) (has : HasObject (if pinned then 1 else 0) (object at w file request iova user) s.memory after) (settles : Settles s.memory after s.pool pool)
-      (enough : tables_to_map (seen s) file request.ioas (area at w file request iova user).span ≤ free_count s.pool.holds) where
+  module _ (at : ℕ) (w : World) (s : State A) (tidy : IsTidy at w) (shows : Shows w s) (file : FileNo)
+      (request : MapRequest) (iova : Iova) (user : UserNo) (table : Table (Held A)) (after : Memory)
+      (pool : FramePool) (pinned : Bool)
+      (none : first_true (map_checks (view w) file request) ≡ None)
+      (place : IsMappedAt w file request (is_fixed request.flags) iova)
+      (is_user : user_of s.config file ≡ Some user)
+      (pinned_is : pinned ≡ has_hwpt (objects_in s.objects) file request.ioas)
+      (has : HasObject (if pinned then 1 else 0) (object at w file request iova user) s.memory after)
+      (settles : Settles s.memory after s.pool pool)
+      (enough : tables_to_map (seen s) file request.ioas (area at w file request iova user).span
+      ≤ free_count s.pool.holds) where
     pub known : user_of w.settings file ≡ Some user
     known = rw shows.settings is_user
 
-    pub shows_mapped : (kept : PageTables) (made : FramePool) (taken : List FrameNo) → kept ≡ s.page_tables → IfAllStand pool s.page_tables.tables (IsAreaMapped after (area at w file request iova user) s.page_tables.tables pool made [] taken)
+    pub shows_mapped : (kept : PageTables) (made : FramePool) (taken : List FrameNo) → kept ≡ s.page_tables
+        → IfAllStand pool s.page_tables.tables (IsAreaMapped after (area at w file request iova user)
+        s.page_tables.tables pool made [] taken)
         → length made.bytes ≡ length made.holds
-        → (IsOrderly s.objects → HasAreas file request.ioas (own.with_area (area at w file request iova user) (areas_at s.objects.rows file request.ioas)) s.objects table)
-        → IsMappedAs at w file request iova taken (record s { objects = table; page_tables = kept; memory = after; pool = made })
+        → (IsOrderly s.objects → HasAreas file request.ioas
+        (own.with_area (area at w file request iova user) (areas_at s.objects.rows file request.ioas)) s.objects
+        table)
+        → IsMappedAs at w file request iova taken (record s {
+          objects = table;
+          page_tables = kept;
+          memory = after;
+          pool = made;
+        })
     unfolding changed
     shows_mapped kept made taken kept_is is bytes inserted =
         let next = own_next at w file request iova user tidy none place known in
         let apart = (lies_at w file request iova none place).apart in
         let coming = map_comes at w s tidy shows file request iova user after pool pinned next pinned_is has settles in
         let objects = w.memory ++ object at w file request iova user ∷ [] in
-        let moves = moves_mapped at w s tidy shows at file request iova objects after pool coming enough kept made taken kept_is is bytes apart {E = A} (event.Map file request) (reply.Iova iova) tidy.tabled.owned in
+        let moves = moves_mapped at w s tidy shows at file request iova objects after pool coming enough kept made taken
+        kept_is is bytes apart {E = A} (event.Map file request) (reply.Iova iova) tidy.tabled.owned in
         let P = λ (o : Option UserNo).
         MovesTables {A = A} w (map_changes at w file request iova o) (event.Map file request) (reply.Iova iova) taken []
         × AreFramesChosen w (map_changes at w file request iova o) taken []
-        × Shows (with_tables taken [] (map_changes at w file request iova o)) (record s { objects = table; page_tables = kept; memory = after; pool = made }) in
+        × Shows (with_tables taken [] (map_changes at w file request iova o)) (record s {
+          objects = table;
+          page_tables = kept;
+          memory = after;
+          pool = made;
+        }) in
         subst P (sym known) (
           moves.0,
           moves.1,
-          mapped_shows at w s tidy shows at file request iova objects after pool coming enough kept made taken kept_is is bytes apart table
+          mapped_shows at w s tidy shows at file request iova objects after pool coming enough kept made taken
+              kept_is is bytes apart table
               (objects_mapped w s (area at w file request iova user) table (orderly at w s tidy shows) shows inserted),
         )

@@ -32,25 +32,38 @@ use Rattle.user_memory.specs.Memory.{Memory, rows_of, table_pins}
 
 -- ---- where the address space isn't translated
 
-none_over : (file : FileNo) (ioas : ObjId) (tables : List Hwpt) → list_any (is_over file ioas) (map (λ (h : Hwpt). h.object) tables) ≡ false → hwpts_over file ioas tables ≡ []
+none_over : (file : FileNo) (ioas : ObjId) (tables : List Hwpt)
+    → list_any (is_over file ioas) (map (λ (h : Hwpt). h.object) tables) ≡ false → hwpts_over file ioas tables ≡ []
 none_over file ioas [] none = refl
 none_over file ioas (h ∷ tables) none =
-    let parts = or_false (is_over file ioas h.object) (list_any (is_over file ioas) (map (λ (x : Hwpt). x.object) tables)) none in
+    let parts = or_false (is_over file ioas h.object)
+    (list_any (is_over file ioas) (map (λ (x : Hwpt). x.object) tables)) none in
     rw parts.0 (none_over file ioas tables parts.1)
 
-pub no_table_over : {A : Type 0} (s : State A) (file : FileNo) (ioas : ObjId) → IsKnown s → has_hwpt (objects_in s.objects) file ioas ≡ false → hwpts_over file ioas s.page_tables.tables ≡ []
+pub no_table_over : {A : Type 0} (s : State A) (file : FileNo) (ioas : ObjId) → IsKnown s
+    → has_hwpt (objects_in s.objects) file ioas ≡ false → hwpts_over file ioas s.page_tables.tables ≡ []
 no_table_over s file ioas known none =
-    none_over file ioas s.page_tables.tables (has_hwpt_kept (map (λ (h : Hwpt). h.object) s.page_tables.tables) (objects_in s.objects) (tables_known s known) file ioas ∙ none)
+    none_over file ioas s.page_tables.tables
+    (has_hwpt_kept (map (λ (h : Hwpt). h.object) s.page_tables.tables) (objects_in s.objects)
+    (tables_known s known) file ioas ∙ none)
 
 -- ---- where it is
 
-module _ {A : Type 0} (at : ℕ) (w : World) (s : State A) (tidy : IsTidy at w) (shows : Shows w s) (number : ℕ) (file : FileNo) (request : MapRequest) (iova : Iova) (objects : List MemoryObject) (after : Memory) (pool : FramePool)
-    (comes : Comes w s (mapped_area number file request iova) objects after pool) (enough : tables_to_map (seen s) file request.ioas (mapped_area number file request iova).span ≤ free_count s.pool.holds) where
+module _ {A : Type 0} (at : ℕ) (w : World) (s : State A) (tidy : IsTidy at w) (shows : Shows w s) (number : ℕ)
+    (file : FileNo) (request : MapRequest) (iova : Iova) (objects : List MemoryObject)
+    (after : Memory) (pool : FramePool)
+    (comes : Comes w s (mapped_area number file request iova) objects after pool)
+    (enough : tables_to_map (seen s) file request.ioas (mapped_area number file request iova).span
+    ≤ free_count s.pool.holds) where
   abbrev new_area : Area
   new_area = mapped_area number file request iova
 
-  pub may_map : (room : ℕ) → tables_to_map (seen s) file request.ioas new_area.span ≤ room → is_whole_pages new_area.span ≡ true → meets_some (unusable_in (seen s) file request.ioas) new_area.span ≡ false → new_area.span.first < 2 ^ 64
-      → 0 < table_pins after number → (object : MemoryObject) → find (λ (row : MemoryObject). eqb row.number number) (rows_of after) ≡ Some object → object.count * 4096 ≡ size_of new_area.span
+  pub may_map : (room : ℕ) → tables_to_map (seen s) file request.ioas new_area.span ≤ room
+      → is_whole_pages new_area.span ≡ true → meets_some (unusable_in (seen s) file request.ioas) new_area.span ≡ false
+      → new_area.span.first < 2 ^ 64
+      → 0 < table_pins after number → (object : MemoryObject)
+      → find (λ (row : MemoryObject). eqb row.number number) (rows_of after) ≡ Some object
+      → object.count * 4096 ≡ size_of new_area.span
       → (0 < new_area.rights.0) × (new_area.rights.0 < 4) → CanMapArea pool s.page_tables.tables after new_area room
   may_map room roomy whole clear low pins object found size rights =
       let told = needed_told at w s new_area tidy shows in
@@ -62,7 +75,8 @@ module _ {A : Type 0} (at : ℕ) (w : World) (s : State A) (tidy : IsTidy at w) 
           free = frames_there at w s tidy shows number file request iova objects after pool comes enough;
           enough = omega (arith, told, roomy);
         };
-        span = known_span s (record { at = at; world = w; tidy = tidy; shows = shows }) file request.ioas new_area.span whole clear low;
+        span = known_span s (record { at = at; world = w; tidy = tidy; shows = shows }) file request.ioas
+            new_area.span whole clear low;
         whole = whole;
         live = refl;
         pins = pins;

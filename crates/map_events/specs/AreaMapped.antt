@@ -1,5 +1,6 @@
 -- Pages of an area that is mapped in the page tables over its address space.
-use Rattle.std.specs.Prelude.{ℕ, ◌≡◌, ◌<◌, ◌*◌, ◌==◌, ◌&&◌, ◌++◌, true, Option, Some, is_some, List, [], ◌∷◌, find, if◌then◌else◌}
+use Rattle.std.specs.Prelude.{ℕ, ◌≡◌, ◌<◌, ◌*◌, ◌==◌, ◌&&◌, ◌++◌, true, Option, Some, is_some, List, [], ◌∷◌, find}
+use Rattle.std.specs.Prelude.{if◌then◌else◌}
 use Rattle.frame_memory.specs.Pool.{FramePool}
 use Rattle.hwpt_device.specs.OverSpans.{CanMap, HaveSpan, frames_for, is_over, tables_missing, with_missing}
 use Rattle.hwpt_device.specs.PageTables.{AllStand, Hwpt, KeepsOthers}

@@ -40,7 +40,8 @@ IsPlace v file request span = IsPlaceBy v file request (is_fixed request.flags) 
 -- there is no such span
 abbrev pub HasNoPlaceBy : View → FileNo → MapRequest → Bool → Type 0
 HasNoPlaceBy v file request true = is_above_sum request.iova.0 request.length ≡ true
-HasNoPlaceBy v file request false = has_ioas v.objects file request.ioas ≡ true → (x : ℕ) → may_choose v file request x ≡ false
+HasNoPlaceBy v file request false =
+    has_ioas v.objects file request.ioas ≡ true → (x : ℕ) → may_choose v file request x ≡ false
 
 abbrev pub HasNoPlace : View → FileNo → MapRequest → Type 0
 HasNoPlace v file request = HasNoPlaceBy v file request (is_fixed request.flags)

@@ -3,7 +3,9 @@
 ghost use Rattle.std.specs.Prelude.{ℕ, ◌≡◌, ◌==◌, ◌&&◌, ◌||◌, not, true, false, IfOk, OnErr, Option, Some, [], ◌∷◌};
 ghost use Rattle.std.specs.Option.{option_copied};
 ghost use Rattle.iofd_words.specs.Areas.{has_no_room};
-ghost use Rattle.iofd_words.specs.Checks.{copy_checks, is_outside_usable, is_source_writable, lacks_choice, lacks_copied_page, lacks_mapped_frames, overlaps, passes_limit_copied, source_of};
+ghost use Rattle.iofd_words.specs.Checks.{copy_checks, is_outside_usable, is_source_writable, lacks_choice};
+ghost use Rattle.iofd_words.specs.Checks.{lacks_copied_page, lacks_mapped_frames, overlaps, passes_limit_copied};
+ghost use Rattle.iofd_words.specs.Checks.{source_of};
 ghost use Rattle.iofd_words.specs.Copies.{placed_as, source_in};
 ghost use Rattle.iofd_words.specs.FirstTrue.{first_true};
 ghost use Rattle.iofd_words.specs.Objects.{has_ioas};
@@ -62,9 +64,9 @@ pub fn refusal<A: Allocator>(state: &State<A>, file: FileNo, request: CopyReques
 }
 
 /// What it does where nothing refuses it: another area comes over the memory object of the source area. Where page
-/// tables translate it the object's pages are pinned, those that aren't yet, and mapped in each of them: the tables that
-/// they lack are in the least free frames, which are named in `taken`, empty before. An address that isn't fixed is the
-/// least that may be chosen.
+/// tables translate it the object's pages are pinned, those that aren't yet, and mapped in each of them: the tables
+/// that they lack are in the least free frames, which are named in `taken`, empty before. An address that isn't fixed
+/// is the least that may be chosen.
 ///
 /// The only error is want of memory. It leaves the world as it was.
 pub fn commit<A: Allocator + Copy>(

@@ -3,7 +3,8 @@
 ghost use Rattle.std.specs.Prelude.{◌≡◌, ◌==◌, ◌&&◌, ◌||◌, not, true, false, IfOk, OnErr, Option, [], ◌∷◌};
 ghost use Rattle.iofd_words.specs.After.{memory_object};
 ghost use Rattle.iofd_words.specs.Areas.{areas_meet, has_no_room};
-ghost use Rattle.iofd_words.specs.Checks.{is_outside_usable, lacks_choice, lacks_mapped_frames, lacks_mapped_page, map_checks, mapped_span, passes_limit_mapped};
+ghost use Rattle.iofd_words.specs.Checks.{is_outside_usable, lacks_choice, lacks_mapped_frames, lacks_mapped_page};
+ghost use Rattle.iofd_words.specs.Checks.{map_checks, mapped_span, passes_limit_mapped};
 ghost use Rattle.iofd_words.specs.FirstTrue.{first_true};
 ghost use Rattle.iofd_words.specs.Objects.{has_ioas};
 ghost use Rattle.iofd_words.specs.Pages.{is_above_sum, is_above_user, is_whole};

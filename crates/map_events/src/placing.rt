@@ -3,7 +3,8 @@
 ghost use Rattle.std.specs.Prelude.{◌≡◌, ◌==◌, ◌&&◌, ◌||◌, not, true, false, MatchOption};
 ghost use Rattle.iofd_words.specs.After.{mapped_area};
 ghost use Rattle.iofd_words.specs.Areas.{areas_meet};
-ghost use Rattle.iofd_words.specs.Checks.{is_outside_usable, lacks_choice, lacks_mapped_frames, mapped_span, unusable_in};
+ghost use Rattle.iofd_words.specs.Checks.{is_outside_usable, lacks_choice, lacks_mapped_frames, mapped_span};
+ghost use Rattle.iofd_words.specs.Checks.{unusable_in};
 ghost use Rattle.iofd_words.specs.Objects.{has_ioas};
 ghost use Rattle.iofd_words.specs.Pages.{is_above_sum, is_whole};
 ghost use Rattle.iofd_words.specs.Ranges.{meets_some};

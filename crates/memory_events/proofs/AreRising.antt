@@ -8,14 +8,16 @@ use Rattle.iofd_words.specs.Ranges.{meets_some}
 use Rattle.memory_events.specs.Rising.{are_rising, ends_below}
 
 -- what ends below the first of them meets none
-clear_of : (range : Bounds) (ranges : List Bounds) → ends_below range ranges ≡ true → are_rising ranges ≡ true → meets_some ranges range ≡ false
+clear_of : (range : Bounds) (ranges : List Bounds) → ends_below range ranges ≡ true → are_rising ranges ≡ true
+    → meets_some ranges range ≡ false
 clear_of range [] below rising = refl
 clear_of range (next ∷ []) below rising = both_false _ _ (apart range.first range.last next.first next.last below) refl
   where
     apart : (a b c d : ℕ) → ltb b c ≡ true → (leb c b && leb a d) ≡ false
     apart a b c d below = grind (arith, nat_tests)
 clear_of range (next ∷ after ∷ ranges) below rising =
-    let parts = and_true (ltb next.first next.last && ends_below next (after ∷ ranges)) (are_rising (after ∷ ranges)) rising in
+    let parts =
+    and_true (ltb next.first next.last && ends_below next (after ∷ ranges)) (are_rising (after ∷ ranges)) rising in
     let own = and_true (ltb next.first next.last) (ends_below next (after ∷ ranges)) parts.0 in
     both_false _ _ (apart range.first range.last next.first next.last below)
     (clear_of range (after ∷ ranges) (further range.last next.first next.last after.first below own.0 own.1) parts.1)

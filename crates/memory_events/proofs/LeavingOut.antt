@@ -15,7 +15,8 @@ use Rattle.memory_events.specs.LeftOut.{LeavesOut, only}
 
 -- some of the list's objects have had their numbers taken away, and those left have still to
 pub record IsLeaving {X : Type 0} (test : ℕ → X → Bool) (all left : List X) (before now : List Bounds) : Type 0 where
-  pub numbers : (n : ℕ) → (in_spans now n && not (list_any (test n) left)) ≡ (in_spans before n && not (list_any (test n) all))
+  pub numbers : (n : ℕ) → (in_spans now n && not (list_any (test n) left)) ≡ (in_spans before n
+      && not (list_any (test n) all))
   pub merged : AreMerged before → AreMerged now
 
 module _ {X : Type 0} (test : ℕ → X → Bool) (all : List X) (before : List Bounds) where
@@ -27,13 +28,16 @@ module _ {X : Type 0} (test : ℕ → X → Bool) (all : List X) (before : List 
   step true now false left is = rw is refl
   step false now one left is = rw is refl
 
-  pub one_more_out : (x : X) (left : List X) (now next : List Bounds) → IsLeaving test all (x ∷ left) before now → LeavesOut (λ n. test n x) now next → IsLeaving test all left before next
+  pub one_more_out : (x : X) (left : List X) (now next : List Bounds) → IsLeaving test all (x ∷ left) before now
+      → LeavesOut (λ n. test n x) now next → IsLeaving test all left before next
   one_more_out x left now next leaving out = record {
-    numbers = λ n. step (in_spans now n) (in_spans next n) (test n x) (list_any (test n) left) (out.numbers n) ∙ leaving.numbers n;
+    numbers = λ n. step (in_spans now n) (in_spans next n) (test n x) (list_any (test n) left) (out.numbers n)
+        ∙ leaving.numbers n;
     merged = λ merged. out.merged (leaving.merged merged);
   }
 
-  pub all_left_out : (now : List Bounds) → IsLeaving test all [] before now → LeavesOut (λ n. list_any (test n) all) before now
+  pub all_left_out : (now : List Bounds) → IsLeaving test all [] before now
+      → LeavesOut (λ n. list_any (test n) all) before now
   all_left_out now leaving = record {
     numbers = λ n. and_true_right (in_spans now n) ∙ leaving.numbers n;
     merged = leaving.merged;
@@ -44,7 +48,8 @@ module _ {X : Type 0} (test : ℕ → X → Bool) (all : List X) (before : List 
       and_true_right false = refl
 
 -- tests that say the same leave out the same
-pub out_by_alike : {first second : ℕ → Bool} {before after : List Bounds} → ((n : ℕ) → first n ≡ second n) → LeavesOut first before after → LeavesOut second before after
+pub out_by_alike : {first second : ℕ → Bool} {before after : List Bounds} → ((n : ℕ) → first n ≡ second n)
+    → LeavesOut first before after → LeavesOut second before after
 out_by_alike {before = before} alike out = record {
   numbers = λ n. out.numbers n ∙ ap (λ b. in_spans before n && not b) (alike n);
   merged = out.merged;
@@ -52,23 +57,29 @@ out_by_alike {before = before} alike out = record {
 
 -- ---- the usable ranges
 
-both_out : (all ends keeps first then : Bool) → first ≡ (all && not ends) → then ≡ (first && not keeps) → then ≡ (all && not (ends || keeps))
+both_out : (all ends keeps first then : Bool) → first ≡ (all && not ends) → then ≡ (first && not keeps)
+    → then ≡ (all && not (ends || keeps))
 both_out true true keeps first then is_first is_then = is_then ∙ ap (λ b. b && not keeps) is_first
 both_out true false keeps first then is_first is_then = is_then ∙ ap (λ b. b && not keeps) is_first
 both_out false ends keeps first then is_first is_then = is_then ∙ ap (λ b. b && not keeps) is_first
 
 -- all addresses, without those that a page table doesn't translate, and then without those that devices keep
-pub usable_left : (v : View) (file : FileNo) (ioas : ObjId) (attachments : List Attachment) (all first then : List Bounds) → attachments ≡ v.attachments → ((n : ℕ) → in_spans all n ≡ nat_lt n (2 ^ 64)) → AreMerged all
+pub usable_left : (v : View) (file : FileNo) (ioas : ObjId) (attachments : List Attachment) (all first
+    then : List Bounds) → attachments ≡ v.attachments → ((n : ℕ) → in_spans all n ≡ nat_lt n (2 ^ 64))
+    → AreMerged all
     → LeavesOut (λ n. list_any (ends_in file ioas (only n)) v.objects) all first
     → LeavesOut (λ n. list_any (keeps_of v.settings v.objects file ioas (only n)) attachments) first then
     → AreUsableRanges v file ioas then
 usable_left v file ioas attachments all first then are is merged ends kept = record {
   merged = keeps.merged (ends.merged merged);
   set = λ n.
-      both_out (nat_lt n (2 ^ 64)) (list_any (ends_in file ioas (only n)) v.objects) (list_any (keeps_of v.settings v.objects file ioas (only n)) v.attachments) (in_spans first n) (in_spans then n)
+      both_out (nat_lt n (2 ^ 64)) (list_any (ends_in file ioas (only n)) v.objects)
+      (list_any (keeps_of v.settings v.objects file ioas (only n)) v.attachments)
+      (in_spans first n) (in_spans then n)
       (ends.numbers n ∙ ap (λ b. b && not (list_any (ends_in file ioas (only n)) v.objects)) (is n)) (keeps.numbers n)
       ∙ ap (λ b. nat_lt n (2 ^ 64) && not b) (sym (by_rows v.settings v.objects v.attachments file ioas (only n)));
 }
   where
     keeps : LeavesOut (λ n. list_any (keeps_of v.settings v.objects file ioas (only n)) v.attachments) first then
-    keeps = subst (λ (rows : List Attachment). LeavesOut (λ n. list_any (keeps_of v.settings v.objects file ioas (only n)) rows) first then) are kept
+    keeps = subst (λ (rows : List Attachment). LeavesOut
+        (λ n. list_any (keeps_of v.settings v.objects file ioas (only n)) rows) first then) are kept

@@ -1,5 +1,7 @@
 -- Pages of areas are cleared in page tables one area after the other.
-use Rattle.std.proofs.Common.{◌≡◌, ◌⊎◌, inl, inr, ℕ, ◌+◌, ◌-◌, ◌*◌, ◌/◌, ◌<◌, ◌≤◌, Bool, true, false, cond, ◌&&◌, ◌||◌, is_some, Option, Some, None, List, [], ◌∷◌, ◌++◌, append-nil, map, refl, ap, subst, sym, ◌∙◌, arith}
+use Rattle.std.proofs.Common.{◌≡◌, ◌⊎◌, inl, inr, ℕ, ◌+◌, ◌-◌, ◌*◌, ◌/◌, ◌<◌, ◌≤◌, Bool, true, false, cond, ◌&&◌, ◌||◌}
+use Rattle.std.proofs.Common.{is_some, Option, Some, None, List, [], ◌∷◌, ◌++◌, append-nil, map, refl, ap, subst, sym}
+use Rattle.std.proofs.Common.{◌∙◌, arith}
 use Rattle.std.proofs.lemmas.Bool.Decides.{nat_tests}
 use Rattle.std.proofs.lemmas.List.{append_assoc}
 use Rattle.frame_memory.specs.Pool.{FramePool}
@@ -30,18 +32,24 @@ module _ (file : FileNo) (ioas : ObjId) where
   -- ---- one area
 
   -- the pages of a live area that begins at a page are those from its first to its last one
-  pub one_cleared : (area : Area) (leads : Leads) → is_live area.phase ≡ true → begins_at_page area ≡ true → area.span.first ≤ area.span.last
-      → LeadsCleared file ioas (area.span.first / 4096) (area.span.last / 4096 - area.span.first / 4096 + 1) leads (cleared file ioas (area ∷ []) leads)
+  pub one_cleared : (area : Area) (leads : Leads) → is_live area.phase ≡ true → begins_at_page area ≡ true
+      → area.span.first ≤ area.span.last
+      → LeadsCleared file ioas (area.span.first / 4096) (area.span.last / 4096 - area.span.first / 4096 + 1) leads
+      (cleared file ioas (area ∷ []) leads)
   one_cleared area leads live whole ordered = record {
     inside = λ object page over low high. let here = within page low high in rw (over, live, here) refl;
     outside = λ object page over beside. let away = without page beside in rw (over, live, away) refl;
     others = λ object page over. rw over refl;
   }
     where
-      within : (page : ℕ) → area.span.first / 4096 ≤ page → page < area.span.first / 4096 + (area.span.last / 4096 - area.span.first / 4096 + 1) → holds area.span (page * 4096) ≡ true
+      within : (page : ℕ) → area.span.first / 4096 ≤ page
+          → page < area.span.first / 4096 + (area.span.last / 4096 - area.span.first / 4096 + 1)
+          → holds area.span (page * 4096) ≡ true
       within page low high = grind (arith, nat_tests)
 
-      without : (page : ℕ) → (page < area.span.first / 4096) ⊎ (area.span.first / 4096 + (area.span.last / 4096 - area.span.first / 4096 + 1) ≤ page) → holds area.span (page * 4096) ≡ false
+      without : (page : ℕ) → (page < area.span.first / 4096)
+          ⊎ (area.span.first / 4096 + (area.span.last / 4096 - area.span.first / 4096 + 1) ≤ page)
+          → holds area.span (page * 4096) ≡ false
       without page (inl before) = grind (arith, nat_tests)
       without page (inr after) = grind (arith, nat_tests)
 
@@ -50,34 +58,46 @@ module _ (file : FileNo) (ioas : ObjId) where
   fails_both false x y = refl
 
   -- one that isn't live has none
-  pub none_cleared : (area : Area) (leads : Leads) → is_live area.phase ≡ false → (object : Object) (page : ℕ) → cleared file ioas (area ∷ []) leads object page ≡ leads object page
+  pub none_cleared : (area : Area) (leads : Leads) → is_live area.phase ≡ false → (object : Object) (page : ℕ)
+      → cleared file ioas (area ∷ []) leads object page ≡ leads object page
   none_cleared area leads left object page = rw left (fails_both (is_over file ioas object) None (leads object page))
 
   -- nothing is, where no page table is over the address space
-  pub none_over : (areas : List Area) (pool : FramePool) (rows : List TableFrame) (leads : Leads) (tables : List Hwpt) → has_hwpt (map (λ (h : Hwpt). h.object) tables) file ioas ≡ false
+  pub none_over : (areas : List Area) (pool : FramePool) (rows : List TableFrame) (leads : Leads) (tables : List Hwpt)
+      → has_hwpt (map (λ (h : Hwpt). h.object) tables) file ioas ≡ false
       → AllStand pool rows leads tables → AllStand pool rows (cleared file ioas areas leads) tables
   none_over areas pool rows leads tables none stand =
       all_told pool rows leads (cleared file ioas areas leads) tables stand (λ h within page.
-      let over : is_over file ioas h.object ≡ false = each_not (is_over file ioas) (map (λ (h : Hwpt). h.object) tables) h.object none (in_list (λ (h : Hwpt). h.object) tables h within) in
+      let over : is_over file ioas h.object ≡ false =
+      each_not (is_over file ioas) (map (λ (h : Hwpt). h.object) tables) h.object none
+      (in_list (λ (h : Hwpt). h.object) tables h within) in
       rw over refl)
 
   -- ---- one more
 
-  some_further : (page : ℕ) (done : List Area) (a : Area) → is_some (live_area_at page (done ++ a ∷ [])) ≡ (is_some (live_area_at page done) || is_some (live_area_at page (a ∷ [])))
+  some_further : (page : ℕ) (done : List Area) (a : Area)
+      → is_some (live_area_at page (done ++ a ∷ [])) ≡ (is_some (live_area_at page done)
+      || is_some (live_area_at page (a ∷ [])))
   some_further page [] a = refl
   some_further page (d ∷ done) a = by_test (is_live d.phase && holds d.span (page * 4096)) (some_further page done a)
     where
-      by_test : (b : Bool) → is_some (live_area_at page (done ++ a ∷ [])) ≡ (is_some (live_area_at page done) || is_some (live_area_at page (a ∷ [])))
-          → is_some (cond b (Some d) (live_area_at page (done ++ a ∷ []))) ≡ (is_some (cond b (Some d) (live_area_at page done)) || is_some (live_area_at page (a ∷ [])))
+      by_test : (b : Bool) → is_some (live_area_at page (done ++ a ∷ [])) ≡ (is_some (live_area_at page done)
+          || is_some (live_area_at page (a ∷ [])))
+          → is_some (cond b (Some d) (live_area_at page (done ++ a ∷ [])))
+          ≡ (is_some (cond b (Some d) (live_area_at page done)) || is_some (live_area_at page (a ∷ [])))
       by_test true rest = refl
       by_test false rest = rest
 
-  pub cleared_further : (done : List Area) (a : Area) (leads : Leads) (object : Object) (page : ℕ) → cleared file ioas (done ++ a ∷ []) leads object page ≡ cleared file ioas (a ∷ []) (cleared file ioas done leads) object page
+  pub cleared_further : (done : List Area) (a : Area) (leads : Leads) (object : Object) (page : ℕ)
+      → cleared file ioas (done ++ a ∷ []) leads object page ≡ cleared file ioas (a ∷ [])
+      (cleared file ioas done leads) object page
   cleared_further done a leads object page =
       ap (λ (b : Bool). cond (is_over file ioas object && b) None (leads object page)) (some_further page done a)
-      ∙ by_tests (is_over file ioas object) (is_some (live_area_at page done)) (is_some (live_area_at page (a ∷ []))) (leads object page)
+      ∙ by_tests (is_over file ioas object) (is_some (live_area_at page done))
+      (is_some (live_area_at page (a ∷ []))) (leads object page)
     where
-      by_tests : (o x y : Bool) (to : Option MappedPage) → cond (o && (x || y)) None to ≡ cond (o && y) None (cond (o && x) None to)
+      by_tests : (o x y : Bool) (to : Option MappedPage)
+          → cond (o && (x || y)) None to ≡ cond (o && y) None (cond (o && x) None to)
       by_tests true true true to = refl
       by_tests true true false to = refl
       by_tests true false true to = refl
@@ -92,16 +112,19 @@ module _ (file : FileNo) (ioas : ObjId) where
     pub parts : done ++ left ≡ all
     pub same : now ≡ kept
     pub holds : pool.holds ≡ before.holds
-    pub stand : IfAllStand before kept.tables (λ rows leads. AllStand pool rows (cleared file ioas done leads) kept.tables)
+    pub stand : IfAllStand before kept.tables
+        (λ rows leads. AllStand pool rows (cleared file ioas done leads) kept.tables)
     pub others : IfAllStand before kept.tables (λ rows leads. KeepsOthers rows before pool)
 
-  pub clearing_first : (all : List Area) (kept : PageTables) (pool : FramePool) → AreClearing all all kept kept pool pool
+  pub clearing_first : (all : List Area) (kept : PageTables) (pool : FramePool)
+      → AreClearing all all kept kept pool pool
   clearing_first all kept pool = record {
     done = [];
     parts = refl;
     same = refl;
     holds = refl;
-    stand = λ rows leads stand. all_told pool rows leads (cleared file ioas [] leads) kept.tables stand (λ h within page. fails_both (is_over file ioas h.object) None (leads h.object page));
+    stand = λ rows leads stand. all_told pool rows leads (cleared file ioas [] leads) kept.tables stand
+        (λ h within page. fails_both (is_over file ioas h.object) None (leads h.object page));
     others = λ rows leads stand frame none. refl;
   }
 
@@ -109,9 +132,11 @@ module _ (file : FileNo) (ioas : ObjId) where
   in_parts [] a rest = inl refl
   in_parts (d ∷ done) a rest = inr (in_parts done a rest)
 
-  module _ (all left rest : List Area) (a : Area) (kept now : PageTables) (before pool : FramePool) (is : left ≡ a ∷ rest) (clearing : AreClearing all left kept now before pool) where
+  module _ (all left rest : List Area) (a : Area) (kept now : PageTables) (before pool : FramePool)
+      (is : left ≡ a ∷ rest) (clearing : AreClearing all left kept now before pool) where
     within : IsIn all a
-    within = subst (λ (l : List Area). IsIn l a) (ap (λ (l : List Area). clearing.done ++ l) (sym is) ∙ clearing.parts) (in_parts clearing.done a rest)
+    within = subst (λ (l : List Area). IsIn l a) (ap (λ (l : List Area). clearing.done ++ l) (sym is) ∙ clearing.parts)
+        (in_parts clearing.done a rest)
 
     -- the next one may be cleared
     pub can_clear : CanClear before kept.tables file ioas all → CanClear pool now.tables file ioas (a ∷ [])
@@ -119,9 +144,14 @@ module _ (file : FileNo) (ioas : ObjId) where
         let starts : begins_at_page a ≡ true = of_each begins_at_page all a can.starts within in
         subst (λ (t : PageTables). CanClear pool t.tables file ioas (a ∷ [])) (sym clearing.same)
         (record {
-          stand = record { frames = can.stand.frames; leads = cleared file ioas clearing.done can.stand.leads; stand = clearing.stand can.stand.frames can.stand.leads can.stand.stand };
+          stand = record {
+            frames = can.stand.frames;
+            leads = cleared file ioas clearing.done can.stand.leads;
+            stand = clearing.stand can.stand.frames can.stand.leads can.stand.stand;
+          };
           starts = both_true _ _ starts refl;
-          below = λ h there over. let apart : is_beyond h a ≡ false = each_not (is_beyond h) all a (can.below h there over) within in rw apart refl;
+          below = λ h there over. let apart : is_beyond h a ≡ false =
+              each_not (is_beyond h) all a (can.below h there over) within in rw apart refl;
         })
 
     -- and is
@@ -130,25 +160,34 @@ module _ (file : FileNo) (ioas : ObjId) where
         → IfAllStand pool now.tables (λ rows leads. KeepsOthers rows pool after)
         → AreClearing all rest kept next before after
     clearing_further next after same same_holds stand others =
-        let here : IfAllStand pool kept.tables (λ rows leads. AllStand after rows (cleared file ioas (a ∷ []) leads) kept.tables) =
-        subst (λ (t : PageTables). IfAllStand pool t.tables (λ rows leads. AllStand after rows (cleared file ioas (a ∷ []) leads) t.tables)) clearing.same stand in
+        let here : IfAllStand pool kept.tables (λ rows leads. AllStand after rows
+        (cleared file ioas (a ∷ []) leads) kept.tables) =
+        subst (λ (t : PageTables). IfAllStand pool t.tables
+        (λ rows leads. AllStand after rows (cleared file ioas (a ∷ []) leads) t.tables)) clearing.same stand in
         let kept_here : IfAllStand pool kept.tables (λ rows leads. KeepsOthers rows pool after) =
-        subst (λ (t : PageTables). IfAllStand pool t.tables (λ rows leads. KeepsOthers rows pool after)) clearing.same others in
+        subst (λ (t : PageTables). IfAllStand pool t.tables (λ rows leads. KeepsOthers rows pool after)) clearing.same
+        others in
         record {
           done = clearing.done ++ a ∷ [];
-          parts = append_assoc clearing.done (a ∷ []) rest ∙ ap (λ (l : List Area). clearing.done ++ l) (sym is) ∙ clearing.parts;
+          parts = append_assoc clearing.done (a ∷ []) rest ∙ ap (λ (l : List Area). clearing.done ++ l) (sym is)
+              ∙ clearing.parts;
           same = same ∙ clearing.same;
           holds = same_holds ∙ clearing.holds;
           stand = λ rows leads all_stand.
-              all_told after rows (cleared file ioas (a ∷ []) (cleared file ioas clearing.done leads)) (cleared file ioas (clearing.done ++ a ∷ []) leads) kept.tables
+              all_told after rows (cleared file ioas (a ∷ []) (cleared file ioas clearing.done leads))
+              (cleared file ioas (clearing.done ++ a ∷ []) leads) kept.tables
               (here rows (cleared file ioas clearing.done leads) (clearing.stand rows leads all_stand))
               (λ h there page. cleared_further clearing.done a leads h.object page);
-          others = λ rows leads all_stand frame none. kept_here rows (cleared file ioas clearing.done leads) (clearing.stand rows leads all_stand) frame none ∙ clearing.others rows leads all_stand frame none;
+          others = λ rows leads all_stand frame none. kept_here rows (cleared file ioas clearing.done leads)
+              (clearing.stand rows leads all_stand) frame none ∙ clearing.others rows leads all_stand frame none;
         }
 
   -- none is left
-  pub clearing_last : (all left : List Area) (kept now : PageTables) (before pool : FramePool) → left ≡ [] → AreClearing all left kept now before pool
+  pub clearing_last : (all left : List Area) (kept now : PageTables) (before pool : FramePool) → left ≡ []
+      → AreClearing all left kept now before pool
       → IfAllStand before kept.tables (λ rows leads. AllStand pool rows (cleared file ioas all leads) kept.tables)
   clearing_last all left kept now before pool none clearing =
-      let whole : clearing.done ≡ all = sym (append-nil clearing.done) ∙ ap (λ (l : List Area). clearing.done ++ l) (sym none) ∙ clearing.parts in
-      subst (λ (l : List Area). IfAllStand before kept.tables (λ rows leads. AllStand pool rows (cleared file ioas l leads) kept.tables)) whole clearing.stand
+      let whole : clearing.done ≡ all =
+      sym (append-nil clearing.done) ∙ ap (λ (l : List Area). clearing.done ++ l) (sym none) ∙ clearing.parts in
+      subst (λ (l : List Area). IfAllStand before kept.tables
+      (λ rows leads. AllStand pool rows (cleared file ioas l leads) kept.tables)) whole clearing.stand

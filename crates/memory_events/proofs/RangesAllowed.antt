@@ -10,7 +10,9 @@ use Rattle.server_state.specs.Shows.{Shows}
 use Rattle.server_state.specs.declared.state.State.{State}
 
 -- the rows that are kept tell for each address space what the world does
-shows_rows : {A : Type 0} (w : World) (s : State A) (allowed rows : List AllowedRanges) → Shows w s → ((f : FileNo) (i : ObjId) → allowed_of allowed f i ≡ allowed_of rows f i) → Shows (record w { allowed = allowed }) (record s { allowed = rows })
+shows_rows : {A : Type 0} (w : World) (s : State A) (allowed rows : List AllowedRanges) → Shows w s
+    → ((f : FileNo) (i : ObjId) → allowed_of allowed f i ≡ allowed_of rows f i)
+    → Shows (record w { allowed = allowed }) (record s { allowed = rows })
 shows_rows w s allowed rows shows same =
     record {
       settings = shows.settings;
@@ -24,7 +26,12 @@ shows_rows w s allowed rows shows same =
       tables = record { tables = shows.tables.tables; widths = shows.tables.widths; stand = shows.tables.stand };
     }
 
-pub shows_allowed : {A : Type 0} (w : World) (s : State A) (file : FileNo) (ioas : ObjId) (ranges : List Bounds) (rows : List AllowedRanges) → Shows w s → rows ≡ without_allowed file ioas s.allowed ++ record { file = file; ioas = ioas; spans = ranges } ∷ []
+pub shows_allowed : {A : Type 0} (w : World) (s : State A) (file : FileNo) (ioas : ObjId) (ranges : List Bounds)
+    (rows : List AllowedRanges) → Shows w s → rows ≡ without_allowed file ioas s.allowed ++ record {
+      file = file;
+      ioas = ioas;
+      spans = ranges;
+    } ∷ []
     → Shows (record w { allowed = with_allowed file ioas ranges w.allowed }) (record s { allowed = rows })
 shows_allowed w s file ioas ranges rows shows is =
     shows_rows w s (with_allowed file ioas ranges w.allowed) rows shows (λ f i.
@@ -34,7 +41,8 @@ shows_allowed w s file ioas ranges rows shows is =
     ∙ ap (λ (l : List AllowedRanges). allowed_of l f i) (sym is))
 
 -- an empty list
-pub shows_lifted : {A : Type 0} (w : World) (s : State A) (file : FileNo) (ioas : ObjId) (ranges : List Bounds) (rows : List AllowedRanges) → Shows w s → length ranges ≡ 0 → rows ≡ without_allowed file ioas s.allowed
+pub shows_lifted : {A : Type 0} (w : World) (s : State A) (file : FileNo) (ioas : ObjId) (ranges : List Bounds)
+    (rows : List AllowedRanges) → Shows w s → length ranges ≡ 0 → rows ≡ without_allowed file ioas s.allowed
     → Shows (record w { allowed = with_allowed file ioas ranges w.allowed }) (record s { allowed = rows })
 shows_lifted w s file ioas [] rows shows none is =
     shows_rows w s (with_allowed file ioas [] w.allowed) rows shows (λ f i.

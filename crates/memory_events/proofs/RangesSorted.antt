@@ -1,5 +1,6 @@
 -- Whether ranges stand apart doesn't hang on their order, and those that do rise once they are sorted.
-use Rattle.std.proofs.Common.{◌≡◌, ◌∙◌, ℕ, suc, ◌+◌, ◌≤◌, Bool, true, false, ◌&&◌, ◌||◌, not, cond, ltb, leb, List, [], ◌∷◌, refl, sym, arith}
+use Rattle.std.proofs.Common.{◌≡◌, ◌∙◌, ℕ, suc, ◌+◌, ◌≤◌, Bool, true, false, ◌&&◌, ◌||◌, not, cond, ltb, leb, List, []}
+use Rattle.std.proofs.Common.{◌∷◌, refl, sym, arith}
 use Rattle.std.proofs.lemmas.Bool.Decides.{nat_tests}
 use Rattle.std.proofs.lemmas.List.Sorted.{IsPermutation-sym, list_any-IsPermutation, sum_by-IsPermutation}
 use Rattle.std.specs.List.{count_by, list_any}
@@ -29,7 +30,8 @@ abbrev holders : ℕ → List Bounds → ℕ
 holders n ranges = count_by (λ r. holds r n) ranges
 
 -- what meets none of them has no number of theirs
-no_holder : (n : ℕ) (range : Bounds) (ranges : List Bounds) → meets_some ranges range ≡ false → holds range n ≡ true → in_spans ranges n ≡ false
+no_holder : (n : ℕ) (range : Bounds) (ranges : List Bounds) → meets_some ranges range ≡ false → holds range n ≡ true
+    → in_spans ranges n ≡ false
 no_holder n range [] clear in_it = refl
 no_holder n range (r ∷ ranges) clear in_it =
     let parts = or_false (meets r range) (meets_some ranges range) clear in
@@ -39,7 +41,8 @@ no_holder n range (r ∷ ranges) clear in_it =
     apart a b c d clear in_it = grind (arith, nat_tests)
 
 -- one range more that meets none of them
-one_more : (n : ℕ) (range : Bounds) (ranges : List Bounds) → meets_some ranges range ≡ false → holders n ranges ≤ 1 → holders n (range ∷ ranges) ≤ 1
+one_more : (n : ℕ) (range : Bounds) (ranges : List Bounds) → meets_some ranges range ≡ false → holders n ranges ≤ 1
+    → holders n (range ∷ ranges) ≤ 1
 one_more n range ranges clear few = rw (count-cons (λ r. holds r n) range ranges) (by_test (holds range n) refl)
   where
     by_test : (b : Bool) → holds range n ≡ b → cond b 1 0 + holders n ranges ≤ 1
@@ -75,11 +78,13 @@ not_bad : (a : Bool) → not a ≡ false → a ≡ true
 not_bad true is = refl
 not_bad false is = cc
 
-met_first : (range r : Bounds) (ranges : List Bounds) → ltb range.first range.last ≡ true → ltb r.first r.last ≡ true → meets r range ≡ true → BothHold range (r ∷ ranges)
+met_first : (range r : Bounds) (ranges : List Bounds) → ltb range.first range.last ≡ true → ltb r.first r.last ≡ true
+    → meets r range ≡ true → BothHold range (r ∷ ranges)
 met_first range r ranges own good met = at (leb r.first range.first) refl
   where
     at : (b : Bool) → leb r.first range.first ≡ b → BothHold range (r ∷ ranges)
-    at true low = (range.first, grind (arith, nat_tests), rw (inside r.first r.last range.first range.last low met) refl)
+    at true low =
+        (range.first, grind (arith, nat_tests), rw (inside r.first r.last range.first range.last low met) refl)
       where
         inside : (a b c d : ℕ) → leb a c ≡ true → (leb a d && leb c b) ≡ true → (leb a c && leb c b) ≡ true
         inside a b c d low met = grind (arith, nat_tests)
@@ -88,7 +93,8 @@ met_first range r ranges own good met = at (leb r.first range.first) refl
         inside : (a b : ℕ) → ltb a b ≡ true → (leb a a && leb a b) ≡ true
         inside a b good = grind (arith, nat_tests)
 
-met_at : (range : Bounds) (ranges : List Bounds) → ltb range.first range.last ≡ true → some_bad ranges ≡ false → meets_some ranges range ≡ true → BothHold range ranges
+met_at : (range : Bounds) (ranges : List Bounds) → ltb range.first range.last ≡ true → some_bad ranges ≡ false
+    → meets_some ranges range ≡ true → BothHold range ranges
 met_at range [] own good met = absurd cc
 met_at range (r ∷ ranges) own good met =
     let parts = or_false (not (ltb r.first r.last)) (some_bad ranges) good in
@@ -98,7 +104,8 @@ met_at range (r ∷ ranges) own good met =
     let both = met_at range ranges own parts.1 later in
     (both.0, both.1, or_right (holds r both.0) (in_spans ranges both.0) both.2))
 
-clear_of : (range : Bounds) (ranges : List Bounds) → ltb range.first range.last ≡ true → some_bad ranges ≡ false → ((n : ℕ) → holders n (range ∷ ranges) ≤ 1) → meets_some ranges range ≡ false
+clear_of : (range : Bounds) (ranges : List Bounds) → ltb range.first range.last ≡ true → some_bad ranges ≡ false
+    → ((n : ℕ) → holders n (range ∷ ranges) ≤ 1) → meets_some ranges range ≡ false
 clear_of range ranges own good few = alike (meets_some ranges range) false
     (λ met.
     let both = met_at range ranges own good met in
@@ -108,13 +115,15 @@ clear_of range ranges own good few = alike (meets_some ranges range) false
     (λ is. cc)
 
 -- ranges of which at most one holds a number stand apart
-ranges_by_holders : (ranges : List Bounds) → some_bad ranges ≡ false → ((n : ℕ) → holders n ranges ≤ 1) → are_ranges ranges ≡ true
+ranges_by_holders : (ranges : List Bounds) → some_bad ranges ≡ false → ((n : ℕ) → holders n ranges ≤ 1)
+    → are_ranges ranges ≡ true
 ranges_by_holders [] good few = refl
 ranges_by_holders (r ∷ ranges) good few =
     let parts = or_false (not (ltb r.first r.last)) (some_bad ranges) good in
     let own = not_bad (ltb r.first r.last) parts.0 in
     let clear = clear_of r ranges own parts.1 few in
-    let rest = ranges_by_holders ranges parts.1 (λ n. let sum = rw (count-cons (λ s. holds s n) r ranges) at (few n) in omega arith) in
+    let rest = ranges_by_holders ranges parts.1
+    (λ n. let sum = rw (count-cons (λ s. holds s n) r ranges) at (few n) in omega arith) in
     rw (own, clear, rest) refl
 
 permuted : (xs ys : List Bounds) → IsPermutation xs ys → are_ranges xs ≡ true → are_ranges ys ≡ true
@@ -124,7 +133,8 @@ permuted xs ys same good =
     (λ n. rw (sum_by-IsPermutation (λ r. cond (holds r n) 1 0) xs ys same) (one_holder n xs good))
 
 -- ranges that stand apart rise where their starts do
-starts_rise : (ranges : List Bounds) → IsNonDecreasingBy (λ r. r.first) ranges → are_ranges ranges ≡ true → are_rising ranges ≡ true
+starts_rise : (ranges : List Bounds) → IsNonDecreasingBy (λ r. r.first) ranges → are_ranges ranges ≡ true
+    → are_rising ranges ≡ true
 starts_rise [] up good = refl
 starts_rise (r ∷ []) up good =
     let parts = and_true (ltb r.first r.last && true) true good in
@@ -135,22 +145,28 @@ starts_rise (r ∷ next ∷ ranges) up good =
     let own = and_true (ltb r.first r.last) (not (meets_some (next ∷ ranges) r)) parts.0 in
     let clear = not_true (meets_some (next ∷ ranges) r) own.1 in
     let first = or_false (meets next r) (meets_some ranges r) clear in
-    let rest = starts_rise (next ∷ ranges) (λ i j d low high. up (suc i) (suc j) d (omega arith) (omega arith)) parts.1 in
+    let rest =
+    starts_rise (next ∷ ranges) (λ i j d low high. up (suc i) (suc j) d (omega arith) (omega arith)) parts.1 in
     let others = and_true (ltb next.first next.last && ends_below next ranges) (are_rising ranges) rest in
     let second = and_true (ltb next.first next.last) (ends_below next ranges) others.0 in
-    let below : ltb r.last next.first ≡ true = behind r.first r.last next.first next.last (up 0 1 r (search arith) (omega arith)) first.0 second.0 in
+    let below : ltb r.last next.first ≡ true =
+    behind r.first r.last next.first next.last (up 0 1 r (search arith) (omega arith)) first.0 second.0 in
     rw (own.0, below, rest) refl
   where
     behind : (a b c d : ℕ) → a ≤ c → (leb c b && leb a d) ≡ false → ltb c d ≡ true → ltb b c ≡ true
     behind a b c d low clear own = grind (arith, nat_tests)
 
 -- those by rising start do where they stand apart
-pub sorted_are_ranges : (ranges : List Bounds) → IsNonDecreasingBy (λ r. r.first) ranges → are_rising ranges ≡ are_ranges ranges
-sorted_are_ranges ranges up = alike (are_rising ranges) (are_ranges ranges) (rising_are_ranges ranges) (starts_rise ranges up)
+pub sorted_are_ranges : (ranges : List Bounds) → IsNonDecreasingBy (λ r. r.first) ranges
+    → are_rising ranges ≡ are_ranges ranges
+sorted_are_ranges ranges up =
+    alike (are_rising ranges) (are_ranges ranges) (rising_are_ranges ranges) (starts_rise ranges up)
 
 -- in any other order they are refused for the same reasons
-pub same_checks : (v : View) (file : FileNo) (ioas : ObjId) (xs ys : List Bounds) → IsPermutation xs ys → range_checks v file ioas ys ≡ range_checks v file ioas xs
-same_checks v file ioas xs ys same = rw (apart, sym (list_any-IsPermutation (meets_some (unusable_in v file ioas)) xs ys same)) refl
+pub same_checks : (v : View) (file : FileNo) (ioas : ObjId) (xs ys : List Bounds) → IsPermutation xs ys
+    → range_checks v file ioas ys ≡ range_checks v file ioas xs
+same_checks v file ioas xs ys same =
+    rw (apart, sym (list_any-IsPermutation (meets_some (unusable_in v file ioas)) xs ys same)) refl
   where
     apart : are_ranges ys ≡ are_ranges xs
     apart = alike (are_ranges ys) (are_ranges xs) (permuted ys xs (IsPermutation-sym xs ys same)) (permuted xs ys same)

@@ -1,10 +1,12 @@
 -- The areas that an UNMAP touches, among all areas and among those of its address space.
-use Rattle.std.proofs.Common.{◌≡◌, ℕ, ◌+◌, ◌≤◌, Bool, true, false, cond, ◌&&◌, not, eqb, length, List, [], ◌∷◌, map, refl, ap, arith}
+use Rattle.std.proofs.Common.{◌≡◌, ℕ, ◌+◌, ◌≤◌, Bool, true, false, cond, ◌&&◌, not, eqb, length, List, [], ◌∷◌, map}
+use Rattle.std.proofs.Common.{refl, ap, arith}
 use Rattle.std.specs.List.{filter, list_any}
 use Rattle.std.proofs.lemmas.Bool.Decides.{nat_tests}
 use Rattle.area_map.specs.Areas.{AreApartFrom, areas_outside, areas_within, marked}
 use Rattle.iofd_rows.proofs.Bools.{or_false}
-use Rattle.iofd_words.specs.Areas.{areas_of, is_cut, is_of, is_touched, is_waiting, leaving, owed_by, touched, unmapped_span, with_leaving, with_phase}
+use Rattle.iofd_words.specs.Areas.{areas_of, is_cut, is_of, is_touched, is_waiting, leaving, owed_by, touched}
+use Rattle.iofd_words.specs.Areas.{unmapped_span, with_leaving, with_phase}
 use Rattle.iofd_words.specs.Bounds.{Bounds}
 use Rattle.iofd_words.specs.Span.{lies_in, meets}
 use Rattle.iofd_words.specs.declared.event.UnmapRequest.{UnmapRequest}
@@ -30,78 +32,115 @@ module _ (span : Bounds) where
       let same : meets a.span span ≡ lies_in a.span span = grind (arith, nat_tests) in
       (same, alike (a.span.last + 1) areas apart.2 parts.1)
 
-  pub met_marked : (attached : List ℕ) (areas : List Area) → AreAlike areas → map (λ (a : Area). with_phase (cond (meets a.span span) (leaving attached a.phase) a.phase) a) areas ≡ map (marked span attached) areas
+  pub met_marked : (attached : List ℕ) (areas : List Area) → AreAlike areas
+      → map (λ (a : Area). with_phase (cond (meets a.span span) (leaving attached a.phase) a.phase) a) areas ≡ map
+      (marked span attached) areas
   met_marked attached [] are = refl
   met_marked attached (a ∷ areas) are = rw (are.0, met_marked attached areas are.1) refl
 
-  pub unmet_outside : (areas : List Area) → AreAlike areas → filter (λ (a : Area). not (meets a.span span)) areas ≡ areas_outside span areas
+  pub unmet_outside : (areas : List Area) → AreAlike areas
+      → filter (λ (a : Area). not (meets a.span span)) areas ≡ areas_outside span areas
   unmet_outside [] are = refl
   unmet_outside (a ∷ areas) are = rw (are.0, unmet_outside areas are.1) refl
 
-  pub met_within : (areas : List Area) → AreAlike areas → filter (λ (a : Area). meets a.span span) areas ≡ areas_within span areas
+  pub met_within : (areas : List Area) → AreAlike areas
+      → filter (λ (a : Area). meets a.span span) areas ≡ areas_within span areas
   met_within [] are = refl
   met_within (a ∷ areas) are = rw (are.0, met_within areas are.1) refl
 
 -- ---- among all areas
 
 -- an area of one address space isn't one of another
-apart : (file : FileNo) (ioas : ObjId) (f : FileNo) (i : ObjId) (a : Area) → is_space file ioas f i ≡ false → is_of f i a ≡ true → is_of file ioas a ≡ false
+apart : (file : FileNo) (ioas : ObjId) (f : FileNo) (i : ObjId) (a : Area) → is_space file ioas f i ≡ false
+    → is_of f i a ≡ true → is_of file ioas a ≡ false
 apart file ioas f i a other is = grind (arith, nat_tests)
 
 module _ (file : FileNo) (request : UnmapRequest) where
   pub waits_filtered : (attached : List ℕ) (areas : List Area) → is_waiting areas attached file request
-      ≡ list_any (λ (a : Area). not (eqb (length (owed_by attached a.phase)) 0)) (filter (λ (a : Area). meets a.span (unmapped_span request)) (areas_of areas file request.ioas))
+      ≡ list_any (λ (a : Area). not (eqb (length (owed_by attached a.phase)) 0))
+      (filter (λ (a : Area). meets a.span (unmapped_span request)) (areas_of areas file request.ioas))
   waits_filtered attached [] = refl
   waits_filtered attached (a ∷ areas) = let rest = waits_filtered attached areas in grind (arith, nat_tests)
 
-  pub leaving_own : (attached : List ℕ) (areas : List Area) → areas_of (with_leaving areas attached file request) file request.ioas
-      ≡ map (λ (a : Area). with_phase (cond (meets a.span (unmapped_span request)) (leaving attached a.phase) a.phase) a) (areas_of areas file request.ioas)
+  pub leaving_own : (attached : List ℕ) (areas : List Area)
+      → areas_of (with_leaving areas attached file request) file request.ioas
+      ≡ map (λ (a : Area). with_phase (cond (meets a.span (unmapped_span request)) (leaving attached a.phase) a.phase)
+      a) (areas_of areas file request.ioas)
   leaving_own attached [] = refl
   leaving_own attached (a ∷ areas) = by_test (is_of file request.ioas a) (leaving_own attached areas)
     where
-      by_test : (b : Bool) → areas_of (with_leaving areas attached file request) file request.ioas ≡ map (λ (a : Area). with_phase (cond (meets a.span (unmapped_span request)) (leaving attached a.phase) a.phase) a) (areas_of areas file request.ioas)
-          → cond b (with_phase (cond (b && meets a.span (unmapped_span request)) (leaving attached a.phase) a.phase) a ∷ areas_of (with_leaving areas attached file request) file request.ioas) (areas_of (with_leaving areas attached file request) file request.ioas)
-          ≡ map (λ (a : Area). with_phase (cond (meets a.span (unmapped_span request)) (leaving attached a.phase) a.phase) a) (cond b (a ∷ areas_of areas file request.ioas) (areas_of areas file request.ioas))
-      by_test true rest = ap (λ (l : List Area). with_phase (cond (meets a.span (unmapped_span request)) (leaving attached a.phase) a.phase) a ∷ l) rest
+      by_test : (b : Bool) → areas_of (with_leaving areas attached file request) file request.ioas ≡ map
+          (λ (a : Area). with_phase (cond (meets a.span (unmapped_span request)) (leaving attached a.phase) a.phase) a)
+          (areas_of areas file request.ioas)
+          → cond b (with_phase (cond (b && meets a.span (unmapped_span request)) (leaving attached a.phase) a.phase) a
+          ∷ areas_of (with_leaving areas attached file request) file request.ioas) (areas_of
+          (with_leaving areas attached file request) file request.ioas)
+          ≡ map (λ (a : Area). with_phase (cond (meets a.span (unmapped_span request)) (leaving attached a.phase)
+          a.phase) a) (cond b (a ∷ areas_of areas file request.ioas) (areas_of areas file request.ioas))
+      by_test true rest = ap (λ (l : List Area). with_phase
+          (cond (meets a.span (unmapped_span request)) (leaving attached a.phase) a.phase) a ∷ l) rest
       by_test false rest = rest
 
-  pub leaving_other : (attached : List ℕ) (areas : List Area) (f : FileNo) (i : ObjId) → is_space file request.ioas f i ≡ false → areas_of (with_leaving areas attached file request) f i ≡ areas_of areas f i
+  pub leaving_other : (attached : List ℕ) (areas : List Area) (f : FileNo) (i : ObjId)
+      → is_space file request.ioas f i ≡ false
+      → areas_of (with_leaving areas attached file request) f i ≡ areas_of areas f i
   leaving_other attached [] f i other = refl
-  leaving_other attached (a ∷ areas) f i other = by_test (is_of f i a) (λ is. apart file request.ioas f i a other is) refl (leaving_other attached areas f i other)
+  leaving_other attached (a ∷ areas) f i other =
+      by_test (is_of f i a) (λ is. apart file request.ioas f i a other is) refl (leaving_other attached areas f i other)
     where
-      by_test : (b : Bool) → (is_of f i a ≡ true → is_of file request.ioas a ≡ false) → is_of f i a ≡ b → areas_of (with_leaving areas attached file request) f i ≡ areas_of areas f i
-          → cond b (with_phase (cond (is_of file request.ioas a && meets a.span (unmapped_span request)) (leaving attached a.phase) a.phase) a ∷ areas_of (with_leaving areas attached file request) f i) (areas_of (with_leaving areas attached file request) f i)
+      by_test : (b : Bool) → (is_of f i a ≡ true → is_of file request.ioas a ≡ false) → is_of f i a ≡ b
+          → areas_of (with_leaving areas attached file request) f i ≡ areas_of areas f i
+          → cond b (with_phase (cond (is_of file request.ioas a && meets a.span (unmapped_span request))
+          (leaving attached a.phase) a.phase) a ∷ areas_of (with_leaving areas attached file request) f i)
+          (areas_of (with_leaving areas attached file request) f i)
           ≡ cond b (a ∷ areas_of areas f i) (areas_of areas f i)
       by_test true away is rest = let outside = away is in rw (outside, rest) refl
       by_test false away is rest = rest
 
-  pub left_own : (areas : List Area) → areas_of (filter (λ (a : Area). not (is_touched file request a)) areas) file request.ioas ≡ filter (λ (a : Area). not (meets a.span (unmapped_span request))) (areas_of areas file request.ioas)
+  pub left_own : (areas : List Area) → areas_of (filter (λ (a : Area). not (is_touched file request a)) areas) file
+      request.ioas ≡ filter (λ (a : Area). not (meets a.span (unmapped_span request)))
+      (areas_of areas file request.ioas)
   left_own [] = refl
-  left_own (a ∷ areas) = let rest = left_own areas in by_tests (is_of file request.ioas a) (meets a.span (unmapped_span request)) refl refl rest
+  left_own (a ∷ areas) = let rest =
+      left_own areas in by_tests (is_of file request.ioas a) (meets a.span (unmapped_span request)) refl refl rest
     where
       by_tests : (b m : Bool) → is_of file request.ioas a ≡ b → meets a.span (unmapped_span request) ≡ m
-          → areas_of (filter (λ (a : Area). not (is_touched file request a)) areas) file request.ioas ≡ filter (λ (a : Area). not (meets a.span (unmapped_span request))) (areas_of areas file request.ioas)
-          → areas_of (cond (not (b && m)) (a ∷ filter (λ (a : Area). not (is_touched file request a)) areas) (filter (λ (a : Area). not (is_touched file request a)) areas)) file request.ioas
-          ≡ filter (λ (a : Area). not (meets a.span (unmapped_span request))) (cond b (a ∷ areas_of areas file request.ioas) (areas_of areas file request.ioas))
+          → areas_of (filter (λ (a : Area). not (is_touched file request a)) areas) file request.ioas ≡ filter
+          (λ (a : Area). not (meets a.span (unmapped_span request))) (areas_of areas file request.ioas)
+          → areas_of (cond (not (b && m)) (a ∷ filter (λ (a : Area). not (is_touched file request a)) areas)
+          (filter (λ (a : Area). not (is_touched file request a)) areas)) file request.ioas
+          ≡ filter (λ (a : Area). not (meets a.span (unmapped_span request)))
+          (cond b (a ∷ areas_of areas file request.ioas) (areas_of areas file request.ioas))
       by_tests true true is met rest = rw met rest
       by_tests true false is met rest = rw (is, met, rest) refl
       by_tests false m is met rest = rw is rest
 
-  pub left_other : (areas : List Area) (f : FileNo) (i : ObjId) → is_space file request.ioas f i ≡ false → areas_of (filter (λ (a : Area). not (is_touched file request a)) areas) f i ≡ areas_of areas f i
+  pub left_other : (areas : List Area) (f : FileNo) (i : ObjId) → is_space file request.ioas f i ≡ false
+      → areas_of (filter (λ (a : Area). not (is_touched file request a)) areas) f i ≡ areas_of areas f i
   left_other [] f i other = refl
-  left_other (a ∷ areas) f i other = by_tests (is_of f i a) (is_touched file request a) refl (λ is. apart file request.ioas f i a other is) (left_other areas f i other) refl
+  left_other (a ∷ areas) f i other = by_tests (is_of f i a) (is_touched file request a) refl
+      (λ is. apart file request.ioas f i a other is) (left_other areas f i other) refl
     where
-      by_tests : (b t : Bool) → is_of f i a ≡ b → (is_of f i a ≡ true → is_of file request.ioas a ≡ false) → areas_of (filter (λ (a : Area). not (is_touched file request a)) areas) f i ≡ areas_of areas f i → is_touched file request a ≡ t
-          → areas_of (cond (not t) (a ∷ filter (λ (a : Area). not (is_touched file request a)) areas) (filter (λ (a : Area). not (is_touched file request a)) areas)) f i ≡ cond b (a ∷ areas_of areas f i) (areas_of areas f i)
+      by_tests : (b t : Bool) → is_of f i a ≡ b → (is_of f i a ≡ true → is_of file request.ioas a ≡ false)
+          → areas_of (filter (λ (a : Area). not (is_touched file request a)) areas) f i ≡ areas_of areas f i
+          → is_touched file request a ≡ t
+          → areas_of (cond (not t) (a ∷ filter (λ (a : Area). not (is_touched file request a)) areas)
+          (filter (λ (a : Area). not (is_touched file request a)) areas)) f i ≡ cond b (a
+          ∷ areas_of areas f i) (areas_of areas f i)
       by_tests b false is away rest untouched = rw (is, rest) refl
-      by_tests true true is away rest touches = let outside = away is in let none : false ≡ true = rw outside at touches in cc
+      by_tests true true is away rest touches =
+          let outside = away is in let none : false ≡ true = rw outside at touches in cc
       by_tests false true is away rest touches = rest
 
-  pub touched_own : (areas : List Area) → touched areas file request ≡ filter (λ (a : Area). meets a.span (unmapped_span request)) (areas_of areas file request.ioas)
+  pub touched_own : (areas : List Area) → touched areas file request ≡ filter
+      (λ (a : Area). meets a.span (unmapped_span request)) (areas_of areas file request.ioas)
   touched_own [] = refl
   touched_own (a ∷ areas) = by_test (is_of file request.ioas a) (touched_own areas)
     where
-      by_test : (b : Bool) → touched areas file request ≡ filter (λ (a : Area). meets a.span (unmapped_span request)) (areas_of areas file request.ioas)
-          → cond (b && meets a.span (unmapped_span request)) (a ∷ touched areas file request) (touched areas file request) ≡ filter (λ (a : Area). meets a.span (unmapped_span request)) (cond b (a ∷ areas_of areas file request.ioas) (areas_of areas file request.ioas))
+      by_test : (b : Bool) → touched areas file request ≡ filter (λ (a : Area). meets a.span (unmapped_span request))
+          (areas_of areas file request.ioas)
+          → cond (b && meets a.span (unmapped_span request)) (a ∷ touched areas file request)
+          (touched areas file request) ≡ filter (λ (a : Area). meets a.span (unmapped_span request))
+          (cond b (a ∷ areas_of areas file request.ioas) (areas_of areas file request.ioas))
       by_test true rest = rw rest refl
       by_test false rest = rest

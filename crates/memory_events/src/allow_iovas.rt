@@ -160,8 +160,8 @@ fn meets_some(others: &[IovaRange], range: IovaRange) -> bool
         .any(|one| one.start <= range.last && range.start <= one.last)
 }
 
-/// What it does where nothing refuses it: the address space allows these ranges, in place of those before; an empty list
-/// allows all addresses again.
+/// What it does where nothing refuses it: the address space allows these ranges, in place of those before; an empty
+/// list allows all addresses again.
 ///
 /// The only error is want of memory, which an empty list doesn't take. It leaves the world as it was.
 pub fn commit<A: Allocator + Copy>(
@@ -170,7 +170,8 @@ pub fn commit<A: Allocator + Copy>(
     ioas: ObjId,
     ranges: &RangeList<A>,
 ) -> Result<Reply, NoMemory>
-    ensures ok { IfOk result (λ reply. (at : ℕ) → Steps at (event.AllowIovas file ioas ranges.now) state.old reply state.new) }
+    ensures ok { IfOk result (λ reply. (at : ℕ)
+        → Steps at (event.AllowIovas file ioas ranges.now) state.old reply state.new) }
     ensures err { OnErr result (ShowsSame state.old state.new) }
     ensures memory { OnErr result (IsTrue (nat_lt 0 (length ranges.now))) }
 {

@@ -1,5 +1,5 @@
-//! Whether some of several ranges can't be used. Among ranges that rise each span that can't be used is looked up; ranges
-//! in any other order are looked up one by one among these spans.
+//! Whether some of several ranges can't be used. Among ranges that rise each span that can't be used is looked up;
+//! ranges in any other order are looked up one by one among these spans.
 
 ghost use Rattle.std.specs.Prelude.{◌≡◌, ◌<◌, ◌&&◌, true};
 ghost use Rattle.std.specs.List.{list_any};

@@ -19,8 +19,8 @@ use object_table::ObjectTable;
 use server_state::{Held, State, lookups};
 use std::alloc::Allocator;
 
-/// Why the question is refused: Id (2, ENOENT), where the file isn't open or the id is no address space of it. It takes no
-/// memory.
+/// Why the question is refused: Id (2, ENOENT), where the file isn't open or the id is no address space of it. It takes
+/// no memory.
 pub fn refusal<A: Allocator>(state: &State<A>, file: FileNo, ioas: ObjId) -> Option<Cause>
     ensures { result ≡ first_true (ranges_checks (seen state.now) file ioas) }
 {
@@ -33,9 +33,9 @@ pub fn refusal<A: Allocator>(state: &State<A>, file: FileNo, ioas: ObjId) -> Opt
     }
 }
 
-/// The usable addresses of the file's address space of this id, the allowed ones or not: those that each of its page tables
-/// translates and no device attached to it keeps for itself. One pass over the file's objects and the attachments. It
-/// fails only where memory does.
+/// The usable addresses of the file's address space of this id, the allowed ones or not: those that each of its page
+/// tables translates and no device attached to it keeps for itself. One pass over the file's objects and the
+/// attachments. It fails only where memory does.
 pub fn usable_ranges<A: Allocator + Copy>(
     state: &State<A>,
     file: FileNo,

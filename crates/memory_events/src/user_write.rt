@@ -25,8 +25,8 @@ pub fn refusal<A: Allocator>(
     user_access::refusal(state, user, va, bytes.as_slice().len())
 }
 
-/// What it does where nothing refuses it: the bytes stand in the page's frame, from the address's offset on. It takes no
-/// memory.
+/// What it does where nothing refuses it: the bytes stand in the page's frame, from the address's offset on. It takes
+/// no memory.
 pub fn commit<A: Allocator>(state: &mut State<A>, user: UserNo, va: u64, bytes: &Burst) -> Reply
     requires { IsGranted (event.UserWrite user va bytes.now) state.old }
     ensures { (at : ℕ) → Steps at (event.UserWrite user va bytes.now) state.old result state.new }

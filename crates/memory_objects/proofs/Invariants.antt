@@ -1,5 +1,6 @@
 -- What holds of all memory objects, after each call.
-use Rattle.std.proofs.Common.{◌≡◌, ◌≢◌, ℕ, ◌+◌, ◌-◌, ◌<◌, ◌≤◌, Bool, true, false, cond, eqb, ltb, leb, not, ◌&&◌, ◌||◌, Option, Some, None, List, [], ◌∷◌, ◌++◌, map, refl, sym, ◌∙◌, subst, arith, ⊎_elim}
+use Rattle.std.proofs.Common.{◌≡◌, ◌≢◌, ℕ, ◌+◌, ◌-◌, ◌<◌, ◌≤◌, Bool, true, false, cond, eqb, ltb, leb, not, ◌&&◌, ◌||◌}
+use Rattle.std.proofs.Common.{Option, Some, None, List, [], ◌∷◌, ◌++◌, map, refl, sym, ◌∙◌, subst, arith, ⊎_elim}
 use Rattle.std.specs.List.{filter, find, list_all, sum_by}
 use Rattle.std.proofs.lemmas.Bool.{and_parts, cases_Bool, cases_eq, eqb-true}
 use Rattle.std.proofs.lemmas.Bool.Decides.{nat_tests}
@@ -9,7 +10,10 @@ use Rattle.iofd_words.specs.declared.rows.MemoryObject.{MemoryObject}
 use Rattle.iofd_words.specs.declared.rows.UserPage.{UserPage}
 use Rattle.pinned_pages.specs.Holds.{times}
 use Rattle.memory_objects.specs.Invariant.{MemoryInvariant}
-use Rattle.memory_objects.specs.Objects.{MemoryEntry, MemoryGrows, all_less, all_pinned, all_unpinned, are_below, are_rising, have_areas, object_at, pinned_by, pinned_less, pinned_more, pins_on, row_of, rows_of, times_of, with_area, with_areas, with_capacity, with_pages, without_areas}
+use Rattle.memory_objects.specs.Objects.{MemoryEntry, MemoryGrows, all_less, all_pinned, all_unpinned, are_below}
+use Rattle.memory_objects.specs.Objects.{are_rising, have_areas, object_at, pinned_by, pinned_less, pinned_more}
+use Rattle.memory_objects.specs.Objects.{pins_on, row_of, rows_of, times_of, with_area, with_areas, with_capacity}
+use Rattle.memory_objects.specs.Objects.{with_pages, without_areas}
 use Rattle.pinned_pages.specs.Pages.{ObjectPages, held_frames, pinned_count}
 use Rattle.memory_objects.proofs.AreaCounts.{rising_without}
 use Rattle.pinned_pages.proofs.HoldsMove.{times_few}
@@ -29,7 +33,9 @@ no_pages_left o = not (eqb o.pages.pages.table_pins 0) || eqb (pinned_count o.pa
 abbrev has_areas : MemoryEntry → Bool
 has_areas o = leb 1 o.areas && leb o.pages.pages.table_pins o.areas
 
-all_mapped : (p q r : MemoryEntry → Bool) (G : MemoryEntry → MemoryEntry) → ((o : MemoryEntry) → p o ≡ true → r o ≡ true → q (G o) ≡ true) → (objects : List MemoryEntry) → list_all p objects ≡ true → list_all r objects ≡ true → list_all q (map G objects) ≡ true
+all_mapped : (p q r : MemoryEntry → Bool) (G : MemoryEntry → MemoryEntry)
+    → ((o : MemoryEntry) → p o ≡ true → r o ≡ true → q (G o) ≡ true) → (objects : List MemoryEntry)
+    → list_all p objects ≡ true → list_all r objects ≡ true → list_all q (map G objects) ≡ true
 all_mapped p q r G each [] one two = refl
 all_mapped p q r G each (o ∷ objects) one two =
     let a = and_parts (p o) (list_all p objects) one in
@@ -37,7 +43,10 @@ all_mapped p q r G each (o ∷ objects) one two =
     let here = each o a.0 b.0 in
     rw here (all_mapped p q r G each objects a.1 b.1)
 
-more_still : (rows : List UserPage) (more : ℕ) (pages : ObjectPages) → (not (eqb pages.table_pins 0) || eqb (pinned_count pages) 0) ≡ true → (not (eqb (pinned_more rows more pages).table_pins 0) || eqb (pinned_count (pinned_more rows more pages)) 0) ≡ true
+more_still : (rows : List UserPage) (more : ℕ) (pages : ObjectPages)
+    → (not (eqb pages.table_pins 0) || eqb (pinned_count pages) 0) ≡ true
+    → (not (eqb (pinned_more rows more pages).table_pins 0)
+    || eqb (pinned_count (pinned_more rows more pages)) 0) ≡ true
 more_still rows more pages held =
     let P : ObjectPages → Type 0 = λ p. (not (eqb p.table_pins 0) || eqb (pinned_count p) 0) ≡ true in
     ⊎_elim
@@ -45,7 +54,8 @@ more_still rows more pages held =
     (λ (some : more ≢ 0). let pins : eqb (pages.table_pins + more) 0 ≡ false = grind (arith, nat_tests) in rw pins refl)
     (cases_eq more 0)
 
-less_still : (less : ℕ) (pages : ObjectPages) → (not (eqb pages.table_pins 0) || eqb (pinned_count pages) 0) ≡ true → (not (eqb (pinned_less less pages).table_pins 0) || eqb (pinned_count (pinned_less less pages)) 0) ≡ true
+less_still : (less : ℕ) (pages : ObjectPages) → (not (eqb pages.table_pins 0) || eqb (pinned_count pages) 0) ≡ true
+    → (not (eqb (pinned_less less pages).table_pins 0) || eqb (pinned_count (pinned_less less pages)) 0) ≡ true
 less_still less pages held =
     let P : ObjectPages → Type 0 = λ p. (not (eqb p.table_pins 0) || eqb (pinned_count p) 0) ≡ true in
     ⊎_elim
@@ -53,44 +63,62 @@ less_still less pages held =
     (λ (some : less ≢ 0).
     let one : eqb less 0 ≡ false = grind (arith, nat_tests) in
     ⊎_elim
-    (λ (all : leb pages.table_pins less ≡ true). let pins : eqb (pages.table_pins - less) 0 ≡ true = grind (arith, nat_tests) in rw (one, all, pins) refl)
-    (λ (left : leb pages.table_pins less ≡ false). let pins : eqb (pages.table_pins - less) 0 ≡ false = grind (arith, nat_tests) in rw pins refl)
+    (λ (all : leb pages.table_pins less ≡ true). let pins : eqb (pages.table_pins - less) 0 ≡ true =
+    grind (arith, nat_tests) in rw (one, all, pins) refl)
+    (λ (left : leb pages.table_pins less ≡ false). let pins : eqb (pages.table_pins - less) 0 ≡ false =
+    grind (arith, nat_tests) in rw pins refl)
     (cases_Bool (leb pages.table_pins less)))
     (cases_eq less 0)
 
-pub kept_pinned : (rows : List UserPage) (numbers : List ℕ) (objects : List MemoryEntry) → MemoryInvariant objects → have_areas numbers objects ≡ true → MemoryInvariant (all_pinned rows numbers objects)
+pub kept_pinned : (rows : List UserPage) (numbers : List ℕ) (objects : List MemoryEntry) → MemoryInvariant objects
+    → have_areas numbers objects ≡ true → MemoryInvariant (all_pinned rows numbers objects)
 kept_pinned rows numbers objects kept areas =
     let G = λ (o : MemoryEntry). with_pages (pinned_more rows (times_of o.number numbers) o.pages.pages) o in
     let room = λ (o : MemoryEntry). leb (o.pages.pages.table_pins + times_of o.number numbers) o.areas in
     record {
       rising = rising_changed G (λ o. refl) objects kept.rising;
-      unpinned = all_mapped no_pages_left no_pages_left room G (λ o held fits. more_still rows (times_of o.number numbers) o.pages.pages held) objects kept.unpinned areas;
-      areas = all_mapped has_areas has_areas room G (λ o has fits. let one = and_parts (leb 1 o.areas) (leb o.pages.pages.table_pins o.areas) has in rw (one.0, fits) refl) objects kept.areas areas;
+      unpinned = all_mapped no_pages_left no_pages_left room G
+          (λ o held fits. more_still rows (times_of o.number numbers) o.pages.pages held) objects kept.unpinned areas;
+      areas = all_mapped has_areas has_areas room G
+          (λ o has fits. let one = and_parts (leb 1 o.areas) (leb o.pages.pages.table_pins o.areas) has in rw (
+            one.0,
+            fits,
+          ) refl) objects kept.areas areas;
     }
 
-pub kept_unpinned : (numbers : List ℕ) (objects : List MemoryEntry) → MemoryInvariant objects → MemoryInvariant (all_unpinned numbers objects)
+pub kept_unpinned : (numbers : List ℕ) (objects : List MemoryEntry) → MemoryInvariant objects
+    → MemoryInvariant (all_unpinned numbers objects)
 kept_unpinned numbers objects kept =
     let G = λ (o : MemoryEntry). with_pages (pinned_less (times_of o.number numbers) o.pages.pages) o in
     record {
       rising = rising_changed G (λ o. refl) objects kept.rising;
-      unpinned = all_mapped no_pages_left no_pages_left no_pages_left G (λ o held same. less_still (times_of o.number numbers) o.pages.pages held) objects kept.unpinned kept.unpinned;
-      areas = all_mapped has_areas has_areas has_areas G (λ o has same. fewer (leb 1 o.areas) o.pages.pages.table_pins (times_of o.number numbers) o.areas has) objects kept.areas kept.areas;
+      unpinned = all_mapped no_pages_left no_pages_left no_pages_left G
+          (λ o held same. less_still (times_of o.number numbers) o.pages.pages held) objects
+          kept.unpinned kept.unpinned;
+      areas = all_mapped has_areas has_areas has_areas G
+          (λ o has same. fewer (leb 1 o.areas) o.pages.pages.table_pins (times_of o.number numbers) o.areas has)
+          objects kept.areas kept.areas;
     }
   where
     fewer : (b : Bool) (pins less areas : ℕ) → (b && leb pins areas) ≡ true → (b && leb (pins - less) areas) ≡ true
     fewer true pins less areas has = grind (arith, nat_tests)
     fewer false pins less areas has = has
 
-pub kept_with_area : (number : ℕ) (objects : List MemoryEntry) → MemoryInvariant objects → MemoryInvariant (with_area number objects)
+pub kept_with_area : (number : ℕ) (objects : List MemoryEntry) → MemoryInvariant objects
+    → MemoryInvariant (with_area number objects)
 kept_with_area number objects kept =
     let G = λ (o : MemoryEntry). with_areas (o.areas + cond (eqb o.number number) 1 0) o in
     record {
       rising = rising_changed G (λ o. refl) objects kept.rising;
-      unpinned = all_mapped no_pages_left no_pages_left no_pages_left G (λ o held same. held) objects kept.unpinned kept.unpinned;
-      areas = all_mapped has_areas has_areas has_areas G (λ o has same. more o.pages.pages.table_pins o.areas (cond (eqb o.number number) 1 0) has) objects kept.areas kept.areas;
+      unpinned = all_mapped no_pages_left no_pages_left no_pages_left G (λ o held same. held) objects
+          kept.unpinned kept.unpinned;
+      areas = all_mapped has_areas has_areas has_areas G
+          (λ o has same. more o.pages.pages.table_pins o.areas (cond (eqb o.number number) 1 0) has)
+          objects kept.areas kept.areas;
     }
   where
-    more : (pins areas k : ℕ) → (leb 1 areas && leb pins areas) ≡ true → (leb 1 (areas + k) && leb pins (areas + k)) ≡ true
+    more : (pins areas k : ℕ) → (leb 1 areas && leb pins areas) ≡ true
+        → (leb 1 (areas + k) && leb pins (areas + k)) ≡ true
     more pins areas k has =
         let parts = and_parts (leb 1 areas) (leb pins areas) has in
         let one : leb 1 (areas + k) ≡ true = grind (arith, nat_tests) in
@@ -102,18 +130,22 @@ kept_grown old new grows kept =
     let G = λ (o : MemoryEntry). with_capacity (grows.capacity o) o in
     rw grows.objects (record {
       rising = rising_changed G (λ o. refl) old kept.rising;
-      unpinned = all_mapped no_pages_left no_pages_left no_pages_left G (λ o held same. held) old kept.unpinned kept.unpinned;
+      unpinned =
+          all_mapped no_pages_left no_pages_left no_pages_left G (λ o held same. held) old kept.unpinned kept.unpinned;
       areas = all_mapped has_areas has_areas has_areas G (λ o has same. has) old kept.areas kept.areas;
     })
 
 -- ---- an object more
 
-below_last : (objects : List MemoryEntry) (x : MemoryEntry) (number : ℕ) → list_all (λ next. ltb number next.number) objects ≡ true → number < x.number → list_all (λ next. ltb number next.number) (objects ++ x ∷ []) ≡ true
+below_last : (objects : List MemoryEntry) (x : MemoryEntry) (number : ℕ)
+    → list_all (λ next. ltb number next.number) objects ≡ true → number < x.number
+    → list_all (λ next. ltb number next.number) (objects ++ x ∷ []) ≡ true
 below_last objects x number all low =
     let here : ltb number x.number ≡ true = grind (arith, nat_tests) in
     list_all-append (λ next. ltb number next.number) objects (x ∷ []) ∙ rw (all, here) refl
 
-pub rising_appended : (objects : List MemoryEntry) (x : MemoryEntry) → are_rising objects ≡ true → are_below objects x.number ≡ true → are_rising (objects ++ x ∷ []) ≡ true
+pub rising_appended : (objects : List MemoryEntry) (x : MemoryEntry) → are_rising objects ≡ true
+    → are_below objects x.number ≡ true → are_rising (objects ++ x ∷ []) ≡ true
 rising_appended [] x rising below = refl
 rising_appended (o ∷ objects) x rising below =
     let parts = rising_parts o objects rising in
@@ -122,7 +154,9 @@ rising_appended (o ∷ objects) x rising below =
     let after = below_last objects x o.number parts.0 low in
     rw after (rising_appended objects x parts.1 lower.1)
 
-pub kept_appended : (objects : List MemoryEntry) (x : MemoryEntry) → MemoryInvariant objects → are_below objects x.number ≡ true → x.areas ≡ 1 → x.pages.pages.table_pins ≤ 1 → (x.pages.pages.table_pins ≡ 0 → pinned_count x.pages.pages ≡ 0) → MemoryInvariant (objects ++ x ∷ [])
+pub kept_appended : (objects : List MemoryEntry) (x : MemoryEntry) → MemoryInvariant objects
+    → are_below objects x.number ≡ true → x.areas ≡ 1 → x.pages.pages.table_pins ≤ 1
+    → (x.pages.pages.table_pins ≡ 0 → pinned_count x.pages.pages ≡ 0) → MemoryInvariant (objects ++ x ∷ [])
 kept_appended objects x kept below one pins none = record {
   rising = rising_appended objects x kept.rising below;
   unpinned = list_all-append no_pages_left objects (x ∷ []) ∙ rw (kept.unpinned, last_left) refl;
@@ -133,7 +167,8 @@ kept_appended objects x kept below one pins none = record {
     last_left =
         ⊎_elim
         (λ (zero_pins : x.pages.pages.table_pins ≡ 0). rw (zero_pins, none zero_pins) refl)
-        (λ (some : x.pages.pages.table_pins ≢ 0). let test : eqb x.pages.pages.table_pins 0 ≡ false = grind (arith, nat_tests) in rw test refl)
+        (λ (some : x.pages.pages.table_pins ≢ 0). let test : eqb x.pages.pages.table_pins 0 ≡ false =
+        grind (arith, nat_tests) in rw test refl)
         (cases_eq x.pages.pages.table_pins 0)
 
     last_areas : has_areas x ≡ true
@@ -141,7 +176,9 @@ kept_appended objects x kept below one pins none = record {
 
 -- ---- objects less
 
-all_but_gone : (p q r s : MemoryEntry → Bool) → ((o : MemoryEntry) → p o ≡ true → q o ≡ true → r o ≡ true → s o ≡ true) → (objects : List MemoryEntry) → list_all p objects ≡ true → list_all q objects ≡ true → list_all s (filter r objects) ≡ true
+all_but_gone : (p q r s : MemoryEntry → Bool) → ((o : MemoryEntry) → p o ≡ true → q o ≡ true → r o ≡ true → s o ≡ true)
+    → (objects : List MemoryEntry) → list_all p objects ≡ true → list_all q objects ≡ true
+    → list_all s (filter r objects) ≡ true
 all_but_gone p q r s each [] one two = refl
 all_but_gone p q r s each (o ∷ objects) one two =
     let a = and_parts (p o) (list_all p objects) one in
@@ -152,18 +189,25 @@ all_but_gone p q r s each (o ∷ objects) one two =
     (λ (gone : r o ≡ false). rw gone rest)
     (cases_Bool (r o))
 
-pub kept_without : (numbers : List ℕ) (objects : List MemoryEntry) → MemoryInvariant objects → have_areas numbers objects ≡ true → MemoryInvariant (without_areas numbers objects)
+pub kept_without : (numbers : List ℕ) (objects : List MemoryEntry) → MemoryInvariant objects
+    → have_areas numbers objects ≡ true → MemoryInvariant (without_areas numbers objects)
 kept_without numbers objects kept areas =
     let G = λ (o : MemoryEntry). with_areas (o.areas - times_of o.number numbers) o in
     let pins_fit = λ (o : MemoryEntry). leb o.pages.pages.table_pins o.areas in
     let room = λ (o : MemoryEntry). leb (o.pages.pages.table_pins + times_of o.number numbers) o.areas in
     let left = λ (o : MemoryEntry). not (eqb o.areas 0) in
-    let fits : list_all pins_fit (all_less numbers objects) ≡ true = all_mapped room pins_fit room G (λ o one two. fewer o.pages.pages.table_pins (times_of o.number numbers) o.areas one) objects areas areas in
-    let unpinned : list_all no_pages_left (all_less numbers objects) ≡ true = all_mapped no_pages_left no_pages_left no_pages_left G (λ o held same. held) objects kept.unpinned kept.unpinned in
+    let fits : list_all pins_fit (all_less numbers objects) ≡ true =
+    all_mapped room pins_fit room G (λ o one two. fewer o.pages.pages.table_pins (times_of o.number numbers) o.areas
+    one) objects areas areas in
+    let unpinned : list_all no_pages_left (all_less numbers objects) ≡ true =
+    all_mapped no_pages_left no_pages_left no_pages_left G (λ o held same. held) objects
+    kept.unpinned kept.unpinned in
     record {
       rising = rising_without numbers objects kept.rising;
-      unpinned = all_but_gone no_pages_left no_pages_left left no_pages_left (λ o one two three. one) (all_less numbers objects) unpinned unpinned;
-      areas = all_but_gone pins_fit pins_fit left has_areas (λ o one two three. some o.pages.pages.table_pins o.areas one three) (all_less numbers objects) fits fits;
+      unpinned = all_but_gone no_pages_left no_pages_left left no_pages_left (λ o one two three. one)
+          (all_less numbers objects) unpinned unpinned;
+      areas = all_but_gone pins_fit pins_fit left has_areas
+          (λ o one two three. some o.pages.pages.table_pins o.areas one three) (all_less numbers objects) fits fits;
     }
   where
     fewer : (pins less areas : ℕ) → leb (pins + less) areas ≡ true → leb pins (areas - less) ≡ true
@@ -173,18 +217,23 @@ kept_without numbers objects kept areas =
     some pins areas fits there = let one : leb 1 areas ≡ true = grind (arith, nat_tests) in rw (one, fits) refl
 
 -- an object over which no area is left has no pinned page
-pub none_held : (o : MemoryEntry) (numbers : List ℕ) → no_pages_left o ≡ true → leb (o.pages.pages.table_pins + times_of o.number numbers) o.areas ≡ true → eqb (o.areas - times_of o.number numbers) 0 ≡ true → pinned_count o.pages.pages ≡ 0
+pub none_held : (o : MemoryEntry) (numbers : List ℕ) → no_pages_left o ≡ true
+    → leb (o.pages.pages.table_pins + times_of o.number numbers) o.areas ≡ true
+    → eqb (o.areas - times_of o.number numbers) 0 ≡ true → pinned_count o.pages.pages ≡ 0
 none_held o numbers held room gone =
     let pins : eqb o.pages.pages.table_pins 0 ≡ true = grind (arith, nat_tests) in
     let none : eqb (pinned_count o.pages.pages) 0 ≡ true = rw pins at held in
     eqb-true (pinned_count o.pages.pages) 0 none
 
-pub sums_stay : (f : MemoryEntry → ℕ) → ((o : MemoryEntry) (areas : ℕ) → f (with_areas areas o) ≡ f o) → ((o : MemoryEntry) → pinned_count o.pages.pages ≡ 0 → f o ≡ 0) → (numbers : List ℕ) (objects : List MemoryEntry) → list_all no_pages_left objects ≡ true → have_areas numbers objects ≡ true
+pub sums_stay : (f : MemoryEntry → ℕ) → ((o : MemoryEntry) (areas : ℕ) → f (with_areas areas o) ≡ f o)
+    → ((o : MemoryEntry) → pinned_count o.pages.pages ≡ 0 → f o ≡ 0) → (numbers : List ℕ) (objects : List MemoryEntry)
+    → list_all no_pages_left objects ≡ true → have_areas numbers objects ≡ true
     → sum_by f (without_areas numbers objects) ≡ sum_by f objects
 sums_stay f same nothing numbers [] held room = refl
 sums_stay f same nothing numbers (o ∷ objects) held room =
     let a = and_parts (no_pages_left o) (list_all no_pages_left objects) held in
-    let b = and_parts (leb (o.pages.pages.table_pins + times_of o.number numbers) o.areas) (have_areas numbers objects) room in
+    let b = and_parts (leb (o.pages.pages.table_pins + times_of o.number numbers) o.areas)
+    (have_areas numbers objects) room in
     let rest = sums_stay f same nothing numbers objects a.1 b.1 in
     let old = sum_by-cons f o objects in
     let left = with_areas (o.areas - times_of o.number numbers) o in
@@ -198,20 +247,30 @@ sums_stay f same nothing numbers (o ∷ objects) held room =
     rw kept (omega (arith, rest, old, new, here)))
     (cases_Bool (eqb (o.areas - times_of o.number numbers) 0))
 
-pub pins_stay : (numbers : List ℕ) (objects : List MemoryEntry) → MemoryInvariant objects → have_areas numbers objects ≡ true → (frame : ℕ) → pins_on (without_areas numbers objects) frame ≡ pins_on objects frame
+pub pins_stay : (numbers : List ℕ) (objects : List MemoryEntry) → MemoryInvariant objects
+    → have_areas numbers objects ≡ true → (frame : ℕ)
+    → pins_on (without_areas numbers objects) frame ≡ pins_on objects frame
 pins_stay numbers objects kept room frame =
-    sums_stay (λ o. times frame (held_frames o.pages.pages)) (λ o areas. refl) (λ o none. let few = times_few frame (held_frames o.pages.pages) in omega (arith, few, none)) numbers objects kept.unpinned room
+    sums_stay (λ o. times frame (held_frames o.pages.pages)) (λ o areas. refl)
+    (λ o none. let few = times_few frame (held_frames o.pages.pages) in omega (arith, few, none)) numbers
+    objects kept.unpinned room
 
-pub pinned_stay : (numbers : List ℕ) (objects : List MemoryEntry) → MemoryInvariant objects → have_areas numbers objects ≡ true → (user : ℕ) → pinned_by (without_areas numbers objects) user ≡ pinned_by objects user
+pub pinned_stay : (numbers : List ℕ) (objects : List MemoryEntry) → MemoryInvariant objects
+    → have_areas numbers objects ≡ true → (user : ℕ)
+    → pinned_by (without_areas numbers objects) user ≡ pinned_by objects user
 pinned_stay numbers objects kept room user =
-    sums_stay (λ o. cond (eqb o.pages.pages.user.0 user) (pinned_count o.pages.pages) 0) (λ o areas. refl) (λ o none. by_test (eqb o.pages.pages.user.0 user) (pinned_count o.pages.pages) none) numbers objects kept.unpinned room
+    sums_stay (λ o. cond (eqb o.pages.pages.user.0 user) (pinned_count o.pages.pages) 0) (λ o areas. refl)
+    (λ o none. by_test (eqb o.pages.pages.user.0 user) (pinned_count o.pages.pages) none) numbers
+    objects kept.unpinned room
   where
     by_test : (b : Bool) (k : ℕ) → k ≡ 0 → cond b k 0 ≡ 0
     by_test true k none = none
     by_test false k none = refl
 
 -- the row of an object in the world
-pub rows_found : (objects : List MemoryEntry) (n : ℕ) → find (λ (row : MemoryObject). eqb row.number n) (rows_of objects) ≡ row_found (object_at objects n)
+pub rows_found : (objects : List MemoryEntry) (n : ℕ)
+    → find (λ (row : MemoryObject). eqb row.number n) (rows_of objects) ≡ row_found (object_at objects n)
 rows_found [] n = refl
 rows_found (o ∷ objects) n =
-    ⊎_elim (λ (here : eqb o.number n ≡ true). rw here refl) (λ (other : eqb o.number n ≡ false). rw other (rows_found objects n)) (cases_Bool (eqb o.number n))
+    ⊎_elim (λ (here : eqb o.number n ≡ true). rw here refl)
+    (λ (other : eqb o.number n ≡ false). rw other (rows_found objects n)) (cases_Bool (eqb o.number n))

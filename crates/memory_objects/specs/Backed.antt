@@ -7,7 +7,8 @@ use Rattle.frame_memory.specs.UserPages.{are_within}
 use Rattle.mem_account.specs.Accounts.{has_room, held_by, is_user, limit_of}
 use Rattle.mem_account.specs.declared.Account.{Account}
 use Rattle.pinned_pages.specs.Pages.{held_frames}
-use Rattle.memory_objects.specs.Objects.{MemoryEntry, all_pass, can_pin, has_memory, have_areas, is_of, new_pages, pinned_by, pins_on}
+use Rattle.memory_objects.specs.Objects.{MemoryEntry, all_pass, can_pin, has_memory, have_areas, is_of, new_pages}
+use Rattle.memory_objects.specs.Objects.{pinned_by, pins_on}
 
 -- each frame has at least as many holds as pins name it, and each user holds at least the pinned pages of the user's
 -- objects

@@ -1,5 +1,6 @@
 -- What is seen of memory objects by number, and what each call makes of them.
-use Rattle.std.specs.Prelude.{ℕ, ◌≡◌, ◌≤◌, ◌+◌, ◌-◌, Bool, true, false, ◌==◌, ◌&&◌, ◌||◌, not, nat_lt, nat_le, Option, Some, None, List, [], ◌∷◌, map, filter, find, sum_by, count_by, if◌then◌else◌}
+use Rattle.std.specs.Prelude.{ℕ, ◌≡◌, ◌≤◌, ◌+◌, ◌-◌, Bool, true, false, ◌==◌, ◌&&◌, ◌||◌, not, nat_lt, nat_le, Option}
+use Rattle.std.specs.Prelude.{Some, None, List, [], ◌∷◌, map, filter, find, sum_by, count_by, if◌then◌else◌}
 use Rattle.std.specs.List.{list_all, list_any}
 use Rattle.iofd_words.specs.Frames.{frame_at}
 use Rattle.iofd_words.specs.Pages.{page_of}
@@ -7,7 +8,8 @@ use Rattle.iofd_words.specs.declared.numbers.FrameNo.{FrameNo}
 use Rattle.iofd_words.specs.declared.rows.MemoryObject.{MemoryObject}
 use Rattle.iofd_words.specs.declared.rows.UserPage.{UserPage}
 use Rattle.pinned_pages.specs.Holds.{times}
-use Rattle.pinned_pages.specs.Pages.{MemoryPages, ObjectPages, are_present, frame_of, held_frames, needed, new_count, own_frames_now, pinned_count}
+use Rattle.pinned_pages.specs.Pages.{MemoryPages, ObjectPages, are_present, frame_of, held_frames, needed, new_count}
+use Rattle.pinned_pages.specs.Pages.{own_frames_now, pinned_count}
 use Rattle.memory_objects.specs.declared.entry.Entry.{Entry}
 
 -- an object: its number, how many areas lie over it, and its pages

@@ -1,12 +1,14 @@
 //! Tests of what the calls ask. They go over all objects, so a caller that knows better makes none. Objects over which
 //! no area lies are gone, and count for nothing.
 
-ghost use Rattle.std.specs.Prelude.{◌≡◌, ◌==◌, ◌+◌, ◌&&◌, ◌||◌, IsTrue, if◌then◌else◌, length, nat_lt, nat_le, slice_index};
+ghost use Rattle.std.specs.Prelude.{◌≡◌, ◌==◌, ◌+◌, ◌&&◌, ◌||◌, IsTrue, if◌then◌else◌, length, nat_lt, nat_le};
+ghost use Rattle.std.specs.Prelude.{slice_index};
 ghost use Rattle.std.specs.List.{list_all};
 ghost use Rattle.memory_objects.specs.Backed.{AreBacked, is_backed};
 ghost use Rattle.pinned_pages.specs.Holds.{times};
 ghost use Rattle.pinned_pages.specs.Pages.{held_frames, pinned_count};
-ghost use Rattle.memory_objects.specs.Objects.{are_below, have_areas, have_pins, pinned_by, pins_on, standing, times_of};
+ghost use Rattle.memory_objects.specs.Objects.{are_below, have_areas, have_pins, pinned_by, pins_on, standing};
+ghost use Rattle.memory_objects.specs.Objects.{times_of};
 
 use crate::entry::Entry;
 use frame_memory::Pool;

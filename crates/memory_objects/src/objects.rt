@@ -1,6 +1,7 @@
 //! All memory objects, by number.
 
-ghost use Rattle.std.specs.Prelude.{ℕ, ◌≡◌, ◌==◌, ◌+◌, ◌<◌, ◌≤◌, ◌^◌, ◌&&◌, ◌++◌, ◌∷◌, [], false, None, find, length, slice_get, if◌then◌else◌, IsTrue, IfSome, OnOk, OnErr};
+ghost use Rattle.std.specs.Prelude.{ℕ, ◌≡◌, ◌==◌, ◌+◌, ◌<◌, ◌≤◌, ◌^◌, ◌&&◌, ◌++◌, ◌∷◌, [], false, None, find, length};
+ghost use Rattle.std.specs.Prelude.{slice_get, if◌then◌else◌, IsTrue, IfSome, OnOk, OnErr};
 ghost use Rattle.std.specs.List.{list_all};
 ghost use Rattle.std.specs.List.Sorted.{IsNonDecreasing};
 ghost use Rattle.std.specs.Option.{option_map};
@@ -8,7 +9,10 @@ ghost use Rattle.mem_account.specs.Accounts.{has_room, is_user};
 ghost use Rattle.memory_objects.specs.Backed.{AccountsMove, AreBacked, CanPin, Fits, HoldsMove, is_backed};
 ghost use Rattle.pinned_pages.specs.Holds.{times};
 ghost use Rattle.memory_objects.specs.Invariant.{MemoryInvariant};
-ghost use Rattle.memory_objects.specs.Objects.{MemoryGrows, SamePins, all_pass, all_pinned, all_unpinned, are_below, can_pin, frame_now_in, has_memory, have_areas, have_pins, is_of, is_pinned_anew, is_unpinned, new_count_in, new_pages, object_at, pinned_by, pinned_frame, pins_on, rows_of, with_area, without_areas};
+ghost use Rattle.memory_objects.specs.Objects.{MemoryGrows, SamePins, all_pass, all_pinned, all_unpinned, are_below};
+ghost use Rattle.memory_objects.specs.Objects.{can_pin, frame_now_in, has_memory, have_areas, have_pins, is_of};
+ghost use Rattle.memory_objects.specs.Objects.{is_pinned_anew, is_unpinned, new_count_in, new_pages, object_at};
+ghost use Rattle.memory_objects.specs.Objects.{pinned_by, pinned_frame, pins_on, rows_of, with_area, without_areas};
 ghost use Rattle.pinned_pages.specs.Pages.{frame_of, held_frames, pinned_count};
 
 use crate::entry::Entry;

@@ -5,7 +5,8 @@ ghost use Rattle.std.specs.List.{list_any};
 ghost use Rattle.std.specs.List.Sorted.{IsNonDecreasing};
 ghost use Rattle.mem_account.specs.Accounts.{has_room, is_user};
 ghost use Rattle.memory_objects.specs.Backed.{Fits};
-ghost use Rattle.memory_objects.specs.Objects.{all_pass, are_rising, can_pin, is_of, new_count_in, new_pages, object_at, passes, standing};
+ghost use Rattle.memory_objects.specs.Objects.{all_pass, are_rising, can_pin, is_of, new_count_in, new_pages};
+ghost use Rattle.memory_objects.specs.Objects.{object_at, passes, standing};
 
 use crate::entry::Entry;
 use crate::lookups;

@@ -1,7 +1,8 @@
 //! Memory for the frames of several memory objects.
 
 ghost use Rattle.std.specs.Prelude.{◌≡◌, false, IsTrue, OnOk, OnErr, vec_len, vec_capacity};
-ghost use Rattle.memory_objects.specs.Objects.{MemoryGrows, all_pass, are_rising, has_memory, object_at, passes, standing};
+ghost use Rattle.memory_objects.specs.Objects.{MemoryGrows, all_pass, are_rising, has_memory, object_at, passes};
+ghost use Rattle.memory_objects.specs.Objects.{standing};
 
 use crate::entry::Entry;
 use crate::lookups;

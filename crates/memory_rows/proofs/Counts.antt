@@ -1,6 +1,7 @@
 -- How many areas lie over a memory object, and how many of them page tables translate, as areas and page tables come
 -- and go.
-use Rattle.std.proofs.Common.{◌≡◌, ℕ, ◌+◌, ◌≤◌, Bool, true, false, cond, ◌&&◌, ◌||◌, not, eqb, ltb, Some, is_some, List, [], ◌∷◌, map, refl, ap, sym, ◌∙◌, arith}
+use Rattle.std.proofs.Common.{◌≡◌, ℕ, ◌+◌, ◌≤◌, Bool, true, false, cond, ◌&&◌, ◌||◌, not, eqb, ltb, Some, is_some, List}
+use Rattle.std.proofs.Common.{[], ◌∷◌, map, refl, ap, sym, ◌∙◌, arith}
 use Rattle.std.specs.List.{count_by, filter, find}
 use Rattle.std.proofs.lemmas.Bool.Decides.{nat_tests}
 use Rattle.iofd_words.specs.Areas.{is_of, with_area}
@@ -11,12 +12,15 @@ use Rattle.memory_rows.proofs.PinsFollow.{count-cons}
 
 module _ {X : Type 0} where
   -- rows that pass a test, and those that don't
-  pub count_parts : (p goes : X → Bool) (xs : List X) → count_by p (filter (λ x. not (goes x)) xs) + count_by p (filter goes xs) ≡ count_by p xs
+  pub count_parts : (p goes : X → Bool) (xs : List X)
+      → count_by p (filter (λ x. not (goes x)) xs) + count_by p (filter goes xs) ≡ count_by p xs
   count_parts p goes [] = refl
   count_parts p goes (x ∷ xs) = by_test (goes x) refl (count_parts p goes xs)
     where
-      by_test : (b : Bool) → goes x ≡ b → count_by p (filter (λ x. not (goes x)) xs) + count_by p (filter goes xs) ≡ count_by p xs
-          → count_by p (cond (not b) (x ∷ filter (λ x. not (goes x)) xs) (filter (λ x. not (goes x)) xs)) + count_by p (cond b (x ∷ filter goes xs) (filter goes xs)) ≡ count_by p (x ∷ xs)
+      by_test : (b : Bool) → goes x ≡ b → count_by p (filter (λ x. not (goes x)) xs)
+          + count_by p (filter goes xs) ≡ count_by p xs
+          → count_by p (cond (not b) (x ∷ filter (λ x. not (goes x)) xs) (filter (λ x. not (goes x)) xs))
+          + count_by p (cond b (x ∷ filter goes xs) (filter goes xs)) ≡ count_by p (x ∷ xs)
       by_test true is rest =
           let one = count-cons p x (filter goes xs) in
           let all = count-cons p x xs in
@@ -27,7 +31,8 @@ module _ {X : Type 0} where
           omega (arith, rest, one, all)
 
   -- a test that is one of two, and never both
-  pub count_split : (p q here : X → Bool) (xs : List X) → ((x : X) → p x ≡ (q x || here x)) → ((x : X) → (q x && here x) ≡ false) → count_by p xs ≡ count_by q xs + count_by here xs
+  pub count_split : (p q here : X → Bool) (xs : List X) → ((x : X) → p x ≡ (q x || here x))
+      → ((x : X) → (q x && here x) ≡ false) → count_by p xs ≡ count_by q xs + count_by here xs
   count_split p q here [] either apart = refl
   count_split p q here (x ∷ xs) either apart =
       let rest = count_split p q here xs either apart in
@@ -67,13 +72,16 @@ module _ {X : Type 0} where
   count_within p goes [] = refl
   count_within p goes (x ∷ xs) = by_test (goes x) refl (count_within p goes xs)
     where
-      by_test : (b : Bool) → goes x ≡ b → count_by p (filter goes xs) ≡ count_by (λ x. goes x && p x) xs → count_by p (cond b (x ∷ filter goes xs) (filter goes xs)) ≡ count_by (λ x. goes x && p x) (x ∷ xs)
+      by_test : (b : Bool) → goes x ≡ b → count_by p (filter goes xs) ≡ count_by (λ x. goes x && p x) xs
+          → count_by p (cond b (x ∷ filter goes xs) (filter goes xs)) ≡ count_by (λ x. goes x && p x) (x ∷ xs)
       by_test true is rest =
-          let all : count_by (λ x. goes x && p x) (x ∷ xs) ≡ cond (p x) 1 0 + count_by (λ x. goes x && p x) xs = count-cons (λ x. goes x && p x) x xs ∙ rw is refl in
+          let all : count_by (λ x. goes x && p x) (x ∷ xs) ≡ cond (p x) 1 0 + count_by (λ x. goes x && p x) xs =
+          count-cons (λ x. goes x && p x) x xs ∙ rw is refl in
           let one = count-cons p x (filter goes xs) in
           omega (arith, rest, all, one)
       by_test false is rest =
-          let all : count_by (λ x. goes x && p x) (x ∷ xs) ≡ 0 + count_by (λ x. goes x && p x) xs = count-cons (λ x. goes x && p x) x xs ∙ rw is refl in
+          let all : count_by (λ x. goes x && p x) (x ∷ xs) ≡ 0 + count_by (λ x. goes x && p x) xs =
+          count-cons (λ x. goes x && p x) x xs ∙ rw is refl in
           omega (arith, rest, all)
 
   -- one is found where there is one
@@ -91,11 +99,14 @@ module _ {X : Type 0} where
 
 -- ---- an area comes
 
-pub count_with_area : (p : Area → Bool) (x : Area) (areas : List Area) → count_by p (with_area x areas) ≡ count_by p areas + cond (p x) 1 0
+pub count_with_area : (p : Area → Bool) (x : Area) (areas : List Area)
+    → count_by p (with_area x areas) ≡ count_by p areas + cond (p x) 1 0
 count_with_area p x [] = count-cons p x [] ∙ omega arith
-count_with_area p x (a ∷ areas) = by_order (is_of x.file x.ioas a && ltb x.span.first a.span.first) (count_with_area p x areas)
+count_with_area p x (a ∷ areas) =
+    by_order (is_of x.file x.ioas a && ltb x.span.first a.span.first) (count_with_area p x areas)
   where
-    by_order : (b : Bool) → count_by p (with_area x areas) ≡ count_by p areas + cond (p x) 1 0 → count_by p (cond b (x ∷ a ∷ areas) (a ∷ with_area x areas)) ≡ count_by p (a ∷ areas) + cond (p x) 1 0
+    by_order : (b : Bool) → count_by p (with_area x areas) ≡ count_by p areas + cond (p x) 1 0
+        → count_by p (cond b (x ∷ a ∷ areas) (a ∷ with_area x areas)) ≡ count_by p (a ∷ areas) + cond (p x) 1 0
     by_order true rest = let first = count-cons p x (a ∷ areas) in omega (arith, first)
     by_order false rest =
         let first = count-cons p a (with_area x areas) in
@@ -104,6 +115,8 @@ count_with_area p x (a ∷ areas) = by_order (is_of x.file x.ioas a && ltb x.spa
 
 -- ---- areas change, and keep their memory objects and address spaces
 
-pub count_map : (p : Area → Bool) (f : Area → Area) (areas : List Area) → ((a : Area) → p (f a) ≡ p a) → count_by p (map f areas) ≡ count_by p areas
+pub count_map : (p : Area → Bool) (f : Area → Area) (areas : List Area) → ((a : Area) → p (f a) ≡ p a)
+    → count_by p (map f areas) ≡ count_by p areas
 count_map p f [] same = refl
-count_map p f (a ∷ areas) same = count-cons p (f a) (map f areas) ∙ rw (same a, count_map p f areas same) (sym (count-cons p a areas))
+count_map p f (a ∷ areas) same =
+    count-cons p (f a) (map f areas) ∙ rw (same a, count_map p f areas same) (sym (count-cons p a areas))

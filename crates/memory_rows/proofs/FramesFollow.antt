@@ -1,15 +1,20 @@
 -- Users' pages, holds and bytes follow the steps that change them.
-use Rattle.std.proofs.Common.{◌≡◌, ℕ, zero, suc, ◌+◌, ◌-◌, ◌≤◌, ◌<◌, ◌≢◌, ◌⊎◌, inl, inr, Bool, true, false, cond, ◌&&◌, ◌||◌, not, eqb, ltb, leb, Some, None, List, [], ◌∷◌, ◌++◌, length, map, take, drop, refl, ap, sym, ◌∙◌, arith, get_or}
+use Rattle.std.proofs.Common.{◌≡◌, ℕ, zero, suc, ◌+◌, ◌-◌, ◌≤◌, ◌<◌, ◌≢◌, ◌⊎◌, inl, inr, Bool, true, false, cond, ◌&&◌}
+use Rattle.std.proofs.Common.{◌||◌, not, eqb, ltb, leb, Some, None, List, [], ◌∷◌, ◌++◌, length, map, take, drop, refl}
+use Rattle.std.proofs.Common.{ap, sym, ◌∙◌, arith, get_or}
 use Rattle.std.specs.Prelude.{if◌then◌else◌}
 use Rattle.std.specs.List.{count_by, find, list_any, position_or_len, range_with_len, splice}
 use Rattle.std.proofs.lemmas.Bool.{cases_eq, eqb-true}
 use Rattle.std.proofs.lemmas.Bool.Decides.{nat_tests}
 use Rattle.std.specs.Prelude.{slice_index}
-use Rattle.std.proofs.lemmas.List.{get_or-drop, get_or-replicate, get_or-set_other, get_or-set_same, get_or-take, get_or-append_right, get_or_append_left, length-append, length-drop, length-replicate, length-set, length-take-le}
+use Rattle.std.proofs.lemmas.List.{get_or-drop, get_or-replicate, get_or-set_other, get_or-set_same, get_or-take}
+use Rattle.std.proofs.lemmas.List.{get_or-append_right, get_or_append_left, length-append, length-drop}
+use Rattle.std.proofs.lemmas.List.{length-replicate, length-set, length-take-le}
 use Rattle.std.proofs.lemmas.List.Quantifiers.{position-Some}
 use Rattle.memory_rows.proofs.Counts.{count_alike, count_parts, count_within}
 use Rattle.iofd_rows.proofs.Bools.{and_true, both_true, clash}
-use Rattle.frame_memory.specs.Pool.{FramePool, bytes_at, bytes_of, frame_size, free_count, given, is_free, least_free, written, zeros}
+use Rattle.frame_memory.specs.Pool.{FramePool, bytes_at, bytes_of, frame_size, free_count, given, is_free, least_free}
+use Rattle.frame_memory.specs.Pool.{written, zeros}
 use Rattle.frame_memory.specs.UserPages.{HasOneMore, is_page, user_page}
 use Rattle.iofd_words.specs.Frames as frame
 use Rattle.iofd_words.specs.Frames.{FrameWrite, byte_at, covers, frame_at, without_frame, without_page}
@@ -35,26 +40,33 @@ eqb_same n = grind (arith, nat_tests)
 
 -- ---- holds and bytes
 
-module _ (pool : ℕ) (writes : List FrameWrite) (tables : List TableFrame) (old new : Memory) (before after : FramePool) (shown : FramesShown pool writes tables old before) where
-  pub holds_follow : HoldsFollow old new before after → (f : ℕ) → slice_index after.holds f ≡ reached new f + tables_in tables f
-  holds_follow follow f = left (slice_index after.holds f) (reached old f) (slice_index before.holds f) (reached new f) (tables_in tables f) (follow.holds f) (shown.holds f)
+module _ (pool : ℕ) (writes : List FrameWrite) (tables : List TableFrame) (old new : Memory) (before after : FramePool)
+    (shown : FramesShown pool writes tables old before) where
+  pub holds_follow : HoldsFollow old new before after → (f : ℕ)
+      → slice_index after.holds f ≡ reached new f + tables_in tables f
+  holds_follow follow f = left (slice_index after.holds f) (reached old f) (slice_index before.holds f) (reached new f)
+      (tables_in tables f) (follow.holds f) (shown.holds f)
     where
       left : (h r k s t : ℕ) → h + r ≡ k + s → k ≡ r + t → h ≡ s + t
       left h r k s t sum same = omega (arith, sum, same)
 
   -- no byte changes, and no frame is named that wasn't
-  pub frames_follow : HoldsFollow old new before after → after.bytes ≡ before.bytes → ((f : ℕ) → 0 < reached new f → 0 < reached old f) → FramesShown pool writes tables new after
+  pub frames_follow : HoldsFollow old new before after → after.bytes ≡ before.bytes
+      → ((f : ℕ) → 0 < reached new f → 0 < reached old f) → FramesShown pool writes tables new after
   frames_follow follow bytes named = record {
     size = follow.count ∙ shown.size;
     count = ap length bytes ∙ shown.count;
-    full = λ f within reached. ap (λ (all : List (List ℕ)). length (get_or all f [])) bytes ∙ shown.full f within (named f reached);
+    full = λ f within reached. ap (λ (all : List (List ℕ)). length (get_or all f [])) bytes
+        ∙ shown.full f within (named f reached);
     holds = holds_follow follow;
     once = shown.once;
-    written = λ f offset within below reached. ap (λ (all : List (List ℕ)). get_or (get_or all f []) offset 0) bytes ∙ shown.written f offset within below (named f reached);
+    written = λ f offset within below reached. ap (λ (all : List (List ℕ)). get_or (get_or all f []) offset 0) bytes
+        ∙ shown.written f offset within below (named f reached);
   }
 
 -- the holds are those that memory makes, and few
-pub is_backed : (pool : ℕ) (writes : List FrameWrite) (tables : List TableFrame) (m : Memory) (frames : FramePool) → FramesShown pool writes tables m frames → IsBacked m frames.holds
+pub is_backed : (pool : ℕ) (writes : List FrameWrite) (tables : List TableFrame) (m : Memory) (frames : FramePool)
+    → FramesShown pool writes tables m frames → IsBacked m frames.holds
 is_backed pool writes tables m frames shown = record {
   least = λ f. let same = shown.holds f in omega (arith, same);
   most = λ f. let same = shown.holds f in let few = shown.once f in omega (arith, same, few);
@@ -114,31 +126,40 @@ at_true : (r : UserPage) (user : UserNo) (page : ℕ) (rows : List UserPage) →
     → frame_at (r ∷ rows) user page ≡ Some r.frame
 at_true r user page rows is = rw (is, frame_at) refl
 
-pub users_more : (user_pages kept more : List UserPage) (row : UserPage) → UsersShown user_pages kept → HasOneMore kept more row → UsersShown (user_pages ++ row ∷ []) more
+pub users_more : (user_pages kept more : List UserPage) (row : UserPage) → UsersShown user_pages kept
+    → HasOneMore kept more row → UsersShown (user_pages ++ row ∷ []) more
 users_more user_pages kept more row shown has = record {
   pages = λ user page. at_page user page (is_page user page row) refl ∙ sym (has.frames user page);
-  counts = λ test. counted test user_pages ∙ ap (λ n. n + cond (test row) 1 0) (shown.counts test) ∙ sym (has.counts test);
+  counts =
+      λ test. counted test user_pages ∙ ap (λ n. n + cond (test row) 1 0) (shown.counts test) ∙ sym (has.counts test);
 }
   where
-    found_last : (user : UserNo) (page : ℕ) (rows : List UserPage) → is_page user page row ≡ true → frame_at rows user page ≡ None → frame_at (rows ++ row ∷ []) user page ≡ Some row.frame
+    found_last : (user : UserNo) (page : ℕ) (rows : List UserPage) → is_page user page row ≡ true
+        → frame_at rows user page ≡ None → frame_at (rows ++ row ∷ []) user page ≡ Some row.frame
     found_last user page [] is none = rw (is, frame_at) refl
     found_last user page (r ∷ rows) is none = by_test (is_page user page r) refl none (found_last user page rows is)
       where
-        by_test : (b : Bool) → is_page user page r ≡ b → frame_at (r ∷ rows) user page ≡ None → (frame_at rows user page ≡ None → frame_at (rows ++ row ∷ []) user page ≡ Some row.frame) → frame_at (r ∷ rows ++ row ∷ []) user page ≡ Some row.frame
+        by_test : (b : Bool) → is_page user page r ≡ b → frame_at (r ∷ rows) user page ≡ None
+            → (frame_at rows user page ≡ None → frame_at (rows ++ row ∷ []) user page ≡ Some row.frame)
+            → frame_at (r ∷ rows ++ row ∷ []) user page ≡ Some row.frame
         by_test true here none later = let never : Some r.frame ≡ None = rw (here, frame_at) at none in cc
         by_test false here none later = at_false r user page (rows ++ row ∷ []) here
             ∙ later (sym (at_false r user page rows here) ∙ none)
 
-    not_last : (user : UserNo) (page : ℕ) (rows : List UserPage) → is_page user page row ≡ false → frame_at (rows ++ row ∷ []) user page ≡ frame_at rows user page
+    not_last : (user : UserNo) (page : ℕ) (rows : List UserPage) → is_page user page row ≡ false
+        → frame_at (rows ++ row ∷ []) user page ≡ frame_at rows user page
     not_last user page [] is = rw (is, frame_at) refl
     not_last user page (r ∷ rows) is = by_test (is_page user page r) refl (not_last user page rows is)
       where
-        by_test : (b : Bool) → is_page user page r ≡ b → frame_at (rows ++ row ∷ []) user page ≡ frame_at rows user page → frame_at (r ∷ rows ++ row ∷ []) user page ≡ frame_at (r ∷ rows) user page
+        by_test : (b : Bool) → is_page user page r ≡ b → frame_at (rows ++ row ∷ []) user page ≡ frame_at rows user page
+            → frame_at (r ∷ rows ++ row ∷ []) user page ≡ frame_at (r ∷ rows) user page
         by_test true here rest = rw (here, frame_at) refl
         by_test false here rest = at_false r user page (rows ++ row ∷ []) here ∙ rest
             ∙ sym (at_false r user page rows here)
 
-    at_page : (user : UserNo) (page : ℕ) (b : Bool) → is_page user page row ≡ b → frame_at (user_pages ++ row ∷ []) user page ≡ (if is_page user page row then Some row.frame else frame_at kept user page)
+    at_page : (user : UserNo) (page : ℕ) (b : Bool) → is_page user page row ≡ b
+        → frame_at (user_pages ++ row ∷ []) user page ≡ (if is_page user page row then Some row.frame
+        else frame_at kept user page)
     at_page user page true is =
         let parts = and_true (eqb row.user.0 user.0) (eqb row.page page) is in
         let here_user : row.user ≡ user = same_user row.user user parts.0 in
@@ -150,7 +171,8 @@ users_more user_pages kept more row shown has = record {
         found_last user page user_pages is (shown.pages user page ∙ absent) ∙ rw is refl
     at_page user page false is = not_last user page user_pages is ∙ shown.pages user page ∙ rw is refl
 
-    counted : (test : UserPage → Bool) (rows : List UserPage) → count_by test (rows ++ row ∷ []) ≡ count_by test rows + cond (test row) 1 0
+    counted : (test : UserPage → Bool) (rows : List UserPage)
+        → count_by test (rows ++ row ∷ []) ≡ count_by test rows + cond (test row) 1 0
     counted test [] = count-cons test row [] ∙ omega arith
     counted test (r ∷ rows) =
         let one = count-cons test r (rows ++ row ∷ []) in
@@ -319,7 +341,8 @@ module _ (pool : ℕ) (writes : List FrameWrite) (tables : List TableFrame) (old
     written = λ f offset below few reached. at_byte f offset below few reached (cases_eq f frame);
   }
     where
-      at_full : (f : ℕ) → f < pool → 0 < reached new f → (f ≡ frame) ⊎ (f ≢ frame) → length (bytes_of (given before frame) f) ≡ 4096
+      at_full : (f : ℕ) → f < pool → 0 < reached new f → (f ≡ frame) ⊎ (f ≢ frame)
+          → length (bytes_of (given before frame) f) ≡ 4096
       at_full f below reached (inl same) = ap (λ (n : ℕ). length (bytes_of (given before frame) n)) same
           ∙ ap (λ (l : List ℕ). length l) (get_or-set_same before.bytes frame zeros [] in_bytes)
           ∙ length-replicate frame_size 0 ∙ frame_size-is
@@ -422,7 +445,8 @@ module _ (pool : ℕ) (writes : List FrameWrite) (tables : List TableFrame) (kep
             ∙ ap (λ (l : List ℕ). length l) written_here
             ∙ length-spliced (bytes_of before place) bytes offset fits
             ∙ shown.full place within named
-        at_full f below reached (inr differ) = ap (λ (l : List ℕ). length l) (written_elsewhere f differ) ∙ shown.full f below reached
+        at_full f below reached (inr differ) =
+            ap (λ (l : List ℕ). length l) (written_elsewhere f differ) ∙ shown.full f below reached
 
         at_byte : (f o : ℕ) → f < pool → o < 4096 → 0 < reached kept f → (f ≡ place) ⊎ (f ≢ place)
             → slice_index (bytes_of (written before place offset bytes) f) o
@@ -432,7 +456,8 @@ module _ (pool : ℕ) (writes : List FrameWrite) (tables : List TableFrame) (kep
             ap (λ (n : ℕ). slice_index (bytes_of (written before place offset bytes) n) o) same
             ∙ ap (λ (l : List ℕ). slice_index l o) written_here
             ∙ spliced_byte (bytes_of before place) bytes offset o fits
-            ∙ ap (λ (n : ℕ). if leb offset o && ltb o (offset + length bytes) then slice_index bytes (o - offset) else n)
+            ∙ ap (λ (n : ℕ). if leb offset o && ltb o (offset + length bytes)
+            then slice_index bytes (o - offset) else n)
             (ap (λ (n : ℕ). slice_index (bytes_of before n) o) (sym same) ∙ shown.written f o below few reached)
             ∙ ap (λ (b : Bool). if b && leb offset o && ltb o (offset + length bytes) then slice_index bytes
             (o - offset) else byte_at writes f o) (sym itself)
@@ -542,7 +567,8 @@ module _ (pool : ℕ) (writes : List FrameWrite) (tables : List TableFrame) (use
       ∙ ap (λ (b : Bool). ltb f pool && not (ltb 0 (count_by (λ (page : UserPage). eqb page.frame.0 f)
       kept.pages) || b || is_table)) (pinned.names f)
       ∙ ap (λ (b : Bool). ltb f pool && not (ltb 0 (count_by (λ (page : UserPage). eqb page.frame.0 f)
-      kept.pages) || ltb 0 (pins_on kept.objects f) || b)) (any_count (λ (table : TableFrame). eqb table.frame.0 f) tables)
+      kept.pages) || ltb 0 (pins_on kept.objects f)
+      || b)) (any_count (λ (table : TableFrame). eqb table.frame.0 f) tables)
       ∙ ap (λ (b : Bool). ltb f pool && b) (none_left (count_by (λ (page : UserPage). eqb page.frame.0 f) kept.pages)
       (pins_on kept.objects f) (tables_in tables f))
       ∙ ap (λ (n : ℕ). ltb f pool && eqb n 0) (sym (shown.holds f))

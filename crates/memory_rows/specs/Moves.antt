@@ -8,7 +8,8 @@ use Rattle.iofd_words.specs.declared.rows.Area.{Area}
 use Rattle.memory_rows.specs.Shown.{over}
 use Rattle.memory_objects.specs.Invariant.{MemoryInvariant}
 use Rattle.user_memory.specs.Changes.{HasLess, HasPins, Settles, never}
-use Rattle.user_memory.specs.Memory.{IsBacked, Memory, are_of, areas_over, frame_now, has_room, is_pinned, newly_pinned, pinned_frame, rows_at, table_pins}
+use Rattle.user_memory.specs.Memory.{IsBacked, Memory, are_of, areas_over, frame_now, has_room, is_pinned, newly_pinned}
+use Rattle.user_memory.specs.Memory.{pinned_frame, rows_at, table_pins}
 
 -- how many pins these areas have on each memory object: one each where they are translated, else none
 abbrev pub if_translated : Bool → List Area → ℕ → ℕ
@@ -36,7 +37,8 @@ numbers_of areas = map (λ area. area.memory) areas
 -- the user's memory objects under these areas may be pinned once more for each
 pub record MayPin (user : UserNo) (new_areas : List Area) (m : Memory) (holds : List ℕ) : Type 0 where
   pub own : are_of user (rows_at m (numbers_of new_areas)) ≡ true
-  pub present : list_any (λ page. is_none (frame_now m page)) (unpinned_pages (pinned_frame m) (rows_at m (numbers_of new_areas))) ≡ false
+  pub present : list_any (λ page. is_none (frame_now m page))
+      (unpinned_pages (pinned_frame m) (rows_at m (numbers_of new_areas))) ≡ false
   pub room : has_room m user (newly_pinned m (numbers_of new_areas)) ≡ true
   pub areas : (number : ℕ) → table_pins m number + over new_areas number ≤ areas_over m number
   pub backed : IsBacked m holds

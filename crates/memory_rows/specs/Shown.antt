@@ -31,7 +31,8 @@ pub record UsersShown (user_pages kept : List UserPage) : Type 0 where
   pub counts : (test : UserPage → Bool) → count_by test user_pages ≡ count_by test kept
 
 -- the memory objects, how many areas and how many translated areas lie over each, and at which frame a page is pinned
-pub record PinsShown (objects : List Object) (all_areas : List Area) (memory_objects : List MemoryObject) (pins : List Pin) (kept : Memory) : Type 0 where
+pub record PinsShown (objects : List Object) (all_areas : List Area) (memory_objects : List MemoryObject)
+    (pins : List Pin) (kept : Memory) : Type 0 where
   pub rows : memory_objects ≡ rows_of kept
   pub areas : (number : ℕ) → areas_over kept number ≡ over all_areas number
   pub tables : (number : ℕ) → table_pins kept number ≡ translated objects all_areas number
@@ -43,10 +44,11 @@ pub record PinsShown (objects : List Object) (all_areas : List Area) (memory_obj
 abbrev pub tables_in : List TableFrame → ℕ → ℕ
 tables_in tables frame = count_by (λ table. table.frame.0 == frame) tables
 
--- each frame has a hold for each page, each pin and each table that names it, and no two tables are in one. Where a page or a
--- pin names it each byte is what was written there last; the bytes of a table's frame are its page table's, and those of a free
--- one nobody's.
-pub record FramesShown (pool : ℕ) (writes : List FrameWrite) (tables : List TableFrame) (kept : Memory) (frames : FramePool) : Type 0 where
+-- each frame has a hold for each page, each pin and each table that names it, and no two tables are in one. Where a
+-- page or a pin names it each byte is what was written there last; the bytes of a table's frame are its page table's,
+-- and those of a free one nobody's.
+pub record FramesShown (pool : ℕ) (writes : List FrameWrite) (tables : List TableFrame) (kept : Memory)
+    (frames : FramePool) : Type 0 where
   pub size : length frames.holds ≡ pool
   pub count : length frames.bytes ≡ pool
   pub full : (frame : ℕ) → frame < pool → 0 < reached kept frame → length (bytes_of frames frame) ≡ 4096

@@ -7,5 +7,6 @@ use Rattle.object_table.specs.Rows.{row_shown}
 use Rattle.object_table.specs.Table.{Row}
 
 -- the iterator gives the rows that it shows, in order
-pub YieldsList-from_objects : {V : Type 0} {s : List (Row V)} (rows : List (Row V)) → s ≡ rows → YieldsList (YieldsFirstBy row_shown (λ rest. rest)) row_shown s rows
+pub YieldsList-from_objects : {V : Type 0} {s : List (Row V)} (rows : List (Row V)) → s ≡ rows
+    → YieldsList (YieldsFirstBy row_shown (λ rest. rest)) row_shown s rows
 YieldsList-from_objects rows is = YieldsList-from_first row_shown (λ rest. rest) rows is

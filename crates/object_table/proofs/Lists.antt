@@ -3,11 +3,13 @@ use Rattle.std.proofs.Common.{◌≡◌, Bool, true, false, cond, List, [], ◌�
 use Rattle.std.specs.List.{filter, find, list_any, AllByRecursion}
 
 module _ {X : Type 0} where
-  pub Each-weaken : (P Q : X → Type 0) → ((x : X) → P x → Q x) → (xs : List X) → AllByRecursion P xs → AllByRecursion Q xs
+  pub Each-weaken : (P Q : X → Type 0) → ((x : X) → P x → Q x) → (xs : List X) → AllByRecursion P xs
+      → AllByRecursion Q xs
   Each-weaken P Q weaker [] all = tt
   Each-weaken P Q weaker (x ∷ xs) all = (weaker x all.0, Each-weaken P Q weaker xs all.1)
 
-  pub Each-append : (P : X → Type 0) (xs ys : List X) → AllByRecursion P xs → AllByRecursion P ys → AllByRecursion P (xs ++ ys)
+  pub Each-append : (P : X → Type 0) (xs ys : List X) → AllByRecursion P xs → AllByRecursion P ys
+      → AllByRecursion P (xs ++ ys)
   Each-append P [] ys first second = second
   Each-append P (x ∷ xs) ys first second = (first.0, Each-append P xs ys first.1 second)
 
@@ -32,27 +34,33 @@ module _ {X : Type 0} where
   put_before test x [] = x ∷ []
   put_before test x (next ∷ xs) = cond (test next) (x ∷ next ∷ xs) (next ∷ put_before test x xs)
 
-  pub put_before_all : (test : X → Bool) (x : X) (xs : List X) → AllByRecursion (λ next. test next ≡ true) xs → put_before test x xs ≡ x ∷ xs
+  pub put_before_all : (test : X → Bool) (x : X) (xs : List X) → AllByRecursion (λ next. test next ≡ true) xs
+      → put_before test x xs ≡ x ∷ xs
   put_before_all test x [] all = refl
   put_before_all test x (next ∷ xs) all = rw all.0
 
-  pub put_before_none : (test : X → Bool) (x : X) (xs ys : List X) → AllByRecursion (λ next. test next ≡ false) xs → put_before test x (xs ++ ys) ≡ xs ++ put_before test x ys
+  pub put_before_none : (test : X → Bool) (x : X) (xs ys : List X) → AllByRecursion (λ next. test next ≡ false) xs
+      → put_before test x (xs ++ ys) ≡ xs ++ put_before test x ys
   put_before_none test x [] ys none = refl
   put_before_none test x (next ∷ xs) ys none = rw (none.0, put_before_none test x xs ys none.1)
 
   -- what stands after the new one stays behind
-  pub put_before-append : (test : X → Bool) (x : X) (xs ys : List X) → AllByRecursion (λ next. test next ≡ true) ys → put_before test x (xs ++ ys) ≡ put_before test x xs ++ ys
+  pub put_before-append : (test : X → Bool) (x : X) (xs ys : List X) → AllByRecursion (λ next. test next ≡ true) ys
+      → put_before test x (xs ++ ys) ≡ put_before test x xs ++ ys
   put_before-append test x [] ys all = put_before_all test x ys all
   put_before-append test x (next ∷ xs) ys all = rw (put_before-append test x xs ys all) (by_test (test next))
     where
-      by_test : (b : Bool) → cond b (x ∷ next ∷ (xs ++ ys)) (next ∷ (put_before test x xs ++ ys)) ≡ cond b (x ∷ next ∷ xs) (next ∷ put_before test x xs) ++ ys
+      by_test : (b : Bool) → cond b (x ∷ next ∷ (xs ++ ys)) (next ∷ (put_before test x xs ++ ys)) ≡ cond b
+          (x ∷ next ∷ xs) (next ∷ put_before test x xs) ++ ys
       by_test true = refl
       by_test false = refl
 
-pub Each-map : {X Y : Type 0} (P : Y → Type 0) (f : X → Y) → ((x : X) → P (f x)) → (xs : List X) → AllByRecursion P (map f xs)
+pub Each-map : {X Y : Type 0} (P : Y → Type 0) (f : X → Y) → ((x : X) → P (f x)) → (xs : List X)
+    → AllByRecursion P (map f xs)
 Each-map P f holds [] = tt
 Each-map P f holds (x ∷ xs) = (holds x, Each-map P f holds xs)
 
-pub list_any-map : {X Y : Type 0} (p : Y → Bool) (f : X → Y) (xs : List X) → list_any p (map f xs) ≡ list_any (λ x. p (f x)) xs
+pub list_any-map : {X Y : Type 0} (p : Y → Bool) (f : X → Y) (xs : List X)
+    → list_any p (map f xs) ≡ list_any (λ x. p (f x)) xs
 list_any-map p f [] = refl
 list_any-map p f (x ∷ xs) = rw (list_any-map p f xs)

@@ -10,7 +10,8 @@ use iofd_words::{Cause, FileNo, ObjId, Refusal};
 use std::alloc::Allocator;
 
 impl<V, A: Allocator> ObjectTable<V, A> {
-    ghost use Rattle.object_table.specs.Table.{own, removed, closed, reserved_id, destroy_refusal, close_refusal, OthersKeepRoom};
+    ghost use Rattle.object_table.specs.Table.{own, removed, closed, reserved_id, destroy_refusal, close_refusal};
+    ghost use Rattle.object_table.specs.Table.{OthersKeepRoom};
 
     /// Takes the object out of its file and hands back what it held (`IOMMU_DESTROY`). It takes no memory.
     ///

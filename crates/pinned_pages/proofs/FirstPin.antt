@@ -1,5 +1,6 @@
 -- What the first pin makes of a memory object.
-use Rattle.std.proofs.Common.{◌≡◌, Bool, true, false, not, ◌&&◌, ◌||◌, eqb, None, ◌+◌, List, [], ◌∷◌, ◌++◌, length, refl, ◌∙◌, ap, arith}
+use Rattle.std.proofs.Common.{◌≡◌, Bool, true, false, not, ◌&&◌, ◌||◌, eqb, None, ◌+◌, List, [], ◌∷◌, ◌++◌, length}
+use Rattle.std.proofs.Common.{refl, ◌∙◌, ap, arith}
 use Rattle.std.proofs.lemmas.Bool.{eqb-true}
 use Rattle.iofd_words.specs.FirstTrue.{first_true}
 use Rattle.iofd_words.specs.Pages.{page_of}
@@ -13,29 +14,39 @@ use Rattle.pinned_pages.specs.Pages.{ObjectPages, are_present, frames_now, new_c
 use Rattle.pinned_pages.proofs.UsersPages.{all_framed}
 
 -- where nothing refuses the first pin, all pages are there and the user has room
-none_refused : (b p r : Bool) → first_true ((cause.Absent, b && not p) ∷ (cause.Account, b && not r) ∷ []) ≡ None → b ≡ true → (p ≡ true) × (r ≡ true)
+none_refused : (b p r : Bool) → first_true ((cause.Absent, b && not p) ∷ (cause.Account, b && not r) ∷ []) ≡ None
+    → b ≡ true → (p ≡ true) × (r ≡ true)
 none_refused true true true none first = (refl, refl)
 none_refused true true false none first = cc
 none_refused true false r none first = cc
 none_refused false p r none first = cc
 
-pub granted : (pages : ObjectPages) (rows : List UserPage) (accounts : List Account) → pin_refusal pages rows accounts ≡ None → pages.table_pins ≡ 0
+pub granted : (pages : ObjectPages) (rows : List UserPage) (accounts : List Account)
+    → pin_refusal pages rows accounts ≡ None → pages.table_pins ≡ 0
     → (are_present pages rows ≡ true) × (has_room accounts pages.user.0 pages.count ≡ true)
 granted pages rows accounts none zero =
     let first : eqb pages.table_pins 0 ≡ true = rw zero refl in
-    none_refused (eqb pages.table_pins 0) (are_present pages rows) (has_room accounts pages.user.0 pages.count) none first
+    none_refused (eqb pages.table_pins 0) (are_present pages rows)
+    (has_room accounts pages.user.0 pages.count) none first
 
 -- nothing refuses a pin of pages that are pinned, or are all there and fit the account
-none_of : (b p r : Bool) → (not b || p) ≡ true → (b ≡ true → r ≡ true) → first_true ((cause.Absent, b && not p) ∷ (cause.Account, b && not r) ∷ []) ≡ None
+none_of : (b p r : Bool) → (not b || p) ≡ true → (b ≡ true → r ≡ true)
+    → first_true ((cause.Absent, b && not p) ∷ (cause.Account, b && not r) ∷ []) ≡ None
 none_of false p r there fits = refl
 none_of true true r there fits = rw (fits refl) refl
 none_of true false r there fits = cc
 
-pub none_refuses : (pages : ObjectPages) (rows : List UserPage) (accounts : List Account) → (not (eqb pages.table_pins 0) || are_present pages rows) ≡ true → (pages.table_pins ≡ 0 → has_room accounts pages.user.0 pages.count ≡ true) → pin_refusal pages rows accounts ≡ None
+pub none_refuses : (pages : ObjectPages) (rows : List UserPage) (accounts : List Account)
+    → (not (eqb pages.table_pins 0) || are_present pages rows) ≡ true
+    → (pages.table_pins ≡ 0 → has_room accounts pages.user.0 pages.count ≡ true)
+    → pin_refusal pages rows accounts ≡ None
 none_refuses pages rows accounts there fits =
-    none_of (eqb pages.table_pins 0) (are_present pages rows) (has_room accounts pages.user.0 pages.count) there (λ first. fits (eqb-true pages.table_pins 0 first))
+    none_of (eqb pages.table_pins 0) (are_present pages rows) (has_room accounts pages.user.0 pages.count) there
+    (λ first. fits (eqb-true pages.table_pins 0 first))
 
-module _ (pages : ObjectPages) (rows : List UserPage) (items : List FrameNo) (kept : AreKept pages) (none : pages.table_pins ≡ 0) (is : items ≡ pages.frames ++ frames_now rows pages.user (page_of pages.va) pages.count) where
+module _ (pages : ObjectPages) (rows : List UserPage) (items : List FrameNo) (kept : AreKept pages)
+    (none : pages.table_pins ≡ 0) (is : items ≡ pages.frames
+    ++ frames_now rows pages.user (page_of pages.va) pages.count) where
   frames_are : items ≡ frames_now rows pages.user (page_of pages.va) pages.count
   frames_are = is ∙ rw (kept.unpinned none) refl
 
@@ -50,4 +61,5 @@ module _ (pages : ObjectPages) (rows : List UserPage) (items : List FrameNo) (ke
   pub first_counted : are_present pages rows ≡ true → length items ≡ pinned_count pages + new_count pages
   first_counted present =
       let first : eqb pages.table_pins 0 ≡ true = rw none refl in
-      rw (kept.unpinned none, first) (ap length frames_are ∙ all_framed rows pages.user (page_of pages.va) pages.count present ∙ omega arith)
+      rw (kept.unpinned none, first) (ap length frames_are
+      ∙ all_framed rows pages.user (page_of pages.va) pages.count present ∙ omega arith)

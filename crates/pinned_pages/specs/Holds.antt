@@ -10,7 +10,8 @@ times frame frames = count_by (λ f. f.0 == frame) frames
 
 -- each of these frames is one of a pool with these holds, and has one for each time that it is in the list
 abbrev pub are_held : List FrameNo → List ℕ → Bool
-are_held frames holds = list_all (λ f. nat_lt f.0 (length holds) && nat_le (times f.0 frames) (slice_index holds f.0)) frames
+are_held frames holds =
+    list_all (λ f. nat_lt f.0 (length holds) && nat_le (times f.0 frames) (slice_index holds f.0)) frames
 
 -- of two pools the second has one hold more for each time that a frame is in the list; all else is the same
 pub record HasMoreHolds (less more : FramePool) (frames : List FrameNo) : Type 0 where

@@ -1,5 +1,6 @@
 -- What is seen of a memory object, and what each call makes of it.
-use Rattle.std.specs.Prelude.{ℕ, ◌+◌, ◌-◌, Bool, ◌==◌, ◌&&◌, not, Option, List, [], ◌∷◌, length, slice_get, if◌then◌else◌}
+use Rattle.std.specs.Prelude.{ℕ, ◌+◌, ◌-◌, Bool, ◌==◌, ◌&&◌, not, Option, List, [], ◌∷◌, length, slice_get}
+use Rattle.std.specs.Prelude.{if◌then◌else◌}
 use Rattle.std.specs.List.{filter_map, range_with_len}
 use Rattle.iofd_words.specs.Checks.{has_pages}
 use Rattle.iofd_words.specs.FirstTrue.{first_true}
@@ -30,7 +31,8 @@ pub record MemoryPages : Type 0 where
 
 -- a memory object, of which no page is pinned
 abbrev pub unpinned : UserNo → ℕ → ℕ → Bool → ObjectPages
-unpinned user va count writable = record { user = user; va = va; count = count; writable = writable; table_pins = 0; frames = [] }
+unpinned user va count writable =
+    record { user = user; va = va; count = count; writable = writable; table_pins = 0; frames = [] }
 
 -- the frame at which a page is pinned, and the frames of all that are
 abbrev pub frame_of : ObjectPages → ℕ → Option FrameNo

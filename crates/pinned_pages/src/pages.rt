@@ -1,12 +1,15 @@
 //! A memory object and its pins.
 
-ghost use Rattle.std.specs.Prelude.{ℕ, ◌≡◌, ◌≤◌, ◌<◌, ◌+◌, ◌*◌, ◌^◌, ◌&&◌, [], IsTrue, IfSome, IfNone, OnOk, OnErr, IsOkUnless, is_some, length, nat_lt, None, true};
+ghost use Rattle.std.specs.Prelude.{ℕ, ◌≡◌, ◌≤◌, ◌<◌, ◌+◌, ◌*◌, ◌^◌, ◌&&◌, [], IsTrue, IfSome, IfNone, OnOk, OnErr};
+ghost use Rattle.std.specs.Prelude.{IsOkUnless, is_some, length, nat_lt, None, true};
 ghost use Rattle.iofd_words.specs.Pages.{is_whole};
 ghost use Rattle.mem_account.specs.Accounts.{held_by, is_user};
 ghost use Rattle.frame_memory.specs.Pool.{may_hold};
 ghost use Rattle.frame_memory.specs.UserPages.{are_within};
 ghost use Rattle.pinned_pages.specs.Holds.{HasMoreHolds, are_held, times};
-ghost use Rattle.pinned_pages.specs.Pages.{are_present, charged_first, frame_of, held_frames, last_count, last_frames, needed, new_count, new_frames, pin_refusal, pinned, pinned_count, refunded_last, released, unpinned};
+ghost use Rattle.pinned_pages.specs.Pages.{are_present, charged_first, frame_of, held_frames, last_count, last_frames};
+ghost use Rattle.pinned_pages.specs.Pages.{needed, new_count, new_frames, pin_refusal, pinned, pinned_count};
+ghost use Rattle.pinned_pages.specs.Pages.{refunded_last, released, unpinned};
 
 use crate::frames;
 use frame_memory::{Pool, UserMap};
@@ -36,11 +39,25 @@ impl<A: Allocator> Model for Pages<A> {
     ghost Value = { MemoryPages };
 
     ghost view = { λ p. record {
-      pages = record { user = p.user; va = p.va; count = p.count; writable = p.writable; table_pins = p.table_pins; frames = p.frames.items };
+      pages = record {
+        user = p.user;
+        va = p.va;
+        count = p.count;
+        writable = p.writable;
+        table_pins = p.table_pins;
+        frames = p.frames.items;
+      };
       capacity = vec_capacity p.frames;
     } };
 
-    ghost invariant = { λ p. AreKept (record { user = p.user; va = p.va; count = p.count; writable = p.writable; table_pins = p.table_pins; frames = p.frames.items }) };
+    ghost invariant = { λ p. AreKept (record {
+      user = p.user;
+      va = p.va;
+      count = p.count;
+      writable = p.writable;
+      table_pins = p.table_pins;
+      frames = p.frames.items;
+    }) };
 }
 
 impl<A: Allocator> Pages<A> {

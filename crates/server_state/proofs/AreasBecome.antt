@@ -21,14 +21,18 @@ use Rattle.object_table.specs.declared.kind.Kind.TheVariants.{Ioas}
 
 module _ {A : Type 0} where
   -- the areas of an address space are those at its id
-  pub own_at : (t : Table (Held A)) (file : FileNo) (ioas : ObjId) → IsOrderly t → own_areas t file ioas ≡ areas_at t.rows file ioas
+  pub own_at : (t : Table (Held A)) (file : FileNo) (ioas : ObjId) → IsOrderly t
+      → own_areas t file ioas ≡ areas_at t.rows file ioas
   own_at t file ioas is = by_row (table.own t file Ioas ioas) refl
     where
-      by_row : (o : Option (Row (Held A))) → table.own t file Ioas ioas ≡ o → elim o as (λ _. List Area) [ Some row ↦ areas_in row.value | None ↦ [] ] ≡ areas_at t.rows file ioas
+      by_row : (o : Option (Row (Held A))) → table.own t file Ioas ioas ≡ o
+          → elim o as (λ _. List Area) [ Some row ↦ areas_in row.value | None ↦ [] ] ≡ areas_at t.rows file ioas
       by_row None found = sym (areas_absent t file ioas is found)
-      by_row (Some row) found = sym (areas_found t file Ioas ioas row.value is (ap (option_map (λ (r : Row (Held A)). r.value)) found))
+      by_row (Some row) found =
+          sym (areas_found t file Ioas ioas row.value is (ap (option_map (λ (r : Row (Held A)). r.value)) found))
 
-  pub areas_become : (areas : List Area) (w : World) (s : State A) (file : FileNo) (ioas : ObjId) (after : List Area) (t : Table (Held A)) → Shows w s → HasAreas file ioas after s.objects t
+  pub areas_become : (areas : List Area) (w : World) (s : State A) (file : FileNo) (ioas : ObjId) (after : List Area)
+      (t : Table (Held A)) → Shows w s → HasAreas file ioas after s.objects t
       → areas_of areas file ioas ≡ after
       → ((f : FileNo) (i : ObjId) → is_space file ioas f i ≡ false → areas_of areas f i ≡ areas_of w.areas f i)
       → (f : FileNo) (i : ObjId) → areas_of areas f i ≡ areas_at t.rows f i

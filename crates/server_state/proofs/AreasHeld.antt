@@ -1,5 +1,6 @@
 -- What a change of one address space's areas leaves as it was.
-use Rattle.std.proofs.Common.{◌≡◌, Bool, true, false, cond, ◌&&◌, not, eqb, Some, None, List, [], ◌∷◌, map, refl, sym, ◌∙◌, ap, arith}
+use Rattle.std.proofs.Common.{◌≡◌, Bool, true, false, cond, ◌&&◌, not, eqb, Some, None, List, [], ◌∷◌, map, refl, sym}
+use Rattle.std.proofs.Common.{◌∙◌, ap, arith}
 use Rattle.std.specs.List.{find, list_all, list_any}
 use Rattle.std.specs.Option.{option_map}
 use Rattle.std.proofs.lemmas.Bool.Decides.{nat_tests}
@@ -21,116 +22,158 @@ use Rattle.object_table.specs.declared.kind.Kind.TheVariants as tablekind
 
 module _ {A : Type 0} where
   -- no row is at this id
-  not_there : (rows : List (Row (Held A))) (file : FileNo) (id : ObjId) (change : Row (Held A) → Row (Held A)) → list_any (is_object file id) (map object_of rows) ≡ false → changed_at file id change rows ≡ rows
+  not_there : (rows : List (Row (Held A))) (file : FileNo) (id : ObjId) (change : Row (Held A) → Row (Held A))
+      → list_any (is_object file id) (map object_of rows) ≡ false → changed_at file id change rows ≡ rows
   not_there [] file id change none = refl
   not_there (row ∷ rows) file id change none = let rest = not_there rows file id change in grind (arith, nat_tests)
 
-  none_own : (rows : List (Row (Held A))) (file : FileNo) (kind : Kind) (id : ObjId) → list_any (is_object file id) (map object_of rows) ≡ false → find (is_own file kind id) rows ≡ None
+  none_own : (rows : List (Row (Held A))) (file : FileNo) (kind : Kind) (id : ObjId)
+      → list_any (is_object file id) (map object_of rows) ≡ false → find (is_own file kind id) rows ≡ None
   none_own [] file kind id none = refl
   none_own (row ∷ rows) file kind id none = let rest = none_own rows file kind id in grind (arith, nat_tests)
 
-  same_at : (row : Row (Held A)) (file : FileNo) (id : ObjId) (objects : List Object) → is_at file id row ≡ true → list_any (is_object row.file row.id) objects ≡ list_any (is_object file id) objects
+  same_at : (row : Row (Held A)) (file : FileNo) (id : ObjId) (objects : List Object) → is_at file id row ≡ true
+      → list_any (is_object row.file row.id) objects ≡ list_any (is_object file id) objects
   same_at row file id [] is = refl
   same_at row file id (o ∷ objects) is = let rest = same_at row file id objects is in grind (arith, nat_tests)
 
   -- what a first row at this id holds
-  first_there : (row : Row (Held A)) (rows : List (Row (Held A))) (file : FileNo) (kind : Kind) (id : ObjId) (old : Held A) → is_at file id row ≡ true → find (is_own file kind id) rows ≡ None
-      → option_map (λ (r : Row (Held A)). r.value) (find (is_own file kind id) (row ∷ rows)) ≡ Some old → row.value ≡ old
+  first_there : (row : Row (Held A)) (rows : List (Row (Held A))) (file : FileNo) (kind : Kind) (id : ObjId)
+      (old : Held A) → is_at file id row ≡ true → find (is_own file kind id) rows ≡ None
+      → option_map (λ (r : Row (Held A)). r.value) (find (is_own file kind id) (row ∷ rows)) ≡ Some old
+      → row.value ≡ old
   first_there row rows file kind id old is none found = by_kind (is_same_kind row.kind kind) (rw (is, none) at found)
     where
-      by_kind : (b : Bool) → option_map (λ (r : Row (Held A)). r.value) (cond b (Some row) None) ≡ Some old → row.value ≡ old
+      by_kind : (b : Bool) → option_map (λ (r : Row (Held A)). r.value) (cond b (Some row) None) ≡ Some old
+          → row.value ≡ old
       by_kind true found = cc
       by_kind false found = cc
 
-  not_first : (row : Row (Held A)) (rows : List (Row (Held A))) (file : FileNo) (kind : Kind) (id : ObjId) → is_at file id row ≡ false → find (is_own file kind id) (row ∷ rows) ≡ find (is_own file kind id) rows
+  not_first : (row : Row (Held A)) (rows : List (Row (Held A))) (file : FileNo) (kind : Kind) (id : ObjId)
+      → is_at file id row ≡ false → find (is_own file kind id) (row ∷ rows) ≡ find (is_own file kind id) rows
   not_first row rows file kind id is = rw is refl
 
-  pub objects_kept : (rows : List (Row (Held A))) (file : FileNo) (kind : Kind) (id : ObjId) (old new : Held A) → have_own_ids (map object_of rows) ≡ true → option_map (λ (row : Row (Held A)). row.value) (find (is_own file kind id) rows) ≡ Some old → kind_in new ≡ kind_in old →
+  pub objects_kept : (rows : List (Row (Held A))) (file : FileNo) (kind : Kind) (id : ObjId) (old new : Held A)
+      → have_own_ids (map object_of rows) ≡ true
+      → option_map (λ (row : Row (Held A)). row.value) (find (is_own file kind id) rows) ≡ Some old
+      → kind_in new ≡ kind_in old →
       map object_of (changed_at file id (with_value new) rows) ≡ map object_of rows
   objects_kept [] file kind id old new ids found same = refl
   objects_kept (row ∷ rows) file kind id old new ids found same =
-      let owns = and_true (not (list_any (is_object row.file row.id) (map object_of rows))) (have_own_ids (map object_of rows)) ids in
-      by_test (is_at file id row) refl (not_true _ owns.0) (λ later. objects_kept rows file kind id old new owns.1 later same)
+      let owns = and_true (not (list_any (is_object row.file row.id) (map object_of rows)))
+      (have_own_ids (map object_of rows)) ids in
+      by_test (is_at file id row) refl (not_true _ owns.0)
+      (λ later. objects_kept rows file kind id old new owns.1 later same)
     where
       by_test : (b : Bool) → is_at file id row ≡ b → list_any (is_object row.file row.id) (map object_of rows) ≡ false
-          → (option_map (λ (r : Row (Held A)). r.value) (find (is_own file kind id) rows) ≡ Some old → map object_of (changed_at file id (with_value new) rows) ≡ map object_of rows)
+          → (option_map (λ (r : Row (Held A)). r.value) (find (is_own file kind id) rows) ≡ Some old
+          → map object_of (changed_at file id (with_value new) rows) ≡ map object_of rows)
           → map object_of (changed_at file id (with_value new) (row ∷ rows)) ≡ map object_of (row ∷ rows)
       by_test true is none later =
           let others = sym (same_at row file id (map object_of rows) is) ∙ none in
           let rest = not_there rows file id (with_value new) others in
           let value = first_there row rows file kind id old is (none_own rows file kind id others) found in
-          rw (is, rest) (ap (λ k. record { file = row.file; id = row.id; kind = k } ∷ map object_of rows) (same ∙ sym (ap kind_in value)))
-      by_test false is none later = rw is (ap (λ l. object_of row ∷ l) (later (rw (not_first row rows file kind id is) at found)))
+          rw (is, rest) (ap (λ k. record { file = row.file; id = row.id; kind = k } ∷ map object_of rows) (same
+          ∙ sym (ap kind_in value)))
+      by_test false is none later =
+          rw is (ap (λ l. object_of row ∷ l) (later (rw (not_first row rows file kind id is) at found)))
 
   -- the row of this kind is the first at the id
-  pub own_is_first : (rows : List (Row (Held A))) (file : FileNo) (kind : Kind) (id : ObjId) (old : Held A) → have_own_ids (map object_of rows) ≡ true → option_map (λ (row : Row (Held A)). row.value) (find (is_own file kind id) rows) ≡ Some old
+  pub own_is_first : (rows : List (Row (Held A))) (file : FileNo) (kind : Kind) (id : ObjId) (old : Held A)
+      → have_own_ids (map object_of rows) ≡ true
+      → option_map (λ (row : Row (Held A)). row.value) (find (is_own file kind id) rows) ≡ Some old
       → option_map (λ (row : Row (Held A)). row.value) (find (is_at file id) rows) ≡ Some old
   own_is_first [] file kind id old ids found = found
   own_is_first (row ∷ rows) file kind id old ids found =
-      let owns = and_true (not (list_any (is_object row.file row.id) (map object_of rows))) (have_own_ids (map object_of rows)) ids in
+      let owns = and_true (not (list_any (is_object row.file row.id) (map object_of rows)))
+      (have_own_ids (map object_of rows)) ids in
       by_test (is_at file id row) refl (not_true _ owns.0) (λ later. own_is_first rows file kind id old owns.1 later)
     where
       by_test : (b : Bool) → is_at file id row ≡ b → list_any (is_object row.file row.id) (map object_of rows) ≡ false
-          → (option_map (λ (r : Row (Held A)). r.value) (find (is_own file kind id) rows) ≡ Some old → option_map (λ (r : Row (Held A)). r.value) (find (is_at file id) rows) ≡ Some old)
+          → (option_map (λ (r : Row (Held A)). r.value) (find (is_own file kind id) rows) ≡ Some old
+          → option_map (λ (r : Row (Held A)). r.value) (find (is_at file id) rows) ≡ Some old)
           → option_map (λ (r : Row (Held A)). r.value) (find (is_at file id) (row ∷ rows)) ≡ Some old
       by_test true is none later =
           let others = sym (same_at row file id (map object_of rows) is) ∙ none in
           rw is (ap Some (first_there row rows file kind id old is (none_own rows file kind id others) found))
       by_test false is none later = rw is (later (rw (not_first row rows file kind id is) at found))
 
-  areas_here : (rows : List (Row (Held A))) (file : FileNo) (id : ObjId) (old new : Held A) → option_map (λ (row : Row (Held A)). row.value) (find (is_at file id) rows) ≡ Some old → areas_at (changed_at file id (with_value new) rows) file id ≡ areas_in new
+  areas_here : (rows : List (Row (Held A))) (file : FileNo) (id : ObjId) (old new : Held A)
+      → option_map (λ (row : Row (Held A)). row.value) (find (is_at file id) rows) ≡ Some old
+      → areas_at (changed_at file id (with_value new) rows) file id ≡ areas_in new
   areas_here [] file id old new found = cc
-  areas_here (row ∷ rows) file id old new found = by_test (is_at file id row) refl (λ later. areas_here rows file id old new later)
+  areas_here (row ∷ rows) file id old new found =
+      by_test (is_at file id row) refl (λ later. areas_here rows file id old new later)
     where
       by_test : (b : Bool) → is_at file id row ≡ b
-          → (option_map (λ (r : Row (Held A)). r.value) (find (is_at file id) rows) ≡ Some old → areas_at (changed_at file id (with_value new) rows) file id ≡ areas_in new)
+          → (option_map (λ (r : Row (Held A)). r.value) (find (is_at file id) rows) ≡ Some old
+          → areas_at (changed_at file id (with_value new) rows) file id ≡ areas_in new)
           → areas_at (changed_at file id (with_value new) (row ∷ rows)) file id ≡ areas_in new
       by_test true is later = grind (arith, nat_tests)
       by_test false is later = let rest = later (rw is at found) in grind (arith, nat_tests)
 
-  areas_elsewhere : (rows : List (Row (Held A))) (file : FileNo) (id : ObjId) (new : Held A) (f : FileNo) (i : ObjId) → is_space file id f i ≡ false → areas_at (changed_at file id (with_value new) rows) f i ≡ areas_at rows f i
+  areas_elsewhere : (rows : List (Row (Held A))) (file : FileNo) (id : ObjId) (new : Held A) (f : FileNo) (i : ObjId)
+      → is_space file id f i ≡ false → areas_at (changed_at file id (with_value new) rows) f i ≡ areas_at rows f i
   areas_elsewhere [] file id new f i other = refl
-  areas_elsewhere (row ∷ rows) file id new f i other = let rest = areas_elsewhere rows file id new f i other in grind (arith, nat_tests)
+  areas_elsewhere (row ∷ rows) file id new f i other =
+      let rest = areas_elsewhere rows file id new f i other in grind (arith, nat_tests)
 
-  proper_kept : (rows : List (Row (Held A))) (file : FileNo) (kind : Kind) (id : ObjId) (old new : Held A) → have_own_ids (map object_of rows) ≡ true → option_map (λ (row : Row (Held A)). row.value) (find (is_own file kind id) rows) ≡ Some old → kind_in new ≡ kind_in old
+  proper_kept : (rows : List (Row (Held A))) (file : FileNo) (kind : Kind) (id : ObjId) (old new : Held A)
+      → have_own_ids (map object_of rows) ≡ true
+      → option_map (λ (row : Row (Held A)). row.value) (find (is_own file kind id) rows) ≡ Some old
+      → kind_in new ≡ kind_in old
       → list_all is_proper rows ≡ true → list_all is_proper (changed_at file id (with_value new) rows) ≡ true
   proper_kept [] file kind id old new ids found same proper = refl
   proper_kept (row ∷ rows) file kind id old new ids found same proper =
-      let owns = and_true (not (list_any (is_object row.file row.id) (map object_of rows))) (have_own_ids (map object_of rows)) ids in
+      let owns = and_true (not (list_any (is_object row.file row.id) (map object_of rows)))
+      (have_own_ids (map object_of rows)) ids in
       let propers = and_true (is_proper row) (list_all is_proper rows) proper in
-      by_test (is_at file id row) refl (not_true _ owns.0) propers.0 propers.1 (λ later. proper_kept rows file kind id old new owns.1 later same propers.1)
+      by_test (is_at file id row) refl (not_true _ owns.0) propers.0 propers.1
+      (λ later. proper_kept rows file kind id old new owns.1 later same propers.1)
     where
-      by_test : (b : Bool) → is_at file id row ≡ b → list_any (is_object row.file row.id) (map object_of rows) ≡ false → is_proper row ≡ true → list_all is_proper rows ≡ true
-          → (option_map (λ (r : Row (Held A)). r.value) (find (is_own file kind id) rows) ≡ Some old → list_all is_proper (changed_at file id (with_value new) rows) ≡ true)
+      by_test : (b : Bool) → is_at file id row ≡ b → list_any (is_object row.file row.id) (map object_of rows) ≡ false
+          → is_proper row ≡ true → list_all is_proper rows ≡ true
+          → (option_map (λ (r : Row (Held A)). r.value) (find (is_own file kind id) rows) ≡ Some old
+          → list_all is_proper (changed_at file id (with_value new) rows) ≡ true)
           → list_all is_proper (changed_at file id (with_value new) (row ∷ rows)) ≡ true
       by_test true is none proper rest later =
           let others = sym (same_at row file id (map object_of rows) is) ∙ none in
           let value = first_there row rows file kind id old is (none_own rows file kind id others) found in
           rw (is, not_there rows file id (with_value new) others, same, ← value, proper) rest
-      by_test false is none proper rest later = rw (is, proper) (later (rw (not_first row rows file kind id is) at found))
+      by_test false is none proper rest later =
+          rw (is, proper) (later (rw (not_first row rows file kind id is) at found))
 
   -- an object's areas are changed: the objects stay, and so do all other areas
-  pub written : (table : Table (Held A)) (file : FileNo) (kind : Kind) (ioas : ObjId) (old new : Held A) (areas : List Area) → IsOrderly table → option_map (λ (row : Row (Held A)). row.value) (own table file kind ioas) ≡ Some old → IsWith areas old new
+  pub written : (table : Table (Held A)) (file : FileNo) (kind : Kind) (ioas : ObjId) (old new : Held A)
+      (areas : List Area) → IsOrderly table → option_map (λ (row : Row (Held A)). row.value) (own table file kind ioas)
+      ≡ Some old → IsWith areas old new
       → HasAreas file ioas areas table (record table { rows = changed_at file ioas (with_value new) table.rows })
   written table file kind ioas old new areas orderly found with =
       record {
         objects = objects_kept table.rows file kind ioas old new orderly.ids found with.kind;
         proper = proper_kept table.rows file kind ioas old new orderly.ids found with.kind orderly.proper;
-        here = areas_here table.rows file ioas old new (own_is_first table.rows file kind ioas old orderly.ids found) ∙ with.has;
+        here = areas_here table.rows file ioas old new (own_is_first table.rows file kind ioas old orderly.ids found)
+            ∙ with.has;
         others = λ f i other. areas_elsewhere table.rows file ioas new f i other;
         files = refl;
       }
 
   -- nothing is changed
-  pub unwritten : (table : Table (Held A)) (file : FileNo) (ioas : ObjId) (areas : List Area) → IsOrderly table → areas_at table.rows file ioas ≡ areas → HasAreas file ioas areas table table
-  unwritten table file ioas areas orderly same = record { objects = refl; proper = orderly.proper; here = same; others = λ f i other. refl; files = refl }
+  pub unwritten : (table : Table (Held A)) (file : FileNo) (ioas : ObjId) (areas : List Area) → IsOrderly table
+      → areas_at table.rows file ioas ≡ areas → HasAreas file ioas areas table table
+  unwritten table file ioas areas orderly same =
+      record { objects = refl; proper = orderly.proper; here = same; others = λ f i other. refl; files = refl }
 
   -- the areas of what was found
-  pub areas_found : (table : Table (Held A)) (file : FileNo) (kind : Kind) (ioas : ObjId) (old : Held A) → IsOrderly table → option_map (λ (row : Row (Held A)). row.value) (own table file kind ioas) ≡ Some old → areas_at table.rows file ioas ≡ areas_in old
-  areas_found table file kind ioas old orderly found = areas_at_rows table.rows file ioas ∙ ap areas_of_held (own_is_first table.rows file kind ioas old orderly.ids found)
+  pub areas_found : (table : Table (Held A)) (file : FileNo) (kind : Kind) (ioas : ObjId) (old : Held A)
+      → IsOrderly table → option_map (λ (row : Row (Held A)). row.value) (own table file kind ioas) ≡ Some old
+      → areas_at table.rows file ioas ≡ areas_in old
+  areas_found table file kind ioas old orderly found = areas_at_rows table.rows file ioas
+      ∙ ap areas_of_held (own_is_first table.rows file kind ioas old orderly.ids found)
 
   -- no row at this id is an address space
-  no_areas : (row : Row (Held A)) (held : Held A) → row.value ≡ held → is_proper row ≡ true → is_same_kind row.kind tablekind.Ioas ≡ false → areas_in held ≡ []
+  no_areas : (row : Row (Held A)) (held : Held A) → row.value ≡ held → is_proper row ≡ true
+      → is_same_kind row.kind tablekind.Ioas ≡ false → areas_in held ≡ []
   no_areas row (held.Ioas areas) is proper other =
       let parts = and_true (is_same_kind row.kind (table_kind (kind_in row.value))) (eqb row.users 0) proper in
       let same = rw is at parts.0 in
@@ -141,39 +184,55 @@ module _ {A : Type 0} where
   no_areas row (held.Hwpt ioas width automatic) is proper other = refl
   no_areas row (held.Device device) is proper other = refl
 
-  absent : (rows : List (Row (Held A))) (file : FileNo) (ioas : ObjId) → list_all is_proper rows ≡ true → find (is_own file tablekind.Ioas ioas) rows ≡ None → areas_at rows file ioas ≡ []
+  absent : (rows : List (Row (Held A))) (file : FileNo) (ioas : ObjId) → list_all is_proper rows ≡ true
+      → find (is_own file tablekind.Ioas ioas) rows ≡ None → areas_at rows file ioas ≡ []
   absent [] file ioas proper none = refl
   absent (row ∷ rows) file ioas proper none =
       let propers = and_true (is_proper row) (list_all is_proper rows) proper in
-      by_tests (is_at file ioas row) (is_same_kind row.kind tablekind.Ioas) refl refl none propers.0 (λ later. absent rows file ioas propers.1 later)
+      by_tests (is_at file ioas row) (is_same_kind row.kind tablekind.Ioas) refl refl none propers.0
+      (λ later. absent rows file ioas propers.1 later)
     where
-      by_tests : (b k : Bool) → is_at file ioas row ≡ b → is_same_kind row.kind tablekind.Ioas ≡ k → cond (b && k) (Some row) (find (is_own file tablekind.Ioas ioas) rows) ≡ None → is_proper row ≡ true
-          → (find (is_own file tablekind.Ioas ioas) rows ≡ None → areas_at rows file ioas ≡ []) → areas_at (row ∷ rows) file ioas ≡ []
+      by_tests : (b k : Bool) → is_at file ioas row ≡ b → is_same_kind row.kind tablekind.Ioas ≡ k
+          → cond (b && k) (Some row) (find (is_own file tablekind.Ioas ioas) rows) ≡ None → is_proper row ≡ true
+          → (find (is_own file tablekind.Ioas ioas) rows ≡ None → areas_at rows file ioas ≡ [])
+          → areas_at (row ∷ rows) file ioas ≡ []
       by_tests true true is kind none proper later = cc
       by_tests true false is kind none proper later = rw (areas_at, is) (no_areas row row.value refl proper kind)
       by_tests false k is kind none proper later = rw (areas_at, is) (later none)
 
   -- where there is no address space there are no areas
-  pub areas_absent : (table : Table (Held A)) (file : FileNo) (ioas : ObjId) → IsOrderly table → own table file tablekind.Ioas ioas ≡ None → areas_at table.rows file ioas ≡ []
+  pub areas_absent : (table : Table (Held A)) (file : FileNo) (ioas : ObjId) → IsOrderly table
+      → own table file tablekind.Ioas ioas ≡ None → areas_at table.rows file ioas ≡ []
   areas_absent table file ioas orderly found = absent table.rows file ioas orderly.proper found
 
   -- the areas are what a function makes of those that were there
-  pub rewritten : (change : List Area → List Area) (table : Table (Held A)) (file : FileNo) (kind : Kind) (ioas : ObjId) (old new : Held A) → option_map (λ (row : Row (Held A)). row.value) (own table file kind ioas) ≡ Some old → IsWith (change (areas_in old)) old new
-      → IsOrderly table → HasAreas file ioas (change (areas_at table.rows file ioas)) table (record table { rows = changed_at file ioas (with_value new) table.rows })
+  pub rewritten : (change : List Area → List Area) (table : Table (Held A)) (file : FileNo) (kind : Kind) (ioas : ObjId)
+      (old new : Held A) → option_map (λ (row : Row (Held A)). row.value) (own table file kind ioas) ≡ Some old
+      → IsWith (change (areas_in old)) old new
+      → IsOrderly table → HasAreas file ioas (change (areas_at table.rows file ioas)) table
+      (record table { rows = changed_at file ioas (with_value new) table.rows })
   rewritten change table file kind ioas old new found with orderly =
       let same = areas_found table file kind ioas old orderly found in
-      written table file kind ioas old new (change (areas_at table.rows file ioas)) orderly found (record { kind = with.kind; has = with.has ∙ ap change (sym same) })
+      written table file kind ioas old new (change (areas_at table.rows file ioas)) orderly found
+      (record { kind = with.kind; has = with.has ∙ ap change (sym same) })
 
   -- ---- whether there is such an address space
 
   -- what the object is that was found
-  kind_found : (table : Table (Held A)) (file : FileNo) (kind : Kind) (ioas : ObjId) (old : Held A) → IsOrderly table → option_map (λ (row : Row (Held A)). row.value) (own table file kind ioas) ≡ Some old → kind_of (objects_in table) file ioas ≡ Some (kind_in old)
-  kind_found table file kind ioas old orderly found = kind_of_rows table.rows file ioas ∙ ap kind_at (own_is_first table.rows file kind ioas old orderly.ids found)
+  kind_found : (table : Table (Held A)) (file : FileNo) (kind : Kind) (ioas : ObjId) (old : Held A) → IsOrderly table
+      → option_map (λ (row : Row (Held A)). row.value) (own table file kind ioas) ≡ Some old
+      → kind_of (objects_in table) file ioas ≡ Some (kind_in old)
+  kind_found table file kind ioas old orderly found =
+      kind_of_rows table.rows file ioas ∙ ap kind_at (own_is_first table.rows file kind ioas old orderly.ids found)
 
-  pub space_found : (table : Table (Held A)) (file : FileNo) (kind : Kind) (ioas : ObjId) (old : Held A) → IsOrderly table → option_map (λ (row : Row (Held A)). row.value) (own table file kind ioas) ≡ Some old → has_ioas (objects_in table) file ioas ≡ true → is_ioas (kind_in old) ≡ true
-  space_found table file kind ioas old orderly found has = rw (kind_found table file kind ioas old orderly found, has_ioas) at has
+  pub space_found : (table : Table (Held A)) (file : FileNo) (kind : Kind) (ioas : ObjId) (old : Held A)
+      → IsOrderly table → option_map (λ (row : Row (Held A)). row.value) (own table file kind ioas) ≡ Some old
+      → has_ioas (objects_in table) file ioas ≡ true → is_ioas (kind_in old) ≡ true
+  space_found table file kind ioas old orderly found has =
+      rw (kind_found table file kind ioas old orderly found, has_ioas) at has
 
-  no_ioas : (row : Row (Held A)) (held : Held A) → row.value ≡ held → is_proper row ≡ true → is_same_kind row.kind tablekind.Ioas ≡ false → is_ioas (kind_in held) ≡ false
+  no_ioas : (row : Row (Held A)) (held : Held A) → row.value ≡ held → is_proper row ≡ true
+      → is_same_kind row.kind tablekind.Ioas ≡ false → is_ioas (kind_in held) ≡ false
   no_ioas row (held.Ioas areas) is proper other =
       let parts = and_true (is_same_kind row.kind (table_kind (kind_in row.value))) (eqb row.users 0) proper in
       let same : is_same_kind row.kind tablekind.Ioas ≡ true = rw is at parts.0 in
@@ -181,17 +240,22 @@ module _ {A : Type 0} where
   no_ioas row (held.Hwpt ioas width automatic) is proper other = refl
   no_ioas row (held.Device device) is proper other = refl
 
-  none_held : (rows : List (Row (Held A))) (file : FileNo) (ioas : ObjId) → list_all is_proper rows ≡ true → find (is_own file tablekind.Ioas ioas) rows ≡ None → has_ioas (map object_of rows) file ioas ≡ false
+  none_held : (rows : List (Row (Held A))) (file : FileNo) (ioas : ObjId) → list_all is_proper rows ≡ true
+      → find (is_own file tablekind.Ioas ioas) rows ≡ None → has_ioas (map object_of rows) file ioas ≡ false
   none_held [] file ioas proper none = refl
   none_held (row ∷ rows) file ioas proper none =
       let propers = and_true (is_proper row) (list_all is_proper rows) proper in
-      by_tests (is_at file ioas row) (is_same_kind row.kind tablekind.Ioas) refl refl none propers.0 (λ later. none_held rows file ioas propers.1 later)
+      by_tests (is_at file ioas row) (is_same_kind row.kind tablekind.Ioas) refl refl none propers.0
+      (λ later. none_held rows file ioas propers.1 later)
     where
-      by_tests : (b k : Bool) → is_at file ioas row ≡ b → is_same_kind row.kind tablekind.Ioas ≡ k → cond (b && k) (Some row) (find (is_own file tablekind.Ioas ioas) rows) ≡ None → is_proper row ≡ true
-          → (find (is_own file tablekind.Ioas ioas) rows ≡ None → has_ioas (map object_of rows) file ioas ≡ false) → has_ioas (map object_of (row ∷ rows)) file ioas ≡ false
+      by_tests : (b k : Bool) → is_at file ioas row ≡ b → is_same_kind row.kind tablekind.Ioas ≡ k
+          → cond (b && k) (Some row) (find (is_own file tablekind.Ioas ioas) rows) ≡ None → is_proper row ≡ true
+          → (find (is_own file tablekind.Ioas ioas) rows ≡ None → has_ioas (map object_of rows) file ioas ≡ false)
+          → has_ioas (map object_of (row ∷ rows)) file ioas ≡ false
       by_tests true true is kind none proper later = cc
       by_tests true false is kind none proper later = rw (has_ioas, is) (no_ioas row row.value refl proper kind)
       by_tests false k is kind none proper later = rw (has_ioas, is) (later none)
 
-  pub space_absent : (table : Table (Held A)) (file : FileNo) (ioas : ObjId) → IsOrderly table → own table file tablekind.Ioas ioas ≡ None → has_ioas (objects_in table) file ioas ≡ true → ⊥
+  pub space_absent : (table : Table (Held A)) (file : FileNo) (ioas : ObjId) → IsOrderly table
+      → own table file tablekind.Ioas ioas ≡ None → has_ioas (objects_in table) file ioas ≡ true → ⊥
   space_absent table file ioas orderly found has = let none = none_held table.rows file ioas orderly.proper found in cc

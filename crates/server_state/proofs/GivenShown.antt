@@ -1,5 +1,6 @@
 -- Frames are shown once the tables of page tables that are gone have given theirs back.
-use Rattle.std.proofs.Common.{◌≡◌, ℕ, ◌+◌, ◌<◌, Bool, true, false, not, ltb, List, [], get_or, length, refl, ap, sym, ◌∙◌, arith}
+use Rattle.std.proofs.Common.{◌≡◌, ℕ, ◌+◌, ◌<◌, Bool, true, false, not, ltb, List, [], get_or, length, refl, ap, sym}
+use Rattle.std.proofs.Common.{◌∙◌, arith}
 use Rattle.std.specs.Prelude.{slice_index}
 use Rattle.std.specs.List.{filter}
 use Rattle.std.proofs.lemmas.Bool.Decides.{nat_tests}
@@ -13,7 +14,8 @@ use Rattle.table_words.specs.Rows.{TableRow}
 use Rattle.table_words.specs.Taken.{names}
 use Rattle.user_memory.specs.Memory.{Memory, reached}
 
-module _ (pool : ℕ) (writes : List FrameWrite) (frames : List TableFrame) (goes : TableFrame → Bool) (rows : List TableRow) (memory : Memory) (before after : FramePool)
+module _ (pool : ℕ) (writes : List FrameWrite) (frames : List TableFrame) (goes : TableFrame
+    → Bool) (rows : List TableRow) (memory : Memory) (before after : FramePool)
     (shown : FramesShown pool writes frames memory before)
     (unreached : (f : ℕ) → 0 < tables_in frames f → reached memory f ≡ 0)
     (named : (f : ℕ) → names rows f ≡ ltb 0 (tables_in (filter goes frames) f))
@@ -45,8 +47,10 @@ module _ (pool : ℕ) (writes : List FrameWrite) (frames : List TableFrame) (goe
   given_shown = record {
     size = releases.count ∙ shown.size;
     count = ap (λ (all : List (List ℕ)). length all) releases.bytes ∙ shown.count;
-    full = λ f within some. ap (λ (all : List (List ℕ)). length (get_or all f [])) releases.bytes ∙ shown.full f within some;
+    full = λ f within some. ap (λ (all : List (List ℕ)). length (get_or all f [])) releases.bytes
+        ∙ shown.full f within some;
     holds = holds_after;
     once = λ f. let sum = parts goes frames f in let few = shown.once f in omega (arith, sum, few);
-    written = λ f offset within below some. ap (λ (all : List (List ℕ)). get_or (get_or all f []) offset 0) releases.bytes ∙ shown.written f offset within below some;
+    written = λ f offset within below some. ap (λ (all : List (List ℕ)). get_or (get_or all f []) offset 0)
+        releases.bytes ∙ shown.written f offset within below some;
   }

@@ -1,5 +1,6 @@
 -- The objects of the world that a table has.
-use Rattle.std.proofs.Common.{◌≡◌, ℕ, Bool, true, false, cond, ◌&&◌, ◌||◌, eqb, ap, Option, Some, None, List, [], ◌∷◌, map, find, refl, sym, ◌∙◌, arith}
+use Rattle.std.proofs.Common.{◌≡◌, ℕ, Bool, true, false, cond, ◌&&◌, ◌||◌, eqb, ap, Option, Some, None, List, [], ◌∷◌}
+use Rattle.std.proofs.Common.{map, find, refl, sym, ◌∙◌, arith}
 use Rattle.std.specs.List.{filter, list_any}
 use Rattle.std.specs.Option.{option_map}
 use Rattle.std.proofs.lemmas.Bool.Decides.{nat_tests}
@@ -7,7 +8,8 @@ use Rattle.iofd_rows.specs.Reached.{ends_in, ends_in_kind}
 use Rattle.iofd_words.specs.Bounds.{Bounds}
 use Rattle.iofd_words.specs.Ranges.{meets_some}
 use Rattle.iofd_words.specs.Usable.{beyond_table}
-use Rattle.iofd_words.specs.Objects.{is_ioas, is_object, is_hwpt_over, is_automatic_over, kind_of, has_ioas, has_hwpt, automatic_hwpt}
+use Rattle.iofd_words.specs.Objects.{is_ioas, is_object, is_hwpt_over, is_automatic_over, kind_of, has_ioas, has_hwpt}
+use Rattle.iofd_words.specs.Objects.{automatic_hwpt}
 use Rattle.iofd_words.specs.declared.numbers.FileNo.{FileNo}
 use Rattle.iofd_words.specs.declared.numbers.ObjId.{ObjId}
 use Rattle.iofd_words.specs.declared.rows.Area.{Area}
@@ -40,37 +42,52 @@ module _ {A : Type 0} where
   abbrev pub value_at : List (Row (Held A)) → FileNo → ObjId → Option (Held A)
   value_at rows file id = option_map (λ (row : Row (Held A)). row.value) (find (is_at file id) rows)
 
-  pub kind_of_rows : (rows : List (Row (Held A))) (file : FileNo) (id : ObjId) → kind_of (map object_of rows) file id ≡ kind_at (value_at rows file id)
+  pub kind_of_rows : (rows : List (Row (Held A))) (file : FileNo) (id : ObjId)
+      → kind_of (map object_of rows) file id ≡ kind_at (value_at rows file id)
   kind_of_rows [] file id = refl
   kind_of_rows (row ∷ rows) file id = let rest = kind_of_rows rows file id in grind (arith, nat_tests)
 
-  pub has_ioas_rows : (rows : List (Row (Held A))) (file : FileNo) (id : ObjId) → has_ioas (map object_of rows) file id ≡ is_space (value_at rows file id)
+  pub has_ioas_rows : (rows : List (Row (Held A))) (file : FileNo) (id : ObjId)
+      → has_ioas (map object_of rows) file id ≡ is_space (value_at rows file id)
   has_ioas_rows [] file id = refl
   has_ioas_rows (row ∷ rows) file id = let rest = has_ioas_rows rows file id in grind (arith, nat_tests)
 
-  pub areas_at_rows : (rows : List (Row (Held A))) (file : FileNo) (id : ObjId) → areas_at rows file id ≡ areas_of_held (value_at rows file id)
+  pub areas_at_rows : (rows : List (Row (Held A))) (file : FileNo) (id : ObjId)
+      → areas_at rows file id ≡ areas_of_held (value_at rows file id)
   areas_at_rows [] file id = refl
   areas_at_rows (row ∷ rows) file id = let rest = areas_at_rows rows file id in grind (arith, nat_tests)
 
   -- a search among the objects of a file is one among its rows
-  pub ends_in_rows : (rows : List (Row (Held A))) (file : FileNo) (ioas : ObjId) (span : Bounds) → list_any (ends_in file ioas span) (map object_of rows) ≡ list_any (λ (row : Row (Held A)). ends_in_kind ioas span (kind_in row.value)) (filter (is_of_file file) rows)
+  pub ends_in_rows : (rows : List (Row (Held A))) (file : FileNo) (ioas : ObjId) (span : Bounds)
+      → list_any (ends_in file ioas span) (map object_of rows) ≡ list_any
+      (λ (row : Row (Held A)). ends_in_kind ioas span (kind_in row.value)) (filter (is_of_file file) rows)
   ends_in_rows [] file ioas span = refl
   ends_in_rows (row ∷ rows) file ioas span = by_file (eqb row.file.0 file.0) refl (ends_in_rows rows file ioas span)
     where
-      by_file : (b : Bool) → eqb row.file.0 file.0 ≡ b → list_any (ends_in file ioas span) (map object_of rows) ≡ list_any (λ (row : Row (Held A)). ends_in_kind ioas span (kind_in row.value)) (filter (is_of_file file) rows)
-          → (((b && is_hwpt_over ioas (kind_in row.value)) && meets_some (beyond_table (kind_in row.value)) span) || list_any (ends_in file ioas span) (map object_of rows))
-          ≡ list_any (λ (row : Row (Held A)). ends_in_kind ioas span (kind_in row.value)) (cond b (row ∷ filter (is_of_file file) rows) (filter (is_of_file file) rows))
+      by_file : (b : Bool) → eqb row.file.0 file.0 ≡ b
+          → list_any (ends_in file ioas span) (map object_of rows) ≡ list_any
+          (λ (row : Row (Held A)). ends_in_kind ioas span (kind_in row.value)) (filter (is_of_file file) rows)
+          → (((b && is_hwpt_over ioas (kind_in row.value)) && meets_some (beyond_table (kind_in row.value)) span)
+          || list_any (ends_in file ioas span) (map object_of rows))
+          ≡ list_any (λ (row : Row (Held A)). ends_in_kind ioas span (kind_in row.value))
+          (cond b (row ∷ filter (is_of_file file) rows) (filter (is_of_file file) rows))
       by_file true is rest = ap (λ c. ends_in_kind ioas span (kind_in row.value) || c) rest
       by_file false is rest = rest
 
-  pub automatic_rows : (rows : List (Row (Held A))) (file : FileNo) (ioas : ObjId) (width : Width) → option_map (λ (object : Object). object.id) (automatic_hwpt (map object_of rows) file ioas width)
-      ≡ option_map (λ (row : Row (Held A)). row.id) (find (λ (row : Row (Held A)). is_automatic_over ioas width (kind_in row.value)) (filter (is_of_file file) rows))
+  pub automatic_rows : (rows : List (Row (Held A))) (file : FileNo) (ioas : ObjId) (width : Width)
+      → option_map (λ (object : Object). object.id) (automatic_hwpt (map object_of rows) file ioas width)
+      ≡ option_map (λ (row : Row (Held A)). row.id)
+      (find (λ (row : Row (Held A)). is_automatic_over ioas width (kind_in row.value))
+      (filter (is_of_file file) rows))
   automatic_rows [] file ioas width = refl
-  automatic_rows (row ∷ rows) file ioas width = let rest = automatic_rows rows file ioas width in grind (arith, nat_tests)
+  automatic_rows (row ∷ rows) file ioas width =
+      let rest = automatic_rows rows file ioas width in grind (arith, nat_tests)
 
   -- what is no address space has no areas
-  pub no_space : (rows : List (Row (Held A))) (file : FileNo) (ioas : ObjId) → has_ioas (map object_of rows) file ioas ≡ false → areas_at rows file ioas ≡ []
-  no_space rows file ioas is = areas_at_rows rows file ioas ∙ by_held (value_at rows file ioas) (sym (has_ioas_rows rows file ioas) ∙ is)
+  pub no_space : (rows : List (Row (Held A))) (file : FileNo) (ioas : ObjId)
+      → has_ioas (map object_of rows) file ioas ≡ false → areas_at rows file ioas ≡ []
+  no_space rows file ioas is =
+      areas_at_rows rows file ioas ∙ by_held (value_at rows file ioas) (sym (has_ioas_rows rows file ioas) ∙ is)
     where
       by_held : (held : Option (Held A)) → is_space held ≡ false → areas_of_held held ≡ []
       by_held None is = refl
@@ -81,18 +98,24 @@ module _ {A : Type 0} where
 -- ---- of a world
 
 -- a page table's address space has one
-pub has_table : (objects : List Object) (file : FileNo) (id ioas : ObjId) (width : Width) (automatic : Bool) → kind_of objects file id ≡ Some (kind.Hwpt ioas width automatic) → has_hwpt objects file ioas ≡ true
+pub has_table : (objects : List Object) (file : FileNo) (id ioas : ObjId) (width : Width) (automatic : Bool)
+    → kind_of objects file id ≡ Some (kind.Hwpt ioas width automatic) → has_hwpt objects file ioas ≡ true
 has_table [] file id ioas width automatic is = cc
-has_table (object ∷ objects) file id ioas width automatic is = by_name (is_object file id object) refl is (λ later. has_table objects file id ioas width automatic later)
+has_table (object ∷ objects) file id ioas width automatic is =
+    by_name (is_object file id object) refl is (λ later. has_table objects file id ioas width automatic later)
   where
     itself : (n : ℕ) → eqb n n ≡ true
     itself n = grind (arith, nat_tests)
 
-    by_name : (b : Bool) → is_object file id object ≡ b → elim (cond b (Some object) (find (is_object file id) objects)) as (λ _. Option ObjectKind) [ Some o ↦ Some o.kind | None ↦ None ] ≡ Some (kind.Hwpt ioas width automatic)
-        → (kind_of objects file id ≡ Some (kind.Hwpt ioas width automatic) → has_hwpt objects file ioas ≡ true) → ((eqb object.file.0 file.0 && is_hwpt_over ioas object.kind) || has_hwpt objects file ioas) ≡ true
+    by_name : (b : Bool) → is_object file id object ≡ b
+        → elim (cond b (Some object) (find (is_object file id) objects)) as (λ _. Option ObjectKind)
+        [ Some o ↦ Some o.kind | None ↦ None ] ≡ Some (kind.Hwpt ioas width automatic)
+        → (kind_of objects file id ≡ Some (kind.Hwpt ioas width automatic) → has_hwpt objects file ioas ≡ true)
+        → ((eqb object.file.0 file.0 && is_hwpt_over ioas object.kind) || has_hwpt objects file ioas) ≡ true
     by_name true named is later =
         let names = and_true (eqb object.file.0 file.0) (eqb object.id.0 id.0) named in
         let same : object.kind ≡ kind.Hwpt ioas width automatic = cc in
         let over : is_hwpt_over ioas object.kind ≡ true = ap (is_hwpt_over ioas) same ∙ itself ioas.0 in
         rw (names.0, over) refl
-    by_name false named is later = or_right (eqb object.file.0 file.0 && is_hwpt_over ioas object.kind) (has_hwpt objects file ioas) (later is)
+    by_name false named is later =
+        or_right (eqb object.file.0 file.0 && is_hwpt_over ioas object.kind) (has_hwpt objects file ioas) (later is)

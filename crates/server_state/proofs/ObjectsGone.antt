@@ -1,5 +1,6 @@
 -- What objects that go leave of what is kept.
-use Rattle.std.proofs.Common.{◌≡◌, ℕ, Bool, true, false, cond, eqb, ltb, is_none, Option, Some, None, List, [], ◌∷◌, map, refl, arith}
+use Rattle.std.proofs.Common.{◌≡◌, ℕ, Bool, true, false, cond, eqb, ltb, is_none, Option, Some, None, List, [], ◌∷◌}
+use Rattle.std.proofs.Common.{map, refl, arith}
 use Rattle.std.specs.List.{find, list_all}
 use Rattle.std.specs.Option.{option_map_or}
 use Rattle.std.proofs.lemmas.Bool.Decides.{nat_tests}
@@ -20,30 +21,45 @@ kind_from o = elim o [ Some object ↦ Some object.kind | None ↦ None ]
 module _ {A : Type 0} where
   -- ---- one row goes
 
-  pub objects-removed : (rows : List (Row (Held A))) (file : FileNo) (id : ObjId) → map object_of (removed file id rows) ≡ without_object file id (map object_of rows)
+  pub objects-removed : (rows : List (Row (Held A))) (file : FileNo) (id : ObjId)
+      → map object_of (removed file id rows) ≡ without_object file id (map object_of rows)
   objects-removed [] file id = refl
   objects-removed (row ∷ rows) file id = let rest = objects-removed rows file id in grind (arith, nat_tests)
 
   -- an object that stands under its kind, and that nobody uses, may go
-  found_own : (rows : List (Row (Held A))) (file : FileNo) (id : ObjId) (k : ObjectKind) → list_all is_proper rows ≡ true → kind_of (map object_of rows) file id ≡ Some k
-      → (is_none (find (is_own file (table_kind k) id) rows) ≡ false) × (option_map_or (λ (row : Row (Held A)). ltb 0 row.users) (find (is_own file (table_kind k) id) rows) false ≡ false)
+  found_own : (rows : List (Row (Held A))) (file : FileNo) (id : ObjId) (k : ObjectKind)
+      → list_all is_proper rows ≡ true → kind_of (map object_of rows) file id ≡ Some k
+      → (is_none (find (is_own file (table_kind k) id) rows) ≡ false)
+      × (option_map_or (λ (row : Row (Held A)). ltb 0 row.users)
+      (find (is_own file (table_kind k) id) rows) false ≡ false)
   found_own [] file id k proper is_kind = cc
   found_own (row ∷ rows) file id k proper is_kind =
       let parts = and_true (is_proper row) (list_all is_proper rows) proper in
       let here = and_true (is_same_kind row.kind (table_kind (kind_in row.value))) (eqb row.users 0) parts.0 in
-      by_test (is_at file id row) refl is_kind here.0 (unused row.users here.1) (λ later. found_own rows file id k parts.1 later)
+      by_test (is_at file id row) refl is_kind here.0 (unused row.users here.1)
+      (λ later. found_own rows file id k parts.1 later)
     where
       unused : (n : ℕ) → eqb n 0 ≡ true → ltb 0 n ≡ false
       unused n is = grind (arith, nat_tests)
 
-      by_test : (b : Bool) → is_at file id row ≡ b → kind_from (cond b (Some (object_of row)) (find (is_object file id) (map object_of rows))) ≡ Some k → is_same_kind row.kind (table_kind (kind_in row.value)) ≡ true → ltb 0 row.users ≡ false
-          → (kind_of (map object_of rows) file id ≡ Some k → (is_none (find (is_own file (table_kind k) id) rows) ≡ false) × (option_map_or (λ (row : Row (Held A)). ltb 0 row.users) (find (is_own file (table_kind k) id) rows) false ≡ false))
-          → (is_none (find (is_own file (table_kind k) id) (row ∷ rows)) ≡ false) × (option_map_or (λ (row : Row (Held A)). ltb 0 row.users) (find (is_own file (table_kind k) id) (row ∷ rows)) false ≡ false)
+      by_test : (b : Bool) → is_at file id row ≡ b
+          → kind_from (cond b (Some (object_of row)) (find (is_object file id) (map object_of rows))) ≡ Some k
+          → is_same_kind row.kind (table_kind (kind_in row.value)) ≡ true → ltb 0 row.users ≡ false
+          → (kind_of (map object_of rows) file id ≡ Some k
+          → (is_none (find (is_own file (table_kind k) id) rows) ≡ false)
+          × (option_map_or (λ (row : Row (Held A)). ltb 0 row.users)
+          (find (is_own file (table_kind k) id) rows) false ≡ false))
+          → (is_none (find (is_own file (table_kind k) id) (row ∷ rows)) ≡ false)
+          × (option_map_or (λ (row : Row (Held A)). ltb 0 row.users)
+          (find (is_own file (table_kind k) id) (row ∷ rows)) false ≡ false)
       by_test true is is_kind same users later =
           let of_kind : kind_in row.value ≡ k = cc in
           let own_kind : is_same_kind row.kind (table_kind k) ≡ true = rw of_kind at same in
           (rw (is, own_kind) refl, rw (is, own_kind) users)
       by_test false is is_kind same users later = let rest = later is_kind in (rw is rest.0, rw is rest.1)
 
-  pub may_go : (table : Table (Held A)) (file : FileNo) (id : ObjId) (k : ObjectKind) → list_all is_proper table.rows ≡ true → kind_of (objects_in table) file id ≡ Some k → destroy_refusal table file (table_kind k) id ≡ None
-  may_go table file id k proper is_kind = let found = found_own table.rows file id k proper is_kind in rw (found.0, found.1) refl
+  pub may_go : (table : Table (Held A)) (file : FileNo) (id : ObjId) (k : ObjectKind)
+      → list_all is_proper table.rows ≡ true → kind_of (objects_in table) file id ≡ Some k
+      → destroy_refusal table file (table_kind k) id ≡ None
+  may_go table file id k proper is_kind =
+      let found = found_own table.rows file id k proper is_kind in rw (found.0, found.1) refl

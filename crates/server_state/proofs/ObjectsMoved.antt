@@ -1,9 +1,11 @@
 -- What objects that come or go leave of what is kept.
-use Rattle.std.proofs.Common.{◌≡◌, ◌<◌, ◌^◌, is_some, Vec, Bool, true, false, cond, leb, Option, Some, None, List, [], ◌∷◌, length, map, refl, sym, ◌∙◌, ap, arith}
+use Rattle.std.proofs.Common.{◌≡◌, ◌<◌, ◌^◌, is_some, Vec, Bool, true, false, cond, leb, Option, Some, None, List, []}
+use Rattle.std.proofs.Common.{◌∷◌, length, map, refl, sym, ◌∙◌, ap, arith}
 use Rattle.std.specs.List.{find, filter, list_all}
 use Rattle.std.specs.Option.{option_map}
 use Rattle.std.proofs.lemmas.Bool.Decides.{nat_tests}
-use Rattle.iofd_words.specs.Objects.{binding_of, comes_before, is_bound_as, is_fresh, is_full, is_hwpt, kind_of, objects_of, with_object}
+use Rattle.iofd_words.specs.Objects.{binding_of, comes_before, is_bound_as, is_fresh, is_full, is_hwpt, kind_of}
+use Rattle.iofd_words.specs.Objects.{objects_of, with_object}
 use Rattle.iofd_words.specs.World.{World}
 use Rattle.iofd_words.specs.declared.numbers.DeviceNo.{DeviceNo}
 use Rattle.iofd_words.specs.declared.numbers.FileNo.{FileNo}
@@ -23,62 +25,83 @@ use Rattle.server_state.specs.declared.state.State.{State}
 use Rattle.object_table.specs.Table.{Row, Table, inserted, is_at, is_of_file, stands_before}
 
 -- an object that is no page table comes among page tables
-pub tables_beside : (object : Object) (objects : List Object) → is_hwpt object.kind ≡ false → page_tables_among (with_object object objects) ≡ page_tables_among objects
+pub tables_beside : (object : Object) (objects : List Object) → is_hwpt object.kind ≡ false
+    → page_tables_among (with_object object objects) ≡ page_tables_among objects
 tables_beside object [] other = rw other refl
 tables_beside object (o ∷ objects) other = by_order (comes_before object o) (tables_beside object objects other)
   where
-    by_order : (b : Bool) → page_tables_among (with_object object objects) ≡ page_tables_among objects → page_tables_among (cond b (object ∷ o ∷ objects) (o ∷ with_object object objects)) ≡ page_tables_among (o ∷ objects)
+    by_order : (b : Bool) → page_tables_among (with_object object objects) ≡ page_tables_among objects
+        → page_tables_among (cond b (object ∷ o ∷ objects) (o ∷ with_object object objects))
+        ≡ page_tables_among (o ∷ objects)
     by_order true rest = rw other refl
     by_order false rest = ap (λ (l : List Object). cond (is_hwpt o.kind) (o ∷ l) l) rest
 
 module _ {A : Type 0} where
   -- ---- how many there are
 
-  same_count : (rows : List (Row (Held A))) (file : FileNo) → length (objects_of (map object_of rows) file) ≡ length (filter (is_of_file file) rows)
+  same_count : (rows : List (Row (Held A))) (file : FileNo)
+      → length (objects_of (map object_of rows) file) ≡ length (filter (is_of_file file) rows)
   same_count [] file = refl
   same_count (row ∷ rows) file = let rest = same_count rows file in grind (arith, nat_tests)
 
-  pub is_full_rows : (rows : List (Row (Held A))) (file : FileNo) → is_full (map object_of rows) file ≡ leb 65535 (length (filter (is_of_file file) rows))
+  pub is_full_rows : (rows : List (Row (Held A))) (file : FileNo)
+      → is_full (map object_of rows) file ≡ leb 65535 (length (filter (is_of_file file) rows))
   is_full_rows rows file = ap (leb 65535) (same_count rows file)
 
   -- ---- an object comes
 
-  pub objects-inserted : (row : Row (Held A)) (rows : List (Row (Held A))) → map object_of (inserted row rows) ≡ with_object (object_of row) (map object_of rows)
+  pub objects-inserted : (row : Row (Held A)) (rows : List (Row (Held A)))
+      → map object_of (inserted row rows) ≡ with_object (object_of row) (map object_of rows)
   objects-inserted row [] = refl
   objects-inserted row (next ∷ rows) = by_order (stands_before row next) (objects-inserted row rows)
     where
-      by_order : (b : Bool) → map object_of (inserted row rows) ≡ with_object (object_of row) (map object_of rows) → map object_of (cond b (row ∷ next ∷ rows) (next ∷ inserted row rows)) ≡ cond b (object_of row ∷ object_of next ∷ map object_of rows) (object_of next ∷ with_object (object_of row) (map object_of rows))
+      by_order : (b : Bool) → map object_of (inserted row rows) ≡ with_object (object_of row) (map object_of rows)
+          → map object_of (cond b (row ∷ next ∷ rows) (next ∷ inserted row rows)) ≡ cond b
+          (object_of row ∷ object_of next ∷ map object_of rows)
+          (object_of next ∷ with_object (object_of row) (map object_of rows))
       by_order true rest = refl
       by_order false rest = ap (λ l. object_of next ∷ l) rest
 
-  pub proper-inserted : (row : Row (Held A)) (rows : List (Row (Held A))) → is_proper row ≡ true → list_all is_proper rows ≡ true → list_all is_proper (inserted row rows) ≡ true
+  pub proper-inserted : (row : Row (Held A)) (rows : List (Row (Held A))) → is_proper row ≡ true
+      → list_all is_proper rows ≡ true → list_all is_proper (inserted row rows) ≡ true
   proper-inserted row [] here all = rw here refl
   proper-inserted row (next ∷ rows) here all =
       let parts = and_true (is_proper next) (list_all is_proper rows) all in
-      by_order (stands_before row next) (both_true _ _ here all) (both_true _ _ parts.0 (proper-inserted row rows here parts.1))
+      by_order (stands_before row next) (both_true _ _ here all)
+      (both_true _ _ parts.0 (proper-inserted row rows here parts.1))
     where
-      by_order : (b : Bool) → list_all is_proper (row ∷ next ∷ rows) ≡ true → list_all is_proper (next ∷ inserted row rows) ≡ true → list_all is_proper (cond b (row ∷ next ∷ rows) (next ∷ inserted row rows)) ≡ true
+      by_order : (b : Bool) → list_all is_proper (row ∷ next ∷ rows) ≡ true
+          → list_all is_proper (next ∷ inserted row rows) ≡ true
+          → list_all is_proper (cond b (row ∷ next ∷ rows) (next ∷ inserted row rows)) ≡ true
       by_order true first later = first
       by_order false first later = later
 
   -- an object that has no areas, under an unused id
-  pub areas-inserted : (row : Row (Held A)) (rows : List (Row (Held A))) (file : FileNo) (id : ObjId) → areas_in row.value ≡ [] → find (is_at row.file row.id) rows ≡ None → areas_at (inserted row rows) file id ≡ areas_at rows file id
+  pub areas-inserted : (row : Row (Held A)) (rows : List (Row (Held A))) (file : FileNo) (id : ObjId)
+      → areas_in row.value ≡ [] → find (is_at row.file row.id) rows ≡ None
+      → areas_at (inserted row rows) file id ≡ areas_at rows file id
   areas-inserted row [] file id none unused = grind (arith, nat_tests)
-  areas-inserted row (next ∷ rows) file id none unused = let rest = areas-inserted row rows file id none in grind (arith, nat_tests)
+  areas-inserted row (next ∷ rows) file id none unused =
+      let rest = areas-inserted row rows file id none in grind (arith, nat_tests)
 
   -- one that no other id is like, in its file
-  pub shows_inserted : (w : World) (s : State A) (row : Row (Held A)) (table : Table (Held A)) (bindings : Vec Object A) → Shows w s → is_proper row ≡ true → areas_in row.value ≡ [] → find (is_at row.file row.id) s.objects.rows ≡ None
+  pub shows_inserted : (w : World) (s : State A) (row : Row (Held A)) (table : Table (Held A)) (bindings : Vec Object A)
+      → Shows w s → is_proper row ≡ true → areas_in row.value ≡ [] → find (is_at row.file row.id) s.objects.rows ≡ None
       → is_hwpt (object_of row).kind ≡ false
       → table.rows ≡ inserted row s.objects.rows → table.files ≡ s.objects.files
-      → ((device : DeviceNo) → binding_of (with_object (object_of row) w.objects) device ≡ find (λ object. is_bound_as device object.kind) bindings.items)
-      → Shows (record w { objects = with_object (object_of row) w.objects }) (record s { objects = table; bindings = bindings })
+      → ((device : DeviceNo) → binding_of (with_object (object_of row) w.objects) device ≡ find
+      (λ object. is_bound_as device object.kind) bindings.items)
+      → Shows (record w { objects = with_object (object_of row) w.objects })
+      (record s { objects = table; bindings = bindings })
   shows_inserted w s row table bindings shows proper none unused no_table rows files bound =
       record {
         settings = shows.settings;
         objects = record {
-          rows = ap (with_object (object_of row)) shows.objects.rows ∙ sym (objects-inserted row s.objects.rows) ∙ ap (map object_of) (sym rows);
+          rows = ap (with_object (object_of row)) shows.objects.rows ∙ sym (objects-inserted row s.objects.rows)
+              ∙ ap (map object_of) (sym rows);
           proper = rw rows (proper-inserted row s.objects.rows proper shows.objects.proper);
-          spaces = λ file id. shows.objects.spaces file id ∙ sym (areas-inserted row s.objects.rows file id none unused) ∙ ap (λ l. areas_at l file id) (sym rows);
+          spaces = λ file id. shows.objects.spaces file id ∙ sym (areas-inserted row s.objects.rows file id none unused)
+              ∙ ap (λ l. areas_at l file id) (sym rows);
           files = λ number. rw files (shows.objects.files number);
         };
         devices = record { bindings = bound; attached = shows.devices.attached };
@@ -88,19 +111,28 @@ module _ {A : Type 0} where
         pins = pins_moved w.objects (with_object (object_of row) w.objects) w.areas w.areas w.memory w.pins s.memory
             shows.pins (λ number. refl)
             (translated_same w.objects (with_object (object_of row) w.objects) w.areas
-            (λ file ioas. same_hwpt (object_of row) w.objects file ioas (over_no_other ioas (object_of row).kind no_table)));
+            (λ file ioas. same_hwpt (object_of row) w.objects file ioas
+            (over_no_other ioas (object_of row).kind no_table)));
         frames = shows.frames;
-        tables = record { tables = shows.tables.tables ∙ sym (tables_beside (object_of row) w.objects no_table); widths = shows.tables.widths; stand = shows.tables.stand };
+        tables = record {
+          tables = shows.tables.tables ∙ sym (tables_beside (object_of row) w.objects no_table);
+          widths = shows.tables.widths;
+          stand = shows.tables.stand;
+        };
       }
 
-  no_kind : (o : Option (Row (Held A))) → o ≡ None → is_some (kind_at (option_map (λ (row : Row (Held A)). row.value) o)) ≡ false
+  no_kind : (o : Option (Row (Held A))) → o ≡ None
+      → is_some (kind_at (option_map (λ (row : Row (Held A)). row.value) o)) ≡ false
   no_kind None is = refl
   no_kind (Some row) is = cc
 
   -- an unused id in range may be given out
-  pub fresh_id : (rows : List (Row (Held A))) (file : FileNo) (id : ObjId) → 0 < id.0 → id.0 < 2 ^ 31 → find (is_at file id) rows ≡ None → is_fresh (map object_of rows) file id ≡ true
+  pub fresh_id : (rows : List (Row (Held A))) (file : FileNo) (id : ObjId) → 0 < id.0 → id.0 < 2 ^ 31
+      → find (is_at file id) rows ≡ None → is_fresh (map object_of rows) file id ≡ true
   fresh_id rows file id above below unused =
-      let no : is_some (kind_of (map object_of rows) file id) ≡ false = ap (λ (o : Option ObjectKind). is_some o) (kind_of_rows rows file id) ∙ no_kind (find (is_at file id) rows) unused in
+      let no : is_some (kind_of (map object_of rows) file id) ≡ false =
+      ap (λ (o : Option ObjectKind). is_some o) (kind_of_rows rows file id)
+      ∙ no_kind (find (is_at file id) rows) unused in
       let low : leb 1 id.0 ≡ true = search (above, arith, nat_tests) in
       let high : leb id.0 2147483647 ≡ true = search (below, arith, nat_tests) in
       rw (low, high, no) refl

@@ -32,11 +32,14 @@ over_no_other ioas (kind.Device device) is = refl
 
 module _ (tables objects : List Object) (are : tables ≡ page_tables_among objects) where
   -- a test that only page tables pass
-  pub any_kept : (test : Object → Bool) → ((object : Object) → test object ≡ true → is_hwpt object.kind ≡ true) → list_any test objects ≡ list_any test tables
+  pub any_kept : (test : Object → Bool) → ((object : Object) → test object ≡ true → is_hwpt object.kind ≡ true)
+      → list_any test objects ≡ list_any test tables
   any_kept test only =
       alike (list_any test objects) (list_any test tables)
-      (λ some. among ∙ any_weaker test (λ (o : Object). is_hwpt o.kind && test o) objects (λ o passes. both_true _ _ (only o passes) passes) some)
-      (λ some. any_weaker (λ (o : Object). is_hwpt o.kind && test o) test objects (λ o both. (and_true (is_hwpt o.kind) (test o) both).1) (sym among ∙ some))
+      (λ some. among ∙ any_weaker test (λ (o : Object). is_hwpt o.kind && test o) objects
+      (λ o passes. both_true _ _ (only o passes) passes) some)
+      (λ some. any_weaker (λ (o : Object). is_hwpt o.kind && test o) test objects
+      (λ o both. (and_true (is_hwpt o.kind) (test o) both).1) (sym among ∙ some))
     where
       among : list_any test tables ≡ list_any (λ (o : Object). is_hwpt o.kind && test o) objects
       among = ap (list_any test) are ∙ any-filter test (λ (o : Object). is_hwpt o.kind) objects
@@ -48,19 +51,25 @@ module _ (tables objects : List Object) (are : tables ≡ page_tables_among obje
 
 -- ---- of page tables with their roots
 
-pub found_among : (test : Object → Bool) (tables : List Hwpt) → find test (map (λ (h : Hwpt). h.object) tables) ≡ option_map (λ (h : Hwpt). h.object) (find (λ (h : Hwpt). test h.object) tables)
+pub found_among : (test : Object → Bool) (tables : List Hwpt)
+    → find test (map (λ (h : Hwpt). h.object) tables) ≡ option_map (λ (h : Hwpt). h.object)
+    (find (λ (h : Hwpt). test h.object) tables)
 found_among test [] = refl
 found_among test (h ∷ tables) = by_test (test h.object) (found_among test tables)
   where
-    by_test : (b : Bool) → find test (map (λ (h : Hwpt). h.object) tables) ≡ option_map (λ (h : Hwpt). h.object) (find (λ (h : Hwpt). test h.object) tables)
-        → cond b (Some h.object) (find test (map (λ (h : Hwpt). h.object) tables)) ≡ option_map (λ (h : Hwpt). h.object) (cond b (Some h) (find (λ (h : Hwpt). test h.object) tables))
+    by_test : (b : Bool) → find test (map (λ (h : Hwpt). h.object) tables) ≡ option_map (λ (h : Hwpt). h.object)
+        (find (λ (h : Hwpt). test h.object) tables)
+        → cond b (Some h.object) (find test (map (λ (h : Hwpt). h.object) tables)) ≡ option_map (λ (h : Hwpt). h.object)
+        (cond b (Some h) (find (λ (h : Hwpt). test h.object) tables))
     by_test true rest = refl
     by_test false rest = rest
 
 -- ---- of what is kept
 
-pub tables_shown : {A : Type 0} (w : World) (s : State A) → Shows w s → objects_of s.page_tables ≡ page_tables_among (objects_in s.objects)
+pub tables_shown : {A : Type 0} (w : World) (s : State A) → Shows w s
+    → objects_of s.page_tables ≡ page_tables_among (objects_in s.objects)
 tables_shown w s shows = shows.tables.tables ∙ ap page_tables_among shows.objects.rows
 
-pub tables_known : {A : Type 0} (s : State A) → IsKnown s → objects_of s.page_tables ≡ page_tables_among (objects_in s.objects)
+pub tables_known : {A : Type 0} (s : State A) → IsKnown s
+    → objects_of s.page_tables ≡ page_tables_among (objects_in s.objects)
 tables_known s known = tables_shown known.world s known.shows

@@ -5,7 +5,8 @@ use Rattle.iofd_runs.proofs.StillTabled.{MakesNone, TakesNone, none_given, stays
 use Rattle.iofd_words.specs.After.{changed}
 use Rattle.iofd_words.specs.Answers.{Answers}
 use Rattle.iofd_words.specs.Checks.{refusal}
-use Rattle.iofd_words.specs.Tables.{MissingTable, MovesTables, in_frames, kept_tables, missing_tables, tables_after, with_tables}
+use Rattle.iofd_words.specs.Tables.{MissingTable, MovesTables, in_frames, kept_tables, missing_tables, tables_after}
+use Rattle.iofd_words.specs.Tables.{with_tables}
 use Rattle.iofd_words.specs.World.{World}
 use Rattle.iofd_words.specs.declared.event.Event.{Event}
 use Rattle.iofd_words.specs.declared.numbers.FrameNo.{FrameNo}
@@ -23,7 +24,8 @@ none_in_frames (m ∷ missing) = refl
 
 none_moved : (w : World) → tables_after [] [] w ≡ w.table_frames
 none_moved w =
-    ap (λ (tables : List TableFrame). kept_tables [] w.table_frames ++ tables) (none_in_frames (missing_tables w.objects w.areas (kept_tables [] w.table_frames)))
+    ap (λ (tables : List TableFrame). kept_tables [] w.table_frames ++ tables)
+    (none_in_frames (missing_tables w.objects w.areas (kept_tables [] w.table_frames)))
     ∙ append-nil (kept_tables [] w.table_frames)
     ∙ none_given w.table_frames
 
@@ -33,7 +35,8 @@ same_world w = ap (λ (tables : List TableFrame). record w { table_frames = tabl
 
 module _ {A : Type 0} (at : ℕ) (e : Event A) (via : Option FrameNo) (answer : Reply) (new : State A) where
   -- from one world
-  pub still : (w : World) → IsTidy at w → Answers w e answer → IsChosen w e via answer → Shows (changed at w e answer) new → MakesNone w e → TakesNone w e
+  pub still : (w : World) → IsTidy at w → Answers w e answer → IsChosen w e via answer
+      → Shows (changed at w e answer) new → MakesNone w e → TakesNone w e
       → Answers w e answer × IsChosen w e via answer
       × MovesTables w (changed at w e answer) e answer [] []
       × AreFramesChosen w (changed at w e answer) [] []
@@ -47,7 +50,8 @@ module _ {A : Type 0} (at : ℕ) (e : Event A) (via : Option FrameNo) (answer : 
   )
 
   -- where the event makes no page table and no live area, and where nothing refuses it takes no page table away
-  pub chosen_moves : (old : State A) → ChosenSteps at e via old answer new → ((w : World) → MakesNone w e) → ((w : World) → IsTidy at w → refusal w e ≡ None → TakesNone w e) → MovingSteps at e via old answer [] [] new
+  pub chosen_moves : (old : State A) → ChosenSteps at e via old answer new → ((w : World) → MakesNone w e)
+      → ((w : World) → IsTidy at w → refusal w e ≡ None → TakesNone w e) → MovingSteps at e via old answer [] [] new
   chosen_moves old steps makes takes w tidy shows none may =
       let (answers, chosen, after) = steps w tidy shows none may in
       still w tidy answers chosen after (makes w) (takes w tidy none)

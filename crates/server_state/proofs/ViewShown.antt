@@ -1,4 +1,5 @@
--- What is kept gives the view of the world that is shown: so the same refuses an event, and the same may come of an access.
+-- What is kept gives the view of the world that is shown: so the same refuses an event, and the same may come of an
+-- access.
 use Rattle.std.proofs.Common.{◌≡◌, ℕ, ◌+◌, List, Option, Some, None, true, not, sym, ap, refl, eqb, ◌∙◌}
 use Rattle.std.specs.List.{find, list_all, range_with_len}
 use Rattle.std.proofs.Math.Path.{fun_ext}
@@ -56,9 +57,12 @@ module _ {A : Type 0} (w : World) (s : State A) (shows : Shows w s) where
     pub same_view : seen s ≡ view w
     same_view =
         let is_open : table.is_open s.objects ≡ file.is_open w.settings w.closed = fun_ext shows.objects.files in
-        let bindings : object.binding_of s.bindings.items ≡ object.binding_of w.objects = fun_ext (λ d. sym (shows.devices.bindings d)) in
-        let areas : areas_at s.objects.rows ≡ area.areas_of w.areas = fun_ext (λ f. fun_ext (λ ioas. sym (shows.objects.spaces f ioas))) in
-        let allowed : allowed_of s.allowed ≡ allowed_of w.allowed = fun_ext (λ f. fun_ext (λ ioas. sym (shows.allowed f ioas))) in
+        let bindings : object.binding_of s.bindings.items ≡ object.binding_of w.objects =
+        fun_ext (λ d. sym (shows.devices.bindings d)) in
+        let areas : areas_at s.objects.rows ≡ area.areas_of w.areas =
+        fun_ext (λ f. fun_ext (λ ioas. sym (shows.objects.spaces f ioas))) in
+        let allowed : allowed_of s.allowed ≡ allowed_of w.allowed =
+        fun_ext (λ f. fun_ext (λ ioas. sym (shows.allowed f ioas))) in
         let pinned : kept.pinned_frame s.memory ≡ pin.pinned_frame w.pins =
         fun_ext (λ page. sym (shows.pins.frames page)) in
         let pages : frame.frame_at s.memory.pages ≡ frame.frame_at w.user_pages =
@@ -69,7 +73,8 @@ module _ {A : Type 0} (w : World) (s : State A) (shows : Shows w s) where
         ∙ ap (λ (at : UserNo → ℕ → Option FrameNo). elim (find (λ (m : MemoryObject). eqb m.number page.memory)
         w.memory) as (λ _. Option FrameNo) [ Some m ↦ at m.user (page_of m.va + page.index) | None ↦ None ]) pages)
         in
-        let told : has_kept s.pool s.page_tables.tables ≡ has_table w.table_frames = fun_ext (λ f. fun_ext (λ i. fun_ext (tables_told w s.page_tables s.pool shows.tables owned f i))) in
+        let told : has_kept s.pool s.page_tables.tables ≡ has_table w.table_frames =
+        fun_ext (λ f. fun_ext (λ i. fun_ext (tables_told w s.page_tables s.pool shows.tables owned f i))) in
         let held : kept.held_by s.memory ≡ pin.held_by (pin.pinned_frame w.pins) w.memory =
         fun_ext (λ user.
         ap (λ (rows : List MemoryObject). pin.held_by (kept.pinned_frame s.memory) rows user) (sym shows.pins.rows)

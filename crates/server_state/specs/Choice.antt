@@ -1,6 +1,7 @@
--- Which of the lawful answers is given: where a flush is owed the fault, to a user's new page and to each new table the least free
--- frame, and to a MAP without a fixed address the least that may be chosen.
-use Rattle.std.specs.Prelude.{◌≡◌, ℕ, ◌≤◌, ◌==◌, Bool, true, false, Option, Some, None, List, [], ◌∷◌, ◌&&◌, filter, find, length, map, take, Contains}
+-- Which of the lawful answers is given: where a flush is owed the fault, to a user's new page and to each new table the
+-- least free frame, and to a MAP without a fixed address the least that may be chosen.
+use Rattle.std.specs.Prelude.{◌≡◌, ℕ, ◌≤◌, ◌==◌, Bool, true, false, Option, Some, None, List, [], ◌∷◌, ◌&&◌, filter}
+use Rattle.std.specs.Prelude.{find, length, map, take, Contains}
 use Rattle.std.specs.List.{list_all, list_any, range_with_len}
 use Rattle.std.specs.Option.{option_map}
 use Rattle.iofd_words.specs.Answers.{write_reply}
@@ -75,7 +76,8 @@ abbrev pub IsChosen : {A : Type 0} → World → Event A → Option FrameNo → 
 IsChosen w (event.IoasAlloc file) via answer = Unit {0}
 IsChosen w (event.AllowIovas file ioas ranges) via answer = Unit {0}
 IsChosen w (event.Map file request) via answer = IsLeastMapped w file request (is_fixed request.flags) answer
-IsChosen w (event.Copy file request) via answer = IsLeastMapped w file (placed_as request) (is_fixed request.flags) answer
+IsChosen w (event.Copy file request) via answer =
+    IsLeastMapped w file (placed_as request) (is_fixed request.flags) answer
 IsChosen w (event.Unmap file request) via answer = Unit {0}
 IsChosen w (event.HwptAlloc file request) via answer = Unit {0}
 IsChosen w (event.Destroy file id) via answer = Unit {0}
@@ -98,9 +100,11 @@ IsChosen w (event.DeviceWrite device iova bytes) via answer =
 abbrev pub least_free : World → ℕ → List FrameNo
 least_free w count =
     map (λ frame. record { 0 = frame })
-    (take count (filter (is_free w.settings.pool w.user_pages w.pins w.table_frames) (range_with_len 0 w.settings.pool)))
+    (take count (filter (is_free w.settings.pool w.user_pages w.pins w.table_frames)
+    (range_with_len 0 w.settings.pool)))
 
 -- new tables get the least free frames in turn, and only the tables of page tables that are gone give theirs back
 pub record AreFramesChosen (w left : World) (new old : List FrameNo) : Type 0 where
   pub taken : new ≡ least_free w (length new)
-  pub given : list_all (λ frame. list_any (λ table. table.frame.0 == frame.0 && is_orphan left.objects table) w.table_frames) old ≡ true
+  pub given : list_all (λ frame. list_any (λ table. table.frame.0 == frame.0 && is_orphan left.objects table)
+      w.table_frames) old ≡ true

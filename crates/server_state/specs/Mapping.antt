@@ -27,4 +27,5 @@ own_areas table file ioas = elim (own table file Ioas ioas) [ Some row ↦ areas
 
 -- some area that lies in the span waits for a device, where those attached are given
 abbrev pub some_waits : Bounds → List ℕ → List Area → Bool
-some_waits span attached areas = list_any (λ area. not (length (owed_by attached area.phase) == 0)) (areas_within span areas)
+some_waits span attached areas =
+    list_any (λ area. not (length (owed_by attached area.phase) == 0)) (areas_within span areas)

@@ -10,4 +10,5 @@ use Rattle.iofd_words.specs.declared.rows.UserPage.{UserPage}
 -- the least frame of the pool that nobody reaches
 abbrev pub free_frame : ℕ → List UserPage → List Pin → List TableFrame → Option FrameNo
 free_frame pool pages pins tables =
-    elim (find (is_free pool pages pins tables) (range_with_len 0 pool)) [ Some frame ↦ Some (record { 0 = frame }) | None ↦ None ]
+    elim (find (is_free pool pages pins tables) (range_with_len 0 pool))
+    [ Some frame ↦ Some (record { 0 = frame }) | None ↦ None ]

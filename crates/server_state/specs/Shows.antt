@@ -1,5 +1,5 @@
--- When what is kept shows a world: each question of the world has its answer there. Nine groups: the settings, the limits of users,
--- the lists of rows, and the page tables in their frames.
+-- When what is kept shows a world: each question of the world has its answer there. Nine groups: the settings, the
+-- limits of users, the lists of rows, and the page tables in their frames.
 use Rattle.std.specs.Prelude.{◌≡◌, true, List, map}
 use Rattle.std.specs.List.{list_all}
 use Rattle.iofd_words.specs.Allowed.{allowed_of}
@@ -25,7 +25,8 @@ use Rattle.memory_rows.specs.Shown.{FramesShown, PinsShown, UsersShown}
 use Rattle.object_table.specs.Table.{Table, is_open}
 
 -- the files, and the objects of each with the areas of its address spaces
-pub record ObjectsShown {A : Type 0} (settings : Settings) (closed : List FileNo) (objects : List Object) (areas : List Area) (table : Table (Held A)) : Type 0 where
+pub record ObjectsShown {A : Type 0} (settings : Settings) (closed : List FileNo) (objects : List Object)
+    (areas : List Area) (table : Table (Held A)) : Type 0 where
   pub rows : objects ≡ map object_of table.rows
   pub proper : list_all is_proper table.rows ≡ true
   -- each address space has its areas; no other object has any
@@ -33,7 +34,8 @@ pub record ObjectsShown {A : Type 0} (settings : Settings) (closed : List FileNo
   pub files : (number : FileNo) → is_open table number ≡ file.is_open settings closed number
 
 -- by which object a device is bound, and by which page table it translates
-pub record DevicesShown (objects : List Object) (attachments : List Attachment) (kept_bindings : List Object) (kept_attachments : List Attachment) : Type 0 where
+pub record DevicesShown (objects : List Object) (attachments : List Attachment) (kept_bindings : List Object)
+    (kept_attachments : List Attachment) : Type 0 where
   pub bindings : (device : DeviceNo) → binding_of objects device ≡ binding_of kept_bindings device
   pub attached : attachments ≡ kept_attachments
 

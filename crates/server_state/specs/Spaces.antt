@@ -18,12 +18,14 @@ abbrev pub is_space : FileNo → ObjId → FileNo → ObjId → Bool
 is_space file ioas f i = f.0 == file.0 && i.0 == ioas.0
 
 -- this address space has these areas now; all other areas are as they were, and so are the objects and the files
-pub record HasAreas {A : Type 0} (file : FileNo) (ioas : ObjId) (areas : List Area) (old new : Table (Held A)) : Type 0 where
-  pub objects : objects_in new ≡ objects_in old
-  pub proper : list_all is_proper new.rows ≡ true
-  pub here : areas_at new.rows file ioas ≡ areas
-  pub others : (f : FileNo) (i : ObjId) → is_space file ioas f i ≡ false → areas_at new.rows f i ≡ areas_at old.rows f i
-  pub files : new.files ≡ old.files
+pub record HasAreas {A : Type 0} (file : FileNo) (ioas : ObjId) (areas : List Area) (old new : Table (Held A)) : Type 0
+  where
+    pub objects : objects_in new ≡ objects_in old
+    pub proper : list_all is_proper new.rows ≡ true
+    pub here : areas_at new.rows file ioas ≡ areas
+    pub others : (f : FileNo) (i : ObjId) → is_space file ioas f i ≡ false
+        → areas_at new.rows f i ≡ areas_at old.rows f i
+    pub files : new.files ≡ old.files
 
 -- the same object, with these areas
 pub record IsWith {A : Type 0} (areas : List Area) (old new : Held A) : Type 0 where

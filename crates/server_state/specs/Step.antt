@@ -49,7 +49,8 @@ pub record IsTidy (at : ℕ) (w : World) : Type 0 where
 
 -- a record that took and gave back these frames for tables
 abbrev pub recorded : {A : Type 0} → PassNo → Event A → Reply → List FrameNo → List FrameNo → Record A
-recorded pass event reply taken given = record { pass = pass; event = event; reply = reply; taken = taken; given = given }
+recorded pass event reply taken given =
+    record { pass = pass; event = event; reply = reply; taken = taken; given = given }
 
 module _ {A : Type 0} where
   -- a world of a run is shown
@@ -95,7 +96,8 @@ module _ {A : Type 0} where
   -- an event that nothing refuses, and that moves no frames of tables, is answered so, and the world after it is shown
   abbrev pub Steps : ℕ → Event A → State A → Reply → State A → Type 0
   Steps at event old reply new =
-      (w : World) → IsTidy at w → Shows w old → refusal w event ≡ None → Answers w event reply × Shows (changed at w event reply) new
+      (w : World) → IsTidy at w → Shows w old → refusal w event ≡ None
+      → Answers w event reply × Shows (changed at w event reply) new
 
   -- the same world is shown
   abbrev pub ShowsSame : State A → State A → Type 0
@@ -112,7 +114,8 @@ module _ {A : Type 0} where
       → Answers w event reply × IsChosen w event via reply × Shows (changed at w event reply) new
 
   -- the same of one that takes and gives back these frames, which are those that are chosen
-  abbrev pub MovingSteps : ℕ → Event A → Option FrameNo → State A → Reply → List FrameNo → List FrameNo → State A → Type 0
+  abbrev pub MovingSteps : ℕ → Event A → Option FrameNo → State A → Reply → List FrameNo → List FrameNo → State A
+      → Type 0
   MovingSteps at event via old reply taken given new =
       (w : World) → IsTidy at w → Shows w old → refusal w event ≡ None → MayUse w event via
       → Answers w event reply × IsChosen w event via reply

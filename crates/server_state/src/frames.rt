@@ -9,8 +9,8 @@ use iofd_words::{FileNo, FrameNo, NoMemory, ObjId};
 use std::alloc::Allocator;
 
 impl<A: Allocator> State<A> {
-    /// Takes memory for the numbers of the frames that the file's page table of this id gives back where it goes. None are
-    /// listed yet.
+    /// Takes memory for the numbers of the frames that the file's page table of this id gives back where it goes. None
+    /// are listed yet.
     pub fn reserve_given(
         &self,
         file: FileNo,

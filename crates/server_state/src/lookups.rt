@@ -56,7 +56,8 @@ pub fn automatic_hwpt<A: Allocator>(
     ioas: ObjId,
     width: Width,
 ) -> Option<ObjId>
-    ensures { result ≡ option_map (λ object. object.id) (objects.automatic_hwpt (objects_in table.now) file ioas width) }
+    ensures { result ≡ option_map (λ object. object.id)
+        (objects.automatic_hwpt (objects_in table.now) file ioas width) }
 {
     Some(automatic_object(table, file, ioas, width)?.id)
 }
@@ -97,7 +98,8 @@ pub fn areas_of<A: Allocator>(
 ) -> Option<&Areas<A>>
     ensures { MatchOption result
         (objects.has_ioas (objects_in table.now) file ioas ≡ false)
-        (λ areas. (objects.has_ioas (objects_in table.now) file ioas ≡ true) × (areas_at table.now.rows file ioas ≡ areas.now.areas)) }
+        (λ areas. (objects.has_ioas (objects_in table.now) file ioas ≡ true)
+        × (areas_at table.now.rows file ioas ≡ areas.now.areas)) }
 {
     match table.value(file, ioas)? {
         Held::Ioas(areas) => Some(areas),
@@ -157,7 +159,8 @@ impl<A: Allocator> State<A> {
 
     /// The address space to which the device is attached, by file and id.
     pub fn space_of(&self, device: DeviceNo) -> Option<(FileNo, ObjId)>
-        ensures { result ≡ space_of (objects_in self.now.objects) (attachments.attachment_of self.now.attachments.items device) }
+        ensures { result ≡ space_of (objects_in self.now.objects)
+            (attachments.attachment_of self.now.attachments.items device) }
     {
         let attachment = self.attachment_of(device)?;
         match kind_of(&self.objects, attachment.file, attachment.hwpt)? {

@@ -16,8 +16,8 @@ use object_table::ObjectTable;
 use std::alloc::Allocator;
 use user_memory::UserMemory;
 
-/// The areas go: with its last area a memory object goes. Where they were translated a pin of each goes before. It takes
-/// no memory.
+/// The areas go: with its last area a memory object goes. Where they were translated a pin of each goes before. It
+/// takes no memory.
 pub fn remove<A: Allocator>(
     areas: Iter<'_, A>,
     translated: bool,
@@ -71,9 +71,11 @@ pub fn remove_space<A: Allocator>(
     memory: &mut UserMemory<A>,
     pool: &mut Pool<A>,
 )
-    requires { MayRelease (over (own_areas table.now file ioas)) (if_translated translated (own_areas table.now file ioas))
+    requires { MayRelease (over (own_areas table.now file ioas))
+        (if_translated translated (own_areas table.now file ioas))
         memory.old pool.old.holds }
-    ensures { IsReleased (over (own_areas table.now file ioas)) (if_translated translated (own_areas table.now file ioas))
+    ensures { IsReleased (over (own_areas table.now file ioas))
+        (if_translated translated (own_areas table.now file ioas))
         memory.old memory.new pool.old pool.new }
 {
     if let Some(areas) = area_changes::own_areas(table, file, ioas) {

@@ -28,8 +28,10 @@ impl<A: Allocator> State<A> {
     pub fn unusable_meeting(&self, file: FileNo, ioas: ObjId, span: Span) -> Option<Span>
         requires { IsKnown self.now }
         ensures { MatchOption result
-            (meets_some (usable.unusable self.now.config (objects_in self.now.objects) self.now.attachments.items file ioas) span ≡ false)
-            (IsOneOf (usable.unusable self.now.config (objects_in self.now.objects) self.now.attachments.items file ioas) span) }
+            (meets_some (usable.unusable self.now.config (objects_in self.now.objects) self.now.attachments.items
+            file ioas) span ≡ false)
+            (IsOneOf (usable.unusable self.now.config (objects_in self.now.objects)
+            self.now.attachments.items file ioas) span) }
     {
         match beyond_meeting(&self.objects, self.page_tables.as_slice(), file, ioas, span) {
             Some(one) => Some(one),

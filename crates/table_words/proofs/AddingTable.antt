@@ -1,5 +1,6 @@
 -- An empty table that is taken, and named.
-use Rattle.std.proofs.Common.{◌≡◌, ◌≢◌, ℕ, ◌<◌, Some, None, Ok, Err, Result, List, get_or, refl, sym, ◌∙◌, ap, arith, ⊎_elim}
+use Rattle.std.proofs.Common.{◌≡◌, ◌≢◌, ℕ, ◌<◌, Some, None, Ok, Err, Result, List, get_or, refl, sym, ◌∙◌, ap, arith}
+use Rattle.std.proofs.Common.{⊎_elim}
 use Rattle.std.specs.Prelude.{IsOk, IfSome, IfNone, is_err}
 use Rattle.std.proofs.lemmas.Bool.{false≢true}
 use Rattle.iofd_words.specs.declared.numbers.FrameNo.{FrameNo}
@@ -9,13 +10,17 @@ use Rattle.frame_memory.specs.Pool.{free_count, least_free}
 use Rattle.table_words.proofs.Frames.{least_is, some_least}
 use Rattle.table_words.proofs.Lookups.{cases_Option}
 
-pub take_ok : (holds : List ℕ) (result : Result FrameNo Refusal) → 0 < free_count holds → IfSome (least_free holds) (λ frame. result ≡ Ok (record { 0 = frame })) → IsOk result
+pub take_ok : (holds : List ℕ) (result : Result FrameNo Refusal) → 0 < free_count holds
+    → IfSome (least_free holds) (λ frame. result ≡ Ok (record { 0 = frame })) → IsOk result
 take_ok holds result some least =
     let found = some_least holds some in
     let ok : result ≡ Ok (record { 0 = found.0 }) = rw found.1 at least in
     rw ok refl
 
-pub taken_least : (holds : List ℕ) (result : Result FrameNo Refusal) (frame : FrameNo) → IfSome (least_free holds) (λ f. result ≡ Ok (record { 0 = f })) → IfNone (least_free holds) (result ≡ Err (record { cause = cause.Frames })) → result ≡ Ok frame → least_free holds ≡ Some frame.0
+pub taken_least : (holds : List ℕ) (result : Result FrameNo Refusal) (frame : FrameNo)
+    → IfSome (least_free holds) (λ f. result ≡ Ok (record { 0 = f }))
+    → IfNone (least_free holds) (result ≡ Err (record { cause = cause.Frames })) → result ≡ Ok frame
+    → least_free holds ≡ Some frame.0
 taken_least holds result frame some none is =
     ⊎_elim
     (λ (no : least_free holds ≡ None).
@@ -31,7 +36,8 @@ taken_least holds result frame some none is =
     number_of f n same = let frames : f ≡ record { 0 = n } = cc in ap (λ (g : FrameNo). g.0) frames
 
 -- a frame that was free isn't one on which a hold stands
-pub other_frame : (holds : List ℕ) (frame table : ℕ) → least_free holds ≡ Some frame → 0 < get_or holds table 0 → frame ≢ table
+pub other_frame : (holds : List ℕ) (frame table : ℕ) → least_free holds ≡ Some frame → 0 < get_or holds table 0
+    → frame ≢ table
 other_frame holds frame table least held same =
     let free = (least_is holds frame least).1 in
     let one = ap (λ (n : ℕ). get_or holds n 0) same in

@@ -1,5 +1,6 @@
 -- What holds of tables that stand in a pool.
-use Rattle.std.proofs.Common.{◌≡◌, ℕ, zero, suc, ◌+◌, ◌-◌, ◌<◌, ◌≤◌, true, Some, None, List, length, ◌∙◌, ap, sym, arith, ⊎_elim}
+use Rattle.std.proofs.Common.{◌≡◌, ℕ, zero, suc, ◌+◌, ◌-◌, ◌<◌, ◌≤◌, true, Some, None, List, length, ◌∙◌, ap, sym}
+use Rattle.std.proofs.Common.{arith, ⊎_elim}
 use Rattle.std.specs.Prelude.{is_some}
 use Rattle.std.proofs.lemmas.Bool.{cases_lt}
 use Rattle.std.proofs.lemmas.List.{get_or_past}
@@ -14,7 +15,8 @@ use Rattle.table_words.proofs.Lookups.{cases_Option, named_table, none_or_some, 
 use Rattle.table_words.proofs.Numbers.{index_below}
 
 -- a change that leaves the tables' words and holds alone leaves the tables
-pub stands_still : (old new : FramePool) (levels : ℕ) (root : FrameNo) (rows : List TableRow) (pages : List MappedPage) → Stands old levels root rows pages → SameTables rows old new → Stands new levels root rows pages
+pub stands_still : (old new : FramePool) (levels : ℕ) (root : FrameNo) (rows : List TableRow) (pages : List MappedPage)
+    → Stands old levels root rows pages → SameTables rows old new → Stands new levels root rows pages
 unfolding entry_at
 stands_still old new levels root rows pages stands same = record {
   at_root = stands.at_root;
@@ -23,17 +25,22 @@ stands_still old new levels root rows pages stands same = record {
   above = stands.above;
   placed = stands.placed;
   once = stands.once;
-  held = λ level page frame at. same.holds frame.0 (named_table rows level page frame at) ∙ stands.held level page frame at;
+  held = λ level page frame at. same.holds frame.0 (named_table rows level page frame at)
+      ∙ stands.held level page frame at;
   own = stands.own;
   fits = stands.fits;
-  entries = λ level page frame at low. same.words frame.0 (index_at level page) (named_table rows level page frame at) (index_below level page) ∙ stands.entries level page frame at low;
-  leaves = λ page frame at. same.words frame.0 (index_at 1 page) (named_table rows 1 page frame at) (index_below 1 page) ∙ stands.leaves page frame at;
+  entries = λ level page frame at low. same.words frame.0 (index_at level page) (named_table rows level page frame at)
+      (index_below level page) ∙ stands.entries level page frame at low;
+  leaves = λ page frame at. same.words frame.0 (index_at 1 page) (named_table rows 1 page frame at) (index_below 1 page)
+      ∙ stands.leaves page frame at;
   mapped = stands.mapped;
   rights = stands.rights;
 }
 
 -- pages are told by what is found of them
-pub stands_alike : (pool : FramePool) (levels : ℕ) (root : FrameNo) (rows : List TableRow) (pages others : List MappedPage) → Stands pool levels root rows pages → ((page : ℕ) → page_at others page ≡ page_at pages page) → Stands pool levels root rows others
+pub stands_alike : (pool : FramePool) (levels : ℕ) (root : FrameNo) (rows : List TableRow)
+    (pages others : List MappedPage) → Stands pool levels root rows pages
+    → ((page : ℕ) → page_at others page ≡ page_at pages page) → Stands pool levels root rows others
 stands_alike pool levels root rows pages others stands same = record {
   at_root = stands.at_root;
   top = stands.top;
@@ -50,16 +57,20 @@ stands_alike pool levels root rows pages others stands same = record {
   rights = λ page m is. stands.rights page m (sym (same page) ∙ is);
 }
 
-module _ (pool : FramePool) (levels : ℕ) (root : FrameNo) (rows : List TableRow) (pages : List MappedPage) (stands : Stands pool levels root rows pages) where
+module _ (pool : FramePool) (levels : ℕ) (root : FrameNo) (rows : List TableRow) (pages : List MappedPage)
+    (stands : Stands pool levels root rows pages) where
   -- a table's frame is one of the pool's
-  pub table_within : (level page : ℕ) (frame : FrameNo) → table_at rows level page ≡ Some frame → frame.0 < length pool.holds
+  pub table_within : (level page : ℕ) (frame : FrameNo) → table_at rows level page ≡ Some frame
+      → frame.0 < length pool.holds
   table_within level page frame at =
       ⊎_elim (λ (below : frame.0 < length pool.holds). below)
-      (λ (past : length pool.holds ≤ frame.0). let none = get_or_past pool.holds frame.0 0 past in let one = stands.held level page frame at in absurd (omega (arith, none, one)))
+      (λ (past : length pool.holds ≤ frame.0). let none = get_or_past pool.holds frame.0 0 past in let one = stands.held
+      level page frame at in absurd (omega (arith, none, one)))
       (cases_lt frame.0 (length pool.holds))
 
   -- a page that goes through a table goes through one of each level above
-  pub tables_above : (more level page : ℕ) → is_some (table_at rows level page) ≡ true → level + more ≤ levels → is_some (table_at rows (level + more) page) ≡ true
+  pub tables_above : (more level page : ℕ) → is_some (table_at rows level page) ≡ true → level + more ≤ levels
+      → is_some (table_at rows (level + more) page) ≡ true
   tables_above zero level page at few = let same : level ≡ level + 0 = omega arith in rw (← same) at
   tables_above (suc more) level page at few =
       let frame = the_some (table_at rows level page) at in
@@ -68,7 +79,8 @@ module _ (pool : FramePool) (levels : ℕ) (root : FrameNo) (rows : List TableRo
       rw same at (tables_above more (level + 1) page next (omega arith))
 
   -- so where it has no table of some level, it has none of a level below
-  pub none_below : (level page other : ℕ) → table_at rows level page ≡ None → level ≤ levels → other ≤ level → table_at rows other page ≡ None
+  pub none_below : (level page other : ℕ) → table_at rows level page ≡ None → level ≤ levels → other ≤ level
+      → table_at rows other page ≡ None
   none_below level page other none few low =
       ⊎_elim (λ (is : table_at rows other page ≡ None). is)
       (λ (some : (frame : FrameNo) × (table_at rows other page ≡ Some frame)).

@@ -27,11 +27,15 @@ pub number-first : (level : ℕ) → number_at level 0 ≡ 0
 unfolding number_at
 number-first level = zero-div (2 ^ (9 * level))
 
-pub at_top : (pool : FramePool) (table : TableRoot) (rows : List TableRow) (pages : List MappedPage) (page : ℕ) → TableStands pool table rows pages → IsBelow table.width page → table_at rows (levels_of table.width) page ≡ Some table.root
+pub at_top : (pool : FramePool) (table : TableRoot) (rows : List TableRow) (pages : List MappedPage) (page : ℕ)
+    → TableStands pool table rows pages → IsBelow table.width page
+    → table_at rows (levels_of table.width) page ≡ Some table.root
 at_top pool table rows pages page stands below =
-    table_at-same rows (levels_of table.width) page 0 (below_end table.width page below ∙ sym (number-first (levels_of table.width))) ∙ stands.at_root
+    table_at-same rows (levels_of table.width) page 0 (below_end table.width page below
+    ∙ sym (number-first (levels_of table.width))) ∙ stands.at_root
 
-pub goes_from_top : (pool : FramePool) (table : TableRoot) (page : ℕ) → IsTable pool table → IsBelow table.width page → GoesThrough pool (levels_of table.width) page table.root
+pub goes_from_top : (pool : FramePool) (table : TableRoot) (page : ℕ) → IsTable pool table → IsBelow table.width page
+    → GoesThrough pool (levels_of table.width) page table.root
 goes_from_top pool table page is below = record {
   levels = levels_of table.width;
   root = table.root;
@@ -41,7 +45,9 @@ goes_from_top pool table page is below = record {
   at = at_top pool table is.rows is.pages page is.stands below;
 }
 
-pub ends_somewhere : (pool : FramePool) (table : TableRoot) (level page : ℕ) (frame : FrameNo) → IsTable pool table → ((rows : List TableRow) (pages : List MappedPage) → TableStands pool table rows pages → IsLowest rows level page frame) → EndsAt pool level page frame
+pub ends_somewhere : (pool : FramePool) (table : TableRoot) (level page : ℕ) (frame : FrameNo) → IsTable pool table
+    → ((rows : List TableRow) (pages : List MappedPage) → TableStands pool table rows pages
+    → IsLowest rows level page frame) → EndsAt pool level page frame
 ends_somewhere pool table level page frame is lowest = record {
   levels = levels_of table.width;
   root = table.root;
@@ -51,7 +57,8 @@ ends_somewhere pool table level page frame is lowest = record {
   lowest = lowest is.rows is.pages is.stands;
 }
 
-pub root_holds : (pool : FramePool) (levels : ℕ) (root : FrameNo) (rows : List TableRow) (pages : List MappedPage) → Stands pool levels root rows pages → HoldsTable pool levels root
+pub root_holds : (pool : FramePool) (levels : ℕ) (root : FrameNo) (rows : List TableRow) (pages : List MappedPage)
+    → Stands pool levels root rows pages → HoldsTable pool levels root
 root_holds pool levels root rows pages stands = record {
   page = 0;
   through = record {

@@ -1,7 +1,9 @@
 -- How many pages of memory objects are pinned, and how many aren't.
-use Rattle.std.proofs.Common.{◌≡◌, ℕ, zero, suc, ◌+◌, ◌<◌, ◌≤◌, Bool, true, false, cond, eqb, Option, Some, None, List, [], ◌∷◌, map, length, refl, sym, ap, ◌∙◌, arith}
+use Rattle.std.proofs.Common.{◌≡◌, ℕ, zero, suc, ◌+◌, ◌<◌, ◌≤◌, Bool, true, false, cond, eqb, Option, Some, None, List}
+use Rattle.std.proofs.Common.{[], ◌∷◌, map, length, refl, sym, ap, ◌∙◌, arith}
 use Rattle.std.specs.Prelude.{is_some, is_none}
-use Rattle.std.specs.List.{count_by, filter, flat_map, list_all, list_any, range_with_len, slice_get, sum_by, AllByRecursion}
+use Rattle.std.specs.List.{count_by, filter, flat_map, list_all, list_any, range_with_len, slice_get, sum_by}
+use Rattle.std.specs.List.{AllByRecursion}
 use Rattle.std.proofs.lemmas.Bool.{and_parts}
 use Rattle.std.proofs.lemmas.List.Concat.{flat_map-cons}
 use Rattle.std.proofs.lemmas.List.Sums.{length-filter, sum_by-append, sum_by-cons}
@@ -19,20 +21,28 @@ use Rattle.user_memory.proofs.Found.{AreOwn, kept_frames, own_numbers}
 
 -- ---- pages that all pass a test, or none
 
-pub all_counted : (q : ObjectPage → Bool) (number from count : ℕ) → ((i : ℕ) → from ≤ i → i < from + count → q (record { memory = number; index = i }) ≡ true) → count_by q (map (λ i. record { memory = number; index = i }) (range_with_len from count)) ≡ count
+pub all_counted : (q : ObjectPage → Bool) (number from count : ℕ)
+    → ((i : ℕ) → from ≤ i → i < from + count → q (record { memory = number; index = i }) ≡ true)
+    → count_by q (map (λ i. record { memory = number; index = i }) (range_with_len from count)) ≡ count
 all_counted q number from zero each = refl
 all_counted q number from (suc count) each =
     let here = each from (omega arith) (omega arith) in
-    let rest = all_counted q number (from + 1) count (λ i low high. each i (omega (arith, low)) (omega (arith, high))) in
-    let sum = sum_by-cons (λ (p : ObjectPage). cond (q p) 1 0) (record { memory = number; index = from }) (map (λ i. record { memory = number; index = i }) (range_with_len (from + 1) count)) in
+    let rest =
+    all_counted q number (from + 1) count (λ i low high. each i (omega (arith, low)) (omega (arith, high))) in
+    let sum = sum_by-cons (λ (p : ObjectPage). cond (q p) 1 0) (record { memory = number; index = from })
+    (map (λ i. record { memory = number; index = i }) (range_with_len (from + 1) count)) in
     sum ∙ rw (here, rest) (omega arith)
 
-pub none_counted : (q : ObjectPage → Bool) (number from count : ℕ) → ((i : ℕ) → from ≤ i → i < from + count → q (record { memory = number; index = i }) ≡ false) → count_by q (map (λ i. record { memory = number; index = i }) (range_with_len from count)) ≡ 0
+pub none_counted : (q : ObjectPage → Bool) (number from count : ℕ)
+    → ((i : ℕ) → from ≤ i → i < from + count → q (record { memory = number; index = i }) ≡ false)
+    → count_by q (map (λ i. record { memory = number; index = i }) (range_with_len from count)) ≡ 0
 none_counted q number from zero each = refl
 none_counted q number from (suc count) each =
     let here = each from (omega arith) (omega arith) in
-    let rest = none_counted q number (from + 1) count (λ i low high. each i (omega (arith, low)) (omega (arith, high))) in
-    let sum = sum_by-cons (λ (p : ObjectPage). cond (q p) 1 0) (record { memory = number; index = from }) (map (λ i. record { memory = number; index = i }) (range_with_len (from + 1) count)) in
+    let rest =
+    none_counted q number (from + 1) count (λ i low high. each i (omega (arith, low)) (omega (arith, high))) in
+    let sum = sum_by-cons (λ (p : ObjectPage). cond (q p) 1 0) (record { memory = number; index = from })
+    (map (λ i. record { memory = number; index = i }) (range_with_len (from + 1) count)) in
     sum ∙ rw (here, rest) refl
 
 -- ---- a frame of a list
@@ -48,59 +58,82 @@ none_from_some None some = cc
 
 -- ---- the pages of one object
 
-module _ (all : List MemoryEntry) (o : MemoryEntry) (own : object_at all o.number ≡ Some o) (kept : is_kept o ≡ true) where
-  frame_there : (i : ℕ) → frame_in (object_at all o.number) i ≡ slice_get o.pages.pages.frames i
-  frame_there i = ap (λ x. frame_in x i) own
+module _ (all : List MemoryEntry) (o : MemoryEntry) (own : object_at all o.number ≡ Some o) (kept : is_kept o ≡ true)
+  where
+    frame_there : (i : ℕ) → frame_in (object_at all o.number) i ≡ slice_get o.pages.pages.frames i
+    frame_there i = ap (λ x. frame_in x i) own
 
-  its_pinned : count_by (λ (page : ObjectPage). is_some (frame_in (object_at all page.memory) page.index)) (pages_from o.number o.pages.pages.count) ≡ pinned_count o.pages.pages
-  its_pinned = by_pins (eqb o.pages.pages.table_pins 0) (kept_frames o kept)
-    where
-      by_pins : (b : Bool) → length o.pages.pages.frames ≡ cond b 0 o.pages.pages.count → count_by (λ (page : ObjectPage). is_some (frame_in (object_at all page.memory) page.index)) (pages_from o.number o.pages.pages.count) ≡ length o.pages.pages.frames
-      by_pins true count =
-          none_counted (λ (page : ObjectPage). is_some (frame_in (object_at all page.memory) page.index)) o.number 0 o.pages.pages.count
-          (λ i low high. ap is_some (frame_there i ∙ slice_get_past o.pages.pages.frames i (omega (arith, count))))
-          ∙ sym count
-      by_pins false count =
-          all_counted (λ (page : ObjectPage). is_some (frame_in (object_at all page.memory) page.index)) o.number 0 o.pages.pages.count
-          (λ i low high. ap is_some (frame_there i) ∙ some_within o.pages.pages.frames i (omega (arith, count, high)))
-          ∙ sym count
+    its_pinned : count_by (λ (page : ObjectPage). is_some (frame_in (object_at all page.memory) page.index))
+        (pages_from o.number o.pages.pages.count) ≡ pinned_count o.pages.pages
+    its_pinned = by_pins (eqb o.pages.pages.table_pins 0) (kept_frames o kept)
+      where
+        by_pins : (b : Bool) → length o.pages.pages.frames ≡ cond b 0 o.pages.pages.count
+            → count_by (λ (page : ObjectPage). is_some (frame_in (object_at all page.memory) page.index))
+            (pages_from o.number o.pages.pages.count) ≡ length o.pages.pages.frames
+        by_pins true count =
+            none_counted (λ (page : ObjectPage). is_some (frame_in (object_at all page.memory) page.index))
+            o.number 0 o.pages.pages.count
+            (λ i low high. ap is_some (frame_there i ∙ slice_get_past o.pages.pages.frames i (omega (arith, count))))
+            ∙ sym count
+        by_pins false count =
+            all_counted (λ (page : ObjectPage). is_some (frame_in (object_at all page.memory) page.index))
+            o.number 0 o.pages.pages.count
+            (λ i low high. ap is_some (frame_there i) ∙ some_within o.pages.pages.frames i (omega (arith, count, high)))
+            ∙ sym count
 
-  its_new : count_by (λ (page : ObjectPage). is_none (frame_in (object_at all page.memory) page.index)) (pages_from o.number o.pages.pages.count) ≡ new_count o.pages.pages
-  its_new = by_pins (eqb o.pages.pages.table_pins 0) (kept_frames o kept)
-    where
-      by_pins : (b : Bool) → length o.pages.pages.frames ≡ cond b 0 o.pages.pages.count → count_by (λ (page : ObjectPage). is_none (frame_in (object_at all page.memory) page.index)) (pages_from o.number o.pages.pages.count) ≡ cond b o.pages.pages.count 0
-      by_pins true count =
-          all_counted (λ (page : ObjectPage). is_none (frame_in (object_at all page.memory) page.index)) o.number 0 o.pages.pages.count
-          (λ i low high. ap is_none (frame_there i ∙ slice_get_past o.pages.pages.frames i (omega (arith, count))))
-      by_pins false count =
-          none_counted (λ (page : ObjectPage). is_none (frame_in (object_at all page.memory) page.index)) o.number 0 o.pages.pages.count
-          (λ i low high. ap is_none (frame_there i) ∙ none_from_some (slice_get o.pages.pages.frames i) (some_within o.pages.pages.frames i (omega (arith, count, high))))
+    its_new : count_by (λ (page : ObjectPage). is_none (frame_in (object_at all page.memory) page.index))
+        (pages_from o.number o.pages.pages.count) ≡ new_count o.pages.pages
+    its_new = by_pins (eqb o.pages.pages.table_pins 0) (kept_frames o kept)
+      where
+        by_pins : (b : Bool) → length o.pages.pages.frames ≡ cond b 0 o.pages.pages.count
+            → count_by (λ (page : ObjectPage). is_none (frame_in (object_at all page.memory) page.index))
+            (pages_from o.number o.pages.pages.count) ≡ cond b o.pages.pages.count 0
+        by_pins true count =
+            all_counted (λ (page : ObjectPage). is_none (frame_in (object_at all page.memory) page.index))
+            o.number 0 o.pages.pages.count
+            (λ i low high. ap is_none (frame_there i ∙ slice_get_past o.pages.pages.frames i (omega (arith, count))))
+        by_pins false count =
+            none_counted (λ (page : ObjectPage). is_none (frame_in (object_at all page.memory) page.index))
+            o.number 0 o.pages.pages.count
+            (λ i low high. ap is_none (frame_there i)
+            ∙ none_from_some (slice_get o.pages.pages.frames i)
+            (some_within o.pages.pages.frames i (omega (arith, count, high))))
 
 -- ---- the pages of all objects whose rows pass a test
 
-counted_sum : (q : ObjectPage → Bool) (t : MemoryObject → Bool) (f : MemoryEntry → ℕ) (objects : List MemoryEntry) → AllByRecursion (λ o. count_by q (pages_of (row_of o)) ≡ f o) objects → count_by q (flat_map pages_of (filter t (rows_of objects))) ≡ sum_by (λ o. cond (t (row_of o)) (f o) 0) objects
+counted_sum : (q : ObjectPage → Bool) (t : MemoryObject → Bool) (f : MemoryEntry → ℕ) (objects : List MemoryEntry)
+    → AllByRecursion (λ o. count_by q (pages_of (row_of o)) ≡ f o) objects
+    → count_by q (flat_map pages_of (filter t (rows_of objects))) ≡ sum_by (λ o. cond (t (row_of o)) (f o) 0) objects
 counted_sum q t f [] each = refl
 counted_sum q t f (o ∷ objects) each =
     let rest = counted_sum q t f objects each.1 in
     let sum = sum_by-cons (λ (x : MemoryEntry). cond (t (row_of x)) (f x) 0) o objects in
     by_test (t (row_of o)) each.0 rest ∙ sym sum
   where
-    by_test : (b : Bool) → count_by q (pages_of (row_of o)) ≡ f o → count_by q (flat_map pages_of (filter t (rows_of objects))) ≡ sum_by (λ x. cond (t (row_of x)) (f x) 0) objects
-        → count_by q (flat_map pages_of (cond b (row_of o ∷ filter t (rows_of objects)) (filter t (rows_of objects)))) ≡ cond b (f o) 0 + sum_by (λ x. cond (t (row_of x)) (f x) 0) objects
+    by_test : (b : Bool) → count_by q (pages_of (row_of o)) ≡ f o
+        → count_by q (flat_map pages_of (filter t (rows_of objects))) ≡ sum_by
+        (λ x. cond (t (row_of x)) (f x) 0) objects
+        → count_by q (flat_map pages_of (cond b (row_of o ∷ filter t (rows_of objects)) (filter t (rows_of objects))))
+        ≡ cond b (f o) 0 + sum_by (λ x. cond (t (row_of x)) (f x) 0) objects
     by_test true here rest =
         ap (count_by q) (flat_map-cons pages_of (row_of o) (filter t (rows_of objects)))
-        ∙ sum_by-append (λ (p : ObjectPage). cond (q p) 1 0) (pages_of (row_of o)) (flat_map pages_of (filter t (rows_of objects)))
+        ∙ sum_by-append (λ (p : ObjectPage). cond (q p) 1 0) (pages_of (row_of o))
+        (flat_map pages_of (filter t (rows_of objects)))
         ∙ rw (here, rest) refl
     by_test false here rest = rest ∙ omega arith
 
 module _ (all : List MemoryEntry) where
-  each_pinned : (objects : List MemoryEntry) → AreOwn all objects → list_all is_kept objects ≡ true → AllByRecursion (λ o. count_by (λ (page : ObjectPage). is_some (frame_in (object_at all page.memory) page.index)) (pages_of (row_of o)) ≡ pinned_count o.pages.pages) objects
+  each_pinned : (objects : List MemoryEntry) → AreOwn all objects → list_all is_kept objects ≡ true
+      → AllByRecursion (λ o. count_by (λ (page : ObjectPage). is_some (frame_in (object_at all page.memory) page.index))
+      (pages_of (row_of o)) ≡ pinned_count o.pages.pages) objects
   each_pinned [] own kept = tt
   each_pinned (o ∷ objects) own kept =
       let parts = and_parts (is_kept o) (list_all is_kept objects) kept in
       (its_pinned all o own.0 parts.0, each_pinned objects own.1 parts.1)
 
-  each_new : (objects : List MemoryEntry) → AreOwn all objects → list_all is_kept objects ≡ true → AllByRecursion (λ o. count_by (λ (page : ObjectPage). is_none (frame_in (object_at all page.memory) page.index)) (pages_of (row_of o)) ≡ new_count o.pages.pages) objects
+  each_new : (objects : List MemoryEntry) → AreOwn all objects → list_all is_kept objects ≡ true
+      → AllByRecursion (λ o. count_by (λ (page : ObjectPage). is_none (frame_in (object_at all page.memory) page.index))
+      (pages_of (row_of o)) ≡ new_count o.pages.pages) objects
   each_new [] own kept = tt
   each_new (o ∷ objects) own kept =
       let parts = and_parts (is_kept o) (list_all is_kept objects) kept in
@@ -111,12 +144,17 @@ module _ (all : List MemoryEntry) where
 -- the user holds the pages that are pinned of the user's objects
 pub held_told : (m : Memory) (user : UserNo) → ObjectsTell m.objects → held_by m user ≡ pinned_by m.objects user.0
 held_told m user told =
-    counted_sum (λ page. is_some (pinned_frame m page)) (λ row. eqb row.user.0 user.0) (λ o. pinned_count o.pages.pages) m.objects
+    counted_sum (λ page. is_some (pinned_frame m page)) (λ row. eqb row.user.0 user.0)
+    (λ o. pinned_count o.pages.pages) m.objects
     (each_pinned m.objects m.objects (own_numbers m.objects told.memory.rising) told.kept)
 
 -- what pinning objects pins anew are the pages of those that aren't pinned
-pub newly_told : (m : Memory) (numbers : List ℕ) → ObjectsTell m.objects → newly_pinned m numbers ≡ objects.new_pages m.objects numbers
+pub newly_told : (m : Memory) (numbers : List ℕ) → ObjectsTell m.objects
+    → newly_pinned m numbers ≡ objects.new_pages m.objects numbers
 newly_told m numbers told =
-    length-filter (λ page. is_none (pinned_frame m page)) (flat_map pages_of (filter (λ (row : MemoryObject). list_any (λ n. eqb n row.number) numbers) (rows_of m.objects)))
-    ∙ counted_sum (λ page. is_none (pinned_frame m page)) (λ row. list_any (λ n. eqb n row.number) numbers) (λ o. new_count o.pages.pages) m.objects
+    length-filter (λ page. is_none (pinned_frame m page))
+    (flat_map pages_of (filter (λ (row : MemoryObject). list_any (λ n. eqb n row.number) numbers)
+    (rows_of m.objects)))
+    ∙ counted_sum (λ page. is_none (pinned_frame m page)) (λ row. list_any (λ n. eqb n row.number) numbers)
+    (λ o. new_count o.pages.pages) m.objects
     (each_new m.objects m.objects (own_numbers m.objects told.memory.rising) told.kept)

@@ -1,7 +1,9 @@
 -- Memory objects found by number, and which of their pages are pinned.
-use Rattle.std.proofs.Common.{◌≡◌, ℕ, ◌+◌, ◌≤◌, ◌^◌, Bool, true, false, ◌&&◌, ◌||◌, cond, eqb, ltb, leb, Option, Some, None, List, [], ◌∷◌, length, refl, sym, ap, ◌∙◌, subst, arith, ⊎_elim}
+use Rattle.std.proofs.Common.{◌≡◌, ℕ, ◌+◌, ◌≤◌, ◌^◌, Bool, true, false, ◌&&◌, ◌||◌, cond, eqb, ltb, leb, Option, Some}
+use Rattle.std.proofs.Common.{None, List, [], ◌∷◌, length, refl, sym, ap, ◌∙◌, subst, arith, ⊎_elim}
 use Rattle.std.specs.List.{find, list_all, list_any, slice_get}
-use Rattle.std.proofs.lemmas.Bool.{and_parts, cases_Bool, eqb-true, eqb-false, eq-eqb, ne_eqb, ltb-true, ltb-false, leb-true, lt-ltb}
+use Rattle.std.proofs.lemmas.Bool.{and_parts, cases_Bool, eqb-true, eqb-false, eq-eqb, ne_eqb, ltb-true, ltb-false}
+use Rattle.std.proofs.lemmas.Bool.{leb-true, lt-ltb}
 use Rattle.std.proofs.lemmas.Option.{slice_get_past}
 use Rattle.iofd_words.specs.Frames.{frame_at}
 use Rattle.iofd_words.specs.Pages.{page_of}
@@ -17,13 +19,15 @@ use Rattle.user_memory.specs.Memory.{pins_in}
 
 -- ---- the object of a number
 
-pub found_passes : (p : MemoryEntry → Bool) (objects : List MemoryEntry) (n : ℕ) (x : MemoryEntry) → list_all p objects ≡ true → object_at objects n ≡ Some x → p x ≡ true
+pub found_passes : (p : MemoryEntry → Bool) (objects : List MemoryEntry) (n : ℕ) (x : MemoryEntry)
+    → list_all p objects ≡ true → object_at objects n ≡ Some x → p x ≡ true
 found_passes p [] n x all is = cc
 found_passes p (o ∷ objects) n x all is =
     let parts = and_parts (p o) (list_all p objects) all in
     by_test (eqb o.number n) is parts.0 (found_passes p objects n x parts.1)
   where
-    by_test : (b : Bool) → cond b (Some o) (object_at objects n) ≡ Some x → p o ≡ true → (object_at objects n ≡ Some x → p x ≡ true) → p x ≡ true
+    by_test : (b : Bool) → cond b (Some o) (object_at objects n) ≡ Some x → p o ≡ true
+        → (object_at objects n ≡ Some x → p x ≡ true) → p x ≡ true
     by_test true is here later = let same : o ≡ x = cc in subst (λ (y : MemoryEntry). p y ≡ true) same here
     by_test false is here later = later is
 
@@ -32,7 +36,8 @@ abbrev pub AreOwn : List MemoryEntry → List MemoryEntry → Type 0
 AreOwn all [] = Unit {0}
 AreOwn all (o ∷ objects) = (object_at all o.number ≡ Some o) × AreOwn all objects
 
-own_behind : (x : MemoryEntry) (all objects : List MemoryEntry) → list_all (λ next. ltb x.number next.number) objects ≡ true → AreOwn all objects → AreOwn (x ∷ all) objects
+own_behind : (x : MemoryEntry) (all objects : List MemoryEntry)
+    → list_all (λ next. ltb x.number next.number) objects ≡ true → AreOwn all objects → AreOwn (x ∷ all) objects
 own_behind x all [] after own = tt
 own_behind x all (o ∷ objects) after own =
     let parts = and_parts (ltb x.number o.number) (list_all (λ next. ltb x.number next.number) objects) after in
@@ -64,7 +69,9 @@ abbrev pub now_in : List UserPage → Option MemoryEntry → ℕ → Option Fram
 now_in rows None i = None
 now_in rows (Some o) i = frame_at rows o.pages.pages.user (page_of o.pages.pages.va + i)
 
-none_behind : (x : MemoryEntry) (objects : List MemoryEntry) (n i : ℕ) → list_all (λ next. ltb x.number next.number) objects ≡ true → x.number ≡ n → list_any (λ (row : MemoryObject). eqb n row.number && ltb i row.count) (rows_of objects) ≡ false
+none_behind : (x : MemoryEntry) (objects : List MemoryEntry) (n i : ℕ)
+    → list_all (λ next. ltb x.number next.number) objects ≡ true → x.number ≡ n
+    → list_any (λ (row : MemoryObject). eqb n row.number && ltb i row.count) (rows_of objects) ≡ false
 none_behind x [] n i after same = refl
 none_behind x (o ∷ objects) n i after same =
     let parts = and_parts (ltb x.number o.number) (list_all (λ next. ltb x.number next.number) objects) after in
@@ -76,7 +83,9 @@ or_none : (b : Bool) → (b || false) ≡ b
 or_none true = refl
 or_none false = refl
 
-row_has : (objects : List MemoryEntry) (n i : ℕ) → are_rising objects ≡ true → list_any (λ (row : MemoryObject). eqb n row.number && ltb i row.count) (rows_of objects) ≡ has_index (object_at objects n) i
+row_has : (objects : List MemoryEntry) (n i : ℕ) → are_rising objects ≡ true
+    → list_any (λ (row : MemoryObject). eqb n row.number && ltb i row.count)
+    (rows_of objects) ≡ has_index (object_at objects n) i
 row_has [] n i rising = refl
 row_has (o ∷ objects) n i rising =
     let parts = rising_parts o objects rising in
@@ -91,7 +100,9 @@ row_has (o ∷ objects) n i rising =
     rw (other, flipped) (row_has objects n i parts.1))
     (cases_Bool (eqb o.number n))
 
-pub pinned_found : (objects : List MemoryEntry) (n i : ℕ) → are_rising objects ≡ true → (list_any (λ (row : MemoryObject). eqb n row.number && ltb i row.count) (rows_of objects) && ltb 0 (pins_in (object_at objects n))) ≡ pinned_in (object_at objects n) i
+pub pinned_found : (objects : List MemoryEntry) (n i : ℕ) → are_rising objects ≡ true
+    → (list_any (λ (row : MemoryObject). eqb n row.number && ltb i row.count) (rows_of objects)
+    && ltb 0 (pins_in (object_at objects n))) ≡ pinned_in (object_at objects n) i
 pinned_found objects n i rising =
     ap (λ b. b && ltb 0 (pins_in (object_at objects n))) (row_has objects n i rising) ∙ by_object (object_at objects n)
   where
@@ -104,10 +115,15 @@ abbrev now_of : List UserPage → ℕ → Option MemoryObject → Option FrameNo
 now_of rows i None = None
 now_of rows i (Some m) = frame_at rows m.user (page_of m.va + i)
 
-pub now_found : (objects : List MemoryEntry) (rows : List UserPage) (n i : ℕ) → pin.frame_now (rows_of objects) rows (record { memory = n; index = i }) ≡ now_in rows (object_at objects n) i
-now_found objects rows n i = as_row (find (λ (m : MemoryObject). eqb m.number n) (rows_of objects)) ∙ ap (now_of rows i) (rows_found objects n) ∙ by_object (object_at objects n)
+pub now_found : (objects : List MemoryEntry) (rows : List UserPage) (n i : ℕ)
+    → pin.frame_now (rows_of objects) rows (record { memory = n; index = i }) ≡ now_in rows (object_at objects n) i
+now_found objects rows n i = as_row (find (λ (m : MemoryObject). eqb m.number n) (rows_of objects))
+    ∙ ap (now_of rows i) (rows_found objects n) ∙ by_object (object_at objects n)
   where
-    as_row : (r : Option MemoryObject) → elim r [ Some m ↦ frame_at rows m.user (page_of m.va + i) | None ↦ None ] ≡ now_of rows i r
+    as_row : (r : Option MemoryObject) → elim r [
+      | Some m ↦ frame_at rows m.user (page_of m.va + i)
+      | None ↦ None
+    ] ≡ now_of rows i r
     as_row None = refl
     as_row (Some m) = refl
 
@@ -119,19 +135,24 @@ now_found objects rows n i = as_row (find (λ (m : MemoryObject). eqb m.number n
 
 pub kept_count : (o : MemoryEntry) → is_kept o ≡ true → o.pages.pages.count ≤ 2 ^ 36
 kept_count o kept =
-    let parts = and_parts (leb o.pages.pages.count (2 ^ 36)) (eqb (length o.pages.pages.frames) (cond (eqb o.pages.pages.table_pins 0) 0 o.pages.pages.count)) kept in
+    let parts = and_parts (leb o.pages.pages.count (2 ^ 36))
+    (eqb (length o.pages.pages.frames) (cond (eqb o.pages.pages.table_pins 0) 0 o.pages.pages.count)) kept in
     leb-true o.pages.pages.count (2 ^ 36) parts.0
 
-pub kept_frames : (o : MemoryEntry) → is_kept o ≡ true → length o.pages.pages.frames ≡ cond (eqb o.pages.pages.table_pins 0) 0 o.pages.pages.count
+pub kept_frames : (o : MemoryEntry) → is_kept o ≡ true
+    → length o.pages.pages.frames ≡ cond (eqb o.pages.pages.table_pins 0) 0 o.pages.pages.count
 kept_frames o kept =
-    let parts = and_parts (leb o.pages.pages.count (2 ^ 36)) (eqb (length o.pages.pages.frames) (cond (eqb o.pages.pages.table_pins 0) 0 o.pages.pages.count)) kept in
+    let parts = and_parts (leb o.pages.pages.count (2 ^ 36))
+    (eqb (length o.pages.pages.frames) (cond (eqb o.pages.pages.table_pins 0) 0 o.pages.pages.count)) kept in
     eqb-true (length o.pages.pages.frames) (cond (eqb o.pages.pages.table_pins 0) 0 o.pages.pages.count) parts.1
 
-pub not_pinned : (o : MemoryEntry) (i : ℕ) → is_kept o ≡ true → pinned_in (Some o) i ≡ false → slice_get o.pages.pages.frames i ≡ None
+pub not_pinned : (o : MemoryEntry) (i : ℕ) → is_kept o ≡ true → pinned_in (Some o) i ≡ false
+    → slice_get o.pages.pages.frames i ≡ None
 not_pinned o i kept out =
     slice_get_past o.pages.pages.frames i (by_pins (eqb o.pages.pages.table_pins 0) refl (kept_frames o kept))
   where
-    by_pins : (b : Bool) → eqb o.pages.pages.table_pins 0 ≡ b → length o.pages.pages.frames ≡ cond b 0 o.pages.pages.count → length o.pages.pages.frames ≤ i
+    by_pins : (b : Bool) → eqb o.pages.pages.table_pins 0 ≡ b
+        → length o.pages.pages.frames ≡ cond b 0 o.pages.pages.count → length o.pages.pages.frames ≤ i
     by_pins true is count = omega (arith, count)
     by_pins false is count =
         let some = eqb-false o.pages.pages.table_pins 0 is in

@@ -1,11 +1,13 @@
 -- Changes of the objects that a contract sees: a pin less, an area less, pins more.
-use Rattle.std.proofs.Common.{◌≡◌, ℕ, ◌+◌, ◌-◌, ◌≤◌, Bool, true, false, ◌&&◌, cond, eqb, leb, not, Option, Some, None, List, [], ◌∷◌, map, refl, sym, ap, ◌∙◌, subst, arith, ⊎_elim}
+use Rattle.std.proofs.Common.{◌≡◌, ℕ, ◌+◌, ◌-◌, ◌≤◌, Bool, true, false, ◌&&◌, cond, eqb, leb, not, Option, Some, None}
+use Rattle.std.proofs.Common.{List, [], ◌∷◌, map, refl, sym, ap, ◌∙◌, subst, arith, ⊎_elim}
 use Rattle.std.specs.List.{filter, list_all}
 use Rattle.std.proofs.lemmas.Bool.{and_parts, cases_Bool, eqb-true, leb-true, le-leb, ne_eqb}
 use Rattle.mem_account.specs.Accounts.{is_user}
 use Rattle.mem_account.specs.declared.Account.{Account}
 use Rattle.memory_objects.specs.Backed.{AccountsMove}
-use Rattle.memory_objects.specs.Objects.{MemoryEntry, all_unpinned, have_areas, have_pins, object_at, pinned_by, pinned_less, row_of, rows_of, times_of, with_pages}
+use Rattle.memory_objects.specs.Objects.{MemoryEntry, all_unpinned, have_areas, have_pins, object_at, pinned_by}
+use Rattle.memory_objects.specs.Objects.{pinned_less, row_of, rows_of, times_of, with_pages}
 use Rattle.memory_objects.proofs.FramesSeen.{rows_unpinned}
 use Rattle.memory_objects.proofs.Moved.{same_users}
 use Rattle.memory_objects.proofs.OneObject.{times_one}
@@ -20,20 +22,24 @@ use Rattle.iofd_words.specs.declared.rows.UserPage.{UserPage}
 
 -- ---- tests of all objects
 
-pub all_mapped : (p q : MemoryEntry → Bool) (G : MemoryEntry → MemoryEntry) → ((o : MemoryEntry) → p o ≡ true → q (G o) ≡ true) → (objects : List MemoryEntry) → list_all p objects ≡ true → list_all q (map G objects) ≡ true
+pub all_mapped : (p q : MemoryEntry → Bool) (G : MemoryEntry → MemoryEntry)
+    → ((o : MemoryEntry) → p o ≡ true → q (G o) ≡ true) → (objects : List MemoryEntry) → list_all p objects ≡ true
+    → list_all q (map G objects) ≡ true
 all_mapped p q G each [] all = refl
 all_mapped p q G each (o ∷ objects) all =
     let parts = and_parts (p o) (list_all p objects) all in
     rw (each o parts.0) (all_mapped p q G each objects parts.1)
 
-pub all_filtered : (p q : MemoryEntry → Bool) (objects : List MemoryEntry) → list_all p objects ≡ true → list_all p (filter q objects) ≡ true
+pub all_filtered : (p q : MemoryEntry → Bool) (objects : List MemoryEntry) → list_all p objects ≡ true
+    → list_all p (filter q objects) ≡ true
 all_filtered p q [] all = refl
 all_filtered p q (o ∷ objects) all =
     let parts = and_parts (p o) (list_all p objects) all in
     let rest = all_filtered p q objects parts.1 in
     ⊎_elim (λ (kept : q o ≡ true). rw (kept, parts.0) rest) (λ (gone : q o ≡ false). rw gone rest) (cases_Bool (q o))
 
-pub all_alike : (p q : MemoryEntry → Bool) → ((o : MemoryEntry) → q o ≡ p o) → (objects : List MemoryEntry) → list_all p objects ≡ true → list_all q objects ≡ true
+pub all_alike : (p q : MemoryEntry → Bool) → ((o : MemoryEntry) → q o ≡ p o) → (objects : List MemoryEntry)
+    → list_all p objects ≡ true → list_all q objects ≡ true
 all_alike p q same [] all = refl
 all_alike p q same (o ∷ objects) all =
     let parts = and_parts (p o) (list_all p objects) all in
@@ -46,7 +52,9 @@ abbrev pub has_user : List Account → MemoryEntry → Bool
 has_user accounts o = is_user accounts o.pages.pages.user.0
 
 -- where as many pages of each user's are pinned, the accounts tell as they did
-pub accounts_stay : (accounts : List Account) (old new : List MemoryEntry) → AccountsTell accounts old → ((user : ℕ) → pinned_by new user ≡ pinned_by old user) → list_all (has_user accounts) new ≡ true → ObjectsTell new → AccountsTell accounts new
+pub accounts_stay : (accounts : List Account) (old new : List MemoryEntry) → AccountsTell accounts old
+    → ((user : ℕ) → pinned_by new user ≡ pinned_by old user) → list_all (has_user accounts) new ≡ true → ObjectsTell new
+    → AccountsTell accounts new
 accounts_stay accounts old new tell same users told = record {
   held = λ user known. tell.held user known ∙ sym (same user);
   users = users;
@@ -54,14 +62,17 @@ accounts_stay accounts old new tell same users told = record {
 }
 
 -- and where they moved with the pins
-pub accounts_moved : (before after : List Account) (old new : List MemoryEntry) → AccountsTell before old → AccountsMove old new before after → list_all (has_user before) new ≡ true → ObjectsTell new → AccountsTell after new
+pub accounts_moved : (before after : List Account) (old new : List MemoryEntry) → AccountsTell before old
+    → AccountsMove old new before after → list_all (has_user before) new ≡ true → ObjectsTell new
+    → AccountsTell after new
 accounts_moved before after old new tell move users told = record {
   held = λ user known.
       let was = sym (same_users before after move.count user) ∙ known in
       let held = tell.held user was in
       let moved = move.held user was in
       omega (arith, held, moved);
-  users = all_alike (has_user before) (has_user after) (λ o. same_users before after move.count o.pages.pages.user.0) new users;
+  users = all_alike (has_user before) (has_user after)
+      (λ o. same_users before after move.count o.pages.pages.user.0) new users;
   told = told;
 }
 
@@ -84,21 +95,28 @@ module _ (rows : List UserPage) (old : List MemoryEntry) (told : ObjectsTell old
     where
       by_object : (a : Option MemoryEntry) → object_at old k ≡ a → StepOf rows a (moved unpin a) i
       by_object None is = refl
-      by_object (Some o) is = unpinned_settles rows o (found_passes is_kept old k o told.kept is) i (times_of o.number (n ∷ []))
+      by_object (Some o) is =
+          unpinned_settles rows o (found_passes is_kept old k o told.kept is) i (times_of o.number (n ∷ []))
 
-  pins_less : (k : ℕ) → 1 ≤ pins_in (object_at old n) → pins_in (object_at (all_unpinned (n ∷ []) old) k) + once n k ≡ pins_in (object_at old k)
-  pins_less k some = ap (λ b. pins_in b + once n k) (mapped_at unpin (λ o. refl) old k) ∙ by_object (object_at old k) refl
+  pins_less : (k : ℕ) → 1 ≤ pins_in (object_at old n)
+      → pins_in (object_at (all_unpinned (n ∷ []) old) k) + once n k ≡ pins_in (object_at old k)
+  pins_less k some =
+      ap (λ b. pins_in b + once n k) (mapped_at unpin (λ o. refl) old k) ∙ by_object (object_at old k) refl
     where
       by_object : (a : Option MemoryEntry) → object_at old k ≡ a → pins_in (moved unpin a) + once n k ≡ pins_in a
       by_object None is =
-          let other : eqb n k ≡ false = ne_eqb n k (λ same. let none = ap (λ m. pins_in (object_at old m)) same ∙ ap pins_in is in omega (arith, some, none)) in
+          let other : eqb n k ≡ false = ne_eqb n k (λ same. let none = ap (λ m. pins_in (object_at old m)) same
+          ∙ ap pins_in is in omega (arith, some, none)) in
           rw other refl
       by_object (Some o) is =
           let number = found_number old k o is in
           let times = times_one o.number n in
-          by_test (eqb n o.number) (eqb n k) refl (ap (eqb n) number) times (λ same. ap (λ m. pins_in (object_at old m)) (eqb-true n k same) ∙ ap pins_in is)
+          by_test (eqb n o.number) (eqb n k) refl (ap (eqb n) number) times
+          (λ same. ap (λ m. pins_in (object_at old m)) (eqb-true n k same) ∙ ap pins_in is)
         where
-          by_test : (b c : Bool) → eqb n k ≡ c → b ≡ c → times_of o.number (n ∷ []) ≡ cond b 1 0 → (eqb n k ≡ true → pins_in (object_at old n) ≡ o.pages.pages.table_pins) → o.pages.pages.table_pins - times_of o.number (n ∷ []) + cond c 1 0 ≡ o.pages.pages.table_pins
+          by_test : (b c : Bool) → eqb n k ≡ c → b ≡ c → times_of o.number (n ∷ []) ≡ cond b 1 0
+              → (eqb n k ≡ true → pins_in (object_at old n) ≡ o.pages.pages.table_pins)
+              → o.pages.pages.table_pins - times_of o.number (n ∷ []) + cond c 1 0 ≡ o.pages.pages.table_pins
           by_test true true is same times here = let pins = here is in omega (arith, times, pins, some)
           by_test false false is same times here = omega (arith, times)
           by_test true false is same times here = cc
@@ -107,7 +125,9 @@ module _ (rows : List UserPage) (old : List MemoryEntry) (told : ObjectsTell old
 -- ---- what a pin less and an area less ask
 
 -- of each object that is the one of its number among all
-pub all_own : (all : List MemoryEntry) (p q : MemoryEntry → Bool) → ((o : MemoryEntry) → object_at all o.number ≡ Some o → p o ≡ true → q o ≡ true) → (objects : List MemoryEntry) → AreOwn all objects → list_all p objects ≡ true → list_all q objects ≡ true
+pub all_own : (all : List MemoryEntry) (p q : MemoryEntry → Bool)
+    → ((o : MemoryEntry) → object_at all o.number ≡ Some o → p o ≡ true → q o ≡ true) → (objects : List MemoryEntry)
+    → AreOwn all objects → list_all p objects ≡ true → list_all q objects ≡ true
 all_own all p q each [] own passes = refl
 all_own all p q each (o ∷ objects) own passes =
     let parts = and_parts (p o) (list_all p objects) passes in
@@ -118,25 +138,35 @@ has_areas o = leb 1 o.areas && leb o.pages.pages.table_pins o.areas
 
 module _ (old : List MemoryEntry) (told : ObjectsTell old) (n : ℕ) where
   pub pins_there : 1 ≤ pins_in (object_at old n) → have_pins (n ∷ []) old ≡ true
-  pins_there some = all_own old has_areas (λ o. leb (times_of o.number (n ∷ [])) o.pages.pages.table_pins) one old (own_numbers old told.memory.rising) told.memory.areas
+  pins_there some = all_own old has_areas (λ o. leb (times_of o.number (n ∷ [])) o.pages.pages.table_pins) one old
+      (own_numbers old told.memory.rising) told.memory.areas
     where
-      one : (o : MemoryEntry) → object_at old o.number ≡ Some o → has_areas o ≡ true → leb (times_of o.number (n ∷ [])) o.pages.pages.table_pins ≡ true
-      one o own has = le-leb (times_of o.number (n ∷ [])) o.pages.pages.table_pins (by_test (eqb n o.number) refl (times_one o.number n))
+      one : (o : MemoryEntry) → object_at old o.number ≡ Some o → has_areas o ≡ true
+          → leb (times_of o.number (n ∷ [])) o.pages.pages.table_pins ≡ true
+      one o own has = le-leb (times_of o.number (n ∷ [])) o.pages.pages.table_pins
+          (by_test (eqb n o.number) refl (times_one o.number n))
         where
-          by_test : (b : Bool) → eqb n o.number ≡ b → times_of o.number (n ∷ []) ≡ cond b 1 0 → times_of o.number (n ∷ []) ≤ o.pages.pages.table_pins
-          by_test true is times = let pins = ap (λ m. pins_in (object_at old m)) (eqb-true n o.number is) ∙ ap pins_in own in omega (arith, times, pins, some)
+          by_test : (b : Bool) → eqb n o.number ≡ b → times_of o.number (n ∷ []) ≡ cond b 1 0
+              → times_of o.number (n ∷ []) ≤ o.pages.pages.table_pins
+          by_test true is times = let pins = ap (λ m. pins_in (object_at old m)) (eqb-true n o.number is)
+              ∙ ap pins_in own in omega (arith, times, pins, some)
           by_test false is times = omega (arith, times)
 
   pub areas_there : pins_in (object_at old n) + 1 ≤ areas_in (object_at old n) → have_areas (n ∷ []) old ≡ true
-  areas_there some = all_own old has_areas (λ o. leb (o.pages.pages.table_pins + times_of o.number (n ∷ [])) o.areas) one old (own_numbers old told.memory.rising) told.memory.areas
+  areas_there some = all_own old has_areas (λ o. leb (o.pages.pages.table_pins + times_of o.number (n ∷ [])) o.areas)
+      one old (own_numbers old told.memory.rising) told.memory.areas
     where
-      one : (o : MemoryEntry) → object_at old o.number ≡ Some o → has_areas o ≡ true → leb (o.pages.pages.table_pins + times_of o.number (n ∷ [])) o.areas ≡ true
+      one : (o : MemoryEntry) → object_at old o.number ≡ Some o → has_areas o ≡ true
+          → leb (o.pages.pages.table_pins + times_of o.number (n ∷ [])) o.areas ≡ true
       one o own has =
           let parts = and_parts (leb 1 o.areas) (leb o.pages.pages.table_pins o.areas) has in
           let low = leb-true o.pages.pages.table_pins o.areas parts.1 in
-          le-leb (o.pages.pages.table_pins + times_of o.number (n ∷ [])) o.areas (by_test low (eqb n o.number) refl (times_one o.number n))
+          le-leb (o.pages.pages.table_pins + times_of o.number (n ∷ [])) o.areas
+          (by_test low (eqb n o.number) refl (times_one o.number n))
         where
-          by_test : o.pages.pages.table_pins ≤ o.areas → (b : Bool) → eqb n o.number ≡ b → times_of o.number (n ∷ []) ≡ cond b 1 0 → o.pages.pages.table_pins + times_of o.number (n ∷ []) ≤ o.areas
+          by_test : o.pages.pages.table_pins ≤ o.areas → (b : Bool) → eqb n o.number ≡ b
+              → times_of o.number (n ∷ []) ≡ cond b 1 0
+              → o.pages.pages.table_pins + times_of o.number (n ∷ []) ≤ o.areas
           by_test low true is times =
               let pins = ap (λ m. pins_in (object_at old m)) (eqb-true n o.number is) ∙ ap pins_in own in
               let areas = ap (λ m. areas_in (object_at old m)) (eqb-true n o.number is) ∙ ap areas_in own in
@@ -146,17 +176,21 @@ module _ (old : List MemoryEntry) (told : ObjectsTell old) (n : ℕ) where
 -- ---- the rows that stay
 
 -- where the objects' areas are left as they were, all rows stay
-rows_stay : (all new : List MemoryEntry) → ((k : ℕ) → areas_in (object_at new k) ≡ areas_in (object_at all k)) → (objects : List MemoryEntry) → AreOwn all objects → list_all has_areas objects ≡ true → filter (λ row. not (eqb (areas_in (object_at new row.number)) 0)) (rows_of objects) ≡ rows_of objects
+rows_stay : (all new : List MemoryEntry) → ((k : ℕ) → areas_in (object_at new k) ≡ areas_in (object_at all k))
+    → (objects : List MemoryEntry) → AreOwn all objects → list_all has_areas objects ≡ true
+    → filter (λ row. not (eqb (areas_in (object_at new row.number)) 0)) (rows_of objects) ≡ rows_of objects
 rows_stay all new same [] own has = refl
 rows_stay all new same (o ∷ objects) own has =
     let parts = and_parts (has_areas o) (list_all has_areas objects) has in
     let first = and_parts (leb 1 o.areas) (leb o.pages.pages.table_pins o.areas) parts.0 in
     let some = leb-true 1 o.areas first.0 in
     let areas = same o.number ∙ ap areas_in own.0 in
-    let there : eqb (areas_in (object_at new o.number)) 0 ≡ false = ne_eqb (areas_in (object_at new o.number)) 0 (λ e. omega (arith, areas, some, e)) in
+    let there : eqb (areas_in (object_at new o.number)) 0 ≡ false =
+    ne_eqb (areas_in (object_at new o.number)) 0 (λ e. omega (arith, areas, some, e)) in
     rw there (ap (λ rest. row_of o ∷ rest) (rows_stay all new same objects own.1 parts.1))
 
-module _ (rows : List UserPage) (old_limits new_limits : List ℕ) (old : List MemoryEntry) (told : ObjectsTell old) (n : ℕ) where
+module _ (rows : List UserPage) (old_limits new_limits : List ℕ) (old : List MemoryEntry)
+    (told : ObjectsTell old) (n : ℕ) where
   areas_unpinned : (k : ℕ) → areas_in (object_at (all_unpinned (n ∷ []) old) k) ≡ areas_in (object_at old k)
   areas_unpinned k = ap areas_in (mapped_at (unpin rows old told n) (λ o. refl) old k) ∙ by_object (object_at old k)
     where
@@ -164,9 +198,15 @@ module _ (rows : List UserPage) (old_limits new_limits : List ℕ) (old : List M
       by_object None = refl
       by_object (Some o) = refl
 
-  pub unpin_less : 1 ≤ pins_in (object_at old n) → HasLess never (once n) (record { pages = rows; limits = old_limits; objects = old }) (record { pages = rows; limits = new_limits; objects = all_unpinned (n ∷ []) old })
+  pub unpin_less : 1 ≤ pins_in (object_at old n)
+      → HasLess never (once n) (record { pages = rows; limits = old_limits; objects = old }) (record {
+        pages = rows;
+        limits = new_limits;
+        objects = all_unpinned (n ∷ []) old;
+      })
   unpin_less some = record {
-    rows = rows_unpinned (n ∷ []) old ∙ sym (rows_stay old (all_unpinned (n ∷ []) old) areas_unpinned old (own_numbers old told.memory.rising) told.memory.areas);
+    rows = rows_unpinned (n ∷ []) old ∙ sym (rows_stay old (all_unpinned (n ∷ []) old) areas_unpinned old
+        (own_numbers old told.memory.rising) told.memory.areas);
     areas = λ k. let same = areas_unpinned k in omega (arith, same);
     pins = λ k. pins_less rows old told n k some;
   }

@@ -1,5 +1,6 @@
 -- How many frames there are of an object's pages that are pinned.
-use Rattle.std.proofs.Common.{◌≡◌, ℕ, ◌<◌, true, false, cond, eqb, Option, Some, None, List, [], ◌∷◌, length, refl, arith}
+use Rattle.std.proofs.Common.{◌≡◌, ℕ, ◌<◌, true, false, cond, eqb, Option, Some, None, List, [], ◌∷◌, length, refl}
+use Rattle.std.proofs.Common.{arith}
 use Rattle.std.specs.List.{find, slice_get}
 use Rattle.std.specs.Option.{IfSome}
 use Rattle.std.proofs.lemmas.Bool.Decides.{nat_tests}
@@ -12,15 +13,19 @@ use Rattle.user_memory.specs.Memory.{pins_in}
 
 -- as many as the object has pages, where a pin stands on it, and none where none does
 abbrev AreCounted : List FrameNo → Option MemoryEntry → Type 0
-AreCounted frames object = IfSome object (λ o. length frames ≡ cond (eqb o.pages.pages.table_pins 0) 0 o.pages.pages.count)
+AreCounted frames object =
+    IfSome object (λ o. length frames ≡ cond (eqb o.pages.pages.table_pins 0) 0 o.pages.pages.count)
 
-all_of : (frames : List FrameNo) (object : Option MemoryEntry) → AreCounted frames object → 0 < pins_in object → IfSome (row_found object) (λ row. length frames ≡ row.count)
+all_of : (frames : List FrameNo) (object : Option MemoryEntry) → AreCounted frames object → 0 < pins_in object
+    → IfSome (row_found object) (λ row. length frames ≡ row.count)
 all_of frames None counted pins = counted
 all_of frames (Some o) counted pins =
     let pinned : eqb o.pages.pages.table_pins 0 ≡ false = grind (arith, nat_tests) in
     rw pinned at counted
 
-pub all_pages : (frames : List FrameNo) (objects : List MemoryEntry) (n : ℕ) → AreCounted frames (object_at objects n) → 0 < pins_in (object_at objects n) → IfSome (find (λ (row : MemoryObject). eqb row.number n) (rows_of objects)) (λ row. length frames ≡ row.count)
+pub all_pages : (frames : List FrameNo) (objects : List MemoryEntry) (n : ℕ) → AreCounted frames (object_at objects n)
+    → 0 < pins_in (object_at objects n) → IfSome (find (λ (row : MemoryObject). eqb row.number n) (rows_of objects))
+    (λ row. length frames ≡ row.count)
 all_pages frames objects n counted pins =
     rw (rows_found objects n) (all_of frames (object_at objects n) counted pins)
 
@@ -28,11 +33,14 @@ none_there : (frames : List FrameNo) → slice_get frames 0 ≡ None → frames 
 none_there [] none = refl
 none_there (f ∷ frames) none = cc
 
-none_of : (frames : List FrameNo) (object : Option MemoryEntry) → slice_get frames 0 ≡ frame_in object 0 → AreCounted frames object → pins_in object ≡ 0 → frames ≡ []
+none_of : (frames : List FrameNo) (object : Option MemoryEntry) → slice_get frames 0 ≡ frame_in object 0
+    → AreCounted frames object → pins_in object ≡ 0 → frames ≡ []
 none_of frames None first counted pins = none_there frames first
 none_of frames (Some o) first counted pins =
     let none : eqb o.pages.pages.table_pins 0 ≡ true = grind (arith, nat_tests) in
     nil_from_length frames (rw none at counted)
 
-pub no_pages : (frames : List FrameNo) (objects : List MemoryEntry) (n : ℕ) → slice_get frames 0 ≡ frame_in (object_at objects n) 0 → AreCounted frames (object_at objects n) → pins_in (object_at objects n) ≡ 0 → frames ≡ []
+pub no_pages : (frames : List FrameNo) (objects : List MemoryEntry) (n : ℕ)
+    → slice_get frames 0 ≡ frame_in (object_at objects n) 0 → AreCounted frames (object_at objects n)
+    → pins_in (object_at objects n) ≡ 0 → frames ≡ []
 no_pages frames objects n first counted pins = none_of frames (object_at objects n) first counted pins

@@ -5,7 +5,8 @@ use Rattle.iofd_words.specs.declared.rows.MemoryObject.{MemoryObject}
 use Rattle.frame_memory.specs.Pool.{FramePool}
 use Rattle.memory_objects.specs.Invariant.{MemoryInvariant}
 use Rattle.memory_objects.specs.Objects.{pins_on}
-use Rattle.user_memory.specs.Memory.{IsBacked, Memory, areas_over, frame_now, is_pinned, pinned_frame, reached, rows_of, table_pins}
+use Rattle.user_memory.specs.Memory.{IsBacked, Memory, areas_over, frame_now, is_pinned, pinned_frame, reached, rows_of}
+use Rattle.user_memory.specs.Memory.{table_pins}
 
 -- a frame has as many holds more as pages and pins more name it, or less
 pub record HoldsFollow (old new : Memory) (before after : FramePool) : Type 0 where

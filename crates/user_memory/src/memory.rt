@@ -1,6 +1,8 @@
 //! The users' memory.
 
-ghost use Rattle.std.specs.Prelude.{ℕ, ◌≡◌, ◌==◌, ◌&&◌, ◌<◌, ◌≤◌, ◌+◌, ◌*◌, ◌^◌, [], ◌∷◌, false, true, None, find, length, nat_lt, slice_get, is_some, if◌then◌else◌, IsTrue, IsSome, IfOk, IfSome, OnOk, OnErr};
+ghost use Rattle.std.specs.Prelude.{ℕ, ◌≡◌, ◌==◌, ◌&&◌, ◌<◌, ◌≤◌, ◌+◌, ◌*◌, ◌^◌, [], ◌∷◌, false, true, None, find};
+ghost use Rattle.std.specs.Prelude.{length, nat_lt, slice_get, is_some, if◌then◌else◌, IsTrue, IsSome, IfOk, IfSome};
+ghost use Rattle.std.specs.Prelude.{OnOk, OnErr};
 ghost use Rattle.std.specs.List.{list_all, list_any};
 ghost use Rattle.std.specs.List.Sorted.{IsNonDecreasing};
 ghost use Rattle.iofd_words.specs.Checks as checks;
@@ -11,9 +13,11 @@ ghost use Rattle.iofd_words.specs.Pages.{is_whole, page_of};
 ghost use Rattle.frame_memory.specs.Pool.{FramePool, given, least_free};
 ghost use Rattle.frame_memory.specs.UserPages.{HasOneMore, user_page};
 ghost use Rattle.memory_objects.specs.Objects.{times_of};
-ghost use Rattle.user_memory.specs.Changes.{HasLess, HasObject, HasPins, HasShare, HoldsFollow, SameObjects, Settles, never, once};
+ghost use Rattle.user_memory.specs.Changes.{HasLess, HasObject, HasPins, HasShare, HoldsFollow, SameObjects, Settles};
+ghost use Rattle.user_memory.specs.Changes.{never, once};
 ghost use Rattle.user_memory.specs.Invariant.{ObjectsTell};
-ghost use Rattle.user_memory.specs.Memory.{IsBacked, are_of, areas_over, has_room, held_by, lacks_page, new_pages, newly_pinned, pinned_frame, rows_at, rows_of, table_pins};
+ghost use Rattle.user_memory.specs.Memory.{IsBacked, are_of, areas_over, has_room, held_by, lacks_page, new_pages};
+ghost use Rattle.user_memory.specs.Memory.{newly_pinned, pinned_frame, rows_at, rows_of, table_pins};
 
 use crate::adding;
 use frame_memory::{Pool, UserMap};
@@ -77,7 +81,8 @@ impl<A: Allocator + Copy> UserMemory<A> {
         requires end { row.va + row.count * 4096 ≤ 2 ^ 48 }
         requires user { IsSome (numbered self.old.limits row.user.0) }
         requires rises { list_all (λ other. nat_lt other.number row.number) (rows_of self.old) ≡ true }
-        requires present { pinned ≡ true → checks.has_pages (frames.frame_at self.old.pages) row.user (page_of row.va) row.count ≡ true }
+        requires present { pinned ≡ true → checks.has_pages (frames.frame_at self.old.pages) row.user
+            (page_of row.va) row.count ≡ true }
         requires room { pinned ≡ true → has_room self.old row.user row.count ≡ true }
         requires backed { IsBacked self.old pool.old.holds }
         ensures object { OnOk result (HasObject (if pinned then 1 else 0) row self.old self.new) }
@@ -222,7 +227,8 @@ impl<A: Allocator> UserMemory<A> {
         requires absent { frames.frame_at self.old.pages user (page_of va) ≡ None }
         requires free { IsSome (least_free pool.old.holds) }
         ensures least { IfOk result (λ frame. least_free pool.old.holds ≡ Some frame.0) }
-        ensures pages { IfOk result (λ frame. HasOneMore self.old.pages self.new.pages (user_page user (page_of va) frame)) }
+        ensures pages { IfOk result (λ frame. HasOneMore self.old.pages self.new.pages
+            (user_page user (page_of va) frame)) }
         ensures limits { self.new.limits ≡ self.old.limits }
         ensures objects { SameObjects self.old self.new }
         ensures pool { IfOk result (λ frame. pool.new ≡ given pool.old frame.0) }
@@ -263,7 +269,8 @@ impl<A: Allocator> UserMemory<A> {
         requires own { are_of user (rows_at self.old numbers.now) ≡ true }
         requires present { list_any (lacks_page self.old) numbers.now ≡ false }
         requires room { has_room self.old user (newly_pinned self.old numbers.now) ≡ true }
-        requires areas { (number : ℕ) → table_pins self.old number + times_of number numbers.now ≤ areas_over self.old number }
+        requires areas { (number : ℕ) → table_pins self.old number
+            + times_of number numbers.now ≤ areas_over self.old number }
         requires backed { IsBacked self.old pool.old.holds }
         ensures pins { OnOk result (HasPins (λ n. times_of n numbers.now) self.old self.new) }
         ensures settles { OnOk result (Settles self.old self.new pool.old pool.new) }

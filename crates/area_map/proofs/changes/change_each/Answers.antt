@@ -9,9 +9,11 @@ pub loop-row-preserved : goal.loop-row-preserved
 loop-row-preserved g c =
     let f = map (changed c.args.change.now c.args.span) in
     let rows = c.loop-row.rows in
-    let step = map_over_more f c.args.rows.now rows c.loop-row.row-index c.row-item.result (omega arith) c.loop-row.invariant c.row-item.is in
+    let step = map_over_more f c.args.rows.now rows c.loop-row.row-index c.row-item.result (omega arith)
+    c.loop-row.invariant c.row-item.is in
     let new : c.change.new.self ≡ f c.row-item.result = c.change.ensures ∙ ap f (sym c.row-item.is) in
     ap (λ (row : List Area). set rows c.loop-row.row-index row) new ∙ step
 
 pub returns : goal.returns
-returns g c = map_over_all (map (changed c.args.change.now c.args.span)) c.args.rows.now c.loop-row.rows c.loop-row.row-index (omega arith) c.loop-row.invariant
+returns g c = map_over_all (map (changed c.args.change.now c.args.span)) c.args.rows.now c.loop-row.rows
+    c.loop-row.row-index (omega arith) c.loop-row.invariant

@@ -6,7 +6,8 @@ use Rattle.area_map.proofs.insertion.add_to.Goals as goal
 
 pub returns-clause-full : goal.returns-clause-full
 returns-clause-full g c =
-    ap (λ n. nat_le 32 n) (c.len.ensures ∙ ap (λ (row : List Area). length row) c.add.ensures ∙ length-added c.args.area c.args.rows.now c.args.index c.index-rows-index.result c.requires.bound)
+    ap (λ n. nat_le 32 n) (c.len.ensures ∙ ap (λ (row : List Area). length row) c.add.ensures
+    ∙ length-added c.args.area c.args.rows.now c.args.index c.index-rows-index.result c.requires.bound)
 
 pub add-requires-clause-apart : goal.add-requires-clause-apart
 add-requires-clause-apart g c =

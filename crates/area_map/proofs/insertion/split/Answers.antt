@@ -7,12 +7,16 @@ use Rattle.area_map.proofs.insertion.split.Given as given
 use Rattle.area_map.proofs.insertion.split.Goals as goal
 
 parted : (g : given.Over) (c : goal.After-unwrap g) → c.insert.new.self.items
-    ≡ insert (set c.args.rows.now.items c.args.index (take c.split_place-at.result (get_or c.args.rows.now.items c.args.index []))) (c.args.index + 1) (drop c.split_place-at.result (get_or c.args.rows.now.items c.args.index []))
+    ≡ insert (set c.args.rows.now.items c.args.index
+    (take c.split_place-at.result (get_or c.args.rows.now.items c.args.index []))) (c.args.index
+    + 1) (drop c.split_place-at.result (get_or c.args.rows.now.items c.args.index []))
 parted g c =
     let rows : List (List Area) = c.args.rows.now.items in
     let cut = rw c.deref_mut.ensures.value at c.cut.ensures.rows in
     let upper = rw c.deref_mut.ensures.value at c.cut.ensures.upper in
-    let long : length c.cut.new.rows ≡ c.args.rows.now.len = ap length cut ∙ length-set rows c.args.index (take c.split_place-at.result (get_or rows c.args.index [])) ∙ omega arith in
+    let long : length c.cut.new.rows ≡ c.args.rows.now.len =
+    ap length cut ∙ length-set rows c.args.index (take c.split_place-at.result (get_or rows c.args.index []))
+    ∙ omega arith in
     let back = take_at c.cut.new.rows (drop (length c.cut.new.rows) rows) c.args.rows.now.len long in
     let items = rw c.unwrap.ensures at c.insert.ensures.items in
     items ∙ rw (back, cut, upper) refl
@@ -23,7 +27,9 @@ returns-in-Some-clause-areas g c =
 
 pub returns-in-Some-clause-rows : goal.returns-in-Some-clause-rows
 returns-in-Some-clause-rows g c =
-    rw (parted g c) (parts_are_rows c.args.rows.now.items c.args.index c.split_place-at.result c.requires.bound c.requires.full c.split_place-at.ensures.some c.split_place-at.ensures.few c.requires.before c.requires.behind)
+    rw (parted g c) (parts_are_rows c.args.rows.now.items c.args.index c.split_place-at.result c.requires.bound
+    c.requires.full c.split_place-at.ensures.some c.split_place-at.ensures.few
+    c.requires.before c.requires.behind)
 
 pub cut-requires-clause-bound : goal.cut-requires-clause-bound
 cut-requires-clause-bound g c = rw c.deref_mut.ensures.value c.requires.bound

@@ -9,12 +9,14 @@ use Rattle.area_map.proofs.joining.join.Goals as goal
 
 pub remove-next-requires : goal.remove-next-requires
 remove-next-requires g c =
-    let within : c.args.index + 1 < length c.args.rows.now.items = rw c.deref.ensures.value at (c.if-not-are_few.ensures.two refl) in
+    let within : c.args.index + 1 < length c.args.rows.now.items =
+    rw c.deref.ensures.value at (c.if-not-are_few.ensures.two refl) in
     omega arith
 
 pub take_over-requires-clause-bound : goal.take_over-requires-clause-bound
 take_over-requires-clause-bound g c =
-    let within : c.args.index + 1 < length c.args.rows.now.items = rw c.deref.ensures.value at (c.if-not-are_few.ensures.two refl) in
+    let within : c.args.index + 1 < length c.args.rows.now.items =
+    rw c.deref.ensures.value at (c.if-not-are_few.ensures.two refl) in
     rw c.deref_mut.ensures.value (omega arith)
 
 pub take_over-requires-clause-few : goal.take_over-requires-clause-few
@@ -35,10 +37,14 @@ returns-clause-areas g c =
     let base = rw (c.deref_mut.ensures.value, c.remove-next.ensures.items) at c.take_over.ensures in
     let same = get_or-remove_below items (i + 1) [] i (omega arith) within in
     let next = c.remove-next.ensures.value ∙ get_or_default items (i + 1) c.remove-next.result [] within in
-    let is = base ∙ ap (λ (row : List Area). set (remove items (i + 1)) i (row ++ c.remove-next.result)) same ∙ ap (λ (row : List Area). set (remove items (i + 1)) i (get_or items i [] ++ row)) next in
-    let left : length (remove items (i + 1)) ≡ c.remove-next.new.self.len = ap length (sym c.remove-next.ensures.items) ∙ omega arith in
+    let is = base ∙ ap (λ (row : List Area). set (remove items (i + 1)) i (row ++ c.remove-next.result)) same
+    ∙ ap (λ (row : List Area). set (remove items (i + 1)) i (get_or items i [] ++ row)) next in
+    let left : length (remove items (i + 1)) ≡ c.remove-next.new.self.len =
+    ap length (sym c.remove-next.ensures.items) ∙ omega arith in
     let long = length-set (remove items (i + 1)) i (get_or items i [] ++ get_or items (i + 1) []) ∙ left in
-    let written = written_back c.remove-next.new.self.items c.take_over.new.rows (set (remove items (i + 1)) i (get_or items i [] ++ get_or items (i + 1) [])) c.remove-next.new.self.len is long in
+    let written = written_back c.remove-next.new.self.items c.take_over.new.rows
+    (set (remove items (i + 1)) i (get_or items i [] ++ get_or items (i + 1) []))
+    c.remove-next.new.self.len is long in
     rw written (in_rows-join items i within)
 
 pub returns-clause-rows : goal.returns-clause-rows
@@ -49,8 +55,13 @@ returns-clause-rows g c =
     let base = rw (c.deref_mut.ensures.value, c.remove-next.ensures.items) at c.take_over.ensures in
     let same = get_or-remove_below items (i + 1) [] i (omega arith) within in
     let next = c.remove-next.ensures.value ∙ get_or_default items (i + 1) c.remove-next.result [] within in
-    let is = base ∙ ap (λ (row : List Area). set (remove items (i + 1)) i (row ++ c.remove-next.result)) same ∙ ap (λ (row : List Area). set (remove items (i + 1)) i (get_or items i [] ++ row)) next in
-    let left : length (remove items (i + 1)) ≡ c.remove-next.new.self.len = ap length (sym c.remove-next.ensures.items) ∙ omega arith in
+    let is = base ∙ ap (λ (row : List Area). set (remove items (i + 1)) i (row ++ c.remove-next.result)) same
+    ∙ ap (λ (row : List Area). set (remove items (i + 1)) i (get_or items i [] ++ row)) next in
+    let left : length (remove items (i + 1)) ≡ c.remove-next.new.self.len =
+    ap length (sym c.remove-next.ensures.items) ∙ omega arith in
     let long = length-set (remove items (i + 1)) i (get_or items i [] ++ get_or items (i + 1) []) ∙ left in
-    let written = written_back c.remove-next.new.self.items c.take_over.new.rows (set (remove items (i + 1)) i (get_or items i [] ++ get_or items (i + 1) [])) c.remove-next.new.self.len is long in
-    rw written (AreRows-join items i within (rw c.deref.ensures.value at (c.if-not-are_few.ensures.few refl)) c.requires)
+    let written = written_back c.remove-next.new.self.items c.take_over.new.rows
+    (set (remove items (i + 1)) i (get_or items i [] ++ get_or items (i + 1) []))
+    c.remove-next.new.self.len is long in
+    rw written (AreRows-join items i within (rw c.deref.ensures.value at (c.if-not-are_few.ensures.few refl))
+    c.requires)

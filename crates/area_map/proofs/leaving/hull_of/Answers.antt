@@ -14,6 +14,8 @@ loop-area-preserved g c =
     let seen : List Area = before.seen in
     record {
       seen = seen ++ area ∷ [];
-      whole = append_assoc seen (area ∷ []) rest ∙ ap (λ (l : List Area). seen ++ l) (sym c.in-Some.ensures.steps) ∙ before.whole;
-      leave = leave-push c.with_area-hull.result seen area (c.with_area-hull.ensures.others seen before.leave) c.with_area-hull.ensures.area;
+      whole = append_assoc seen (area ∷ []) rest ∙ ap (λ (l : List Area). seen ++ l) (sym c.in-Some.ensures.steps)
+          ∙ before.whole;
+      leave = leave-push c.with_area-hull.result seen area (c.with_area-hull.ensures.others seen before.leave)
+          c.with_area-hull.ensures.area;
     }

@@ -12,8 +12,10 @@ returns-then-lies_in g c = λ areas leave is.
 pub returns : goal.returns
 returns g c = λ areas leave is.
     let left = leave-filter (λ (a : Area). not (lies_in a.span c.args.gone)) c.args.hull areas leave in
-    leave-within c.in_ok-hull.hull c.hull_of.result (in_rows c.args.rows.now) (rw c.in_ok-hull.was at (rw (← is) at left)) (rw c.within.ensures at c.hull_of.ensures)
+    leave-within c.in_ok-hull.hull c.hull_of.result (in_rows c.args.rows.now)
+    (rw c.in_ok-hull.was at (rw (← is) at left)) (rw c.within.ensures at c.hull_of.ensures)
 
 pub returns-in_err-hull : goal.returns-in_err-hull
 returns-in_err-hull g c = λ areas leave is.
-    rw (is, c.from_residual.ensures) (leave-filter (λ (a : Area). not (lies_in a.span c.args.gone)) None areas (rw c.in_err-hull.was at leave))
+    rw (is, c.from_residual.ensures) (leave-filter (λ (a : Area). not (lies_in a.span c.args.gone)) None areas
+    (rw c.in_err-hull.was at leave))

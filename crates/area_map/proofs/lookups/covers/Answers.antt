@@ -5,7 +5,13 @@ use Rattle.area_map.proofs.lookups.covers.Goals as goal
 
 pub returns-clause-value : goal.returns-clause-value
 returns-clause-value g c =
-    rw (c.runs_on.ensures, c.reaching.ensures, c.first-2.ensures.value, c.last.ensures.value, c.first.ensures.value) refl
+    rw (
+      c.runs_on.ensures,
+      c.reaching.ensures,
+      c.first-2.ensures.value,
+      c.last.ensures.value,
+      c.first.ensures.value,
+    ) refl
 
 pub returns-clause-tells : goal.returns-clause-tells
 returns-clause-tells g c =

@@ -5,11 +5,13 @@ use Rattle.area_map.proofs.lookups.meets_and_cuts.Goals as goal
 
 pub returns-in-Some-clause-meets : goal.returns-in-Some-clause-meets
 returns-in-Some-clause-meets g c =
-    let is = meets_some c.args.span (in_rows c.args.rows.now) c.in-Some.area.now c.requires.apart (rw c.first.ensures.value at (sym c.in-Some.ensures)) in
+    let is = meets_some c.args.span (in_rows c.args.rows.now) c.in-Some.area.now c.requires.apart
+    (rw c.first.ensures.value at (sym c.in-Some.ensures)) in
     rw (c.first-in-Some.ensures.value, c.last.ensures.value) (sym is)
 
 pub returns-in-None-clause-meets : goal.returns-in-None-clause-meets
-returns-in-None-clause-meets g c = sym (meets_none c.args.span (in_rows c.args.rows.now) c.requires.apart (rw c.first.ensures.value at (sym c.in-None.ensures)))
+returns-in-None-clause-meets g c = sym (meets_none c.args.span (in_rows c.args.rows.now) c.requires.apart
+    (rw c.first.ensures.value at (sym c.in-None.ensures)))
 
 pub returns-in-None-clause-cuts : goal.returns-in-None-clause-cuts
 returns-in-None-clause-cuts g c =

@@ -9,4 +9,5 @@ pub returns-clause-value : goal.returns-clause-value
 returns-clause-value g c =
     let place = c.rows_passed-place in
     rw (c.first_rows_below.ensures.value, take_rest c.args.rows.now place.result)
-    (prefix_len-behind (λ (row : List Area). ltb (end_of row) c.args.address) c.args.rows.now place.result place.ensures.below)
+    (prefix_len-behind (λ (row : List Area). ltb (end_of row) c.args.address) c.args.rows.now
+    place.result place.ensures.below)

@@ -10,7 +10,9 @@ pub returns-in_default : goal.returns-in_default
 returns-in_default g c =
     let none = nil_from_length c.rows_from-rest.result.now c.in_default.ensures.cases in
     let value = rw (c.rows_below.ensures.value, c.first.ensures.value) at c.rows_from-rest.ensures.value in
-    c.new.ensures ∙ rw none (reaching_none (λ (a : Area). lies_in a.span c.args.span) c.args.span.first (λ a ordered below. grind (arith, nat_tests)) c.args.rows.now c.requires.rows c.requires.apart (sym value ∙ none))
+    c.new.ensures ∙ rw none (reaching_none (λ (a : Area). lies_in a.span c.args.span) c.args.span.first
+    (λ a ordered below. grind (arith, nat_tests)) c.args.rows.now c.requires.rows c.requires.apart (sym value
+    ∙ none))
 
 pub returns : goal.returns
 returns g c =
@@ -18,5 +20,11 @@ returns g c =
     let others = c.in-Some.others.now in
     let is = c.in-Some.ensures.cases.0 in
     let value = rw (c.rows_below.ensures.value, c.first.ensures.value) at c.rows_from-rest.ensures.value in
-    c.new-2.ensures ∙ rw (take_rest c.areas-areas.result.now c.count_before.result, c.last.ensures.value, c.count_before.ensures.value, c.first-2.ensures.value, c.areas-areas.ensures)
+    c.new-2.ensures ∙ rw (
+      take_rest c.areas-areas.result.now c.count_before.result,
+      c.last.ensures.value,
+      c.count_before.ensures.value,
+      c.first-2.ensures.value,
+      c.areas-areas.ensures,
+    )
     (within_rows c.args.span c.args.rows.now others row c.requires.rows c.requires.apart (sym value ∙ is))

@@ -9,29 +9,39 @@ use Rattle.area_map.proofs.removal.remove_areas.Goals as goal
 pub returns-then-not-empty-clause-areas : goal.returns-then-not-empty-clause-areas
 returns-then-not-empty-clause-areas g c =
     let is = rw c.deref_mut.ensures.value at c.remove_within-from.ensures.rows in
-    let long : length (map (areas_outside c.args.span) c.args.rows.now.items) ≡ c.args.rows.now.len = length-map c.args.rows.now.items (areas_outside c.args.span) ∙ omega arith in
-    let written = written_back c.args.rows.now.items c.remove_within-from.new.rows (map (areas_outside c.args.span) c.args.rows.now.items) c.args.rows.now.len is long in
+    let long : length (map (areas_outside c.args.span) c.args.rows.now.items) ≡ c.args.rows.now.len =
+    length-map c.args.rows.now.items (areas_outside c.args.span) ∙ omega arith in
+    let written = written_back c.args.rows.now.items c.remove_within-from.new.rows
+    (map (areas_outside c.args.span) c.args.rows.now.items) c.args.rows.now.len is long in
     rw (written) (outside_in_rows c.args.span c.args.rows.now.items)
 
 pub returns-clause-areas : goal.returns-clause-areas
 returns-clause-areas g c =
     let is = rw c.deref_mut.ensures.value at c.remove_within-from.ensures.rows in
-    let long : length (map (areas_outside c.args.span) c.args.rows.now.items) ≡ c.args.rows.now.len = length-map c.args.rows.now.items (areas_outside c.args.span) ∙ omega arith in
-    let written = written_back c.args.rows.now.items c.remove_within-from.new.rows (map (areas_outside c.args.span) c.args.rows.now.items) c.args.rows.now.len is long in
-    rw (c.drop_empty.ensures.rows, written, nonempty_in_rows (map (areas_outside c.args.span) c.args.rows.now.items)) (outside_in_rows c.args.span c.args.rows.now.items)
+    let long : length (map (areas_outside c.args.span) c.args.rows.now.items) ≡ c.args.rows.now.len =
+    length-map c.args.rows.now.items (areas_outside c.args.span) ∙ omega arith in
+    let written = written_back c.args.rows.now.items c.remove_within-from.new.rows
+    (map (areas_outside c.args.span) c.args.rows.now.items) c.args.rows.now.len is long in
+    rw (c.drop_empty.ensures.rows, written, nonempty_in_rows (map (areas_outside c.args.span) c.args.rows.now.items))
+    (outside_in_rows c.args.span c.args.rows.now.items)
 
 pub returns-clause-rows : goal.returns-clause-rows
 returns-clause-rows g c =
     let is = rw c.deref_mut.ensures.value at c.remove_within-from.ensures.rows in
-    let long : length (map (areas_outside c.args.span) c.args.rows.now.items) ≡ c.args.rows.now.len = length-map c.args.rows.now.items (areas_outside c.args.span) ∙ omega arith in
-    let written = written_back c.args.rows.now.items c.remove_within-from.new.rows (map (areas_outside c.args.span) c.args.rows.now.items) c.args.rows.now.len is long in
-    rw (c.drop_empty.ensures.rows, written) (nonempty_rows (map (areas_outside c.args.span) c.args.rows.now.items) (few_outside c.args.span c.args.rows.now.items c.requires.rows))
+    let long : length (map (areas_outside c.args.span) c.args.rows.now.items) ≡ c.args.rows.now.len =
+    length-map c.args.rows.now.items (areas_outside c.args.span) ∙ omega arith in
+    let written = written_back c.args.rows.now.items c.remove_within-from.new.rows
+    (map (areas_outside c.args.span) c.args.rows.now.items) c.args.rows.now.len is long in
+    rw (c.drop_empty.ensures.rows, written) (nonempty_rows (map (areas_outside c.args.span) c.args.rows.now.items)
+    (few_outside c.args.span c.args.rows.now.items c.requires.rows))
 
 pub returns-clause-count : goal.returns-clause-count
 returns-clause-count g c =
     let is = rw c.deref_mut.ensures.value at c.remove_within-from.ensures.rows in
-    let long : length (map (areas_outside c.args.span) c.args.rows.now.items) ≡ c.args.rows.now.len = length-map c.args.rows.now.items (areas_outside c.args.span) ∙ omega arith in
-    let written = written_back c.args.rows.now.items c.remove_within-from.new.rows (map (areas_outside c.args.span) c.args.rows.now.items) c.args.rows.now.len is long in
+    let long : length (map (areas_outside c.args.span) c.args.rows.now.items) ≡ c.args.rows.now.len =
+    length-map c.args.rows.now.items (areas_outside c.args.span) ∙ omega arith in
+    let written = written_back c.args.rows.now.items c.remove_within-from.new.rows
+    (map (areas_outside c.args.span) c.args.rows.now.items) c.args.rows.now.len is long in
     let rows : List (List Area) = c.args.rows.now.items in
     let count = rw (c.deref_mut.ensures.value, is) at c.remove_within-from.ensures.count in
     rw (c.drop_empty.ensures.rows, written, nonempty_in_rows (map (areas_outside c.args.span) rows)) count

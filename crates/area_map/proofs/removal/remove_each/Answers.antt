@@ -22,7 +22,11 @@ remove-removed-requires g c =
     let rows : List (List Area) = c.args.rows.now in
     let i = c.loop-row.row-index in
     let within : i < length rows = omega arith in
-    rw (c.loop-row.invariant.rows, row_ahead f rows i c.row-item.result within, get_or_default rows i c.row-item.result [] within)
+    rw (
+      c.loop-row.invariant.rows,
+      row_ahead f rows i c.row-item.result within,
+      get_or_default rows i c.row-item.result [] within,
+    )
     (row-apart 0 rows i within c.requires.rows c.requires.kept.apart)
 
 pub loop-row-preserved : goal.loop-row-preserved
@@ -30,9 +34,12 @@ loop-row-preserved g c =
     let f = areas_outside c.args.span in
     let rows = c.loop-row.rows in
     let within : c.loop-row.row-index < length c.loop-row.rows = omega arith in
-    let step = map_over_more f c.args.rows.now rows c.loop-row.row-index c.row-item.result (omega arith) c.loop-row.invariant.rows c.row-item.is in
-    let new : c.remove-removed.new.self ≡ f c.row-item.result = c.remove-removed.ensures.areas ∙ ap f (sym c.row-item.is) in
-    let changed = length-set_row c.loop-row.rows c.loop-row.row-index c.remove-removed.new.self c.row-item.result within in
+    let step = map_over_more f c.args.rows.now rows c.loop-row.row-index c.row-item.result (omega arith)
+    c.loop-row.invariant.rows c.row-item.is in
+    let new : c.remove-removed.new.self ≡ f c.row-item.result =
+    c.remove-removed.ensures.areas ∙ ap f (sym c.row-item.is) in
+    let changed =
+    length-set_row c.loop-row.rows c.loop-row.row-index c.remove-removed.new.self c.row-item.result within in
     let all = c.loop-row.invariant.count in
     let own = c.remove-removed.ensures.count in
     record {
@@ -41,4 +48,5 @@ loop-row-preserved g c =
     }
 
 pub returns-clause-areas : goal.returns-clause-areas
-returns-clause-areas g c = map_over_all (areas_outside c.args.span) c.args.rows.now c.loop-row.rows c.loop-row.row-index (omega arith) c.loop-row.invariant.rows
+returns-clause-areas g c = map_over_all (areas_outside c.args.span) c.args.rows.now c.loop-row.rows c.loop-row.row-index
+    (omega arith) c.loop-row.invariant.rows

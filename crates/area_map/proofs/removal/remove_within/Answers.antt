@@ -13,21 +13,26 @@ remove_each-removed-requires-clause-kept g c =
 pub remove_each-removed-requires-clause-rows : goal.remove_each-removed-requires-clause-rows
 remove_each-removed-requires-clause-rows g c =
     let part = c.meeting-from in
-    AreRows-take (drop part.result.0 c.args.rows.now) (part.result.1 - part.result.0) (AreRows-drop c.args.rows.now part.result.0 c.requires.rows)
+    AreRows-take (drop part.result.0 c.args.rows.now) (part.result.1 - part.result.0)
+    (AreRows-drop c.args.rows.now part.result.0 c.requires.rows)
 
 pub returns-clause-rows : goal.returns-clause-rows
 returns-clause-rows g c =
     let rows = c.args.rows.now in
     let part = c.meeting-from in
-    changed_mid c.args.span (areas_outside c.args.span) (λ _. Unit {0}) (outside_between c.args.span) rows c.remove_each-removed.new.rows part.result.0 part.result.1
-    c.requires.rows c.requires.kept.apart (always rows) part.ensures.from part.ensures.to part.ensures.order c.remove_each-removed.ensures.areas
+    changed_mid c.args.span (areas_outside c.args.span) (λ _. Unit {0}) (outside_between c.args.span) rows
+    c.remove_each-removed.new.rows part.result.0 part.result.1
+    c.requires.rows c.requires.kept.apart (always rows) part.ensures.from part.ensures.to part.ensures.order
+    c.remove_each-removed.ensures.areas
 
 pub returns-clause-count : goal.returns-clause-count
 returns-clause-count g c =
     let part = c.meeting-from in
-    count_around c.args.rows.now c.remove_each-removed.new.rows part.result.0 part.result.1 c.remove_each-removed.result part.ensures.order c.remove_each-removed.ensures.count
+    count_around c.args.rows.now c.remove_each-removed.new.rows part.result.0 part.result.1 c.remove_each-removed.result
+    part.ensures.order c.remove_each-removed.ensures.count
 
 pub returns-clause-empty : goal.returns-clause-empty
 returns-clause-empty g c = λ none.
     let part = c.meeting-from in
-    rows_around c.args.span c.args.rows.now c.remove_each-removed.new.rows part.result.0 part.result.1 c.requires.rows c.remove_each-removed.ensures.areas (rw c.has_empty.ensures at none)
+    rows_around c.args.span c.args.rows.now c.remove_each-removed.new.rows part.result.0 part.result.1 c.requires.rows
+    c.remove_each-removed.ensures.areas (rw c.has_empty.ensures at none)

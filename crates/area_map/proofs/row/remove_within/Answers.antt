@@ -10,5 +10,12 @@ returns-clause-areas g c =
     let k = c.count_before-from.result in
     let n = c.count_until-count.result in
     let from = rw (c.deref.ensures.value, c.first.ensures.value) at c.count_before-from.ensures.value in
-    let count = rw (take_rest c.deref-2.result.now k, c.deref-2.ensures.value, c.last.ensures.value) at c.count_until-count.ensures.value in
-    c.remove_between.ensures.rest ∙ rw (← drop-drop n k items, count) (outside_from c.args.span 0 items k c.requires from)
+    let count = rw (
+      take_rest c.deref-2.result.now k,
+      c.deref-2.ensures.value,
+      c.last.ensures.value,
+    ) at c.count_until-count.ensures.value in
+    c.remove_between.ensures.rest ∙ rw (
+      ← drop-drop n k items,
+      count,
+    ) (outside_from c.args.span 0 items k c.requires from)

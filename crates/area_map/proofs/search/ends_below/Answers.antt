@@ -11,4 +11,5 @@ returns-clause-below g c = λ some.
     let row : List Area = c.index-rows-place.result in
     let ends : end_of row < c.args.address = grind (arith, nat_tests) in
     let at = ap end_of c.index-rows-place.is in
-    rows-below c.args.address 0 rows c.requires.rows c.requires.apart c.args.place row c.requires.bound (omega (arith, at, ends))
+    rows-below c.args.address 0 rows c.requires.rows c.requires.apart c.args.place row c.requires.bound
+    (omega (arith, at, ends))

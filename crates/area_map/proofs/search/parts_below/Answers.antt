@@ -10,7 +10,9 @@ returns-clause-most g c =
     let first = c.ends_below in
     let second = c.ends_below-2 in
     let third = c.ends_below-3 in
-    let most = parts_passed c.args.place c.args.part (c.args.place + c.args.part * 3) first.result second.result third.result first.ensures.most second.ensures.most third.ensures.most (omega arith) (λ some. omega arith) (λ some. omega arith) (λ some. omega arith) in
+    let most = parts_passed c.args.place c.args.part (c.args.place + c.args.part * 3) first.result second.result
+    third.result first.ensures.most second.ensures.most third.ensures.most (omega arith) (λ some. omega arith)
+    (λ some. omega arith) (λ some. omega arith) in
     omega (arith, most)
 
 pub returns-clause-below : goal.returns-clause-below
@@ -19,5 +21,8 @@ returns-clause-below g c =
     let second = c.ends_below-2 in
     let third = c.ends_below-3 in
     let n = prefix_len (λ (row : List Area). ltb (end_of row) c.args.address) c.args.rows.now in
-    parts_passed c.args.place c.args.part n first.result second.result third.result first.ensures.most second.ensures.most third.ensures.most c.requires.passed
-    (λ some. let far = first.ensures.below some in omega (arith, far)) (λ some. let far = second.ensures.below some in omega (arith, far)) (λ some. let far = third.ensures.below some in omega (arith, far))
+    parts_passed c.args.place c.args.part n first.result second.result third.result first.ensures.most
+    second.ensures.most third.ensures.most c.requires.passed
+    (λ some. let far = first.ensures.below some in omega (arith, far))
+    (λ some. let far = second.ensures.below some in omega (arith, far))
+    (λ some. let far = third.ensures.below some in omega (arith, far))

@@ -4,4 +4,5 @@ use Rattle.area_map.specs.Areas.{most_tries, tries_of}
 use Rattle.area_map.proofs.totals.most_tries.Given as goal
 
 abbrev pub invariant-loop-area : goal.invariant-loop-area
-invariant-loop-area g l = fold (λ (most : ℕ) (area : Area). max most (tries_of area.phase)) l.most l.area-iterator ≡ most_tries l.fn.areas
+invariant-loop-area g l =
+    fold (λ (most : ℕ) (area : Area). max most (tries_of area.phase)) l.most l.area-iterator ≡ most_tries l.fn.areas

@@ -12,7 +12,8 @@ use Rattle.device_events.proofs.Walked.{beyond_given, hit_given, missed_given, u
 use Rattle.server_state.proofs.ViewShown.{same_outcomes}
 use Rattle.server_state.specs.Leads.{leads_of}
 use Rattle.server_state.specs.Seen.{seen}
-use Rattle.device_events.proofs.access.given.Goals.{in_default-walk-via-in-Hit+else-allow, in_default-walk-via-in_default-walk}
+use Rattle.device_events.proofs.access.given.Goals.{in_default-walk-via-in-Hit+else-allow}
+use Rattle.device_events.proofs.access.given.Goals.{in_default-walk-via-in_default-walk}
 use Rattle.device_events.proofs.access.given.Goals as goal
 
 pub returns-in_default-attachment_of : goal.returns-in_default-attachment_of
@@ -78,12 +79,14 @@ returns-in_default-walk g c =
     let told = ap Denied c.denied.ensures in
     elim c.in_default-walk.branch [
       | in_default-walk-via-in-Hit+else-allow v ↦ told
-          ∙ sym (uncached ∙ shown ∙ unright_given known.at w s known.tidy known.shows c.args.device a c.args.address small
+          ∙ sym (uncached ∙ shown ∙ unright_given known.at w s known.tidy known.shows
+          c.args.device a c.args.address small
           c.args.kind attached near v.in-Hit.frame v.in-Hit.rights
           (v.in-Hit.ensures w.table_frames (leads_of w) known.shows.tables.stand)
           (sym v.allow.ensures ∙ v.if-allow.false))
       | in_default-walk-via-in_default-walk v ↦ told
-          ∙ sym (uncached ∙ shown ∙ missed_given known.at w s known.tidy known.shows c.args.device a c.args.address small
+          ∙ sym (uncached ∙ shown ∙ missed_given known.at w s known.tidy known.shows
+          c.args.device a c.args.address small
           c.args.kind attached near c.walk.result
           (c.walk.ensures w.table_frames (leads_of w) known.shows.tables.stand) v.in_default-walk.not-Hit)
     ]

@@ -11,7 +11,9 @@ use Rattle.device_events.proofs.Bound.{shows_bound}
 use Rattle.device_events.proofs.bind.commit.Goals as goal
 
 pub returns-in-Err-Refused-clause-ok : goal.returns-in-Err-Refused-clause-ok
-returns-in-Err-Refused-clause-ok g c = λ at w tidy shows none. absurd (bind_taken w c.args.state.now c.args.file c.args.device c.in-Err-Refused.field-0 c.in-Err-Refused.field-0-0 shows none c.in-Err-Refused.field-0-is c.in-Err-Refused.ensures.why)
+returns-in-Err-Refused-clause-ok g c = λ at w tidy shows none. absurd
+    (bind_taken w c.args.state.now c.args.file c.args.device c.in-Err-Refused.field-0 c.in-Err-Refused.field-0-0 shows
+    none c.in-Err-Refused.field-0-is c.in-Err-Refused.ensures.why)
 
 pub returns-clause-ok : goal.returns-clause-ok
 unfolding changed Answers
@@ -19,8 +21,12 @@ returns-clause-ok g c = λ at w tidy shows none.
     let inserted = c.insert_reserved-id.ensures in
     let reserved = c.reserve.ensures in
     let unused = rw reserved.rows at inserted.unused in
-    let object : Object = record { file = c.args.file; id = c.insert_reserved-id.result; kind = kind.Device c.args.device } in (
-      rw shows.objects.rows (fresh_id c.args.state.now.objects.rows c.args.file c.insert_reserved-id.result inserted.in_range.0 inserted.in_range.1 unused),
-      shows_bound w c.args.state.now c.args.file c.insert_reserved-id.result c.args.device c.insert_reserved-id.new.self c.push_reserved.new.self shows (bind_passed (view w) c.args.file c.args.device none).unbound unused
-          (rw reserved.rows at inserted.rows) (inserted.files ∙ reserved.files) (c.push_reserved.ensures.items ∙ ap (λ l. l ++ object ∷ []) c.reserve-2.ensures.items),
+    let object : Object =
+    record { file = c.args.file; id = c.insert_reserved-id.result; kind = kind.Device c.args.device } in (
+      rw shows.objects.rows (fresh_id c.args.state.now.objects.rows c.args.file c.insert_reserved-id.result
+          inserted.in_range.0 inserted.in_range.1 unused),
+      shows_bound w c.args.state.now c.args.file c.insert_reserved-id.result c.args.device c.insert_reserved-id.new.self
+          c.push_reserved.new.self shows (bind_passed (view w) c.args.file c.args.device none).unbound unused
+          (rw reserved.rows at inserted.rows) (inserted.files ∙ reserved.files) (c.push_reserved.ensures.items
+          ∙ ap (λ l. l ++ object ∷ []) c.reserve-2.ensures.items),
     )

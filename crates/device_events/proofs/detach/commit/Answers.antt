@@ -1,5 +1,6 @@
 use Rattle.std.proofs.Common.{sym, ◌∙◌}
-use Rattle.device_events.proofs.DetachedShown.{may_unpin, never_astray, never_lost, shows_detached, shows_dropped, shows_last}
+use Rattle.device_events.proofs.DetachedShown.{may_unpin, never_astray, never_lost, shows_detached, shows_dropped}
+use Rattle.device_events.proofs.DetachedShown.{shows_last}
 use Rattle.device_events.proofs.detach.commit.Goals as goal
 
 pub returns-in_default-clause-ok : goal.returns-in_default-clause-ok

@@ -1,4 +1,5 @@
-use Rattle.std.proofs.Common.{◌≡◌, ◌↔◌, ℕ, ◌%◌, ◌<◌, ◌≤◌, true, false, Option, None, is_some, List, [], sym, ◌∙◌, ap, subst, arith}
+use Rattle.std.proofs.Common.{◌≡◌, ◌↔◌, ℕ, ◌%◌, ◌<◌, ◌≤◌, true, false, Option, None, is_some, List, [], sym, ◌∙◌, ap}
+use Rattle.std.proofs.Common.{subst, arith}
 use Rattle.std.specs.Option.{IsSome}
 use Rattle.iofd_words.specs.Frames.{bytes_at}
 use Rattle.iofd_words.specs.Policy.{Passes, fault_of, outcomes}
@@ -50,8 +51,11 @@ pub returns-in-Some : goal.returns-in-Some
 returns-in-Some g c = λ at w records tidy shows none.
     let frame = c.in-Ok.frame in
     let iova = c.args.iova in
-    let size = short iova.0 c.args.len (tests_false (query_checks (view w) (query.DeviceRead c.args.device iova c.args.len)) 1 none) in
-    let told : Passes frame ≡ given_outcome None (outcomes w c.args.device iova.0 Read) = c.in-Ok.ensures ∙ ap (given_outcome None) (same_outcomes w c.args.state.now shows tidy.tabled.owned c.args.device iova.0 Read) in
+    let size = short iova.0 c.args.len (tests_false
+    (query_checks (view w) (query.DeviceRead c.args.device iova c.args.len)) 1 none) in
+    let told : Passes frame ≡ given_outcome None (outcomes w c.args.device iova.0 Read) =
+    c.in-Ok.ensures ∙ ap (given_outcome None)
+    (same_outcomes w c.args.state.now shows tidy.tabled.owned c.args.device iova.0 Read) in
     let chosen = chosen_read at w records c.args.device iova c.args.len (Passes frame) tidy told in
     let within = pass_in_pool w tidy.fit.pin_frames c.args.device iova.0 Read frame chosen.0 in
     let bytes = read_shown w.settings.pool w.writes w.table_frames c.args.state.now.memory c.args.state.now.pool
@@ -59,7 +63,8 @@ returns-in-Some g c = λ at w records tidy shows none.
     (pass_named w c.args.state.now shows c.args.device iova.0 Read frame chosen.0) in
     let is : c.in-Some.bytes ≡ bytes_at w.writes frame.0 (iova.0 % 4096) c.args.len = c.in-Some.ensures.value
     ∙ (rw c.from.ensures at c.read.ensures.bytes) ∙ bytes in
-    subst (λ b. IsLooked (lawful_answers w records (query.DeviceRead c.args.device iova c.args.len)) (answer.Read b)) (sym is) chosen.1
+    subst (λ b. IsLooked (lawful_answers w records (query.DeviceRead c.args.device iova c.args.len)) (answer.Read b))
+    (sym is) chosen.1
 
 pub returns-in-None : goal.returns-in-None
 returns-in-None g c = λ at w records tidy shows none.
@@ -70,7 +75,10 @@ returns-in-None g c = λ at w records tidy shows none.
 
 pub returns-in-Err : goal.returns-in-Err
 returns-in-Err g c = λ at w records tidy shows none.
-    let told = c.in-Err.ensures ∙ ap (given_outcome None) (same_outcomes w c.args.state.now shows tidy.tabled.owned c.args.device c.args.iova.0 Read) in
+    let told = c.in-Err.ensures ∙ ap (given_outcome None)
+    (same_outcomes w c.args.state.now shows tidy.tabled.owned c.args.device c.args.iova.0 Read) in
     let chosen = chosen_read at w records c.args.device c.args.iova c.args.len _ tidy told in
-    let fault = c.denied-in-Err.ensures ∙ ap (λ settings. answer.Fault (fault_of settings c.args.device c.args.iova.0 Read c.in-Err.reason)) (sym shows.settings) in
+    let fault = c.denied-in-Err.ensures ∙ ap
+    (λ settings. answer.Fault (fault_of settings c.args.device c.args.iova.0 Read c.in-Err.reason))
+    (sym shows.settings) in
     rw fault chosen.1

@@ -52,10 +52,13 @@ returns-in-Ok g c = λ at w tidy shows none may.
     let frame = c.in-Ok.frame in
     let iova = c.args.iova in
     let bytes = c.args.bytes.now in
-    let told : Passes frame ≡ given_outcome c.args.via (outcomes w c.args.device iova.0 Write) = c.in-Ok.ensures ∙ ap (given_outcome c.args.via) (same_outcomes w c.args.state.now shows tidy.tabled.owned c.args.device iova.0 Write) in
+    let told : Passes frame ≡ given_outcome c.args.via (outcomes w c.args.device iova.0 Write) =
+    c.in-Ok.ensures ∙ ap (given_outcome c.args.via)
+    (same_outcomes w c.args.state.now shows tidy.tabled.owned c.args.device iova.0 Write) in
     let answer = chosen_answer at w c.args.device iova c.args.via (Passes frame) tidy told may in
     let within = pass_in_pool w tidy.fit.pin_frames c.args.device iova.0 Write frame answer.0 in
-    let within_page = (short iova.0 (length bytes) (write_passed (view w) c.args.device iova bytes none).short).within in
+    let within_page =
+    (short iova.0 (length bytes) (write_passed (view w) c.args.device iova bytes none).short).within in
     let old = c.args.state.now in
     let put : c.write.new.self ≡ written old.pool frame.0 (iova.0 % 4096) bytes =
     rw c.as_slice.ensures.value at c.write.ensures.new in
@@ -88,7 +91,9 @@ pub returns-in-Err : goal.returns-in-Err
 unfolding changed Answers
 returns-in-Err g c = λ at w tidy shows none may.
     let iova = c.args.iova in
-    let told = c.in-Err.ensures ∙ ap (given_outcome c.args.via) (same_outcomes w c.args.state.now shows tidy.tabled.owned c.args.device iova.0 Write) in
+    let told = c.in-Err.ensures ∙ ap (given_outcome c.args.via)
+    (same_outcomes w c.args.state.now shows tidy.tabled.owned c.args.device iova.0 Write) in
     let answer = chosen_answer at w c.args.device iova c.args.via _ tidy told may in
-    let fault = c.fault_of.ensures ∙ ap (λ settings. fault_of settings c.args.device iova.0 Write c.in-Err.reason) (sym shows.settings) in
+    let fault = c.fault_of.ensures ∙ ap (λ settings. fault_of settings c.args.device iova.0 Write c.in-Err.reason)
+    (sym shows.settings) in
     (rw fault answer.1, rw fault answer.2, shows)

@@ -9,7 +9,8 @@ reserve_given-requires g c =
     record { at = c.requires.granted.at; world = known.world; tidy = known.tidy; shows = known.shows }
 
 pub remove_areas-requires-clause-tables : goal.remove_areas-requires-clause-tables
-remove_areas-requires-clause-tables g c = let known = c.requires.granted.granted in tables_shown known.world c.args.state.now known.shows
+remove_areas-requires-clause-tables g c =
+    let known = c.requires.granted.granted in tables_shown known.world c.args.state.now known.shows
 
 pub remove_areas-requires-clause-may : goal.remove_areas-requires-clause-may
 remove_areas-requires-clause-may g c =
@@ -26,9 +27,13 @@ pub returns-clause-ok : goal.returns-clause-ok
 returns-clause-ok g c = λ at via w tidy shows none may.
     close_moves at w c.args.state.now c.args.file tidy shows none
     c.remove_areas.new.memory c.remove_areas.new.pool c.remove_areas.ensures
-    c.remove_file-2.new.self c.remove_file-2.new.pool c.remove_file-2.ensures.tables c.remove_file-2.ensures.stand c.remove_file-2.ensures.pool
-    via c.reserve_given.new.given.items c.remove_file-2.new.out.items _ (c.reserve_given.ensures.same ∙ c.requires.none) c.remove_file-2.ensures.out
+    c.remove_file-2.new.self c.remove_file-2.new.pool c.remove_file-2.ensures.tables c.remove_file-2.ensures.stand
+    c.remove_file-2.ensures.pool
+    via c.reserve_given.new.given.items c.remove_file-2.new.out.items _ (c.reserve_given.ensures.same ∙ c.requires.none)
+    c.remove_file-2.ensures.out
     (shows_closed at w c.args.state.now c.args.file tidy shows none
     c.remove_areas.new.memory c.remove_areas.new.pool c.remove_areas.ensures
-    c.remove_file-2.new.self c.remove_file-2.new.pool c.remove_file-2.ensures.tables c.remove_file-2.ensures.stand c.remove_file-2.ensures.pool
-    c.close_table.new.table c.detach_all.new.attachments c.remove_file.new.self c.close_table.ensures c.detach_all.ensures c.remove_file.ensures)
+    c.remove_file-2.new.self c.remove_file-2.new.pool c.remove_file-2.ensures.tables c.remove_file-2.ensures.stand
+    c.remove_file-2.ensures.pool
+    c.close_table.new.table c.detach_all.new.attachments c.remove_file.new.self c.close_table.ensures
+    c.detach_all.ensures c.remove_file.ensures)

@@ -9,5 +9,6 @@ use Rattle.file_events.proofs.close.has_device.Goals as goal
 
 pub returns : goal.returns
 returns g c =
-    any_from_yields_List (λ row. is_bound_device (kind_in row.value)) _ _ _ c.any.ensures.ran (YieldsList-from_objects _ c.iter.ensures) (λ x b q k. search (rules, tests))
+    any_from_yields_List (λ row. is_bound_device (kind_in row.value)) _ _ _ c.any.ensures.ran
+    (YieldsList-from_objects _ c.iter.ensures) (λ x b q k. search (rules, tests))
     ∙ sym (device_rows c.args.table.now.rows c.args.file)

@@ -8,7 +8,9 @@ use Rattle.server_state.proofs.ObjectsMoved.{fresh_id, shows_inserted}
 use Rattle.file_events.proofs.ioas_alloc.commit.Goals as goal
 
 pub returns-in-Err-Refused-clause-ok : goal.returns-in-Err-Refused-clause-ok
-returns-in-Err-Refused-clause-ok g c = λ at w tidy shows none. absurd (alloc_taken w c.args.state.now c.args.file c.in-Err-Refused.field-0 c.in-Err-Refused.field-0-0 shows none c.in-Err-Refused.field-0-is c.in-Err-Refused.ensures.why)
+returns-in-Err-Refused-clause-ok g c = λ at w tidy shows none. absurd
+    (alloc_taken w c.args.state.now c.args.file c.in-Err-Refused.field-0 c.in-Err-Refused.field-0-0 shows none
+    c.in-Err-Refused.field-0-is c.in-Err-Refused.ensures.why)
 
 pub returns-clause-ok : goal.returns-clause-ok
 unfolding changed Answers
@@ -16,8 +18,10 @@ returns-clause-ok g c = λ at w tidy shows none.
     let inserted = c.insert_reserved-id.ensures in
     let reserved = c.reserve.ensures in
     let unused = rw reserved.rows at inserted.unused in (
-      rw shows.objects.rows (fresh_id c.args.state.now.objects.rows c.args.file c.insert_reserved-id.result inserted.in_range.0 inserted.in_range.1 unused),
+      rw shows.objects.rows (fresh_id c.args.state.now.objects.rows c.args.file c.insert_reserved-id.result
+          inserted.in_range.0 inserted.in_range.1 unused),
       shows_inserted w c.args.state.now _ c.insert_reserved-id.new.self c.args.state.now.bindings shows refl
           c.new.ensures unused refl (rw reserved.rows at inserted.rows) (inserted.files ∙ reserved.files)
-          (λ device. find-with_object (λ object. is_bound_as device object.kind) _ w.objects refl ∙ shows.devices.bindings device),
+          (λ device. find-with_object (λ object. is_bound_as device object.kind) _ w.objects refl
+          ∙ shows.devices.bindings device),
     )

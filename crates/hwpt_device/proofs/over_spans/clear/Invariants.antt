@@ -8,7 +8,8 @@ abbrev pub invariant-loop-hwpt : goal.invariant-loop-hwpt
 invariant-loop-hwpt g l = record {
   same : l.hwpt-items ≡ l.fn.tables;
   holds : l.pool.holds ≡ l.fn.pool.holds;
-  stand : IfAllStand l.fn.pool l.fn.tables (λ frames leads. (others : Leads) → LeadsCleared l.fn.file l.fn.ioas l.fn.first_page l.fn.count leads others
+  stand : IfAllStand l.fn.pool l.fn.tables (λ frames leads. (others : Leads)
+      → LeadsCleared l.fn.file l.fn.ioas l.fn.first_page l.fn.count leads others
       → AllStand l.pool frames (partly (take l.hwpt-index l.fn.tables) leads others) l.fn.tables);
   others : IfAllStand l.fn.pool l.fn.tables (λ frames leads. KeepsOthers frames l.fn.pool l.pool);
 }

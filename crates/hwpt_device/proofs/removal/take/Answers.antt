@@ -5,12 +5,14 @@ use Rattle.hwpt_device.proofs.removal.take.Goals as goal
 
 pub returns-in_err-place-clause-taken : goal.returns-in_err-place-clause-taken
 returns-in_err-place-clause-taken g c =
-    let none = none_there c.args.file c.args.id c.args.tables.now.items (rw (c.deref.ensures.value) at (sym c.in_err-place.ensures.value)) in
+    let none = none_there c.args.file c.args.id c.args.tables.now.items
+    (rw (c.deref.ensures.value) at (sym c.in_err-place.ensures.value)) in
     c.from_residual.ensures ∙ sym none
 
 pub returns-in_err-place-clause-left : goal.returns-in_err-place-clause-left
 returns-in_err-place-clause-left g c =
-    let none = none_there c.args.file c.args.id c.args.tables.now.items (rw (c.deref.ensures.value) at (sym c.in_err-place.ensures.value)) in
+    let none = none_there c.args.file c.args.id c.args.tables.now.items
+    (rw (c.deref.ensures.value) at (sym c.in_err-place.ensures.value)) in
     sym (none_found c.args.file c.args.id c.args.tables.now.items none)
 
 pub returns-clause-taken : goal.returns-clause-taken

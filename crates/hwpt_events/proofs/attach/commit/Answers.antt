@@ -9,31 +9,46 @@ use Rattle.hwpt_events.proofs.NeverRefused.{never_unset}
 use Rattle.hwpt_events.proofs.attach.commit.Goals as goal
 
 pub returns-in_default-clause-ok : goal.returns-in_default-clause-ok
-returns-in_default-clause-ok g c = λ at via w tidy shows none may. never_loose w c.args.state.now c.args.device c.args.pt_id shows none (sym c.in_default.ensures)
+returns-in_default-clause-ok g c = λ at via w tidy shows none may. never_loose w c.args.state.now c.args.device
+    c.args.pt_id shows none (sym c.in_default.ensures)
 
 pub returns-in_default-width_of-clause-ok : goal.returns-in_default-width_of-clause-ok
-returns-in_default-width_of-clause-ok g c = λ at via w tidy shows none may. absurd (never_unset at w c.args.state.now c.args.device c.in-Some.bound.now tidy shows (sym c.in-Some.ensures) (sym c.in_default-width_of.ensures))
+returns-in_default-width_of-clause-ok g c =
+    λ at via w tidy shows none may. absurd (never_unset at w c.args.state.now c.args.device c.in-Some.bound.now tidy
+    shows (sym c.in-Some.ensures) (sym c.in_default-width_of.ensures))
 
 pub returns-in-Some-table_there-clause-ok : goal.returns-in-Some-table_there-clause-ok
 returns-in-Some-table_there-clause-ok g c =
     λ at via.
-    subst (λ (taken : List FrameNo). MovingSteps at (event.Attach c.args.device c.args.pt_id) via c.args.state.now (reply.Id c.in-Some-table_there.hwpt) taken [] (record c.args.state.now { attachments = c.insert.new.list })) (sym c.requires.empty)
+    subst (λ (taken : List FrameNo). MovingSteps at (event.Attach c.args.device c.args.pt_id) via c.args.state.now
+    (reply.Id c.in-Some-table_there.hwpt) taken []
+    (record c.args.state.now { attachments = c.insert.new.list })) (sym c.requires.empty)
     (λ w tidy shows none may.
-    shows_there at w c.args.state.now c.insert.new.list c.args.device c.args.pt_id c.in-Some-table_there.hwpt c.in-Some.bound.now c.in-Some-width_of.width via tidy shows none
+    shows_there at w c.args.state.now c.insert.new.list c.args.device c.args.pt_id c.in-Some-table_there.hwpt
+    c.in-Some.bound.now c.in-Some-width_of.width via tidy shows none
     (sym c.in-Some.ensures) (sym c.in-Some-width_of.ensures) (sym c.in-Some-table_there.ensures)
-    (c.insert.ensures ∙ ap (with_attachment (record { device = c.args.device; file = c.in-Some.bound.now.file; hwpt = c.in-Some-table_there.hwpt })) c.reserve.ensures.items))
+    (c.insert.ensures ∙ ap (with_attachment (record {
+      device = c.args.device;
+      file = c.in-Some.bound.now.file;
+      hwpt = c.in-Some-table_there.hwpt;
+    })) c.reserve.ensures.items))
 
 pub make-requires-clause-may : goal.make-requires-clause-may
 make-requires-clause-may g c =
-    may_come c.requires.granted.at c.args.state.now c.reserve.new.self c.args.device c.args.pt_id c.in-Some.bound.now c.in-Some-width_of.width c.requires.granted.granted
-    (sym c.in-Some.ensures) (sym c.in-Some-width_of.ensures) (sym c.in_default-table_there.ensures) c.reserve.ensures.items
+    may_come c.requires.granted.at c.args.state.now c.reserve.new.self c.args.device c.args.pt_id c.in-Some.bound.now
+    c.in-Some-width_of.width c.requires.granted.granted
+    (sym c.in-Some.ensures) (sym c.in-Some-width_of.ensures)
+    (sym c.in_default-table_there.ensures) c.reserve.ensures.items
 
 pub returns-clause-ok : goal.returns-clause-ok
 returns-clause-ok g c =
     λ at via w tidy shows none may.
     let shows_room = room_unseen w c.args.state.now c.reserve.new.self c.reserve.ensures.items shows in
-    let roomy = attach_roomy at w c.args.state.now c.args.device c.args.pt_id c.in-Some.bound.now c.in-Some-width_of.width tidy shows none (sym c.in-Some.ensures) (sym c.in-Some-width_of.ensures) (sym c.in_default-table_there.ensures) in
-    shows_new at w c.args.state.now c.make.new.state c.insert-2.new.list c.args.device c.args.pt_id c.in_ok-hwpt.hwpt c.in-Some.bound.now c.in-Some-width_of.width via c.make.new.taken.items tidy shows none
+    let roomy = attach_roomy at w c.args.state.now c.args.device c.args.pt_id c.in-Some.bound.now
+    c.in-Some-width_of.width tidy shows none (sym c.in-Some.ensures) (sym c.in-Some-width_of.ensures)
+    (sym c.in_default-table_there.ensures) in
+    shows_new at w c.args.state.now c.make.new.state c.insert-2.new.list c.args.device c.args.pt_id c.in_ok-hwpt.hwpt
+    c.in-Some.bound.now c.in-Some-width_of.width via c.make.new.taken.items tidy shows none
     (sym c.in-Some.ensures) (sym c.in-Some-width_of.ensures) (sym c.in_default-table_there.ensures)
     (c.in_ok-hwpt.ensures.ok at w tidy shows_room roomy)
     c.insert-2.ensures

@@ -8,4 +8,6 @@ use Rattle.hwpt_events.proofs.attach.refusal_by_target.Goals as goal
 pub returns-in-Some-Hwpt : goal.returns-in-Some-Hwpt
 returns-in-Some-Hwpt g c =
     c.refusal_by_table.ensures c.args.pt_id c.in-Some-Hwpt.field-0-2
-    ∙ ap (λ (k : Option ObjectKind). first_true (target_checks (seen c.args.state.now) c.args.device c.args.pt_id c.args.file k)) (sym (ap Some c.in-Some-Hwpt.field-0-is) ∙ sym c.in-Some-Hwpt.is ∙ c.kind_of.ensures)
+    ∙ ap (λ (k : Option ObjectKind). first_true
+    (target_checks (seen c.args.state.now) c.args.device c.args.pt_id c.args.file k)) (sym
+    (ap Some c.in-Some-Hwpt.field-0-is) ∙ sym c.in-Some-Hwpt.is ∙ c.kind_of.ensures)

@@ -1,4 +1,5 @@
-use Rattle.std.proofs.Common.{◌≡◌, ◌-◌, ◌++◌, ℕ, List, [], ◌∷◌, sym, ap, ◌∙◌, arith, is_some, None, subst, vec_capacity, vec_len}
+use Rattle.std.proofs.Common.{◌≡◌, ◌-◌, ◌++◌, ℕ, List, [], ◌∷◌, sym, ap, ◌∙◌, arith, is_some, None, subst, vec_capacity}
+use Rattle.std.proofs.Common.{vec_len}
 use Rattle.area_map.specs.Areas.{AreApart}
 use Rattle.frame_memory.specs.Pool.{given, least_free}
 use Rattle.hwpt_device.specs.PageTables.{AllStand, PageTables, hwpt_at, root_frame, rows_of, with_hwpt}
@@ -13,13 +14,16 @@ use Rattle.hwpt_events.proofs.filling.add.Goals as goal
 
 pub insert-requires-clause-free : goal.insert-requires-clause-free
 insert-requires-clause-free g c =
-    let some = some_frame c.args.pool.now c.args.page_tables.now.tables c.args.memory.now c.args.object c.args.width (own_areas c.args.table.now c.args.object.file c.args.ioas) (vec_capacity c.args.taken.now - vec_len c.args.taken.now) c.requires.can in
+    let some = some_frame c.args.pool.now c.args.page_tables.now.tables c.args.memory.now c.args.object c.args.width
+    (own_areas c.args.table.now c.args.object.file c.args.ioas) (vec_capacity c.args.taken.now
+    - vec_len c.args.taken.now) c.requires.can in
     ap is_some some.1
 
 pub insert-requires-clause-place : goal.insert-requires-clause-place
 insert-requires-clause-place g c =
     let can = c.requires.can in
-    let one = takes_one can.frames c.args.object c.args.width (live_pages (own_areas c.args.table.now c.args.object.file c.args.ioas)) can.none in
+    let one = takes_one can.frames c.args.object c.args.width
+    (live_pages (own_areas c.args.table.now c.args.object.file c.args.ioas)) can.none in
     let enough = can.enough in
     omega (arith, one, enough)
 
@@ -27,56 +31,82 @@ pub fill-requires : goal.fill-requires
 fill-requires g c =
     let areas = own_areas c.args.table.now c.args.object.file c.args.ioas in
     let room = vec_capacity c.args.taken.now - vec_len c.args.taken.now in
-    let some = some_frame c.args.pool.now c.args.page_tables.now.tables c.args.memory.now c.args.object c.args.width areas room c.requires.can in
+    let some = some_frame c.args.pool.now c.args.page_tables.now.tables c.args.memory.now c.args.object c.args.width
+    areas room c.requires.can in
     let f = some.0 in
     let holds = c.args.pool.now.holds in
     let tables = c.args.page_tables.now.tables in
     let same : areas ≡ c.iter.result = c.in-Some.ensures ∙ sym c.iter.ensures.areas in
     let apart : AreApart c.iter.result = subst AreApart (sym c.iter.ensures.areas) c.iter.ensures.kept.apart in
-    let out = of_some (λ (frame : ℕ). c.insert.new.out.items ≡ c.args.taken.now.items ++ record { 0 = frame } ∷ []) (least_free holds) f some.1 c.insert.ensures.out in
+    let out = of_some (λ (frame : ℕ). c.insert.new.out.items ≡ c.args.taken.now.items ++ record { 0 = frame } ∷ [])
+    (least_free holds) f some.1 c.insert.ensures.out in
     let capacity = c.insert.ensures.capacity in
     let old = c.args.taken.now.ok in
     let now = c.insert.new.out.ok in
-    can_fill_new c.args.object c.args.width c.args.memory.now tables c.insert.new.self.tables c.args.pool.now c.insert.new.pool c.args.taken.now.items c.insert.new.out.items f some.1
-    (of_some (λ (frame : ℕ). c.insert.new.self.tables ≡ with_hwpt (hwpt_at c.args.object c.args.width frame) tables) (least_free holds) f some.1 c.insert.ensures.tables)
-    (of_some (λ (frame : ℕ). c.insert.new.pool ≡ given c.args.pool.now frame) (least_free holds) f some.1 c.insert.ensures.pool)
+    can_fill_new c.args.object c.args.width c.args.memory.now tables c.insert.new.self.tables c.args.pool.now
+    c.insert.new.pool c.args.taken.now.items c.insert.new.out.items f some.1
+    (of_some (λ (frame : ℕ). c.insert.new.self.tables ≡ with_hwpt (hwpt_at c.args.object c.args.width frame) tables)
+    (least_free holds) f some.1 c.insert.ensures.tables)
+    (of_some (λ (frame : ℕ). c.insert.new.pool ≡ given c.args.pool.now frame) (least_free holds) f
+    some.1 c.insert.ensures.pool)
     out
-    (of_some (λ (frame : ℕ). (frames : List TableFrame) (leads : Leads) → AllStand c.args.pool.now frames leads tables → rows_of frames c.args.object ≡ [] → ((page : ℕ) → leads c.args.object page ≡ None)
-    → AllStand c.insert.new.pool (frames ++ root_frame (hwpt_at c.args.object c.args.width frame) ∷ []) leads c.insert.new.self.tables) (least_free holds) f some.1 c.insert.ensures.stand)
-    c.iter.result room (vec_capacity c.insert.new.out - vec_len c.insert.new.out) (omega (arith, capacity, old.0, old.1, now.0, now.1)) apart
-    (subst (λ (l : List Area). CanAdd c.args.pool.now tables c.args.memory.now c.args.object c.args.width l room) same c.requires.can)
+    (of_some (λ (frame : ℕ). (frames : List TableFrame) (leads : Leads) → AllStand c.args.pool.now frames leads tables
+    → rows_of frames c.args.object ≡ [] → ((page : ℕ) → leads c.args.object page ≡ None)
+    → AllStand c.insert.new.pool (frames ++ root_frame (hwpt_at c.args.object c.args.width frame) ∷ []) leads
+    c.insert.new.self.tables) (least_free holds) f some.1 c.insert.ensures.stand)
+    c.iter.result room (vec_capacity c.insert.new.out - vec_len c.insert.new.out)
+    (omega (arith, capacity, old.0, old.1, now.0, now.1)) apart
+    (subst (λ (l : List Area). CanAdd c.args.pool.now tables c.args.memory.now c.args.object c.args.width l room) same
+    c.requires.can)
 
 pub returns-in-Some-clause-added : goal.returns-in-Some-clause-added
 returns-in-Some-clause-added g c =
     let areas = own_areas c.args.table.now c.args.object.file c.args.ioas in
-    let some = some_frame c.args.pool.now c.args.page_tables.now.tables c.args.memory.now c.args.object c.args.width areas (vec_capacity c.args.taken.now - vec_len c.args.taken.now) c.requires.can in
+    let some = some_frame c.args.pool.now c.args.page_tables.now.tables c.args.memory.now c.args.object c.args.width
+    areas (vec_capacity c.args.taken.now - vec_len c.args.taken.now) c.requires.can in
     let f = some.0 in
     let holds = c.args.pool.now.holds in
     let tables = c.args.page_tables.now.tables in
     let same : c.iter.result ≡ areas = c.iter.ensures.areas ∙ sym c.in-Some.ensures in
     let apart : AreApart c.iter.result = subst AreApart (sym c.iter.ensures.areas) c.iter.ensures.kept.apart in
-    let done = added c.args.object c.args.width c.args.memory.now tables c.insert.new.self.tables c.args.pool.now c.insert.new.pool c.args.taken.now.items c.insert.new.out.items f some.1
-    (of_some (λ (frame : ℕ). c.insert.new.self.tables ≡ with_hwpt (hwpt_at c.args.object c.args.width frame) tables) (least_free holds) f some.1 c.insert.ensures.tables)
-    (of_some (λ (frame : ℕ). c.insert.new.pool ≡ given c.args.pool.now frame) (least_free holds) f some.1 c.insert.ensures.pool)
-    (of_some (λ (frame : ℕ). c.insert.new.out.items ≡ c.args.taken.now.items ++ record { 0 = frame } ∷ []) (least_free holds) f some.1 c.insert.ensures.out)
-    (of_some (λ (frame : ℕ). (frames : List TableFrame) (leads : Leads) → AllStand c.args.pool.now frames leads tables → rows_of frames c.args.object ≡ [] → ((page : ℕ) → leads c.args.object page ≡ None)
-    → AllStand c.insert.new.pool (frames ++ root_frame (hwpt_at c.args.object c.args.width frame) ∷ []) leads c.insert.new.self.tables) (least_free holds) f some.1 c.insert.ensures.stand)
+    let done = added c.args.object c.args.width c.args.memory.now tables c.insert.new.self.tables c.args.pool.now
+    c.insert.new.pool c.args.taken.now.items c.insert.new.out.items f some.1
+    (of_some (λ (frame : ℕ). c.insert.new.self.tables ≡ with_hwpt (hwpt_at c.args.object c.args.width frame) tables)
+    (least_free holds) f some.1 c.insert.ensures.tables)
+    (of_some (λ (frame : ℕ). c.insert.new.pool ≡ given c.args.pool.now frame) (least_free holds) f
+    some.1 c.insert.ensures.pool)
+    (of_some (λ (frame : ℕ). c.insert.new.out.items ≡ c.args.taken.now.items ++ record { 0 = frame } ∷ [])
+    (least_free holds) f some.1 c.insert.ensures.out)
+    (of_some (λ (frame : ℕ). (frames : List TableFrame) (leads : Leads) → AllStand c.args.pool.now frames leads tables
+    → rows_of frames c.args.object ≡ [] → ((page : ℕ) → leads c.args.object page ≡ None)
+    → AllStand c.insert.new.pool (frames ++ root_frame (hwpt_at c.args.object c.args.width frame) ∷ []) leads
+    c.insert.new.self.tables) (least_free holds) f some.1 c.insert.ensures.stand)
     c.iter.result c.fill.new.pool c.fill.new.taken.items c.requires.can.other apart c.fill.ensures.filled in
-    let here : Adds c.args.object c.args.width c.args.memory.now areas tables c.insert.new.self.tables c.args.pool.now c.fill.new.pool c.args.taken.now.items c.fill.new.taken.items =
-    subst (λ (l : List Area). Adds c.args.object c.args.width c.args.memory.now l tables c.insert.new.self.tables c.args.pool.now c.fill.new.pool c.args.taken.now.items c.fill.new.taken.items) same done in
-    subst (λ (p : PageTables). Adds c.args.object c.args.width c.args.memory.now areas tables p.tables c.args.pool.now c.fill.new.pool c.args.taken.now.items c.fill.new.taken.items) (sym c.fill.ensures.same) here
+    let here : Adds c.args.object c.args.width c.args.memory.now areas tables c.insert.new.self.tables c.args.pool.now
+    c.fill.new.pool c.args.taken.now.items c.fill.new.taken.items =
+    subst (λ (l : List Area). Adds c.args.object c.args.width c.args.memory.now l tables c.insert.new.self.tables
+    c.args.pool.now c.fill.new.pool c.args.taken.now.items c.fill.new.taken.items) same done in
+    subst (λ (p : PageTables). Adds c.args.object c.args.width c.args.memory.now areas tables p.tables c.args.pool.now
+    c.fill.new.pool c.args.taken.now.items c.fill.new.taken.items) (sym c.fill.ensures.same) here
 
 pub returns-in_default-clause-added : goal.returns-in_default-clause-added
 returns-in_default-clause-added g c =
     let areas = own_areas c.args.table.now c.args.object.file c.args.ioas in
-    let some = some_frame c.args.pool.now c.args.page_tables.now.tables c.args.memory.now c.args.object c.args.width areas (vec_capacity c.args.taken.now - vec_len c.args.taken.now) c.requires.can in
+    let some = some_frame c.args.pool.now c.args.page_tables.now.tables c.args.memory.now c.args.object c.args.width
+    areas (vec_capacity c.args.taken.now - vec_len c.args.taken.now) c.requires.can in
     let f = some.0 in
     let holds = c.args.pool.now.holds in
     let tables = c.args.page_tables.now.tables in
-    added_alone c.args.object c.args.width c.args.memory.now tables c.insert.new.self.tables c.args.pool.now c.insert.new.pool c.args.taken.now.items c.insert.new.out.items f some.1
-    (of_some (λ (frame : ℕ). c.insert.new.self.tables ≡ with_hwpt (hwpt_at c.args.object c.args.width frame) tables) (least_free holds) f some.1 c.insert.ensures.tables)
-    (of_some (λ (frame : ℕ). c.insert.new.pool ≡ given c.args.pool.now frame) (least_free holds) f some.1 c.insert.ensures.pool)
-    (of_some (λ (frame : ℕ). c.insert.new.out.items ≡ c.args.taken.now.items ++ record { 0 = frame } ∷ []) (least_free holds) f some.1 c.insert.ensures.out)
-    (of_some (λ (frame : ℕ). (frames : List TableFrame) (leads : Leads) → AllStand c.args.pool.now frames leads tables → rows_of frames c.args.object ≡ [] → ((page : ℕ) → leads c.args.object page ≡ None)
-    → AllStand c.insert.new.pool (frames ++ root_frame (hwpt_at c.args.object c.args.width frame) ∷ []) leads c.insert.new.self.tables) (least_free holds) f some.1 c.insert.ensures.stand)
+    added_alone c.args.object c.args.width c.args.memory.now tables c.insert.new.self.tables c.args.pool.now
+    c.insert.new.pool c.args.taken.now.items c.insert.new.out.items f some.1
+    (of_some (λ (frame : ℕ). c.insert.new.self.tables ≡ with_hwpt (hwpt_at c.args.object c.args.width frame) tables)
+    (least_free holds) f some.1 c.insert.ensures.tables)
+    (of_some (λ (frame : ℕ). c.insert.new.pool ≡ given c.args.pool.now frame) (least_free holds) f
+    some.1 c.insert.ensures.pool)
+    (of_some (λ (frame : ℕ). c.insert.new.out.items ≡ c.args.taken.now.items ++ record { 0 = frame } ∷ [])
+    (least_free holds) f some.1 c.insert.ensures.out)
+    (of_some (λ (frame : ℕ). (frames : List TableFrame) (leads : Leads) → AllStand c.args.pool.now frames leads tables
+    → rows_of frames c.args.object ≡ [] → ((page : ℕ) → leads c.args.object page ≡ None)
+    → AllStand c.insert.new.pool (frames ++ root_frame (hwpt_at c.args.object c.args.width frame) ∷ []) leads
+    c.insert.new.self.tables) (least_free holds) f some.1 c.insert.ensures.stand)
     areas c.in_default.ensures

@@ -1,17 +1,21 @@
 use Rattle.std.proofs.Common.{sym, ◌∙◌}
-use Rattle.hwpt_events.proofs.HwptMade.{alloc_may_come, alloc_roomy, never_missing, never_widthless, shows_allocated, width_under}
+use Rattle.hwpt_events.proofs.HwptMade.{alloc_may_come, alloc_roomy, never_missing, never_widthless, shows_allocated}
+use Rattle.hwpt_events.proofs.HwptMade.{width_under}
 use Rattle.hwpt_events.proofs.hwpt_alloc.commit.Goals as goal
 
 pub returns-in_default-clause-ok : goal.returns-in_default-clause-ok
-returns-in_default-clause-ok g c = λ at via w tidy shows none may. never_missing w c.args.state.now c.args.file c.args.request shows none (sym c.device_under.ensures ∙ c.in_default.is)
+returns-in_default-clause-ok g c = λ at via w tidy shows none may. never_missing w c.args.state.now c.args.file
+    c.args.request shows none (sym c.device_under.ensures ∙ c.in_default.is)
 
 pub returns-in_default-width_of-clause-ok : goal.returns-in_default-width_of-clause-ok
 returns-in_default-width_of-clause-ok g c = λ at via w tidy shows none may.
-    absurd (never_widthless at w c.args.state.now c.args.file c.args.request.device c.in-Some.device tidy shows (sym c.device_under.ensures ∙ c.in-Some.is) (sym c.width_of.ensures ∙ c.in_default-width_of.is))
+    absurd (never_widthless at w c.args.state.now c.args.file c.args.request.device c.in-Some.device tidy shows
+    (sym c.device_under.ensures ∙ c.in-Some.is) (sym c.width_of.ensures ∙ c.in_default-width_of.is))
 
 pub make-requires-clause-may : goal.make-requires-clause-may
 make-requires-clause-may g c =
-    alloc_may_come c.requires.granted.at c.args.state.now c.args.file c.args.request c.in-Some.device c.in-Some-width_of.width c.requires.granted.granted
+    alloc_may_come c.requires.granted.at c.args.state.now c.args.file c.args.request c.in-Some.device
+    c.in-Some-width_of.width c.requires.granted.granted
     (sym c.device_under.ensures ∙ c.in-Some.is) (sym c.width_of.ensures ∙ c.in-Some-width_of.is)
 
 pub returns-clause-ok : goal.returns-clause-ok
@@ -19,6 +23,9 @@ returns-clause-ok g c =
     λ at via w tidy shows none may.
     let under = sym c.device_under.ensures ∙ c.in-Some.is in
     let wide = sym c.width_of.ensures ∙ c.in-Some-width_of.is in
-    let roomy = alloc_roomy w c.args.file c.args.request c.in-Some-width_of.width (width_under w c.args.state.now c.args.file c.args.request.device c.in-Some.device c.in-Some-width_of.width shows under wide) none in
-    shows_allocated at w c.args.state.now c.make.new.state c.args.file c.args.request c.in_ok-id.id c.in-Some.device c.in-Some-width_of.width via c.make.new.taken.items tidy shows roomy under wide
+    let roomy = alloc_roomy w c.args.file c.args.request c.in-Some-width_of.width
+    (width_under w c.args.state.now c.args.file c.args.request.device c.in-Some.device c.in-Some-width_of.width
+    shows under wide) none in
+    shows_allocated at w c.args.state.now c.make.new.state c.args.file c.args.request c.in_ok-id.id c.in-Some.device
+    c.in-Some-width_of.width via c.make.new.taken.items tidy shows roomy under wide
     (c.in_ok-id.ensures.ok at w tidy shows roomy)

@@ -6,4 +6,5 @@ use Rattle.hwpt_events.proofs.hwpt_alloc.lacks_frames.Goals as goal
 
 pub lacks_frames-requires-clause-within : goal.lacks_frames-requires-clause-within
 lacks_frames-requires-clause-within g c =
-    wide_by_width (seen c.args.state.now) c.args.file c.args.ioas c.in-Some.width (device_of c.args.state.now.config c.args.device) (sym c.width_of.ensures ∙ c.in-Some.is) c.requires.within
+    wide_by_width (seen c.args.state.now) c.args.file c.args.ioas c.in-Some.width
+    (device_of c.args.state.now.config c.args.device) (sym c.width_of.ensures ∙ c.in-Some.is) c.requires.within

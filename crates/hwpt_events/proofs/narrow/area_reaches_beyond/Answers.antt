@@ -6,4 +6,5 @@ use Rattle.server_state.proofs.Objects.{no_space}
 use Rattle.hwpt_events.proofs.narrow.area_reaches_beyond.Goals as goal
 
 pub returns-in-None : goal.returns-in-None
-returns-in-None g c = sym (no_area (λ area. meets (beyond c.args.width) area.span) _ (no_space c.args.table.now.rows c.args.file c.args.ioas c.in-None.ensures))
+returns-in-None g c = sym (no_area (λ area. meets (beyond c.args.width) area.span) _
+    (no_space c.args.table.now.rows c.args.file c.args.ioas c.in-None.ensures))

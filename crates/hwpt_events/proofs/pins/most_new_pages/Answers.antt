@@ -12,8 +12,10 @@ loop-area-preserved g c =
     let rest : List Area = c.next.new.self in
     let pages : Area → ℕ = λ a. new_pages c.args.memory.now a.memory in
     let before = c.loop-area.invariant in
-    let counts : before.done + length (area ∷ rest) ≡ length c.args.areas.now.areas = ap (λ (l : List Area). before.done + length l) (sym c.in-Some.ensures.steps) ∙ before.counts in
-    let sum : c.loop-area.count + sum_by pages (area ∷ rest) ≡ sum_by pages c.args.areas.now.areas = ap (λ (l : List Area). c.loop-area.count + sum_by pages l) (sym c.in-Some.ensures.steps) ∙ before.sum in
+    let counts : before.done + length (area ∷ rest) ≡ length c.args.areas.now.areas =
+    ap (λ (l : List Area). before.done + length l) (sym c.in-Some.ensures.steps) ∙ before.counts in
+    let sum : c.loop-area.count + sum_by pages (area ∷ rest) ≡ sum_by pages c.args.areas.now.areas =
+    ap (λ (l : List Area). c.loop-area.count + sum_by pages l) (sym c.in-Some.ensures.steps) ∙ before.sum in
     let first : sum_by pages (area ∷ rest) ≡ pages area + sum_by pages rest = sum_by-cons pages area rest in
     let added : c.from-count.result ≡ pages area = c.from-count.ensures ∙ c.new_pages.ensures.value in
     let few = c.new_pages.ensures.few in
@@ -30,6 +32,8 @@ loop-area-preserved g c =
 pub returns-clause-most : goal.returns-clause-most
 returns-clause-most g c =
     let pages : Area → ℕ = λ a. new_pages c.args.memory.now a.memory in
-    let sum : c.loop-area.count + sum_by pages [] ≡ sum_by pages c.args.areas.now.areas = ap (λ (l : List Area). c.loop-area.count + sum_by pages l) (sym c.in-None.ensures.steps.0) ∙ c.loop-area.invariant.sum in
+    let sum : c.loop-area.count + sum_by pages [] ≡ sum_by pages c.args.areas.now.areas =
+    ap (λ (l : List Area). c.loop-area.count + sum_by pages l) (sym c.in-None.ensures.steps.0)
+    ∙ c.loop-area.invariant.sum in
     let few = few_newly c.args.memory.now c.args.areas.now.areas c.objects_told.ensures in
     omega (arith, sum, few)

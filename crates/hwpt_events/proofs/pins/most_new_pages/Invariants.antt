@@ -10,5 +10,6 @@ invariant-loop-area g l = record {
   done : ℕ;
   counts : done + length l.area-iterator ≡ length l.fn.areas.areas;
   most : l.count ≤ done * 68719476736;
-  sum : l.count + sum_by (λ (area : Area). new_pages l.fn.memory area.memory) l.area-iterator ≡ sum_by (λ (area : Area). new_pages l.fn.memory area.memory) l.fn.areas.areas;
+  sum : l.count + sum_by (λ (area : Area). new_pages l.fn.memory area.memory) l.area-iterator ≡ sum_by
+      (λ (area : Area). new_pages l.fn.memory area.memory) l.fn.areas.areas;
 }

@@ -7,7 +7,8 @@ use Rattle.hwpt_events.proofs.pins.new_pages.Goals as goal
 
 pub newly_pinned-requires : goal.newly_pinned-requires
 newly_pinned-requires g c =
-    subst IsNonDecreasing (sym c.deref.ensures.value) (IsNonDecreasingBy-from_sort (λ x. x) c.sort_unstable.new.self.items c.sort_unstable.ensures.sorted)
+    subst IsNonDecreasing (sym c.deref.ensures.value)
+    (IsNonDecreasingBy-from_sort (λ x. x) c.sort_unstable.new.self.items c.sort_unstable.ensures.sorted)
 
 pub returns-in-Ok : goal.returns-in-Ok
 returns-in-Ok g c =

@@ -17,7 +17,8 @@ loop-area-preserved-then-not-is_shared_before g c =
     let area = c.in-Some.area.now in
     let before = c.loop-area.invariant in
     let split = ap (λ (l : List Area). before.done ++ l) (sym c.in-Some.ensures.steps) ∙ before.split in
-    let next = newly_next m c.args.areas.now.areas before.done c.next.new.self area false c.objects_told.ensures c.iter-area-items.ensures.kept.apart split (sym c.is_shared_before.ensures ∙ c.if-not-is_shared_before.true) in
+    let next = newly_next m c.args.areas.now.areas before.done c.next.new.self area false c.objects_told.ensures
+    c.iter-area-items.ensures.kept.apart split (sym c.is_shared_before.ensures ∙ c.if-not-is_shared_before.true) in
     let long = length-append before.done (area ∷ []) in
     let most = before.most in
     let pages = before.pages in
@@ -26,7 +27,8 @@ loop-area-preserved-then-not-is_shared_before g c =
     let from = c.from-count.ensures in
     record {
       done = before.done ++ area ∷ [];
-      split = moved_on c.args.areas.now.areas before.done c.next.new.self c.loop-area.area-iterator area before.split c.in-Some.ensures.steps;
+      split = moved_on c.args.areas.now.areas before.done c.next.new.self c.loop-area.area-iterator area before.split
+          c.in-Some.ensures.steps;
       most = omega (arith, most, few, from, long);
       pages = omega (arith, pages, value, from, next);
     }
@@ -37,13 +39,15 @@ loop-area-preserved g c =
     let area = c.in-Some.area.now in
     let before = c.loop-area.invariant in
     let split = ap (λ (l : List Area). before.done ++ l) (sym c.in-Some.ensures.steps) ∙ before.split in
-    let next = newly_next m c.args.areas.now.areas before.done c.next.new.self area true c.objects_told.ensures c.iter-area-items.ensures.kept.apart split (sym c.is_shared_before.ensures ∙ c.if-not-is_shared_before.false) in
+    let next = newly_next m c.args.areas.now.areas before.done c.next.new.self area true c.objects_told.ensures
+    c.iter-area-items.ensures.kept.apart split (sym c.is_shared_before.ensures ∙ c.if-not-is_shared_before.false) in
     let long = length-append before.done (area ∷ []) in
     let most = before.most in
     let pages = before.pages in
     record {
       done = before.done ++ area ∷ [];
-      split = moved_on c.args.areas.now.areas before.done c.next.new.self c.loop-area.area-iterator area before.split c.in-Some.ensures.steps;
+      split = moved_on c.args.areas.now.areas before.done c.next.new.self c.loop-area.area-iterator area before.split
+          c.in-Some.ensures.steps;
       most = omega (arith, most, long);
       pages = omega (arith, pages, next);
     }

@@ -8,5 +8,6 @@ returns c =
     (record {
       frames = is.frames;
       leads = cleared_leads c.args.over.0 c.args.over.1 c.args.first c.args.count is.leads;
-      stand = c.clear.ensures.stand is.frames is.leads is.stand _ (leads_cleared c.args.over.0 c.args.over.1 c.args.first c.args.count is.leads);
+      stand = c.clear.ensures.stand is.frames is.leads is.stand _
+          (leads_cleared c.args.over.0 c.args.over.1 c.args.first c.args.count is.leads);
     })

@@ -5,7 +5,12 @@ pub remove_file-requires : goal.remove_file-requires
 remove_file-requires c =
     let is = c.requires in
     let counted = c.in-Some.ensures is.frames is.leads is.stand in
-    record { frames = is.frames; leads = is.leads; stand = is.stand; enough = omega (arith, counted, c.if-room-count.false, c.room.ensures) }
+    record {
+      frames = is.frames;
+      leads = is.leads;
+      stand = is.stand;
+      enough = omega (arith, counted, c.if-room-count.false, c.room.ensures);
+    }
 
 pub returns : goal.returns
 returns c =

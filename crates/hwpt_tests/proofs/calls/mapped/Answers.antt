@@ -8,7 +8,8 @@ use Rattle.hwpt_tests.proofs.calls.mapped.Goals as goal
 pub needs-needs-requires-clause-few : goal.needs-needs-requires-clause-few
 needs-needs-requires-clause-few c =
     let same = ap length c.as_slice.ensures in
-    few_over c.args.over.0 c.args.over.1 c.args.tables.now.tables 65535 (let few = c.if-as_slice-gt65535.false in omega (arith, same, few))
+    few_over c.args.over.0 c.args.over.1 c.args.tables.now.tables 65535
+    (let few = c.if-as_slice-gt65535.false in omega (arith, same, few))
 
 pub map-requires-clause-can : goal.map-requires-clause-can
 map-requires-clause-can c =
@@ -31,5 +32,6 @@ returns c =
     (record {
       frames = _;
       leads = mapped_leads one first c.args.to.1.now (record { 0 = c.args.to.2 }) is.leads;
-      stand = c.map.ensures.stand is.frames is.leads is.stand _ (leads_mapped one first c.args.to.1.now (record { 0 = c.args.to.2 }) is.leads);
+      stand = c.map.ensures.stand is.frames is.leads is.stand _
+          (leads_mapped one first c.args.to.1.now (record { 0 = c.args.to.2 }) is.leads);
     })

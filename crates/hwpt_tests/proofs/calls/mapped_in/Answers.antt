@@ -8,7 +8,8 @@ use Rattle.hwpt_tests.proofs.calls.mapped_in.Goals as goal
 pub map_in-requires-clause-can : goal.map_in-requires-clause-can
 map_in-requires-clause-can c =
     let is = c.requires in
-    let few = missing_thrice c.args.pool.now is.frames is.leads c.args.tables.now.tables c.args.one.0 c.args.one.1 c.in-Some.span is.stand in
+    let few = missing_thrice c.args.pool.now is.frames is.leads c.args.tables.now.tables c.args.one.0 c.args.one.1
+    c.in-Some.span is.stand in
     let pages = c.in-Some.ensures.pages in
     record {
       frames = is.frames;
@@ -27,5 +28,6 @@ returns c =
     (record {
       frames = _;
       leads = mapped_leads one first c.args.to.1.now (record { 0 = c.args.to.2 }) is.leads;
-      stand = c.map_in.ensures.stand is.frames is.leads is.stand _ (leads_mapped one first c.args.to.1.now (record { 0 = c.args.to.2 }) is.leads);
+      stand = c.map_in.ensures.stand is.frames is.leads is.stand _
+          (leads_mapped one first c.args.to.1.now (record { 0 = c.args.to.2 }) is.leads);
     })

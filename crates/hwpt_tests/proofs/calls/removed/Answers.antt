@@ -5,7 +5,12 @@ pub remove-requires : goal.remove-requires
 remove-requires c =
     let is = c.requires in
     let counted = c.frames-count.ensures is.frames is.leads is.stand in
-    record { frames = is.frames; leads = is.leads; stand = is.stand; enough = omega (arith, counted, c.if-room-count.false, c.room.ensures) }
+    record {
+      frames = is.frames;
+      leads = is.leads;
+      stand = is.stand;
+      enough = omega (arith, counted, c.if-room-count.false, c.room.ensures);
+    }
 
 pub returns : goal.returns
 returns c =

@@ -8,7 +8,8 @@ use Rattle.ioctl_codec.proofs.decoding.alone.Goals as goal
 pub returns-in_err-fields-clause-refused : goal.returns-in_err-fields-clause-refused
 returns-in_err-fields-clause-refused c =
     let early = c.in_err-fields in
-    refused_early (structure_in c.args.structure) c.args.bytes.now c.from_residual.result early.field-0.0 c.from_residual.ensures.1 (rw c.requires.known at early.ensures.refused)
+    refused_early (structure_in c.args.structure) c.args.bytes.now c.from_residual.result early.field-0.0
+    c.from_residual.ensures.1 (rw c.requires.known at early.ensures.refused)
 
 pub returns-in_err-checked-clause-refused : goal.returns-in_err-checked-clause-refused
 unfolding read_numbers
@@ -16,7 +17,8 @@ returns-in_err-checked-clause-refused c =
     let s = structure_in c.args.structure in
     let parts = c.in_ok-fields in
     let back = c.from_residual-in_err-checked in
-    refused_late s c.args.bytes.now parts.after.now c.read_fields-allowed.result.1 0 back.result c.in_err-checked.field-0.0 back.ensures.1
+    refused_late s c.args.bytes.now parts.after.now c.read_fields-allowed.result.1 0 back.result
+    c.in_err-checked.field-0.0 back.ensures.1
     (rw c.requires.known at parts.ensures.refused) parts.ensures.after
     (rw parts.ensures.fields at c.read_fields-allowed.ensures.allowed)
     (sym (uncounted s.fields (read_values s c.args.bytes.now) c.requires.uncounted))

@@ -6,7 +6,9 @@ use Rattle.ioctl_codec.proofs.Refusing.{refused_early, checked_late, refused_lat
 use Rattle.ioctl_codec.proofs.decoding.ioas_allow_iovas_at.Goals as goal
 
 pub returns-in_err-fields-clause-refused : goal.returns-in_err-fields-clause-refused
-returns-in_err-fields-clause-refused c = refused_early ioas_allow_iovas c.args.bytes.now c.from_residual.result c.in_err-fields.field-0.0 c.from_residual.ensures.1 c.in_err-fields.ensures.refused
+returns-in_err-fields-clause-refused c =
+    refused_early ioas_allow_iovas c.args.bytes.now c.from_residual.result c.in_err-fields.field-0.0
+    c.from_residual.ensures.1 c.in_err-fields.ensures.refused
 
 pub returns-in_err-checked-clause-refused : goal.returns-in_err-checked-clause-refused
 unfolding read_numbers
@@ -14,7 +16,8 @@ returns-in_err-checked-clause-refused c =
     let parts = c.in_ok-fields in
     let back = c.from_residual-in_err-checked in
     let read = c.read_fields-allowed in
-    refused_late ioas_allow_iovas c.args.bytes.now parts.after.now read.result.1 c.low-num_iovas.result back.result c.in_err-checked.field-0.0 back.ensures.1
+    refused_late ioas_allow_iovas c.args.bytes.now parts.after.now read.result.1 c.low-num_iovas.result back.result
+    c.in_err-checked.field-0.0 back.ensures.1
     parts.ensures.refused parts.ensures.after
     (rw parts.ensures.fields at read.ensures.allowed)
     (c.low-num_iovas.ensures ∙ ap (λ (ns : List ℕ). slice_index ns 1) (rw parts.ensures.fields at read.ensures.numbers))

@@ -18,4 +18,5 @@ returns-clause-round_trip g c =
     ap (take count) put.bytes ∙ take_at structure _ count (sym put.count) in
     let whole : c.put_entries.new.out.items ≡ canonical command =
     entries.bytes ∙ ap (λ (x : List ℕ). x ++ entries_bytes (entries_of command)) (c.in_ok-spelling.ensures ∙ front) in
-    subst (λ (bytes : List ℕ). Spells (structure_of command).number bytes command) (sym whole) (canonical_of command (put.fits c.requires) entries.fits c.requires)
+    subst (λ (bytes : List ℕ). Spells (structure_of command).number bytes command) (sym whole)
+    (canonical_of command (put.fits c.requires) entries.fits c.requires)

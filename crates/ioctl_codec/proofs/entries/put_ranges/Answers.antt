@@ -10,8 +10,11 @@ loop-range-preserved g c =
     let range = c.range.inside in
     let put = c.in_ok-put_entry.ensures in
     let next =
-    is_next i ranges range.start range.last c.range-item.result c.range-item.is (ap (λ (r : Bounds). r.first) c.range.view_is) (ap (λ (r : Bounds). r.last) c.range.view_is) in
+    is_next i ranges range.start range.last c.range-item.result c.range-item.is
+    (ap (λ (r : Bounds). r.first) c.range.view_is) (ap (λ (r : Bounds). r.last) c.range.view_is) in
     record {
-      bytes = written_more c.loop-range.out.items c.args.out.now.items c.put_entry.new.out.items i ranges range.start range.last c.loop-range-test.true next c.loop-range.invariant.bytes put.bytes;
-      fits = AreAddresses_more i ranges range.start range.last c.loop-range-test.true next c.loop-range.invariant.fits put.start put.last;
+      bytes = written_more c.loop-range.out.items c.args.out.now.items c.put_entry.new.out.items i ranges range.start
+          range.last c.loop-range-test.true next c.loop-range.invariant.bytes put.bytes;
+      fits = AreAddresses_more i ranges range.start range.last c.loop-range-test.true next
+          c.loop-range.invariant.fits put.start put.last;
     }

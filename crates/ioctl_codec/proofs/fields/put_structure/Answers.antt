@@ -11,7 +11,8 @@ use Rattle.ioctl_codec.proofs.fields.put_structure.Goals as goal
 pub put_number-at-requires : goal.put_number-at-requires
 put_number-at-requires c =
     let now = c.loop-index in
-    let next = at_drop_more fields_in c.args.structure.fields.now now.index (field.U32 (role.Flags 0)) c.loop-index-test.true in
+    let next = at_drop_more fields_in c.args.structure.fields.now now.index (field.U32 (role.Flags 0))
+    c.loop-index-test.true in
     omega (arith, rw next at now.invariant.writing.place, c.requires.known, c.requires.room)
 
 pub loop-index-preserved : goal.loop-index-preserved
@@ -24,19 +25,31 @@ loop-index-preserved c =
     let next = at_drop_more fields_in rows now.index (field.U32 (role.Flags 0)) c.loop-index-test.true in
     let number = drop_more numbers now.index 0 (omega (arith, c.requires.numbers, c.loop-index-test.true)) in
     let others = drop now.index numbers in
-    let here = subst (λ (left : List Field). IsWriting s numbers left others c.args.out.now now.out now.at) next now.invariant.writing in
-    let there = subst (λ (xs : List ℕ). IsWriting s numbers (fields_in (get_or rows now.index (field.U32 (role.Flags 0)) ∷ drop (now.index + 1) rows)) xs c.args.out.now now.out now.at) number here in
+    let here = subst (λ (left : List Field). IsWriting s numbers left others c.args.out.now now.out now.at) next
+    now.invariant.writing in
+    let there = subst (λ (xs : List ℕ). IsWriting s numbers
+    (fields_in (get_or rows now.index (field.U32 (role.Flags 0)) ∷ drop (now.index + 1) rows)) xs c.args.out.now
+    now.out now.at) number here in
     record {
-      writing = write_more (get_or numbers now.index 0) put.new.out put.result there (omega (arith, now.invariant.whole, rw next at now.invariant.writing.place, c.requires.known, c.requires.room)) put.ensures.written put.ensures.next;
+      writing = write_more (get_or numbers now.index 0) put.new.out put.result there
+          (omega (
+            arith,
+            now.invariant.whole,
+            rw next at now.invariant.writing.place,
+            c.requires.known,
+            c.requires.room,
+          )) put.ensures.written put.ensures.next;
       whole = put.array_long;
     }
 
 pub returns-clause-count : goal.returns-clause-count
 returns-clause-count c =
-    let written = all_written c.loop-index.invariant.writing (ap fields_in (drop_of_length-le c.args.structure.fields.now c.loop-index-test.false)) in
+    let written = all_written c.loop-index.invariant.writing
+    (ap fields_in (drop_of_length-le c.args.structure.fields.now c.loop-index-test.false)) in
     written.0
 
 pub returns-clause-bytes : goal.returns-clause-bytes
 returns-clause-bytes c =
-    let written = all_written c.loop-index.invariant.writing (ap fields_in (drop_of_length-le c.args.structure.fields.now c.loop-index-test.false)) in
+    let written = all_written c.loop-index.invariant.writing
+    (ap fields_in (drop_of_length-le c.args.structure.fields.now c.loop-index-test.false)) in
     written.1

@@ -20,10 +20,16 @@ loop-index-preserved c =
     let fields = c.args.fields.now in
     let read = c.number_at-number in
     let next = at_drop_more fields_in fields now.index (field.U32 (role.Flags 0)) c.loop-index-test.true in
-    let here = subst (λ (left : List Field). IsReading (fields_in fields) c.args.bytes.now left now.rest.now (take now.index now.numbers) now.allowed) next now.invariant.reading in
+    let here = subst (λ (left : List Field). IsReading (fields_in fields) c.args.bytes.now left now.rest.now
+    (take now.index now.numbers) now.allowed) next now.invariant.reading in
     record {
       reading = read_more read.result.0 read.result.1.now _ _ here read.ensures.value read.ensures.rest
-          (take_more_set now.numbers now.index read.result.0 (omega (arith, now.invariant.places, c.requires.few, c.loop-index-test.true)))
+          (take_more_set now.numbers now.index read.result.0 (omega (
+            arith,
+            now.invariant.places,
+            c.requires.few,
+            c.loop-index-test.true,
+          )))
           (ap (λ (b : Bool). now.allowed && b) c.allows-allowed.ensures);
       places = length-set now.numbers now.index read.result.0 ∙ now.invariant.places;
     }
@@ -33,11 +39,14 @@ returns-clause-numbers c =
     let now = c.loop-index in
     let fields = c.args.fields.now in
     let read = all_read now.invariant.reading (ap fields_in (drop_of_length-le fields c.loop-index-test.false)) in
-    let count : length (fields_in fields) ≡ now.index = omega (arith, length-fields_in fields, c.loop-index-test.false, now.auto.index-end) in
-    placed_are 0 (fields_in fields) now.numbers _ (AreOfWidth-numbers_at (fields_in fields) c.args.bytes.now (λ i. omega (arith, c.type_inv.bytes i)))
+    let count : length (fields_in fields) ≡ now.index =
+    omega (arith, length-fields_in fields, c.loop-index-test.false, now.auto.index-end) in
+    placed_are 0 (fields_in fields) now.numbers _
+    (AreOfWidth-numbers_at (fields_in fields) c.args.bytes.now (λ i. omega (arith, c.type_inv.bytes i)))
     (ap (λ (n : ℕ). take n now.numbers) count ∙ read.0)
 
 pub returns-clause-allowed : goal.returns-clause-allowed
 returns-clause-allowed c =
-    let read = all_read c.loop-index.invariant.reading (ap fields_in (drop_of_length-le c.args.fields.now c.loop-index-test.false)) in
+    let read = all_read c.loop-index.invariant.reading
+    (ap fields_in (drop_of_length-le c.args.fields.now c.loop-index-test.false)) in
     read.1

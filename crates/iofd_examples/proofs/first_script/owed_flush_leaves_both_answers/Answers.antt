@@ -1,4 +1,6 @@
-use Rattle.iofd_words.specs.Checks.{attach_checks, bind_checks, close_checks, destroy_checks, detach_checks, device_write_checks, flush_checks, ioas_alloc_checks, map_checks, unmap_checks, user_map_checks}
+use Rattle.iofd_words.specs.Checks.{attach_checks, bind_checks, close_checks, destroy_checks, detach_checks}
+use Rattle.iofd_words.specs.Checks.{device_write_checks, flush_checks, ioas_alloc_checks, map_checks, unmap_checks}
+use Rattle.iofd_words.specs.Checks.{user_map_checks}
 use Rattle.iofd_words.specs.Levels.{number_at}
 use Rattle.iofd_words.specs.Tables.{with_tables}
 use Rattle.std.proofs.Common.{refl, arith}
@@ -10,7 +12,9 @@ use Rattle.iofd_examples.proofs.first_script.owed_flush_leaves_both_answers.Goal
 
 -- the frame is the first of the two answers, the denial the second
 pub returns-clause-passed : goal.returns-clause-passed
-unfolding IsRun Lawful after with_tables ioas_alloc_checks map_checks unmap_checks destroy_checks close_checks user_map_checks bind_checks attach_checks detach_checks flush_checks device_write_checks Answers changed settle without_areas attached detached outcomes access_outcomes number_at
+unfolding IsRun Lawful after with_tables ioas_alloc_checks map_checks unmap_checks destroy_checks close_checks
+    user_map_checks bind_checks attach_checks detach_checks flush_checks device_write_checks Answers changed settle
+    without_areas attached detached outcomes access_outcomes number_at
 returns-clause-passed c = (
   (refl, record { enough = refl; free = refl; different = refl; gone = refl; may = refl; rising = refl }),
   (
@@ -24,11 +28,41 @@ returns-clause-passed c = (
           (
             (refl, record { enough = refl; free = refl; different = refl; gone = refl; may = refl; rising = refl }),
             (
-              ((0, omega arith, refl), record { enough = refl; free = refl; different = refl; gone = refl; may = refl; rising = refl }),
               (
-                ((refl, refl), record { enough = refl; free = refl; different = refl; gone = refl; may = refl; rising = refl }),
+                (0, omega arith, refl),
+                record {
+                  enough = refl;
+                  free = refl;
+                  different = refl;
+                  gone = refl;
+                  may = refl;
+                  rising = refl;
+                },
+              ),
+              (
                 (
-                  ((0, omega arith, refl), record { enough = refl; free = refl; different = refl; gone = refl; may = refl; rising = refl }),
+                  (refl, refl),
+                  record {
+                    enough = refl;
+                    free = refl;
+                    different = refl;
+                    gone = refl;
+                    may = refl;
+                    rising = refl;
+                  },
+                ),
+                (
+                  (
+                    (0, omega arith, refl),
+                    record {
+                      enough = refl;
+                      free = refl;
+                      different = refl;
+                      gone = refl;
+                      may = refl;
+                      rising = refl;
+                    },
+                  ),
                   tt,
                 ),
               ),
@@ -41,7 +75,9 @@ returns-clause-passed c = (
 )
 
 pub returns-clause-denied : goal.returns-clause-denied
-unfolding IsRun Lawful after with_tables ioas_alloc_checks map_checks unmap_checks destroy_checks close_checks user_map_checks bind_checks attach_checks detach_checks flush_checks device_write_checks Answers changed settle without_areas attached detached outcomes access_outcomes number_at
+unfolding IsRun Lawful after with_tables ioas_alloc_checks map_checks unmap_checks destroy_checks close_checks
+    user_map_checks bind_checks attach_checks detach_checks flush_checks device_write_checks Answers changed settle
+    without_areas attached detached outcomes access_outcomes number_at
 returns-clause-denied c = (
   (refl, record { enough = refl; free = refl; different = refl; gone = refl; may = refl; rising = refl }),
   (
@@ -55,11 +91,41 @@ returns-clause-denied c = (
           (
             (refl, record { enough = refl; free = refl; different = refl; gone = refl; may = refl; rising = refl }),
             (
-              ((0, omega arith, refl), record { enough = refl; free = refl; different = refl; gone = refl; may = refl; rising = refl }),
               (
-                ((refl, refl), record { enough = refl; free = refl; different = refl; gone = refl; may = refl; rising = refl }),
+                (0, omega arith, refl),
+                record {
+                  enough = refl;
+                  free = refl;
+                  different = refl;
+                  gone = refl;
+                  may = refl;
+                  rising = refl;
+                },
+              ),
+              (
                 (
-                  ((1, omega arith, refl), record { enough = refl; free = refl; different = refl; gone = refl; may = refl; rising = refl }),
+                  (refl, refl),
+                  record {
+                    enough = refl;
+                    free = refl;
+                    different = refl;
+                    gone = refl;
+                    may = refl;
+                    rising = refl;
+                  },
+                ),
+                (
+                  (
+                    (1, omega arith, refl),
+                    record {
+                      enough = refl;
+                      free = refl;
+                      different = refl;
+                      gone = refl;
+                      may = refl;
+                      rising = refl;
+                    },
+                  ),
                   tt,
                 ),
               ),

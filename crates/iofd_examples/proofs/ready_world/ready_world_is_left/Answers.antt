@@ -1,6 +1,9 @@
 use Rattle.std.proofs.Common.{refl}
 use Rattle.iofd_words.specs.After.{changed, settle, without_areas, attached, detached, joined}
-use Rattle.iofd_words.specs.Checks.{allow_iovas_checks, attach_checks, bind_checks, close_checks, copy_checks, destroy_checks, detach_checks, device_write_checks, flush_checks, hwpt_alloc_checks, ioas_alloc_checks, map_checks, unbind_checks, unmap_checks, user_map_checks, user_unmap_checks, user_write_checks}
+use Rattle.iofd_words.specs.Checks.{allow_iovas_checks, attach_checks, bind_checks, close_checks, copy_checks}
+use Rattle.iofd_words.specs.Checks.{destroy_checks, detach_checks, device_write_checks, flush_checks, hwpt_alloc_checks}
+use Rattle.iofd_words.specs.Checks.{ioas_alloc_checks, map_checks, unbind_checks, unmap_checks, user_map_checks}
+use Rattle.iofd_words.specs.Checks.{user_unmap_checks, user_write_checks}
 use Rattle.iofd_words.specs.Levels.{number_at}
 use Rattle.iofd_words.specs.Policy.{access_outcomes, outcomes}
 use Rattle.iofd_words.specs.Run.{after, world_of}
@@ -8,17 +11,29 @@ use Rattle.iofd_words.specs.Tables.{with_tables}
 use Rattle.iofd_examples.proofs.ready_world.ready_world_is_left.Goals as goal
 
 pub returns-clause-objects : goal.returns-clause-objects
-unfolding world_of after with_tables allow_iovas_checks attach_checks bind_checks close_checks copy_checks destroy_checks detach_checks device_write_checks flush_checks hwpt_alloc_checks ioas_alloc_checks map_checks unbind_checks unmap_checks user_map_checks user_unmap_checks user_write_checks changed settle without_areas attached detached joined outcomes access_outcomes number_at
+unfolding world_of after with_tables allow_iovas_checks attach_checks bind_checks close_checks copy_checks
+    destroy_checks detach_checks device_write_checks flush_checks hwpt_alloc_checks ioas_alloc_checks map_checks
+    unbind_checks unmap_checks user_map_checks user_unmap_checks user_write_checks changed settle without_areas attached
+    detached joined outcomes access_outcomes number_at
 returns-clause-objects c = refl
 
 pub returns-clause-areas : goal.returns-clause-areas
-unfolding world_of after with_tables allow_iovas_checks attach_checks bind_checks close_checks copy_checks destroy_checks detach_checks device_write_checks flush_checks hwpt_alloc_checks ioas_alloc_checks map_checks unbind_checks unmap_checks user_map_checks user_unmap_checks user_write_checks changed settle without_areas attached detached joined outcomes access_outcomes number_at
+unfolding world_of after with_tables allow_iovas_checks attach_checks bind_checks close_checks copy_checks
+    destroy_checks detach_checks device_write_checks flush_checks hwpt_alloc_checks ioas_alloc_checks map_checks
+    unbind_checks unmap_checks user_map_checks user_unmap_checks user_write_checks changed settle without_areas attached
+    detached joined outcomes access_outcomes number_at
 returns-clause-areas c = refl
 
 pub returns-clause-ready : goal.returns-clause-ready
-unfolding world_of after with_tables allow_iovas_checks attach_checks bind_checks close_checks copy_checks destroy_checks detach_checks device_write_checks flush_checks hwpt_alloc_checks ioas_alloc_checks map_checks unbind_checks unmap_checks user_map_checks user_unmap_checks user_write_checks changed settle without_areas attached detached joined outcomes access_outcomes number_at
+unfolding world_of after with_tables allow_iovas_checks attach_checks bind_checks close_checks copy_checks
+    destroy_checks detach_checks device_write_checks flush_checks hwpt_alloc_checks ioas_alloc_checks map_checks
+    unbind_checks unmap_checks user_map_checks user_unmap_checks user_write_checks changed settle without_areas attached
+    detached joined outcomes access_outcomes number_at
 returns-clause-ready c = refl
 
 pub returns-clause-allocated : goal.returns-clause-allocated
-unfolding world_of after with_tables allow_iovas_checks attach_checks bind_checks close_checks copy_checks destroy_checks detach_checks device_write_checks flush_checks hwpt_alloc_checks ioas_alloc_checks map_checks unbind_checks unmap_checks user_map_checks user_unmap_checks user_write_checks changed settle without_areas attached detached joined outcomes access_outcomes number_at
+unfolding world_of after with_tables allow_iovas_checks attach_checks bind_checks close_checks copy_checks
+    destroy_checks detach_checks device_write_checks flush_checks hwpt_alloc_checks ioas_alloc_checks map_checks
+    unbind_checks unmap_checks user_map_checks user_unmap_checks user_write_checks changed settle without_areas attached
+    detached joined outcomes access_outcomes number_at
 returns-clause-allocated c = refl

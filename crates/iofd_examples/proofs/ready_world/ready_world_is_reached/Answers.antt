@@ -1,7 +1,10 @@
 use Rattle.std.proofs.Common.{refl}
 use Rattle.iofd_words.specs.After.{changed, settle, without_areas, attached, detached, joined}
 use Rattle.iofd_words.specs.Answers.{Answers}
-use Rattle.iofd_words.specs.Checks.{allow_iovas_checks, attach_checks, bind_checks, close_checks, copy_checks, destroy_checks, detach_checks, device_write_checks, flush_checks, hwpt_alloc_checks, ioas_alloc_checks, map_checks, unbind_checks, unmap_checks, user_map_checks, user_unmap_checks, user_write_checks}
+use Rattle.iofd_words.specs.Checks.{allow_iovas_checks, attach_checks, bind_checks, close_checks, copy_checks}
+use Rattle.iofd_words.specs.Checks.{destroy_checks, detach_checks, device_write_checks, flush_checks, hwpt_alloc_checks}
+use Rattle.iofd_words.specs.Checks.{ioas_alloc_checks, map_checks, unbind_checks, unmap_checks, user_map_checks}
+use Rattle.iofd_words.specs.Checks.{user_unmap_checks, user_write_checks}
 use Rattle.iofd_words.specs.Levels.{number_at}
 use Rattle.iofd_words.specs.Policy.{access_outcomes, outcomes}
 use Rattle.iofd_words.specs.Run.{IsRun, Lawful, after}
@@ -10,7 +13,10 @@ use Rattle.iofd_examples.proofs.ready_world.ready_world_is_reached.Goals as goal
 
 -- each record's answer computes to be the lawful one, and its frames to be those that move
 pub returns-clause-objects : goal.returns-clause-objects
-unfolding IsRun Lawful after with_tables allow_iovas_checks attach_checks bind_checks close_checks copy_checks destroy_checks detach_checks device_write_checks flush_checks hwpt_alloc_checks ioas_alloc_checks map_checks unbind_checks unmap_checks user_map_checks user_unmap_checks user_write_checks Answers changed settle without_areas attached detached joined outcomes access_outcomes number_at
+unfolding IsRun Lawful after with_tables allow_iovas_checks attach_checks bind_checks close_checks copy_checks
+    destroy_checks detach_checks device_write_checks flush_checks hwpt_alloc_checks ioas_alloc_checks map_checks
+    unbind_checks unmap_checks user_map_checks user_unmap_checks user_write_checks Answers changed settle without_areas
+    attached detached joined outcomes access_outcomes number_at
 returns-clause-objects c = (
   (refl, record { enough = refl; free = refl; different = refl; gone = refl; may = refl; rising = refl }),
   (
@@ -28,25 +34,125 @@ returns-clause-objects c = (
               (
                 (refl, record { enough = refl; free = refl; different = refl; gone = refl; may = refl; rising = refl }),
                 (
-                  (refl, record { enough = refl; free = refl; different = refl; gone = refl; may = refl; rising = refl }),
                   (
-                    (refl, record { enough = refl; free = refl; different = refl; gone = refl; may = refl; rising = refl }),
+                    refl,
+                    record {
+                      enough = refl;
+                      free = refl;
+                      different = refl;
+                      gone = refl;
+                      may = refl;
+                      rising = refl;
+                    },
+                  ),
+                  (
                     (
-                      (refl, record { enough = refl; free = refl; different = refl; gone = refl; may = refl; rising = refl }),
+                      refl,
+                      record {
+                        enough = refl;
+                        free = refl;
+                        different = refl;
+                        gone = refl;
+                        may = refl;
+                        rising = refl;
+                      },
+                    ),
+                    (
                       (
-                        (refl, record { enough = refl; free = refl; different = refl; gone = refl; may = refl; rising = refl }),
+                        refl,
+                        record {
+                          enough = refl;
+                          free = refl;
+                          different = refl;
+                          gone = refl;
+                          may = refl;
+                          rising = refl;
+                        },
+                      ),
+                      (
                         (
-                          (refl, record { enough = refl; free = refl; different = refl; gone = refl; may = refl; rising = refl }),
+                          refl,
+                          record {
+                            enough = refl;
+                            free = refl;
+                            different = refl;
+                            gone = refl;
+                            may = refl;
+                            rising = refl;
+                          },
+                        ),
+                        (
                           (
-                            (refl, record { enough = refl; free = refl; different = refl; gone = refl; may = refl; rising = refl }),
+                            refl,
+                            record {
+                              enough = refl;
+                              free = refl;
+                              different = refl;
+                              gone = refl;
+                              may = refl;
+                              rising = refl;
+                            },
+                          ),
+                          (
                             (
-                              (refl, record { enough = refl; free = refl; different = refl; gone = refl; may = refl; rising = refl }),
+                              refl,
+                              record {
+                                enough = refl;
+                                free = refl;
+                                different = refl;
+                                gone = refl;
+                                may = refl;
+                                rising = refl;
+                              },
+                            ),
+                            (
                               (
-                                (refl, record { enough = refl; free = refl; different = refl; gone = refl; may = refl; rising = refl }),
+                                refl,
+                                record {
+                                  enough = refl;
+                                  free = refl;
+                                  different = refl;
+                                  gone = refl;
+                                  may = refl;
+                                  rising = refl;
+                                },
+                              ),
+                              (
                                 (
-                                  (refl, record { enough = refl; free = refl; different = refl; gone = refl; may = refl; rising = refl }),
+                                  refl,
+                                  record {
+                                    enough = refl;
+                                    free = refl;
+                                    different = refl;
+                                    gone = refl;
+                                    may = refl;
+                                    rising = refl;
+                                  },
+                                ),
+                                (
                                   (
-                                    (refl, record { enough = refl; free = refl; different = refl; gone = refl; may = refl; rising = refl }),
+                                    refl,
+                                    record {
+                                      enough = refl;
+                                      free = refl;
+                                      different = refl;
+                                      gone = refl;
+                                      may = refl;
+                                      rising = refl;
+                                    },
+                                  ),
+                                  (
+                                    (
+                                      refl,
+                                      record {
+                                        enough = refl;
+                                        free = refl;
+                                        different = refl;
+                                        gone = refl;
+                                        may = refl;
+                                        rising = refl;
+                                      },
+                                    ),
                                     tt,
                                   ),
                                 ),
@@ -68,7 +174,10 @@ returns-clause-objects c = (
 )
 
 pub returns-clause-areas : goal.returns-clause-areas
-unfolding IsRun Lawful after with_tables allow_iovas_checks attach_checks bind_checks close_checks copy_checks destroy_checks detach_checks device_write_checks flush_checks hwpt_alloc_checks ioas_alloc_checks map_checks unbind_checks unmap_checks user_map_checks user_unmap_checks user_write_checks Answers changed settle without_areas attached detached joined outcomes access_outcomes number_at
+unfolding IsRun Lawful after with_tables allow_iovas_checks attach_checks bind_checks close_checks copy_checks
+    destroy_checks detach_checks device_write_checks flush_checks hwpt_alloc_checks ioas_alloc_checks map_checks
+    unbind_checks unmap_checks user_map_checks user_unmap_checks user_write_checks Answers changed settle without_areas
+    attached detached joined outcomes access_outcomes number_at
 returns-clause-areas c = (
   (refl, record { enough = refl; free = refl; different = refl; gone = refl; may = refl; rising = refl }),
   (
@@ -86,11 +195,41 @@ returns-clause-areas c = (
               (
                 (refl, record { enough = refl; free = refl; different = refl; gone = refl; may = refl; rising = refl }),
                 (
-                  (refl, record { enough = refl; free = refl; different = refl; gone = refl; may = refl; rising = refl }),
                   (
-                    (refl, record { enough = refl; free = refl; different = refl; gone = refl; may = refl; rising = refl }),
+                    refl,
+                    record {
+                      enough = refl;
+                      free = refl;
+                      different = refl;
+                      gone = refl;
+                      may = refl;
+                      rising = refl;
+                    },
+                  ),
+                  (
                     (
-                      (tt, record { enough = refl; free = refl; different = refl; gone = refl; may = refl; rising = refl }),
+                      refl,
+                      record {
+                        enough = refl;
+                        free = refl;
+                        different = refl;
+                        gone = refl;
+                        may = refl;
+                        rising = refl;
+                      },
+                    ),
+                    (
+                      (
+                        tt,
+                        record {
+                          enough = refl;
+                          free = refl;
+                          different = refl;
+                          gone = refl;
+                          may = refl;
+                          rising = refl;
+                        },
+                      ),
                       tt,
                     ),
                   ),
@@ -105,7 +244,10 @@ returns-clause-areas c = (
 )
 
 pub returns-clause-page_tables : goal.returns-clause-page_tables
-unfolding IsRun Lawful after with_tables allow_iovas_checks attach_checks bind_checks close_checks copy_checks destroy_checks detach_checks device_write_checks flush_checks hwpt_alloc_checks ioas_alloc_checks map_checks unbind_checks unmap_checks user_map_checks user_unmap_checks user_write_checks Answers changed settle without_areas attached detached joined outcomes access_outcomes number_at
+unfolding IsRun Lawful after with_tables allow_iovas_checks attach_checks bind_checks close_checks copy_checks
+    destroy_checks detach_checks device_write_checks flush_checks hwpt_alloc_checks ioas_alloc_checks map_checks
+    unbind_checks unmap_checks user_map_checks user_unmap_checks user_write_checks Answers changed settle without_areas
+    attached detached joined outcomes access_outcomes number_at
 returns-clause-page_tables c = (
   (refl, record { enough = refl; free = refl; different = refl; gone = refl; may = refl; rising = refl }),
   (
@@ -123,13 +265,53 @@ returns-clause-page_tables c = (
               (
                 (refl, record { enough = refl; free = refl; different = refl; gone = refl; may = refl; rising = refl }),
                 (
-                  (refl, record { enough = refl; free = refl; different = refl; gone = refl; may = refl; rising = refl }),
                   (
-                    (refl, record { enough = refl; free = refl; different = refl; gone = refl; may = refl; rising = refl }),
+                    refl,
+                    record {
+                      enough = refl;
+                      free = refl;
+                      different = refl;
+                      gone = refl;
+                      may = refl;
+                      rising = refl;
+                    },
+                  ),
+                  (
                     (
-                      (refl, record { enough = refl; free = refl; different = refl; gone = refl; may = refl; rising = refl }),
+                      refl,
+                      record {
+                        enough = refl;
+                        free = refl;
+                        different = refl;
+                        gone = refl;
+                        may = refl;
+                        rising = refl;
+                      },
+                    ),
+                    (
                       (
-                        (refl, record { enough = refl; free = refl; different = refl; gone = refl; may = refl; rising = refl }),
+                        refl,
+                        record {
+                          enough = refl;
+                          free = refl;
+                          different = refl;
+                          gone = refl;
+                          may = refl;
+                          rising = refl;
+                        },
+                      ),
+                      (
+                        (
+                          refl,
+                          record {
+                            enough = refl;
+                            free = refl;
+                            different = refl;
+                            gone = refl;
+                            may = refl;
+                            rising = refl;
+                          },
+                        ),
                         tt,
                       ),
                     ),
@@ -145,7 +327,10 @@ returns-clause-page_tables c = (
 )
 
 pub returns-clause-allocating : goal.returns-clause-allocating
-unfolding IsRun Lawful after with_tables allow_iovas_checks attach_checks bind_checks close_checks copy_checks destroy_checks detach_checks device_write_checks flush_checks hwpt_alloc_checks ioas_alloc_checks map_checks unbind_checks unmap_checks user_map_checks user_unmap_checks user_write_checks Answers changed settle without_areas attached detached joined outcomes access_outcomes number_at
+unfolding IsRun Lawful after with_tables allow_iovas_checks attach_checks bind_checks close_checks copy_checks
+    destroy_checks detach_checks device_write_checks flush_checks hwpt_alloc_checks ioas_alloc_checks map_checks
+    unbind_checks unmap_checks user_map_checks user_unmap_checks user_write_checks Answers changed settle without_areas
+    attached detached joined outcomes access_outcomes number_at
 returns-clause-allocating c = (
   (refl, record { enough = refl; free = refl; different = refl; gone = refl; may = refl; rising = refl }),
   tt,

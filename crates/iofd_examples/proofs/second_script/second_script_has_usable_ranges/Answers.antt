@@ -6,10 +6,12 @@ pub returns-clause-refusals : goal.returns-clause-refusals
 returns-clause-refusals c = refl
 
 pub returns-clause-file_1 : goal.returns-clause-file_1
-returns-clause-file_1 c = record { merged = (omega arith, omega arith, (omega arith, omega arith, tt)); set = of_file_1 }
+returns-clause-file_1 c =
+    record { merged = (omega arith, omega arith, (omega arith, omega arith, tt)); set = of_file_1 }
 
 pub returns-clause-file_2 : goal.returns-clause-file_2
-returns-clause-file_2 c = record { merged = (omega arith, omega arith, (omega arith, omega arith, tt)); set = of_file_2 }
+returns-clause-file_2 c =
+    record { merged = (omega arith, omega arith, (omega arith, omega arith, tt)); set = of_file_2 }
 
 pub returns-clause-unattached : goal.returns-clause-unattached
 returns-clause-unattached c = record { merged = (omega arith, omega arith, tt); set = of_all }

@@ -9,6 +9,7 @@ pub returns : goal.returns
 unfolding IsRun world_of
 returns g c = λ settings records run.
     let owned : OwnedPins (length records) (world_of settings records) =
-    run_keeps_at OwnedPins tabled_owned later_owned keeps_owned_pins 0 (length records) (opening settings) records (omega arith) run (opening_owned settings)
+    run_keeps_at OwnedPins tabled_owned later_owned keeps_owned_pins 0 (length records) (opening settings) records
+    (omega arith) run (opening_owned settings)
     in
     owned.areas

@@ -6,4 +6,5 @@ use Rattle.iofd_laws.proofs.every_run.areas_are_usable.Goals as goal
 
 pub returns : goal.returns
 unfolding IsRun world_of
-returns g c = λ settings records run. (run_keeps UsableSound tabled_usable keeps_usable 0 (opening settings) records run (opening_usable settings)).areas
+returns g c = λ settings records run. (run_keeps UsableSound tabled_usable keeps_usable 0 (opening settings) records run
+    (opening_usable settings)).areas

@@ -9,4 +9,5 @@ use Rattle.iofd_laws.proofs.every_run.areas_never_overlap.Goals as goal
 
 pub returns : goal.returns
 unfolding IsRun world_of with_tables
-returns g c = λ settings records run. run_keeps (λ w. are_apart w.areas ≡ true) (λ w taken given p. p) keeps_apart 0 (opening settings) records run refl
+returns g c = λ settings records run. run_keeps (λ w. are_apart w.areas ≡ true) (λ w taken given p. p) keeps_apart 0
+    (opening settings) records run refl

@@ -6,4 +6,5 @@ use Rattle.iofd_laws.proofs.every_run.devices_are_bound_once.Goals as goal
 
 pub returns : goal.returns
 unfolding IsRun world_of
-returns g c = λ settings records run. run_keeps DevicesOnce tabled_once keeps_once 0 (opening settings) records run (opening_once settings)
+returns g c = λ settings records run. run_keeps DevicesOnce tabled_once keeps_once 0 (opening settings) records
+    run (opening_once settings)

@@ -13,7 +13,20 @@ use Rattle.iofd_laws.proofs.every_run.every_event_has_an_answer.Goals as goal
 pub returns : goal.returns
 unfolding IsRun world_of
 returns g c = λ settings records event run none.
-    let pins : ArePinned (length records) (world_of settings records) = run_keeps_at ArePinned tabled_pinned later_pinned keeps_pins 0 (length records) (opening settings) records (omega arith) run (opening_pinned settings) in
-    let fits : RowsFit (world_of settings records) = run_keeps RowsFit tabled_fit keeps_fit 0 (opening settings) records run (record { pages = refl; starts = refl; rights = refl; rise = refl; user_frames = refl; pin_frames = refl; known = refl; attached = refl }) in
-    let own = run_keeps_tables OwnTables keeps_own_tables 0 (opening settings) records run (opening_own_tables settings) in
+    let pins : ArePinned (length records) (world_of settings records) =
+    run_keeps_at ArePinned tabled_pinned later_pinned keeps_pins 0 (length records) (opening settings) records
+    (omega arith) run (opening_pinned settings) in
+    let fits : RowsFit (world_of settings records) =
+    run_keeps RowsFit tabled_fit keeps_fit 0 (opening settings) records run (record {
+      pages = refl;
+      starts = refl;
+      rights = refl;
+      rise = refl;
+      user_frames = refl;
+      pin_frames = refl;
+      known = refl;
+      attached = refl;
+    }) in
+    let own =
+    run_keeps_tables OwnTables keeps_own_tables 0 (opening settings) records run (opening_own_tables settings) in
     some_record (length records) (world_of settings records) pins fits own.has own.alone event none

@@ -9,4 +9,5 @@ use Rattle.iofd_laws.proofs.every_run.ids_are_unique.Goals as goal
 
 pub returns : goal.returns
 unfolding IsRun world_of with_tables
-returns g c = λ settings records run. run_keeps (λ w. have_own_ids w.objects ≡ true) (λ w taken given p. p) keeps_own_ids 0 (opening settings) records run refl
+returns g c = λ settings records run. run_keeps (λ w. have_own_ids w.objects ≡ true) (λ w taken given p. p)
+    keeps_own_ids 0 (opening settings) records run refl

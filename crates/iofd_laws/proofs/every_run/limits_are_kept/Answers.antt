@@ -12,7 +12,10 @@ pub returns : goal.returns
 unfolding IsRun world_of
 returns g c = λ settings records user limit run is.
     let kept : KeptLimits (length records) (world_of settings records) =
-    run_keeps_at KeptLimits tabled_limits later_limits keeps_kept_limits 0 (length records) (opening settings) records (omega arith) run (opening_limits settings)
+    run_keeps_at KeptLimits tabled_limits later_limits keeps_kept_limits 0 (length records) (opening settings) records
+    (omega arith) run (opening_limits settings)
     in
-    let same : (world_of settings records).settings ≡ settings = run_keeps (λ w. w.settings ≡ settings) (tabled_settings settings) (keeps_settings settings) 0 (opening settings) records run refl in
+    let same : (world_of settings records).settings ≡ settings =
+    run_keeps (λ w. w.settings ≡ settings) (tabled_settings settings) (keeps_settings settings) 0
+    (opening settings) records run refl in
     kept.limits user limit (ap (λ (s : Settings). limit_of s user) same ∙ is)

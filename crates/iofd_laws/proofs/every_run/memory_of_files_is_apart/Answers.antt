@@ -13,10 +13,13 @@ unfolding IsRun world_of
 returns g c = λ settings before r other number run another has.
     let sooner = run_beginning 0 (opening settings) before (r ∷ []) run in
     let own : OwnPins (length before) (world_of settings before) =
-    run_keeps_at OwnPins tabled_own later_own keeps_own_pins 0 (length before) (opening settings) before (omega arith) sooner (record { pins = opening_pinned settings; own = refl })
+    run_keeps_at OwnPins tabled_own later_own keeps_own_pins 0 (length before) (opening settings) before (omega arith)
+    sooner (record { pins = opening_pinned settings; own = refl })
     in
     let at : 0 + length before ≡ length before = omega arith in
-    let lawful : Lawful (length before) (world_of settings before) r = subst (λ n. Lawful n (world_of settings before) r) at (lawful_at 0 (opening settings) before r [] run) in
-    let next = after_keeps_at OwnPins tabled_own later_own keeps_own_pins (length before) (world_of settings before) r lawful own in
+    let lawful : Lawful (length before) (world_of settings before) r =
+    subst (λ n. Lawful n (world_of settings before) r) at (lawful_at 0 (opening settings) before r [] run) in
+    let next = after_keeps_at OwnPins tabled_own later_own keeps_own_pins (length before)
+    (world_of settings before) r lawful own in
     let tidy = run_keeps IsTidy tabled_tidy keeps_tidy 0 (opening settings) before sooner (opening_tidy settings) in
     after_same_memory (length before) (world_of settings before) r other number own next (are_bound _ tidy) another has

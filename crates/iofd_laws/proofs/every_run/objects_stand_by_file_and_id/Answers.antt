@@ -6,4 +6,5 @@ use Rattle.iofd_laws.proofs.every_run.objects_stand_by_file_and_id.Goals as goal
 
 pub returns : goal.returns
 unfolding IsRun world_of
-returns g c = λ settings records run. run_keeps ObjectsRise tabled_rises keeps_rising 0 (opening settings) records run (opening_rises settings)
+returns g c = λ settings records run. run_keeps ObjectsRise tabled_rises keeps_rising 0 (opening settings) records run
+    (opening_rises settings)

@@ -11,5 +11,16 @@ use Rattle.iofd_laws.proofs.every_run.page_tables_have_what_they_need.Goals as g
 pub returns : goal.returns
 unfolding IsRun world_of
 returns g c = λ settings records run.
-    let fits : RowsFit (world_of settings records) = run_keeps RowsFit tabled_fit keeps_fit 0 (opening settings) records run (record { pages = refl; starts = refl; rights = refl; rise = refl; user_frames = refl; pin_frames = refl; known = refl; attached = refl }) in
-    serves (world_of settings records) fits (run_keeps_tables HasTables keeps_tables 0 (opening settings) records run (opening_tables settings)).tables
+    let fits : RowsFit (world_of settings records) =
+    run_keeps RowsFit tabled_fit keeps_fit 0 (opening settings) records run (record {
+      pages = refl;
+      starts = refl;
+      rights = refl;
+      rise = refl;
+      user_frames = refl;
+      pin_frames = refl;
+      known = refl;
+      attached = refl;
+    }) in
+    serves (world_of settings records) fits (run_keeps_tables HasTables keeps_tables 0 (opening settings) records run
+    (opening_tables settings)).tables

@@ -8,4 +8,5 @@ use Rattle.iofd_laws.proofs.every_run.pins_are_those_of_pinned_pages.Goals as go
 
 pub returns : goal.returns
 unfolding IsRun world_of
-returns g c = λ settings records run. run_keeps_at ArePinned tabled_pinned later_pinned keeps_pins 0 (length records) (opening settings) records (omega arith) run (opening_pinned settings)
+returns g c = λ settings records run. run_keeps_at ArePinned tabled_pinned later_pinned keeps_pins 0 (length records)
+    (opening settings) records (omega arith) run (opening_pinned settings)

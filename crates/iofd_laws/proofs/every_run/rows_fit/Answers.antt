@@ -8,4 +8,14 @@ use Rattle.iofd_laws.proofs.every_run.rows_fit.Goals as goal
 
 pub returns : goal.returns
 unfolding IsRun world_of
-returns g c = λ settings records run. run_keeps RowsFit tabled_fit keeps_fit 0 (opening settings) records run (record { pages = refl; starts = refl; rights = refl; rise = refl; user_frames = refl; pin_frames = refl; known = refl; attached = refl })
+returns g c = λ settings records run. run_keeps RowsFit tabled_fit keeps_fit 0 (opening settings) records run
+    (record {
+      pages = refl;
+      starts = refl;
+      rights = refl;
+      rise = refl;
+      user_frames = refl;
+      pin_frames = refl;
+      known = refl;
+      attached = refl;
+    })

@@ -11,5 +11,8 @@ use Rattle.iofd_laws.proofs.every_run.shared_pages_outlive_an_unmap.Goals as goa
 pub returns : goal.returns
 unfolding IsRun world_of
 returns g c = λ settings before r file request area run is within apart.
-    let pins : ArePinned (length before) (world_of settings before) = run_keeps_at ArePinned tabled_pinned later_pinned keeps_pins 0 (length before) (opening settings) before (omega arith) run (opening_pinned settings) in
-    after_outlives (length before) (world_of settings before) r file request area pins is (is_in (world_of settings before).areas area within) apart
+    let pins : ArePinned (length before) (world_of settings before) =
+    run_keeps_at ArePinned tabled_pinned later_pinned keeps_pins 0 (length before) (opening settings) before
+    (omega arith) run (opening_pinned settings) in
+    after_outlives (length before) (world_of settings before) r file request area pins is
+    (is_in (world_of settings before).areas area within) apart

@@ -9,4 +9,5 @@ use Rattle.iofd_laws.proofs.every_run.user_pages_have_own_frames.Goals as goal
 
 pub returns : goal.returns
 unfolding IsRun world_of with_tables
-returns g c = λ settings records run. run_keeps (λ w. have_own_frames w.user_pages ≡ true) (λ w taken given p. p) keeps_own_frames 0 (opening settings) records run refl
+returns g c = λ settings records run. run_keeps (λ w. have_own_frames w.user_pages ≡ true) (λ w taken given p. p)
+    keeps_own_frames 0 (opening settings) records run refl

@@ -6,4 +6,5 @@ use Rattle.iofd_promises.proofs.closed.closed_files_have_nothing.Goals as goal
 
 pub returns : goal.returns
 returns g c = λ settings records file run has.
-    has_nothing (world_of settings records) file (fits_of settings records run) (usable_of settings records run).sound (allowed_open settings records run) (within (world_of settings records).closed file has)
+    has_nothing (world_of settings records) file (fits_of settings records run) (usable_of settings records run).sound
+    (allowed_open settings records run) (within (world_of settings records).closed file has)

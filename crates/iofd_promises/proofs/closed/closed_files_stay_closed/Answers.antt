@@ -19,11 +19,13 @@ last_in (f ∷ files) file = inr (last_in files file)
 pub returns-clause-closes : goal.returns-clause-closes
 unfolding changed settle without_areas with_tables
 returns-clause-closes g c = λ settings before r file run of_event answered.
-    by_event settings before r run (λ new. Contains new.closed file) (event.Close file) reply.Done refl of_event answered (λ none answers. contains _ file (last_in (world_of settings before).closed file))
+    by_event settings before r run (λ new. Contains new.closed file) (event.Close file) reply.Done refl of_event
+    answered (λ none answers. contains _ file (last_in (world_of settings before).closed file))
 
 pub returns-clause-stays : goal.returns-clause-stays
 unfolding with_tables
 returns-clause-stays g c = λ settings before r file run has.
     let w = world_of settings before in
     by_record settings before r run (λ new. Contains new.closed file) (λ cause is told. has)
-    (λ none answers moves. contains _ file (stays_closed w (changed (length before) w r.event r.reply) file (changed_moves (length before) w r.event r.reply none answers).files (within w.closed file has)))
+    (λ none answers moves. contains _ file (stays_closed w (changed (length before) w r.event r.reply) file
+    (changed_moves (length before) w r.event r.reply none answers).files (within w.closed file has)))

@@ -8,7 +8,8 @@ use Rattle.iofd_promises.proofs.ClosedFiles.{gone_refused}
 use Rattle.iofd_promises.proofs.Steps.{by_record}
 use Rattle.iofd_promises.proofs.closed.commands_of_gone_files_are_refused.Goals as goal
 
-same_cause : (told : Reply) (a b : Cause) → Some a ≡ Some b → told ≡ reply.Refused (record { cause = a }) → told ≡ reply.Refused (record { cause = b })
+same_cause : (told : Reply) (a b : Cause) → Some a ≡ Some b → told ≡ reply.Refused (record { cause = a })
+    → told ≡ reply.Refused (record { cause = b })
 same_cause told a b is answer = let same : a ≡ b = cc in rw same at answer
 
 no_cause : (a : Cause) → None ≡ Some a → ⊥

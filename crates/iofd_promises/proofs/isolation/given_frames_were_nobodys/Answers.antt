@@ -13,12 +13,15 @@ use Rattle.iofd_promises.proofs.isolation.given_frames_were_nobodys.Goals as goa
 pub returns-clause-to_users : goal.returns-clause-to_users
 returns-clause-to_users g c = λ settings before r frame run answered.
     let w = world_of settings before in
-    by_answer settings before r run (λ new. IsNobodys w frame) (reply.Frame frame) refl answered (λ none answers. given_nobodys w r.event frame answers)
+    by_answer settings before r run (λ new. IsNobodys w frame) (reply.Frame frame) refl answered
+    (λ none answers. given_nobodys w r.event frame answers)
 
 pub returns-clause-for_tables : goal.returns-clause-for_tables
 returns-clause-for_tables g c = λ settings before r frame run has.
     let w = world_of settings before in
-    nobodys w frame (of_each (λ (f : FrameNo). is_free w.settings.pool w.user_pages w.pins w.table_frames f.0) r.taken frame (by_taken settings before r run).0 (within r.taken frame has))
+    nobodys w frame (of_each (λ (f : FrameNo). is_free w.settings.pool w.user_pages w.pins w.table_frames f.0) r.taken
+    frame (by_taken settings before r run).0 (within r.taken frame has))
 
 pub returns-clause-once : goal.returns-clause-once
-returns-clause-once g c = λ settings before r frame i j run first second. taken_once r.taken frame i j (by_taken settings before r run).1 first second
+returns-clause-once g c = λ settings before r frame i j run first second. taken_once r.taken frame i j
+    (by_taken settings before r run).1 first second

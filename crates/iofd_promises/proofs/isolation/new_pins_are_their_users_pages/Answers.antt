@@ -19,5 +19,15 @@ returns g c = λ settings before r pin run.
     (λ none answers moves has.
     ⊎_elim
     (λ (old : IsIn w.pins pin). inl (contains w.pins pin old))
-    (λ (users : IsUsersPage (changed (length before) w r.event r.reply) pin). inr (record { object = users.object; there = users.there; number = users.number; page = users.page; listed = users.listed; of_user = users.of_user; of_page = users.of_page; of_frame = users.of_frame }))
-    (pin_from w pin (changed (length before) w r.event r.reply) (changed_moves (length before) w r.event r.reply none answers).pins (within _ pin has)))
+    (λ (users : IsUsersPage (changed (length before) w r.event r.reply) pin). inr (record {
+      object = users.object;
+      there = users.there;
+      number = users.number;
+      page = users.page;
+      listed = users.listed;
+      of_user = users.of_user;
+      of_page = users.of_page;
+      of_frame = users.of_frame;
+    }))
+    (pin_from w pin (changed (length before) w r.event r.reply)
+    (changed_moves (length before) w r.event r.reply none answers).pins (within _ pin has)))

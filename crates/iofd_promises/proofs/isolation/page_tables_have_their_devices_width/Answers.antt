@@ -13,4 +13,6 @@ returns g c = λ settings records a table ioas width automatic n device run has 
     let next : a.device.0 ≡ suc n = omega (arith, number) in
     let listed : numbered settings.devices a.device.0 ≡ Some device = ap (numbered settings.devices) next ∙ known in
     one_width width device.width
-    (sym (widths.widths a (within w.attachments a has) device ioas width automatic listed (row_kind w.objects table a.file a.hwpt _ widths.sound.own_ids (within w.objects table there) of_file of_id is)))
+    (sym (widths.widths a (within w.attachments a has) device ioas width automatic listed
+    (row_kind w.objects table a.file a.hwpt _ widths.sound.own_ids
+    (within w.objects table there) of_file of_id is)))

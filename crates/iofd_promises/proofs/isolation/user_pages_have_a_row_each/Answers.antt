@@ -12,10 +12,12 @@ returns-clause-pages g c = λ settings records i j page other run first second u
     let user_back : eqb other.user.0 page.user.0 ≡ true = search (users, arith, nat_tests) in
     let number : eqb page.page other.page ≡ true = search (pages, arith, nat_tests) in
     let number_back : eqb other.page page.page ≡ true = search (pages, arith, nat_tests) in
-    one_place same_page (world_of settings records).user_pages i j page other (pages_apart settings records run) first second (both_true _ _ user number) (both_true _ _ user_back number_back)
+    one_place same_page (world_of settings records).user_pages i j page other (pages_apart settings records run) first
+    second (both_true _ _ user number) (both_true _ _ user_back number_back)
 
 pub returns-clause-frames : goal.returns-clause-frames
 returns-clause-frames g c = λ settings records i j page other run first second frames.
     let same : eqb page.frame.0 other.frame.0 ≡ true = search (frames, arith, nat_tests) in
     let back : eqb other.frame.0 page.frame.0 ≡ true = search (frames, arith, nat_tests) in
-    one_place same_frame (world_of settings records).user_pages i j page other (frames_apart settings records run) first second same back
+    one_place same_frame (world_of settings records).user_pages i j page other
+    (frames_apart settings records run) first second same back

@@ -17,8 +17,10 @@ returns g c = λ settings records area run has.
     let there = within w.areas area has in
     let fits = fits_of settings records run in
     let start = of_each begins_at_page w.areas area fits.starts there in
-    let ends = and_true (leb area.span.first area.span.last) (ltb area.span.last (2 ^ 64)) (of_each is_bounded w.areas area (bounded_of settings records run) there) in
-    let pages = and_true (is_whole (size_of area.span)) (leb (size_of area.span) (2 ^ 48)) (of_each is_of_pages w.areas area fits.pages there) in
+    let ends = and_true (leb area.span.first area.span.last) (ltb area.span.last (2 ^ 64))
+    (of_each is_bounded w.areas area (bounded_of settings records run) there) in
+    let pages = and_true (is_whole (size_of area.span)) (leb (size_of area.span) (2 ^ 48))
+    (of_each is_of_pages w.areas area fits.pages there) in
     record {
       first = search (start, arith, nat_tests);
       some = search (ends.0, arith, nat_tests);

@@ -10,5 +10,6 @@ use Rattle.iofd_promises.proofs.limits.ids_are_from_1_to_2_to_the_31.Goals as go
 pub returns : goal.returns
 returns g c = λ settings records object run has.
     let w = world_of settings records in
-    let parts = and_true (leb 1 object.id.0) (leb object.id.0 0x7fff_ffff) (of_each has_good_id w.objects object (good_ids settings records run) (within w.objects object has)) in
+    let parts = and_true (leb 1 object.id.0) (leb object.id.0 0x7fff_ffff)
+    (of_each has_good_id w.objects object (good_ids settings records run) (within w.objects object has)) in
     (search (parts.0, arith, nat_tests), search (parts.1, arith, nat_tests))

@@ -12,12 +12,24 @@ pub returns : goal.returns
 unfolding with_tables
 returns g c = λ settings before r file request iova run of_event answered.
     let w = world_of settings before in
-    by_event settings before r run (λ new. MapsAgain w new file request iova) (event.Copy file request) (reply.Iova iova) refl of_event answered (λ none answers.
+    by_event settings before r run (λ new. MapsAgain w new file request iova) (event.Copy file request)
+    (reply.Iova iova) refl of_event answered (λ none answers.
     let m = maps_again _ (length before) w file request iova none in
     let p = m.placed in
     record {
       area = m.area;
-      placed = record { there = p.there; of_file = p.of_file; of_space = p.of_space; first = p.first; last = p.last; reads = p.reads; writes = p.writes; live = p.live; others = p.others; alone = p.alone };
+      placed = record {
+        there = p.there;
+        of_file = p.of_file;
+        of_space = p.of_space;
+        first = p.first;
+        last = p.last;
+        reads = p.reads;
+        writes = p.writes;
+        live = p.live;
+        others = p.others;
+        alone = p.alone;
+      };
       source = m.source;
       there = m.there;
       of_file = m.of_file;

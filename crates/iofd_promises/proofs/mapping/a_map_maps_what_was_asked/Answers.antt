@@ -13,12 +13,25 @@ pub returns : goal.returns
 unfolding with_tables
 returns g c = λ settings before r file request iova run of_event answered.
     let w = world_of settings before in
-    by_event settings before r run (λ new. MapsAsked w new file request iova) (event.Map file request) (reply.Iova iova) refl of_event answered (λ none answers.
-    let m = maps_asked _ (length before) w file request iova (pinned_of settings before (run_before settings before _ run)) none in
+    by_event settings before r run (λ new. MapsAsked w new file request iova) (event.Map file request) (reply.Iova iova)
+    refl of_event answered (λ none answers.
+    let m = maps_asked _ (length before) w file request iova
+    (pinned_of settings before (run_before settings before _ run)) none in
     let p = m.placed in
     record {
       area = m.area;
-      placed = record { there = p.there; of_file = p.of_file; of_space = p.of_space; first = p.first; last = p.last; reads = p.reads; writes = p.writes; live = p.live; others = p.others; alone = p.alone };
+      placed = record {
+        there = p.there;
+        of_file = p.of_file;
+        of_space = p.of_space;
+        first = p.first;
+        last = p.last;
+        reads = p.reads;
+        writes = p.writes;
+        live = p.live;
+        others = p.others;
+        alone = p.alone;
+      };
       object = m.object;
       there = m.there;
       number = m.number;

@@ -15,5 +15,7 @@ returns g c = λ settings before r frame place run none others.
     by_record settings before r run (λ new. reads new.writes frame place ≡ reads w.writes frame place)
     (λ cause is told. refl)
     (λ passed answers moves. keeps_byte w (changed (length before) w r.event r.reply) r.reply frame place
-    (subst (λ (changes : Bool). MemoryMoves w changes r.reply (changed (length before) w r.event r.reply).user_pages (changed (length before) w r.event r.reply).writes) none (changed_moves (length before) w r.event r.reply passed answers).memory)
+    (subst (λ (changes : Bool). MemoryMoves w changes r.reply (changed (length before) w r.event r.reply).user_pages
+    (changed (length before) w r.event r.reply).writes) none (changed_moves (length before) w r.event
+    r.reply passed answers).memory)
     others)

@@ -13,7 +13,8 @@ pub returns : goal.returns
 unfolding changed with_tables
 returns g c = λ settings before r device iova bytes frame run of_event answered.
     let w = world_of settings before in
-    by_event settings before r run (λ new. ChangesJust w new frame.0 (iova.0 % 4096) bytes) (event.DeviceWrite device iova bytes) (reply.Passed frame) refl of_event answered (λ none answers. record {
+    by_event settings before r run (λ new. ChangesJust w new frame.0 (iova.0 % 4096) bytes)
+    (event.DeviceWrite device iova bytes) (reply.Passed frame) refl of_event answered (λ none answers. record {
       written = reads_written w.writes frame.0 (iova.0 % 4096) bytes;
       others = reads_others w.writes frame.0 (iova.0 % 4096) bytes;
     })

@@ -9,4 +9,6 @@ use Rattle.iofd_promises.proofs.policy.denied_reads_have_no_area.Goals as goal
 pub returns : goal.returns
 returns g c = λ settings records device iova len fault area run has over live.
     let (reason, there, told) = read_denied (world_of settings records) records device iova len fault has in
-    not_denied settings (world_of settings records) device iova.0 Read area reason (widths_of settings records run) (usable_of settings records run) (apart_of settings records run) (bounded_of settings records run) over live there
+    not_denied settings (world_of settings records) device iova.0 Read area reason (widths_of settings records run)
+    (usable_of settings records run) (apart_of settings records run)
+    (bounded_of settings records run) over live there

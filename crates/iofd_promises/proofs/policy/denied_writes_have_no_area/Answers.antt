@@ -11,4 +11,6 @@ pub returns : goal.returns
 returns g c = λ settings before r device iova bytes fault area run of_event answered over live.
     let earlier = run_before settings before _ run in
     let (reason, there, told) = write_denied settings before r device iova bytes fault run of_event answered in
-    not_denied settings (world_of settings before) device iova.0 Write area reason (widths_of settings before earlier) (usable_of settings before earlier) (apart_of settings before earlier) (bounded_of settings before earlier) over live there
+    not_denied settings (world_of settings before) device iova.0 Write area reason (widths_of settings before earlier)
+    (usable_of settings before earlier) (apart_of settings before earlier)
+    (bounded_of settings before earlier) over live there

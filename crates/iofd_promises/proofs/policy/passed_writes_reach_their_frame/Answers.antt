@@ -8,4 +8,5 @@ use Rattle.iofd_promises.proofs.policy.passed_writes_reach_their_frame.Goals as 
 
 pub returns : goal.returns
 returns g c = λ settings before r device iova bytes frame run of_event answered.
-    reached (world_of settings before) (fits_of settings before (run_before settings before _ run)) device iova.0 Write frame (write_passes settings before r device iova bytes frame run of_event answered)
+    reached (world_of settings before) (fits_of settings before (run_before settings before _ run)) device iova.0 Write
+    frame (write_passes settings before r device iova bytes frame run of_event answered)

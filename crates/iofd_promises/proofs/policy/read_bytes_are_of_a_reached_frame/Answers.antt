@@ -11,5 +11,8 @@ use Rattle.iofd_promises.proofs.policy.read_bytes_are_of_a_reached_frame.Goals a
 pub returns : goal.returns
 returns g c = λ settings records device iova len bytes run has.
     let w = world_of settings records in
-    let (frame, there, bytes_are) = read_passes w records device iova len bytes has in
-    (frame, reached w (fits_of settings records run) device iova.0 Read frame there, subst (AreBytesOf w frame.0 (iova.0 % 4096) len) bytes_are (are_bytes w frame.0 (iova.0 % 4096) len))
+    let (frame, there, bytes_are) = read_passes w records device iova len bytes has in (
+      frame,
+      reached w (fits_of settings records run) device iova.0 Read frame there,
+      subst (AreBytesOf w frame.0 (iova.0 % 4096) len) bytes_are (are_bytes w frame.0 (iova.0 % 4096) len),
+    )

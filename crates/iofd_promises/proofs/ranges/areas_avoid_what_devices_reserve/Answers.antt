@@ -13,4 +13,6 @@ returns g c = λ settings records area device n reserves run has by number known
     let usable = usable_of settings records run in
     let next : device.0 ≡ suc n = omega (arith, number) in
     let listed : numbered settings.devices device.0 ≡ Some reserves = ap (numbered settings.devices) next ∙ known in
-    avoids w area device reserves usable.sound.own_ids usable.areas (within w.areas area has) by (subst (λ (s : Settings). numbered s.devices device.0 ≡ Some reserves) (sym (widths_of settings records run).opened) listed)
+    avoids w area device reserves usable.sound.own_ids usable.areas (within w.areas area has) by
+    (subst (λ (s : Settings). numbered s.devices device.0 ≡ Some reserves)
+    (sym (widths_of settings records run).opened) listed)

@@ -17,4 +17,5 @@ pub returns : goal.returns
 returns g c = λ settings records area table width automatic run has there of_file is.
     let w = world_of settings records in
     subst (λ (end : ℕ). area.span.last < end) (same_end width)
-    (below_width w area table width automatic (usable_of settings records run).areas (bounded_of settings records run) (within w.areas area has) (within w.objects table there) of_file is)
+    (below_width w area table width automatic (usable_of settings records run).areas (bounded_of settings records run)
+    (within w.areas area has) (within w.objects table there) of_file is)

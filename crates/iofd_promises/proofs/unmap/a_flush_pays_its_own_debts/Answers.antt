@@ -12,10 +12,22 @@ use Rattle.iofd_promises.proofs.unmap.a_flush_pays_its_own_debts.Goals as goal
 pub returns-clause-paid : goal.returns-clause-paid
 unfolding changed with_tables
 returns-clause-paid g c = λ settings before r device run of_event answered.
-    by_event settings before r run (λ new. AllPaid device (world_of settings before).areas new.areas) (event.Flush device) reply.Done refl of_event answered (λ none answers. all_pay device (world_of settings before).areas)
+    by_event settings before r run (λ new. AllPaid device (world_of settings before).areas new.areas)
+    (event.Flush device) reply.Done refl of_event answered
+    (λ none answers. all_pay device (world_of settings before).areas)
 
 pub returns-clause-others : goal.returns-clause-others
 unfolding changed with_tables
 returns-clause-others g c = λ settings before r device run of_event answered.
-    by_event settings before r run (λ new. SameOthers (world_of settings before) new) (event.Flush device) reply.Done refl of_event answered
-    (λ none answers. record { objects = refl; attachments = refl; memory = refl; allowed = refl; user_pages = refl; pins = refl; writes = refl; closed = refl })
+    by_event settings before r run (λ new. SameOthers (world_of settings before) new) (event.Flush device)
+    reply.Done refl of_event answered
+    (λ none answers. record {
+      objects = refl;
+      attachments = refl;
+      memory = refl;
+      allowed = refl;
+      user_pages = refl;
+      pins = refl;
+      writes = refl;
+      closed = refl;
+    })

@@ -20,11 +20,13 @@ unfolding changed with_tables Answers
 returns-clause-waits g c = λ settings before r file request errno run of_event answered.
     let w = world_of settings before in
     let own = (usable_of settings before (run_before settings before _ run)).sound.own_ids in
-    by_event settings before r run (λ new. (errno ≡ EAGAIN) × Waits w new file request) (event.Unmap file request) (reply.Pending errno) refl of_event answered (λ none answers.
+    by_event settings before r run (λ new. (errno ≡ EAGAIN) × Waits w new file request) (event.Unmap file request)
+    (reply.Pending errno) refl of_event answered (λ none answers.
     let owed = somebody_owes w file request answers.0 in (
       answers.1,
       record {
-        whole = λ area has named. uncut_whole w file request area (unmap_passed (view w) file request none).uncut (within w.areas area has) named;
+        whole = λ area has named. uncut_whole w file request area (unmap_passed (view w) file request none).uncut
+            (within w.areas area has) named;
         area = owed.area;
         there = contains w.areas owed.area owed.there;
         named = owed.named;
@@ -37,5 +39,15 @@ returns-clause-waits g c = λ settings before r file request errno run of_event 
 pub returns-clause-others : goal.returns-clause-others
 unfolding changed with_tables
 returns-clause-others g c = λ settings before r file request errno run of_event answered.
-    by_event settings before r run (λ new. SameOthers (world_of settings before) new) (event.Unmap file request) (reply.Pending errno) refl of_event answered
-    (λ none answers. record { objects = refl; attachments = refl; memory = refl; allowed = refl; user_pages = refl; pins = refl; writes = refl; closed = refl })
+    by_event settings before r run (λ new. SameOthers (world_of settings before) new) (event.Unmap file request)
+    (reply.Pending errno) refl of_event answered
+    (λ none answers. record {
+      objects = refl;
+      attachments = refl;
+      memory = refl;
+      allowed = refl;
+      user_pages = refl;
+      pins = refl;
+      writes = refl;
+      closed = refl;
+    })

@@ -24,13 +24,19 @@ unfolding changed settle without_areas with_tables Answers
 returns g c = λ settings before r file request count run of_event answered.
     let w = world_of settings before in
     let own = (usable_of settings before (run_before settings before _ run)).sound.own_ids in
-    by_event settings before r run (λ new. TakesAway w new file request count) (event.Unmap file request) (reply.Bytes count) refl of_event answered (λ none answers. record {
-      whole = λ area has named. uncut_whole w file request area (unmap_passed (view w) file request none).uncut (within w.areas area has) named;
-      owed = λ area device has named owes. nobody_owes w file request area device own (not_true _ answers.0) (within w.areas area has) named owes;
+    by_event settings before r run (λ new. TakesAway w new file request count) (event.Unmap file request)
+    (reply.Bytes count) refl of_event answered (λ none answers. record {
+      whole = λ area has named. uncut_whole w file request area (unmap_passed (view w) file request none).uncut
+          (within w.areas area has) named;
+      owed = λ area device has named owes. nobody_owes w file request area device own (not_true _ answers.0)
+          (within w.areas area has) named owes;
       count_is = answers.1 ∙ bytes_are file request w.areas;
-      gone = λ area has. sym (touched_named file request area) ∙ not_true _ (in_filter (λ (a : Area). not (is_touched file request a)) w.areas area (within _ area has)).1;
+      gone = λ area has. sym (touched_named file request area)
+          ∙ not_true _ (in_filter (λ (a : Area). not (is_touched file request a)) w.areas area (within _ area has)).1;
       others = λ area other. (
-        (λ has. contains _ area (in_kept (λ (a : Area). not (is_touched file request a)) w.areas area (within w.areas area has) (not_false _ (touched_named file request area ∙ other)))),
-        (λ has. contains w.areas area (in_filter (λ (a : Area). not (is_touched file request a)) w.areas area (within _ area has)).0),
+        (λ has. contains _ area (in_kept (λ (a : Area). not (is_touched file request a)) w.areas area
+            (within w.areas area has) (not_false _ (touched_named file request area ∙ other)))),
+        (λ has. contains w.areas area (in_filter (λ (a : Area). not (is_touched file request a)) w.areas area
+            (within _ area has)).0),
       );
     })

@@ -12,5 +12,6 @@ session_is_taken name = refl
 pub returns-in_err-try_get_matches_from-clause-session : goal.returns-in_err-try_get_matches_from-clause-session
 returns-in_err-try_get_matches_from-clause-session g c = λ name words.
     let taken = ap₂ takes c.in_ok-iommufd.ensures words ∙ session_is_taken name in
-    let memory : kind_of c.in_err-try_get_matches_from.field-0.0 ≡ OutOfMemory = c.in_err-try_get_matches_from.ensures.passes taken in
+    let memory : kind_of c.in_err-try_get_matches_from.field-0.0 ≡ OutOfMemory =
+    c.in_err-try_get_matches_from.ensures.passes taken in
     search (rules, memory)

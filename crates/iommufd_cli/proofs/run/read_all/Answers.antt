@@ -6,4 +6,5 @@ pub returns-in-Ok-clause-bytes : goal.returns-in-Ok-clause-bytes
 returns-in-Ok-clause-bytes g c =
     let count : length c.read_to_end.new.buf.items ≡ c.len.result = sym (c.len.ensures ∙ c.read_to_end.new.buf.ok.0) in
     let short : length c.read_to_end.new.buf.items < 16777217 = rw count (omega (arith, c.if-len-le-MOST_BYTES.true)) in
-    all_read (g.R.Read.remaining c.args.reader.now) 16777217 c.new-bytes.result.items c.read_to_end.new.buf.items c.new-bytes.ensures.items (rw (c.take.ensures.limit, c.take.ensures.inner) at c.in-Ok.ensures.bytes) short
+    all_read (g.R.Read.remaining c.args.reader.now) 16777217 c.new-bytes.result.items c.read_to_end.new.buf.items
+    c.new-bytes.ensures.items (rw (c.take.ensures.limit, c.take.ensures.inner) at c.in-Ok.ensures.bytes) short

@@ -14,7 +14,8 @@ loop-step-preserved g c =
     let (first, out, split, written, leads) = c.loop-step.invariant in
     let line = text_of c.answer_step-long.result c.answer_step-long.new.out in
     let step = c.in-Some.step in
-    let more = subst (λ text. Appends (g.W.Write.contents c.loop-step.writer) (g.W.Write.contents c.put.new.writer) text) c.answered.ensures c.in_ok-put.ensures.ok in (
+    let more = subst (λ text. Appends (g.W.Write.contents c.loop-step.writer) (g.W.Write.contents c.put.new.writer)
+    text) c.answered.ensures c.in_ok-put.ensures.ok in (
       first ++ step ∷ [],
       out ++ line,
       split_on _ first _ _ step split c.in-Some.ensures,
@@ -27,7 +28,8 @@ loop-step-preserved-in_ok-put g c =
     let (first, out, split, written, leads) = c.loop-step.invariant in
     let line = text_of c.answer_step-long.result c.answer_step-long.new.out in
     let step = c.in-Some.step in
-    let more = subst (λ text. Appends (g.W.Write.contents c.loop-step.writer) (g.W.Write.contents c.put.new.writer) text) c.answered.ensures c.in_ok-put.ensures.ok in (
+    let more = subst (λ text. Appends (g.W.Write.contents c.loop-step.writer) (g.W.Write.contents c.put.new.writer)
+    text) c.answered.ensures c.in_ok-put.ensures.ok in (
       first ++ step ∷ [],
       out ++ line,
       split_on _ first _ _ step split c.in-Some.ensures,
@@ -46,6 +48,11 @@ returns-in_err-put-clause-begun g c =
     let line = text_of c.answer_step-long.result c.answer_step-long.new.out in
     let (front, is_front, more) = c.in_err-put.ensures.err in
     let short = subst (λ text. IsFront front text) c.answered.ensures is_front in
-    let all : Writes (BeginsLines c.args.core.now c.args.steps.now) (g.W.Write.contents c.args.writer.now) (g.W.Write.contents c.put.new.writer) =
-    (out ++ front, begun_text _ _ _ _ first _ _ c.in-Some.step out line front leads split c.in-Some.ensures c.answer_step-long.ensures short, appends_more _ _ _ out front written more) in
+    let all : Writes (BeginsLines c.args.core.now c.args.steps.now) (g.W.Write.contents c.args.writer.now)
+    (g.W.Write.contents c.put.new.writer) = (
+      out ++ front,
+      begun_text _ _ _ _ first _ _ c.in-Some.step out line front leads split c.in-Some.ensures
+          c.answer_step-long.ensures short,
+      appends_more _ _ _ out front written more,
+    ) in
     on_err c.from_residual.result all

@@ -7,7 +7,8 @@ use Rattle.iommufd_cli.proofs.run.run_steps.Given as goal
 -- the lines of the first steps are written
 abbrev pub invariant-loop-step : goal.invariant-loop-step
 invariant-loop-step g l =
-    (first : List Step) × (out : List ℕ) × (l.initial.steps ≡ first ++ l.steps) × Appends (g.W.Write.contents l.initial.writer) (g.W.Write.contents l.writer) out
+    (first : List Step) × (out : List ℕ) × (l.initial.steps ≡ first ++ l.steps)
+    × Appends (g.W.Write.contents l.initial.writer) (g.W.Write.contents l.writer) out
     × Leads l.initial.core first out l.core
 
 abbrev pub decreases-loop-step : goal.decreases-loop-step

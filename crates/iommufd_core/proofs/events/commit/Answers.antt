@@ -8,121 +8,175 @@ use Rattle.iommufd_core.proofs.events.commit.Goals as goal
 
 pub returns-in-IoasAlloc-clause-ok : goal.returns-in-IoasAlloc-clause-ok
 returns-in-IoasAlloc-clause-ok g c = if_ok c.commit.result _ _
-    (λ reply steps. subst (λ (e : Event _). MovingSteps c.args.at e c.args.act.now.via c.args.state.now reply c.args.taken.now.items c.args.given.now.items c.commit.new.state) (sym c.in-IoasAlloc.is)
-    (none_chosen c.args.at _ c.args.act.now.via c.args.state.now c.commit.new.state reply c.args.taken.now.items c.args.given.now.items c.requires.none_taken c.requires.none_given (λ w. tt) (λ w. tt) (steps c.args.at) (λ w. tt)))
+    (λ reply steps. subst (λ (e : Event _). MovingSteps c.args.at e c.args.act.now.via c.args.state.now reply
+    c.args.taken.now.items c.args.given.now.items c.commit.new.state) (sym c.in-IoasAlloc.is)
+    (none_chosen c.args.at _ c.args.act.now.via c.args.state.now c.commit.new.state reply c.args.taken.now.items
+    c.args.given.now.items c.requires.none_taken c.requires.none_given (λ w. tt) (λ w. tt)
+    (steps c.args.at) (λ w. tt)))
     c.commit.ensures.ok
 
 pub returns-in-IoasAlloc-clause-err : goal.returns-in-IoasAlloc-clause-err
-returns-in-IoasAlloc-clause-err g c = on_err c.commit.result _ _ (λ same w tidy shows. same w shows) c.commit.ensures.err
+returns-in-IoasAlloc-clause-err g c =
+    on_err c.commit.result _ _ (λ same w tidy shows. same w shows) c.commit.ensures.err
 
 pub returns-in-AllowIovas-clause-ok : goal.returns-in-AllowIovas-clause-ok
 returns-in-AllowIovas-clause-ok g c = if_ok c.commit-in-AllowIovas.result _ _
-    (λ reply steps. subst (λ (e : Event _). MovingSteps c.args.at e c.args.act.now.via c.args.state.now reply c.args.taken.now.items c.args.given.now.items c.commit-in-AllowIovas.new.state) (sym c.in-AllowIovas.is)
-    (none_chosen c.args.at _ c.args.act.now.via c.args.state.now c.commit-in-AllowIovas.new.state reply c.args.taken.now.items c.args.given.now.items c.requires.none_taken c.requires.none_given (λ w. tt) (λ w. tt) (steps c.args.at) (λ w. tt)))
+    (λ reply steps. subst (λ (e : Event _). MovingSteps c.args.at e c.args.act.now.via c.args.state.now reply
+    c.args.taken.now.items c.args.given.now.items c.commit-in-AllowIovas.new.state) (sym c.in-AllowIovas.is)
+    (none_chosen c.args.at _ c.args.act.now.via c.args.state.now c.commit-in-AllowIovas.new.state reply
+    c.args.taken.now.items c.args.given.now.items c.requires.none_taken c.requires.none_given (λ w. tt)
+    (λ w. tt) (steps c.args.at) (λ w. tt)))
     c.commit-in-AllowIovas.ensures.ok
 
 pub returns-in-AllowIovas-clause-err : goal.returns-in-AllowIovas-clause-err
-returns-in-AllowIovas-clause-err g c = on_err c.commit-in-AllowIovas.result _ _ (λ same w tidy shows. same w shows) c.commit-in-AllowIovas.ensures.err
+returns-in-AllowIovas-clause-err g c =
+    on_err c.commit-in-AllowIovas.result _ _ (λ same w tidy shows. same w shows) c.commit-in-AllowIovas.ensures.err
 
 pub returns-in-Bind-clause-ok : goal.returns-in-Bind-clause-ok
 returns-in-Bind-clause-ok g c = if_ok c.commit-in-Bind.result _ _
-    (λ reply steps. subst (λ (e : Event _). MovingSteps c.args.at e c.args.act.now.via c.args.state.now reply c.args.taken.now.items c.args.given.now.items c.commit-in-Bind.new.state) (sym c.in-Bind.is)
-    (none_chosen c.args.at _ c.args.act.now.via c.args.state.now c.commit-in-Bind.new.state reply c.args.taken.now.items c.args.given.now.items c.requires.none_taken c.requires.none_given (λ w. tt) (λ w. tt) (steps c.args.at) (λ w. tt)))
+    (λ reply steps. subst (λ (e : Event _). MovingSteps c.args.at e c.args.act.now.via c.args.state.now reply
+    c.args.taken.now.items c.args.given.now.items c.commit-in-Bind.new.state) (sym c.in-Bind.is)
+    (none_chosen c.args.at _ c.args.act.now.via c.args.state.now c.commit-in-Bind.new.state reply c.args.taken.now.items
+    c.args.given.now.items c.requires.none_taken c.requires.none_given (λ w. tt) (λ w. tt)
+    (steps c.args.at) (λ w. tt)))
     c.commit-in-Bind.ensures.ok
 
 pub returns-in-Bind-clause-err : goal.returns-in-Bind-clause-err
-returns-in-Bind-clause-err g c = on_err c.commit-in-Bind.result _ _ (λ same w tidy shows. same w shows) c.commit-in-Bind.ensures.err
+returns-in-Bind-clause-err g c =
+    on_err c.commit-in-Bind.result _ _ (λ same w tidy shows. same w shows) c.commit-in-Bind.ensures.err
 
 pub returns-in-Unmap-clause-ok : goal.returns-in-Unmap-clause-ok
 returns-in-Unmap-clause-ok g c =
-    subst (λ (e : Event _). MovingSteps c.args.at e c.args.act.now.via c.args.state.now c.commit-in-Unmap.result c.args.taken.now.items c.args.given.now.items c.commit-in-Unmap.new.state) (sym c.in-Unmap.is)
-    (none_chosen c.args.at _ c.args.act.now.via c.args.state.now c.commit-in-Unmap.new.state c.commit-in-Unmap.result c.args.taken.now.items c.args.given.now.items c.requires.none_taken c.requires.none_given (λ w. tt) (λ w. tt) (c.commit-in-Unmap.ensures c.args.at) (λ w. tt))
+    subst (λ (e : Event _). MovingSteps c.args.at e c.args.act.now.via c.args.state.now c.commit-in-Unmap.result
+    c.args.taken.now.items c.args.given.now.items c.commit-in-Unmap.new.state) (sym c.in-Unmap.is)
+    (none_chosen c.args.at _ c.args.act.now.via c.args.state.now c.commit-in-Unmap.new.state c.commit-in-Unmap.result
+    c.args.taken.now.items c.args.given.now.items c.requires.none_taken c.requires.none_given (λ w. tt)
+    (λ w. tt) (c.commit-in-Unmap.ensures c.args.at) (λ w. tt))
 
 pub returns-in-UserUnmap-clause-ok : goal.returns-in-UserUnmap-clause-ok
 returns-in-UserUnmap-clause-ok g c =
-    subst (λ (e : Event _). MovingSteps c.args.at e c.args.act.now.via c.args.state.now c.commit-in-UserUnmap.result c.args.taken.now.items c.args.given.now.items c.commit-in-UserUnmap.new.state) (sym c.in-UserUnmap.is)
-    (none_chosen c.args.at _ c.args.act.now.via c.args.state.now c.commit-in-UserUnmap.new.state c.commit-in-UserUnmap.result c.args.taken.now.items c.args.given.now.items c.requires.none_taken c.requires.none_given (λ w. tt) (λ w. tt) (c.commit-in-UserUnmap.ensures c.args.at) (λ w. tt))
+    subst (λ (e : Event _). MovingSteps c.args.at e c.args.act.now.via c.args.state.now c.commit-in-UserUnmap.result
+    c.args.taken.now.items c.args.given.now.items c.commit-in-UserUnmap.new.state) (sym c.in-UserUnmap.is)
+    (none_chosen c.args.at _ c.args.act.now.via c.args.state.now c.commit-in-UserUnmap.new.state
+    c.commit-in-UserUnmap.result c.args.taken.now.items c.args.given.now.items c.requires.none_taken
+    c.requires.none_given (λ w. tt) (λ w. tt) (c.commit-in-UserUnmap.ensures c.args.at) (λ w. tt))
 
 pub returns-in-UserWrite-clause-ok : goal.returns-in-UserWrite-clause-ok
 returns-in-UserWrite-clause-ok g c =
-    subst (λ (e : Event _). MovingSteps c.args.at e c.args.act.now.via c.args.state.now c.commit-in-UserWrite.result c.args.taken.now.items c.args.given.now.items c.commit-in-UserWrite.new.state) (sym c.in-UserWrite.is)
-    (none_chosen c.args.at _ c.args.act.now.via c.args.state.now c.commit-in-UserWrite.new.state c.commit-in-UserWrite.result c.args.taken.now.items c.args.given.now.items c.requires.none_taken c.requires.none_given (λ w. tt) (λ w. tt) (c.commit-in-UserWrite.ensures c.args.at) (λ w. tt))
+    subst (λ (e : Event _). MovingSteps c.args.at e c.args.act.now.via c.args.state.now c.commit-in-UserWrite.result
+    c.args.taken.now.items c.args.given.now.items c.commit-in-UserWrite.new.state) (sym c.in-UserWrite.is)
+    (none_chosen c.args.at _ c.args.act.now.via c.args.state.now c.commit-in-UserWrite.new.state
+    c.commit-in-UserWrite.result c.args.taken.now.items c.args.given.now.items c.requires.none_taken
+    c.requires.none_given (λ w. tt) (λ w. tt) (c.commit-in-UserWrite.ensures c.args.at) (λ w. tt))
 
 pub returns-in-Unbind-clause-ok : goal.returns-in-Unbind-clause-ok
 returns-in-Unbind-clause-ok g c =
-    subst (λ (e : Event _). MovingSteps c.args.at e c.args.act.now.via c.args.state.now c.commit-in-Unbind.result c.args.taken.now.items c.args.given.now.items c.commit-in-Unbind.new.state) (sym c.in-Unbind.is)
-    (none_chosen c.args.at _ c.args.act.now.via c.args.state.now c.commit-in-Unbind.new.state c.commit-in-Unbind.result c.args.taken.now.items c.args.given.now.items c.requires.none_taken c.requires.none_given (λ w. tt) (λ w. tt) (c.commit-in-Unbind.ensures c.args.at) (λ w. tt))
+    subst (λ (e : Event _). MovingSteps c.args.at e c.args.act.now.via c.args.state.now c.commit-in-Unbind.result
+    c.args.taken.now.items c.args.given.now.items c.commit-in-Unbind.new.state) (sym c.in-Unbind.is)
+    (none_chosen c.args.at _ c.args.act.now.via c.args.state.now c.commit-in-Unbind.new.state c.commit-in-Unbind.result
+    c.args.taken.now.items c.args.given.now.items c.requires.none_taken c.requires.none_given (λ w. tt)
+    (λ w. tt) (c.commit-in-Unbind.ensures c.args.at) (λ w. tt))
 
 pub returns-in-Flush-clause-ok : goal.returns-in-Flush-clause-ok
 returns-in-Flush-clause-ok g c =
-    subst (λ (e : Event _). MovingSteps c.args.at e c.args.act.now.via c.args.state.now c.commit-in-Flush.result c.args.taken.now.items c.args.given.now.items c.commit-in-Flush.new.state) (sym c.in-Flush.is)
-    (none_chosen c.args.at _ c.args.act.now.via c.args.state.now c.commit-in-Flush.new.state c.commit-in-Flush.result c.args.taken.now.items c.args.given.now.items c.requires.none_taken c.requires.none_given (λ w. tt) (λ w. tt) (c.commit-in-Flush.ensures c.args.at) (λ w. tt))
+    subst (λ (e : Event _). MovingSteps c.args.at e c.args.act.now.via c.args.state.now c.commit-in-Flush.result
+    c.args.taken.now.items c.args.given.now.items c.commit-in-Flush.new.state) (sym c.in-Flush.is)
+    (none_chosen c.args.at _ c.args.act.now.via c.args.state.now c.commit-in-Flush.new.state c.commit-in-Flush.result
+    c.args.taken.now.items c.args.given.now.items c.requires.none_taken c.requires.none_given (λ w. tt)
+    (λ w. tt) (c.commit-in-Flush.ensures c.args.at) (λ w. tt))
 
 pub returns-in-UserMap-clause-ok : goal.returns-in-UserMap-clause-ok
 returns-in-UserMap-clause-ok g c = if_ok c.commit-in-UserMap.result _ _
-    (λ reply steps. subst (λ (e : Event _). MovingSteps c.args.at e c.args.act.now.via c.args.state.now reply c.args.taken.now.items c.args.given.now.items c.commit-in-UserMap.new.state) (sym c.in-UserMap.is)
-    (none_moved c.args.at _ c.args.act.now.via c.args.state.now c.commit-in-UserMap.new.state reply c.args.taken.now.items c.args.given.now.items c.requires.none_taken c.requires.none_given (λ w. tt) (λ w. tt) (steps c.args.at c.args.act.now.via)))
+    (λ reply steps. subst (λ (e : Event _). MovingSteps c.args.at e c.args.act.now.via c.args.state.now reply
+    c.args.taken.now.items c.args.given.now.items c.commit-in-UserMap.new.state) (sym c.in-UserMap.is)
+    (none_moved c.args.at _ c.args.act.now.via c.args.state.now c.commit-in-UserMap.new.state reply
+    c.args.taken.now.items c.args.given.now.items c.requires.none_taken c.requires.none_given (λ w. tt)
+    (λ w. tt) (steps c.args.at c.args.act.now.via)))
     c.commit-in-UserMap.ensures.ok
 
 pub returns-in-UserMap-clause-err : goal.returns-in-UserMap-clause-err
-returns-in-UserMap-clause-err g c = on_err c.commit-in-UserMap.result _ _ (λ same w tidy shows. same w shows) c.commit-in-UserMap.ensures.err
+returns-in-UserMap-clause-err g c =
+    on_err c.commit-in-UserMap.result _ _ (λ same w tidy shows. same w shows) c.commit-in-UserMap.ensures.err
 
 pub returns-in-DeviceWrite-clause-ok : goal.returns-in-DeviceWrite-clause-ok
 returns-in-DeviceWrite-clause-ok g c =
-    subst (λ (e : Event _). MovingSteps c.args.at e c.args.act.now.via c.args.state.now c.commit-in-DeviceWrite.result c.args.taken.now.items c.args.given.now.items c.commit-in-DeviceWrite.new.state) (sym c.in-DeviceWrite.is)
-    (none_moved c.args.at _ c.args.act.now.via c.args.state.now c.commit-in-DeviceWrite.new.state c.commit-in-DeviceWrite.result c.args.taken.now.items c.args.given.now.items c.requires.none_taken c.requires.none_given (λ w. tt) (λ w. tt) (c.commit-in-DeviceWrite.ensures c.args.at))
+    subst (λ (e : Event _). MovingSteps c.args.at e c.args.act.now.via c.args.state.now c.commit-in-DeviceWrite.result
+    c.args.taken.now.items c.args.given.now.items c.commit-in-DeviceWrite.new.state) (sym c.in-DeviceWrite.is)
+    (none_moved c.args.at _ c.args.act.now.via c.args.state.now c.commit-in-DeviceWrite.new.state
+    c.commit-in-DeviceWrite.result c.args.taken.now.items c.args.given.now.items c.requires.none_taken
+    c.requires.none_given (λ w. tt) (λ w. tt) (c.commit-in-DeviceWrite.ensures c.args.at))
 
 -- ---- events that take frames, or give them back
 
 pub returns-in-Map-clause-ok : goal.returns-in-Map-clause-ok
 returns-in-Map-clause-ok g c = rw c.requires.none_given (if_ok c.commit-in-Map.result _ _
-    (λ reply steps. subst (λ (e : Event _). MovingSteps c.args.at e c.args.act.now.via c.args.state.now reply c.commit-in-Map.new.taken.items [] c.commit-in-Map.new.state) (sym c.in-Map.is) (steps c.args.act.now.via))
+    (λ reply steps. subst (λ (e : Event _). MovingSteps c.args.at e c.args.act.now.via c.args.state.now reply
+    c.commit-in-Map.new.taken.items [] c.commit-in-Map.new.state) (sym c.in-Map.is)
+    (steps c.args.act.now.via))
     c.commit-in-Map.ensures.ok)
 
 pub returns-in-Copy-clause-ok : goal.returns-in-Copy-clause-ok
 returns-in-Copy-clause-ok g c = rw c.requires.none_given (if_ok c.commit-in-Copy.result _ _
-    (λ reply steps. subst (λ (e : Event _). MovingSteps c.args.at e c.args.act.now.via c.args.state.now reply c.commit-in-Copy.new.taken.items [] c.commit-in-Copy.new.state) (sym c.in-Copy.is) (steps c.args.at c.args.act.now.via))
+    (λ reply steps. subst (λ (e : Event _). MovingSteps c.args.at e c.args.act.now.via c.args.state.now reply
+    c.commit-in-Copy.new.taken.items [] c.commit-in-Copy.new.state) (sym c.in-Copy.is) (steps
+    c.args.at c.args.act.now.via))
     c.commit-in-Copy.ensures.ok)
 
 pub returns-in-Copy-clause-err : goal.returns-in-Copy-clause-err
-returns-in-Copy-clause-err g c = on_err c.commit-in-Copy.result _ _ (λ same w tidy shows. same c.args.at w tidy shows) c.commit-in-Copy.ensures.err
+returns-in-Copy-clause-err g c =
+    on_err c.commit-in-Copy.result _ _ (λ same w tidy shows. same c.args.at w tidy shows) c.commit-in-Copy.ensures.err
 
 pub returns-in-HwptAlloc-clause-ok : goal.returns-in-HwptAlloc-clause-ok
 returns-in-HwptAlloc-clause-ok g c = rw c.requires.none_given (if_ok c.commit-in-HwptAlloc.result _ _
-    (λ reply steps. subst (λ (e : Event _). MovingSteps c.args.at e c.args.act.now.via c.args.state.now reply c.commit-in-HwptAlloc.new.taken.items [] c.commit-in-HwptAlloc.new.state) (sym c.in-HwptAlloc.is) (steps c.args.at c.args.act.now.via))
+    (λ reply steps. subst (λ (e : Event _). MovingSteps c.args.at e c.args.act.now.via c.args.state.now reply
+    c.commit-in-HwptAlloc.new.taken.items [] c.commit-in-HwptAlloc.new.state) (sym c.in-HwptAlloc.is) (steps
+    c.args.at c.args.act.now.via))
     c.commit-in-HwptAlloc.ensures.ok)
 
 pub returns-in-HwptAlloc-clause-err : goal.returns-in-HwptAlloc-clause-err
-returns-in-HwptAlloc-clause-err g c = on_err c.commit-in-HwptAlloc.result _ _ (λ same w tidy shows. same w shows) c.commit-in-HwptAlloc.ensures.err
+returns-in-HwptAlloc-clause-err g c =
+    on_err c.commit-in-HwptAlloc.result _ _ (λ same w tidy shows. same w shows) c.commit-in-HwptAlloc.ensures.err
 
 pub returns-in-Attach-clause-ok : goal.returns-in-Attach-clause-ok
 returns-in-Attach-clause-ok g c = rw c.requires.none_given (if_ok c.commit-in-Attach.result _ _
-    (λ reply steps. subst (λ (e : Event _). MovingSteps c.args.at e c.args.act.now.via c.args.state.now reply c.commit-in-Attach.new.taken.items [] c.commit-in-Attach.new.state) (sym c.in-Attach.is) (steps c.args.at c.args.act.now.via))
+    (λ reply steps. subst (λ (e : Event _). MovingSteps c.args.at e c.args.act.now.via c.args.state.now reply
+    c.commit-in-Attach.new.taken.items [] c.commit-in-Attach.new.state) (sym c.in-Attach.is) (steps
+    c.args.at c.args.act.now.via))
     c.commit-in-Attach.ensures.ok)
 
 pub returns-in-Attach-clause-err : goal.returns-in-Attach-clause-err
-returns-in-Attach-clause-err g c = on_err c.commit-in-Attach.result _ _ (λ same w tidy shows. same w shows) c.commit-in-Attach.ensures.err
+returns-in-Attach-clause-err g c =
+    on_err c.commit-in-Attach.result _ _ (λ same w tidy shows. same w shows) c.commit-in-Attach.ensures.err
 
 pub returns-in-Destroy-clause-ok : goal.returns-in-Destroy-clause-ok
 returns-in-Destroy-clause-ok g c = rw c.requires.none_taken (if_ok c.commit-in-Destroy.result _ _
-    (λ reply steps. subst (λ (e : Event _). MovingSteps c.args.at e c.args.act.now.via c.args.state.now reply [] c.commit-in-Destroy.new.given.items c.commit-in-Destroy.new.state) (sym c.in-Destroy.is) (steps c.args.at c.args.act.now.via))
+    (λ reply steps. subst (λ (e : Event _). MovingSteps c.args.at e c.args.act.now.via c.args.state.now reply []
+    c.commit-in-Destroy.new.given.items c.commit-in-Destroy.new.state) (sym c.in-Destroy.is) (steps
+    c.args.at c.args.act.now.via))
     c.commit-in-Destroy.ensures.ok)
 
 pub returns-in-Destroy-clause-err : goal.returns-in-Destroy-clause-err
-returns-in-Destroy-clause-err g c = on_err c.commit-in-Destroy.result _ _ (λ same w tidy shows. same w shows) c.commit-in-Destroy.ensures.err
+returns-in-Destroy-clause-err g c =
+    on_err c.commit-in-Destroy.result _ _ (λ same w tidy shows. same w shows) c.commit-in-Destroy.ensures.err
 
 pub returns-in-Close-clause-ok : goal.returns-in-Close-clause-ok
 returns-in-Close-clause-ok g c = rw c.requires.none_taken (if_ok c.commit-in-Close.result _ _
-    (λ reply steps. subst (λ (e : Event _). MovingSteps c.args.at e c.args.act.now.via c.args.state.now reply [] c.commit-in-Close.new.given.items c.commit-in-Close.new.state) (sym c.in-Close.is) (steps c.args.at c.args.act.now.via))
+    (λ reply steps. subst (λ (e : Event _). MovingSteps c.args.at e c.args.act.now.via c.args.state.now reply []
+    c.commit-in-Close.new.given.items c.commit-in-Close.new.state) (sym c.in-Close.is) (steps
+    c.args.at c.args.act.now.via))
     c.commit-in-Close.ensures.ok)
 
 pub returns-in-Close-clause-err : goal.returns-in-Close-clause-err
-returns-in-Close-clause-err g c = on_err c.commit-in-Close.result _ _ (λ same w tidy shows. same w shows) c.commit-in-Close.ensures.err
+returns-in-Close-clause-err g c =
+    on_err c.commit-in-Close.result _ _ (λ same w tidy shows. same w shows) c.commit-in-Close.ensures.err
 
 pub returns-in-Detach-clause-ok : goal.returns-in-Detach-clause-ok
 returns-in-Detach-clause-ok g c = rw c.requires.none_taken (if_ok c.commit-in-Detach.result _ _
-    (λ reply steps. subst (λ (e : Event _). MovingSteps c.args.at e c.args.act.now.via c.args.state.now reply [] c.commit-in-Detach.new.given.items c.commit-in-Detach.new.state) (sym c.in-Detach.is) (steps c.args.at c.args.act.now.via))
+    (λ reply steps. subst (λ (e : Event _). MovingSteps c.args.at e c.args.act.now.via c.args.state.now reply []
+    c.commit-in-Detach.new.given.items c.commit-in-Detach.new.state) (sym c.in-Detach.is) (steps
+    c.args.at c.args.act.now.via))
     c.commit-in-Detach.ensures.ok)
 
 pub returns-in-Detach-clause-err : goal.returns-in-Detach-clause-err
-returns-in-Detach-clause-err g c = on_err c.commit-in-Detach.result _ _ (λ same w tidy shows. same w shows) c.commit-in-Detach.ensures.err
+returns-in-Detach-clause-err g c =
+    on_err c.commit-in-Detach.result _ _ (λ same w tidy shows. same w shows) c.commit-in-Detach.ensures.err

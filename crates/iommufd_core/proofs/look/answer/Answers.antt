@@ -23,4 +23,5 @@ returns-in-FreeFrames g c =
 pub returns-in-Held : goal.returns-in-Held
 returns-in-Held g c =
     rw c.in-Held.is (λ at w records tidy shows none. one_count _ _
-    (c.held.ensures ∙ ap (λ (v : View). v.held_by c.in-Held.user) (same_view w c.args.state.now shows tidy.tabled.owned)))
+    (c.held.ensures ∙ ap (λ (v : View). v.held_by c.in-Held.user)
+    (same_view w c.args.state.now shows tidy.tabled.owned)))

@@ -6,14 +6,17 @@ use Rattle.iommufd_core.proofs.look.look.Goals as goal
 
 pub returns-in-Some : goal.returns-in-Some
 returns-in-Some g c = λ at w records tidy shows.
-    refused_read w records c.args.state.now shows tidy.tabled.owned c.args.query.now _ (sym c.in-Some.is ∙ c.refusal.ensures)
+    refused_read w records c.args.state.now shows tidy.tabled.owned c.args.query.now _ (sym c.in-Some.is
+    ∙ c.refusal.ensures)
 
 pub returns-in-None : goal.returns-in-None
 returns-in-None g c = λ at w records tidy shows.
     let query = c.args.query.now in
     let none = sym c.in-None.is ∙ c.refusal.ensures in
     let unrefused = sym (none ∙ same_query_refusal w c.args.state.now shows tidy.tabled.owned query) in
-    subst (λ lawful. IsLooked lawful c.answer.result) (sym (answered_read w records c.args.state.now shows tidy.tabled.owned query none)) (c.answer.ensures at w records tidy shows unrefused)
+    subst (λ lawful. IsLooked lawful c.answer.result)
+    (sym (answered_read w records c.args.state.now shows tidy.tabled.owned query none))
+    (c.answer.ensures at w records tidy shows unrefused)
 
 pub answer-requires : goal.answer-requires
 answer-requires g c =

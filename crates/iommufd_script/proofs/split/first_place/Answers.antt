@@ -7,7 +7,8 @@ use Rattle.iommufd_script.proofs.split.first_place.Goals as goal
 pub loop-start-preserved : goal.loop-start-preserved
 loop-start-preserved c = record {
   within = omega arith;
-  before = past_stride c.args.byte c.args.text.now c.loop-start.start c.count_before-before.result (omega arith) c.count_before-before.ensures (omega arith) c.loop-start.invariant.before;
+  before = past_stride c.args.byte c.args.text.now c.loop-start.start c.count_before-before.result (omega arith)
+      c.count_before-before.ensures (omega arith) c.loop-start.invariant.before;
 }
 
 pub returns-then-before-lt-STRIDE-clause-place : goal.returns-then-before-lt-STRIDE-clause-place
@@ -15,7 +16,8 @@ returns-then-before-lt-STRIDE-clause-place c =
     let start = c.loop-start.start in
     let before = c.count_before-before.result in
     let counted = c.count_before-before.ensures in
-    first_place c.args.byte c.args.text.now (start + before) (omega arith) (further c.args.byte c.args.text.now start before (omega arith) counted c.loop-start.invariant.before)
+    first_place c.args.byte c.args.text.now (start + before) (omega arith)
+    (further c.args.byte c.args.text.now start before (omega arith) counted c.loop-start.invariant.before)
     (at_hit c.args.byte c.args.text.now start before (omega arith) counted (omega arith))
 
 pub returns-clause-place : goal.returns-clause-place
@@ -25,9 +27,12 @@ returns-clause-place c =
     let last : ℕ = length text - 16 in
     let before = c.count_before.result in
     let counted = c.count_before.ensures in
-    let free = further byte text last before (omega arith) counted (λ k inside. c.loop-start.invariant.before k (omega arith)) in
+    let free = further byte text last before (omega arith) counted
+    (λ k inside. c.loop-start.invariant.before k (omega arith)) in
     let most = run_in_chunk_le (λ x. eqb x byte) text last 16 before 0 (omega arith) counted in
     elim (cases_lt before 16) [
-      | inl short ↦ first_place byte text (last + before) (omega arith) free (at_hit byte text last before (omega arith) counted short)
-      | inr long ↦ let end : last + before ≡ length text = omega (arith, most) in end ∙ no_place byte text (last + before) end free
+      | inl short ↦ first_place byte text (last + before) (omega arith) free
+          (at_hit byte text last before (omega arith) counted short)
+      | inr long ↦ let end : last + before ≡ length text =
+          omega (arith, most) in end ∙ no_place byte text (last + before) end free
     ]

@@ -4,7 +4,8 @@ use Rattle.iommufd_script.proofs.Parts.{one_part, first_part}
 use Rattle.iommufd_script.proofs.split.split_at_byte.Goals as goal
 
 pub returns-then-end-text : goal.returns-then-end-text
-returns-then-end-text c = one_part (λ byte. eqb byte c.args.byte) c.args.text.now (sym c.first_place-end.ensures.place ∙ c.if-end-text.true)
+returns-then-end-text c =
+    one_part (λ byte. eqb byte c.args.byte) c.args.text.now (sym c.first_place-end.ensures.place ∙ c.if-end-text.true)
 
 pub returns : goal.returns
 returns c =
@@ -13,5 +14,6 @@ returns c =
     let back = c.split_at.result.1.now in
     let place = c.first_place-end.ensures.place in
     let back-is : back ≡ drop end text = c.split_at.ensures.back in
-    let cut : take (length back - 1) (drop 1 back) ≡ drop 1 back = take_all (length back - 1) (drop 1 back) (omega (arith, length-drop 1 back)) in
+    let cut : take (length back - 1) (drop 1 back) ≡ drop 1 back =
+    take_all (length back - 1) (drop 1 back) (omega (arith, length-drop 1 back)) in
     rw (cut, back-is, c.split_at.ensures.front, place) (first_part (λ byte. eqb byte c.args.byte) text (omega arith))

@@ -9,5 +9,6 @@ returns-clause-value c =
     let xs = c.args.spans.now in
     let below = λ (x : Bounds). ltb x.last c.args.number in
     let parts = IsPartitionPoint-from_clause below xs c.partition_point.result c.partition_point.ensures.partitioned
-    (IsPartitionedBy-ltb (λ (x : Bounds). x.last) xs c.args.number (ends_rise 0 xs c.requires)) (λ a r f k. search rules) in
+    (IsPartitionedBy-ltb (λ (x : Bounds). x.last) xs c.args.number (ends_rise 0 xs c.requires))
+    (λ a r f k. search rules) in
     prefix_len-from_within below xs c.partition_point.result c.partition_point.ensures.bound parts.0 parts.1

@@ -13,8 +13,10 @@ in_two g c =
     let xs = c.args.spans.now.items in
     let ordered : c.args.cut.first ≤ c.args.cut.last = omega arith in
     let place = rw (c.deref.ensures.value, c.first.ensures.value) at c.count_below-place.ensures.value in
-    let around : HasAround true xs c.count_below-place.result c.args.cut = rw c.deref-2.ensures.value at c.if-has_around.ensures in
-    cut_out-split c.args.cut xs c.split.new.spans.items c.count_below-place.result c.requires ordered place around c.in_ok-split.ensures.items
+    let around : HasAround true xs c.count_below-place.result c.args.cut =
+    rw c.deref-2.ensures.value at c.if-has_around.ensures in
+    cut_out-split c.args.cut xs c.split.new.spans.items c.count_below-place.result c.requires ordered place around
+    c.in_ok-split.ensures.items
 
 pub returns-in_ok-split-clause-set : goal.returns-in_ok-split-clause-set
 returns-in_ok-split-clause-set g c = (in_two g c).set
@@ -22,13 +24,16 @@ returns-in_ok-split-clause-set g c = (in_two g c).set
 pub returns-in_ok-split-clause-merged : goal.returns-in_ok-split-clause-merged
 returns-in_ok-split-clause-merged g c = (in_two g c).merged
 
-each_trimmed : (g : Over) (c : goal.After-trim_all g) → IsCutOut c.args.cut c.args.spans.now.items c.trim_all.new.spans.items
+each_trimmed : (g : Over) (c : goal.After-trim_all g)
+    → IsCutOut c.args.cut c.args.spans.now.items c.trim_all.new.spans.items
 each_trimmed g c =
     let xs = c.args.spans.now.items in
     let ordered : c.args.cut.first ≤ c.args.cut.last = omega arith in
     let place = rw (c.deref.ensures.value, c.first.ensures.value) at c.count_below-place.ensures.value in
-    let around : HasAround false xs c.count_below-place.result c.args.cut = rw c.deref-2.ensures.value at c.if-has_around.ensures in
-    let kept = filter_same _ (λ (x : Bounds). not (lies_in x c.args.cut)) _ (λ x b f k. search rules) _ _ c.retain.ensures.filtered in
+    let around : HasAround false xs c.count_below-place.result c.args.cut =
+    rw c.deref-2.ensures.value at c.if-has_around.ensures in
+    let kept = filter_same _ (λ (x : Bounds). not (lies_in x c.args.cut)) _ (λ x b f k. search rules) _ _
+    c.retain.ensures.filtered in
     cut_out-trim c.args.cut xs c.trim_all.new.spans.items c.count_below-place.result c.requires ordered place around
     (c.trim_all.ensures.items ∙ ap (map (trimmed c.args.cut)) kept)
 
@@ -41,6 +46,7 @@ returns-else-has_around-clause-merged g c = (each_trimmed g c).merged
 pub returns-in_err-split-clause-split : goal.returns-in_err-split-clause-split
 returns-in_err-split-clause-split g c =
     let xs = c.args.spans.now.items in
-    let around : HasAround true xs c.count_below-place.result c.args.cut = rw c.deref-2.ensures.value at c.if-has_around.ensures in
+    let around : HasAround true xs c.count_below-place.result c.args.cut =
+    rw c.deref-2.ensures.value at c.if-has_around.ensures in
     let one = around-splits c.args.cut xs c.count_below-place.result around in
     on_err c.from_residual.result one

@@ -4,4 +4,5 @@ use Rattle.iova_ranges.proofs.removing.trim_all.Given as goal
 
 abbrev pub invariant-loop-span : goal.invariant-loop-span
 invariant-loop-span g l =
-    l.span-items ≡ map (trimmed l.cut) (take l.span-index l.initial.span-items) ++ drop l.span-index l.initial.span-items
+    l.span-items ≡ map (trimmed l.cut) (take l.span-index l.initial.span-items)
+    ++ drop l.span-index l.initial.span-items

@@ -12,24 +12,32 @@ into_seat-requires g c = c.loop-pass.invariant.idle _ _ (last_at _ _ _ c.in-Some
 pub gather-requires-clause-table : goal.gather-requires-clause-table
 gather-requires-clause-table g c = (
   c.loop-pass.invariant.table ∙ c.requires.table.0,
-  ap (λ s. s.table_id) c.into_seat.ensures.seat ∙ (c.loop-pass.invariant.owned _ _ (last_at _ _ _ c.in-Some.ensures.items) ∙ c.requires.table.0),
+  ap (λ s. s.table_id) c.into_seat.ensures.seat
+      ∙ (c.loop-pass.invariant.owned _ _ (last_at _ _ _ c.in-Some.ensures.items) ∙ c.requires.table.0),
   c.requires.table.1,
   c.into_seat.ensures.idle.0,
 )
 
 pub loop-pass-preserved : goal.loop-pass-preserved
-loop-pass-preserved g c = let grown = ap (λ m. m.0.others) c.gather.ensures.1 in let is = c.in-Some.ensures.items in record {
-  table = search rules;
-  owned = λ i p e. c.loop-pass.invariant.owned i p (front_at _ _ _ p i is e);
-  idle = λ i p e. c.loop-pass.invariant.idle i p (front_at _ _ _ p i is e);
-  view = search rules;
-  taken = λ i p e. ⊎_elim
-      (λ (h : slice_get c.loop-pass.passes.items i ≡ Some p). ⊎_elim (λ (f : slice_get c.pop.new.self.items i ≡ Some p). inl f)
-      (λ (f : c.in-Some.pass ≡ p). inr (
-        length c.loop-pass.seat.me.0.others,
-        ap (λ l. get_elem? l (length c.loop-pass.seat.me.0.others)) grown
-            ∙ (snoc_last c.loop-pass.seat.me.0.others _ ∙ (ap (λ s. some (record { number = s.me.0.number; seen = s.me.0.seen; made = s.me.0.made })) c.into_seat.ensures.seat ∙ ap (λ q. some (known_of q)) f)),
-      )) (either_at _ _ _ p i is h))
-      (λ (h : (j : ℕ) × (get_elem? c.loop-pass.seat.me.0.others j ≡ some (known_of p))). inr (h.0, ap (λ l. get_elem? l h.0) grown ∙ at_longer c.loop-pass.seat.me.0.others _ h.0 (known_of p) h.1))
-      (c.loop-pass.invariant.taken i p e);
-}
+loop-pass-preserved g c =
+    let grown = ap (λ m. m.0.others) c.gather.ensures.1 in let is = c.in-Some.ensures.items in record {
+      table = search rules;
+      owned = λ i p e. c.loop-pass.invariant.owned i p (front_at _ _ _ p i is e);
+      idle = λ i p e. c.loop-pass.invariant.idle i p (front_at _ _ _ p i is e);
+      view = search rules;
+      taken = λ i p e. ⊎_elim
+          (λ (h : slice_get c.loop-pass.passes.items i ≡ Some p). ⊎_elim
+          (λ (f : slice_get c.pop.new.self.items i ≡ Some p). inl f)
+          (λ (f : c.in-Some.pass ≡ p). inr (
+            length c.loop-pass.seat.me.0.others,
+            ap (λ l. get_elem? l (length c.loop-pass.seat.me.0.others)) grown
+                ∙ (snoc_last c.loop-pass.seat.me.0.others _
+                ∙ (ap (λ s. some (record { number = s.me.0.number; seen = s.me.0.seen; made = s.me.0.made }))
+                c.into_seat.ensures.seat ∙ ap (λ q. some (known_of q)) f)),
+          )) (either_at _ _ _ p i is h))
+          (λ (h : (j : ℕ) × (get_elem? c.loop-pass.seat.me.0.others j ≡ some (known_of p))). inr (
+            h.0,
+            ap (λ l. get_elem? l h.0) grown ∙ at_longer c.loop-pass.seat.me.0.others _ h.0 (known_of p) h.1,
+          ))
+          (c.loop-pass.invariant.taken i p e);
+    }

@@ -10,7 +10,8 @@ invariant-loop-pass g l = record {
   owned : (i : ℕ) (p : _) → slice_get l.passes.items i ≡ Some p → p.seat.table_id ≡ l.initial.seat.table_id;
   idle : AllIdle l.passes.items;
   view : l.seat.me.0 ≡ record l.initial.seat.me.0 { others = l.seat.me.0.others };
-  taken : (i : ℕ) (p : _) → slice_get l.initial.passes.items i ≡ Some p → (slice_get l.passes.items i ≡ Some p) ⊎ ((j : ℕ) × (get_elem? l.seat.me.0.others j ≡ some (known_of p)));
+  taken : (i : ℕ) (p : _) → slice_get l.initial.passes.items i ≡ Some p → (slice_get l.passes.items i ≡ Some p)
+      ⊎ ((j : ℕ) × (get_elem? l.seat.me.0.others j ≡ some (known_of p)));
 }
 
 abbrev pub decreases-loop-pass : goal.decreases-loop-pass

@@ -7,6 +7,10 @@ abbrev pub invariant-loop-number : goal.invariant-loop-number
 invariant-loop-number g l = record {
   room : l.lock.passes ≤ vec_capacity l.dealt;
   table : l.seat.table_id ≡ l.lock.table.shared.table_id;
-  view : l.seat.me ≡ (newcomer l.last (opening_of g.K.Kept.history l.lock) l.lock.passes l.lock.lanes (crowd l.number (l.last - l.number)), []);
+  view : l.seat.me ≡ (
+    newcomer l.last (opening_of g.K.Kept.history l.lock) l.lock.passes l.lock.lanes
+        (crowd l.number (l.last - l.number)),
+    [],
+  );
   new : AllNew l.lock l.number l.dealt.items;
 }

@@ -8,7 +8,8 @@ invariant-loop-lane g l = record {
   within : l.lane ≤ l.count;
   table : l.seat.table_id ≡ l.initial.seat.table_id;
   number : l.seat.id ≡ l.initial.seat.id;
-  lowered : Lowered (Shows g.K.Kept.history l.initial.seat.me.0.seen) (l.count - 1) (l.lane - 1) l.initial.seat.me l.seat.me;
+  lowered : Lowered (Shows g.K.Kept.history l.initial.seat.me.0.seen) (l.count - 1) (l.lane - 1)
+      l.initial.seat.me l.seat.me;
 }
 
 abbrev pub decreases-loop-lane : goal.decreases-loop-lane

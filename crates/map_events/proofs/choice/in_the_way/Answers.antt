@@ -13,11 +13,13 @@ ordered : (span : Bounds) (length : ℕ) → 0 < length → span ≡ span_from s
 ordered span length some from = let last = ap (λ (s : Bounds). s.last) from in omega (arith, last, some)
 
 pub returns-in-Some : goal.returns-in-Some
-returns-in-Some g c = taken_in_the_way (seen c.args.state.now) c.args.file c.args.request c.args.span c.in-Some.one (positive c.args.request.length c.requires.some) c.requires.from (rw c.in-Some.is at c.taken_meeting.ensures)
+returns-in-Some g c = taken_in_the_way (seen c.args.state.now) c.args.file c.args.request c.args.span c.in-Some.one
+    (positive c.args.request.length c.requires.some) c.requires.from (rw c.in-Some.is at c.taken_meeting.ensures)
 
 pub returns-in-None : goal.returns-in-None
 returns-in-None g c =
     let some = positive c.args.request.length c.requires.some in
-    clear_or_gap (seen c.args.state.now) c.args.file c.args.request c.args.span c.gap_meeting.result some c.requires.from (ordered c.args.span c.args.request.length some c.requires.from)
+    clear_or_gap (seen c.args.state.now) c.args.file c.args.request c.args.span c.gap_meeting.result some
+    c.requires.from (ordered c.args.span c.args.request.length some c.requires.from)
     (rw c.in-None.is at c.taken_meeting.ensures)
     c.gap_meeting.ensures

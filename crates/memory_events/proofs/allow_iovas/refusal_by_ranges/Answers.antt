@@ -7,4 +7,5 @@ use Rattle.memory_events.proofs.allow_iovas.refusal_by_ranges.Goals as goal
 pub returns-in-Ok : goal.returns-in-Ok
 returns-in-Ok g c =
     rw c.deref.ensures.value at c.refusal_of_sorted.ensures
-    ∙ ap first_true (same_checks (seen c.args.state.now) c.args.file c.args.ioas c.args.ranges.now c.in-Ok.sorted.items c.in-Ok.ensures.same)
+    ∙ ap first_true (same_checks (seen c.args.state.now) c.args.file c.args.ioas c.args.ranges.now
+    c.in-Ok.sorted.items c.in-Ok.ensures.same)

@@ -14,6 +14,12 @@ pub loop-attachment-preserved : goal.loop-attachment-preserved
 unfolding no_attachment
 loop-attachment-preserved g c =
     elim c.if-is_attached_to.branch [
-      | then-is_attached_to+else-not-has_device w ↦ λ rise. w.devices-is ∙ w.insert.ensures ∙ taken (is_attached_to (objects_in c.args.table.now) c.args.file c.args.ioas) c.args.attachments.now c.loop-attachment.attachment-index _ no_attachment c.loop-attachment-test.true refl c.loop-attachment.devices rise (c.loop-attachment.invariant rise) (sym c.is_attached_to.ensures ∙ w.if-is_attached_to.true)
-      | else-is_attached_to w ↦ λ rise. w.devices-is ∙ passed (is_attached_to (objects_in c.args.table.now) c.args.file c.args.ioas) c.args.attachments.now c.loop-attachment.attachment-index _ no_attachment c.loop-attachment-test.true refl c.loop-attachment.devices (c.loop-attachment.invariant rise) (sym c.is_attached_to.ensures ∙ w.if-is_attached_to.false)
+      | then-is_attached_to+else-not-has_device w ↦ λ rise. w.devices-is ∙ w.insert.ensures
+          ∙ taken (is_attached_to (objects_in c.args.table.now) c.args.file c.args.ioas) c.args.attachments.now
+          c.loop-attachment.attachment-index _ no_attachment c.loop-attachment-test.true refl c.loop-attachment.devices
+          rise (c.loop-attachment.invariant rise) (sym c.is_attached_to.ensures ∙ w.if-is_attached_to.true)
+      | else-is_attached_to w ↦ λ rise. w.devices-is
+          ∙ passed (is_attached_to (objects_in c.args.table.now) c.args.file c.args.ioas) c.args.attachments.now
+          c.loop-attachment.attachment-index _ no_attachment c.loop-attachment-test.true refl c.loop-attachment.devices
+          (c.loop-attachment.invariant rise) (sym c.is_attached_to.ensures ∙ w.if-is_attached_to.false)
     ]

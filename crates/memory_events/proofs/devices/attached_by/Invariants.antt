@@ -5,4 +5,5 @@ use Rattle.server_state.specs.Held.{objects_in}
 use Rattle.memory_events.proofs.devices.attached_by.Given as goal
 
 abbrev pub invariant-loop-attachment : goal.invariant-loop-attachment
-invariant-loop-attachment g l = devices_rise l.attachments ≡ true → l.devices ≡ devices_of (objects_in l.table) (take l.attachment-index l.attachments) l.file l.ioas
+invariant-loop-attachment g l = devices_rise l.attachments ≡ true
+    → l.devices ≡ devices_of (objects_in l.table) (take l.attachment-index l.attachments) l.file l.ioas

@@ -10,11 +10,13 @@ use Rattle.memory_events.proofs.unusable.keeps.Goals as goal
 pub returns-then-is_attached_to : goal.returns-then-is_attached_to
 returns-then-is_attached_to g c =
     c.device_keeps.ensures
-    ∙ sym (any_and (is_attached_to (objects_in c.args.table.now) c.args.file c.args.ioas c.args.attachment.now) (meets_some (reserved_of (device_of c.args.config.now c.args.attachment.now.device))) c.args.ranges.now
+    ∙ sym (any_and (is_attached_to (objects_in c.args.table.now) c.args.file c.args.ioas c.args.attachment.now)
+    (meets_some (reserved_of (device_of c.args.config.now c.args.attachment.now.device))) c.args.ranges.now
     ∙ rw (sym c.is_attached_to.ensures, c.if-is_attached_to.true) refl)
 
 pub returns-else-is_attached_to : goal.returns-else-is_attached_to
 returns-else-is_attached_to g c =
     c.if-is_attached_to.false
-    ∙ sym (any_and (is_attached_to (objects_in c.args.table.now) c.args.file c.args.ioas c.args.attachment.now) (meets_some (reserved_of (device_of c.args.config.now c.args.attachment.now.device))) c.args.ranges.now
+    ∙ sym (any_and (is_attached_to (objects_in c.args.table.now) c.args.file c.args.ioas c.args.attachment.now)
+    (meets_some (reserved_of (device_of c.args.config.now c.args.attachment.now.device))) c.args.ranges.now
     ∙ rw (sym c.is_attached_to.ensures, c.if-is_attached_to.false) refl)

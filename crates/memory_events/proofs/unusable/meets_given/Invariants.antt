@@ -9,7 +9,8 @@ use Rattle.memory_events.proofs.unusable.meets_given.Given as goal
 abbrev pub invariant-loop-range : goal.invariant-loop-range
 invariant-loop-range g l = record {
   good : are_ranges l.rest ≡ true;
-  same : list_any (meets_some (unusable_in (seen l.state) l.file l.ioas)) l.ranges ≡ list_any (meets_some (unusable_in (seen l.state) l.file l.ioas)) l.rest;
+  same : list_any (meets_some (unusable_in (seen l.state) l.file l.ioas)) l.ranges ≡ list_any
+      (meets_some (unusable_in (seen l.state) l.file l.ioas)) l.rest;
 }
 
 abbrev pub decreases-loop-range : goal.decreases-loop-range

@@ -6,7 +6,8 @@ use Rattle.memory_events.proofs.unusable.some_keeps.Given as goal
 
 abbrev pub invariant-loop-attachment : goal.invariant-loop-attachment
 invariant-loop-attachment g l =
-    list_any (λ a. list_any (λ range. keeps_of l.config (objects_in l.table) l.file l.ioas range a) l.ranges) l.attachments
+    list_any (λ a. list_any (λ range. keeps_of l.config (objects_in l.table) l.file l.ioas range a) l.ranges)
+    l.attachments
     ≡ list_any (λ a. list_any (λ range. keeps_of l.config (objects_in l.table) l.file l.ioas range a) l.ranges) l.rest
 
 abbrev pub decreases-loop-attachment : goal.decreases-loop-attachment

@@ -8,4 +8,6 @@ use Rattle.memory_events.proofs.usable_ranges.kept_spans.Given as goal
 
 abbrev pub invariant-loop-attachment : goal.invariant-loop-attachment
 invariant-loop-attachment g l =
-    (n : ℕ) → in_spans l.spans.items n ≡ list_any (keeps_of l.fn.state.config (objects_in l.fn.state.objects) l.fn.file l.fn.ioas (only n)) (take l.attachment-index l.attachment-items)
+    (n : ℕ) → in_spans l.spans.items n ≡ list_any
+    (keeps_of l.fn.state.config (objects_in l.fn.state.objects) l.fn.file l.fn.ioas (only n))
+    (take l.attachment-index l.attachment-items)

@@ -11,9 +11,12 @@ use Rattle.memory_events.proofs.usable_ranges.leave_out_beyond.Goals as goal
 pub returns : goal.returns
 returns g c =
     let rows = rows_of c.args.table.now c.args.file in
-    let done = subst (λ left. IsLeaving (λ n row. ends_in_kind c.args.ioas (only n) (kind_in row.value)) rows left c.args.set.now.spans c.loop-object.set.spans) c.in-None.ensures.steps.0 c.loop-object.invariant in
-    let out = all_left_out (λ n row. ends_in_kind c.args.ioas (only n) (kind_in row.value)) rows c.args.set.now.spans c.loop-object.set.spans done in
+    let done = subst (λ left. IsLeaving (λ n row. ends_in_kind c.args.ioas (only n) (kind_in row.value)) rows left
+    c.args.set.now.spans c.loop-object.set.spans) c.in-None.ensures.steps.0 c.loop-object.invariant in
+    let out = all_left_out (λ n row. ends_in_kind c.args.ioas (only n) (kind_in row.value)) rows c.args.set.now.spans
+    c.loop-object.set.spans done in
     record {
-      numbers = λ n. out.numbers n ∙ ap (λ b. in_spans c.args.set.now.spans n && not b) (sym (ends_in_rows c.args.table.now.rows c.args.file c.args.ioas (only n)));
+      numbers = λ n. out.numbers n ∙ ap (λ b. in_spans c.args.set.now.spans n && not b)
+          (sym (ends_in_rows c.args.table.now.rows c.args.file c.args.ioas (only n)));
       merged = out.merged;
     }

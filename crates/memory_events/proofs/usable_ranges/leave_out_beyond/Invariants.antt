@@ -8,4 +8,5 @@ use Rattle.memory_events.proofs.usable_ranges.leave_out_beyond.Given as goal
 -- some of the file's objects have had left out what they don't translate
 abbrev pub invariant-loop-object : goal.invariant-loop-object
 invariant-loop-object g l =
-    IsLeaving (λ n row. ends_in_kind l.fn.ioas (only n) (kind_in row.value)) (rows_of l.fn.table l.fn.file) l.object-iterator l.initial.set.spans l.set.spans
+    IsLeaving (λ n row. ends_in_kind l.fn.ioas (only n) (kind_in row.value)) (rows_of l.fn.table l.fn.file)
+    l.object-iterator l.initial.set.spans l.set.spans

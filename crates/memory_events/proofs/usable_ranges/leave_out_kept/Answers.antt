@@ -10,5 +10,6 @@ pub returns : goal.returns
 returns g c =
     let same = IsPermutation-sym _ _ c.sort_unstable_by_key.ensures.permutation in
     on_ok_weaker c.leave_out_spans.result
-    (out_by_alike (λ n. ap (λ spans. in_spans spans n) c.deref.ensures.value ∙ list_any-IsPermutation (λ span. holds span n) _ _ same ∙ c.in_ok-spans.ensures n))
+    (out_by_alike (λ n. ap (λ spans. in_spans spans n) c.deref.ensures.value
+    ∙ list_any-IsPermutation (λ span. holds span n) _ _ same ∙ c.in_ok-spans.ensures n))
     c.leave_out_spans.ensures

@@ -14,7 +14,8 @@ returns-then-not-is_backed-clause-value g c =
     let test = is_backed (standing all) c.args.pool.now.holds c.args.accounts.now in
     let x = c.entry-item.result in
     let P : MemoryEntry → Type 0 = λ o. (eqb o.areas 0 || test o) ≡ false in
-    sym (all_standing test all ∙ list_all_at (λ o. eqb o.areas 0 || test o) all c.loop-entry.entry-index x c.loop-entry-test.true (subst P c.entry-item.is (sym c.if-not-is_backed.ensures)))
+    sym (all_standing test all ∙ list_all_at (λ o. eqb o.areas 0 || test o) all c.loop-entry.entry-index x
+    c.loop-entry-test.true (subst P c.entry-item.is (sym c.if-not-is_backed.ensures)))
 
 pub loop-entry-preserved : goal.loop-entry-preserved
 loop-entry-preserved g c =
@@ -23,14 +24,17 @@ loop-entry-preserved g c =
     let x = c.entry-item.result in
     let P : MemoryEntry → Type 0 = λ o. (eqb o.areas 0 || test o) ≡ true in
     let here = subst P c.entry-item.is (sym c.if-not-is_backed.ensures) in
-    list_all_more (λ o. eqb o.areas 0 || test o) all c.loop-entry.entry-index x c.loop-entry-test.true ∙ rw (c.loop-entry.invariant, here) refl
+    list_all_more (λ o. eqb o.areas 0 || test o) all c.loop-entry.entry-index x c.loop-entry-test.true
+    ∙ rw (c.loop-entry.invariant, here) refl
 
 pub returns-clause-value : goal.returns-clause-value
 returns-clause-value g c =
     let all = c.args.entries.now in
     let test = is_backed (standing all) c.args.pool.now.holds c.args.accounts.now in
-    let done = ap (list_all (λ o. eqb o.areas 0 || test o)) (take_all c.loop-entry.entry-index all (omega (arith, c.loop-entry-test.false))) in
+    let done = ap (list_all (λ o. eqb o.areas 0 || test o))
+    (take_all c.loop-entry.entry-index all (omega (arith, c.loop-entry-test.false))) in
     sym (all_standing test all ∙ sym done ∙ c.loop-entry.invariant)
 
 pub returns-clause-backed : goal.returns-clause-backed
-returns-clause-backed g c = λ told. backed_told (standing c.args.entries.now) c.args.pool.now.holds c.args.accounts.now (sym (returns-clause-value g c))
+returns-clause-backed g c = λ told. backed_told (standing c.args.entries.now) c.args.pool.now.holds c.args.accounts.now
+    (sym (returns-clause-value g c))

@@ -11,7 +11,9 @@ returns-then-not-is_below g c =
     let test = λ (o : MemoryEntry). ltb o.number c.args.number in
     let x = c.entry-item.result in
     let P : MemoryEntry → Type 0 = λ o. (eqb o.areas 0 || test o) ≡ false in
-    sym (all_standing test c.args.entries.now ∙ list_all_at (λ o. eqb o.areas 0 || test o) c.args.entries.now c.loop-entry.entry-index x c.loop-entry-test.true (subst P c.entry-item.is (sym c.if-not-is_below.ensures)))
+    sym (all_standing test c.args.entries.now
+    ∙ list_all_at (λ o. eqb o.areas 0 || test o) c.args.entries.now c.loop-entry.entry-index x
+    c.loop-entry-test.true (subst P c.entry-item.is (sym c.if-not-is_below.ensures)))
 
 pub loop-entry-preserved : goal.loop-entry-preserved
 loop-entry-preserved g c =
@@ -19,10 +21,12 @@ loop-entry-preserved g c =
     let x = c.entry-item.result in
     let P : MemoryEntry → Type 0 = λ o. (eqb o.areas 0 || test o) ≡ true in
     let here = subst P c.entry-item.is (sym c.if-not-is_below.ensures) in
-    list_all_more (λ o. eqb o.areas 0 || test o) c.args.entries.now c.loop-entry.entry-index x c.loop-entry-test.true ∙ rw (c.loop-entry.invariant, here) refl
+    list_all_more (λ o. eqb o.areas 0 || test o) c.args.entries.now c.loop-entry.entry-index x c.loop-entry-test.true
+    ∙ rw (c.loop-entry.invariant, here) refl
 
 pub returns : goal.returns
 returns g c =
     let test = λ (o : MemoryEntry). ltb o.number c.args.number in
-    let done = ap (list_all (λ o. eqb o.areas 0 || test o)) (take_all c.loop-entry.entry-index c.args.entries.now (omega (arith, c.loop-entry-test.false))) in
+    let done = ap (list_all (λ o. eqb o.areas 0 || test o))
+    (take_all c.loop-entry.entry-index c.args.entries.now (omega (arith, c.loop-entry-test.false))) in
     sym (all_standing test c.args.entries.now ∙ sym done ∙ c.loop-entry.invariant)

@@ -10,5 +10,6 @@ use Rattle.memory_objects.proofs.conditions.pins_on.Goals as goal
 pub returns : goal.returns
 returns g c =
     let f = λ (o : MemoryEntry). times c.args.frame.0 (held_frames o.pages.pages) in
-    let done = ap (sum_by (λ (o : MemoryEntry). cond (eqb o.areas 0) 0 (f o))) (take_all c.loop-entry.entry-index c.args.entries.now (omega (arith, c.loop-entry-test.false))) in
+    let done = ap (sum_by (λ (o : MemoryEntry). cond (eqb o.areas 0) 0 (f o)))
+    (take_all c.loop-entry.entry-index c.args.entries.now (omega (arith, c.loop-entry-test.false))) in
     c.loop-entry.invariant.sum ∙ done ∙ sym (sum_standing f c.args.entries.now)

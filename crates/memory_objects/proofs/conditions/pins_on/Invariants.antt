@@ -7,6 +7,7 @@ use Rattle.memory_objects.proofs.conditions.pins_on.Given as goal
 -- so far
 abbrev pub invariant-loop-entry : goal.invariant-loop-entry
 invariant-loop-entry g l = record {
-  sum : l.sum ≡ sum_by (λ o. cond (eqb o.areas 0) 0 (times l.frame.0 (held_frames o.pages.pages))) (take l.entry-index l.entries);
+  sum : l.sum ≡ sum_by (λ o. cond (eqb o.areas 0) 0 (times l.frame.0 (held_frames o.pages.pages)))
+      (take l.entry-index l.entries);
   few : l.sum ≤ 2 ^ 64 * l.entry-index;
 }

@@ -8,5 +8,7 @@ pub returns-clause-value : goal.returns-clause-value
 returns-clause-value g c =
     let objects = c.args.entries.now in
     let below = λ (o : MemoryEntry). ltb o.number c.args.number in
-    let parts = IsPartitionPoint-from_clause below objects c.partition_point.result c.partition_point.ensures.partitioned (partitioned c.args.number objects c.requires) (λ a r f k. search rules) in
+    let parts = IsPartitionPoint-from_clause below objects c.partition_point.result
+    c.partition_point.ensures.partitioned (partitioned c.args.number objects c.requires)
+    (λ a r f k. search rules) in
     prefix_len-from_within below objects c.partition_point.result c.partition_point.ensures.bound parts.0 parts.1

@@ -9,6 +9,7 @@ returns-then-entries-place-clause-some g c =
     let objects = c.args.entries.now in
     let place = c.dense_place-place.result in
     let x = c.index-entries-place.result in
-    let there = slice_get_read objects (length objects) place x refl c.dense_place-place.ensures c.index-entries-place.is in
+    let there =
+    slice_get_read objects (length objects) place x refl c.dense_place-place.ensures c.index-entries-place.is in
     let same = ap (λ (o : MemoryEntry). o.number) c.index-entries-place.is ∙ c.if-entries-place.true in
     there ∙ sym (found_by_number objects place c.args.number x c.requires there same)

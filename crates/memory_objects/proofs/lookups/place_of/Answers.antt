@@ -12,16 +12,20 @@ pub returns-then-entries-place-eq0-clause-none : goal.returns-then-entries-place
 returns-then-entries-place-eq0-clause-none g c =
     let all = c.args.entries.now in
     let x = c.index-entries-place.result in
-    let there = slice_get_read all (length all) c.in-Some.place x refl c.in-Some.ensures.within c.index-entries-place.is in
+    let there =
+    slice_get_read all (length all) c.in-Some.place x refl c.in-Some.ensures.within c.index-entries-place.is in
     let found : object_at all c.args.number ≡ Some x = sym c.in-Some.ensures.some ∙ there in
-    let none = eq-eqb x.areas 0 (ap (λ (o : MemoryEntry). o.areas) c.index-entries-place.is ∙ c.if-entries-place-eq0.true) in
+    let none =
+    eq-eqb x.areas 0 (ap (λ (o : MemoryEntry). o.areas) c.index-entries-place.is ∙ c.if-entries-place-eq0.true) in
     gone_stands all c.args.number x c.requires found (ap not none)
 
 pub returns-else-entries-place-eq0-clause-some : goal.returns-else-entries-place-eq0-clause-some
 returns-else-entries-place-eq0-clause-some g c =
     let all = c.args.entries.now in
     let x = c.index-entries-place.result in
-    let there = slice_get_read all (length all) c.in-Some.place x refl c.in-Some.ensures.within c.index-entries-place.is in
+    let there =
+    slice_get_read all (length all) c.in-Some.place x refl c.in-Some.ensures.within c.index-entries-place.is in
     let found : object_at all c.args.number ≡ Some x = sym c.in-Some.ensures.some ∙ there in
-    let some = ne_eqb x.areas 0 (λ none. c.if-entries-place-eq0.false (sym (ap (λ (o : MemoryEntry). o.areas) c.index-entries-place.is) ∙ none)) in
+    let some = ne_eqb x.areas 0 (λ none. c.if-entries-place-eq0.false
+    (sym (ap (λ (o : MemoryEntry). o.areas) c.index-entries-place.is) ∙ none)) in
     there ∙ sym (one_stands all c.args.number x found (ap not some))

@@ -6,7 +6,8 @@ use Rattle.memory_objects.proofs.pinning.pin_all.Given as goal
 -- the objects of the numbers so far are pinned, and those of the others can be
 abbrev pub invariant-loop-number : goal.invariant-loop-number
 invariant-loop-number g l = record {
-  entries : (standing l.entries.items) ≡ all_pinned l.users.pages (take l.number-index l.numbers) (standing l.initial.entries.items);
+  entries : (standing l.entries.items) ≡ all_pinned l.users.pages (take l.number-index l.numbers)
+      (standing l.initial.entries.items);
   rising : are_rising l.entries.items ≡ true;
   can : CanPin (standing l.entries.items) (drop l.number-index l.numbers) l.users.pages l.pool.holds l.accounts;
   pool : HoldsMove (standing l.initial.entries.items) (standing l.entries.items) l.initial.pool l.pool;

@@ -23,7 +23,8 @@ unpin_one-requires-clause-pins g c =
     let numbers = c.args.numbers.now in
     let i = c.loop-number.number-index in
     let P : List ℕ → Type 0 = λ ns. have_pins ns (standing c.loop-number.entries.items) ≡ true in
-    pins_first (get_or numbers i 0) (drop (i + 1) numbers) (standing c.loop-number.entries.items) (subst P (drop_more numbers i 0 c.loop-number-test.true) c.loop-number.invariant.pins)
+    pins_first (get_or numbers i 0) (drop (i + 1) numbers) (standing c.loop-number.entries.items)
+    (subst P (drop_more numbers i 0 c.loop-number-test.true) c.loop-number.invariant.pins)
 
 pub loop-number-preserved : goal.loop-number-preserved
 loop-number-preserved g c =
@@ -41,12 +42,18 @@ loop-number-preserved g c =
     let L : List MemoryEntry → Type 0 = λ xs. have_pins (drop (i + 1) numbers) xs ≡ true in
     let R : List MemoryEntry → Type 0 = λ xs. are_rising xs ≡ true in
     record {
-      entries = is ∙ ap (all_unpinned (n ∷ [])) c.loop-number.invariant.entries ∙ unpinned_next objects (take i numbers) n ∙ ap (λ ns. all_unpinned ns objects) (sym (take_more numbers i 0 c.loop-number-test.true));
+      entries = is ∙ ap (all_unpinned (n ∷ [])) c.loop-number.invariant.entries
+          ∙ unpinned_next objects (take i numbers) n
+          ∙ ap (λ ns. all_unpinned ns objects) (sym (take_more numbers i 0 c.loop-number-test.true));
       rising = c.unpin_one.ensures.rising;
       pins = subst L (sym is) (pins_next n (drop (i + 1) numbers) before pins);
-      backed = subst B (sym is) (backed_moved (unpin_at n) (λ o. refl) before c.loop-number.pool c.unpin_one.new.pool c.loop-number.accounts c.unpin_one.new.accounts (subst H is c.unpin_one.ensures.pool) (subst A is c.unpin_one.ensures.accounts) c.loop-number.invariant.backed);
-      pool = holds_further objects before (standing c.unpin_one.new.entries.items) c.args.pool.now c.loop-number.pool c.unpin_one.new.pool c.loop-number.invariant.pool c.unpin_one.ensures.pool;
-      accounts = accounts_further objects before (standing c.unpin_one.new.entries.items) c.args.accounts.now c.loop-number.accounts c.unpin_one.new.accounts c.loop-number.invariant.accounts c.unpin_one.ensures.accounts;
+      backed = subst B (sym is) (backed_moved (unpin_at n) (λ o. refl) before c.loop-number.pool c.unpin_one.new.pool
+          c.loop-number.accounts c.unpin_one.new.accounts (subst H is c.unpin_one.ensures.pool)
+          (subst A is c.unpin_one.ensures.accounts) c.loop-number.invariant.backed);
+      pool = holds_further objects before (standing c.unpin_one.new.entries.items) c.args.pool.now c.loop-number.pool
+          c.unpin_one.new.pool c.loop-number.invariant.pool c.unpin_one.ensures.pool;
+      accounts = accounts_further objects before (standing c.unpin_one.new.entries.items) c.args.accounts.now
+          c.loop-number.accounts c.unpin_one.new.accounts c.loop-number.invariant.accounts c.unpin_one.ensures.accounts;
       len = c.unpin_one.ensures.len ∙ c.loop-number.invariant.len;
       capacity = c.unpin_one.ensures.capacity ∙ c.loop-number.invariant.capacity;
     }

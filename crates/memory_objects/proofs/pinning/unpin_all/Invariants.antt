@@ -6,7 +6,8 @@ use Rattle.memory_objects.proofs.pinning.unpin_all.Given as goal
 -- the objects of the numbers so far are unpinned, and those of the others can be
 abbrev pub invariant-loop-number : goal.invariant-loop-number
 invariant-loop-number g l = record {
-  entries : (standing l.entries.items) ≡ all_unpinned (take l.number-index l.numbers) (standing l.initial.entries.items);
+  entries : (standing l.entries.items) ≡ all_unpinned (take l.number-index l.numbers)
+      (standing l.initial.entries.items);
   rising : are_rising l.entries.items ≡ true;
   pins : have_pins (drop l.number-index l.numbers) (standing l.entries.items) ≡ true;
   backed : AreBacked (standing l.entries.items) l.pool.holds l.accounts;

@@ -10,6 +10,8 @@ returns-then-at-gt0 c =
     let before = get_or numbers (at - 1) 0 in
     let here = get_or numbers at 0 in
     ⊎_elim
-    (λ (same : eqb before here ≡ true). same ∙ sym (repeated numbers at c.requires.within c.if-at-gt0.true (eqb-true before here same)))
-    (λ (differ : eqb before here ≡ false). differ ∙ sym (first_time numbers at c.requires.sorted c.requires.within (λ some. eqb-false before here differ)))
+    (λ (same : eqb before here ≡ true). same
+    ∙ sym (repeated numbers at c.requires.within c.if-at-gt0.true (eqb-true before here same)))
+    (λ (differ : eqb before here ≡ false). differ
+    ∙ sym (first_time numbers at c.requires.sorted c.requires.within (λ some. eqb-false before here differ)))
     (cases_Bool (eqb before here))

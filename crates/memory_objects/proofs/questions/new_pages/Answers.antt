@@ -17,17 +17,26 @@ loop-i-preserved g c =
     let n = get_or numbers i 0 in
     let objects = standing c.args.entries.now in
     let next = ap (new_pages objects) (take_more numbers i 0 c.loop-i-test.true) in
-    let sums = next ∙ one_number_more (take i numbers) n objects (rising_left stands c.args.entries.now c.requires.rising) in
-    let P : Bool → Type 0 = λ b. new_pages objects (take (i + 1) numbers) ≡ new_pages objects (take i numbers) + cond b 0 (new_count_in (object_at objects n)) in
+    let sums =
+    next ∙ one_number_more (take i numbers) n objects (rising_left stands c.args.entries.now c.requires.rising) in
+    let P : Bool → Type 0 = λ b. new_pages objects (take (i + 1) numbers) ≡ new_pages objects (take i numbers)
+    + cond b 0 (new_count_in (object_at objects n)) in
     let told = subst P (sym c.is_repeated.ensures) sums in
     elim c.if-not-is_repeated.branch [
       | then-not-is_repeated w ↦
           let fresh = subst P w.if-not-is_repeated.true told in
-          record { sum = omega (arith, fresh, w.sum-is, w.new_count.ensures.value, c.loop-i.invariant.sum); few = omega (arith, w.sum-is, w.new_count.ensures.few, c.loop-i.invariant.few) }
+          record {
+            sum = omega (arith, fresh, w.sum-is, w.new_count.ensures.value, c.loop-i.invariant.sum);
+            few = omega (arith, w.sum-is, w.new_count.ensures.few, c.loop-i.invariant.few);
+          }
       | else-not-is_repeated w ↦
           let again = subst P w.if-not-is_repeated.false told in
-          record { sum = omega (arith, again, w.sum-is, c.loop-i.invariant.sum); few = omega (arith, w.sum-is, c.loop-i.invariant.few) }
+          record {
+            sum = omega (arith, again, w.sum-is, c.loop-i.invariant.sum);
+            few = omega (arith, w.sum-is, c.loop-i.invariant.few);
+          }
     ]
 
 pub returns : goal.returns
-returns g c = c.loop-i.invariant.sum ∙ ap (new_pages (standing c.args.entries.now)) (take_all c.loop-i.i c.args.numbers.now (omega arith))
+returns g c = c.loop-i.invariant.sum ∙ ap (new_pages (standing c.args.entries.now))
+    (take_all c.loop-i.i c.args.numbers.now (omega arith))

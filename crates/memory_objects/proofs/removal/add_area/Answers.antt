@@ -13,21 +13,29 @@ returns-in-Some-clause-entries g c =
     let all = c.args.entries.now.items in
     let objects = standing all in
     let x = c.index_mut-entry.result.now in
-    let here : slice_get all c.in-Some.place ≡ Some x = slice_get_read all (length all) c.in-Some.place x refl (rw c.deref.ensures.value at c.in-Some.ensures.within) c.index_mut-entry.ensures.value in
-    let found : object_at objects c.args.number ≡ Some x = sym (rw c.deref.ensures.value at c.in-Some.ensures.some) ∙ here in
+    let here : slice_get all c.in-Some.place ≡ Some x =
+    slice_get_read all (length all) c.in-Some.place x refl (rw c.deref.ensures.value at c.in-Some.ensures.within)
+    c.index_mut-entry.ensures.value in
+    let found : object_at objects c.args.number ≡ Some x =
+    sym (rw c.deref.ensures.value at c.in-Some.ensures.some) ∙ here in
     let is = found_stands all c.args.number x found in
     let there = standing_at all c.in-Some.place x here is in
     let y = with_areas (x.areas + 1) x in
     let more : stands y ≡ true = grind (arith, nat_tests) in
-    standing_set all c.in-Some.place x y here is more ∙ area_added objects c.args.number (place_in all c.in-Some.place) x (rising_left stands all c.requires.rising) there found
+    standing_set all c.in-Some.place x y here is more
+    ∙ area_added objects c.args.number (place_in all c.in-Some.place) x
+    (rising_left stands all c.requires.rising) there found
 
 pub returns-in_default-clause-entries : goal.returns-in_default-clause-entries
 returns-in_default-clause-entries g c =
-    no_area_added (standing c.args.entries.now.items) c.args.number (rw c.deref.ensures.value at c.in_default.ensures.none)
+    no_area_added (standing c.args.entries.now.items) c.args.number
+    (rw c.deref.ensures.value at c.in_default.ensures.none)
 
 pub returns-in-Some-clause-rising : goal.returns-in-Some-clause-rising
 returns-in-Some-clause-rising g c =
     let all = c.args.entries.now.items in
     let x = c.index_mut-entry.result.now in
-    let here : slice_get all c.in-Some.place ≡ Some x = slice_get_read all (length all) c.in-Some.place x refl (rw c.deref.ensures.value at c.in-Some.ensures.within) c.index_mut-entry.ensures.value in
+    let here : slice_get all c.in-Some.place ≡ Some x =
+    slice_get_read all (length all) c.in-Some.place x refl (rw c.deref.ensures.value at c.in-Some.ensures.within)
+    c.index_mut-entry.ensures.value in
     rising_set all c.in-Some.place x (with_areas (x.areas + 1) x) c.requires.rising here refl

@@ -15,15 +15,18 @@ loop-number-init g c = record {
 
 pub returns-in_err-reserve_one-clause-objects : goal.returns-in_err-reserve_one-clause-objects
 returns-in_err-reserve_one-clause-objects g c =
-    grows_further (standing c.args.entries.now.items) (standing c.loop-number.entries.items) (standing c.reserve_one.new.entries.items) c.loop-number.invariant.objects c.reserve_one.ensures.objects
+    grows_further (standing c.args.entries.now.items) (standing c.loop-number.entries.items)
+    (standing c.reserve_one.new.entries.items) c.loop-number.invariant.objects c.reserve_one.ensures.objects
 
 pub returns-in_err-reserve_one-clause-err : goal.returns-in_err-reserve_one-clause-err
 returns-in_err-reserve_one-clause-err g c =
     let numbers = c.args.numbers.now in
     let i = c.loop-number.number-index in
     let objects = (standing c.args.entries.now.items) in
-    let lacked = lacked_from objects (standing c.loop-number.entries.items) c.loop-number.invariant.objects (get_or numbers i 0) c.in_err-reserve_one.ensures.err in
-    after_error c.from_residual.result _ (list_all_at (λ n. passes has_memory (object_at objects n)) numbers i 0 c.loop-number-test.true lacked)
+    let lacked = lacked_from objects (standing c.loop-number.entries.items) c.loop-number.invariant.objects
+    (get_or numbers i 0) c.in_err-reserve_one.ensures.err in
+    after_error c.from_residual.result _ (list_all_at (λ n. passes has_memory (object_at objects n)) numbers i 0
+    c.loop-number-test.true lacked)
 
 pub loop-number-preserved : goal.loop-number-preserved
 loop-number-preserved g c =
@@ -31,11 +34,13 @@ loop-number-preserved g c =
     let i = c.loop-number.number-index in
     let before = (standing c.loop-number.entries.items) in
     let after = (standing c.reserve_one.new.entries.items) in
-    let kept = enough_still before after c.reserve_one.ensures.objects (take i numbers) c.loop-number.invariant.memory in
+    let kept =
+    enough_still before after c.reserve_one.ensures.objects (take i numbers) c.loop-number.invariant.memory in
     let all = list_all_more (λ n. passes has_memory (object_at after n)) numbers i 0 c.loop-number-test.true in
     let here : passes has_memory (object_at after (get_or numbers i 0)) ≡ true = c.in_ok-reserve_one.ensures.ok in
     record {
-      objects = grows_further (standing c.args.entries.now.items) before after c.loop-number.invariant.objects c.reserve_one.ensures.objects;
+      objects = grows_further (standing c.args.entries.now.items) before after c.loop-number.invariant.objects
+          c.reserve_one.ensures.objects;
       rising = c.reserve_one.ensures.rising;
       memory = rw (all, kept, here) refl;
       len = c.reserve_one.ensures.len ∙ c.loop-number.invariant.len;

@@ -13,36 +13,49 @@ returns-in-Some-clause-objects g c =
     let all = c.args.entries.now.items in
     let objects = standing all in
     let x = c.index_mut-entry.result.now in
-    let here : slice_get all c.in-Some.place ≡ Some x = slice_get_read all (length all) c.in-Some.place x refl (rw c.deref.ensures.value at c.in-Some.ensures.within) c.index_mut-entry.ensures.value in
-    let found : object_at objects c.args.number ≡ Some x = sym (rw c.deref.ensures.value at c.in-Some.ensures.some) ∙ here in
+    let here : slice_get all c.in-Some.place ≡ Some x =
+    slice_get_read all (length all) c.in-Some.place x refl (rw c.deref.ensures.value at c.in-Some.ensures.within)
+    c.index_mut-entry.ensures.value in
+    let found : object_at objects c.args.number ≡ Some x =
+    sym (rw c.deref.ensures.value at c.in-Some.ensures.some) ∙ here in
     let is = found_stands all c.args.number x found in
     let there = standing_at all c.in-Some.place x here is in
     let y : MemoryEntry = record { number = x.number; areas = x.areas; pages = c.reserve.new.self } in
     let changed = standing_set all c.in-Some.place x y here is is in
     let G : List MemoryEntry → Type 0 = λ xs. MemoryGrows objects xs in
-    subst G (sym changed) (grows_one objects c.args.number (place_in all c.in-Some.place) x c.reserve.new.self (rising_left stands all c.requires) there found c.reserve.ensures.pages c.reserve.ensures.capacity)
+    subst G (sym changed) (grows_one objects c.args.number (place_in all c.in-Some.place) x c.reserve.new.self
+    (rising_left stands all c.requires) there found c.reserve.ensures.pages c.reserve.ensures.capacity)
 
 pub returns-in-Some-clause-ok : goal.returns-in-Some-clause-ok
 returns-in-Some-clause-ok g c =
     let all = c.args.entries.now.items in
     let objects = standing all in
     let x = c.index_mut-entry.result.now in
-    let here : slice_get all c.in-Some.place ≡ Some x = slice_get_read all (length all) c.in-Some.place x refl (rw c.deref.ensures.value at c.in-Some.ensures.within) c.index_mut-entry.ensures.value in
-    let found : object_at objects c.args.number ≡ Some x = sym (rw c.deref.ensures.value at c.in-Some.ensures.some) ∙ here in
+    let here : slice_get all c.in-Some.place ≡ Some x =
+    slice_get_read all (length all) c.in-Some.place x refl (rw c.deref.ensures.value at c.in-Some.ensures.within)
+    c.index_mut-entry.ensures.value in
+    let found : object_at objects c.args.number ≡ Some x =
+    sym (rw c.deref.ensures.value at c.in-Some.ensures.some) ∙ here in
     let is = found_stands all c.args.number x found in
     let there = standing_at all c.in-Some.place x here is in
     let y : MemoryEntry = record { number = x.number; areas = x.areas; pages = c.reserve.new.self } in
     let changed = standing_set all c.in-Some.place x y here is is in
     let E : List MemoryEntry → Type 0 = λ xs. passes has_memory (object_at xs c.args.number) ≡ true in
-    on_ok_weaker c.reserve.result (λ enough. subst E (sym changed) (enough_now objects c.args.number (place_in all c.in-Some.place) x c.reserve.new.self (rising_left stands all c.requires) there found c.reserve.ensures.pages c.reserve.ensures.capacity enough)) c.reserve.ensures.ok
+    on_ok_weaker c.reserve.result (λ enough. subst E (sym changed)
+    (enough_now objects c.args.number (place_in all c.in-Some.place) x c.reserve.new.self
+    (rising_left stands all c.requires) there found c.reserve.ensures.pages c.reserve.ensures.capacity
+    enough)) c.reserve.ensures.ok
 
 pub returns-in-Some-clause-err : goal.returns-in-Some-clause-err
 returns-in-Some-clause-err g c =
     let all = c.args.entries.now.items in
     let objects = standing all in
     let x = c.index_mut-entry.result.now in
-    let here : slice_get all c.in-Some.place ≡ Some x = slice_get_read all (length all) c.in-Some.place x refl (rw c.deref.ensures.value at c.in-Some.ensures.within) c.index_mut-entry.ensures.value in
-    let found : object_at objects c.args.number ≡ Some x = sym (rw c.deref.ensures.value at c.in-Some.ensures.some) ∙ here in
+    let here : slice_get all c.in-Some.place ≡ Some x =
+    slice_get_read all (length all) c.in-Some.place x refl (rw c.deref.ensures.value at c.in-Some.ensures.within)
+    c.index_mut-entry.ensures.value in
+    let found : object_at objects c.args.number ≡ Some x =
+    sym (rw c.deref.ensures.value at c.in-Some.ensures.some) ∙ here in
     let is = found_stands all c.args.number x found in
     let there = standing_at all c.in-Some.place x here is in
     on_err_weaker c.reserve.result (lacked_before objects c.args.number x found) c.reserve.ensures.full
@@ -54,5 +67,11 @@ pub returns-in-Some-clause-rising : goal.returns-in-Some-clause-rising
 returns-in-Some-clause-rising g c =
     let all = c.args.entries.now.items in
     let x = c.index_mut-entry.result.now in
-    let here : slice_get all c.in-Some.place ≡ Some x = slice_get_read all (length all) c.in-Some.place x refl (rw c.deref.ensures.value at c.in-Some.ensures.within) c.index_mut-entry.ensures.value in
-    rising_set all c.in-Some.place x (record { number = x.number; areas = x.areas; pages = c.reserve.new.self }) c.requires here refl
+    let here : slice_get all c.in-Some.place ≡ Some x =
+    slice_get_read all (length all) c.in-Some.place x refl (rw c.deref.ensures.value at c.in-Some.ensures.within)
+    c.index_mut-entry.ensures.value in
+    rising_set all c.in-Some.place x (record {
+      number = x.number;
+      areas = x.areas;
+      pages = c.reserve.new.self;
+    }) c.requires here refl

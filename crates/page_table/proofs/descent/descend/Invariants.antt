@@ -12,7 +12,9 @@ invariant-loop-reached g l = record {
   down : l.reached.level ≤ l.fn.from.level;
   rights : l.reached.rights.0 ≡ 3;
   through : GoesThrough l.pool l.reached.level l.page l.reached.frame;
-  at : (levels : ℕ) (root : FrameNo) (rows : List TableRow) (pages : List MappedPage) → Stands l.pool levels root rows pages → table_at rows l.fn.from.level l.page ≡ Some l.fn.from.frame → table_at rows l.reached.level l.page ≡ Some l.reached.frame;
+  at : (levels : ℕ) (root : FrameNo) (rows : List TableRow) (pages : List MappedPage)
+      → Stands l.pool levels root rows pages → table_at rows l.fn.from.level l.page ≡ Some l.fn.from.frame
+      → table_at rows l.reached.level l.page ≡ Some l.reached.frame;
 }
 
 abbrev pub decreases-loop-reached : goal.decreases-loop-reached

@@ -13,14 +13,18 @@ unfolding entry_at
 returns g c =
     let old = c.args.pool.now in
     let frame = c.unwrap-frame.result in
-    let least : least_free old.holds ≡ Some frame.0 = taken_least old.holds c.take.result frame c.take.ensures.least c.take.ensures.refused c.unwrap-frame.ensures in
+    let least : least_free old.holds ≡ Some frame.0 =
+    taken_least old.holds c.take.result frame c.take.ensures.least c.take.ensures.refused c.unwrap-frame.ensures in
     let taken : c.take.new.self ≡ given old frame.0 = rw c.unwrap-frame.ensures at c.take.ensures.ok in
     record {
       least = least;
       small = search rules;
       holds = c.write.ensures.holds ∙ ap (λ (pool : FramePool). pool.holds) taken;
       entry = c.write.ensures.entry ∙ c.to.ensures;
-      empty = λ i small. c.write.ensures.others frame.0 i (inl (other_frame old.holds frame.0 c.args.table.0 least c.requires.held)) ∙ (rw c.unwrap-frame.ensures at c.take.ensures.zero) i small;
+      empty = λ i small. c.write.ensures.others frame.0 i
+          (inl (other_frame old.holds frame.0 c.args.table.0 least c.requires.held))
+          ∙ (rw c.unwrap-frame.ensures at c.take.ensures.zero) i small;
       others = λ f i held apart. c.write.ensures.others f i apart ∙ c.take.ensures.others f i held;
-      bytes = λ f not_table not_frame. c.write.ensures.bytes f not_table ∙ ap (λ (pool : FramePool). bytes_of pool f) taken ∙ get_or-set_other old.bytes frame.0 f zeros [] not_frame;
+      bytes = λ f not_table not_frame. c.write.ensures.bytes f not_table
+          ∙ ap (λ (pool : FramePool). bytes_of pool f) taken ∙ get_or-set_other old.bytes frame.0 f zeros [] not_frame;
     }

@@ -1,47 +1,62 @@
 use Rattle.std.proofs.Common.{◌≡◌, ℕ, sym, ◌∙◌, ap, arith}
 use Rattle.std.specs.List.{count_by}
-use Rattle.page_table.proofs.Parting.{absent_counted, count_all, count_next, count_none, cut_before, idle_counted, last_counted, number_fits, sum_fits, wanted_counted}
+use Rattle.page_table.proofs.Parting.{absent_counted, count_all, count_next, count_none, cut_before, idle_counted}
+use Rattle.page_table.proofs.Parting.{last_counted, number_fits, sum_fits, wanted_counted}
 use Rattle.table_words.proofs.RowsUnder.{child_page}
 use Rattle.table_words.proofs.Visiting.{entry_small, holds_within, next_holds}
 use Rattle.page_table.proofs.Wanted.{child_found, child_none, child_place, unwanted, wanted}
 use Rattle.page_table.proofs.prune.+count_idle.Goals as goal
-use Rattle.page_table.proofs.prune.+count_idle.Goals.{then-is_present+then-is_idle, then-is_present+else-is_idle, else-is_present}
+use Rattle.page_table.proofs.prune.+count_idle.Goals.{then-is_present+then-is_idle, then-is_present+else-is_idle}
+use Rattle.page_table.proofs.prune.+count_idle.Goals.{else-is_present}
 
 pub returns-then-level-eq1-clause-idle : goal.returns-then-level-eq1-clause-idle
-returns-then-level-eq1-clause-idle g t c = λ levels root rows pages page stands at number. sym (last_counted c.args.pool.now levels root rows pages stands c.args.kept.now c.args.level page c.if-level-eq1.true)
+returns-then-level-eq1-clause-idle g t c =
+    λ levels root rows pages page stands at number. sym
+    (last_counted c.args.pool.now levels root rows pages stands c.args.kept.now c.args.level page c.if-level-eq1.true)
 
 pub loop-index-init : goal.loop-index-init
 loop-index-init g t c = record {
   small = omega arith;
-  idle = λ levels root rows pages page stands at number. sym (count_none levels pages c.args.kept.now c.args.level page rows);
+  idle = λ levels root rows pages page stands at number. sym
+      (count_none levels pages c.args.kept.now c.args.level page rows);
 }
 
 pub at-entry-requires-clause-frame : goal.at-entry-requires-clause-frame
 at-entry-requires-clause-frame g t c = holds_within c.args.pool.now c.args.level c.args.table c.requires.table
 
 pub frame-next-requires : goal.frame-next-requires
-frame-next-requires g t c = entry_small c.args.pool.now c.args.level c.args.table c.requires.table (omega arith) c.loop-index.index (omega arith) c.at-entry.result.0 c.at-entry.ensures
+frame-next-requires g t c = entry_small c.args.pool.now c.args.level c.args.table c.requires.table (omega arith)
+    c.loop-index.index (omega arith) c.at-entry.result.0 c.at-entry.ensures
 
 pub is_idle-requires-clause-table : goal.is_idle-requires-clause-table
-is_idle-requires-clause-table g t c = next_holds c.args.pool.now c.args.level c.args.table c.requires.table (omega arith) c.loop-index.index (omega arith) c.at-entry.result.0 c.at-entry.ensures c.frame-next.result (sym c.if-is_present.ensures) c.frame-next.ensures
+is_idle-requires-clause-table g t c = next_holds c.args.pool.now c.args.level c.args.table c.requires.table
+    (omega arith) c.loop-index.index (omega arith) c.at-entry.result.0 c.at-entry.ensures c.frame-next.result
+    (sym c.if-is_present.ensures) c.frame-next.ensures
 
 pub count-total-requires-clause-table : goal.count-total-requires-clause-table
-count-total-requires-clause-table g t c = next_holds c.args.pool.now c.args.level c.args.table c.requires.table (omega arith) c.loop-index.index (omega arith) c.at-entry.result.0 c.at-entry.ensures c.frame-next.result (sym c.if-is_present.ensures) c.frame-next.ensures
+count-total-requires-clause-table g t c =
+    next_holds c.args.pool.now c.args.level c.args.table c.requires.table (omega arith) c.loop-index.index (omega arith)
+    c.at-entry.result.0 c.at-entry.ensures c.frame-next.result (sym c.if-is_present.ensures) c.frame-next.ensures
 
 pub overflow_add-total : goal.overflow_add-total
 overflow_add-total g t c =
-    let fits = sum_fits c.args.level c.loop-index.total c.loop-index.index c.count-total.result c.requires.few (omega arith) c.loop-index.invariant.small c.count-total.ensures.small in
+    let fits = sum_fits c.args.level c.loop-index.total c.loop-index.index c.count-total.result c.requires.few
+    (omega arith) c.loop-index.invariant.small c.count-total.ensures.small in
     omega (arith, fits)
 
 pub count_idle-total-requires : goal.count_idle-total-requires
 count_idle-total-requires g t c κs within =
-    let next = next_holds c.args.pool.now c.args.level c.args.table c.requires.table (omega arith) c.loop-index.index (omega arith) c.at-entry.result.0 c.at-entry.ensures c.frame-next.result (sym c.if-is_present.ensures) c.frame-next.ensures in
-    let fits = number_fits c.args.level c.args.number c.loop-index.index (omega arith) c.requires.few (omega arith) c.requires.within in
+    let next = next_holds c.args.pool.now c.args.level c.args.table c.requires.table (omega arith) c.loop-index.index
+    (omega arith) c.at-entry.result.0 c.at-entry.ensures c.frame-next.result
+    (sym c.if-is_present.ensures) c.frame-next.ensures in
+    let fits = number_fits c.args.level c.args.number c.loop-index.index (omega arith) c.requires.few
+    (omega arith) c.requires.within in
     (omega arith, (within, (omega arith, (omega arith, (fits.0, next)))))
 
 pub overflow_add-total-else-is_idle : goal.overflow_add-total-else-is_idle
 overflow_add-total-else-is_idle g t c =
-    let fits = sum_fits c.args.level c.loop-index.total c.loop-index.index c.count_idle-total.result c.requires.few (omega arith) c.loop-index.invariant.small c.count_idle-total.ensures.small in
+    let fits = sum_fits c.args.level c.loop-index.total c.loop-index.index c.count_idle-total.result c.requires.few
+    (omega arith) c.loop-index.invariant.small c.count_idle-total.ensures.small in
     omega (arith, fits)
 
 pub loop-index-preserved : goal.loop-index-preserved
@@ -54,31 +69,66 @@ loop-index-preserved g t c =
       | then-is_present+then-is_idle w ↦ record {
         small = omega (arith, w.count-total.ensures.small, w.total-is, c.loop-index.invariant.small);
         idle = λ levels root rows pages page stands at number.
-            let found = child_found pool levels root rows pages stands level page n c.args.table (omega arith) (omega arith) at c.at-entry.result.0 c.at-entry.ensures w.frame-next.result (sym w.if-is_present.ensures) w.frame-next.ensures in
+            let found = child_found pool levels root rows pages stands level page n c.args.table (omega arith)
+            (omega arith) at c.at-entry.result.0 c.at-entry.ensures w.frame-next.result
+            (sym w.if-is_present.ensures) w.frame-next.ensures in
             let place = child_place level page n c.args.number number in
             let answer = w.is_idle.ensures levels root rows pages (child_page level page n) stands found place in
-            let idle = unwanted pages kept level page n c.args.number w.is_idle.result number answer w.if-is_idle.true in
-            omega (arith, w.total-is, w.count-total.ensures.value, idle_counted pool levels root rows pages stands kept level page n c.args.table (omega arith) at w.frame-next.result found idle, c.loop-index.invariant.idle levels root rows pages page stands at number, count_next levels pages kept level page n (omega arith) (omega arith) rows);
+            let idle =
+            unwanted pages kept level page n c.args.number w.is_idle.result number answer w.if-is_idle.true in
+            omega (
+              arith,
+              w.total-is,
+              w.count-total.ensures.value,
+              idle_counted pool levels root rows pages stands kept level page n c.args.table (omega arith) at
+                  w.frame-next.result found idle,
+              c.loop-index.invariant.idle levels root rows pages page stands at
+                  number,
+              count_next levels pages kept level page n (omega arith) (omega arith) rows,
+            );
       }
       | then-is_present+else-is_idle w ↦ record {
         small = omega (arith, w.count_idle-total.ensures.small, w.total-is, c.loop-index.invariant.small);
         idle = λ levels root rows pages page stands at number.
-            let found = child_found pool levels root rows pages stands level page n c.args.table (omega arith) (omega arith) at c.at-entry.result.0 c.at-entry.ensures w.frame-next.result (sym w.if-is_present.ensures) w.frame-next.ensures in
+            let found = child_found pool levels root rows pages stands level page n c.args.table (omega arith)
+            (omega arith) at c.at-entry.result.0 c.at-entry.ensures w.frame-next.result
+            (sym w.if-is_present.ensures) w.frame-next.ensures in
             let place = child_place level page n c.args.number number in
             let answer = w.is_idle.ensures levels root rows pages (child_page level page n) stands found place in
-            let needed = wanted pages kept level page n c.args.number w.is_idle.result number answer w.if-is_idle.false in
-            let below = w.count_idle-total.ensures.idle levels root rows pages (child_page level page n) stands found place in
-            omega (arith, w.total-is, below, wanted_counted pool levels root rows pages stands kept level page n c.args.table (omega arith) at needed, c.loop-index.invariant.idle levels root rows pages page stands at number, count_next levels pages kept level page n (omega arith) (omega arith) rows);
+            let needed =
+            wanted pages kept level page n c.args.number w.is_idle.result number answer w.if-is_idle.false in
+            let below =
+            w.count_idle-total.ensures.idle levels root rows pages (child_page level page n) stands found place in
+            omega (
+              arith,
+              w.total-is,
+              below,
+              wanted_counted pool levels root rows pages stands kept level page n
+                  c.args.table (omega arith) at needed,
+              c.loop-index.invariant.idle levels root rows pages page stands
+                  at number,
+              count_next levels pages kept level page n (omega arith) (omega arith) rows,
+            );
       }
       | else-is_present w ↦ record {
         small = omega (arith, w.total-is, c.loop-index.invariant.small);
         idle = λ levels root rows pages page stands at number.
-            let none = child_none pool levels root rows pages stands level page n c.args.table (omega arith) (omega arith) at c.at-entry.result.0 c.at-entry.ensures (sym w.if-is_present.ensures) in
-            omega (arith, w.total-is, absent_counted pool levels root rows pages stands kept level page n c.args.table (omega arith) at none, c.loop-index.invariant.idle levels root rows pages page stands at number, count_next levels pages kept level page n (omega arith) (omega arith) rows);
+            let none = child_none pool levels root rows pages stands level page n c.args.table (omega arith)
+            (omega arith) at c.at-entry.result.0 c.at-entry.ensures (sym w.if-is_present.ensures) in
+            omega (
+              arith,
+              w.total-is,
+              absent_counted pool levels root rows pages stands kept level page n c.args.table
+                  (omega arith) at none,
+              c.loop-index.invariant.idle levels root rows pages page stands at number,
+              count_next levels pages kept level page n (omega arith) (omega arith) rows,
+            );
       }
     ]
 
 pub returns-clause-idle : goal.returns-clause-idle
 returns-clause-idle g t c = λ levels root rows pages page stands at number.
     let end : c.loop-index.index ≡ 512 = omega arith in
-    c.loop-index.invariant.idle levels root rows pages page stands at number ∙ ap (λ (n : ℕ). count_by (cut_before levels pages c.args.kept.now c.args.level page n) rows) end ∙ count_all levels pages c.args.kept.now c.args.level page rows
+    c.loop-index.invariant.idle levels root rows pages page stands at number
+    ∙ ap (λ (n : ℕ). count_by (cut_before levels pages c.args.kept.now c.args.level page n) rows) end
+    ∙ count_all levels pages c.args.kept.now c.args.level page rows

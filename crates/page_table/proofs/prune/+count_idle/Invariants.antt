@@ -14,5 +14,8 @@ decreases-count_idle g l = l.level
 abbrev pub invariant-loop-index : goal.invariant-loop-index
 invariant-loop-index g l = record {
   small : l.total ≤ 1 + l.index * 1000 ^ (l.level - 1);
-  idle : (levels : ℕ) (root : FrameNo) (rows : List TableRow) (pages : List MappedPage) (page : ℕ) → Stands l.pool levels root rows pages → table_at rows l.level page ≡ Some l.table → l.number ≡ number_at l.level page → l.total ≡ count_by (cut_before levels pages l.kept l.level page l.index) rows;
+  idle : (levels : ℕ) (root : FrameNo) (rows : List TableRow) (pages : List MappedPage) (page : ℕ)
+      → Stands l.pool levels root rows pages → table_at rows l.level page ≡ Some l.table
+      → l.number ≡ number_at l.level page → l.total ≡ count_by
+      (cut_before levels pages l.kept l.level page l.index) rows;
 }

@@ -15,5 +15,8 @@ invariant-loop-index g l = record {
   holds : l.pool.holds ≡ l.fn.pool.holds;
   len : vec_len l.fn.out ≤ vec_len l.out;
   capacity : vec_capacity l.out ≡ vec_capacity l.fn.out;
-  cut : (levels : ℕ) (root : FrameNo) (rows : List TableRow) (pages : List MappedPage) (page : ℕ) → Stands l.fn.pool levels root rows pages → table_at rows l.level page ≡ Some l.table → l.number ≡ number_at l.level page → CutsBefore l.fn.pool l.pool levels root rows pages l.kept l.level page l.index l.table l.fn.out.items l.out.items;
+  cut : (levels : ℕ) (root : FrameNo) (rows : List TableRow) (pages : List MappedPage) (page : ℕ)
+      → Stands l.fn.pool levels root rows pages → table_at rows l.level page ≡ Some l.table
+      → l.number ≡ number_at l.level page → CutsBefore l.fn.pool l.pool levels root rows pages l.kept l.level page
+      l.index l.table l.fn.out.items l.out.items;
 }

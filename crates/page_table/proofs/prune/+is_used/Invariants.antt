@@ -11,4 +11,6 @@ decreases-is_used g l = l.level
 
 -- no mapped page goes through the entries so far
 abbrev pub invariant-loop-index : goal.invariant-loop-index
-invariant-loop-index g l = (levels : ℕ) (root : FrameNo) (rows : List TableRow) (pages : List MappedPage) (page : ℕ) → Stands l.pool levels root rows pages → table_at rows l.level page ≡ Some l.table → used_before pages l.level (number_at l.level page) l.index ≡ false
+invariant-loop-index g l = (levels : ℕ) (root : FrameNo) (rows : List TableRow) (pages : List MappedPage) (page : ℕ)
+    → Stands l.pool levels root rows pages → table_at rows l.level page ≡ Some l.table
+    → used_before pages l.level (number_at l.level page) l.index ≡ false

@@ -12,8 +12,10 @@ abbrev pub invariant-loop-index : goal.invariant-loop-index
 invariant-loop-index g l = record {
   within : l.index ≤ 512;
   present : l.index < 512 → entry_at l.pool l.table.0 l.index % 4 ≢ 0;
-  items : l.out.items ≡ l.fn.out.items ++ l.table ∷ flat_map (frames_of_entry l.pool (l.level - 1 - 1) l.table) (range_with_len 0 l.index);
-  len : vec_len l.out ≡ vec_len l.fn.out + 1 + length (flat_map (frames_of_entry l.pool (l.level - 1 - 1) l.table) (range_with_len 0 l.index));
+  items : l.out.items ≡ l.fn.out.items ++ l.table ∷ flat_map (frames_of_entry l.pool (l.level - 1 - 1) l.table)
+      (range_with_len 0 l.index);
+  len : vec_len l.out ≡ vec_len l.fn.out + 1
+      + length (flat_map (frames_of_entry l.pool (l.level - 1 - 1) l.table) (range_with_len 0 l.index));
   capacity : vec_capacity l.out ≡ vec_capacity l.fn.out;
 }
 

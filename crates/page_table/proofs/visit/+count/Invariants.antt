@@ -12,7 +12,8 @@ abbrev pub invariant-loop-index : goal.invariant-loop-index
 invariant-loop-index g l = record {
   within : l.index ≤ 512;
   present : l.index < 512 → entry_at l.pool l.table.0 l.index % 4 ≢ 0;
-  counted : l.total ≡ 1 + length (flat_map (frames_of_entry l.pool (l.level - 1 - 1) l.table) (range_with_len 0 l.index));
+  counted : l.total ≡ 1 + length (flat_map (frames_of_entry l.pool (l.level - 1 - 1) l.table)
+      (range_with_len 0 l.index));
   small : l.total ≤ 1 + l.index * 1000 ^ (l.level - 1);
 }
 

@@ -7,7 +7,8 @@ pub map-requires-clause-table : goal.map-requires-clause-table
 map-requires-clause-table c =
     let is = c.requires in
     let counted = c.needs-needs.ensures is.rows is.pages is.stands in
-    let pages = ap (λ (ps : List ℕ). length (lacked is.rows (levels_of c.args.table.now.width) ps)) c.in-Some.ensures.pages in
+    let pages =
+    ap (λ (ps : List ℕ). length (lacked is.rows (levels_of c.args.table.now.width) ps)) c.in-Some.ensures.pages in
     record {
       rows = is.rows;
       mapped = is.pages;

@@ -7,4 +7,5 @@ use Rattle.object_table.proofs.Callers.{YieldsList-from_objects}
 use Rattle.server_state.proofs.lookups.automatic_object.Goals as goal
 
 pub returns : goal.returns
-returns g c = find_from_yields_List (λ row. is_automatic_over c.args.ioas c.args.width (kind_in row.value)) _ _ _ c.find.ensures.ran (YieldsList-from_objects _ c.iter.ensures) (λ x b q k. search (rules, tests))
+returns g c = find_from_yields_List (λ row. is_automatic_over c.args.ioas c.args.width (kind_in row.value)) _ _ _
+    c.find.ensures.ran (YieldsList-from_objects _ c.iter.ensures) (λ x b q k. search (rules, tests))

@@ -6,5 +6,6 @@ use Rattle.server_state.proofs.usable.is_keeper.Goals as goal
 
 pub returns-then-is_attached_to : goal.returns-then-is_attached_to
 returns-then-is_attached_to g c =
-    let some = some_found (λ one. meets one c.args.span) (reserved_of (device_of c.args.config.now c.args.attachment.now.device)) c.kept_by.result c.kept_by.ensures in
+    let some = some_found (λ one. meets one c.args.span)
+    (reserved_of (device_of c.args.config.now c.args.attachment.now.device)) c.kept_by.result c.kept_by.ensures in
     rw (← c.is_attached_to.ensures, c.if-is_attached_to.true, some) c.is_some.ensures

@@ -16,7 +16,9 @@ loop-page-preserved g c =
       holds = c.clear.ensures.holds ∙ inv.holds;
       cleared = λ rows pages stands.
           let is = inv.cleared rows pages stands in
-          cleared_more c.args.pool.now c.loop-page.pool c.clear.new.pool c.args.table.now rows pages c.args.first_page (c.loop-page.page - c.args.first_page) c.loop-page.page (c.loop-page.page + 1 - c.args.first_page) is (omega arith) (omega arith)
+          cleared_more c.args.pool.now c.loop-page.pool c.clear.new.pool c.args.table.now rows pages c.args.first_page
+          (c.loop-page.page - c.args.first_page) c.loop-page.page (c.loop-page.page + 1 - c.args.first_page) is
+          (omega arith) (omega arith)
           ((rw (c.clear.ensures.same, inv.table) at c.clear.ensures.table) rows is.cleared is.becomes.stands);
     }
 
@@ -30,4 +32,5 @@ pub returns-clause-cleared : goal.returns-clause-cleared
 returns-clause-cleared g c = λ rows pages stands others clears.
     let inv = c.loop-page.invariant in
     let all : c.loop-page.page - c.args.first_page ≡ c.args.count = omega arith in
-    rw inv.table (cleared_alike c.args.pool.now c.loop-page.pool c.args.table.now rows pages others c.args.first_page c.args.count (rw all at inv.cleared rows pages stands) clears)
+    rw inv.table (cleared_alike c.args.pool.now c.loop-page.pool c.args.table.now rows pages others c.args.first_page
+    c.args.count (rw all at inv.cleared rows pages stands) clears)

@@ -9,5 +9,6 @@ abbrev pub invariant-loop-page : goal.invariant-loop-page
 invariant-loop-page g l = record {
   table : l.table ≡ l.fn.table;
   holds : l.pool.holds ≡ l.fn.pool.holds;
-  cleared : (rows : List TableRow) (pages : List MappedPage) → TableStands l.fn.pool l.fn.table rows pages → IsCleared l.fn.pool l.pool l.fn.table rows pages l.first_page (l.page - l.first_page);
+  cleared : (rows : List TableRow) (pages : List MappedPage) → TableStands l.fn.pool l.fn.table rows pages
+      → IsCleared l.fn.pool l.pool l.fn.table rows pages l.first_page (l.page - l.first_page);
 }

@@ -11,5 +11,7 @@ invariant-loop-frame g l = record {
   page : l.page ≡ l.first_page + l.frame-index;
   table : l.table ≡ l.fn.table;
   capacity : vec_capacity l.out ≡ vec_capacity l.fn.out;
-  mapped : (rows : List TableRow) (pages : List MappedPage) → TableStands l.fn.pool l.fn.table rows pages → IsMapped l.fn.pool l.pool l.fn.table rows pages l.first_page (take l.frame-index l.frames) l.rights l.fn.out.items l.out.items;
+  mapped : (rows : List TableRow) (pages : List MappedPage) → TableStands l.fn.pool l.fn.table rows pages
+      → IsMapped l.fn.pool l.pool l.fn.table rows pages l.first_page (take l.frame-index l.frames) l.rights
+      l.fn.out.items l.out.items;
 }

@@ -12,7 +12,8 @@ use Rattle.table_spans.proofs.needing.tables_at.Goals as goal
 pub overflow_add-next : goal.overflow_add-next
 overflow_add-next g c =
     let span = c.in-Some.area.now.span in
-    let last = next_number c.args.level c.number-next.result c.last.result span.last c.number-next.ensures c.last.ensures.value in
+    let last = next_number c.args.level c.number-next.result c.last.result span.last
+    c.number-next.ensures c.last.ensures.value in
     let small = number_small c.args.level span.last (omega (arith, c.last.ensures.value, c.last.type_inv)) in
     omega (arith, last, small)
 
@@ -23,7 +24,8 @@ overflow_sub-total g c =
     let inv = c.loop-area.invariant in
     let apart = rw c.in-Some.ensures.steps at inv.apart in
     let first = next_number level c.number.result c.first.result span.first c.number.ensures c.first.ensures.value in
-    let last = next_number level c.number-next.result c.last.result span.last c.number-next.ensures c.last.ensures.value in
+    let last =
+    next_number level c.number-next.result c.last.result span.last c.number-next.ensures c.last.ensures.value in
     let grown = number_grows level span.first span.last apart.1 in
     let begin = number_grows level inv.low span.first apart.0 in
     let near = inv.near in
@@ -32,7 +34,8 @@ overflow_sub-total g c =
 pub overflow_add-total : goal.overflow_add-total
 overflow_add-total g c =
     let span = c.in-Some.area.now.span in
-    let last = next_number c.args.level c.number-next.result c.last.result span.last c.number-next.ensures c.last.ensures.value in
+    let last = next_number c.args.level c.number-next.result c.last.result span.last
+    c.number-next.ensures c.last.ensures.value in
     let small = number_small c.args.level span.last (omega (arith, c.last.ensures.value, c.last.type_inv)) in
     let few = c.loop-area.invariant.few in
     let bound = c.loop-area.invariant.bound in
@@ -49,14 +52,17 @@ loop-area-preserved-then-is_live g c =
     let whole = rw c.in-Some.ensures.steps at inv.whole in
     let live : is_live area.phase ≡ true = sym c.is_live.ensures ∙ c.if-is_live.true in
     let first = next_number level c.number.result c.first.result span.first c.number.ensures c.first.ensures.value in
-    let last = next_number level c.number-next.result c.last.result span.last c.number-next.ensures c.last.ensures.value in
+    let last =
+    next_number level c.number-next.result c.last.result span.last c.number-next.ensures c.last.ensures.value in
     let small = number_small level span.last (omega (arith, c.last.ensures.value, c.last.type_inv)) in
     let grown = number_grows level span.first span.last apart.1 in
     let begin = number_grows level inv.low span.first apart.0 in
     let near = inv.near in
     let few = inv.few in
-    let sum : c.loop-area.total + lacked_at (or_before nothing level c.loop-area.next) (live_pages (area ∷ rest)) level ≡ lacked_at nothing (live_pages c.args.areas) level =
-    ap (λ (areas : List Area). c.loop-area.total + lacked_at (or_before nothing level c.loop-area.next) (live_pages areas) level) (sym c.in-Some.ensures.steps) ∙ inv.value in
+    let sum : c.loop-area.total + lacked_at (or_before nothing level c.loop-area.next) (live_pages (area ∷ rest))
+    level ≡ lacked_at nothing (live_pages c.args.areas) level =
+    ap (λ (areas : List Area). c.loop-area.total + lacked_at (or_before nothing level c.loop-area.next)
+    (live_pages areas) level) (sym c.in-Some.ensures.steps) ∙ inv.value in
     let more = area_more level inv.low c.loop-area.next area rest apart whole inv.near live in
     let later = ap (λ (n : ℕ). lacked_at (or_before nothing level (n + 1)) (live_pages rest) level) last in
     record {
@@ -87,5 +93,6 @@ loop-area-preserved g c =
       near = omega (arith, near, number_grows level inv.low (span.last + 1) (omega (arith, apart.0, apart.1)));
       few = inv.few;
       bound = inv.bound;
-      value = ap (λ (pages : List ℕ). c.loop-area.total + lacked_at (or_before nothing level c.loop-area.next) pages level) (sym (ap live_pages c.in-Some.ensures.steps ∙ leaving_first area rest leaving)) ∙ inv.value;
+      value = ap (λ (pages : List ℕ). c.loop-area.total + lacked_at (or_before nothing level c.loop-area.next) pages
+          level) (sym (ap live_pages c.in-Some.ensures.steps ∙ leaving_first area rest leaving)) ∙ inv.value;
     }

@@ -17,5 +17,6 @@ invariant-loop-area g l = record {
   near : l.next ≤ number_at l.level (page_of low) + 1;
   few : l.total ≤ l.next;
   bound : l.next ≤ 2 ^ 52;
-  value : l.total + lacked_at (or_before nothing l.level l.next) (live_pages l.area-iterator) l.level ≡ lacked_at nothing (live_pages l.fn.areas) l.level;
+  value : l.total + lacked_at (or_before nothing l.level l.next) (live_pages l.area-iterator) l.level ≡ lacked_at
+      nothing (live_pages l.fn.areas) l.level;
 }

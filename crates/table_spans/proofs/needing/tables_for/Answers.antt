@@ -15,8 +15,11 @@ loop-level-preserved g c =
     let level = c.loop-level.level in
     let small = c.loop-level.invariant.small in
     let value = c.loop-level.invariant.value in
-    let here = c.tables_at-total.ensures.value ∙ ap (λ (list : List Area). lacked_at nothing (live_pages list) level) c.iter.ensures.areas in
-    let more = sum_range_more (lacked_at nothing (live_pages areas)) level (sum_by (lacked_at nothing (live_pages areas)) (range_with_len 1 (level - 1))) c.tables_at-total.result (omega arith) refl here in
+    let here = c.tables_at-total.ensures.value
+    ∙ ap (λ (list : List Area). lacked_at nothing (live_pages list) level) c.iter.ensures.areas in
+    let more = sum_range_more (lacked_at nothing (live_pages areas)) level
+    (sum_by (lacked_at nothing (live_pages areas)) (range_with_len 1 (level - 1))) c.tables_at-total.result
+    (omega arith) refl here in
     record {
       small = omega (arith, small, c.tables_at-total.ensures.small);
       value = omega (arith, value, more);

@@ -8,4 +8,7 @@ pub invariant_of-result : goal.invariant_of-result
 invariant_of-result g c =
     let made = c.in_ok-memory.ensures in
     let P : FramePool → Type 0 = λ pool. Told c.in_ok-memory.memory pool.holds nothing nothing 0 in
-    record { told = subst P (sym c.in_ok-pool.ensures) (told_opened c.in_ok-memory.memory c.args.count made.pages made.limits made.objects) }
+    record {
+      told = subst P (sym c.in_ok-pool.ensures)
+          (told_opened c.in_ok-memory.memory c.args.count made.pages made.limits made.objects);
+    }

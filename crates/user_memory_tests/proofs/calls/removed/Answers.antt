@@ -5,4 +5,8 @@ use Rattle.user_memory_tests.proofs.calls.removed.Goals as goal
 pub invariant_of-bench : goal.invariant_of-bench
 invariant_of-bench g c =
     let bench = c.args.bench.now in
-    record { told = told_removed bench.memory c.remove_area.new.self bench.pool bench.pool bench.areas bench.pins bench.next bench.told (c.remove_area.ensures.settles bench.pool) c.args.number (omega (arith, c.if-bench-number.false)) c.remove_area.ensures.less }
+    record {
+      told = told_removed bench.memory c.remove_area.new.self bench.pool bench.pool bench.areas bench.pins
+          bench.next bench.told (c.remove_area.ensures.settles bench.pool) c.args.number
+          (omega (arith, c.if-bench-number.false)) c.remove_area.ensures.less;
+    }

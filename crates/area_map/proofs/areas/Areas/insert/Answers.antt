@@ -37,11 +37,14 @@ pub invariant_of-self-2 : goal.invariant_of-self-2
 invariant_of-self-2 g c =
     let rows : List (List Area) = c.self.inside.rows.items in
     let a = c.args.area in
-    let alone : areas_meet a.span (in_rows rows) ≡ false = rw c.deref-2.ensures.value at (sym c.if-meets_behind.ensures) in
+    let alone : areas_meet a.span (in_rows rows) ≡ false =
+    rw c.deref-2.ensures.value at (sym c.if-meets_behind.ensures) in
     let added = rw c.prepare.ensures.rows at c.add.ensures.areas in
     let hull = c.with_area-self-inside in
     let leave = c.self.invariant.0.leave in (
-      rows_with a rows c.add.new.rows.items c.self.inside.count c.self.inside.leaving hull.result c.self.invariant.0 c.add.ensures.rows added (omega arith) alone (omega arith) hull.ensures.area (hull.ensures.others (in_rows rows) leave),
+      rows_with a rows c.add.new.rows.items c.self.inside.count c.self.inside.leaving hull.result c.self.invariant.0
+          c.add.ensures.rows added (omega arith) alone (omega arith) hull.ensures.area
+          (hull.ensures.others (in_rows rows) leave),
       c.add.ensures.spare,
     )
 
@@ -56,4 +59,9 @@ returns-then-self-ge-MOST_AREAS-clause-room g c = omega arith
 
 pub add-requires-clause-place : goal.add-requires-clause-place
 add-requires-clause-place g c =
-    rw c.prepare.ensures.rows (rw (c.deref-3.ensures.value, c.rows_below-below.ensures.value, c.deref.ensures.value, c.first.ensures.value) at c.row_for-index.ensures)
+    rw c.prepare.ensures.rows (rw (
+      c.deref-3.ensures.value,
+      c.rows_below-below.ensures.value,
+      c.deref.ensures.value,
+      c.first.ensures.value,
+    ) at c.row_for-index.ensures)

@@ -11,12 +11,20 @@ pub invariant_of-self : goal.invariant_of-self
 invariant_of-self g c =
     let f = marked c.args.span c.args.owed.now in
     let rows : List (List Area) = c.self.inside.rows.items in
-    let written = mapped_back f rows c.change.new.rows c.self.inside.rows.len (rw (c.deref_mut.ensures.value, c.copied.ensures) at c.change.ensures) (omega arith) in
-    (rw (written, c.joined-self-inside.ensures) (rows_mapped f (λ a. refl) rows c.self.inside.count c.self.inside.leaving (joined c.self.inside.leaving c.args.span) c.self.invariant.0 (leave-marked c.self.inside.leaving c.args.span c.args.owed.now (in_rows rows) c.self.invariant.0.leave)), c.self.invariant.1)
+    let written = mapped_back f rows c.change.new.rows c.self.inside.rows.len
+    (rw (c.deref_mut.ensures.value, c.copied.ensures) at c.change.ensures) (omega arith) in (
+      rw (written, c.joined-self-inside.ensures)
+          (rows_mapped f (λ a. refl) rows c.self.inside.count c.self.inside.leaving
+          (joined c.self.inside.leaving c.args.span) c.self.invariant.0
+          (leave-marked c.self.inside.leaving c.args.span c.args.owed.now (in_rows rows)
+          c.self.invariant.0.leave)),
+      c.self.invariant.1,
+    )
 
 pub returns-clause-areas : goal.returns-clause-areas
 returns-clause-areas g c =
     let f = marked c.args.span c.args.owed.now in
     let rows : List (List Area) = c.self.inside.rows.items in
-    let written = mapped_back f rows c.change.new.rows c.self.inside.rows.len (rw (c.deref_mut.ensures.value, c.copied.ensures) at c.change.ensures) (omega arith) in
+    let written = mapped_back f rows c.change.new.rows c.self.inside.rows.len
+    (rw (c.deref_mut.ensures.value, c.copied.ensures) at c.change.ensures) (omega arith) in
     rw (written, ← c.self.view_is) (in_rows-map_map f rows)

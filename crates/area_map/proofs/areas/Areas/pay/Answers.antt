@@ -11,16 +11,23 @@ pub invariant_of-self : goal.invariant_of-self
 invariant_of-self g c =
     let f = without_debt c.args.device in
     let rows : List (List Area) = c.self.inside.rows.items in
-    let written = mapped_back f rows c.change.new.rows c.self.inside.rows.len (rw c.deref_mut.ensures.value at c.change.ensures) (omega arith) in
-    (rw written (rows_mapped f (λ a. refl) rows c.self.inside.count c.self.inside.leaving c.self.inside.leaving c.self.invariant.0 (leave-paid c.args.device c.self.inside.leaving (in_rows rows) c.self.invariant.0.leave)), c.self.invariant.1)
+    let written = mapped_back f rows c.change.new.rows c.self.inside.rows.len
+    (rw c.deref_mut.ensures.value at c.change.ensures) (omega arith) in (
+      rw written (rows_mapped f (λ a. refl) rows c.self.inside.count c.self.inside.leaving c.self.inside.leaving
+          c.self.invariant.0 (leave-paid c.args.device c.self.inside.leaving (in_rows rows)
+          c.self.invariant.0.leave)),
+      c.self.invariant.1,
+    )
 
 pub returns-in-Some-clause-areas : goal.returns-in-Some-clause-areas
 returns-in-Some-clause-areas g c =
     let f = without_debt c.args.device in
     let rows : List (List Area) = c.self.inside.rows.items in
-    let written = mapped_back f rows c.change.new.rows c.self.inside.rows.len (rw c.deref_mut.ensures.value at c.change.ensures) (omega arith) in
+    let written = mapped_back f rows c.change.new.rows c.self.inside.rows.len
+    (rw c.deref_mut.ensures.value at c.change.ensures) (omega arith) in
     rw (written, ← c.self.view_is) (in_rows-map_map f rows)
 
 pub returns-in_default-clause-areas : goal.returns-in_default-clause-areas
 returns-in_default-clause-areas g c =
-    rw (← c.self.view_is) (sym (live_all c.args.device (in_rows c.self.inside.rows.items) (rw c.in_default.is at c.self.invariant.0.leave)))
+    rw (← c.self.view_is) (sym (live_all c.args.device (in_rows c.self.inside.rows.items)
+    (rw c.in_default.is at c.self.invariant.0.leave)))

@@ -8,7 +8,9 @@ use Rattle.area_map.proofs.areas.Areas.remove.Goals as goal
 
 pub without-self-inside-requires-clause-apart : goal.without-self-inside-requires-clause-apart
 without-self-inside-requires-clause-apart g c =
-    rw (c.deref.ensures.value, c.remove.ensures.areas) ((kept-filter (λ (a : Area). not (lies_in a.span c.args.span)) (in_rows c.self.inside.rows.items) c.self.invariant.0.kept).apart)
+    rw (c.deref.ensures.value, c.remove.ensures.areas)
+    ((kept-filter (λ (a : Area). not (lies_in a.span c.args.span)) (in_rows c.self.inside.rows.items)
+    c.self.invariant.0.kept).apart)
 
 pub invariant_of-self : goal.invariant_of-self
 invariant_of-self g c =
@@ -18,7 +20,11 @@ invariant_of-self g c =
     let count = c.remove.ensures.count in
     let left : c.self.inside.count - c.remove.result ≡ length (in_rows new) = omega (arith, counted, count) in
     let told = rw c.deref.ensures.value at c.without-self-inside.ensures in
-    let leave : LeaveIn c.without-self-inside.result (in_rows new) = told (in_rows rows) c.self.invariant.0.leave c.remove.ensures.areas in (
-      rows_without c.args.span rows new c.self.inside.count (c.self.inside.count - c.remove.result) c.self.inside.leaving c.without-self-inside.result c.self.invariant.0 c.remove.ensures.rows c.remove.ensures.areas left leave,
-      spare_stays c.self.inside.spare c.self.inside.rows.len c.remove.new.rows.len c.self.inside.rows.cap c.remove.new.rows.cap c.remove.ensures.len c.remove.ensures.capacity c.self.invariant.1,
+    let leave : LeaveIn c.without-self-inside.result (in_rows new) =
+    told (in_rows rows) c.self.invariant.0.leave c.remove.ensures.areas in (
+      rows_without c.args.span rows new c.self.inside.count (c.self.inside.count - c.remove.result)
+          c.self.inside.leaving c.without-self-inside.result c.self.invariant.0 c.remove.ensures.rows
+          c.remove.ensures.areas left leave,
+      spare_stays c.self.inside.spare c.self.inside.rows.len c.remove.new.rows.len c.self.inside.rows.cap
+          c.remove.new.rows.cap c.remove.ensures.len c.remove.ensures.capacity c.self.invariant.1,
     )

@@ -11,12 +11,18 @@ pub invariant_of-self : goal.invariant_of-self
 invariant_of-self g c =
     let f = tried c.args.span c.args.tries in
     let rows : List (List Area) = c.self.inside.rows.items in
-    let written = mapped_back f rows c.change.new.rows c.self.inside.rows.len (rw c.deref_mut.ensures.value at c.change.ensures) (omega arith) in
-    (rw written (rows_mapped f (λ a. refl) rows c.self.inside.count c.self.inside.leaving c.self.inside.leaving c.self.invariant.0 (leave-tried c.args.span c.args.tries c.self.inside.leaving (in_rows rows) c.self.invariant.0.leave)), c.self.invariant.1)
+    let written = mapped_back f rows c.change.new.rows c.self.inside.rows.len
+    (rw c.deref_mut.ensures.value at c.change.ensures) (omega arith) in (
+      rw written (rows_mapped f (λ a. refl) rows c.self.inside.count c.self.inside.leaving c.self.inside.leaving
+          c.self.invariant.0 (leave-tried c.args.span c.args.tries c.self.inside.leaving (in_rows rows)
+          c.self.invariant.0.leave)),
+      c.self.invariant.1,
+    )
 
 pub returns-clause-areas : goal.returns-clause-areas
 returns-clause-areas g c =
     let f = tried c.args.span c.args.tries in
     let rows : List (List Area) = c.self.inside.rows.items in
-    let written = mapped_back f rows c.change.new.rows c.self.inside.rows.len (rw c.deref_mut.ensures.value at c.change.ensures) (omega arith) in
+    let written = mapped_back f rows c.change.new.rows c.self.inside.rows.len
+    (rw c.deref_mut.ensures.value at c.change.ensures) (omega arith) in
     rw (written, ← c.self.view_is) (in_rows-map_map f rows)

@@ -15,13 +15,16 @@ invariant_of-self c =
 pub returns-then-self-word-eq0-clause-others : goal.returns-then-self-word-eq0-clause-others
 returns-then-self-word-eq0-clause-others c =
     rw (← c.self.view_is)
-    (clear_others c.self.inside.words c.args.frame c.place-word.result.0 c.place-word.result.1 c.self.invariant.count c.requires c.place-word.ensures.word c.place-word.ensures.bit)
+    (clear_others c.self.inside.words c.args.frame c.place-word.result.0 c.place-word.result.1 c.self.invariant.count
+    c.requires c.place-word.ensures.word c.place-word.ensures.bit)
 
 pub returns-else-self-word-eq0-clause-this : goal.returns-else-self-word-eq0-clause-this
 returns-else-self-word-eq0-clause-this c =
-    clear_this c.self.inside.words c.args.frame c.place-word.result.0 c.place-word.result.1 c.self.invariant.count c.requires c.place-word.ensures.word c.place-word.ensures.bit
+    clear_this c.self.inside.words c.args.frame c.place-word.result.0 c.place-word.result.1 c.self.invariant.count
+    c.requires c.place-word.ensures.word c.place-word.ensures.bit
 
 pub returns-else-self-word-eq0-clause-others : goal.returns-else-self-word-eq0-clause-others
 returns-else-self-word-eq0-clause-others c =
     rw (← c.self.view_is)
-    (clear_others c.self.inside.words c.args.frame c.place-word.result.0 c.place-word.result.1 c.self.invariant.count c.requires c.place-word.ensures.word c.place-word.ensures.bit)
+    (clear_others c.self.inside.words c.args.frame c.place-word.result.0 c.place-word.result.1 c.self.invariant.count
+    c.requires c.place-word.ensures.word c.place-word.ensures.bit)

@@ -10,6 +10,7 @@ use Rattle.frame_memory.proofs.page_frames.PageFrames.are_within.Goals as goal
 pub returns : goal.returns
 returns g c =
     let is_within = λ (frame : FrameNo). ltb frame.0 (length c.args.pool.now.holds) in
-    all_from_yields_List is_within _ _ _ c.all.ensures.ran (YieldsList-from_rest _ c.values.ensures.rest) (λ x b q k. search (rules, tests))
+    all_from_yields_List is_within _ _ _ c.all.ensures.ran (YieldsList-from_rest _ c.values.ensures.rest)
+    (λ x b q k. search (rules, tests))
     ∙ sym (all_frames is_within c.self.inside.frames.entries)
     ∙ ap (λ (v : UserPages). are_within v.pages c.args.pool.now.holds) c.self.view_is

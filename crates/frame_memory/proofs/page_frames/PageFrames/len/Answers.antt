@@ -5,4 +5,5 @@ use Rattle.frame_memory.proofs.page_frames.PageFrames.len.Goals as goal
 
 pub returns : goal.returns
 returns g c =
-    c.len.ensures.len ∙ sym (length_pages c.self.inside.frames.entries) ∙ ap (λ (v : UserPages). length v.pages) c.self.view_is
+    c.len.ensures.len ∙ sym (length_pages c.self.inside.frames.entries)
+    ∙ ap (λ (v : UserPages). length v.pages) c.self.view_is

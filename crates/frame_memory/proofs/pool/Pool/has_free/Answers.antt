@@ -6,4 +6,5 @@ use Rattle.frame_memory.proofs.pool.Pool.has_free.Goals as goal
 pub returns : goal.returns
 returns g c =
     rw (← c.self.view_is)
-    (c.is_some.ensures ∙ has_free-is c.self.inside.free c.self.inside.free_count (seen c.self.inside.frames.items).holds c.self.invariant c.first.result c.first.ensures.some c.first.ensures.none)
+    (c.is_some.ensures ∙ has_free-is c.self.inside.free c.self.inside.free_count (seen c.self.inside.frames.items).holds
+    c.self.invariant c.first.result c.first.ensures.some c.first.ensures.none)

@@ -8,7 +8,8 @@ returns-then-held-eq1 g c =
     let x = c.index_mut-held.result.now in
     let is = c.index_mut-held.ensures.value in
     let within = in_frames frames c.args.frame.0 (rw (← c.self.view_is) at c.requires.frame) in
-    rw (← c.self.view_is) (seen-counted frames c.args.frame.0 x is within (x.holds + 1) _ (ap (λ k. k + 1) (count_seen frames c.args.frame.0 x is within)))
+    rw (← c.self.view_is) (seen-counted frames c.args.frame.0 x is within (x.holds + 1) _
+    (ap (λ k. k + 1) (count_seen frames c.args.frame.0 x is within)))
 
 pub returns-else-held-eq1 : goal.returns-else-held-eq1
 returns-else-held-eq1 g c =
@@ -16,7 +17,8 @@ returns-else-held-eq1 g c =
     let x = c.index_mut-held.result.now in
     let is = c.index_mut-held.ensures.value in
     let within = in_frames frames c.args.frame.0 (rw (← c.self.view_is) at c.requires.frame) in
-    rw (← c.self.view_is) (seen-counted frames c.args.frame.0 x is within (x.holds + 1) _ (ap (λ k. k + 1) (count_seen frames c.args.frame.0 x is within)))
+    rw (← c.self.view_is) (seen-counted frames c.args.frame.0 x is within (x.holds + 1) _
+    (ap (λ k. k + 1) (count_seen frames c.args.frame.0 x is within)))
 
 pub invariant_of-self : goal.invariant_of-self
 invariant_of-self g c =
@@ -24,7 +26,8 @@ invariant_of-self g c =
     let x = c.index_mut-held.result.now in
     let is = c.index_mut-held.ensures.value in
     let within = in_frames frames c.args.frame.0 (rw (← c.self.view_is) at c.requires.frame) in
-    seen-held frames c.args.frame.0 x is within c.self.inside.free c.remove.new.self c.self.inside.free_count (record { holds = x.holds + 1; bytes = x.bytes }) c.self.invariant
+    seen-held frames c.args.frame.0 x is within c.self.inside.free c.remove.new.self c.self.inside.free_count
+    (record { holds = x.holds + 1; bytes = x.bytes }) c.self.invariant
     (omega (arith, c.if-held-eq1.true)) (omega arith) c.remove.ensures.this c.remove.ensures.others
 
 pub invariant_of-self-else-held-eq1 : goal.invariant_of-self-else-held-eq1
@@ -33,5 +36,6 @@ invariant_of-self-else-held-eq1 g c =
     let x = c.index_mut-held.result.now in
     let is = c.index_mut-held.ensures.value in
     let within = in_frames frames c.args.frame.0 (rw (← c.self.view_is) at c.requires.frame) in
-    seen-same frames c.args.frame.0 x is within c.self.inside.free c.self.inside.free_count (record { holds = x.holds + 1; bytes = x.bytes }) c.self.invariant
+    seen-same frames c.args.frame.0 x is within c.self.inside.free c.self.inside.free_count
+    (record { holds = x.holds + 1; bytes = x.bytes }) c.self.invariant
     (omega arith) (omega arith)

@@ -11,7 +11,9 @@ use Rattle.frame_memory.proofs.pool.Pool.may_hold.Goals as goal
 pub returns : goal.returns
 returns g c =
     let has_room = λ (frame : Frame). ltb (frame.holds + c.args.count) (2 ^ 128) in
-    all_from_yields_List has_room _ _ _ c.all.ensures.ran (YieldsList-from_slice c.deref.result.now c.iter.ensures.rest) (λ x b q k. search (rules, tests))
+    all_from_yields_List has_room _ _ _ c.all.ensures.ran (YieldsList-from_slice c.deref.result.now c.iter.ensures.rest)
+    (λ x b q k. search (rules, tests))
     ∙ ap (list_all has_room) c.deref.ensures.value
-    ∙ sym (list_all-map (λ held. ltb (held + c.args.count) (2 ^ 128)) (λ (frame : Frame). frame.holds) c.self.inside.frames.items)
+    ∙ sym (list_all-map (λ held. ltb (held + c.args.count) (2 ^ 128)) (λ (frame : Frame). frame.holds)
+    c.self.inside.frames.items)
     ∙ ap (λ (pool : FramePool). may_hold pool.holds c.args.count) c.self.view_is

@@ -8,4 +8,5 @@ returns g c = ap seen c.in_ok-frames.ensures ∙ seen-fresh c.args.count
 
 pub invariant_of-result : goal.invariant_of-result
 invariant_of-result g c =
-    tells-seen c.below.result c.args.count c.in_ok-frames.frames.items c.in_ok-frames.ensures c.requires.few c.below.ensures
+    tells-seen c.below.result c.args.count c.in_ok-frames.frames.items c.in_ok-frames.ensures
+    c.requires.few c.below.ensures

@@ -8,7 +8,8 @@ returns-then-held-eq0 g c =
     let x = c.index_mut-held.result.now in
     let is = c.index_mut-held.ensures.value in
     let within = some_frame frames c.args.frame.0 (rw (← c.self.view_is) at c.requires) in
-    rw (← c.self.view_is) (seen-counted frames c.args.frame.0 x is within (x.holds - 1) _ (ap (λ k. k - 1) (count_seen frames c.args.frame.0 x is within)))
+    rw (← c.self.view_is) (seen-counted frames c.args.frame.0 x is within (x.holds - 1) _
+    (ap (λ k. k - 1) (count_seen frames c.args.frame.0 x is within)))
 
 pub returns-else-held-eq0 : goal.returns-else-held-eq0
 returns-else-held-eq0 g c =
@@ -16,7 +17,8 @@ returns-else-held-eq0 g c =
     let x = c.index_mut-held.result.now in
     let is = c.index_mut-held.ensures.value in
     let within = some_frame frames c.args.frame.0 (rw (← c.self.view_is) at c.requires) in
-    rw (← c.self.view_is) (seen-counted frames c.args.frame.0 x is within (x.holds - 1) _ (ap (λ k. k - 1) (count_seen frames c.args.frame.0 x is within)))
+    rw (← c.self.view_is) (seen-counted frames c.args.frame.0 x is within (x.holds - 1) _
+    (ap (λ k. k - 1) (count_seen frames c.args.frame.0 x is within)))
 
 pub invariant_of-self : goal.invariant_of-self
 invariant_of-self g c =
@@ -24,8 +26,10 @@ invariant_of-self g c =
     let x = c.index_mut-held.result.now in
     let is = c.index_mut-held.ensures.value in
     let within = some_frame frames c.args.frame.0 (rw (← c.self.view_is) at c.requires) in
-    let held : 0 < x.holds = omega (arith, count_seen frames c.args.frame.0 x is within, rw (← c.self.view_is) at c.requires) in
-    seen-freed frames c.args.frame.0 x is within c.self.inside.free c.insert.new.self c.self.inside.free_count (record { holds = x.holds - 1; bytes = x.bytes }) c.self.invariant
+    let held : 0 < x.holds =
+    omega (arith, count_seen frames c.args.frame.0 x is within, rw (← c.self.view_is) at c.requires) in
+    seen-freed frames c.args.frame.0 x is within c.self.inside.free c.insert.new.self c.self.inside.free_count
+    (record { holds = x.holds - 1; bytes = x.bytes }) c.self.invariant
     (omega arith) (omega arith) c.insert.ensures.this c.insert.ensures.others
 
 pub invariant_of-self-else-held-eq0 : goal.invariant_of-self-else-held-eq0
@@ -34,6 +38,8 @@ invariant_of-self-else-held-eq0 g c =
     let x = c.index_mut-held.result.now in
     let is = c.index_mut-held.ensures.value in
     let within = some_frame frames c.args.frame.0 (rw (← c.self.view_is) at c.requires) in
-    let held : 0 < x.holds = omega (arith, count_seen frames c.args.frame.0 x is within, rw (← c.self.view_is) at c.requires) in
-    seen-same frames c.args.frame.0 x is within c.self.inside.free c.self.inside.free_count (record { holds = x.holds - 1; bytes = x.bytes }) c.self.invariant
+    let held : 0 < x.holds =
+    omega (arith, count_seen frames c.args.frame.0 x is within, rw (← c.self.view_is) at c.requires) in
+    seen-same frames c.args.frame.0 x is within c.self.inside.free c.self.inside.free_count
+    (record { holds = x.holds - 1; bytes = x.bytes }) c.self.invariant
     (omega arith) (omega arith)

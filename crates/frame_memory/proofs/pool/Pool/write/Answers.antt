@@ -15,7 +15,9 @@ returns-clause-new g c =
     let offset = c.args.offset in
     let bytes = c.args.bytes.now in
     rw (← c.self.view_is)
-    (seen-written frames c.args.frame.0 x is within c.overwrite.new.bytes _ (c.overwrite.ensures ∙ ap (λ (old : List ℕ). splice old offset (offset + length bytes) bytes) (bytes_seen frames c.args.frame.0 x is within)))
+    (seen-written frames c.args.frame.0 x is within c.overwrite.new.bytes _ (c.overwrite.ensures
+    ∙ ap (λ (old : List ℕ). splice old offset (offset + length bytes) bytes)
+    (bytes_seen frames c.args.frame.0 x is within)))
 
 pub returns-clause-back : goal.returns-clause-back
 returns-clause-back g c =
@@ -26,7 +28,8 @@ returns-clause-back g c =
     let long = bytes_seen frames f x c.index_mut.ensures.value within in
     let room : c.args.offset ≤ length (bytes_of (seen frames) f) = omega (arith, ap length long) in
     ap (λ (pool : FramePool). bytes_at pool f c.args.offset (length c.args.bytes.now)) (returns-clause-new g c)
-    ∙ rw (← c.self.view_is) (written_back (seen frames) f c.args.offset c.args.bytes.now (in_bytes frames f x c.index_mut.ensures.value within) room)
+    ∙ rw (← c.self.view_is) (written_back (seen frames) f c.args.offset c.args.bytes.now
+    (in_bytes frames f x c.index_mut.ensures.value within) room)
 
 pub returns-clause-others : goal.returns-clause-others
 returns-clause-others g c = λ other at len apart.
@@ -37,7 +40,8 @@ returns-clause-others g c = λ other at len apart.
     let long = bytes_seen frames f x c.index_mut.ensures.value within in
     let room : c.args.offset ≤ length (bytes_of (seen frames) f) = omega (arith, ap length long) in
     ap (λ (pool : FramePool). bytes_at pool other at len) (returns-clause-new g c)
-    ∙ rw (← c.self.view_is) (written_apart (seen frames) f c.args.offset c.args.bytes.now (in_bytes frames f x c.index_mut.ensures.value within) room other at len apart)
+    ∙ rw (← c.self.view_is) (written_apart (seen frames) f c.args.offset c.args.bytes.now
+    (in_bytes frames f x c.index_mut.ensures.value within) room other at len apart)
 
 pub invariant_of-self : goal.invariant_of-self
 invariant_of-self g c =
@@ -45,4 +49,5 @@ invariant_of-self g c =
     let x = c.index_mut.result.now in
     let is = c.index_mut.ensures.value in
     let within = in_frames frames c.args.frame.0 (rw (← c.self.view_is) at c.requires.frame) in
-    tells-written frames c.args.frame.0 x is within c.self.inside.free c.self.inside.free_count (record { holds = x.holds; bytes = c.overwrite.new.bytes }) c.self.invariant refl
+    tells-written frames c.args.frame.0 x is within c.self.inside.free c.self.inside.free_count
+    (record { holds = x.holds; bytes = c.overwrite.new.bytes }) c.self.invariant refl

@@ -5,7 +5,9 @@ use Rattle.hwpt_device.proofs.page_tables.PageTables.insert.Goals as goal
 
 pub returns-clause-stand : goal.returns-clause-stand
 returns-clause-stand g c =
-    inserted c.args.pool.now c.new.new.pool c.args.self.now.tables c.insert.new.tables.items c.args.object c.args.width c.in-Ok.table c.new.result
+    inserted c.args.pool.now c.new.new.pool c.args.self.now.tables c.insert.new.tables.items c.args.object c.args.width
+    c.in-Ok.table c.new.result
     c.new.ensures.taken c.in-Ok.is c.in-Ok.ensures.table
     (c.insert.ensures.items
-    ∙ ap (λ (p : PageTables). with_hwpt (record { object = c.args.object; table = c.in-Ok.table }) p.tables) c.self.view_is)
+    ∙ ap (λ (p : PageTables). with_hwpt (record { object = c.args.object; table = c.in-Ok.table }) p.tables)
+    c.self.view_is)

@@ -10,5 +10,6 @@ returns c =
     let d = c.args.device.0 in
     let room = c.self.invariant in
     let one_more = with_device-filter (has_bit words) _ d 1 most_devices (omega arith) (omega (arith, most_devices-is))
-    (has_bit-set words d room c.requires.from c.requires.to) (λ e some differ. has_bit-set_other words d room c.requires.from c.requires.to e some differ) in
+    (has_bit-set words d room c.requires.from c.requires.to)
+    (λ e some differ. has_bit-set_other words d room c.requires.from c.requires.to e some differ) in
     rw (c.place-word.ensures.word, c.place-word.ensures.bit, ← c.self.view_is) (sym one_more)

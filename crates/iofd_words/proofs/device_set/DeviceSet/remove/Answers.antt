@@ -3,7 +3,8 @@ use Rattle.iofd_words.specs.DeviceSet.{has_bit, most_devices}
 use Rattle.iofd_words.proofs.Members.{without_device-filter, without_device-absent, most_devices-is}
 use Rattle.iofd_words.proofs.Bits.{has_bit-clear, has_bit-clear_other}
 use Rattle.iofd_words.proofs.device_set.DeviceSet.remove.Goals as goal
-use Rattle.iofd_words.proofs.device_set.DeviceSet.remove.Goals.{then-device-eq0-via-then-device-eq0, then-device-eq0-via-else-device-eq0+then-device-gt-MAX}
+use Rattle.iofd_words.proofs.device_set.DeviceSet.remove.Goals.{then-device-eq0-via-then-device-eq0}
+use Rattle.iofd_words.proofs.device_set.DeviceSet.remove.Goals.{then-device-eq0-via-else-device-eq0+then-device-gt-MAX}
 
 pub returns-then-device-eq0 : goal.returns-then-device-eq0
 returns-then-device-eq0 c =
@@ -13,7 +14,8 @@ returns-then-device-eq0 c =
       | then-device-eq0-via-then-device-eq0 w ↦
           rw (w.self-inside-is, ← c.self.view_is) (sym (without_device-absent p d 1 most_devices (inl (omega arith))))
       | then-device-eq0-via-else-device-eq0+then-device-gt-MAX w ↦
-          rw (w.self-inside-is, ← c.self.view_is) (sym (without_device-absent p d 1 most_devices (inr (omega (arith, most_devices-is)))))
+          rw (w.self-inside-is, ← c.self.view_is) (sym
+          (without_device-absent p d 1 most_devices (inr (omega (arith, most_devices-is)))))
     ]
 
 pub returns : goal.returns
@@ -23,5 +25,6 @@ returns c =
     let room = c.self.invariant in
     let low : 1 ≤ d = omega arith in
     let high : d ≤ 256 = omega arith in
-    let one_fewer = without_device-filter (has_bit words) _ d 1 most_devices (has_bit-clear words d room low high) (λ e some within differ. has_bit-clear_other words d room low high e some differ) in
+    let one_fewer = without_device-filter (has_bit words) _ d 1 most_devices (has_bit-clear words d room low high)
+    (λ e some within differ. has_bit-clear_other words d room low high e some differ) in
     rw (c.place-word.ensures.word, c.place-word.ensures.bit, ← c.self.view_is) (sym one_fewer)

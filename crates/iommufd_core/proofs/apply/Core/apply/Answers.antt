@@ -1,6 +1,7 @@
 use Rattle.std.proofs.Common.{◌≡◌, length, inr, refl, ◌∙◌, ap, subst, sym}
 use Rattle.iofd_words.specs.Run.{world_of}
-use Rattle.iommufd_core.proofs.Applied.{may_use, unchanged_config, unchanged_kept, applied_chosen, applied_config, applied_frames, applied_kept}
+use Rattle.iommufd_core.proofs.Applied.{may_use, unchanged_config, unchanged_kept, applied_chosen, applied_config}
+use Rattle.iommufd_core.proofs.Applied.{applied_frames, applied_kept}
 use Rattle.iommufd_core.proofs.Histories.{tidy_run}
 use Rattle.server_state.specs.Choice.{MayUse}
 use Rattle.iommufd_core.specs.History.{HasOneMore}
@@ -13,8 +14,10 @@ use Rattle.iommufd_core.proofs.apply.Core.apply.Goals as goal
 pub invariant_of-self-in_default-answer : goal.invariant_of-self-in_default-answer
 invariant_of-self-in_default-answer g c =
     let at : c.len-at.result ≡ length c.self.inside.records.items = c.len-at.ensures ∙ c.self.inside.records.ok.0 in
-    let stays = subst (λ n. TidyShowsSame n c.self.inside.state c.answer.new.state) at c.in_default-answer.ensures.err in
-    rw c.reserve.ensures.items (unchanged_kept c.self.inside.state c.answer.new.state c.self.inside.records.items c.self.invariant stays)
+    let stays =
+    subst (λ n. TidyShowsSame n c.self.inside.state c.answer.new.state) at c.in_default-answer.ensures.err in
+    rw c.reserve.ensures.items (unchanged_kept c.self.inside.state c.answer.new.state
+    c.self.inside.records.items c.self.invariant stays)
 
 pub returns-in_default-answer-clause-run : goal.returns-in_default-answer-clause-run
 returns-in_default-answer-clause-run g c = (invariant_of-self-in_default-answer g c).run
@@ -22,8 +25,10 @@ returns-in_default-answer-clause-run g c = (invariant_of-self-in_default-answer 
 pub returns-in_default-answer-clause-unchanged : goal.returns-in_default-answer-clause-unchanged
 returns-in_default-answer-clause-unchanged g c =
     let at : c.len-at.result ≡ length c.self.inside.records.items = c.len-at.ensures ∙ c.self.inside.records.ok.0 in
-    let stays = subst (λ n. TidyShowsSame n c.self.inside.state c.answer.new.state) at c.in_default-answer.ensures.err in
-    let config = unchanged_config c.self.inside.state c.answer.new.state c.self.inside.records.items c.self.invariant stays in
+    let stays =
+    subst (λ n. TidyShowsSame n c.self.inside.state c.answer.new.state) at c.in_default-answer.ensures.err in
+    let config =
+    unchanged_config c.self.inside.state c.answer.new.state c.self.inside.records.items c.self.invariant stays in
     rw (config, c.reserve.ensures.items) (ap (λ (s : Server _). s.history) c.self.view_is)
 
 pub invariant_of-self-2 : goal.invariant_of-self-2
@@ -35,9 +40,13 @@ invariant_of-self-2 g c =
     let taken = c.answer.new.taken.items in
     let given = c.answer.new.given.items in
     let at : c.len-at.result ≡ length records = c.len-at.ensures ∙ c.self.inside.records.ok.0 in
-    let answered = subst (λ n. Answered n act.event act.via old c.in-Ok-answer.reply taken given new) at c.in-Ok-answer.ensures.ok in
-    let may : MayUse (world_of old.config records) act.event act.via = may_use (record { settings = old.config; records = records }) act.event act.via (rw (← c.self.view_is) at c.requires) in
-    let kept = applied_kept old new records c.self.invariant c.args.pass act.event act.via c.in-Ok-answer.reply taken given may answered in
+    let answered = subst (λ n. Answered n act.event act.via old c.in-Ok-answer.reply taken given new) at
+    c.in-Ok-answer.ensures.ok in
+    let may : MayUse (world_of old.config records) act.event act.via =
+    may_use (record { settings = old.config; records = records }) act.event act.via
+    (rw (← c.self.view_is) at c.requires) in
+    let kept = applied_kept old new records c.self.invariant c.args.pass act.event act.via c.in-Ok-answer.reply
+    taken given may answered in
     rw (c.push_reserved.ensures.items, c.reserve.ensures.items, c.in-Ok.ensures.ok, c.new.ensures, c.new-2.ensures) kept
 
 pub returns-clause-record : goal.returns-clause-record
@@ -49,16 +58,29 @@ returns-clause-record g c =
     let taken = c.answer.new.taken.items in
     let given = c.answer.new.given.items in
     let at : c.len-at.result ≡ length records = c.len-at.ensures ∙ c.self.inside.records.ok.0 in
-    let answered = subst (λ n. Answered n act.event act.via old c.in-Ok-answer.reply taken given new) at c.in-Ok-answer.ensures.ok in
-    let may : MayUse (world_of old.config records) act.event act.via = may_use (record { settings = old.config; records = records }) act.event act.via (rw (← c.self.view_is) at c.requires) in
-    let config = applied_config old new records c.self.invariant c.args.pass act.event act.via c.in-Ok-answer.reply taken given may answered in
-    let is : HasOneMore c.args.pass act.event c.in-Ok-answer.reply (record { settings = old.config; records = records }) (record { settings = new.config; records = c.push_reserved.new.self.items }) = record {
+    let answered = subst (λ n. Answered n act.event act.via old c.in-Ok-answer.reply taken given new) at
+    c.in-Ok-answer.ensures.ok in
+    let may : MayUse (world_of old.config records) act.event act.via =
+    may_use (record { settings = old.config; records = records }) act.event act.via
+    (rw (← c.self.view_is) at c.requires) in
+    let config = applied_config old new records c.self.invariant c.args.pass act.event act.via c.in-Ok-answer.reply
+    taken given may answered in
+    let is : HasOneMore c.args.pass act.event c.in-Ok-answer.reply (record { settings = old.config; records = records })
+    (record { settings = new.config; records = c.push_reserved.new.self.items }) = record {
       made = recorded c.args.pass act.event c.in-Ok-answer.reply taken given;
-      records = rw (config, c.push_reserved.ensures.items, c.reserve.ensures.items, c.in-Ok.ensures.ok, c.new.ensures, c.new-2.ensures) refl;
+      records = rw (
+        config,
+        c.push_reserved.ensures.items,
+        c.reserve.ensures.items,
+        c.in-Ok.ensures.ok,
+        c.new.ensures,
+        c.new-2.ensures,
+      ) refl;
       pass = refl;
       event = refl;
       reply = refl;
-      frames = applied_frames old new records c.self.invariant c.args.pass act.event act.via c.in-Ok-answer.reply taken given may answered;
+      frames = applied_frames old new records c.self.invariant c.args.pass act.event act.via c.in-Ok-answer.reply
+          taken given may answered;
     } in
     rw (← c.self.view_is) is
 
@@ -73,16 +95,25 @@ returns-clause-chosen g c =
     let taken = c.answer.new.taken.items in
     let given = c.answer.new.given.items in
     let at : c.len-at.result ≡ length records = c.len-at.ensures ∙ c.self.inside.records.ok.0 in
-    let answered = subst (λ n. Answered n act.event act.via old c.in-Ok-answer.reply taken given c.answer.new.state) at c.in-Ok-answer.ensures.ok in
-    let may : MayUse (world_of old.config records) act.event act.via = may_use (record { settings = old.config; records = records }) act.event act.via (rw (← c.self.view_is) at c.requires) in
-    rw (← c.self.view_is) (applied_chosen old c.answer.new.state records c.self.invariant c.args.pass act.event act.via c.in-Ok-answer.reply taken given may answered)
+    let answered = subst (λ n. Answered n act.event act.via old c.in-Ok-answer.reply taken given c.answer.new.state) at
+    c.in-Ok-answer.ensures.ok in
+    let may : MayUse (world_of old.config records) act.event act.via =
+    may_use (record { settings = old.config; records = records }) act.event act.via
+    (rw (← c.self.view_is) at c.requires) in
+    rw (← c.self.view_is) (applied_chosen old c.answer.new.state records c.self.invariant c.args.pass act.event act.via
+    c.in-Ok-answer.reply taken given may answered)
 
 pub returns-in_default-answer-clause-memory : goal.returns-in_default-answer-clause-memory
 returns-in_default-answer-clause-memory g c =
     let old = c.self.inside.state in
     let records = c.self.inside.records.items in
     let wants = c.in_default-answer.ensures.memory in
-    rw (← c.self.view_is) (inr (sym (same_refusal (world_of old.config records) old c.self.invariant.shows (tidy_run old.config records c.self.invariant.run).tabled.owned c.args.act.now.event) ∙ wants.0, wants.1))
+    rw (← c.self.view_is) (inr (
+      sym (same_refusal (world_of old.config records) old c.self.invariant.shows
+          (tidy_run old.config records c.self.invariant.run).tabled.owned c.args.act.now.event)
+          ∙ wants.0,
+      wants.1,
+    ))
 
 pub answer-requires-clause-called : goal.answer-requires-clause-called
 answer-requires-clause-called g c =

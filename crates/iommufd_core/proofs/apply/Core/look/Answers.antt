@@ -7,7 +7,8 @@ pub returns : goal.returns
 returns g c =
     let settings = c.self.inside.state.config in
     let records = c.self.inside.records.items in
-    rw (← c.self.view_is) (c.look.ensures (length records) (world_of settings records) records (tidy_run settings records c.self.invariant.run) c.self.invariant.shows)
+    rw (← c.self.view_is) (c.look.ensures (length records) (world_of settings records) records
+    (tidy_run settings records c.self.invariant.run) c.self.invariant.shows)
 
 pub look-requires : goal.look-requires
 look-requires g c =

@@ -8,5 +8,6 @@ pub invariant_of-result : goal.invariant_of-result
 unfolding IsRun world_of
 invariant_of-result g c = rw c.new.ensures.items (record {
   run = tt;
-  shows = subst (λ settings. Shows (opening settings) c.in_ok-opened.field-0) (sym c.in_ok-opened.ensures.config) c.in_ok-opened.ensures.shows;
+  shows = subst (λ settings. Shows (opening settings) c.in_ok-opened.field-0) (sym c.in_ok-opened.ensures.config)
+      c.in_ok-opened.ensures.shows;
 })

@@ -10,5 +10,6 @@ loop-i-preserved c =
       length-set c.loop-i.bytes i c.byte_at.result ∙ c.loop-i.invariant.0,
       take_more_set c.loop-i.bytes i c.byte_at.result (omega arith)
           ∙ (ap (λ (front : List ℕ). front ++ c.byte_at.result ∷ []) c.loop-i.invariant.1
-          ∙ (ap (λ (byte : ℕ). take i c.args.self.now ++ byte ∷ []) byte ∙ sym (take_more c.args.self.now i 0 (omega (arith, long))))),
+          ∙ (ap (λ (byte : ℕ). take i c.args.self.now ++ byte ∷ []) byte
+          ∙ sym (take_more c.args.self.now i 0 (omega (arith, long))))),
     )

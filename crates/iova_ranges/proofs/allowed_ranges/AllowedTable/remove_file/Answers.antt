@@ -6,4 +6,6 @@ use Rattle.iofd_words.specs.Allowed.{AllowedRanges}
 use Rattle.iova_ranges.proofs.allowed_ranges.AllowedTable.remove_file.Goals as goal
 
 pub returns : goal.returns
-returns g c = filter_same _ (λ (row : AllowedRanges). not (eqb row.file.0 c.args.file.0)) _ (λ x b f k. search (rules, tests)) _ _ c.retain.ensures.filtered ∙ ap (filter (λ (row : AllowedRanges). not (eqb row.file.0 c.args.file.0))) c.self.view_is
+returns g c = filter_same _ (λ (row : AllowedRanges). not (eqb row.file.0 c.args.file.0)) _
+    (λ x b f k. search (rules, tests)) _ _ c.retain.ensures.filtered
+    ∙ ap (filter (λ (row : AllowedRanges). not (eqb row.file.0 c.args.file.0))) c.self.view_is

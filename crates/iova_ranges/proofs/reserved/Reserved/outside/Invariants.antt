@@ -5,6 +5,7 @@ use Rattle.iova_ranges.proofs.reserved.Reserved.outside.Given as goal
 
 abbrev pub invariant-loop-row : goal.invariant-loop-row
 invariant-loop-row g l = record {
-  set : (n : ℕ) → in_spans l.rest.spans n ≡ (in_spans l.initial.rest.spans n && not (is_reserved (take l.row-index l.row-items) n));
+  set : (n : ℕ) → in_spans l.rest.spans n ≡ (in_spans l.initial.rest.spans n
+      && not (is_reserved (take l.row-index l.row-items) n));
   merged : AreMerged l.rest.spans;
 }

@@ -5,5 +5,6 @@ use Rattle.iova_ranges.proofs.reserved.Reserved.remove.Goals as goal
 
 pub returns-clause-rows : goal.returns-clause-rows
 returns-clause-rows g c =
-    let kept = filter_same _ (λ (row : ReservedSpan). not (row.owner.0 == c.args.owner.0)) _ (λ x b f k. search rules) _ _ c.retain.ensures.filtered in
+    let kept = filter_same _ (λ (row : ReservedSpan). not (row.owner.0 == c.args.owner.0)) _ (λ x b f k. search rules) _
+    _ c.retain.ensures.filtered in
     rw (← c.self.view_is) kept

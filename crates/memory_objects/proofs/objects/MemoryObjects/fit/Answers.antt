@@ -7,7 +7,8 @@ use Rattle.memory_objects.proofs.objects.MemoryObjects.fit.Goals as goal
 pub returns-clause-value : goal.returns-clause-value
 returns-clause-value g c =
     (rw c.deref.ensures.value at c.fit.ensures.value)
-    ∙ ap (λ (v : ObjectTable). all_pass (is_of c.args.user.0) v.objects c.args.numbers.now && has_room c.args.accounts.now c.args.user.0 (new_pages v.objects c.args.numbers.now)) c.self.view_is
+    ∙ ap (λ (v : ObjectTable). all_pass (is_of c.args.user.0) v.objects c.args.numbers.now
+    && has_room c.args.accounts.now c.args.user.0 (new_pages v.objects c.args.numbers.now)) c.self.view_is
 
 pub returns-clause-fits : goal.returns-clause-fits
 returns-clause-fits g c = λ told.

@@ -12,21 +12,27 @@ invariant_of-self g c =
     let object : MemoryEntry = record { number = c.args.number; areas = 1; pages = c.args.pages } in
     let before = c.make_way-self-inside.new.entries.items in
     let pushed = ap standing c.push_reserved.ensures.items ∙ standing_push before object refl in
-    let is : standing c.push_reserved.new.self.items ≡ standing c.self.inside.entries.items ++ object ∷ [] = pushed ∙ ap (λ os. os ++ object ∷ []) c.make_way-self-inside.ensures.entries in
+    let is : standing c.push_reserved.new.self.items ≡ standing c.self.inside.entries.items ++ object ∷ [] =
+    pushed ∙ ap (λ os. os ++ object ∷ []) c.make_way-self-inside.ensures.entries in
     let M : List MemoryEntry → Type 0 = λ xs. MemoryInvariant xs in
     let R : List MemoryEntry → Type 0 = λ xs. are_rising xs ≡ true in
     let more = ap length pushed ∙ length-append (standing before) (object ∷ []) in
     record {
-      rising = subst R (sym c.push_reserved.ensures.items) (rising_appended before object c.make_way-self-inside.ensures.rising c.make_way-self-inside.ensures.below);
+      rising = subst R (sym c.push_reserved.ensures.items)
+          (rising_appended before object c.make_way-self-inside.ensures.rising c.make_way-self-inside.ensures.below);
       count = omega (arith, more, c.push_reserved.ensures.len, c.make_way-self-inside.ensures.gone);
-      kept = subst M (sym is) (kept_appended (standing c.self.inside.entries.items) object c.self.invariant.kept (rw (← c.self.view_is) at c.requires.rises) refl c.requires.pins c.requires.unpinned);
+      kept = subst M (sym is) (kept_appended (standing c.self.inside.entries.items) object c.self.invariant.kept
+          (rw (← c.self.view_is) at c.requires.rises) refl c.requires.pins c.requires.unpinned);
     }
 
 pub returns-clause-frames : goal.returns-clause-frames
 returns-clause-frames g c =
     let object : MemoryEntry = record { number = c.args.number; areas = 1; pages = c.args.pages } in
-    let is : standing c.push_reserved.new.self.items ≡ standing c.self.inside.entries.items ++ object ∷ [] = ap standing c.push_reserved.ensures.items ∙ standing_push c.make_way-self-inside.new.entries.items object refl ∙ ap (λ os. os ++ object ∷ []) c.make_way-self-inside.ensures.entries in
-    λ n index. rw (is, ← c.self.view_is) (frames_appended (standing c.self.inside.entries.items) object (rw (← c.self.view_is) at c.requires.rises) n index)
+    let is : standing c.push_reserved.new.self.items ≡ standing c.self.inside.entries.items ++ object ∷ [] =
+    ap standing c.push_reserved.ensures.items ∙ standing_push c.make_way-self-inside.new.entries.items object refl
+    ∙ ap (λ os. os ++ object ∷ []) c.make_way-self-inside.ensures.entries in
+    λ n index. rw (is, ← c.self.view_is) (frames_appended (standing c.self.inside.entries.items) object
+    (rw (← c.self.view_is) at c.requires.rises) n index)
 
 pub returns-clause-invariant : goal.returns-clause-invariant
 returns-clause-invariant g c = (invariant_of-self g c).kept

@@ -12,12 +12,15 @@ pub invariant_of-self : goal.invariant_of-self
 invariant_of-self g c =
     let M : List MemoryEntry → Type 0 = λ xs. MemoryInvariant xs in
     let old = standing c.self.inside.entries.items in
-    let pin = λ (o : MemoryEntry). with_pages (pinned_more c.args.users.now.pages (times_of o.number c.args.numbers.now) o.pages.pages) o in
+    let pin = λ (o : MemoryEntry). with_pages
+    (pinned_more c.args.users.now.pages (times_of o.number c.args.numbers.now) o.pages.pages) o in
     let same = ap length c.pin_all.ensures.entries ∙ length-map old pin in
     record {
       rising = c.pin_all.ensures.rising;
       count = omega (arith, same, c.pin_all.ensures.len, c.self.invariant.count);
-      kept = subst M (sym c.pin_all.ensures.entries) (kept_pinned c.args.users.now.pages c.args.numbers.now old c.self.invariant.kept (rw (← c.self.view_is) at c.requires.areas));
+      kept = subst M (sym c.pin_all.ensures.entries)
+          (kept_pinned c.args.users.now.pages c.args.numbers.now old c.self.invariant.kept
+          (rw (← c.self.view_is) at c.requires.areas));
     }
 
 pub returns-clause-invariant : goal.returns-clause-invariant
@@ -26,16 +29,26 @@ returns-clause-invariant g c = (invariant_of-self g c).kept
 pub returns-clause-backed : goal.returns-clause-backed
 returns-clause-backed g c = λ backed.
     let old = (standing c.self.inside.entries.items) in
-    let G = λ (o : MemoryEntry). with_pages (pinned_more c.args.users.now.pages (times_of o.number c.args.numbers.now) o.pages.pages) o in
+    let G = λ (o : MemoryEntry). with_pages (pinned_more c.args.users.now.pages
+    (times_of o.number c.args.numbers.now) o.pages.pages) o in
     let is = c.pin_all.ensures.entries in
     let H : List MemoryEntry → Type 0 = λ xs. HoldsMove old xs c.args.pool.now c.pin_all.new.pool in
     let A : List MemoryEntry → Type 0 = λ xs. AccountsMove old xs c.args.accounts.now c.pin_all.new.accounts in
     let B : List MemoryEntry → Type 0 = λ xs. AreBacked xs c.pin_all.new.pool.holds c.pin_all.new.accounts in
     let V : ObjectTable → Type 0 = λ v. AreBacked v.objects c.args.pool.now.holds c.args.accounts.now in
-    subst B (sym is) (backed_moved G (λ o. refl) old c.args.pool.now c.pin_all.new.pool c.args.accounts.now c.pin_all.new.accounts (subst H is c.pin_all.ensures.pool) (subst A is c.pin_all.ensures.accounts) (subst V (sym c.self.view_is) backed))
+    subst B (sym is) (backed_moved G (λ o. refl) old c.args.pool.now c.pin_all.new.pool c.args.accounts.now
+    c.pin_all.new.accounts (subst H is c.pin_all.ensures.pool) (subst A is c.pin_all.ensures.accounts)
+    (subst V (sym c.self.view_is) backed))
 
 pub returns-clause-frames : goal.returns-clause-frames
-returns-clause-frames g c = λ number index. rw (c.pin_all.ensures.entries, ← c.self.view_is) (frames_pinned c.args.users.now.pages c.args.numbers.now (standing c.self.inside.entries.items) (rw (← c.self.view_is) at c.requires.present) number index)
+returns-clause-frames g c = λ number index. rw (
+  c.pin_all.ensures.entries,
+  ← c.self.view_is,
+) (frames_pinned c.args.users.now.pages c.args.numbers.now
+    (standing c.self.inside.entries.items) (rw (← c.self.view_is) at c.requires.present) number index)
 
 pub returns-clause-rows : goal.returns-clause-rows
-returns-clause-rows g c = rw (c.pin_all.ensures.entries, ← c.self.view_is) (rows_pinned c.args.users.now.pages c.args.numbers.now (standing c.self.inside.entries.items))
+returns-clause-rows g c = rw (
+  c.pin_all.ensures.entries,
+  ← c.self.view_is,
+) (rows_pinned c.args.users.now.pages c.args.numbers.now (standing c.self.inside.entries.items))

@@ -11,7 +11,9 @@ invariant_of-self g c =
     record {
       rising = c.remove_area-self-inside.ensures.rising;
       count = c.remove_area-self-inside.ensures.gone;
-      kept = subst M (sym c.remove_area-self-inside.ensures.entries) (kept_without (c.args.number ∷ []) (standing c.self.inside.entries.items) c.self.invariant.kept (rw (← c.self.view_is) at c.requires));
+      kept = subst M (sym c.remove_area-self-inside.ensures.entries)
+          (kept_without (c.args.number ∷ []) (standing c.self.inside.entries.items) c.self.invariant.kept
+          (rw (← c.self.view_is) at c.requires));
     }
 
 pub returns-clause-invariant : goal.returns-clause-invariant
@@ -19,7 +21,11 @@ returns-clause-invariant g c = (invariant_of-self g c).kept
 
 pub returns-clause-pins : goal.returns-clause-pins
 returns-clause-pins g c =
-    rw (c.remove_area-self-inside.ensures.entries, ← c.self.view_is) (same_without (c.args.number ∷ []) (standing c.self.inside.entries.items) c.self.invariant.kept (rw (← c.self.view_is) at c.requires))
+    rw (
+      c.remove_area-self-inside.ensures.entries,
+      ← c.self.view_is,
+    ) (same_without (c.args.number ∷ []) (standing c.self.inside.entries.items)
+    c.self.invariant.kept (rw (← c.self.view_is) at c.requires))
 
 pub returns-clause-room : goal.returns-clause-room
 returns-clause-room g c =

@@ -20,7 +20,11 @@ pub returns-clause-invariant : goal.returns-clause-invariant
 returns-clause-invariant g c = (invariant_of-self g c).kept
 
 pub returns-clause-rows : goal.returns-clause-rows
-returns-clause-rows g c = rw (← c.self.view_is) (rows_grown (standing c.self.inside.entries.items) (standing c.reserve_all.new.entries.items) c.reserve_all.ensures.objects)
+returns-clause-rows g c = rw (← c.self.view_is)
+    (rows_grown (standing c.self.inside.entries.items) (standing c.reserve_all.new.entries.items)
+    c.reserve_all.ensures.objects)
 
 pub returns-clause-pins : goal.returns-clause-pins
-returns-clause-pins g c = rw (← c.self.view_is) (same_grown (standing c.self.inside.entries.items) (standing c.reserve_all.new.entries.items) c.reserve_all.ensures.objects)
+returns-clause-pins g c = rw (← c.self.view_is)
+    (same_grown (standing c.self.inside.entries.items) (standing c.reserve_all.new.entries.items)
+    c.reserve_all.ensures.objects)

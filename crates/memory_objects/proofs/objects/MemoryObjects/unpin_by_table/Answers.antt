@@ -22,7 +22,13 @@ pub returns-clause-invariant : goal.returns-clause-invariant
 returns-clause-invariant g c = (invariant_of-self g c).kept
 
 pub returns-clause-frames : goal.returns-clause-frames
-returns-clause-frames g c = λ number index. rw (c.unpin_all.ensures.entries, ← c.self.view_is) (frames_left c.args.numbers.now (standing c.self.inside.entries.items) number index)
+returns-clause-frames g c = λ number index. rw (
+  c.unpin_all.ensures.entries,
+  ← c.self.view_is,
+) (frames_left c.args.numbers.now (standing c.self.inside.entries.items) number index)
 
 pub returns-clause-rows : goal.returns-clause-rows
-returns-clause-rows g c = rw (c.unpin_all.ensures.entries, ← c.self.view_is) (rows_unpinned c.args.numbers.now (standing c.self.inside.entries.items))
+returns-clause-rows g c = rw (
+  c.unpin_all.ensures.entries,
+  ← c.self.view_is,
+) (rows_unpinned c.args.numbers.now (standing c.self.inside.entries.items))

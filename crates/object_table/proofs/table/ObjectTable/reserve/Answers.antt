@@ -1,7 +1,9 @@
 use Rattle.std.proofs.Common.{◌≡◌, ◌<◌, None, length, arith, ◌∙◌}
 use Rattle.object_table.specs.Table.{row_at}
 use Rattle.object_table.specs.Layout.{entry_at, table_of}
-use Rattle.object_table.proofs.Tables.{no_value, outside_insert_refusal, outside_reserved, IfOk-weaken, OnErr-weaken, table_same, reserved_id-inside, reserved_id-new, row_at-inside, insert_refusal-inside, rows_kept, files_kept, table_kept, others_keep_room}
+use Rattle.object_table.proofs.Tables.{no_value, outside_insert_refusal, outside_reserved, IfOk-weaken, OnErr-weaken}
+use Rattle.object_table.proofs.Tables.{table_same, reserved_id-inside, reserved_id-new, row_at-inside}
+use Rattle.object_table.proofs.Tables.{insert_refusal-inside, rows_kept, files_kept, table_kept, others_keep_room}
 use Rattle.object_table.proofs.table.ObjectTable.reserve.Goals as goal
 
 pub returns-in-Some-clause-id : goal.returns-in-Some-clause-id
@@ -9,57 +11,74 @@ returns-in-Some-clause-id g c =
     let files = c.self.inside.files in
     let place = c.in-Some.ensures in
     let within : c.in-Some.place < length files.items = omega (arith, files.ok.0, c.len.ensures, place.1) in
-    rw (reserved_id-new files.items c.args.file c.in-Some.place c.index_mut.result.now place.0 within c.index_mut.ensures.value c.reserve.new.self) c.reserve.ensures.id
+    rw (reserved_id-new files.items c.args.file c.in-Some.place c.index_mut.result.now place.0 within
+    c.index_mut.ensures.value c.reserve.new.self) c.reserve.ensures.id
 
 pub returns-in-Some-clause-unused : goal.returns-in-Some-clause-unused
 returns-in-Some-clause-unused g c =
     let files = c.self.inside.files in
     let place = c.in-Some.ensures in
     let within : c.in-Some.place < length files.items = omega (arith, files.ok.0, c.len.ensures, place.1) in
-    rw (← c.self.view_is) (IfOk-weaken (λ id. entry_at c.index_mut.result.now id ≡ None) (λ id. row_at (table_of files.items) c.args.file id ≡ None)
-    (λ id none. row_at-inside files.items c.args.file c.in-Some.place c.index_mut.result.now place.0 within c.index_mut.ensures.value id ∙ rw none) c.reserve.result c.reserve.ensures.unused)
+    rw (← c.self.view_is) (IfOk-weaken (λ id. entry_at c.index_mut.result.now id ≡ None)
+    (λ id. row_at (table_of files.items) c.args.file id ≡ None)
+    (λ id none. row_at-inside files.items c.args.file c.in-Some.place c.index_mut.result.now place.0 within
+    c.index_mut.ensures.value id ∙ rw none) c.reserve.result c.reserve.ensures.unused)
 
 pub returns-in-Some-clause-ok : goal.returns-in-Some-clause-ok
 returns-in-Some-clause-ok g c =
     let files = c.self.inside.files in
     let place = c.in-Some.ensures in
     let within : c.in-Some.place < length files.items = omega (arith, files.ok.0, c.len.ensures, place.1) in
-    rw (← c.self.view_is, insert_refusal-inside files.items c.args.file c.in-Some.place c.index_mut.result.now place.0 within c.index_mut.ensures.value) c.reserve.ensures.ok
+    rw (
+      ← c.self.view_is,
+      insert_refusal-inside files.items c.args.file c.in-Some.place c.index_mut.result.now place.0
+          within c.index_mut.ensures.value,
+    ) c.reserve.ensures.ok
 
 pub returns-in-Some-clause-why : goal.returns-in-Some-clause-why
 returns-in-Some-clause-why g c =
     let files = c.self.inside.files in
     let place = c.in-Some.ensures in
     let within : c.in-Some.place < length files.items = omega (arith, files.ok.0, c.len.ensures, place.1) in
-    rw (← c.self.view_is, insert_refusal-inside files.items c.args.file c.in-Some.place c.index_mut.result.now place.0 within c.index_mut.ensures.value) c.reserve.ensures.why
+    rw (
+      ← c.self.view_is,
+      insert_refusal-inside files.items c.args.file c.in-Some.place c.index_mut.result.now place.0
+          within c.index_mut.ensures.value,
+    ) c.reserve.ensures.why
 
 pub returns-in-Some-clause-unchanged : goal.returns-in-Some-clause-unchanged
 returns-in-Some-clause-unchanged g c =
     let files = c.self.inside.files in
     let place = c.in-Some.ensures in
     let within : c.in-Some.place < length files.items = omega (arith, files.ok.0, c.len.ensures, place.1) in
-    rw (← c.self.view_is) (OnErr-weaken _ _ (λ room. table_same files.items c.args.file c.in-Some.place c.index_mut.result.now place.0 within c.index_mut.ensures.value c.reserve.new.self c.reserve.ensures.mark room (c.reserve.ensures.rows c.args.file.0)) c.reserve.result c.reserve.ensures.kept)
+    rw (← c.self.view_is) (OnErr-weaken _ _ (λ room. table_same files.items c.args.file c.in-Some.place
+    c.index_mut.result.now place.0 within c.index_mut.ensures.value c.reserve.new.self
+    c.reserve.ensures.mark room (c.reserve.ensures.rows c.args.file.0))
+    c.reserve.result c.reserve.ensures.kept)
 
 pub returns-in-Some-clause-rows : goal.returns-in-Some-clause-rows
 returns-in-Some-clause-rows g c =
     let files = c.self.inside.files in
     let place = c.in-Some.ensures in
     let within : c.in-Some.place < length files.items = omega (arith, files.ok.0, c.len.ensures, place.1) in
-    rw (← c.self.view_is) (rows_kept files.items c.args.file c.in-Some.place c.index_mut.result.now place.0 within c.index_mut.ensures.value c.reserve.new.self (c.reserve.ensures.rows c.args.file.0))
+    rw (← c.self.view_is) (rows_kept files.items c.args.file c.in-Some.place c.index_mut.result.now place.0 within
+    c.index_mut.ensures.value c.reserve.new.self (c.reserve.ensures.rows c.args.file.0))
 
 pub returns-in-Some-clause-files : goal.returns-in-Some-clause-files
 returns-in-Some-clause-files g c =
     let files = c.self.inside.files in
     let place = c.in-Some.ensures in
     let within : c.in-Some.place < length files.items = omega (arith, files.ok.0, c.len.ensures, place.1) in
-    rw (← c.self.view_is) (files_kept files.items c.args.file c.in-Some.place c.index_mut.result.now place.0 within c.index_mut.ensures.value c.reserve.new.self c.reserve.ensures.mark)
+    rw (← c.self.view_is) (files_kept files.items c.args.file c.in-Some.place c.index_mut.result.now place.0 within
+    c.index_mut.ensures.value c.reserve.new.self c.reserve.ensures.mark)
 
 pub returns-in-Some-clause-room : goal.returns-in-Some-clause-room
 returns-in-Some-clause-room g c =
     let files = c.self.inside.files in
     let place = c.in-Some.ensures in
     let within : c.in-Some.place < length files.items = omega (arith, files.ok.0, c.len.ensures, place.1) in
-    rw (← c.self.view_is) (others_keep_room files.items c.args.file c.in-Some.place c.index_mut.result.now place.0 within c.index_mut.ensures.value c.reserve.new.self)
+    rw (← c.self.view_is) (others_keep_room files.items c.args.file c.in-Some.place c.index_mut.result.now place.0
+    within c.index_mut.ensures.value c.reserve.new.self)
 
 pub returns-in-Some-clause-had_room : goal.returns-in-Some-clause-had_room
 returns-in-Some-clause-had_room g c =
@@ -67,16 +86,27 @@ returns-in-Some-clause-had_room g c =
     let place = c.in-Some.ensures in
     let within : c.in-Some.place < length files.items = omega (arith, files.ok.0, c.len.ensures, place.1) in
     rw (← c.self.view_is) (λ has.
-    let kept = c.reserve.ensures.had_room (rw (reserved_id-inside files.items c.args.file c.in-Some.place c.index_mut.result.now place.0 within c.index_mut.ensures.value) at has) in
-    (kept.0, table_kept files.items c.args.file c.in-Some.place c.index_mut.result.now place.0 within c.index_mut.ensures.value c.reserve.new.self kept.1))
+    let kept = c.reserve.ensures.had_room (rw
+    (reserved_id-inside files.items c.args.file c.in-Some.place c.index_mut.result.now place.0 within
+    c.index_mut.ensures.value) at has) in (
+      kept.0,
+      table_kept files.items c.args.file c.in-Some.place c.index_mut.result.now place.0 within
+          c.index_mut.ensures.value c.reserve.new.self kept.1,
+    ))
 
 pub returns-in-None-clause-why : goal.returns-in-None-clause-why
 returns-in-None-clause-why g c =
     let files = c.self.inside.files in
-    rw (← c.self.view_is) (outside_insert_refusal files.items c.args.file (λ place is. omega (arith, files.ok.0, c.len.ensures, c.in-None.ensures place is)))
+    rw (← c.self.view_is) (outside_insert_refusal files.items c.args.file
+    (λ place is. omega (arith, files.ok.0, c.len.ensures, c.in-None.ensures place is)))
 
 pub returns-in-None-clause-had_room : goal.returns-in-None-clause-had_room
 returns-in-None-clause-had_room g c =
     let files = c.self.inside.files in
-    let none = outside_reserved files.items c.args.file (λ place is. omega (arith, files.ok.0, c.len.ensures, c.in-None.ensures place is)) in
+    let none = outside_reserved files.items c.args.file (λ place is. omega (
+      arith,
+      files.ok.0,
+      c.len.ensures,
+      c.in-None.ensures place is,
+    )) in
     rw (← c.self.view_is) (λ has. absurd (no_value (rw none at has)))

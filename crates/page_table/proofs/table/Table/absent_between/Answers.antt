@@ -8,7 +8,8 @@ use Rattle.page_table.proofs.table.Table.absent_between.Goals.{then-lowest-level
 
 pub lowest-requires-clause-below : goal.lowest-requires-clause-below
 lowest-requires-clause-below g c =
-    rw c.first_page.ensures (first_below c.args.self.now.width c.args.level c.loop-number.number (omega arith) (omega arith))
+    rw c.first_page.ensures (first_below c.args.self.now.width c.args.level c.loop-number.number
+    (omega arith) (omega arith))
 
 pub loop-number-preserved : goal.loop-number-preserved
 loop-number-preserved g c =
@@ -19,19 +20,28 @@ loop-number-preserved g c =
         small = omega arith;
         absent = λ rows pages stands.
             w.total-is
-            ∙ absent_more (is_absent rows c.args.level) c.args.first c.loop-number.number c.loop-number.total (omega arith) (c.loop-number.invariant.absent rows pages stands) true
-            (absent_above c.args.pool.now levels root rows pages stands c.args.level c.lowest.result.level c.loop-number.number c.lowest.result.frame (rw c.first_page.ensures at (c.lowest.ensures.lowest rows pages stands)) c.requires.some w.if-lowest-level.true);
+            ∙ absent_more (is_absent rows c.args.level) c.args.first c.loop-number.number c.loop-number.total
+            (omega arith) (c.loop-number.invariant.absent rows pages stands) true
+            (absent_above c.args.pool.now levels root rows pages stands c.args.level c.lowest.result.level
+            c.loop-number.number c.lowest.result.frame
+            (rw c.first_page.ensures at (c.lowest.ensures.lowest rows pages stands)) c.requires.some
+            w.if-lowest-level.true);
       }
       | else-lowest-level w ↦ record {
         small = omega arith;
         absent = λ rows pages stands.
             w.total-is ∙ (let same : c.loop-number.total ≡ c.loop-number.total + 0 = omega arith in same)
-            ∙ absent_more (is_absent rows c.args.level) c.args.first c.loop-number.number c.loop-number.total (omega arith) (c.loop-number.invariant.absent rows pages stands) false
-            (present_from c.args.pool.now levels root rows pages stands c.args.level c.lowest.result.level c.loop-number.number c.lowest.result.frame (rw c.first_page.ensures at (c.lowest.ensures.lowest rows pages stands)) c.requires.some w.if-lowest-level.false (omega arith));
+            ∙ absent_more (is_absent rows c.args.level) c.args.first c.loop-number.number c.loop-number.total
+            (omega arith) (c.loop-number.invariant.absent rows pages stands) false
+            (present_from c.args.pool.now levels root rows pages stands c.args.level c.lowest.result.level
+            c.loop-number.number c.lowest.result.frame
+            (rw c.first_page.ensures at (c.lowest.ensures.lowest rows pages stands)) c.requires.some
+            w.if-lowest-level.false (omega arith));
       }
     ]
 
 pub returns-clause-absent : goal.returns-clause-absent
 returns-clause-absent g c = λ rows pages stands.
     let end : c.loop-number.number ≡ c.args.end = omega arith in
-    c.loop-number.invariant.absent rows pages stands ∙ ap (λ (n : ℕ). count_by (is_absent rows c.args.level) (range_with_len c.args.first (n - c.args.first))) end
+    c.loop-number.invariant.absent rows pages stands
+    ∙ ap (λ (n : ℕ). count_by (is_absent rows c.args.level) (range_with_len c.args.first (n - c.args.first))) end

@@ -7,5 +7,6 @@ pub returns : goal.returns
 returns g c =
     rw (← c.self.view_is)
     (λ rows pages stands.
-    c.count.ensures.value ∙ ap (λ (k : ℕ). length (frames_under c.args.pool.now (k - 1) c.self.inside.root)) c.levels.ensures.value
+    c.count.ensures.value ∙ ap (λ (k : ℕ). length (frames_under c.args.pool.now (k - 1) c.self.inside.root))
+    c.levels.ensures.value
     ∙ all_counted c.args.pool.now _ c.self.inside.root rows pages stands)

@@ -10,5 +10,7 @@ use Rattle.page_table.proofs.table.Table.needs.Given as goal
 abbrev pub invariant-loop-level : goal.invariant-loop-level
 invariant-loop-level g l = record {
   small : l.total ≤ (l.level - 1) * 2 ^ 52;
-  needed : (rows : List TableRow) (pages : List MappedPage) → TableStands l.pool l.self rows pages → l.total ≡ sum_by (λ level. needed_at rows (levels_of l.self.width) level l.spans) (range_with_len 1 (l.level - 1));
+  needed : (rows : List TableRow) (pages : List MappedPage) → TableStands l.pool l.self rows pages
+      → l.total ≡ sum_by (λ level. needed_at rows (levels_of l.self.width) level l.spans)
+      (range_with_len 1 (l.level - 1));
 }

@@ -14,7 +14,8 @@ count_idle-requires-clause-within g c = pow_pos (9 * (5 - c.levels.result))
 pub count_idle-requires-clause-table : goal.count_idle-requires-clause-table
 count_idle-requires-clause-table g c =
     let is = rw (← c.self.view_is) at c.requires in
-    rw c.levels.ensures.value (root_holds c.args.pool.now (levels_of c.self.inside.width) c.self.inside.root is.rows is.pages is.stands)
+    rw c.levels.ensures.value (root_holds c.args.pool.now (levels_of c.self.inside.width) c.self.inside.root
+    is.rows is.pages is.stands)
 
 pub returns : goal.returns
 returns g c =
@@ -22,6 +23,7 @@ returns g c =
     (λ rows pages stands.
     let levels = levels_of c.self.inside.width in
     let same = c.levels.ensures.value in
-    c.count_idle.ensures.idle levels c.self.inside.root rows pages 0 stands (ap (λ (k : ℕ). table_at rows k 0) same ∙ stands.at_root) (sym (number-first c.levels.result))
+    c.count_idle.ensures.idle levels c.self.inside.root rows pages 0 stands (ap (λ (k : ℕ). table_at rows k 0) same
+    ∙ stands.at_root) (sym (number-first c.levels.result))
     ∙ ap (λ (k : ℕ). count_by (goes_below levels pages c.args.kept.now k 0) rows) same
     ∙ root_counted c.args.pool.now levels c.self.inside.root rows pages stands c.args.kept.now)

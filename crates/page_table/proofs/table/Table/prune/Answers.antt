@@ -16,7 +16,8 @@ pub cut_idle-requires-clause-table : goal.cut_idle-requires-clause-table
 cut_idle-requires-clause-table g c =
     let can = rw (← c.self.view_is) at c.requires in
     let levels = levels_of c.self.inside.width in
-    let counted = root_counted c.args.pool.now levels c.self.inside.root can.rows can.pages can.stands c.args.kept.now in
+    let counted =
+    root_counted c.args.pool.now levels c.self.inside.root can.rows can.pages can.stands c.args.kept.now in
     rw c.levels.ensures.value (record {
       levels = levels;
       root = c.self.inside.root;
@@ -41,12 +42,19 @@ release_all-requires g c = λ f.
     let start = c.len-start.result in
     let given = drop start c.sort_from.new.frames.items in
     let same = c.levels.ensures.value in
-    let cuts = subst (λ (k : ℕ). Cuts c.args.pool.now c.cut_idle.new.pool levels root can.rows can.pages kept k 0 c.args.out.now.items c.cut_idle.new.out.items) same
-    (c.cut_idle.ensures.cut levels root can.rows can.pages 0 can.stands (ap (λ (k : ℕ). table_at can.rows k 0) same ∙ can.stands.at_root) (sym (number-first c.levels.result)) (root_stays c.args.pool.now levels root can.rows can.pages kept can.stands)) in
-    let permuted = given_permutes (gone levels can.pages kept can.rows) c.args.out.now.items c.cut_idle.new.out.items c.sort_from.new.frames.items cuts.frames start (omega (arith, c.len-start.ensures, c.args.out.now.ok.0)) cuts.is
-    (gone_same c.args.pool.now c.cut_idle.new.pool levels root can.rows can.pages kept c.args.out.now.items c.cut_idle.new.out.items can.stands cuts c.cut_idle.ensures.holds) c.sort_from.ensures.same in
-    subst (λ (frames : List FrameNo). times f frames ≤ get_or c.cut_idle.new.pool.holds f 0) (sym (rest_is c.deref.result.now c.sort_from.new.frames.items start c.deref.ensures.value))
-    (may_give c.args.pool.now c.cut_idle.new.pool levels root can.rows can.pages kept c.args.out.now.items c.cut_idle.new.out.items can.stands cuts c.cut_idle.ensures.holds given permuted f)
+    let cuts = subst (λ (k : ℕ). Cuts c.args.pool.now c.cut_idle.new.pool levels root can.rows can.pages kept k 0
+    c.args.out.now.items c.cut_idle.new.out.items) same
+    (c.cut_idle.ensures.cut levels root can.rows can.pages 0 can.stands (ap (λ (k : ℕ). table_at can.rows k 0) same
+    ∙ can.stands.at_root) (sym (number-first c.levels.result)) (root_stays c.args.pool.now levels root
+    can.rows can.pages kept can.stands)) in
+    let permuted = given_permutes (gone levels can.pages kept can.rows) c.args.out.now.items c.cut_idle.new.out.items
+    c.sort_from.new.frames.items cuts.frames start (omega (arith, c.len-start.ensures, c.args.out.now.ok.0)) cuts.is
+    (gone_same c.args.pool.now c.cut_idle.new.pool levels root can.rows can.pages kept c.args.out.now.items
+    c.cut_idle.new.out.items can.stands cuts c.cut_idle.ensures.holds) c.sort_from.ensures.same in
+    subst (λ (frames : List FrameNo). times f frames ≤ get_or c.cut_idle.new.pool.holds f 0)
+    (sym (rest_is c.deref.result.now c.sort_from.new.frames.items start c.deref.ensures.value))
+    (may_give c.args.pool.now c.cut_idle.new.pool levels root can.rows can.pages kept c.args.out.now.items
+    c.cut_idle.new.out.items can.stands cuts c.cut_idle.ensures.holds given permuted f)
 
 pub returns-clause-out : goal.returns-clause-out
 returns-clause-out g c =
@@ -57,10 +65,15 @@ returns-clause-out g c =
     let kept = c.args.kept.now in
     let start = c.len-start.result in
     let same = c.levels.ensures.value in
-    let cuts = subst (λ (k : ℕ). Cuts c.args.pool.now c.cut_idle.new.pool levels root rows pages kept k 0 c.args.out.now.items c.cut_idle.new.out.items) same
-    (c.cut_idle.ensures.cut levels root rows pages 0 stands (ap (λ (k : ℕ). table_at rows k 0) same ∙ stands.at_root) (sym (number-first c.levels.result)) (root_stays c.args.pool.now levels root rows pages kept stands)) in
-    gives_back (gone levels pages kept rows) c.args.out.now.items c.cut_idle.new.out.items c.sort_from.new.frames.items cuts.frames start (omega (arith, c.len-start.ensures, c.args.out.now.ok.0)) cuts.is
-    (gone_same c.args.pool.now c.cut_idle.new.pool levels root rows pages kept c.args.out.now.items c.cut_idle.new.out.items stands cuts c.cut_idle.ensures.holds) c.sort_from.ensures.front c.sort_from.ensures.same c.sort_from.ensures.rising)
+    let cuts = subst (λ (k : ℕ). Cuts c.args.pool.now c.cut_idle.new.pool levels root rows pages kept k 0
+    c.args.out.now.items c.cut_idle.new.out.items) same
+    (c.cut_idle.ensures.cut levels root rows pages 0 stands (ap (λ (k : ℕ). table_at rows k 0) same ∙ stands.at_root)
+    (sym (number-first c.levels.result)) (root_stays c.args.pool.now levels root rows pages kept stands)) in
+    gives_back (gone levels pages kept rows) c.args.out.now.items c.cut_idle.new.out.items c.sort_from.new.frames.items
+    cuts.frames start (omega (arith, c.len-start.ensures, c.args.out.now.ok.0)) cuts.is
+    (gone_same c.args.pool.now c.cut_idle.new.pool levels root rows pages kept c.args.out.now.items
+    c.cut_idle.new.out.items stands cuts c.cut_idle.ensures.holds) c.sort_from.ensures.front
+    c.sort_from.ensures.same c.sort_from.ensures.rising)
 
 pub returns-clause-pool : goal.returns-clause-pool
 returns-clause-pool g c =
@@ -72,13 +85,19 @@ returns-clause-pool g c =
     let start = c.len-start.result in
     let given = drop start c.sort_from.new.frames.items in
     let same = c.levels.ensures.value in
-    let cuts = subst (λ (k : ℕ). Cuts c.args.pool.now c.cut_idle.new.pool levels root rows pages kept k 0 c.args.out.now.items c.cut_idle.new.out.items) same
-    (c.cut_idle.ensures.cut levels root rows pages 0 stands (ap (λ (k : ℕ). table_at rows k 0) same ∙ stands.at_root) (sym (number-first c.levels.result)) (root_stays c.args.pool.now levels root rows pages kept stands)) in
-    let permuted = given_permutes (gone levels pages kept rows) c.args.out.now.items c.cut_idle.new.out.items c.sort_from.new.frames.items cuts.frames start (omega (arith, c.len-start.ensures, c.args.out.now.ok.0)) cuts.is
-    (gone_same c.args.pool.now c.cut_idle.new.pool levels root rows pages kept c.args.out.now.items c.cut_idle.new.out.items stands cuts c.cut_idle.ensures.holds) c.sort_from.ensures.same in
+    let cuts = subst (λ (k : ℕ). Cuts c.args.pool.now c.cut_idle.new.pool levels root rows pages kept k 0
+    c.args.out.now.items c.cut_idle.new.out.items) same
+    (c.cut_idle.ensures.cut levels root rows pages 0 stands (ap (λ (k : ℕ). table_at rows k 0) same ∙ stands.at_root)
+    (sym (number-first c.levels.result)) (root_stays c.args.pool.now levels root rows pages kept stands)) in
+    let permuted = given_permutes (gone levels pages kept rows) c.args.out.now.items c.cut_idle.new.out.items
+    c.sort_from.new.frames.items cuts.frames start (omega (arith, c.len-start.ensures, c.args.out.now.ok.0)) cuts.is
+    (gone_same c.args.pool.now c.cut_idle.new.pool levels root rows pages kept c.args.out.now.items
+    c.cut_idle.new.out.items stands cuts c.cut_idle.ensures.holds) c.sort_from.ensures.same in
     let fewer : HasFewerHolds c.cut_idle.new.pool c.release_all.new.pool given =
-    subst (HasFewerHolds c.cut_idle.new.pool c.release_all.new.pool) (rest_is c.deref.result.now c.sort_from.new.frames.items start c.deref.ensures.value) c.release_all.ensures in
-    all_pruned c.args.pool.now c.cut_idle.new.pool levels root rows pages kept c.args.out.now.items c.cut_idle.new.out.items stands cuts c.cut_idle.ensures.holds given permuted c.release_all.new.pool fewer)
+    subst (HasFewerHolds c.cut_idle.new.pool c.release_all.new.pool)
+    (rest_is c.deref.result.now c.sort_from.new.frames.items start c.deref.ensures.value) c.release_all.ensures in
+    all_pruned c.args.pool.now c.cut_idle.new.pool levels root rows pages kept c.args.out.now.items
+    c.cut_idle.new.out.items stands cuts c.cut_idle.ensures.holds given permuted c.release_all.new.pool fewer)
 
 pub returns-clause-table : goal.returns-clause-table
 returns-clause-table g c =
@@ -90,10 +109,16 @@ returns-clause-table g c =
     let start = c.len-start.result in
     let given = drop start c.sort_from.new.frames.items in
     let same = c.levels.ensures.value in
-    let cuts = subst (λ (k : ℕ). Cuts c.args.pool.now c.cut_idle.new.pool levels root rows pages kept k 0 c.args.out.now.items c.cut_idle.new.out.items) same
-    (c.cut_idle.ensures.cut levels root rows pages 0 stands (ap (λ (k : ℕ). table_at rows k 0) same ∙ stands.at_root) (sym (number-first c.levels.result)) (root_stays c.args.pool.now levels root rows pages kept stands)) in
-    let permuted = given_permutes (gone levels pages kept rows) c.args.out.now.items c.cut_idle.new.out.items c.sort_from.new.frames.items cuts.frames start (omega (arith, c.len-start.ensures, c.args.out.now.ok.0)) cuts.is
-    (gone_same c.args.pool.now c.cut_idle.new.pool levels root rows pages kept c.args.out.now.items c.cut_idle.new.out.items stands cuts c.cut_idle.ensures.holds) c.sort_from.ensures.same in
+    let cuts = subst (λ (k : ℕ). Cuts c.args.pool.now c.cut_idle.new.pool levels root rows pages kept k 0
+    c.args.out.now.items c.cut_idle.new.out.items) same
+    (c.cut_idle.ensures.cut levels root rows pages 0 stands (ap (λ (k : ℕ). table_at rows k 0) same ∙ stands.at_root)
+    (sym (number-first c.levels.result)) (root_stays c.args.pool.now levels root rows pages kept stands)) in
+    let permuted = given_permutes (gone levels pages kept rows) c.args.out.now.items c.cut_idle.new.out.items
+    c.sort_from.new.frames.items cuts.frames start (omega (arith, c.len-start.ensures, c.args.out.now.ok.0)) cuts.is
+    (gone_same c.args.pool.now c.cut_idle.new.pool levels root rows pages kept c.args.out.now.items
+    c.cut_idle.new.out.items stands cuts c.cut_idle.ensures.holds) c.sort_from.ensures.same in
     let fewer : HasFewerHolds c.cut_idle.new.pool c.release_all.new.pool given =
-    subst (HasFewerHolds c.cut_idle.new.pool c.release_all.new.pool) (rest_is c.deref.result.now c.sort_from.new.frames.items start c.deref.ensures.value) c.release_all.ensures in
-    still_stands c.args.pool.now c.cut_idle.new.pool levels root rows pages kept c.args.out.now.items c.cut_idle.new.out.items stands cuts c.cut_idle.ensures.holds given permuted c.release_all.new.pool fewer)
+    subst (HasFewerHolds c.cut_idle.new.pool c.release_all.new.pool)
+    (rest_is c.deref.result.now c.sort_from.new.frames.items start c.deref.ensures.value) c.release_all.ensures in
+    still_stands c.args.pool.now c.cut_idle.new.pool levels root rows pages kept c.args.out.now.items
+    c.cut_idle.new.out.items stands cuts c.cut_idle.ensures.holds given permuted c.release_all.new.pool fewer)

@@ -6,7 +6,14 @@ use Rattle.pinned_pages.proofs.pages.Pages.pin_reserved.Goals as goal
 pub invariant_of-self-2 : goal.invariant_of-self-2
 invariant_of-self-2 g c =
     let inside = c.self.inside in
-    let pages : ObjectPages = record { user = inside.user; va = inside.va; count = inside.count; writable = inside.writable; table_pins = inside.table_pins; frames = inside.frames.items } in
+    let pages : ObjectPages = record {
+      user = inside.user;
+      va = inside.va;
+      count = inside.count;
+      writable = inside.writable;
+      table_pins = inside.table_pins;
+      frames = inside.frames.items;
+    } in
     let rows = c.args.users.now.pages in
     let accounts = c.args.accounts.now in
     let same : pages ≡ c.args.self.now.pages = ap (λ (p : MemoryPages). p.pages) c.self.view_is in
@@ -18,7 +25,14 @@ invariant_of-self-2 g c =
 pub returns-clause-count : goal.returns-clause-count
 returns-clause-count g c =
     let inside = c.self.inside in
-    let pages : ObjectPages = record { user = inside.user; va = inside.va; count = inside.count; writable = inside.writable; table_pins = inside.table_pins; frames = inside.frames.items } in
+    let pages : ObjectPages = record {
+      user = inside.user;
+      va = inside.va;
+      count = inside.count;
+      writable = inside.writable;
+      table_pins = inside.table_pins;
+      frames = inside.frames.items;
+    } in
     let rows = c.args.users.now.pages in
     let accounts = c.args.accounts.now in
     let same : pages ≡ c.args.self.now.pages = ap (λ (p : MemoryPages). p.pages) c.self.view_is in
@@ -26,4 +40,5 @@ returns-clause-count g c =
     let P : ObjectPages → Type 0 = λ p. pin_refusal p rows accounts ≡ None in
     let fits = granted pages rows accounts (subst P (sym same) c.requires.granted) none in
     let Q : ObjectPages → Type 0 = λ p. length c.hold_all.new.frames.items ≡ pinned_count p + new_count p in
-    subst Q same (first_counted pages rows c.hold_all.new.frames.items c.self.invariant none c.hold_all.ensures.frames fits.0)
+    subst Q same (first_counted pages rows c.hold_all.new.frames.items c.self.invariant none
+    c.hold_all.ensures.frames fits.0)

@@ -6,4 +6,5 @@ use Rattle.server_state.proofs.state.State.has_hwpt.Goals as goal
 pub returns : goal.returns
 returns g c =
     rw c.has_over.ensures
-    (has_hwpt_kept (objects_of c.args.self.now.page_tables) (objects_in c.args.self.now.objects) (tables_known c.args.self.now c.requires) c.args.file c.args.ioas)
+    (has_hwpt_kept (objects_of c.args.self.now.page_tables) (objects_in c.args.self.now.objects)
+    (tables_known c.args.self.now c.requires) c.args.file c.args.ioas)

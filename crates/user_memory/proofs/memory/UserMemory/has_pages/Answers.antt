@@ -8,10 +8,13 @@ use Rattle.user_memory.proofs.memory.UserMemory.has_pages.Goals as goal
 
 pub returns-then-is_none : goal.returns-then-is_none
 returns-then-is_none g c =
-    let here = ap (λ (m : Memory). is_some (frame_at m.pages c.args.user (page_of c.args.va + c.loop-index.index))) (sym c.self.view_is) ∙ sym (ap is_some c.frame_of_page.ensures) ∙ c.if-is_none.ensures in
-    sym (absent_page c.args.self.now.pages c.args.user (page_of c.args.va) c.args.count c.loop-index.index c.loop-index-test.true here)
+    let here = ap (λ (m : Memory). is_some (frame_at m.pages c.args.user (page_of c.args.va + c.loop-index.index)))
+    (sym c.self.view_is) ∙ sym (ap is_some c.frame_of_page.ensures) ∙ c.if-is_none.ensures in
+    sym (absent_page c.args.self.now.pages c.args.user (page_of c.args.va) c.args.count c.loop-index.index
+    c.loop-index-test.true here)
 
 pub loop-index-preserved : goal.loop-index-preserved
 loop-index-preserved g c =
-    let here = ap (λ (m : Memory). is_some (frame_at m.pages c.args.user (page_of c.args.va + c.loop-index.index))) (sym c.self.view_is) ∙ sym (ap is_some c.frame_of_page.ensures) ∙ c.if-is_none.ensures in
+    let here = ap (λ (m : Memory). is_some (frame_at m.pages c.args.user (page_of c.args.va + c.loop-index.index)))
+    (sym c.self.view_is) ∙ sym (ap is_some c.frame_of_page.ensures) ∙ c.if-is_none.ensures in
     present_more c.args.self.now.pages c.args.user (page_of c.args.va) c.loop-index.index c.loop-index.invariant here

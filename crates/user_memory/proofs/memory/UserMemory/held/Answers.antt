@@ -8,4 +8,6 @@ held-requires g c = user_known c.self.inside.accounts c.args.user.0 (rw (← c.s
 pub returns : goal.returns
 returns g c =
     rw (← c.self.view_is)
-    (c.held.ensures.value ∙ held_seen c.self.inside.users.pages c.self.inside.accounts c.self.inside.objects.objects c.args.user c.self.invariant (user_known c.self.inside.accounts c.args.user.0 (rw (← c.self.view_is) at c.requires)))
+    (c.held.ensures.value ∙ held_seen c.self.inside.users.pages c.self.inside.accounts c.self.inside.objects.objects
+    c.args.user c.self.invariant (user_known c.self.inside.accounts c.args.user.0
+    (rw (← c.self.view_is) at c.requires)))

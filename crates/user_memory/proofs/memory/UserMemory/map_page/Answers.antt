@@ -8,6 +8,8 @@ pub returns-clause-holds : goal.returns-clause-holds
 returns-clause-holds g c =
     elim c.match-map.branch [
       | in-Ok w ↦ rw (w.result-is, ← c.self.view_is)
-          (given_follow (limits_of c.self.inside.accounts) c.self.inside.objects.objects c.self.inside.users.pages c.map.new.self.pages c.args.user (page_of c.args.va) w.in-Ok.frame w.in-Ok.ensures.more c.args.pool.now c.map.new.pool w.in-Ok.ensures.least w.in-Ok.ensures.pool)
+          (given_follow (limits_of c.self.inside.accounts) c.self.inside.objects.objects c.self.inside.users.pages
+          c.map.new.self.pages c.args.user (page_of c.args.va) w.in-Ok.frame w.in-Ok.ensures.more
+          c.args.pool.now c.map.new.pool w.in-Ok.ensures.least w.in-Ok.ensures.pool)
       | in-Err w ↦ rw w.result-is tt
     ]

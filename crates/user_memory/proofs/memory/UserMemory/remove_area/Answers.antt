@@ -13,7 +13,8 @@ use Rattle.user_memory.proofs.memory.UserMemory.remove_area.Goals as goal
 pub remove_area-requires : goal.remove_area-requires
 remove_area-requires g c =
     let P : Memory → Type 0 = λ m. table_pins m c.args.number + 1 ≤ areas_over m c.args.number in
-    areas_there c.self.inside.objects.objects c.self.invariant.told c.args.number (subst P (sym c.self.view_is) c.requires)
+    areas_there c.self.inside.objects.objects c.self.invariant.told c.args.number
+    (subst P (sym c.self.view_is) c.requires)
 
 pub invariant_of-self : goal.invariant_of-self
 invariant_of-self g c =
@@ -22,9 +23,13 @@ invariant_of-self g c =
     let is = sym c.remove_area.ensures.objects in
     let U : List MemoryEntry → Type 0 = λ xs. list_all (has_user c.self.inside.accounts) xs ≡ true in
     let K : List MemoryEntry → Type 0 = λ xs. list_all is_kept xs ≡ true in
-    accounts_stay c.self.inside.accounts old c.remove_area.new.self.objects c.self.invariant c.remove_area.ensures.pins.pinned
+    accounts_stay c.self.inside.accounts old c.remove_area.new.self.objects c.self.invariant
+    c.remove_area.ensures.pins.pinned
     (subst U is (tests_stay numbers old (has_user c.self.inside.accounts) (λ o known. known) c.self.invariant.users))
-    (record { memory = c.remove_area.ensures.invariant; kept = subst K is (tests_stay numbers old is_kept (λ o kept. kept) c.self.invariant.told.kept) })
+    (record {
+      memory = c.remove_area.ensures.invariant;
+      kept = subst K is (tests_stay numbers old is_kept (λ o kept. kept) c.self.invariant.told.kept);
+    })
 
 pub returns-clause-less : goal.returns-clause-less
 returns-clause-less g c =
@@ -33,9 +38,11 @@ returns-clause-less g c =
     let limits = limits_of c.self.inside.accounts in
     let n = c.args.number in
     let P : Memory → Type 0 = λ m. table_pins m n + 1 ≤ areas_over m n in
-    let N : List MemoryEntry → Type 0 = λ xs. HasLess (once n) never (memory_of rows limits old) (memory_of rows limits xs) in
+    let N : List MemoryEntry → Type 0 =
+    λ xs. HasLess (once n) never (memory_of rows limits old) (memory_of rows limits xs) in
     let V : Memory → Type 0 = λ m. HasLess (once n) never m (memory_of rows limits c.remove_area.new.self.objects) in
-    subst V c.self.view_is (subst N (sym c.remove_area.ensures.objects) (remove_less rows old c.self.invariant.told n (subst P (sym c.self.view_is) c.requires) limits limits))
+    subst V c.self.view_is (subst N (sym c.remove_area.ensures.objects)
+    (remove_less rows old c.self.invariant.told n (subst P (sym c.self.view_is) c.requires) limits limits))
 
 pub returns-clause-settles : goal.returns-clause-settles
 returns-clause-settles g c = λ pool.
@@ -49,5 +56,7 @@ returns-clause-settles g c = λ pool.
     let V : Memory → Type 0 = λ m. Settles m (memory_of rows limits new) pool pool in
     subst V c.self.view_is
     (settle rows limits limits old new pool pool refl c.self.invariant.told.memory.rising
-    (subst S (sym c.remove_area.ensures.objects) (remove_steps rows old c.self.invariant.told n (subst P (sym c.self.view_is) c.requires)))
-    refl (λ frame. ap (λ k. get_or pool.holds frame 0 + k) (sym (c.remove_area.ensures.pins.pins frame))) refl c.remove_area.ensures.invariant)
+    (subst S (sym c.remove_area.ensures.objects)
+    (remove_steps rows old c.self.invariant.told n (subst P (sym c.self.view_is) c.requires)))
+    refl (λ frame. ap (λ k. get_or pool.holds frame 0 + k) (sym (c.remove_area.ensures.pins.pins frame))) refl
+    c.remove_area.ensures.invariant)

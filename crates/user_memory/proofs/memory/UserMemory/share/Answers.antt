@@ -13,7 +13,8 @@ add_area-requires g c =
 
 pub invariant_of-self : goal.invariant_of-self
 invariant_of-self g c =
-    shared_tell c.args.number c.self.inside.objects.objects c.add_area.new.self.objects c.add_area.ensures.objects c.self.inside.accounts c.self.invariant c.add_area.ensures.pins c.add_area.ensures.invariant
+    shared_tell c.args.number c.self.inside.objects.objects c.add_area.new.self.objects c.add_area.ensures.objects
+    c.self.inside.accounts c.self.invariant c.add_area.ensures.pins c.add_area.ensures.invariant
 
 pub returns-clause-share : goal.returns-clause-share
 returns-clause-share g c =
@@ -21,14 +22,18 @@ returns-clause-share g c =
     let rows = c.self.inside.users.pages in
     let limits = limits_of c.self.inside.accounts in
     let There : Memory → Type 0 = λ m. 1 ≤ areas_over m n in
-    let more = shared_more n c.self.inside.objects.objects c.add_area.new.self.objects c.add_area.ensures.objects rows limits limits c.add_area.ensures.rows (subst There (sym c.self.view_is) c.requires.there) in
-    let V : Memory → Type 0 = λ m. HasShare (cond c.args.pinned 1 0) n m (memory_of rows limits c.add_area.new.self.objects) in
+    let more = shared_more n c.self.inside.objects.objects c.add_area.new.self.objects c.add_area.ensures.objects rows
+    limits limits c.add_area.ensures.rows (subst There (sym c.self.view_is) c.requires.there) in
+    let V : Memory → Type 0 =
+    λ m. HasShare (cond c.args.pinned 1 0) n m (memory_of rows limits c.add_area.new.self.objects) in
     subst V c.self.view_is (rw c.if-pinned.false more)
 
 pub returns-clause-settles : goal.returns-clause-settles
 returns-clause-settles g c =
     let rows = c.self.inside.users.pages in
     let limits = limits_of c.self.inside.accounts in
-    let V : Memory → Type 0 = λ m. Settles m (memory_of rows limits c.add_area.new.self.objects) c.args.pool.now c.args.pool.now in
+    let V : Memory → Type 0 =
+    λ m. Settles m (memory_of rows limits c.add_area.new.self.objects) c.args.pool.now c.args.pool.now in
     subst V c.self.view_is
-    (shared_settles c.args.number c.self.inside.objects.objects c.add_area.new.self.objects c.add_area.ensures.objects rows limits c.args.pool.now c.self.invariant.told c.add_area.ensures.pins c.add_area.ensures.invariant)
+    (shared_settles c.args.number c.self.inside.objects.objects c.add_area.new.self.objects c.add_area.ensures.objects
+    rows limits c.args.pool.now c.self.invariant.told c.add_area.ensures.pins c.add_area.ensures.invariant)
