@@ -1,5 +1,5 @@
 -- Where an event is refused for want of frames, there are too few for what it needs.
-use Rattle.std.proofs.Common.{◌≡◌, ℕ, zero, suc, ◌+◌, ◌<◌, ◌≤◌, Bool, true, false, cond, ◌&&◌, ◌||◌, not, eqb, ltb}
+use Rattle.std.proofs.Common.{◌≡◌, ℕ, zero, suc, ◌+◌, ◌<◌, ◌≤◌, Bool, true, false, cond, ◌&&◌, not, eqb, ltb}
 use Rattle.std.proofs.Common.{is_none, is_some, Option, Some, None, List, [], ◌∷◌, length, refl, ap, sym, ◌∙◌, subst}
 use Rattle.std.proofs.Common.{arith, inl}
 use Rattle.std.specs.List.{count_by, filter, list_all, list_any, range_with_len}
@@ -52,9 +52,9 @@ use Rattle.iofd_rows.proofs.PageCounts.{count-cons}
 use Rattle.iofd_runs.proofs.CopySource.{source_area}
 use Rattle.iofd_runs.proofs.KeepsTabled.{HasTables}
 use Rattle.iofd_runs.proofs.MissingTables.{is_owned}
-use Rattle.iofd_runs.proofs.Runs.{test_at}
 use Rattle.iofd_runs.proofs.StillTabled.{none_given}
 use Rattle.iofd_laws.proofs.OwnTables.{all_none, none_all, none_goes}
+use Rattle.iofd_laws.proofs.RefusingRow.{row_passed, some_row}
 use Rattle.iofd_laws.proofs.SomeRecord.{attached_owned, attached_tables, made_owned, made_tables, mapped_tables}
 use Rattle.iofd_laws.specs.Laws.{chooses_address}
 
@@ -69,46 +69,7 @@ is_frames c = false
 
 frames_row : (rows : List (Cause × Bool)) → first_true rows ≡ Some cause.Frames
     → list_any (λ row. is_frames row.0 && row.1) rows ≡ true
-frames_row [] none = cc
-frames_row ((name, test) ∷ rows) is = by_test test is (frames_row rows)
-  where
-    by_test : (b : Bool) → cond b (Some name) (first_true rows) ≡ Some cause.Frames
-        → (first_true rows ≡ Some cause.Frames → list_any (λ row. is_frames row.0 && row.1) rows ≡ true)
-        → ((is_frames name && b) || list_any (λ row. is_frames row.0 && row.1) rows) ≡ true
-    by_test true found later = let same : name ≡ cause.Frames = cc in rw same refl
-    by_test false found later = either (is_frames name) (later found)
-      where
-        either : (a : Bool) → list_any (λ row. is_frames row.0 && row.1) rows ≡ true
-            → ((a && false) || list_any (λ row. is_frames row.0 && row.1) rows) ≡ true
-        either true rest = rest
-        either false rest = rest
-
--- the row at this place and those before it have other causes
-abbrev are_other : List (Cause × Bool) → ℕ → Bool
-are_other [] place = true
-are_other (row ∷ rows) zero = not (is_frames row.0)
-are_other (row ∷ rows) (suc place) = not (is_frames row.0) && are_other rows place
-
--- so it didn't refuse
-row_passed : (rows : List (Cause × Bool)) (place : ℕ) → first_true rows ≡ Some cause.Frames
-    → are_other rows place ≡ true → test_at rows place ≡ false
-row_passed [] place is other = refl
-row_passed (row ∷ rows) place is other =
-    by_test (λ at found others. row_passed rows at found others) row.0 row.1 place is other
-  where
-    refused : (name : Cause) → name ≡ cause.Frames → not (is_frames name) ≡ true → ⊥
-    refused name same other = let never = rw same at other in cc
-
-    by_test : ((at : ℕ) → first_true rows ≡ Some cause.Frames → are_other rows at ≡ true → test_at rows at ≡ false)
-        → (name : Cause) (test : Bool) (at : ℕ)
-        → cond test (Some name) (first_true rows) ≡ Some cause.Frames → are_other ((name, test) ∷ rows) at ≡ true
-        → test_at ((name, test) ∷ rows) at ≡ false
-    by_test later name true zero found other = let same : name ≡ cause.Frames = cc in absurd (refused name same other)
-    by_test later name true (suc at) found other = let same : name ≡ cause.Frames =
-        cc in absurd (refused name same (and_true (not (is_frames name)) (are_other rows at) other).0)
-    by_test later name false zero found other = refl
-    by_test later name false (suc at) found other =
-        later at found (and_true (not (is_frames name)) (are_other rows at) other).1
+frames_row rows is = some_row cause.Frames is_frames refl rows is
 
 -- ---- no more frames than there are
 
@@ -284,7 +245,7 @@ module _ {A : Type 0} (at : ℕ) (w : World) (has : HasTables w) (taken given : 
           is_true = (and_true (is_some (user_of w.settings file))
               (not (list_any (λ (f : FileNo). eqb f.0 file.0) w.closed))
               (not_not (is_open w.settings w.closed file)
-              (row_passed (map_checks (view w) file request) 0 refused refl))).0
+              (row_passed cause.Frames is_frames refl (map_checks (view w) file request) 0 refused refl))).0
       by_user (Some user) is moves =
           overdrawn w {A = A} (map_changes at w file request iova (Some user)) (event.Map file request)
           (reply.Iova iova) taken given moves refl has.tables.owned (λ table. refl)
@@ -304,7 +265,7 @@ module _ {A : Type 0} (at : ℕ) (w : World) (has : HasTables w) (taken given : 
           ∙ frames_row (copy_checks (view w) file request) refused
 
       found : is_none (source_area w file request) ≡ false
-      found = row_passed (copy_checks (view w) file request) 7 refused refl
+      found = row_passed cause.Frames is_frames refl (copy_checks (view w) file request) 7 refused refl
 
       by_source : (source : Option Area) → source_area w file request ≡ source
           → MovesTables {A = A} w (copy_changes w file request iova source) (event.Copy file request)

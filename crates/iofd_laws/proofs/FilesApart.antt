@@ -51,7 +51,7 @@ use Rattle.iofd_runs.proofs.NotRefused.{detach_passed, flush_passed, passes}
 -- ---- filters
 
 -- what fails a test may go before the test
-filter_filter : {X : Type 0} (p q : X → Bool) (xs : List X) → ((x : X) → p x ≡ true → q x ≡ true)
+pub filter_filter : {X : Type 0} (p q : X → Bool) (xs : List X) → ((x : X) → p x ≡ true → q x ≡ true)
     → filter p (filter q xs) ≡ filter p xs
 filter_filter p q [] keeps = refl
 filter_filter p q (x ∷ xs) keeps = by_tests (p x) (q x) refl refl (keeps x) (filter_filter p q xs keeps)
@@ -77,7 +77,7 @@ filter_map_same p q h (x ∷ xs) all like same =
     by_test false is passes rest = rest
 
 -- what fails a test may go before the test, among rows of which each has q
-filter_filter_of : {X : Type 0} (p q r : X → Bool) (xs : List X) → list_all q xs ≡ true
+pub filter_filter_of : {X : Type 0} (p q r : X → Bool) (xs : List X) → list_all q xs ≡ true
     → ((x : X) → p x ≡ true → q x ≡ true → r x ≡ true) → filter p (filter r xs) ≡ filter p xs
 filter_filter_of p q r [] all keeps = refl
 filter_filter_of p q r (x ∷ xs) all keeps =
@@ -91,7 +91,7 @@ filter_filter_of p q r (x ∷ xs) all keeps =
     by_tests false true pa rb keep rest = rw (pa, rest) refl
     by_tests false false pa rb keep rest = rest
 
-other_file : (own file : FileNo) → own.0 ≢ file.0 → eqb own.0 file.0 ≡ false
+pub other_file : (own file : FileNo) → own.0 ≢ file.0 → eqb own.0 file.0 ≡ false
 other_file own file differ = grind (arith, nat_tests)
 
 -- ---- one more row of another file

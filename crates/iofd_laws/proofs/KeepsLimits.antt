@@ -67,7 +67,7 @@ use Rattle.iofd_runs.proofs.NotRefused.{attach_passed, copy_passed, hwpt_passed,
 use Rattle.iofd_runs.proofs.StillTabled.{in_kept}
 
 -- a memory object of the user
-abbrev of_user : UserNo → MemoryObject → Bool
+abbrev pub of_user : UserNo → MemoryObject → Bool
 of_user user m = eqb m.user.0 user.0
 
 -- no user has more pinned pages than its limit allows
@@ -98,15 +98,15 @@ within_limit v (Some other) user count limit is has passed =
 
 -- ---- the pages of a memory object
 
-page_of_object : (m : MemoryObject) (page : ObjectPage) → IsIn (pages_of m) page → has_page page m ≡ true
+pub page_of_object : (m : MemoryObject) (page : ObjectPage) → IsIn (pages_of m) page → has_page page m ≡ true
 page_of_object m page within =
     sym (in_pages page m.number m.count) ∙ of_any (is_page page) (pages_of m) page within (page_itself page)
 
-number_of_page : (m : MemoryObject) (page : ObjectPage) → IsIn (pages_of m) page → page.memory ≡ m.number
+pub number_of_page : (m : MemoryObject) (page : ObjectPage) → IsIn (pages_of m) page → page.memory ≡ m.number
 number_of_page m page within = eqb-true page.memory m.number
     (and_true (eqb page.memory m.number) (ltb page.index m.count) (page_of_object m page within)).0
 
-listed_page : (memory : List MemoryObject) (m : MemoryObject) (page : ObjectPage) → IsIn memory m
+pub listed_page : (memory : List MemoryObject) (m : MemoryObject) (page : ObjectPage) → IsIn memory m
     → IsIn (pages_of m) page → is_listed memory page ≡ true
 listed_page memory m page among within =
     listed_is memory page ∙ of_any (has_page page) memory m among (page_of_object m page within)
@@ -114,7 +114,7 @@ listed_page memory m page among within =
 -- ---- where pins follow
 
 -- the page has a pin
-abbrev has_pin : World → ObjectPage → Bool
+abbrev pub has_pin : World → ObjectPage → Bool
 has_pin w page = is_some (pinned_frame w.pins page)
 
 -- the page is to be pinned, and wasn't
@@ -138,7 +138,7 @@ settle_pin w new page some none =
     by_tests false true None now some none = refl
     by_tests was true (Some old) now some none = cc
 
-held_settle : (w new : World) (user : UserNo)
+pub held_settle : (w new : World) (user : UserNo)
     → held_in (settle w new) user ≡ page_count (has_pin (settle w new)) (of_user user) new.memory
 unfolding settle
 held_settle w new user = refl
@@ -261,7 +261,7 @@ module _ (w new : World) (same : new.memory ≡ w.memory) (file : FileNo) (joins
 
 -- ---- a MAP
 
-abbrev mapped_world : ℕ → World → FileNo → MapRequest → Iova → UserNo → World
+abbrev pub mapped_world : ℕ → World → FileNo → MapRequest → Iova → UserNo → World
 mapped_world at w file request iova user =
     record w {
       memory = w.memory ++ memory_object at user request ∷ [];
@@ -381,7 +381,7 @@ mapped_held at w file request iova user other limit p none is has before =
 
 -- ---- a COPY
 
-abbrev copied_world : World → FileNo → CopyRequest → Iova → Area → World
+abbrev pub copied_world : World → FileNo → CopyRequest → Iova → Area → World
 copied_world w file request iova source =
     record w { areas = with_area (mapped_area source.memory file (placed_as request) iova) w.areas }
 
@@ -437,7 +437,7 @@ copied_held at w file request iova source user limit p none found has before =
 
 -- ---- page tables come and go
 
-abbrev moved_world : World → List Area → List Object → List Attachment → World
+abbrev pub moved_world : World → List Area → List Object → List Attachment → World
 moved_world w areas left attachments = record w { objects = left; attachments = attachments; areas = areas }
 
 -- a page that comes is new
@@ -459,7 +459,7 @@ fewer_held w areas left attachments user alike fewer =
     (λ page is. none_new w left page fewer (comes_new w areas left attachments page alike is)))
 
 -- the areas with a device's debts paid
-alike_paid : (w : World) (device : DeviceNo) → AlikeAreas w (all_paid device w.areas)
+pub alike_paid : (w : World) (device : DeviceNo) → AlikeAreas w (all_paid device w.areas)
 alike_paid w device = λ objects number. translated-map objects (λ a. paid device a.phase) w.areas number
 
 -- an address space gets its first page table

@@ -1,5 +1,6 @@
 pub mod AreasRise
 pub mod Bound
+pub mod DueAccount
 pub mod DueFrames
 pub mod FilesApart
 pub mod FreeFrames
@@ -11,6 +12,8 @@ pub mod MemoryApart
 pub mod OutlivesUnmap
 pub mod OwnFrames
 pub mod OwnTables
+pub mod RefusingRow
 pub mod ServedAreas
 pub mod SomeAnswer
 pub mod SomeRecord
+pub mod TablesApart

@@ -5,6 +5,7 @@ use Rattle.std.specs.List.{list_all, list_any}
 use Rattle.iofd_words.specs.Allowed.{AllowedRanges}
 use Rattle.iofd_words.specs.Answers.{Answers}
 use Rattle.iofd_words.specs.Areas.{is_of}
+use Rattle.iofd_words.specs.Files.{limit_of, user_of}
 use Rattle.iofd_words.specs.Frames.{is_reached}
 use Rattle.iofd_words.specs.Levels.{first_address, levels_of}
 use Rattle.iofd_words.specs.Objects.{binding_of, has_hwpt, kind_of, objects_of}
@@ -140,6 +141,10 @@ rows_of file w =
       closed = list_any (λ f. f.0 == file.0) w.closed;
     }
 
+-- the rows for the tables of the file's page tables
+abbrev pub tables_of : FileNo → World → List TableFrame
+tables_of file w = filter (λ table. table.file.0 == file.0) w.table_frames
+
 -- ---- the memory of files
 
 -- an area of the file lies over the memory object of this number
@@ -180,6 +185,16 @@ pin_moves page old new =
 -- how many pinned pages a user has
 abbrev pub held_in : World → UserNo → ℕ
 held_in w user = held_by (pinned_frame w.pins) w.memory user
+
+-- the user of the event's file has more pinned pages in the world that is left than its limit allows
+pub record PassesLimit {A : Type 0} (w left : World) (e : Event A) : Type 0 where
+  pub file : FileNo
+  pub user : UserNo
+  pub limit : ℕ
+  pub of_file : file_of w e ≡ Some file
+  pub of_user : user_of w.settings file ≡ Some user
+  pub allowed : limit_of w.settings user ≡ Some limit
+  pub more : limit < held_in left user
 
 -- ---- records
 

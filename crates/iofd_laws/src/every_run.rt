@@ -8,8 +8,8 @@ ghost use Rattle.iofd_runs.specs.InUsable.{AreasUsable};
 ghost use Rattle.iofd_runs.specs.Owned.{AreasOwned};
 ghost use Rattle.iofd_runs.specs.Rising.{objects_rise};
 ghost use Rattle.iofd_laws.specs.Laws.{chooses_address, have_own_frames, has_memory, held_in, HasRecord};
-ghost use Rattle.iofd_laws.specs.Laws.{IsOfAnother, SameMemory, TablesAlone, TablesServe, WasFree, rows_of};
-ghost use Rattle.iofd_laws.specs.Laws.{starts_rise};
+ghost use Rattle.iofd_laws.specs.Laws.{IsOfAnother, PassesLimit, SameMemory, TablesAlone, TablesServe, WasFree};
+ghost use Rattle.iofd_laws.specs.Laws.{rows_of, starts_rise, tables_of};
 ghost use Rattle.iofd_rows.specs.Ids.{AreBoundOnce, have_own_ids};
 ghost use Rattle.iofd_laws.specs.Laws.{Outlives, pin_moves};
 ghost use Rattle.iofd_rows.specs.Pinned.{ArePinned};
@@ -141,6 +141,17 @@ pub fn refusals_for_frames_are_due<A: Allocator>()
         event answer taken given → ⊥ }
 {}
 
+/// In every run, an event that is refused for the account could not be carried out within the limit: with each of its
+/// answers, at whatever address a server might choose, the user of its file would have more pinned pages than its limit
+/// allows.
+pub fn refusals_for_the_account_are_due<A: Allocator>()
+    ensures { (settings : Settings) (records : List (Record A)) (event : Event A) (answer : Reply) →
+        IsRun settings records → refusal (world_of settings records) event ≡ Some cause.Account →
+        Answers (world_of settings records) event answer →
+        PassesLimit (world_of settings records)
+        (changed (length records) (world_of settings records) event answer) event }
+{}
+
 /// In every run, each area begins at a page, is of whole pages and no longer than a user's memory, attachments rise by
 /// device, and users and pins have frames of the pool. Each object is of an open file, and each bound or attached
 /// device is one of the settings.
@@ -183,6 +194,15 @@ pub fn memory_of_files_is_apart<A: Allocator>()
         IsRun settings (before ++ r ∷ []) → IsOfAnother (world_of settings before) r.event other →
         IsTrue (has_memory other (world_of settings before) number) →
         SameMemory number (world_of settings before) (after (length before) (world_of settings before) r) }
+{}
+
+/// In every run, a record leaves the tables of a file that its event isn't of as they are: none comes, none goes, and
+/// each stays in its frame.
+pub fn tables_of_files_are_apart<A: Allocator>()
+    ensures { (settings : Settings) (before : List (Record A)) (r : Record A) (file : FileNo) →
+        IsRun settings (before ++ r ∷ []) → IsOfAnother (world_of settings before) r.event file →
+        tables_of file (after (length before) (world_of settings before) r) ≡
+        tables_of file (world_of settings before) }
 {}
 
 /// In every run, an UNMAP leaves each area that it doesn't touch as it is, and its memory object, also where other

@@ -1,0 +1,660 @@
+-- An event that is refused for the account would give its user more pinned pages than the limit allows, by each answer.
+use Rattle.std.proofs.Common.{◌≡◌, ℕ, ◌+◌, ◌/◌, ◌<◌, ◌≤◌, Bool, true, false, cond, ◌&&◌, ◌||◌, not, eqb, ltb, is_none}
+use Rattle.std.proofs.Common.{is_some, Option, Some, None, List, [], ◌∷◌, ◌++◌, length, refl, ap, sym, subst, ◌∙◌}
+use Rattle.std.proofs.Common.{arith, inl, inr}
+use Rattle.std.specs.List.{count_by, filter, find, flat_map, list_all, list_any, range_with_len}
+use Rattle.std.proofs.lemmas.Bool.Decides.{nat_tests}
+use Rattle.std.proofs.lemmas.Bool.{not-false}
+use Rattle.std.proofs.lemmas.List.FromFn.{length-map-range_with_len}
+use Rattle.std.proofs.lemmas.List.Sums.{length-filter}
+use Rattle.iofd_words.specs.After.{attach_changes, attached, changed, copy_changes, hwpt_changes, map_changes}
+use Rattle.iofd_words.specs.After.{mapped_area, memory_object, settle, target_changes, with_hwpt}
+use Rattle.iofd_words.specs.Answers.{Answers, IsHwptOf}
+use Rattle.iofd_words.specs.Areas.{all_paid, areas_of, is_of, with_area}
+use Rattle.iofd_words.specs.Attachments.{attachment_of, with_attachment}
+use Rattle.iofd_words.specs.Checks.{allow_iovas_checks, attach_checks, bind_checks, bound_attach_checks, checks}
+use Rattle.iofd_words.specs.Checks.{close_checks, copy_checks, destroy_checks, detach_checks, device_write_checks}
+use Rattle.iofd_words.specs.Checks.{flush_checks, has_pages, hwpt_alloc_checks, ioas_alloc_checks, lacks_attached_page}
+use Rattle.iofd_words.specs.Checks.{lacks_copied_page, lacks_mapped_page, map_checks, newly_copied, newly_pinned}
+use Rattle.iofd_words.specs.Checks.{passes_limit, passes_limit_attached, passes_limit_copied, passes_limit_mapped}
+use Rattle.iofd_words.specs.Checks.{refusal, target_checks, unbind_checks, unmap_checks, user_map_checks}
+use Rattle.iofd_words.specs.Checks.{user_unmap_checks, user_write_checks}
+use Rattle.iofd_words.specs.Copies.{placed_as}
+use Rattle.iofd_words.specs.Files.{device_of, is_open, limit_of, user_of}
+use Rattle.iofd_words.specs.FirstTrue.{first_true}
+use Rattle.iofd_words.specs.Frames.{frame_at}
+use Rattle.iofd_words.specs.Objects.{automatic_hwpt, binding_of, device_in, device_under, has_hwpt, is_automatic_over}
+use Rattle.iofd_words.specs.Objects.{is_hwpt_over, is_object, kind_of, settings_under}
+use Rattle.iofd_words.specs.Pages.{page_of}
+use Rattle.iofd_words.specs.Pins.{ObjectPage, frame_now, is_page, is_translated, pages_of, pinned_frame}
+use Rattle.iofd_words.specs.Pins.{unpinned_pages}
+use Rattle.iofd_words.specs.Settings.{DeviceSettings}
+use Rattle.iofd_words.specs.View.{view}
+use Rattle.iofd_words.specs.World.{World}
+use Rattle.iofd_words.specs.declared.event.CopyRequest.{CopyRequest}
+use Rattle.iofd_words.specs.declared.event.Event.{Event}
+use Rattle.iofd_words.specs.declared.event.Event.TheVariants as event
+use Rattle.iofd_words.specs.declared.event.HwptRequest.{HwptRequest}
+use Rattle.iofd_words.specs.declared.event.MapRequest.{MapRequest}
+use Rattle.iofd_words.specs.declared.numbers.DeviceNo.{DeviceNo}
+use Rattle.iofd_words.specs.declared.numbers.FileNo.{FileNo}
+use Rattle.iofd_words.specs.declared.numbers.FrameNo.{FrameNo}
+use Rattle.iofd_words.specs.declared.numbers.Iova.{Iova}
+use Rattle.iofd_words.specs.declared.numbers.ObjId.{ObjId}
+use Rattle.iofd_words.specs.declared.numbers.UserNo.{UserNo}
+use Rattle.iofd_words.specs.declared.refusal.Cause.{Cause}
+use Rattle.iofd_words.specs.declared.refusal.Cause.TheVariants as cause
+use Rattle.iofd_words.specs.declared.reply.Reply.{Reply}
+use Rattle.iofd_words.specs.declared.reply.Reply.TheVariants as reply
+use Rattle.iofd_words.specs.declared.rows.Area.{Area}
+use Rattle.iofd_words.specs.declared.rows.Attachment.{Attachment}
+use Rattle.iofd_words.specs.declared.rows.MemoryObject.{MemoryObject}
+use Rattle.iofd_words.specs.declared.rows.Object.{Object}
+use Rattle.iofd_words.specs.declared.rows.ObjectKind.{ObjectKind}
+use Rattle.iofd_words.specs.declared.rows.ObjectKind.TheVariants as kind
+use Rattle.iofd_words.specs.declared.width.Width.{Width}
+use Rattle.iofd_laws.specs.Laws.{PassesLimit, file_of, held_in}
+use Rattle.iofd_rows.specs.Pinned.{ArePinned}
+use Rattle.iofd_rows.proofs.Bools.{and_rest, and_true, both_true, clash, not_true, or_none}
+use Rattle.iofd_rows.proofs.Each.{IsIn, in_found, in_map, of_any, of_each}
+use Rattle.iofd_rows.proofs.ListTests.{any-filter, any_weaker, or_left, or_right}
+use Rattle.iofd_rows.proofs.ObjectPages.{in_pinned, is_listed, listed_more, translated-with_area}
+use Rattle.iofd_rows.proofs.ObjectPages.{translated_within}
+use Rattle.iofd_rows.proofs.PageCounts.{count-cons, count_weaker, page_count, page_count-cons, page_count_bound}
+use Rattle.iofd_rows.proofs.PageCounts.{page_count_last}
+use Rattle.iofd_rows.proofs.PageLists.{at_page}
+use Rattle.iofd_rows.proofs.PageTables.{hwpt-with_object}
+use Rattle.iofd_rows.proofs.PinsFollow.{pin_is_of, settled_at, settled_frame}
+use Rattle.iofd_runs.specs.Fits.{RowsFit, is_known_device}
+use Rattle.iofd_runs.specs.Owned.{is_of_files_user}
+use Rattle.iofd_runs.proofs.AttachedPages.{there_now, with_table}
+use Rattle.iofd_runs.proofs.CopiedPages.{pages_copied}
+use Rattle.iofd_runs.proofs.CopySource.{source_area, source_is}
+use Rattle.iofd_runs.proofs.KeepsOwned.{OwnedPins, owner}
+use Rattle.iofd_runs.proofs.KeepsPins.{AlikeAreas, pages_in}
+use Rattle.iofd_runs.proofs.StillTabled.{in_kept}
+use Rattle.iofd_laws.proofs.KeepsLimits.{alike_paid, copied_world, has_pin, held_settle, listed_page, mapped_world}
+use Rattle.iofd_laws.proofs.KeepsLimits.{moved_world, number_of_page, of_user, page_of_object}
+use Rattle.iofd_laws.proofs.RefusingRow.{row_passed, some_row}
+
+never : false ≡ true → ⊥
+never is = cc
+
+flipped : (a b : ℕ) → eqb a b ≡ true → eqb b a ≡ true
+flipped a b is = grind (arith, nat_tests)
+
+-- ---- which row refused
+
+abbrev is_account : Cause → Bool
+is_account cause.Account = true
+is_account c = false
+
+account_row : (rows : List (Cause × Bool)) → first_true rows ≡ Some cause.Account
+    → list_any (λ row. is_account row.0 && row.1) rows ≡ true
+account_row rows is = some_row cause.Account is_account refl rows is
+
+-- ---- the user and the limit that it passes
+
+record IsOver (w : World) (file : FileNo) (count : ℕ) : Type 0 where
+  user : UserNo
+  limit : ℕ
+  of_user : user_of w.settings file ≡ Some user
+  allowed : limit_of w.settings user ≡ Some limit
+  more : limit < held_in w user + count
+
+is_over : (w : World) (file : FileNo) (count : ℕ) → passes_limit (view w) (user_of w.settings file) count ≡ true
+    → IsOver w file count
+is_over w file count over = by_user (user_of w.settings file) refl over
+  where
+    above : (a b : ℕ) → ltb a b ≡ true → a < b
+    above a b is = search (is, arith, nat_tests)
+
+    by_user : (o : Option UserNo) → user_of w.settings file ≡ o → passes_limit (view w) o count ≡ true
+        → IsOver w file count
+    by_user None is over = cc
+    by_user (Some user) is over = by_limit (limit_of w.settings user) refl over
+      where
+        by_limit : (l : Option ℕ) → limit_of w.settings user ≡ l
+            → elim l [ Some limit ↦ ltb limit (held_in w user + count) | None ↦ false ] ≡ true → IsOver w file count
+        by_limit None has over = cc
+        by_limit (Some limit) has over =
+            record { user = user; limit = limit; of_user = is; allowed = has; more = above _ _ over }
+
+-- a world in which the user has them all
+passed : {A : Type 0} (w left : World) (e : Event A) (file : FileNo) (count : ℕ) → file_of w e ≡ Some file
+    → (over : IsOver w file count) → held_in w over.user + count ≤ held_in left over.user → PassesLimit w left e
+passed w left e file count of_file over held =
+    let more = over.more in
+    record {
+      file = file;
+      user = over.user;
+      limit = over.limit;
+      of_file = of_file;
+      of_user = over.of_user;
+      allowed = over.allowed;
+      more = omega (arith, more, held);
+    }
+
+-- ---- counts
+
+-- what passes one of two tests that no row passes both of passes a third
+count_both : {X : Type 0} (p q r : X → Bool) (xs : List X) → ((x : X) → IsIn xs x → q x ≡ true → p x ≡ true)
+    → ((x : X) → IsIn xs x → r x ≡ true → p x ≡ true) → ((x : X) → q x ≡ true → r x ≡ false)
+    → count_by q xs + count_by r xs ≤ count_by p xs
+count_both p q r [] first second apart = omega arith
+count_both p q r (x ∷ xs) first second apart =
+    let rest = count_both p q r xs (λ y later. first y (inr later)) (λ y later. second y (inr later)) apart in
+    rw (count-cons p x xs, count-cons q x xs, count-cons r x xs)
+    (by_tests (p x) (q x) (r x) (first x (inl refl)) (second x (inl refl)) (apart x) rest)
+  where
+    by_tests : (a b c : Bool) → (b ≡ true → a ≡ true) → (c ≡ true → a ≡ true) → (b ≡ true → c ≡ false)
+        → count_by q xs + count_by r xs ≤ count_by p xs
+        → (cond b 1 0 + count_by q xs) + (cond c 1 0 + count_by r xs) ≤ cond a 1 0 + count_by p xs
+    by_tests a true true one two other rest = let is = other refl in cc
+    by_tests true true false one two other rest = omega (arith, rest)
+    by_tests true false true one two other rest = omega (arith, rest)
+    by_tests true false false one two other rest = omega (arith, rest)
+    by_tests false true false one two other rest = let is = one refl in cc
+    by_tests false false true one two other rest = let is = two refl in cc
+    by_tests false false false one two other rest = omega (arith, rest)
+
+count_all : {X : Type 0} (p : X → Bool) (xs : List X) → ((x : X) → IsIn xs x → p x ≡ true)
+    → length xs ≤ count_by p xs
+count_all p [] each = omega arith
+count_all p (x ∷ xs) each =
+    let rest = count_all p xs (λ y later. each y (inr later)) in
+    rw (count-cons p x xs, each x (inl refl)) (omega (arith, rest))
+
+-- of each memory object
+page_count_both : (p q r : ObjectPage → Bool) (t s : MemoryObject → Bool) (memory : List MemoryObject)
+    → ((m : MemoryObject) → IsIn memory m → cond (t m) (count_by q (pages_of m)) 0
+    + cond (s m) (count_by r (pages_of m)) 0 ≤ cond (t m) (count_by p (pages_of m)) 0)
+    → page_count q t memory + page_count r s memory ≤ page_count p t memory
+page_count_both p q r t s [] bound = omega arith
+page_count_both p q r t s (m ∷ memory) bound =
+    let rest = page_count_both p q r t s memory (λ o later. bound o (inr later)) in
+    let here = bound m (inl refl) in
+    rw (page_count-cons p t m memory, page_count-cons q t m memory, page_count-cons r s m memory)
+    (omega (arith, rest, here))
+
+-- ---- pins after a step
+
+-- a page that is to be pinned then has a pin then, if it is in its user's memory or had one
+gets_pin : (at : ℕ) (w new : World) (page : ObjectPage) → ArePinned at w
+    → list_any (is_page page) (pages_in new) ≡ true
+    → (is_none (pinned_frame w.pins page) ≡ true → is_some (frame_now new.memory new.user_pages page) ≡ true)
+    → has_pin (settle w new) page ≡ true
+unfolding settle
+gets_pin at w new page p within present =
+    ap (λ (o : Option FrameNo). is_some o)
+    (settled_frame (pages_in w) (pages_in new) new.memory new.user_pages w.pins page)
+    ∙ by_tests (list_any (is_page page) (pages_in w)) (list_any (is_page page) (pages_in new))
+    (pinned_frame w.pins page) (frame_now new.memory new.user_pages page) within
+    (at_page (λ q. is_some (pinned_frame w.pins q)) (pages_in w) page p.pinned) present
+  where
+    by_tests : (was is : Bool) (old now : Option FrameNo) → is ≡ true → (was ≡ true → is_some old ≡ true)
+        → (is_none old ≡ true → is_some now ≡ true) → is_some (settled_at was is old now) ≡ true
+    by_tests was false old now within had present = cc
+    by_tests was true (Some frame) now within had present = refl
+    by_tests true true None now within had present = let is = had refl in cc
+    by_tests false true None now within had present = present refl
+
+-- pages stay to be pinned
+abbrev StayPinned : World → World → Type 0
+StayPinned w new = (page : ObjectPage) → list_any (is_page page) (pages_in w) ≡ true
+    → list_any (is_page page) (pages_in new) ≡ true
+
+-- so those that have a pin keep one
+keeps_pin : (at : ℕ) (w new : World) (page : ObjectPage) → ArePinned at w → StayPinned w new → has_pin w page ≡ true
+    → has_pin (settle w new) page ≡ true
+keeps_pin at w new page p still some =
+    gets_pin at w new page p (still page (pin_is_of w.pins (pages_in w) page some p.only))
+    (λ none. absurd (both (pinned_frame w.pins page) some none))
+  where
+    both : (o : Option FrameNo) → is_some o ≡ true → is_none o ≡ true → ⊥
+    both (Some frame) some none = cc
+    both None some none = cc
+
+-- ---- pages come, of memory objects that stay and are the user's
+
+module _ (at : ℕ) (w new : World) (p : ArePinned at w) (same : new.memory ≡ w.memory) (still : StayPinned w new)
+    (joins : MemoryObject → Bool) (user : UserNo)
+    (come : (m : MemoryObject) (page : ObjectPage) → IsIn w.memory m → IsIn (pages_of m) page → joins m ≡ true
+    → list_any (is_page page) (pages_in new) ≡ true)
+    (present : (m : MemoryObject) (page : ObjectPage) → IsIn w.memory m → IsIn (pages_of m) page → joins m ≡ true
+    → is_none (pinned_frame w.pins page) ≡ true → is_some (frame_now new.memory new.user_pages page) ≡ true)
+    (owned : (m : MemoryObject) → IsIn w.memory m → joins m ≡ true → of_user user m ≡ true) where
+  abbrev is_unpinned : ObjectPage → Bool
+  is_unpinned page = is_none (pinned_frame w.pins page)
+
+  abbrev pinned : ObjectPage → Bool
+  pinned page = has_pin (settle w new) page
+
+  abbrev joining : List ObjectPage
+  joining = unpinned_pages (pinned_frame w.pins) (filter joins w.memory)
+
+  of_object : (m : MemoryObject) → IsIn w.memory m → cond (of_user user m) (count_by (has_pin w) (pages_of m)) 0
+      + cond (joins m) (count_by is_unpinned (pages_of m)) 0 ≤ cond (of_user user m) (count_by pinned (pages_of m)) 0
+  of_object m among = by_tests (of_user user m) (joins m) refl (owned m among)
+    where
+      apart : (o : Option FrameNo) → is_some o ≡ true → is_none o ≡ false
+      apart (Some frame) some = refl
+      apart None some = cc
+
+      by_tests : (a b : Bool) → joins m ≡ b → (joins m ≡ true → a ≡ true)
+          → cond a (count_by (has_pin w) (pages_of m)) 0 + cond b (count_by is_unpinned (pages_of m)) 0
+          ≤ cond a (count_by pinned (pages_of m)) 0
+      by_tests true true is own =
+          count_both pinned (has_pin w) is_unpinned (pages_of m)
+          (λ page within some. keeps_pin at w new page p still some)
+          (λ page within none. gets_pin at w new page p (come m page among within is)
+          (λ free. present m page among within is free))
+          (λ page some. apart (pinned_frame w.pins page) some)
+      by_tests true false is own =
+          let fewer = count_weaker (has_pin w) pinned (pages_of m)
+          (λ page within some. keeps_pin at w new page p still some) in
+          omega (arith, fewer)
+      by_tests false true is own = let its = own is in cc
+      by_tests false false is own = omega arith
+
+  all_held : held_in w user + length joining ≤ held_in (settle w new) user
+  all_held =
+      let counted : length joining ≡ page_count is_unpinned joins w.memory =
+      length-filter is_unpinned (flat_map pages_of (filter joins w.memory)) in
+      let most = page_count_both pinned (has_pin w) is_unpinned (of_user user) joins w.memory of_object in
+      rw (held_settle w new user) (subst (λ (memory : List MemoryObject). held_in w user + length joining
+      ≤ page_count pinned (of_user user) memory) (sym same) (omega (arith, counted, most)))
+
+-- the user of a memory object under an area of the file's address space
+of_owner : (w : World) (file : FileNo) (user : UserNo) (m : MemoryObject) → user_of w.settings file ≡ Some user
+    → is_of_files_user w.settings file m ≡ true → of_user user m ≡ true
+of_owner w file user m is own =
+    flipped user.0 m.user.0 (sym (ap (λ (o : Option UserNo). elim o as (λ _. Bool) [
+      | Some u ↦ eqb u.0 m.user.0
+      | None ↦ false
+    ]) is) ∙ own)
+
+-- ---- a MAP
+
+-- the pages that are to be pinned stay so with one more area
+with_area_still : (w : World) (area : Area) (more : List MemoryObject)
+    → ((page : ObjectPage) → is_listed w.memory page ≡ true → is_listed more page ≡ true)
+    → StayPinned w (record w { memory = more; areas = with_area area w.areas })
+with_area_still w area more listed = λ page within.
+    let parts = and_true (is_listed w.memory page) (is_translated w.objects w.areas page.memory)
+    (sym (in_pinned w.objects w.areas w.memory w.access_pins page) ∙ within) in
+    in_pinned w.objects (with_area area w.areas) more w.access_pins page
+    ∙ both_true _ _ (listed page parts.0) (translated-with_area w.objects area w.areas page.memory
+    ∙ or_right (eqb area.memory page.memory && has_hwpt w.objects area.file area.ioas) _ parts.1)
+
+-- a page of the area's memory object is to be pinned, where the address space has a page table
+of_area_pinned : (w : World) (area : Area) (more : List MemoryObject) (page : ObjectPage)
+    → is_listed more page ≡ true → eqb area.memory page.memory ≡ true → has_hwpt w.objects area.file area.ioas ≡ true
+    → list_any (is_page page) (pages_in (record w { memory = more; areas = with_area area w.areas })) ≡ true
+of_area_pinned w area more page listed over table =
+    in_pinned w.objects (with_area area w.areas) more w.access_pins page
+    ∙ both_true _ _ listed (translated-with_area w.objects area w.areas page.memory
+    ∙ or_left _ (is_translated w.objects w.areas page.memory) (both_true _ _ over table))
+
+-- the new memory object is found by its number, which none that stands has
+found_last : (at : ℕ) (memory : List MemoryObject) (m : MemoryObject)
+    → list_all (λ (o : MemoryObject). ltb o.number at) memory ≡ true → eqb m.number at ≡ true
+    → find (λ (o : MemoryObject). eqb o.number at) (memory ++ m ∷ []) ≡ Some m
+found_last at [] m made is = rw is refl
+found_last at (o ∷ memory) m made is =
+    let parts = and_true (ltb o.number at) (list_all (λ (o : MemoryObject). ltb o.number at) memory) made in
+    let unlike : eqb o.number at ≡ false = grind (arith, nat_tests) in
+    rw unlike (found_last at memory m parts.1 is)
+
+-- the pages that a MAP needs are in its user's memory
+pages_there : (w : World) (file : FileNo) (request : MapRequest) (user : UserNo) → user_of w.settings file ≡ Some user
+    → has_hwpt w.objects file request.ioas ≡ true → lacks_mapped_page (view w) file request ≡ false
+    → has_pages (frame_at w.user_pages) user (page_of request.user_va) (request.length / 4096) ≡ true
+pages_there w file request user is table lacks =
+    there (λ u. has_pages (frame_at w.user_pages) u (page_of request.user_va) (request.length / 4096))
+    (user_of w.settings file) is (and_rest (has_hwpt w.objects file request.ioas) _ table lacks)
+  where
+    there : (f : UserNo → Bool) (o : Option UserNo) → o ≡ Some user
+        → elim o [ Some u ↦ not (f u) | None ↦ true ] ≡ false → f user ≡ true
+    there f (Some u) is present = let same : u ≡ user = cc in ap f (sym same) ∙ not-false (f u) present
+    there f None is present = cc
+
+module _ (at : ℕ) (w : World) (file : FileNo) (request : MapRequest) (iova : Iova) (user : UserNo)
+    (p : ArePinned at w) (is : user_of w.settings file ≡ Some user)
+    (table : has_hwpt w.objects file request.ioas ≡ true)
+    (lacks : lacks_mapped_page (view w) file request ≡ false) where
+  abbrev new : World
+  new = mapped_world at w file request iova user
+
+  abbrev object : MemoryObject
+  object = memory_object at user request
+
+  new_present : (page : ObjectPage) → IsIn (pages_of object) page
+      → is_some (frame_now new.memory new.user_pages page) ≡ true
+  new_present page within =
+      let (i, among, same) = in_map (λ (i : ℕ). let page : ObjectPage = record { memory = at; index = i } in page)
+      (range_with_len 0 (request.length / 4096)) page within in
+      let there : is_some (frame_at w.user_pages user (page_of request.user_va + i)) ≡ true =
+      of_each (λ (i : ℕ). is_some (frame_at w.user_pages user (page_of request.user_va + i)))
+      (range_with_len 0 (request.length / 4096)) i (pages_there w file request user is table lacks) among in
+      let itself : eqb at at ≡ true = grind (arith, nat_tests) in
+      subst (λ (page : ObjectPage). is_some (frame_now new.memory new.user_pages page) ≡ true) same
+      (ap (λ (o : Option MemoryObject). is_some (elim o as (λ _. Option FrameNo)
+      [ Some m ↦ frame_at w.user_pages m.user (page_of m.va + i) | None ↦ None ]))
+      (found_last at w.memory object p.made itself) ∙ there)
+
+  new_pinned : (page : ObjectPage) → IsIn (pages_of object) page → has_pin (settle w new) page ≡ true
+  new_pinned page within =
+      gets_pin at w new page p
+      (of_area_pinned w (mapped_area at file request iova) (w.memory ++ object ∷ []) page
+      (listed_more w.memory object page ∙ or_right (is_listed w.memory page) _ (page_of_object object page within))
+      (over page (number_of_page object page within)) table)
+      (λ none. new_present page within)
+    where
+      over : (page : ObjectPage) → page.memory ≡ at → eqb at page.memory ≡ true
+      over page same = grind (arith, nat_tests)
+
+  all_mapped : held_in w user + request.length / 4096 ≤ held_in (settle w new) user
+  all_mapped =
+      let old = page_count_bound (has_pin w) (has_pin (settle w new)) (of_user user) (of_user user) w.memory
+      (λ m among. by_test m (of_user user m) (count_weaker (has_pin w) (has_pin (settle w new)) (pages_of m)
+      (λ page within some. keeps_pin at w new page p still some))) in
+      let pages = count_all (has_pin (settle w new)) (pages_of object) new_pinned in
+      let many : length (pages_of object) ≡ request.length / 4096 =
+      length-map-range_with_len _ 0 (request.length / 4096) in
+      let own : of_user user object ≡ true = grind (arith, nat_tests) in
+      rw (held_settle w new user, page_count_last (has_pin (settle w new)) (of_user user) w.memory object, own)
+      (omega (arith, old, pages, many))
+    where
+      still : StayPinned w new
+      still = with_area_still w (mapped_area at file request iova) (w.memory ++ object ∷ [])
+          (λ page listed. listed_more w.memory object page ∙ or_left _ _ listed)
+
+      by_test : (m : MemoryObject) (b : Bool)
+          → count_by (has_pin w) (pages_of m) ≤ count_by (has_pin (settle w new)) (pages_of m)
+          → cond b (count_by (has_pin w) (pages_of m)) 0 ≤ cond b (count_by (has_pin (settle w new)) (pages_of m)) 0
+      by_test m true fewer = fewer
+      by_test m false fewer = omega arith
+
+map_over : {A : Type 0} → (at : ℕ) (w : World) (file : FileNo) (request : MapRequest) (iova : Iova) → ArePinned at w
+    → first_true (map_checks (view w) file request) ≡ Some cause.Account
+    → PassesLimit {A = A} w (map_changes at w file request iova (user_of w.settings file)) (event.Map file request)
+unfolding map_checks
+map_over {A = A} at w file request iova p refused =
+    let row : passes_limit_mapped (view w) file request ≡ true =
+    sym (or_none (passes_limit_mapped (view w) file request))
+    ∙ account_row (map_checks (view w) file request) refused in
+    let lacks : lacks_mapped_page (view w) file request ≡ false =
+    row_passed cause.Account is_account refl (map_checks (view w) file request) 10 refused refl in
+    let parts = and_true (has_hwpt w.objects file request.ioas)
+    (passes_limit (view w) (user_of w.settings file) (request.length / 4096)) row in
+    let over = is_over w file (request.length / 4096) parts.1 in
+    subst (λ (o : Option UserNo). PassesLimit {A = A} w (map_changes at w file request iova o) (event.Map file request))
+    (sym over.of_user)
+    (passed {A = A} w (settle w (mapped_world at w file request iova over.user)) (event.Map file request) file
+    (request.length / 4096) refl over
+    (all_mapped at w file request iova over.user p over.of_user parts.0 lacks))
+
+-- ---- a COPY
+
+copy_over : {A : Type 0} → (at : ℕ) (w : World) (file : FileNo) (request : CopyRequest) (iova : Iova) (source : Area)
+    → OwnedPins at w → first_true (copy_checks (view w) file request) ≡ Some cause.Account
+    → source_area w file request ≡ Some source
+    → PassesLimit {A = A} w (settle w (copied_world w file request iova source)) (event.Copy file request)
+unfolding copy_checks
+copy_over {A = A} at w file request iova source p refused found =
+    let row : passes_limit_copied (view w) file request ≡ true =
+    sym (or_none (passes_limit_copied (view w) file request))
+    ∙ account_row (copy_checks (view w) file request) refused in
+    let lacks : lacks_copied_page (view w) file request ≡ false =
+    row_passed cause.Account is_account refl (copy_checks (view w) file request) 12 refused refl in
+    let parts = and_true (has_hwpt w.objects file request.dst_ioas)
+    (passes_limit (view w) (user_of w.settings file) (length (newly_copied (view w) file request))) row in
+    let more = ap (λ (pages : List ObjectPage). passes_limit (view w) (user_of w.settings file) (length pages))
+    (sym (pages_copied w file request source found)) ∙ parts.1 in
+    let over = is_over w file (length (unpinned_pages (pinned_frame w.pins) (filter is_copied w.memory))) more in
+    passed {A = A} w (settle w new) (event.Copy file request) file _ refl over
+    (all_held at w new p.pins refl still is_copied over.user
+    (λ m page among within joins. of_area_pinned w (mapped_area source.memory file (placed_as request) iova) w.memory
+    page (listed_page w.memory m page among within) (over_page m page joins (number_of_page m page within)) parts.0)
+    (λ m page among within joins free. there_now w (filter is_copied w.memory) page
+    (ap (list_any (λ page. is_none (frame_now w.memory w.user_pages page)))
+    (sym (pages_copied w file request source found))
+    ∙ and_rest (has_hwpt w.objects file request.dst_ioas) _ parts.0 lacks)
+    (listed_page (filter is_copied w.memory) m page (in_kept is_copied w.memory m among joins) within) free)
+    (λ m among joins. of_owner w file over.user m over.of_user (owned m among joins)))
+  where
+    new : World
+    new = copied_world w file request iova source
+
+    is_copied : MemoryObject → Bool
+    is_copied m = eqb m.number source.memory
+
+    still : StayPinned w new
+    still = with_area_still w (mapped_area source.memory file (placed_as request) iova) w.memory
+        (λ page listed. listed)
+
+    over_page : (m : MemoryObject) (page : ObjectPage) → eqb m.number source.memory ≡ true → page.memory ≡ m.number
+        → eqb source.memory page.memory ≡ true
+    over_page m page joins same = grind (arith, nat_tests)
+
+    owned : (m : MemoryObject) → IsIn w.memory m → is_copied m ≡ true → is_of_files_user w.settings file m ≡ true
+    owned m among is =
+        let stands = source_is w file request source found in
+        owner w file request.src_ioas m p.areas among
+        (of_any (λ (a : Area). eqb a.memory m.number) (areas_of w.areas file request.src_ioas) source
+        (in_kept (is_of file request.src_ioas) w.areas source stands.within stands.of_space)
+        (flipped m.number source.memory is))
+
+-- ---- an address space gets its first page table
+
+module _ {A : Type 0} (at : ℕ) (w : World) (areas : List Area) (alike : AlikeAreas w areas) (e : Event A)
+    (file : FileNo) (ioas id : ObjId) (width : Width) (automatic : Bool) (attachments : List Attachment)
+    (p : OwnedPins at w) (of_file : file_of w e ≡ Some file)
+    (row : passes_limit_attached (view w) file ioas ≡ true)
+    (lacks : lacks_attached_page (view w) file ioas ≡ false) where
+  abbrev tables : List Object
+  tables = with_table file ioas id width automatic w.objects
+
+  abbrev first_table : World
+  first_table = moved_world w areas tables attachments
+
+  -- the memory object has an area in the address space
+  abbrev in_space : MemoryObject → Bool
+  in_space m = list_any (λ (a : Area). eqb a.memory m.number) (areas_of w.areas file ioas)
+
+  table_made : (own : FileNo) (over : ObjId) → has_hwpt tables own over ≡ ((eqb file.0 own.0 && eqb ioas.0 over.0)
+      || has_hwpt w.objects own over)
+  table_made own over =
+      hwpt-with_object (record { file = file; id = id; kind = kind.Hwpt ioas width automatic }) w.objects own over
+
+  pinned_by : (page : ObjectPage) → is_listed w.memory page ≡ true → is_translated tables w.areas page.memory ≡ true
+      → list_any (is_page page) (pages_in first_table) ≡ true
+  pinned_by page listed translated =
+      in_pinned tables areas w.memory w.access_pins page
+      ∙ both_true _ _ listed (alike tables page.memory ∙ translated)
+
+  still : StayPinned w first_table
+  still page within =
+      let parts = and_true (is_listed w.memory page) (is_translated w.objects w.areas page.memory)
+      (sym (in_pinned w.objects w.areas w.memory w.access_pins page) ∙ within) in
+      pinned_by page parts.0 (translated_within tables w.objects w.areas page.memory
+      (λ own over has. table_made own over ∙ or_right (eqb file.0 own.0 && eqb ioas.0 over.0) _ has) parts.1)
+
+  come : (m : MemoryObject) (page : ObjectPage) → IsIn w.memory m → IsIn (pages_of m) page → in_space m ≡ true
+      → list_any (is_page page) (pages_in first_table) ≡ true
+  come m page among within joins =
+      pinned_by page (listed_page w.memory m page among within)
+      (subst (λ (n : ℕ). is_translated tables w.areas n ≡ true) (sym (number_of_page m page within))
+      (any_weaker (λ (a : Area). is_of file ioas a && eqb a.memory m.number)
+      (λ (a : Area). eqb a.memory m.number && has_hwpt tables a.file a.ioas) w.areas
+      (λ a both. let parts = and_true (is_of file ioas a) (eqb a.memory m.number) both in
+      let names = and_true (eqb a.file.0 file.0) (eqb a.ioas.0 ioas.0) parts.0 in
+      both_true _ _ parts.1 (table_made a.file a.ioas ∙ or_left _ (has_hwpt w.objects a.file a.ioas)
+      (both_true _ _ (flipped a.file.0 file.0 names.0) (flipped a.ioas.0 ioas.0 names.1))))
+      (sym (any-filter (λ (a : Area). eqb a.memory m.number) (is_of file ioas) w.areas) ∙ joins)))
+
+  table_over : PassesLimit {A = A} w (settle w first_table) e
+  table_over =
+      let parts = and_true (not (has_hwpt w.objects file ioas))
+      (passes_limit (view w) (user_of w.settings file) (length (newly_pinned (view w) file ioas))) row in
+      let over = is_over w file (length (unpinned_pages (pinned_frame w.pins) (filter in_space w.memory))) parts.1 in
+      passed w (settle w first_table) e file _ of_file over
+      (all_held at w first_table p.pins refl still in_space over.user come
+      (λ m page among within joins free. there_now w (filter in_space w.memory) page
+      (and_rest (not (has_hwpt w.objects file ioas)) _ parts.0 lacks)
+      (listed_page (filter in_space w.memory) m page (in_kept in_space w.memory m among joins) within) free)
+      (λ m among joins. of_owner w file over.user m over.of_user (owner w file ioas m p.areas among joins)))
+
+-- without a page table it has no automatic one
+no_automatic : (objects : List Object) (file : FileNo) (ioas : ObjId) (width : Width)
+    → has_hwpt objects file ioas ≡ false → automatic_hwpt objects file ioas width ≡ None
+no_automatic objects file ioas width none = by_found (automatic_hwpt objects file ioas width) refl
+  where
+    is_over : (k : ObjectKind) → is_automatic_over ioas width k ≡ true → is_hwpt_over ioas k ≡ true
+    is_over kind.Ioas is = cc
+    is_over (kind.Hwpt over of automatic) is =
+        (and_true (eqb over.0 ioas.0) automatic (and_true (eqb over.0 ioas.0 && automatic) _ is).0).0
+    is_over (kind.Device device) is = cc
+
+    by_found : (o : Option Object) → automatic_hwpt objects file ioas width ≡ o → o ≡ None
+    by_found None is = refl
+    by_found (Some table) is =
+        let (within, both) = in_found (λ (o : Object). eqb o.file.0 file.0 && is_automatic_over ioas width o.kind)
+        objects table is in
+        let parts = and_true (eqb table.file.0 file.0) (is_automatic_over ioas width table.kind) both in
+        absurd (clash _ none (of_any (λ (o : Object). eqb o.file.0 file.0 && is_hwpt_over ioas o.kind) objects table
+        within (both_true _ _ parts.0 (is_over table.kind parts.1))))
+
+-- a device that a file has is one of the settings
+under_known : (w : World) (file : FileNo) (id : ObjId) → RowsFit w
+    → is_none (device_under w.objects file id) ≡ false → settings_under w.settings w.objects file id ≡ None → ⊥
+under_known w file id fits some none = by_found (find (is_object file id) w.objects) refl some none
+  where
+    by_kind : (k : ObjectKind) → is_known_device w.settings k ≡ true → is_none (device_in k) ≡ false
+        → elim (device_in k) as (λ _. Option DeviceSettings) [
+          | Some device ↦ device_of w.settings device
+          | None ↦ None
+        ] ≡ None → ⊥
+    by_kind kind.Ioas known some none = cc
+    by_kind (kind.Hwpt ioas width automatic) known some none = cc
+    by_kind (kind.Device device) known some none =
+        never (sym (ap (λ (o : Option DeviceSettings). is_some o) none) ∙ known)
+
+    under : Option Object → Option DeviceNo
+    under o = elim (elim o as (λ _. Option ObjectKind) [ Some object ↦ Some object.kind | None ↦ None ])
+        as (λ _. Option DeviceNo) [ Some k ↦ device_in k | None ↦ None ]
+
+    by_found : (o : Option Object) → find (is_object file id) w.objects ≡ o → is_none (under o) ≡ false
+        → elim (under o) as (λ _. Option DeviceSettings) [
+          | Some device ↦ device_of w.settings device
+          | None ↦ None
+        ] ≡ None → ⊥
+    by_found None is some none = cc
+    by_found (Some object) is some none =
+        let (within, named) = in_found (is_object file id) w.objects object is in
+        by_kind object.kind (and_true (is_open w.settings w.closed object.file)
+        (is_known_device w.settings object.kind) (of_each (λ (o : Object). is_open w.settings w.closed o.file
+        && is_known_device w.settings o.kind) w.objects object fits.known within)).1 some none
+
+-- ---- each event
+
+module _ {A : Type 0} (at : ℕ) (w : World) (p : OwnedPins at w) (fits : RowsFit w) where
+  hwpt_over : (file : FileNo) (request : HwptRequest) (id : ObjId)
+      → first_true (hwpt_alloc_checks (view w) file request) ≡ Some cause.Account
+      → PassesLimit {A = A} w
+      (hwpt_changes w file request.ioas id (settings_under w.settings w.objects file request.device))
+      (event.HwptAlloc file request)
+  unfolding hwpt_alloc_checks
+  hwpt_over file request id refused = by_device (settings_under w.settings w.objects file request.device) refl
+    where
+      row : passes_limit_attached (view w) file request.ioas ≡ true
+      row = sym (or_none (passes_limit_attached (view w) file request.ioas))
+          ∙ account_row (hwpt_alloc_checks (view w) file request) refused
+
+      lacks : lacks_attached_page (view w) file request.ioas ≡ false
+      lacks = row_passed cause.Account is_account refl (hwpt_alloc_checks (view w) file request) 5 refused refl
+
+      by_device : (d : Option DeviceSettings) → settings_under w.settings w.objects file request.device ≡ d
+          → PassesLimit {A = A} w (hwpt_changes w file request.ioas id d) (event.HwptAlloc file request)
+      by_device None is = absurd (under_known w file request.device fits
+          (row_passed cause.Account is_account refl (hwpt_alloc_checks (view w) file request) 1 refused refl) is)
+      by_device (Some d) is =
+          table_over {A = A} at w w.areas (λ objects number. refl) (event.HwptAlloc file request) file request.ioas id
+          d.width false w.attachments p refl row lacks
+
+  attach_over : (device : DeviceNo) (pt_id id : ObjId)
+      → first_true (attach_checks (view w) device pt_id) ≡ Some cause.Account
+      → IsHwptOf w pt_id id (binding_of w.objects device) (device_of w.settings device)
+      → PassesLimit {A = A} w
+      (attach_changes w device pt_id id (binding_of w.objects device) (device_of w.settings device))
+      (event.Attach device pt_id)
+  unfolding attach_checks attached
+  attach_over device pt_id id refused made =
+      by_binding (binding_of w.objects device) refl (device_of w.settings device) refused made
+    where
+      rows : Object → Option ObjectKind → List (Cause × Bool)
+      rows bound k = (cause.Bound, is_some (attachment_of w.attachments device))
+          ∷ target_checks (view w) device pt_id bound.file k
+
+      by_kind : (bound : Object) (d : DeviceSettings) → binding_of w.objects device ≡ Some bound
+          → (k : Option ObjectKind) → first_true (rows bound k) ≡ Some cause.Account
+          → PassesLimit {A = A} w (target_changes w device pt_id id bound d k) (event.Attach device pt_id)
+      by_kind bound d is (Some kind.Ioas) refused =
+          let row : passes_limit_attached (view w) bound.file pt_id ≡ true =
+          sym (or_none (passes_limit_attached (view w) bound.file pt_id))
+          ∙ account_row (rows bound (Some kind.Ioas)) refused in
+          let lacks : lacks_attached_page (view w) bound.file pt_id ≡ false =
+          row_passed cause.Account is_account refl (rows bound (Some kind.Ioas)) 3 refused refl in
+          let none = not_true _ (and_true (not (has_hwpt w.objects bound.file pt_id)) _ row).0 in
+          let of_file : file_of {A = A} w (event.Attach device pt_id) ≡ Some bound.file =
+          ap (λ (o : Option Object). elim o as (λ _. Option FileNo) [ Some b ↦ Some b.file | None ↦ None ]) is in
+          let attachments =
+          with_attachment (record { device = device; file = bound.file; hwpt = id }) w.attachments in
+          subst (λ (o : Option Object). PassesLimit {A = A} w (settle w (moved_world w (all_paid device w.areas)
+          (with_hwpt bound.file pt_id id d.width o w.objects) attachments)) (event.Attach device pt_id))
+          (sym (no_automatic w.objects bound.file pt_id d.width none))
+          (table_over {A = A} at w (all_paid device w.areas) (alike_paid w device) (event.Attach device pt_id)
+          bound.file pt_id id d.width true attachments p of_file row lacks)
+      by_kind bound d is (Some (kind.Hwpt ioas width automatic)) refused =
+          absurd (never (account_row (rows bound (Some (kind.Hwpt ioas width automatic))) refused))
+      by_kind bound d is (Some (kind.Device other)) refused =
+          absurd (never (account_row (rows bound (Some (kind.Device other))) refused))
+      by_kind bound d is None refused = absurd (never (account_row (rows bound None) refused))
+
+      by_binding : (o : Option Object) → binding_of w.objects device ≡ o → (s : Option DeviceSettings)
+          → first_true (elim o [
+            | None ↦ (cause.Id, true) ∷ []
+            | Some bound ↦ bound_attach_checks (view w) device pt_id bound.file
+          ]) ≡ Some cause.Account
+          → IsHwptOf w pt_id id o s
+          → PassesLimit {A = A} w (attach_changes w device pt_id id o s) (event.Attach device pt_id)
+      by_binding None is s refused made = absurd made
+      by_binding (Some bound) is None refused made = absurd made
+      by_binding (Some bound) is (Some d) refused made =
+          by_kind bound d is (kind_of w.objects bound.file pt_id) refused
+
+  pub over_limit : (e : Event A) (answer : Reply) → refusal w e ≡ Some cause.Account → Answers w e answer
+      → PassesLimit {A = A} w (changed at w e answer) e
+  unfolding changed Answers copy_checks ioas_alloc_checks allow_iovas_checks unmap_checks destroy_checks close_checks
+      user_map_checks user_unmap_checks user_write_checks bind_checks unbind_checks detach_checks flush_checks
+      device_write_checks
+  over_limit (event.Map file request) (reply.Iova iova) refused answers =
+      map_over at w file request iova p.pins refused
+  over_limit (event.Copy file request) (reply.Iova iova) refused answers =
+      by_source (source_area w file request) refl
+    where
+      found : is_none (source_area w file request) ≡ false
+      found = row_passed cause.Account is_account refl (copy_checks (view w) file request) 7 refused refl
+
+      by_source : (source : Option Area) → source_area w file request ≡ source
+          → PassesLimit {A = A} w (copy_changes w file request iova source) (event.Copy file request)
+      by_source None is = absurd (never (sym found ∙ ap (λ (o : Option Area). is_none o) is))
+      by_source (Some source) is = copy_over at w file request iova source p refused is
+  over_limit (event.HwptAlloc file request) (reply.Id id) refused answers = hwpt_over file request id refused
+  over_limit (event.Attach device pt_id) (reply.Id id) refused answers = attach_over device pt_id id refused answers
+  over_limit (event.Map file request) answer refused answers = absurd answers
+  over_limit (event.Copy file request) answer refused answers = absurd answers
+  over_limit (event.HwptAlloc file request) answer refused answers = absurd answers
+  over_limit (event.Attach device pt_id) answer refused answers = absurd answers
+  over_limit e answer refused answers = absurd (never (account_row (checks (view w) e) refused))
