@@ -1,8 +1,7 @@
 -- An area comes over a memory object, which is new or was there. Before it is mapped its pages are pinned: what is
 -- shown then. The page tables stand as they did.
-use Rattle.std.proofs.Common.{◌≡◌, ℕ, ◌+◌, ◌*◌, ◌<◌, ◌≤◌, Bool, true, false, cond, ◌&&◌, ◌||◌, eqb, ltb, get_or}
-use Rattle.std.proofs.Common.{is_some, Option, Some, None, List, [], ◌∷◌, ◌++◌, refl, sym, ◌∙◌, ap, arith}
-use Rattle.std.specs.List.{list_all, list_any}
+use Rattle.std.proofs.Common.{◌≡◌, ℕ, ◌*◌, ◌<◌, ◌≤◌, Bool, true, false, cond, ◌&&◌, ◌||◌, eqb, ltb, get_or}
+use Rattle.std.proofs.Common.{is_some, Option, Some, None, List, [], ◌∷◌, refl, ◌∙◌, ap, arith}
 use Rattle.std.proofs.lemmas.Bool.Decides.{nat_tests}
 use Rattle.area_map.specs.Areas as own
 use Rattle.frame_memory.specs.Pool.{FramePool}
@@ -16,7 +15,7 @@ use Rattle.iofd_words.specs.Areas as world
 use Rattle.iofd_words.specs.Objects.{has_hwpt}
 use Rattle.iofd_words.specs.Pins as pin
 use Rattle.iofd_words.specs.Pins.{ObjectPage}
-use Rattle.iofd_words.specs.Span.{holds, meets, size_of}
+use Rattle.iofd_words.specs.Span.{holds, meets}
 use Rattle.iofd_words.specs.TablePlaces.{is_live}
 use Rattle.iofd_words.specs.World.{World}
 use Rattle.iofd_words.specs.declared.event.MapRequest.{MapRequest}
@@ -25,7 +24,6 @@ use Rattle.iofd_words.specs.declared.numbers.Iova.{Iova}
 use Rattle.iofd_words.specs.declared.numbers.ObjId.{ObjId}
 use Rattle.iofd_words.specs.declared.rows.Area.{Area}
 use Rattle.iofd_words.specs.declared.rows.MemoryObject.{MemoryObject}
-use Rattle.iofd_words.specs.declared.rows.Object.{Object}
 use Rattle.map_events.proofs.AreasFiltered.{with_area_other, with_area_own}
 use Rattle.server_state.proofs.FreeAlike.{AreAlike, free_alike}
 use Rattle.memory_rows.proofs.FramesFollow.{frames_follow}

@@ -20,7 +20,7 @@ use Rattle.iofd_words.specs.Room.{starts_to_try}
 use Rattle.iofd_words.specs.Span.{span_from}
 use Rattle.frame_memory.specs.Pool.{FramePool}
 use Rattle.user_memory.specs.Memory.{Memory, reached}
-use Rattle.map_events.proofs.MapMemory.{area, object}
+use Rattle.map_events.proofs.MapMemory.{area}
 use Rattle.iofd_words.specs.Objects.{has_ioas}
 use Rattle.iofd_words.specs.View.{View, view}
 use Rattle.iofd_words.specs.World.{World}

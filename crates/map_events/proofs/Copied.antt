@@ -1,15 +1,13 @@
 -- The world after a COPY is shown.
 use Rattle.std.proofs.Common.{◌≡◌, ℕ, ◌+◌, ◌<◌, ◌≤◌, ◌^◌, Bool, true, false, Option, Some, None, List, [], length, sym}
-use Rattle.std.proofs.Common.{◌∙◌, ap, subst, arith}
+use Rattle.std.proofs.Common.{◌∙◌, ap, subst}
 use Rattle.std.specs.Prelude.{if◌then◌else◌}
-use Rattle.std.proofs.lemmas.Bool.Decides.{nat_tests}
 use Rattle.area_map.specs.Areas as own
 use Rattle.frame_memory.specs.Pool.{FramePool, free_count}
 use Rattle.hwpt_device.specs.PageTables.{IfAllStand, PageTables}
 use Rattle.iofd_runs.proofs.CopySource.{IsSource, copy_source, source_area}
 use Rattle.iofd_runs.proofs.KeepsOwnMemory.{OwnPins, copied_own}
 use Rattle.iofd_runs.proofs.MappedAt.{copy_lies_at}
-use Rattle.iofd_runs.proofs.NotRefused.{PlacePassed, copy_place}
 use Rattle.iofd_words.specs.After.{changed, copy_changes, mapped_area}
 use Rattle.iofd_words.specs.Answers.{IsMappedAt}
 use Rattle.iofd_words.specs.Checks.{copy_checks, tables_to_map, unusable_in}

@@ -18,7 +18,6 @@ use Rattle.iofd_words.specs.declared.event.CopyRequest.{CopyRequest}
 use Rattle.iofd_words.specs.declared.numbers.FileNo.{FileNo}
 use Rattle.iofd_words.specs.declared.refusal.Cause.TheVariants as cause
 use Rattle.iofd_words.specs.declared.rows.Area.{Area}
-use Rattle.iofd_words.specs.declared.rows.MemoryObject.{MemoryObject}
 use Rattle.map_events.specs.Sources.{number_of}
 use Rattle.memory_rows.proofs.ObjectOf.{lacks_one, pages_of_one}
 use Rattle.server_state.specs.Seen.{seen}

@@ -1,6 +1,6 @@
 -- A COPY that nothing refuses: what it asks of the users' memory, and that its area may be mapped.
-use Rattle.std.proofs.Common.{◌≡◌, ℕ, ◌+◌, ◌<◌, ◌≤◌, ◌^◌, Bool, true, false, ◌&&◌, ◌||◌, not, eqb, Option, Some, None}
-use Rattle.std.proofs.Common.{List, [], ◌∷◌, refl, sym, ◌∙◌, ap, subst, arith}
+use Rattle.std.proofs.Common.{◌≡◌, ℕ, ◌<◌, ◌≤◌, ◌^◌, Bool, true, false, ◌||◌, not, eqb, Option, Some, None}
+use Rattle.std.proofs.Common.{List, [], ◌∷◌, sym, ◌∙◌, ap, subst, arith}
 use Rattle.std.specs.Prelude.{if◌then◌else◌}
 use Rattle.std.specs.List.{list_all}
 use Rattle.std.proofs.lemmas.Bool.Decides.{nat_tests}
@@ -12,7 +12,7 @@ use Rattle.iofd_runs.specs.Owned.{is_of_files_user, is_over_own}
 use Rattle.iofd_words.specs.After.{mapped_area}
 use Rattle.iofd_words.specs.Answers.{IsMappedAt}
 use Rattle.iofd_words.specs.Bounds.{Bounds}
-use Rattle.iofd_words.specs.Checks.{lacks_copied_page, passes_limit, passes_limit_copied, source_of, tables_to_map}
+use Rattle.iofd_words.specs.Checks.{passes_limit, tables_to_map}
 use Rattle.iofd_words.specs.Checks.{unusable_in}
 use Rattle.iofd_words.specs.Copies.{placed_as, source_in}
 use Rattle.iofd_words.specs.Files.{is_user, user_of}
@@ -47,7 +47,7 @@ use Rattle.server_state.specs.Step.{IsGrantedAt}
 use Rattle.server_state.specs.declared.state.State.{State}
 use Rattle.user_memory.specs.Changes.{HasShare, Settles}
 use Rattle.user_memory.specs.Invariant.{ObjectsTell}
-use Rattle.user_memory.specs.Memory.{Memory, are_of, areas_over, has_room, lacks_page, new_pages, rows_at, rows_of}
+use Rattle.user_memory.specs.Memory.{Memory, are_of, areas_over, has_room, lacks_page, new_pages, rows_at}
 
 module _ {A : Type 0} (at : ℕ) (s : State A) (file : FileNo) (request : CopyRequest)
     (granted : IsGrantedAt at (event.Copy file request) s) where

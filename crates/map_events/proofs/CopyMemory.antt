@@ -1,5 +1,5 @@
 -- A COPY's area comes over the memory object of its source: what it makes of the users' memory.
-use Rattle.std.proofs.Common.{◌≡◌, ℕ, ◌+◌, ◌*◌, ◌<◌, Bool, true, cond, eqb, None, Some, List, sym, ◌∙◌, ap, arith}
+use Rattle.std.proofs.Common.{◌≡◌, ℕ, ◌+◌, ◌<◌, Bool, true, cond, eqb, None, Some, List, sym, ◌∙◌, ap, arith}
 use Rattle.std.specs.Prelude.{if◌then◌else◌}
 use Rattle.std.specs.List.{find}
 use Rattle.frame_memory.specs.Pool.{FramePool}
@@ -16,7 +16,6 @@ use Rattle.iofd_words.specs.World.{World}
 use Rattle.iofd_words.specs.declared.event.CopyRequest.{CopyRequest}
 use Rattle.iofd_words.specs.declared.numbers.FileNo.{FileNo}
 use Rattle.iofd_words.specs.declared.numbers.Iova.{Iova}
-use Rattle.iofd_words.specs.declared.refusal.Cause.{Cause}
 use Rattle.iofd_words.specs.declared.rows.Area.{Area}
 use Rattle.iofd_words.specs.declared.rows.MemoryObject.{MemoryObject}
 use Rattle.iofd_words.specs.declared.rows.Object.{Object}

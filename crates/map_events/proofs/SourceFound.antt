@@ -1,11 +1,10 @@
 -- The area that a COPY names: of areas that stand apart one at most has exactly its span, so that it is found by its
 -- span alone.
-use Rattle.std.proofs.Common.{◌≡◌, ℕ, ◌+◌, ◌<◌, ◌≤◌, Bool, true, false, cond, ◌&&◌, eqb, Option, Some, None, List, []}
-use Rattle.std.proofs.Common.{◌∷◌, refl, ap, sym, ◌∙◌, arith}
+use Rattle.std.proofs.Common.{◌≡◌, ℕ, ◌+◌, ◌<◌, Bool, true, false, cond, ◌&&◌, eqb, Option, Some, None, List, []}
+use Rattle.std.proofs.Common.{◌∷◌, refl, arith}
 use Rattle.std.specs.List.{find}
 use Rattle.std.proofs.lemmas.Bool.Decides.{nat_tests}
-use Rattle.area_map.specs.Areas.{AreApartFrom, area_of, is_same}
-use Rattle.iofd_rows.proofs.Bools.{and_true}
+use Rattle.area_map.specs.Areas.{AreApartFrom, area_of}
 use Rattle.iofd_words.specs.Bounds.{Bounds}
 use Rattle.iofd_words.specs.Copies.{is_live_at}
 use Rattle.iofd_words.specs.TablePlaces.{is_live}

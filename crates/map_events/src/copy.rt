@@ -240,16 +240,19 @@ fn refusal_by_areas<A: Allocator>(
     if placing::overlaps(placed, areas) {
         return Some(Cause::Overlap);
     }
-    if areas.is_full() || placing::lacks_choice(state, file, placed, areas) {
+    if areas.is_full() {
         return Some(Cause::Full);
     }
+    let Some(span) = placing::place_among(state, file, placed, areas) else {
+        return Some(Cause::Full);
+    };
     if lacks_page(state, file, request, number) {
         return Some(Cause::Absent);
     }
     if passes_limit(state, file, request, number) {
         return Some(Cause::Account);
     }
-    if placing::lacks_frames(state, file, placed) {
+    if placing::lacks_frames(state, file, placed, span) {
         return Some(Cause::Frames);
     }
     None

@@ -144,16 +144,19 @@ fn refusal_by_areas<A: Allocator>(
     if placing::overlaps(request, areas) {
         return Some(Cause::Overlap);
     }
-    if areas.is_full() || placing::lacks_choice(state, file, request, areas) {
+    if areas.is_full() {
         return Some(Cause::Full);
     }
+    let Some(span) = placing::place_among(state, file, request, areas) else {
+        return Some(Cause::Full);
+    };
     if lacks_page(state, file, request) {
         return Some(Cause::Absent);
     }
     if passes_limit(state, file, request) {
         return Some(Cause::Account);
     }
-    if placing::lacks_frames(state, file, request) {
+    if placing::lacks_frames(state, file, request, span) {
         return Some(Cause::Frames);
     }
     None

@@ -1,6 +1,6 @@
 //! Where an area comes to lie: at a fixed address, or at one that the server chooses.
 
-ghost use Rattle.std.specs.Prelude.{◌≡◌, ◌==◌, ◌&&◌, ◌||◌, not, true, false, MatchOption};
+ghost use Rattle.std.specs.Prelude.{◌≡◌, ◌==◌, ◌&&◌, ◌||◌, not, true, false, is_none, IfSome, MatchOption};
 ghost use Rattle.iofd_words.specs.After.{mapped_area};
 ghost use Rattle.iofd_words.specs.Areas.{areas_meet};
 ghost use Rattle.iofd_words.specs.Checks.{is_outside_usable, lacks_choice, lacks_mapped_frames, mapped_span};
@@ -134,29 +134,34 @@ pub(crate) fn overlaps<A: Allocator>(request: MapRequest, areas: &Areas<A>) -> b
     }
 }
 
-/// Whether an address is to be chosen, and there is none that may be.
-pub(crate) fn lacks_choice<A: Allocator>(
+/// Where it comes to lie in the address space with these areas; None where an address is to be chosen, and there is none
+/// that may be.
+pub(crate) fn place_among<A: Allocator>(
     state: &State<A>,
     file: FileNo,
     request: MapRequest,
     areas: &Areas<A>,
-) -> bool
+) -> Option<Span>
     requires known { IsKnown state.now }
     requires some { (request.length == 0) ≡ false }
+    requires sum { (is_fixed request.flags && is_above_sum request.iova.0 request.length) ≡ false }
     requires here { areas_at state.now.objects.rows file request.ioas ≡ areas.now.areas }
-    ensures { result ≡ lacks_choice (seen state.now) file request }
+    ensures lacks { is_none result ≡ lacks_choice (seen state.now) file request }
+    ensures place { IfSome result (IsPlace (seen state.now) file request) }
 {
     if request.flags.is_fixed() {
-        return false;
+        return fixed_span(request);
     }
-    choice::least_span(state, file, request, areas).is_none()
+    choice::least_span(state, file, request, areas)
 }
 
-/// Whether the page tables of the address space lack more tables for the span than frames are free.
+/// Whether the page tables of the address space lack more tables for the span, where it comes to lie, than frames are
+/// free.
 pub(crate) fn lacks_frames<A: Allocator>(
     state: &State<A>,
     file: FileNo,
     request: MapRequest,
+    span: Span,
 ) -> bool
     requires known { IsKnown state.now }
     requires some { (request.length == 0) ≡ false }
@@ -165,15 +170,11 @@ pub(crate) fn lacks_frames<A: Allocator>(
     requires starts { (is_fixed request.flags && not (is_whole request.iova.0)) ≡ false }
     requires space { has_ioas (objects_in state.now.objects) file request.ioas ≡ true }
     requires usable { is_outside_usable (seen state.now) file request ≡ false }
+    requires place { IsPlace (seen state.now) file request span }
     ensures { result ≡ lacks_mapped_frames (seen state.now) file request }
 {
     if !state.has_hwpt(file, request.ioas) {
         return false;
     }
-    match place_of(state, file, request) {
-        Some(span) => {
-            state.tables_to_map(file, request.ioas, span) > u64::from(state.pool.free_count())
-        }
-        None => false,
-    }
+    state.tables_to_map(file, request.ioas, span) > u64::from(state.pool.free_count())
 }

@@ -1,4 +1,4 @@
-use Rattle.std.proofs.Common.{◌≡◌, ◌-◌, ℕ, true, false, List, Option, Some, None, [], refl, sym, ◌∙◌, ap, subst, arith}
+use Rattle.std.proofs.Common.{◌≡◌, ◌-◌, ℕ, true, false, List, Some, None, [], sym, ◌∙◌, ap, subst, arith}
 use Rattle.std.proofs.Common.{vec_capacity, vec_len}
 use Rattle.iofd_runs.proofs.CopySource.{copy_source}
 use Rattle.iofd_runs.proofs.NotRefused.{copy_place}

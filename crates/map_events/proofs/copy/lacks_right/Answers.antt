@@ -1,4 +1,4 @@
-use Rattle.std.proofs.Common.{Bool, ◌&&◌, not, sym, ◌∙◌, ap}
+use Rattle.std.proofs.Common.{◌&&◌, not, sym, ◌∙◌, ap}
 use Rattle.iofd_words.specs.Checks.{is_source_writable}
 use Rattle.map_events.proofs.CopyAsks.{writable_is}
 use Rattle.server_state.specs.Seen.{seen}

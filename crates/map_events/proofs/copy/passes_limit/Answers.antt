@@ -1,4 +1,4 @@
-use Rattle.std.proofs.Common.{◌≡◌, ℕ, sym, ◌∙◌, ap}
+use Rattle.std.proofs.Common.{sym, ◌∙◌, ap}
 use Rattle.iofd_words.specs.Checks.{passes_limit}
 use Rattle.iofd_words.specs.Files.{user_of}
 use Rattle.map_events.proofs.CopyAsks.{limit_told}

@@ -1,4 +1,4 @@
-use Rattle.std.proofs.Common.{◌≡◌, Bool, true, false, Option, Some, None, cond, List, refl, sym, ◌∙◌, ap}
+use Rattle.std.proofs.Common.{◌≡◌, Bool, Option, Some, None, cond, List, sym, ◌∙◌, ap}
 use Rattle.area_map.specs.Areas.{AreApart, area_of}
 use Rattle.iofd_words.specs.Bounds.{Bounds}
 use Rattle.iofd_words.specs.Copies.{source_in}
