@@ -53,6 +53,10 @@ BeginsText A input out = BeginsBad input out ⊎ BeginsGood A input out ⊎ IsFr
 abbrev pub IsWithin : List ℕ → List ℕ → ℕ → Type 0
 IsWithin input out status = (length input ≤ 2 ^ 24) ⊎ IsWithoutMemory out status
 
+-- and no part of it either
+abbrev pub BeginsWithin : List ℕ → List ℕ → Type 0
+BeginsWithin input out = (length input ≤ 2 ^ 24) ⊎ IsFront out (line no_memory_text)
+
 -- a fault of a reader that had these bytes, where they are known; want of memory is none
 abbrev pub IsReadFault : CliFault → Option (List ℕ) → Type 0
 IsReadFault (fault.Input input.TooLong) known = IfSome known (λ bytes. 2 ^ 24 < length bytes)
@@ -63,4 +67,4 @@ IsReadFault (fault.Output error) known = ⊥
 abbrev pub Leaves : Type 0 → CliFault → Option (List ℕ) → Option (List ℕ) → Option (List ℕ) → Type 0
 Leaves A (fault.Input reason) known old new = IsReadFault (fault.Input reason) known × Keeps old new
 Leaves A (fault.Output error) known old new =
-    IsFinal error × IfSome known (λ input. Writes (BeginsText A input) old new)
+    IsFinal error × IfSome known (λ input. Writes (λ out. BeginsText A input out × BeginsWithin input out) old new)
