@@ -14,6 +14,8 @@ use Rattle.iofd_rows.proofs.Found.{find-with_object}
 use Rattle.iofd_runs.proofs.OwnIds.{any_found}
 use Rattle.std.proofs.Common.{Vec}
 use Rattle.iofd_words.specs.World.{World}
+use Rattle.server_state.proofs.Bindings.{are_with, found_with, others_with}
+use Rattle.server_state.specs.Devices.{are_bindings, with_binding}
 use Rattle.server_state.specs.Shows.{Shows}
 use Rattle.server_state.specs.declared.held.Held.{Held}
 use Rattle.server_state.specs.declared.held.Held.TheVariants as held
@@ -25,20 +27,6 @@ use Rattle.server_state.proofs.ObjectsMoved.{shows_inserted}
 same_device : (a b : DeviceNo) → eqb a.0 b.0 ≡ true → a ≡ b
 same_device a b same = let numbers = eqb-true a.0 b.0 same in ap (λ n. let d : DeviceNo = record { 0 = n } in d) numbers
 
-found_last : (p : Object → Bool) (x : Object) (xs : List Object) → p x ≡ true → find p xs ≡ None
-    → find p (xs ++ x ∷ []) ≡ Some x
-found_last p x [] passes none = rw passes refl
-found_last p x (y ∷ xs) passes none = by_test (p y) none (λ later. found_last p x xs passes later)
-  where
-    by_test : (b : Bool) → cond b (Some y) (find p xs) ≡ None → (find p xs ≡ None → find p (xs ++ x ∷ []) ≡ Some x)
-        → cond b (Some y) (find p (xs ++ x ∷ [])) ≡ Some x
-    by_test true none later = cc
-    by_test false none later = later none
-
-not_last : (p : Object → Bool) (x : Object) (xs : List Object) → p x ≡ false → find p (xs ++ x ∷ []) ≡ find p xs
-not_last p x [] fails = rw fails refl
-not_last p x (y ∷ xs) fails = ap (cond (p y) (Some y)) (not_last p x xs fails)
-
 none_any : (p : Object → Bool) (xs : List Object) → is_some (find p xs) ≡ false
     → (find p xs ≡ None) × (list_any p xs ≡ false)
 none_any p xs none = by_found (find p xs) refl none
@@ -47,37 +35,31 @@ none_any p xs none = by_found (find p xs) refl none
     by_found None is none = (is, any_found p xs ∙ ap (λ (o : Option Object). is_some o) is)
     by_found (Some x) is none = cc
 
--- a device that wasn't bound is bound last
-pub bound_last : (objects bindings : List Object) (file : FileNo) (id : ObjId) (device : DeviceNo)
+-- a device that wasn't bound is bound by the object that came
+pub bound_by : (objects bindings : List Object) (file : FileNo) (id : ObjId) (device : DeviceNo)
     → ((d : DeviceNo) → binding_of objects d ≡ find (λ object. is_bound_as d object.kind) bindings)
     → is_some (binding_of objects device) ≡ false
     → (d : DeviceNo) → binding_of (with_object (record { file = file; id = id; kind = kind.Device device }) objects)
-    d ≡ find (λ object. is_bound_as d object.kind) (bindings ++ record {
-      file = file;
-      id = id;
-      kind = kind.Device device;
-    } ∷ [])
-bound_last objects bindings file id device same free d =
+    d ≡ find (λ object. is_bound_as d object.kind)
+    (with_binding (record { file = file; id = id; kind = kind.Device device }) bindings)
+bound_by objects bindings file id device same free d =
     let object : Object = record { file = file; id = id; kind = kind.Device device } in
     by_device (eqb device.0 d.0) refl
   where
     by_device : (b : Bool) → eqb device.0 d.0 ≡ b
         → binding_of (with_object (record { file = file; id = id; kind = kind.Device device }) objects) d ≡ find
-        (λ object. is_bound_as d object.kind) (bindings ++ record {
-          file = file;
-          id = id;
-          kind = kind.Device device;
-        } ∷ [])
+        (λ object. is_bound_as d object.kind)
+        (with_binding (record { file = file; id = id; kind = kind.Device device }) bindings)
     by_device true is =
         let object : Object = record { file = file; id = id; kind = kind.Device device } in
         let free_d = subst (λ (e : DeviceNo). is_some (binding_of objects e) ≡ false) (same_device device d is) free in
         let none = none_any (λ (o : Object). is_bound_as d o.kind) objects free_d in
         found_new (λ (o : Object). is_bound_as d o.kind) object objects is none.1
-        ∙ sym (found_last (λ (o : Object). is_bound_as d o.kind) object bindings is (sym (same d) ∙ none.0))
+        ∙ sym (found_with (λ (o : Object). is_bound_as d o.kind) object bindings is (sym (same d) ∙ none.0))
     by_device false is =
         let object : Object = record { file = file; id = id; kind = kind.Device device } in
         find-with_object (λ (o : Object). is_bound_as d o.kind) object objects is ∙ same d
-        ∙ sym (not_last (λ (o : Object). is_bound_as d o.kind) object bindings is)
+        ∙ sym (others_with (λ (o : Object). is_bound_as d o.kind) object bindings is)
 
 module _ {A : Type 0} where
   -- by which a device is bound that wasn't
@@ -91,11 +73,12 @@ module _ {A : Type 0} where
         users = 0;
         value = held.Device device;
       }) s.objects.rows → table.files ≡ s.objects.files
-      → bindings.items ≡ s.bindings.items ++ record { file = file; id = id; kind = kind.Device device } ∷ []
+      → bindings.items
+      ≡ with_binding (record { file = file; id = id; kind = kind.Device device }) s.bindings.items
       → Shows (record w {
         objects = with_object (record { file = file; id = id; kind = kind.Device device }) w.objects;
       }) (record s { objects = table; bindings = bindings })
-  shows_bound w s file id device table bindings shows free unused rows files last =
+  shows_bound w s file id device table bindings shows free unused rows files came =
       shows_inserted w s (record {
         file = file;
         id = id;
@@ -104,5 +87,8 @@ module _ {A : Type 0} where
         value =
             held.Device device;
       }) table bindings shows refl refl unused refl rows files
-      (λ d. bound_last w.objects s.bindings.items file id device shows.devices.bindings free d
-      ∙ ap (find (λ (object : Object). is_bound_as d object.kind)) (sym last))
+      (λ d. bound_by w.objects s.bindings.items file id device shows.devices.bindings free d
+      ∙ ap (find (λ (object : Object). is_bound_as d object.kind)) (sym came))
+      (ap are_bindings came
+      ∙ are_with (record { file = file; id = id; kind = kind.Device device }) s.bindings.items refl
+      shows.devices.rising)

@@ -225,6 +225,7 @@ module _ {A : Type 0} where
             devices = record {
               bindings =
                   λ d. bindings_stay w.objects (without_attachment device w.attachments) a d ∙ shows.devices.bindings d;
+              rising = shows.devices.rising;
               attached = sym others;
             };
             users = after.users;

@@ -46,6 +46,7 @@ pub fn refusal<A: Allocator>(
     iova: Iova,
     len: usize,
 ) -> Option<Cause>
+    requires { IsKnown state.now }
     ensures { result ≡ first_true (access_checks (seen state.now) device iova len) }
 {
     if state.binding_of(device).is_none() {
@@ -79,6 +80,7 @@ fn of_device<A: Allocator>(
     address: u64,
     kind: AccessKind,
 ) -> Option<Access>
+    requires { IsKnown state.now }
     ensures { outcomes_of result ≡ policy.access_outcomes (seen state.now) device address kind }
 {
     let Some(attachment) = state.attachment_of(device) else {
@@ -126,6 +128,7 @@ pub fn may_pass<A: Allocator>(
     kind: AccessKind,
     frame: FrameNo,
 ) -> bool
+    requires { IsKnown state.now }
     ensures { result ≡ list_any (is_pass_at frame) (policy.access_outcomes (seen state.now) device address kind) }
 {
     match of_device(state, device, address, kind) {

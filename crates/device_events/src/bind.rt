@@ -5,16 +5,17 @@ ghost use Rattle.iofd_words.specs.Checks.{bind_checks};
 ghost use Rattle.iofd_words.specs.FirstTrue.{first_true};
 ghost use Rattle.iofd_words.specs.declared.event.Event.TheVariants as event;
 ghost use Rattle.server_state.specs.Seen.{seen};
-ghost use Rattle.server_state.specs.Step.{ShowsSame, Steps};
+ghost use Rattle.server_state.specs.Step.{IsKnown, ShowsSame, Steps};
 
 use iofd_words::{CallError, Cause, DeviceNo, FileNo, NoMemory, Object, ObjectKind, Reply};
 use object_table::Kind;
-use server_state::{Held, State};
+use server_state::{Held, State, devices};
 use std::alloc::Allocator;
 
 /// Why it is refused, by the first row of the definitions that holds. None where nothing refuses it.
 #[tactic(auto, using(server_state::proofs::ObjectsMoved::is_full_rows), unfolding(iofd_words::specs::Checks::bind_checks))]
 pub fn refusal<A: Allocator>(state: &State<A>, file: FileNo, device: DeviceNo) -> Option<Cause>
+    requires { IsKnown state.now }
     ensures { result ≡ first_true (bind_checks (seen state.now) file device) }
 {
     if !state.objects.is_open(file) {
@@ -54,10 +55,11 @@ pub fn commit<A: Allocator>(
     let id = state
         .objects
         .insert_reserved(file, Kind::Device, Held::Device(device));
-    state.bindings.push_reserved(Object {
+    let object = Object {
         file,
         id,
         kind: ObjectKind::Device(device),
-    });
+    };
+    devices::insert_binding(&mut state.bindings, object);
     Ok(Reply::Id(id))
 }

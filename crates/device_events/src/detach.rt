@@ -9,7 +9,7 @@ ghost use Rattle.iofd_words.specs.declared.event.Event.TheVariants as event;
 ghost use Rattle.server_state.specs.Held.{objects_in};
 ghost use Rattle.device_events.specs.Attaching.{is_idle};
 ghost use Rattle.server_state.specs.Seen.{seen};
-ghost use Rattle.server_state.specs.Step.{IsGranted, MovingSteps, ShowsSame};
+ghost use Rattle.server_state.specs.Step.{IsGranted, IsKnown, MovingSteps, ShowsSame};
 ghost use Rattle.object_table.specs.Table.{destroy_refusal, removed};
 ghost use Rattle.object_table.specs.declared.kind.Kind.TheVariants as of_kind;
 
@@ -24,6 +24,7 @@ use std::alloc::Allocator;
 /// Why it is refused, by the first row of the definitions that holds. None where nothing refuses it.
 #[tactic(auto, unfolding(iofd_words::specs::Checks::detach_checks))]
 pub fn refusal<A: Allocator>(state: &State<A>, device: DeviceNo) -> Option<Cause>
+    requires { IsKnown state.now }
     ensures { result ≡ first_true (detach_checks (seen state.now) device) }
 {
     if state.binding_of(device).is_none() {

@@ -8,7 +8,7 @@ ghost use Rattle.iofd_words.specs.FirstTrue.{first_true};
 ghost use Rattle.iofd_words.specs.Policy as policy;
 ghost use Rattle.iofd_words.specs.declared.event.Event.TheVariants as event;
 ghost use Rattle.server_state.specs.Seen.{seen};
-ghost use Rattle.server_state.specs.Step.{ChosenSteps, IsGrantedVia};
+ghost use Rattle.server_state.specs.Step.{ChosenSteps, IsGrantedVia, IsKnown};
 
 use crate::access;
 use iofd_words::{
@@ -26,6 +26,7 @@ pub fn refusal<A: Allocator>(
     iova: Iova,
     bytes: &Burst,
 ) -> Option<Cause>
+    requires { IsKnown state.now }
     ensures { result ≡ first_true (device_write_checks (seen state.now) device iova bytes.now) }
 {
     access::refusal(state, device, iova, bytes.as_slice().len())

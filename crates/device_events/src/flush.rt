@@ -5,7 +5,7 @@ ghost use Rattle.iofd_words.specs.Checks.{flush_checks};
 ghost use Rattle.iofd_words.specs.FirstTrue.{first_true};
 ghost use Rattle.iofd_words.specs.declared.event.Event.TheVariants as event;
 ghost use Rattle.server_state.specs.Seen.{seen};
-ghost use Rattle.server_state.specs.Step.{Steps};
+ghost use Rattle.server_state.specs.Step.{IsKnown, Steps};
 
 use crate::spaces;
 use iofd_words::{Cause, DeviceNo, Reply};
@@ -15,6 +15,7 @@ use std::alloc::Allocator;
 /// Why it is refused, by the first row of the definitions that holds. None where nothing refuses it.
 #[tactic(auto, unfolding(iofd_words::specs::Checks::flush_checks))]
 pub fn refusal<A: Allocator>(state: &State<A>, device: DeviceNo) -> Option<Cause>
+    requires { IsKnown state.now }
     ensures { result ≡ first_true (flush_checks (seen state.now) device) }
 {
     if state.binding_of(device).is_none() {
@@ -25,6 +26,7 @@ pub fn refusal<A: Allocator>(state: &State<A>, device: DeviceNo) -> Option<Cause
 
 /// What it does where nothing refuses it: the device owes no area a flush any more.
 pub fn commit<A: Allocator>(state: &mut State<A>, device: DeviceNo) -> Reply
+    requires { IsKnown state.old }
     ensures { (at : ℕ) → Steps at (event.Flush device) state.old result state.new }
 {
     if let Some((file, ioas)) = state.space_of(device) {

@@ -276,6 +276,7 @@ module _ {A : Type 0} where
           bindings = λ device. found_without (λ (o : Object). is_bound_as device o.kind) w.objects file id k tidy.ids
               is_kind (λ object of_file of_kind. rw of_kind (unbound k device no_device))
               ∙ shows.devices.bindings device;
+          rising = shows.devices.rising;
           attached = shows.devices.attached;
         };
         limits = after.limits;

@@ -395,6 +395,7 @@ module _ {A : Type 0} where
               };
               devices = record {
                 bindings = λ device. bound_left device ∙ shows.devices.bindings device;
+                rising = shows.devices.rising;
                 attached =
                     ap (filter (λ (a : Attachment). not (eqb a.file.0 file.0))) shows.devices.attached ∙ sym detached;
               };

@@ -30,9 +30,11 @@ use Rattle.memory_rows.proofs.FramesFollow.{pins_moved, translated_same}
 use Rattle.file_events.proofs.SpacesGone.{areas-removed, areas_stay, found_without}
 use Rattle.object_table.specs.Table.{Table, destroy_refusal, is_at, removed}
 use Rattle.object_table.specs.declared.kind.Kind.TheVariants as of_kind
+use Rattle.server_state.proofs.Bindings.{are_left}
 use Rattle.server_state.proofs.ObjectsGone.{may_go, objects-removed}
 use Rattle.file_events.proofs.TablesLeft.{among_stay}
 use Rattle.server_state.proofs.TableRows.{areas_of_other}
+use Rattle.server_state.specs.Devices.{are_bindings}
 use Rattle.server_state.specs.Held.{areas_at, is_proper, object_of, objects_in}
 use Rattle.server_state.specs.Shows.{Shows}
 use Rattle.server_state.specs.Step.{IsTidy}
@@ -168,6 +170,8 @@ module _ {A : Type 0} where
               λ d. unbound w.objects s.bindings.items file id device
               tidy.ids tidy.once of_world shows.devices.bindings d
               ∙ ap (λ (l : List Object). binding_of l d) (sym left);
+          rising = ap are_bindings left
+              ∙ are_left (λ (o : Object). not (is_bound_as device o.kind)) s.bindings.items shows.devices.rising;
           attached = shows.devices.attached;
         };
         limits = shows.limits;

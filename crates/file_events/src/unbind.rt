@@ -6,7 +6,7 @@ ghost use Rattle.iofd_words.specs.FirstTrue.{first_true};
 ghost use Rattle.iofd_words.specs.Objects.{is_bound_as};
 ghost use Rattle.iofd_words.specs.declared.event.Event.TheVariants as event;
 ghost use Rattle.server_state.specs.Seen.{seen};
-ghost use Rattle.server_state.specs.Step.{IsGranted, Steps};
+ghost use Rattle.server_state.specs.Step.{IsGranted, IsKnown, Steps};
 
 use crate::destroy;
 use iofd_words::{Cause, DeviceNo, FileNo, ObjId, Object, ObjectKind, Reply};
@@ -17,6 +17,7 @@ use std::alloc::Allocator;
 /// Why it is refused, by the first row of the definitions that holds. None where nothing refuses it.
 #[tactic(auto, unfolding(iofd_words::specs::Checks::unbind_checks))]
 pub fn refusal<A: Allocator>(state: &State<A>, file: FileNo, id: ObjId) -> Option<Cause>
+    requires { IsKnown state.now }
     ensures { result ≡ first_true (unbind_checks (seen state.now) file id) }
 {
     if !state.objects.is_open(file) {

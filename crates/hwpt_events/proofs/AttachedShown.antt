@@ -197,6 +197,7 @@ module _ {A : Type 0} where
     objects = shows.objects;
     devices = record {
       bindings = shows.devices.bindings;
+      rising = shows.devices.rising;
       attached = ap (with_attachment a) shows.devices.attached ∙ sym added;
     };
     users = shows.users;
@@ -213,7 +214,11 @@ module _ {A : Type 0} where
     limits = shows.limits;
     allowed = shows.allowed;
     objects = shows.objects;
-    devices = record { bindings = shows.devices.bindings; attached = shows.devices.attached ∙ sym same };
+    devices = record {
+      bindings = shows.devices.bindings;
+      rising = shows.devices.rising;
+      attached = shows.devices.attached ∙ sym same;
+    };
     users = shows.users;
     pins = shows.pins;
     frames = shows.frames;

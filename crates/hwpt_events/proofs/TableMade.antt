@@ -253,6 +253,7 @@ module _ {A : Type 0} (at : ℕ) (w : World) (s : State A) (tidy : IsTidy at w) 
         devices = record {
           bindings = λ d. find-with_object (λ (o : Object). is_bound_as d o.kind) object w.objects refl
               ∙ shows.devices.bindings d;
+          rising = shows.devices.rising;
           attached = shows.devices.attached;
         };
         users = users_pinned at w s tidy shows file ioas id width automatic roomy after pool more;

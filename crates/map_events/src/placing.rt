@@ -134,8 +134,8 @@ pub(crate) fn overlaps<A: Allocator>(request: MapRequest, areas: &Areas<A>) -> b
     }
 }
 
-/// Where it comes to lie in the address space with these areas; None where an address is to be chosen, and there is none
-/// that may be.
+/// Where it comes to lie in the address space with these areas; None where an address is to be chosen, and there is
+/// none that may be.
 pub(crate) fn place_among<A: Allocator>(
     state: &State<A>,
     file: FileNo,

@@ -1,5 +1,6 @@
 pub mod AreasBecome
 pub mod AreasHeld
+pub mod Bindings
 pub mod Errors
 pub mod FewTables
 pub mod FreeAlike
@@ -19,6 +20,7 @@ pub mod ObjectsMoved
 pub mod Orderly
 pub mod PageTables
 pub mod RoomHeld
+pub mod Searched
 pub mod Still
 pub mod TableRows
 pub mod TablesFollow

@@ -17,6 +17,7 @@ use Rattle.iofd_rows.proofs.PageTables.{same_hwpt}
 use Rattle.memory_rows.proofs.FramesFollow.{pins_moved, translated_same}
 use Rattle.server_state.proofs.Objects.{kind_at, kind_of_rows}
 use Rattle.server_state.proofs.PageTables.{over_no_other}
+use Rattle.server_state.specs.Devices.{are_bindings}
 use Rattle.server_state.specs.Held.{is_proper, areas_at, areas_in, object_of}
 use Rattle.server_state.specs.Shows.{Shows}
 use Rattle.server_state.specs.Tables.{page_tables_among}
@@ -91,9 +92,10 @@ module _ {A : Type 0} where
       → table.rows ≡ inserted row s.objects.rows → table.files ≡ s.objects.files
       → ((device : DeviceNo) → binding_of (with_object (object_of row) w.objects) device ≡ find
       (λ object. is_bound_as device object.kind) bindings.items)
+      → are_bindings bindings.items ≡ true
       → Shows (record w { objects = with_object (object_of row) w.objects })
       (record s { objects = table; bindings = bindings })
-  shows_inserted w s row table bindings shows proper none unused no_table rows files bound =
+  shows_inserted w s row table bindings shows proper none unused no_table rows files bound rising =
       record {
         settings = shows.settings;
         objects = record {
@@ -104,7 +106,7 @@ module _ {A : Type 0} where
               ∙ ap (λ l. areas_at l file id) (sym rows);
           files = λ number. rw files (shows.objects.files number);
         };
-        devices = record { bindings = bound; attached = shows.devices.attached };
+        devices = record { bindings = bound; rising = rising; attached = shows.devices.attached };
         limits = shows.limits;
         allowed = shows.allowed;
         users = shows.users;

@@ -1,4 +1,5 @@
 pub mod Choice
+pub mod Devices
 pub mod Held
 pub mod Leads
 pub mod Mapping

@@ -14,6 +14,7 @@ use Rattle.iofd_words.specs.declared.numbers.ObjId.{ObjId}
 use Rattle.iofd_words.specs.declared.rows.Area.{Area}
 use Rattle.iofd_words.specs.declared.rows.Attachment.{Attachment}
 use Rattle.iofd_words.specs.declared.rows.Object.{Object}
+use Rattle.server_state.specs.Devices.{are_bindings}
 use Rattle.server_state.specs.Held.{object_of, is_proper, areas_at}
 use Rattle.server_state.specs.declared.held.Held.{Held}
 use Rattle.server_state.specs.Leads.{leads_of}
@@ -37,6 +38,7 @@ pub record ObjectsShown {A : Type 0} (settings : Settings) (closed : List FileNo
 pub record DevicesShown (objects : List Object) (attachments : List Attachment) (kept_bindings : List Object)
     (kept_attachments : List Attachment) : Type 0 where
   pub bindings : (device : DeviceNo) → binding_of objects device ≡ binding_of kept_bindings device
+  pub rising : are_bindings kept_bindings ≡ true
   pub attached : attachments ≡ kept_attachments
 
 -- the page tables are those among the objects, of the widths that these have, and each stands in the pool with its

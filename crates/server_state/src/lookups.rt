@@ -10,6 +10,7 @@ ghost use Rattle.server_state.specs.Mapping.{is_over};
 ghost use Rattle.server_state.specs.Held.{areas_at, object_of, kind_in, objects_in, space_of};
 ghost use Rattle.server_state.specs.Step.{IsKnown};
 
+use crate::devices;
 use crate::held::Held;
 use crate::state::State;
 use area_map::Areas;
@@ -143,22 +144,23 @@ impl<A: Allocator> State<A> {
 
     /// The attachment of the device.
     pub fn attachment_of(&self, device: DeviceNo) -> Option<&Attachment>
+        requires { IsKnown self.now }
         ensures { option_copied result ≡ attachments.attachment_of self.now.attachments.items device }
     {
-        self.attachments.iter().find(|a| a.device == device)
+        devices::attachment_in(&self.attachments, device)
     }
 
     /// The object by which the device is bound.
     pub fn binding_of(&self, device: DeviceNo) -> Option<&Object>
+        requires { IsKnown self.now }
         ensures { option_copied result ≡ objects.binding_of self.now.bindings.items device }
     {
-        self.bindings
-            .iter()
-            .find(|object| is_bound_as(device, object.kind))
+        devices::binding_in(&self.bindings, device)
     }
 
     /// The address space to which the device is attached, by file and id.
     pub fn space_of(&self, device: DeviceNo) -> Option<(FileNo, ObjId)>
+        requires { IsKnown self.now }
         ensures { result ≡ space_of (objects_in self.now.objects)
             (attachments.attachment_of self.now.attachments.items device) }
     {
@@ -167,14 +169,5 @@ impl<A: Allocator> State<A> {
             ObjectKind::Hwpt { ioas, .. } => Some((attachment.file, ioas)),
             _ => None,
         }
-    }
-}
-
-fn is_bound_as(device: DeviceNo, kind: ObjectKind) -> bool
-    ensures { result ≡ objects.is_bound_as device kind }
-{
-    match kind {
-        ObjectKind::Device(bound) => bound == device,
-        _ => false,
     }
 }

@@ -21,7 +21,7 @@ pub struct State<A: Allocator = Global> {
     pub objects: ObjectTable<Held<A>, A>,
     /// The ranges that address spaces allow to addresses which the server chooses.
     pub allowed: AllowedTable<A>,
-    /// The objects by which devices are bound.
+    /// The objects by which devices are bound, by rising device.
     pub bindings: Vec<Object, A>,
     /// The page tables of all files: what asks for them goes over these alone.
     pub page_tables: PageTables<A>,

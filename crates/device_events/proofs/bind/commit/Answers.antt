@@ -1,4 +1,4 @@
-use Rattle.std.proofs.Common.{◌∙◌, ap, ◌++◌, ◌∷◌, []}
+use Rattle.std.proofs.Common.{◌∙◌, ap}
 use Rattle.iofd_words.specs.After.{changed}
 use Rattle.iofd_words.specs.Answers.{Answers}
 use Rattle.iofd_words.specs.View.{view}
@@ -7,6 +7,7 @@ use Rattle.iofd_words.specs.declared.rows.ObjectKind.TheVariants as kind
 use Rattle.iofd_runs.proofs.NotRefused.{bind_passed}
 use Rattle.device_events.proofs.NeverRefused.{bind_taken}
 use Rattle.server_state.proofs.ObjectsMoved.{fresh_id}
+use Rattle.server_state.specs.Devices.{with_binding}
 use Rattle.device_events.proofs.Bound.{shows_bound}
 use Rattle.device_events.proofs.bind.commit.Goals as goal
 
@@ -26,7 +27,7 @@ returns-clause-ok g c = λ at w tidy shows none.
       rw shows.objects.rows (fresh_id c.args.state.now.objects.rows c.args.file c.insert_reserved-id.result
           inserted.in_range.0 inserted.in_range.1 unused),
       shows_bound w c.args.state.now c.args.file c.insert_reserved-id.result c.args.device c.insert_reserved-id.new.self
-          c.push_reserved.new.self shows (bind_passed (view w) c.args.file c.args.device none).unbound unused
-          (rw reserved.rows at inserted.rows) (inserted.files ∙ reserved.files) (c.push_reserved.ensures.items
-          ∙ ap (λ l. l ++ object ∷ []) c.reserve-2.ensures.items),
+          c.insert_binding.new.bindings shows (bind_passed (view w) c.args.file c.args.device none).unbound unused
+          (rw reserved.rows at inserted.rows) (inserted.files ∙ reserved.files) (c.insert_binding.ensures
+          ∙ ap (with_binding object) c.reserve-2.ensures.items),
     )

@@ -17,6 +17,7 @@ returns-clause-shows g c =
       };
       devices = record {
         bindings = λ device. rw c.new-3.ensures.items refl;
+        rising = rw c.new-3.ensures.items refl;
         attached = sym c.new-5.ensures.items;
       };
       limits = c.in_ok-new-2.ensures.limits ∙ c.users.ensures;

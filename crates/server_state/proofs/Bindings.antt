@@ -1,0 +1,204 @@
+-- The objects by which devices are bound, by rising device: one comes, some go, and one is found.
+use Rattle.std.proofs.Common.{◌≡◌, ℕ, suc, ◌+◌, ◌≤◌, Bool, true, false, cond, ◌&&◌, eqb, ltb, leb, not, Option, Some}
+use Rattle.std.proofs.Common.{None, List, [], ◌∷◌, length, refl, ap, sym, ◌∙◌, arith}
+use Rattle.std.specs.List.{filter, find, insert, list_all, position, position_or_len, prefix_len, slice_get}
+use Rattle.std.proofs.lemmas.Bool.{and_parts}
+use Rattle.std.proofs.lemmas.Bool.Decides.{nat_tests}
+use Rattle.std.proofs.lemmas.List.Sums.{prefix_len-le-length}
+use Rattle.iofd_words.specs.Objects.{binding_of, is_bound_as, is_bound_device}
+use Rattle.iofd_words.specs.declared.numbers.DeviceNo.{DeviceNo}
+use Rattle.iofd_words.specs.declared.rows.Object.{Object}
+use Rattle.iofd_words.specs.declared.rows.ObjectKind.{ObjectKind}
+use Rattle.iofd_words.specs.declared.rows.ObjectKind.TheVariants as kind
+use Rattle.server_state.specs.Devices.{are_bindings, bound_number, with_binding}
+use Rattle.server_state.proofs.Searched.{passing, rises, searched}
+
+-- ---- the object of a device is known by its number
+
+abbrev is_device : Object → Bool
+is_device object = is_bound_device object.kind
+
+abbrev number : Object → ℕ
+number object = bound_number object.kind
+
+pub tells : (device : DeviceNo) (object : Object) → is_bound_device object.kind ≡ true
+    → is_bound_as device object.kind ≡ eqb (bound_number object.kind) device.0
+tells device object is = by_kind object.kind is
+  where
+    by_kind : (k : ObjectKind) → is_bound_device k ≡ true → is_bound_as device k ≡ eqb (bound_number k) device.0
+    by_kind kind.Ioas is = cc
+    by_kind (kind.Hwpt ioas width automatic) is = cc
+    by_kind (kind.Device bound) is = refl
+
+pub bindings_rise : (bindings : List Object) → are_bindings bindings ≡ true
+    → rises (λ (o : Object). is_bound_device o.kind) (λ (o : Object). bound_number o.kind) bindings ≡ true
+bindings_rise [] are = refl
+bindings_rise (b ∷ bindings) are =
+    let first = and_parts (is_device b) (list_all (λ c. leb (number b) (number c)) bindings && are_bindings bindings)
+    are in
+    let rest = and_parts (list_all (λ c. leb (number b) (number c)) bindings) (are_bindings bindings) first.1 in
+    rw (first.0, rest.0) (bindings_rise bindings rest.1)
+
+-- ---- where one comes
+
+abbrev is_above : Object → Object → Bool
+is_above object c = ltb (number object) (number c)
+
+insert_behind : (x : Object) (xs : List Object) (n : ℕ) (b : Object) → insert (x ∷ xs) (1 + n) b ≡ x ∷ insert xs n b
+insert_behind x xs n b = let next : 1 + n ≡ suc n = omega arith in rw next refl
+
+placed : (b : Object) (list : List Object) → insert list (position_or_len (is_above b) list) b ≡ with_binding b list
+placed b [] = refl
+placed b (c ∷ list) = by_order (is_above b c) refl (placed b list)
+  where
+    by_order : (above : Bool) → is_above b c ≡ above
+        → insert list (position_or_len (is_above b) list) b ≡ with_binding b list
+        → insert (c ∷ list) (position_or_len (is_above b) (c ∷ list)) b ≡ with_binding b (c ∷ list)
+    by_order true is rest = rw is refl
+    by_order false is rest = rw (is, insert_behind c list (position_or_len (is_above b) list) b)
+        (ap (λ others. c ∷ others) rest)
+
+place_found : (n length i : ℕ) → cond (ltb n length) (Some n) None ≡ Some i → n ≡ i
+place_found n length i found = by_test (ltb n length) found
+  where
+    by_test : (b : Bool) → cond b (Some n) None ≡ Some i → n ≡ i
+    by_test true found = cc
+    by_test false found = cc
+
+place_none : (n length : ℕ) → n ≤ length → cond (ltb n length) (Some n) None ≡ None → n ≡ length
+place_none n length within none = by_test (ltb n length) refl none
+  where
+    by_test : (b : Bool) → ltb n length ≡ b → cond b (Some n) None ≡ None → n ≡ length
+    by_test true is none = cc
+    by_test false is none = grind (arith, nat_tests)
+
+pub placed_before : (object : Object) (list : List Object) (place : ℕ)
+    → position (λ (c : Object). ltb (bound_number object.kind) (bound_number c.kind)) list ≡ Some place
+    → insert list place object ≡ with_binding object list
+placed_before object list place found =
+    let at : position_or_len (is_above object) list ≡ place =
+    place_found (position_or_len (is_above object) list) (length list) place found in
+    rw (← at) (placed object list)
+
+pub placed_last : (object : Object) (list : List Object)
+    → position (λ (c : Object). ltb (bound_number object.kind) (bound_number c.kind)) list ≡ None
+    → insert list (length list) object ≡ with_binding object list
+placed_last object list none =
+    let at : position_or_len (is_above object) list ≡ length list =
+    place_none (position_or_len (is_above object) list) (length list)
+    (prefix_len-le-length (λ (c : Object). not (is_above object c)) list) none in
+    ap (λ n. insert list n object) (sym at) ∙ placed object list
+
+-- ---- what one that comes leaves, and what is left where some go
+
+are_parts : (b : Object) (bindings : List Object) → are_bindings (b ∷ bindings) ≡ true
+    → (is_device b ≡ true) × (list_all (λ c. leb (number b) (number c)) bindings ≡ true)
+    × (are_bindings bindings ≡ true)
+are_parts b bindings are =
+    let first = and_parts (is_device b) (list_all (λ c. leb (number b) (number c)) bindings && are_bindings bindings)
+    are in
+    let rest = and_parts (list_all (λ c. leb (number b) (number c)) bindings) (are_bindings bindings) first.1 in
+    (first.0, rest.0, rest.1)
+
+all_with : (q : Object → Bool) (b : Object) (bindings : List Object) → q b ≡ true → list_all q bindings ≡ true
+    → list_all q (with_binding b bindings) ≡ true
+all_with q b [] here all = rw here refl
+all_with q b (c ∷ bindings) here all =
+    let both = and_parts (q c) (list_all q bindings) all in
+    by_order (ltb (number b) (number c)) both (all_with q b bindings here both.1)
+  where
+    by_order : (above : Bool) → (q c ≡ true) × (list_all q bindings ≡ true)
+        → list_all q (with_binding b bindings) ≡ true
+        → list_all q (cond above (b ∷ c ∷ bindings) (c ∷ with_binding b bindings)) ≡ true
+    by_order true both rest = rw (here, both.0, both.1) refl
+    by_order false both rest = rw (both.0, rest) refl
+
+lower_too : (low high : ℕ) (bindings : List Object) → low ≤ high → list_all (λ c. leb high (number c)) bindings ≡ true
+    → list_all (λ c. leb low (number c)) bindings ≡ true
+lower_too low high [] below all = refl
+lower_too low high (c ∷ bindings) below all =
+    let both = and_parts (leb high (number c)) (list_all (λ d. leb high (number d)) bindings) all in
+    let first : leb high (number c) ≡ true = both.0 in
+    let here : leb low (number c) ≡ true = grind (arith, nat_tests) in
+    rw here (lower_too low high bindings below both.1)
+
+pub are_with : (b : Object) (bindings : List Object) → is_bound_device b.kind ≡ true → are_bindings bindings ≡ true
+    → are_bindings (with_binding b bindings) ≡ true
+are_with b [] device are = rw device refl
+are_with b (c ∷ bindings) device are =
+    let parts = are_parts c bindings are in
+    by_order (ltb (number b) (number c)) refl parts (are_with b bindings device parts.2)
+  where
+    by_order : (above : Bool) → ltb (number b) (number c) ≡ above
+        → (is_device c ≡ true) × (list_all (λ d. leb (number c) (number d)) bindings ≡ true)
+        × (are_bindings bindings ≡ true)
+        → are_bindings (with_binding b bindings) ≡ true
+        → are_bindings (cond above (b ∷ c ∷ bindings) (c ∷ with_binding b bindings)) ≡ true
+    by_order true is parts rest =
+        let first : leb (number b) (number c) ≡ true = grind (arith, nat_tests) in
+        let below : number b ≤ number c = grind (arith, nat_tests) in
+        rw (device, first, lower_too (number b) (number c) bindings below parts.1, parts.0, parts.1, parts.2) refl
+    by_order false is parts rest =
+        let here : leb (number c) (number b) ≡ true = grind (arith, nat_tests) in
+        rw (parts.0, all_with (λ d. leb (number c) (number d)) b bindings here parts.1, rest) refl
+
+all_left : (q keeps : Object → Bool) (bindings : List Object) → list_all q bindings ≡ true
+    → list_all q (filter keeps bindings) ≡ true
+all_left q keeps [] all = refl
+all_left q keeps (c ∷ bindings) all =
+    let both = and_parts (q c) (list_all q bindings) all in
+    by_test (keeps c) both.0 (all_left q keeps bindings both.1)
+  where
+    by_test : (b : Bool) → q c ≡ true → list_all q (filter keeps bindings) ≡ true
+        → list_all q (cond b (c ∷ filter keeps bindings) (filter keeps bindings)) ≡ true
+    by_test true here rest = rw (here, rest) refl
+    by_test false here rest = rest
+
+pub are_left : (keeps : Object → Bool) (bindings : List Object) → are_bindings bindings ≡ true
+    → are_bindings (filter keeps bindings) ≡ true
+are_left keeps [] are = refl
+are_left keeps (c ∷ bindings) are =
+    let parts = are_parts c bindings are in
+    by_test (keeps c) parts (are_left keeps bindings parts.2)
+  where
+    by_test : (b : Bool)
+        → (is_device c ≡ true) × (list_all (λ d. leb (number c) (number d)) bindings ≡ true)
+        × (are_bindings bindings ≡ true)
+        → are_bindings (filter keeps bindings) ≡ true
+        → are_bindings (cond b (c ∷ filter keeps bindings) (filter keeps bindings)) ≡ true
+    by_test true parts rest =
+        rw (parts.0, all_left (λ d. leb (number c) (number d)) keeps bindings parts.1, rest) refl
+    by_test false parts rest = rest
+
+-- what is found among them once one came
+pub found_with : (p : Object → Bool) (b : Object) (bindings : List Object) → p b ≡ true → find p bindings ≡ None
+    → find p (with_binding b bindings) ≡ Some b
+found_with p b [] here none = rw here refl
+found_with p b (c ∷ bindings) here none =
+    by_tests (ltb (number b) (number c)) (p c) refl none (λ later. found_with p b bindings here later)
+  where
+    by_tests : (above passes : Bool) → p c ≡ passes → cond passes (Some c) (find p bindings) ≡ None
+        → (find p bindings ≡ None → find p (with_binding b bindings) ≡ Some b)
+        → find p (cond above (b ∷ c ∷ bindings) (c ∷ with_binding b bindings)) ≡ Some b
+    by_tests true passes is none rest = rw here refl
+    by_tests false true is none rest = cc
+    by_tests false false is none rest = rw is (rest none)
+
+pub others_with : (p : Object → Bool) (b : Object) (bindings : List Object) → p b ≡ false
+    → find p (with_binding b bindings) ≡ find p bindings
+others_with p b [] fails = rw fails refl
+others_with p b (c ∷ bindings) fails = by_order (ltb (number b) (number c)) (others_with p b bindings fails)
+  where
+    by_order : (above : Bool) → find p (with_binding b bindings) ≡ find p bindings
+        → find p (cond above (b ∷ c ∷ bindings) (c ∷ with_binding b bindings)) ≡ cond (p c) (Some c) (find p bindings)
+    by_order true rest = rw fails refl
+    by_order false rest = ap (cond (p c) (Some c)) rest
+
+-- so the object by which a device is bound is found where those of lower devices end
+pub binding_there : (bindings : List Object) (device : DeviceNo) → are_bindings bindings ≡ true → (o : Option Object)
+    → slice_get bindings (prefix_len (λ (b : Object). ltb (bound_number b.kind) device.0) bindings) ≡ o
+    → binding_of bindings device ≡ passing (λ (b : Object). is_bound_as device b.kind) o
+binding_there bindings device are o is =
+    searched is_device number (λ (b : Object). is_bound_as device b.kind) device.0 (tells device) bindings
+    (bindings_rise bindings are)
+    ∙ ap (passing (λ (b : Object). is_bound_as device b.kind)) is
