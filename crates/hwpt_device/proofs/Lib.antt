@@ -1,3 +1,4 @@
+pub mod ByFile
 pub mod Changed
 pub mod ClearedOver
 pub mod Counted
@@ -14,6 +15,7 @@ pub mod Objects
 pub mod OthersKept
 pub mod OwnIds
 pub mod Partly
+pub mod PlaceOfFile
 pub mod Placed
 pub mod Staying
 pub mod TakenOut

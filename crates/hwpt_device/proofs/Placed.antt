@@ -8,14 +8,14 @@ use Rattle.iofd_words.specs.Objects.{comes_before}
 use Rattle.iofd_words.specs.declared.rows.Object.{Object}
 use Rattle.hwpt_device.specs.PageTables.{Hwpt, with_hwpt}
 
-abbrev is_after : Object → Hwpt → Bool
+abbrev pub is_after : Object → Hwpt → Bool
 is_after object h = comes_before object h.object
 
 insert_behind : (x : Hwpt) (xs : List Hwpt) (n : ℕ) (h : Hwpt) → insert (x ∷ xs) (1 + n) h ≡ x ∷ insert xs n h
 insert_behind x xs n h = let next : 1 + n ≡ suc n = omega arith in rw next refl
 
 -- it stands before the first that comes after it
-placed : (hwpt : Hwpt) (list : List Hwpt)
+pub placed : (hwpt : Hwpt) (list : List Hwpt)
     → insert list (position_or_len (is_after hwpt.object) list) hwpt ≡ with_hwpt hwpt list
 placed hwpt [] = refl
 placed hwpt (h ∷ list) = by_order (comes_before hwpt.object h.object) refl (placed hwpt list)

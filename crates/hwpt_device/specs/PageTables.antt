@@ -1,8 +1,8 @@
 -- What is seen of the page tables of all files, and when they stand in a pool: each with its rows of the world's table
 -- frames, and each of its pages leading where it is said to lead.
-use Rattle.std.specs.Prelude.{ℕ, ◌≡◌, ◌≤◌, ◌^◌, ◌==◌, nat_lt, true, Option, Some, None, List, [], ◌∷◌, map, filter}
-use Rattle.std.specs.Prelude.{find, slice_index, if◌then◌else◌}
-use Rattle.std.specs.List.{count_by}
+use Rattle.std.specs.Prelude.{ℕ, ◌≡◌, ◌≤◌, ◌^◌, ◌==◌, ◌&&◌, nat_le, nat_lt, Bool, true, Option, Some, None, List, []}
+use Rattle.std.specs.Prelude.{◌∷◌, map, filter, find, slice_index, if◌then◌else◌}
+use Rattle.std.specs.List.{count_by, list_all}
 use Rattle.iofd_rows.proofs.Each.{IsIn}
 use Rattle.iofd_rows.specs.Ids.{have_own_ids}
 use Rattle.iofd_words.specs.Levels.{levels_of}
@@ -46,6 +46,11 @@ hwpt_of tables file id = find (λ h. is_object file id h.object) tables
 abbrev pub with_hwpt : Hwpt → List Hwpt → List Hwpt
 with_hwpt hwpt [] = hwpt ∷ []
 with_hwpt hwpt (h ∷ tables) = if comes_before hwpt.object h.object then hwpt ∷ h ∷ tables else h ∷ with_hwpt hwpt tables
+
+-- they stand by rising file
+abbrev pub are_by_file : List Hwpt → Bool
+are_by_file [] = true
+are_by_file (h ∷ tables) = list_all (λ next. nat_le h.object.file.0 next.object.file.0) tables && are_by_file tables
 
 -- ---- rows of the world
 

@@ -1,17 +1,19 @@
 //! Where a page table stands among others, by rising file and id.
 
-ghost use Rattle.std.specs.Prelude.{◌≡◌, ◌<◌, ◌≤◌, length, position, IfSome, vec_len, vec_capacity};
-ghost use Rattle.std.specs.List.{insert};
+ghost use Rattle.std.specs.Prelude.{◌≡◌, ◌<◌, ◌≤◌, length, position, IfSome, IsTrue, vec_len, vec_capacity};
+ghost use Rattle.std.specs.List.{insert, position_or_len};
 ghost use Rattle.iofd_words.specs.Objects as objects;
-ghost use Rattle.hwpt_device.specs.PageTables.{Hwpt, with_hwpt};
+ghost use Rattle.hwpt_device.specs.PageTables.{Hwpt, are_by_file, with_hwpt};
 
 use crate::hwpt::Hwpt;
+use crate::lookups::{count_below, of_file};
 use iofd_words::Object;
 use std::alloc::Allocator;
 
 /// Adds a page table, by rising file and id, where there is room. It takes no memory.
 pub(crate) fn insert<A: Allocator>(tables: &mut Vec<Hwpt, A>, hwpt: Hwpt)
-    requires { vec_len tables.old < vec_capacity tables.old }
+    requires order { IsTrue (are_by_file tables.old.items) }
+    requires room { vec_len tables.old < vec_capacity tables.old }
     ensures items { tables.new.items ≡ with_hwpt hwpt tables.old.items }
     ensures capacity { vec_capacity tables.new ≡ vec_capacity tables.old }
 {
@@ -19,12 +21,21 @@ pub(crate) fn insert<A: Allocator>(tables: &mut Vec<Hwpt, A>, hwpt: Hwpt)
     tables.insert(place, hwpt).unwrap();
 }
 
-/// Before which page table one with this object stands.
-#[tactic(auto, using(crate::proofs::Placed::placed_before, crate::proofs::Placed::placed_last))]
+/// Before which page table one with this object stands. Those of other files are passed over by binary search.
 fn place_of(tables: &[Hwpt], object: &Object) -> usize
+    requires { IsTrue (are_by_file tables.now) }
     ensures within { result ≤ length tables.now }
     ensures value { (hwpt : Hwpt) → hwpt.object ≡ object.now →
         insert tables.now result hwpt ≡ with_hwpt hwpt tables.now }
+{
+    let behind = place_in(of_file(tables, object.file), object);
+    count_below(tables, object.file) + behind
+}
+
+/// Before which of the page tables of its file it stands.
+fn place_in(tables: &[Hwpt], object: &Object) -> usize
+    ensures value { result ≡ position_or_len (λ h. objects.comes_before object.now h.object) tables.now }
+    ensures within { result ≤ length tables.now }
 {
     match first_after(tables, object) {
         Some(place) => place,

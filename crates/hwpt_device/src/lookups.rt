@@ -1,17 +1,54 @@
-//! Look-ups in the rows of page tables.
+//! Look-ups in the rows of page tables: the file's are found by binary search, and only they are looked at.
 
-ghost use Rattle.std.specs.Prelude.{◌≡◌, ◌<◌, ◌==◌, ◌&&◌, IfSome, find, length, position};
-ghost use Rattle.std.specs.List.{list_any};
+ghost use Rattle.std.specs.Prelude.{◌≡◌, ◌<◌, ◌≤◌, ◌==◌, ◌&&◌, IfSome, IsTrue, filter, find, length, nat_le, nat_lt};
+ghost use Rattle.std.specs.Prelude.{position};
+ghost use Rattle.std.specs.List.{list_any, prefix_len};
 ghost use Rattle.std.specs.Option.{option_copied};
 ghost use Rattle.iofd_words.specs.Objects as objects;
-ghost use Rattle.hwpt_device.specs.PageTables.{hwpt_of};
+ghost use Rattle.hwpt_device.specs.PageTables.{are_by_file, hwpt_of};
 ghost use Rattle.hwpt_device.specs.Removed.{id_of};
 
 use crate::hwpt::Hwpt;
 use iofd_words::{FileNo, ObjId, ObjectKind};
 
+/// How many are of a file below this one.
+pub(crate) fn count_below(tables: &[Hwpt], file: FileNo) -> usize
+    requires { IsTrue (are_by_file tables.now) }
+    ensures value { result ≡ prefix_len (λ h. nat_lt h.object.file.0 file.0) tables.now }
+    ensures bound { result ≤ length tables.now }
+{
+    tables.partition_point(|hwpt| hwpt.object.file.0 < file.0)
+}
+
+/// How many are of this file or of one below it.
+fn count_until(tables: &[Hwpt], file: FileNo) -> usize
+    requires { IsTrue (are_by_file tables.now) }
+    ensures value { result ≡ prefix_len (λ h. nat_le h.object.file.0 file.0) tables.now }
+    ensures bound { result ≤ length tables.now }
+{
+    tables.partition_point(|hwpt| hwpt.object.file.0 <= file.0)
+}
+
+/// The file's page tables.
+pub(crate) fn of_file(tables: &[Hwpt], file: FileNo) -> &[Hwpt]
+    requires { IsTrue (are_by_file tables.now) }
+    ensures { result.now ≡ filter (λ h. h.object.file.0 == file.0) tables.now }
+{
+    let from = count_below(tables, file);
+    let to = count_until(tables, file);
+    &tables[from..to]
+}
+
 /// Whether one of them is over the file's address space of this id.
 pub(crate) fn has_over(tables: &[Hwpt], file: FileNo, ioas: ObjId) -> bool
+    requires { IsTrue (are_by_file tables.now) }
+    ensures { result ≡ list_any (λ h. h.object.file.0 == file.0 && objects.is_hwpt_over ioas h.object.kind) tables.now }
+{
+    any_over(of_file(tables, file), file, ioas)
+}
+
+/// The same, each of them looked at.
+fn any_over(tables: &[Hwpt], file: FileNo, ioas: ObjId) -> bool
     ensures { result ≡ list_any (λ h. h.object.file.0 == file.0 && objects.is_hwpt_over ioas h.object.kind) tables.now }
 {
     tables.iter().any(|hwpt| is_over(hwpt, file, ioas))
@@ -30,6 +67,14 @@ pub(crate) fn is_over(hwpt: &Hwpt, file: FileNo, ioas: ObjId) -> bool
 
 /// The file's page table of this id.
 pub(crate) fn find(tables: &[Hwpt], file: FileNo, id: ObjId) -> Option<&Hwpt>
+    requires { IsTrue (are_by_file tables.now) }
+    ensures { option_copied result ≡ hwpt_of tables.now file id }
+{
+    find_in(of_file(tables, file), file, id)
+}
+
+/// The same, each of them looked at.
+fn find_in(tables: &[Hwpt], file: FileNo, id: ObjId) -> Option<&Hwpt>
     ensures { option_copied result ≡ hwpt_of tables.now file id }
 {
     tables
@@ -39,8 +84,17 @@ pub(crate) fn find(tables: &[Hwpt], file: FileNo, id: ObjId) -> Option<&Hwpt>
 
 /// Where the file's page table of this id stands.
 pub(crate) fn place(tables: &[Hwpt], file: FileNo, id: ObjId) -> Option<usize>
+    requires { IsTrue (are_by_file tables.now) }
     ensures value { result ≡ position (λ h. objects.is_object file id h.object) tables.now }
     ensures within { IfSome result (λ place. place < length tables.now) }
+{
+    let behind = place_in(of_file(tables, file), file, id)?;
+    Some(count_below(tables, file) + behind)
+}
+
+/// The same, each of them looked at.
+fn place_in(tables: &[Hwpt], file: FileNo, id: ObjId) -> Option<usize>
+    ensures { result ≡ position (λ h. objects.is_object file id h.object) tables.now }
 {
     tables
         .iter()
@@ -49,8 +103,9 @@ pub(crate) fn place(tables: &[Hwpt], file: FileNo, id: ObjId) -> Option<usize>
 
 /// The id of the file's first page table.
 pub(crate) fn first_of(tables: &[Hwpt], file: FileNo) -> Option<ObjId>
+    requires { IsTrue (are_by_file tables.now) }
     ensures { result ≡ id_of (find (λ h. h.object.file.0 == file.0) tables.now) }
 {
-    let hwpt = tables.iter().find(|hwpt| hwpt.object.file == file)?;
+    let hwpt = of_file(tables, file).first()?;
     Some(hwpt.object.id)
 }

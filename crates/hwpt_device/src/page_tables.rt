@@ -29,12 +29,14 @@ pub struct PageTables<A: Allocator = Global> {
 }
 
 impl<A: Allocator> Model for PageTables<A> {
-    ghost use Rattle.std.specs.Prelude.{◌-◌, vec_capacity, vec_len};
-    ghost use Rattle.hwpt_device.specs.PageTables.{PageTables};
+    ghost use Rattle.std.specs.Prelude.{◌-◌, IsTrue, vec_capacity, vec_len};
+    ghost use Rattle.hwpt_device.specs.PageTables.{PageTables, are_by_file};
 
     ghost Value = { PageTables };
 
     ghost view = { λ p. record { tables = p.tables.items; room = vec_capacity p.tables - vec_len p.tables } };
+
+    ghost invariant = { λ p. IsTrue (are_by_file p.tables.items) };
 }
 
 impl<A: Allocator> PageTables<A> {

@@ -1,7 +1,8 @@
 -- A page's entry that is written, in the table of the last level.
-use Rattle.std.proofs.Common.{◌≡◌, ◌≢◌, ℕ, ◌+◌, ◌-◌, ◌*◌, ◌^◌, ◌<◌, eqb, Option, Some, None, List, ◌++◌, length, get_or}
-use Rattle.std.proofs.Common.{refl, sym, ◌∙◌, ap, subst, arith, ⊎_elim}
+use Rattle.std.proofs.Common.{◌≡◌, ◌≢◌, ℕ, ◌+◌, ◌-◌, ◌*◌, ◌/◌, ◌^◌, ◌<◌, ◌≤◌, eqb, Option, Some, None, List, ◌++◌}
+use Rattle.std.proofs.Common.{length, get_or, refl, sym, ◌∙◌, ap, subst, arith, ⊎_elim}
 use Rattle.std.proofs.lemmas.Bool.{cases_eq, cond-false, cond-true, eq-eqb, false≢true, ne_eqb}
+use Rattle.iofd_words.specs.Width.{bits_of}
 use Rattle.iofd_words.specs.declared.flags.Rights.{Rights}
 use Rattle.iofd_words.specs.declared.numbers.FrameNo.{FrameNo}
 use Rattle.frame_memory.specs.Pool.{FramePool}
@@ -17,7 +18,7 @@ use Rattle.table_words.proofs.LeafWritten.{LeadsTo, WritesLeaf, leaf_written}
 use Rattle.table_words.proofs.Lookups.{both_some, named_table, none_or_some, page_at-with, page_at-without}
 use Rattle.table_words.proofs.Missing.{missing_is}
 use Rattle.table_words.proofs.Tables.{stands_alike, table_within}
-use Rattle.page_table.proofs.Walking.{no_leaf}
+use Rattle.page_table.proofs.Walking.{no_leaf, none_beyond}
 
 writes_leaf : (old new : FramePool) (rows : List TableRow) (page : ℕ) (table : FrameNo) (to : Option MappedPage)
     → WritesEntry old new table.0 1 page (page_entry to) → WritesLeaf old new rows page table to
@@ -102,6 +103,23 @@ ends_within pool level page table ends =
 
 -- ---- a page that is no longer mapped
 
+-- one that wasn't mapped changes nothing
+unmapped_cleared : (pool : FramePool) (table : TableRoot) (rows : List TableRow) (pages : List MappedPage) (page : ℕ)
+    → TableStands pool table rows pages → page_at pages page ≡ None
+    → Becomes pool pool table rows (without_page pages page)
+unmapped_cleared pool table rows pages page stands none = record {
+  stands = stands_alike pool (levels_of table.width) table.root rows pages (without_page pages page) stands as_before;
+  others = record { holds = λ f other. refl; bytes = λ f other. refl; count = refl };
+}
+  where
+    as_before : (at : ℕ) → page_at (without_page pages page) at ≡ page_at pages at
+    as_before at =
+        page_at-without pages page at
+        ∙ ⊎_elim (λ (same : at ≡ page). cond-true (eqb at page) None (page_at pages at) (eq-eqb at page same)
+        ∙ sym (ap (page_at pages) same ∙ none))
+        (λ (differ : at ≢ page). cond-false (eqb at page) None (page_at pages at) (ne_eqb at page differ))
+        (cases_eq at page)
+
 module _ (pool new : FramePool) (table : TableRoot) (rows : List TableRow) (pages : List MappedPage) (level page : ℕ)
     (lowest_table : FrameNo) (stands : TableStands pool table rows pages)
     (lowest : IsLowest rows level page lowest_table) where
@@ -122,16 +140,12 @@ module _ (pool new : FramePool) (table : TableRoot) (rows : List TableRow) (page
 
   -- one that has no table of the last level wasn't
   pub nothing_cleared : 1 < level → Becomes pool pool table rows (without_page pages page)
-  nothing_cleared low = record {
-    stands = stands_alike pool (levels_of table.width) table.root rows pages (without_page pages page) stands as_before;
-    others = record { holds = λ f other. refl; bytes = λ f other. refl; count = refl };
-  }
-    where
-      as_before : (at : ℕ) → page_at (without_page pages page) at ≡ page_at pages at
-      as_before at =
-          page_at-without pages page at
-          ∙ ⊎_elim (λ (same : at ≡ page). cond-true (eqb at page) None (page_at pages at) (eq-eqb at page same)
-          ∙ sym (ap (page_at pages) same ∙ no_leaf pool (levels_of table.width) table.root rows pages stands
-          level page lowest_table lowest low))
-          (λ (differ : at ≢ page). cond-false (eqb at page) None (page_at pages at) (ne_eqb at page differ))
-          (cases_eq at page)
+  nothing_cleared low = unmapped_cleared pool table rows pages page stands (no_leaf pool (levels_of table.width)
+      table.root rows pages stands level page lowest_table lowest low)
+
+-- one beyond the width wasn't either
+pub beyond_cleared : (pool : FramePool) (table : TableRoot) (rows : List TableRow) (pages : List MappedPage) (page : ℕ)
+    → TableStands pool table rows pages → 2 ^ bits_of table.width / 4096 ≤ page
+    → Becomes pool pool table rows (without_page pages page)
+beyond_cleared pool table rows pages page stands beyond =
+    unmapped_cleared pool table rows pages page stands (none_beyond pool table rows pages page stands beyond)

@@ -1,5 +1,5 @@
 -- Where the walk of an address ends.
-use Rattle.std.proofs.Common.{◌≡◌, ◌≢◌, ℕ, ◌-◌, ◌/◌, ◌%◌, ◌^◌, ◌<◌, true, false, eqb, ltb, not, Option, Some, None}
+use Rattle.std.proofs.Common.{◌≡◌, ◌≢◌, ℕ, ◌-◌, ◌/◌, ◌%◌, ◌^◌, ◌<◌, ◌≤◌, true, false, eqb, ltb, not, Option, Some, None}
 use Rattle.std.proofs.Common.{List, sym, ◌∙◌, ap, arith, ⊎_elim}
 use Rattle.std.proofs.lemmas.Bool.{cond-true, lt-ltb}
 use Rattle.std.proofs.lemmas.Bool.Decides.{nat_tests}
@@ -11,17 +11,19 @@ use Rattle.iofd_words.specs.Width.{bits_of}
 use Rattle.iofd_words.specs.declared.flags.Rights.{Rights}
 use Rattle.iofd_words.specs.declared.numbers.FrameNo.{FrameNo}
 use Rattle.iofd_words.specs.declared.width.Width.{Width}
+use Rattle.iofd_words.specs.declared.width.Width.TheVariants.{Bits39, Bits48}
 use Rattle.frame_memory.specs.Pool.{FramePool}
 use Rattle.page_table.specs.declared.walk.Walk.{Walk}
 use Rattle.page_table.specs.declared.walk.Walk.TheVariants as walk
 use Rattle.table_words.specs.Entries.{entry_at, page_entry}
-use Rattle.iofd_words.specs.Levels.{index_at}
+use Rattle.iofd_words.specs.Levels.{index_at, levels_of, number_at}
 use Rattle.table_words.specs.Reached.{IsLowest}
 use Rattle.table_words.specs.Rows.{MappedPage, TableRow, page_at, table_at}
-use Rattle.table_words.specs.Stands.{Stands}
+use Rattle.table_words.specs.Stands.{Stands, TableRoot, TableStands}
 use Rattle.page_table.specs.Walks.{walk_of}
 use Rattle.table_words.proofs.Lookups.{cases_Option, none_or_some, same_frame, the_some}
 use Rattle.table_words.proofs.Tables.{none_below}
+use Rattle.table_words.proofs.Tops.{some_levels}
 
 -- ---- the page
 
@@ -72,6 +74,29 @@ module _ (pool : FramePool) (levels : ℕ) (root : FrameNo) (rows : List TableRo
       where
         equal_rights : (r s : Rights) → r.0 ≡ s.0 → r ≡ s
         equal_rights r s same = ap (λ (n : ℕ). let rights : Rights = record { 0 = n } in rights) same
+
+-- the end of a width is 512 entries of each level on, so no table leads beyond it
+past_tables : (width : Width) (page : ℕ) → 2 ^ bits_of width / 4096 ≤ page → number_at (levels_of width) page ≢ 0
+unfolding number_at
+past_tables Bits39 page beyond = omega arith
+past_tables Bits48 page beyond = omega arith
+
+-- a page beyond the width isn't mapped
+pub none_beyond : (pool : FramePool) (table : TableRoot) (rows : List TableRow) (pages : List MappedPage) (page : ℕ)
+    → TableStands pool table rows pages → 2 ^ bits_of table.width / 4096 ≤ page → page_at pages page ≡ None
+none_beyond pool table rows pages page stands beyond =
+    let levels = levels_of table.width in
+    let top : table_at rows levels page ≡ None =
+    ⊎_elim (λ (none : table_at rows levels page ≡ None). none)
+    (λ (f : (frame : FrameNo) × (table_at rows levels page ≡ Some frame)).
+    absurd (past_tables table.width page beyond (stands.top page f.0 f.1)))
+    (cases_Option (table_at rows levels page)) in
+    let last = none_below pool levels table.root rows pages stands levels page 1 top (omega arith)
+    (some_levels table.width) in
+    ⊎_elim (λ (none : page_at pages page ≡ None). none)
+    (λ (to : (m : MappedPage) × (page_at pages page ≡ Some m)). let table = the_some _
+    (stands.mapped page to.0 to.1) in none_or_some _ table.0 last table.1)
+    (cases_Option (page_at pages page))
 
 pub same_rights : (above rights : ℕ) → above ≡ 3 → rights < 4 → bit_and above rights ≡ rights
 same_rights above rights all few =

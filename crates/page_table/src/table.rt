@@ -132,16 +132,18 @@ impl Table {
         Ok(())
     }
 
-    /// Unmaps the page, by its number, if it is mapped. Its tables stay, and every other page. It costs the levels, and
-    /// takes no memory.
+    /// Unmaps the page, by its number, if it is mapped: one at or above the end of the width isn't. Its tables stay,
+    /// and every other page. It costs the levels, and takes no memory.
     pub fn clear<A: Allocator>(&mut self, pool: &mut Pool<A>, page: u64)
-        requires table { IsTable pool.old self.old }
-        requires below { IsBelow self.old.width page }
+        requires { IsTable pool.old self.old }
         ensures same { self.new ≡ self.old }
         ensures holds { pool.new.holds ≡ pool.old.holds }
         ensures table { IfStands pool.old self.old (λ rows pages.
             Becomes pool.old pool.new self.new rows (without_page pages page)) }
     {
+        if page >= self.width.end() / PAGE_SIZE {
+            return;
+        }
         let lowest = self.lowest(pool, page);
         if lowest.level == 1 {
             Entry(0).write(pool, lowest.frame, 1, page);

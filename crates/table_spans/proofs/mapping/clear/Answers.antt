@@ -2,8 +2,8 @@ use Rattle.std.proofs.Common.{◌≡◌, ◌+◌, ◌-◌, ◌∙◌, arith}
 use Rattle.table_spans.proofs.SpanMapped.{cleared_alike, cleared_more}
 use Rattle.table_spans.proofs.mapping.clear.Goals as goal
 
-pub clear-requires-clause-table : goal.clear-requires-clause-table
-clear-requires-clause-table g c =
+pub clear-requires : goal.clear-requires
+clear-requires g c =
     let has = c.requires.table in
     let is = c.loop-page.invariant.cleared has.rows has.pages has.stands in
     rw c.loop-page.invariant.table (record { rows = has.rows; pages = is.cleared; stands = is.becomes.stands })

@@ -1,4 +1,5 @@
 use Rattle.std.proofs.Common.{◌∙◌, ap}
+use Rattle.hwpt_device.proofs.ByFile.{by_file-with}
 use Rattle.hwpt_device.proofs.Inserted.{inserted}
 use Rattle.hwpt_device.specs.PageTables.{PageTables, with_hwpt}
 use Rattle.hwpt_device.proofs.page_tables.PageTables.insert.Goals as goal
@@ -11,3 +12,8 @@ returns-clause-stand g c =
     (c.insert.ensures.items
     ∙ ap (λ (p : PageTables). with_hwpt (record { object = c.args.object; table = c.in-Ok.table }) p.tables)
     c.self.view_is)
+
+pub invariant_of-self : goal.invariant_of-self
+invariant_of-self g c =
+    rw c.insert.ensures.items (by_file-with (record { object = c.args.object; table = c.in-Ok.table })
+    c.self.inside.tables.items c.self.invariant)

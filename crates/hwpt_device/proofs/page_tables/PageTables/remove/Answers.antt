@@ -1,4 +1,5 @@
 use Rattle.std.proofs.Common.{Some, sym, ap, ◌∙◌}
+use Rattle.hwpt_device.proofs.ByFile.{by_file-without}
 use Rattle.hwpt_device.proofs.Gone.{can_release, gives_found, gives_none, releases_found, stand_found, stand_none}
 use Rattle.hwpt_device.specs.PageTables.{Hwpt, PageTables, hwpt_of}
 use Rattle.hwpt_device.specs.Removed.{without_hwpt}
@@ -64,3 +65,11 @@ returns-clause-pool g c =
     ∙ c.in-Some.is
     ∙ ap (λ (h : Hwpt). Some h) (sym c.hwpt.view_is))
     c.release.new.pool c.release.ensures.pool
+
+pub invariant_of-self : goal.invariant_of-self
+invariant_of-self g c =
+    rw c.take.ensures.left (by_file-without c.args.file c.args.id c.self.inside.tables.items c.self.invariant)
+
+pub invariant_of-self-2 : goal.invariant_of-self-2
+invariant_of-self-2 g c =
+    rw c.take.ensures.left (by_file-without c.args.file c.args.id c.self.inside.tables.items c.self.invariant)
