@@ -5,7 +5,7 @@ use crate::steps::{
 };
 use iofd_words::{
     AccessKind, Act, Answer, Burst, Cause, Event, Fault, FaultReason, FrameNo, Iova, NoMemory,
-    ObjId, PassNo, Query, Refusal, Reply, SourceId, UserNo,
+    ObjId, PassNo, Refusal, Reply, SourceId,
 };
 use iommufd_core::Core;
 use std::alloc::Global;
@@ -107,84 +107,6 @@ fn answered_by_new(alloc: Global) -> Result<usize, Fail> {
 fn worked_script_has_its_replies(rt: HostRuntime) -> Result<(), Fail> {
     let right = answered_by_new(rt.alloc())?;
     assert!(rt; right == SCRIPT.len(), "event {right}");
-    Ok(())
-}
-
-/// A fault of a read at the page above the width.
-const BEYOND: Fault = Fault {
-    source: SourceId(0x18),
-    page: 0x800_0000,
-    kind: AccessKind::Read,
-    reason: FaultReason::BeyondWidth,
-};
-
-const NO_CONTEXT: Fault = Fault {
-    reason: FaultReason::NoContext,
-    ..BEYOND
-};
-
-const UNMAPPED: Fault = Fault {
-    page: 2,
-    reason: FaultReason::ReadDenied,
-    ..BEYOND
-};
-
-const CROSSES: Reply = Reply::Refused(Refusal {
-    cause: Cause::Cross,
-});
-
-/// How many steps have gone before a read, its address and length, and its refusal or fault.
-static READS: [(usize, u64, u8, Reply); 5] = [
-    (0, 0x1000, 1, UNKNOWN),
-    // that there is no context comes before the width
-    (6, 0x80_0000_0000, 1, Reply::Fault(NO_CONTEXT)),
-    (8, 0x1fff, 2, CROSSES),
-    (8, 0x2000, 1, Reply::Fault(UNMAPPED)),
-    (8, 0x80_0000_0000, 1, Reply::Fault(BEYOND)),
-];
-
-/// Whether the read is answered by this refusal or fault.
-fn is_told(core: &Core, query: &Query, reply: Reply) -> bool {
-    match core.look(query) {
-        Answer::Refused(refusal) => reply == Reply::Refused(refusal),
-        Answer::Fault(fault) => reply == Reply::Fault(fault),
-        Answer::Read(_) | Answer::Count(_) => false,
-    }
-}
-
-/// Whether the read, after so many steps, is answered by this refusal or fault.
-fn is_read_so(alloc: Global, steps: usize, query: &Query, reply: Reply) -> Result<bool, Fail> {
-    Ok(is_told(&core_after(alloc, steps)?, query, reply))
-}
-
-#[test]
-fn reads_are_refused_or_denied(rt: HostRuntime) -> Result<(), Fail> {
-    for (steps, iova, len, reply) in &READS {
-        let is_so = is_read_so(rt.alloc(), *steps, &read(*iova, *len), *reply)?;
-        assert!(rt; is_so, "{reply:?}");
-    }
-    Ok(())
-}
-
-/// Whether the device and the user read what was written, and one frame is left and one page is pinned.
-fn tells_what_was_written(core: &Core, written: Burst) -> bool {
-    let by_user = Query::UserRead {
-        user: UserNo(1),
-        va: 0x10ffe,
-        len: 2,
-    };
-    core.look(&read(0x1ffe, 2)) == Answer::Read(written)
-        && core.look(&by_user) == Answer::Read(written)
-        && core.look(&Query::FreeFrames) == Answer::Count(1)
-        && core.look(&Query::Held(UserNo(1))) == Answer::Count(1)
-        && is_told(core, &Query::Held(UserNo(2)), UNKNOWN)
-}
-
-#[test]
-fn a_read_gives_what_was_written(rt: HostRuntime) -> Result<(), Fail> {
-    let written = Burst::new(&[0xbe, 0xef]).ok_or("two bytes")?;
-    let core = core_after(rt.alloc(), 8)?;
-    assert!(rt; tells_what_was_written(&core, written));
     Ok(())
 }
 

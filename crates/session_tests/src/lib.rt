@@ -9,8 +9,4 @@ mod fakes;
 #[cfg(test)]
 mod lines;
 #[cfg(test)]
-mod many_ranges;
-#[cfg(test)]
 mod session;
-#[cfg(test)]
-mod structures;

@@ -58,44 +58,6 @@ fn first_lines(alloc: Global, count: usize) -> Result<Vec<u8>, Fail> {
     Ok(text)
 }
 
-// Whether the session of the script has this status, and has written this.
-fn writes(alloc: Global, script: &str, status: u8, text: &[u8]) -> Result<bool, Fail> {
-    let mut reader = script.as_bytes();
-    let mut written = Vec::new(alloc);
-    let given = session(alloc, &mut reader, &mut written)?;
-    Ok(given == status && written.as_slice() == text)
-}
-
-#[test]
-fn worked_script(rt: HostRuntime) -> Result<(), Fail> {
-    let all = first_lines(rt.alloc(), LINES.len())?;
-    assert!(rt; writes(rt.alloc(), SCRIPT, 0, &all)?);
-    Ok(())
-}
-
-// Scripts with their status and what is written. The last line may lack its line feed.
-static SHORT_SCRIPTS: [(&str, u8, &str); 4] = [
-    ("", 1, "bad line 1\n"),
-    ("pool 8\nuser 4\nfile 2\nbegin\n", 1, "bad line 3\n"),
-    (
-        "pool 8\nuser 4\nfile 1\nbegin\nclose 1\nclose",
-        1,
-        "bad line 6\n",
-    ),
-    ("pool 8\nuser 4\nfile 1\nbegin\nclose 1", 0, "ok\n"),
-];
-
-#[test]
-fn short_scripts(rt: HostRuntime) -> Result<(), Fail> {
-    for (script, status, text) in &SHORT_SCRIPTS {
-        assert!(rt;
-            writes(rt.alloc(), script, *status, text.as_bytes())?,
-            "{text}"
-        );
-    }
-    Ok(())
-}
-
 // Whether a read that fails at this call ends the session, and nothing is written.
 fn ends_at_read(alloc: Global, bad: usize) -> bool {
     let mut reader = Input::new(SCRIPT, 100, bad, ErrorKind::BrokenPipe);
@@ -182,15 +144,6 @@ fn a_writer_that_takes_nothing(rt: HostRuntime) {
     for script in [SCRIPT, "pool 0\n"] {
         assert!(rt; at_full_writer(rt.alloc(), script) == (Some(ErrorKind::WriteZero), 1));
     }
-}
-
-#[test]
-fn longest_input(rt: HostRuntime) -> Result<(), Fail> {
-    let mut written = Vec::new(rt.alloc());
-    let mut reader = Comment::new(1 << 24);
-    assert_eq!(rt; session(rt.alloc(), &mut reader, &mut written)?, 1);
-    assert_eq!(rt; written.as_slice(), b"bad line 2\n".as_slice());
-    Ok(())
 }
 
 #[test]
