@@ -8,7 +8,8 @@ pub returns-in_default : goal.returns-in_default
 returns-in_default c =
     let rows = c.args.attachments.now in
     let past = slice_get_past rows c.attachments_below-place.result c.in_default.ensures.lookup.3 in
-    sym (attachment_there rows c.args.device c.requires None (ap (slice_get rows) (sym c.attachments_below-place.ensures) ∙ past))
+    sym (attachment_there rows c.args.device c.requires None
+    (ap (slice_get rows) (sym c.attachments_below-place.ensures) ∙ past))
 
 pub returns-then-eq : goal.returns-then-eq
 returns-then-eq c =

@@ -8,7 +8,8 @@ pub returns-in_default : goal.returns-in_default
 returns-in_default c =
     let rows = c.args.bindings.now in
     let past = slice_get_past rows c.bindings_below-place.result c.in_default.ensures.lookup.3 in
-    sym (binding_there rows c.args.device c.requires None (ap (slice_get rows) (sym c.bindings_below-place.ensures) ∙ past))
+    sym (binding_there rows c.args.device c.requires None (ap (slice_get rows) (sym c.bindings_below-place.ensures)
+    ∙ past))
 
 pub returns-then-is_bound_as : goal.returns-then-is_bound_as
 returns-then-is_bound_as c =
