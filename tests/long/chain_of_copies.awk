@@ -1,24 +1,11 @@
-# A page is mapped and copied a thousand times, each copy from the one before it; then all areas go, in an odd order, each with
-# a flush. The page stays pinned once, until the last area is gone.
+# A page is mapped and copied a thousand times, each copy from the one before it; then all areas go, in an odd order,
+# each with a flush. The page stays pinned once, until the last area is gone.
 #
-#     awk -v part=script -f chain_of_copies.awk      # the script
-#     awk -v part=expected -f chain_of_copies.awk    # its replies, by what the standard says of each structure
+#     awk -v part=script -f ../steps.awk -f chain_of_copies.awk      # the script
+#     awk -v part=expected -f ../steps.awk -f chain_of_copies.awk    # its replies
 
-# The number in so many bytes, the least first, as structures have it.
-function little(number, bytes,    text) {
-    for (text = ""; bytes > 0; bytes--) {
-        text = text sprintf("%02x", number % 256)
-        number = int(number / 256)
-    }
-    return text
-}
-
-# A step, and what it is answered.
-function step(line, reply) {
-    print (part == "script" ? line : reply)
-}
-
-# struct iommu_ioas_copy: size, flags, target, source, length, the target's address, the source's. All of it is written back.
+# struct iommu_ioas_copy: size, flags, target, source, length, the target's address, the source's. All of it is written
+# back.
 function copy(from, to,    bytes) {
     bytes = little(40, 4) little(7, 4) little(1, 4) little(1, 4) little(PAGE, 8) little(to, 8) little(from, 8)
     step("ioctl 1 3b83 " bytes, "0 " bytes)

@@ -1,21 +1,7 @@
 # As many users, files and devices as a head may have, each device with a source id of its own.
 #
-#     awk -v part=script -f largest_head.awk      # the script
-#     awk -v part=expected -f largest_head.awk    # its replies
-
-# The number in so many bytes, the least first, as structures have it.
-function little(number, bytes,    text) {
-    for (text = ""; bytes > 0; bytes--) {
-        text = text sprintf("%02x", number % 256)
-        number = int(number / 256)
-    }
-    return text
-}
-
-# A step, and what it is answered.
-function step(line, reply) {
-    print (part == "script" ? line : reply)
-}
+#     awk -v part=script -f ../steps.awk -f largest_head.awk      # the script
+#     awk -v part=expected -f ../steps.awk -f largest_head.awk    # its replies
 
 function head(    count) {
     print "pool 4096"

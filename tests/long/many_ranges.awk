@@ -1,21 +1,7 @@
 # Lists of as many allowed ranges as a script may well have.
 #
-#     awk -v part=script -f many_ranges.awk      # the script
-#     awk -v part=expected -f many_ranges.awk    # its replies
-
-# The number in so many bytes, the least first, as structures have it.
-function little(number, bytes,    text) {
-    for (text = ""; bytes > 0; bytes--) {
-        text = text sprintf("%02x", number % 256)
-        number = int(number / 256)
-    }
-    return text
-}
-
-# A step, and what it is answered.
-function step(line, reply) {
-    print (part == "script" ? line : reply)
-}
+#     awk -v part=script -f ../steps.awk -f many_ranges.awk      # the script
+#     awk -v part=expected -f ../steps.awk -f many_ranges.awk    # its replies
 
 # struct iommu_ioas_allow_iovas of every other page from 0 on, the last first, and behind them of this page: size,
 # address space, number of ranges, reserved, address. This much is written back, where the list isn't refused.

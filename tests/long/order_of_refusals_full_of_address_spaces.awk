@@ -1,12 +1,7 @@
 # Refusals of bind and IOAS_ALLOC in a file that is full of address spaces.
 #
-#     awk -v part=script -f order_of_refusals_full_of_address_spaces.awk      # the script
-#     awk -v part=expected -f order_of_refusals_full_of_address_spaces.awk    # its replies
-
-# A step, and what it is answered.
-function step(line, reply) {
-    print (part == "script" ? line : reply)
-}
+#     awk -v part=script -f ../steps.awk -f order_of_refusals_full_of_address_spaces.awk      # the script
+#     awk -v part=expected -f ../steps.awk -f order_of_refusals_full_of_address_spaces.awk    # its replies
 
 BEGIN {
     OBJECTS = 65535

@@ -1,21 +1,7 @@
 # The orders of refusals of bind, attach and HWPT_ALLOC in a file that is full of objects, the first the device.
 #
-#     awk -v part=script -f order_of_refusals_full_of_objects.awk      # the script
-#     awk -v part=expected -f order_of_refusals_full_of_objects.awk    # its replies
-
-# The number in so many bytes, the least first, as structures have it.
-function little(number, bytes,    text) {
-    for (text = ""; bytes > 0; bytes--) {
-        text = text sprintf("%02x", number % 256)
-        number = int(number / 256)
-    }
-    return text
-}
-
-# A step, and what it is answered.
-function step(line, reply) {
-    print (part == "script" ? line : reply)
-}
+#     awk -v part=script -f ../steps.awk -f order_of_refusals_full_of_objects.awk      # the script
+#     awk -v part=expected -f ../steps.awk -f order_of_refusals_full_of_objects.awk    # its replies
 
 # struct iommu_ioas_map: size, flags, address space, reserved, user's address, length, address. All of it is written
 # back.
