@@ -32,6 +32,7 @@ pub(crate) fn look<A: Allocator>(state: &State<A>, query: &Query) -> Answer
 
 /// Why the question is refused, if it is.
 fn refusal<A: Allocator>(state: &State<A>, query: &Query) -> Option<Cause>
+    requires { IsKnown state.now }
     ensures { result ≡ first_true (query_checks (seen state.now) query.now) }
 {
     match query {

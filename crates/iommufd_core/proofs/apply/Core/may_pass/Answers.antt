@@ -1,4 +1,4 @@
-use Rattle.std.proofs.Common.{◌≡◌, true, false, Option, Some, None, is_none, is_some, refl, sym, ◌∙◌, ap}
+use Rattle.std.proofs.Common.{◌≡◌, true, false, Option, Some, None, is_none, is_some, length, refl, sym, ◌∙◌, ap}
 use Rattle.std.specs.List.{list_any}
 use Rattle.iofd_words.specs.FirstTrue.{first_true}
 use Rattle.iofd_words.specs.Look.{query_checks}
@@ -28,3 +28,25 @@ returns-then-is_none g c =
     rw (← c.self.view_is, none) (c.may_pass.ensures
     ∙ ap (list_any (is_pass_at c.args.frame))
     (same_outcomes w state shows owned c.args.device c.args.iova.0 c.args.right))
+
+pub refusal-requires : goal.refusal-requires
+refusal-requires g c =
+    let settings = c.self.inside.state.config in
+    let records = c.self.inside.records.items in
+    record {
+      at = length records;
+      world = world_of settings records;
+      tidy = tidy_run settings records c.self.invariant.run;
+      shows = c.self.invariant.shows;
+    }
+
+pub may_pass-requires : goal.may_pass-requires
+may_pass-requires g c =
+    let settings = c.self.inside.state.config in
+    let records = c.self.inside.records.items in
+    record {
+      at = length records;
+      world = world_of settings records;
+      tidy = tidy_run settings records c.self.invariant.run;
+      shows = c.self.invariant.shows;
+    }
