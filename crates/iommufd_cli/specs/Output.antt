@@ -13,6 +13,6 @@ IsFront front all = (rest : List ℕ) × (rest ≢ []) × (all ≡ front ++ rest
 abbrev pub Writes : (List ℕ → Type 0) → Option (List ℕ) → Option (List ℕ) → Type 0
 Writes P old new = (out : List ℕ) × P out × Appends old new out
 
--- a call that a signal interrupts is tried again
+-- the error isn't that a signal interrupted the call: such a call is tried again
 abbrev pub IsFinal : Error → Type 0
 IsFinal error = error_kind error ≢ Interrupted

@@ -18,7 +18,7 @@ const CALLER: PassNo = PassNo(0);
 
 /// Carries out a step of the script, and writes the line for it, in place of what `out` had: what the reply tells, or
 /// `12 Memory` where memory was wanting, and then nothing has changed. A line of ranges, which may be long, is
-/// answered in memory, and `out` is none then.
+/// answered in memory, and what `out` has isn't the answer then.
 pub fn answer_step<A: Allocator + Copy>(
     alloc: A,
     core: &mut Core<A>,

@@ -79,8 +79,8 @@ impl<A: Allocator + Copy> Core<A> {
             checks.refusal (world self.old.history) act.now.event ≡ None
             → IsChosen (world self.old.history) act.now.event act.now.via stamp.reply) }
 
-        // Want of memory comes only where the record has no place, or the list that the event carries, or to an event
-        // that nothing refuses and by which something comes or page tables go. It changes nothing.
+        // Want of memory comes only where the record has no place, to an event that carries a list, or to one that
+        // nothing refuses and that is of a kind by which something comes or page tables may go. It changes nothing.
         ensures memory { OnErr result (MayWant self.old act.now.event) }
         ensures unchanged { OnErr result (self.new.history ≡ self.old.history) }
     {
