@@ -1,4 +1,5 @@
-//! Look-ups in the rows of page tables: the file's are found by binary search, and only they are looked at.
+//! Look-ups in the rows of page tables: where there are many, the file's are found by binary search, and only they are
+//! looked at.
 
 ghost use Rattle.std.specs.Prelude.{◌≡◌, ◌<◌, ◌≤◌, ◌==◌, ◌&&◌, IfSome, IsTrue, filter, find, length, nat_le, nat_lt};
 ghost use Rattle.std.specs.Prelude.{position};
@@ -10,6 +11,9 @@ ghost use Rattle.hwpt_device.specs.Removed.{id_of};
 
 use crate::hwpt::Hwpt;
 use iofd_words::{FileNo, ObjId, ObjectKind};
+
+/// Up to how many page tables each is looked at, which is quicker than a search then.
+const FEW: usize = 8;
 
 /// How many are of a file below this one.
 pub(crate) fn count_below(tables: &[Hwpt], file: FileNo) -> usize
@@ -44,6 +48,18 @@ pub(crate) fn has_over(tables: &[Hwpt], file: FileNo, ioas: ObjId) -> bool
     requires { IsTrue (are_by_file tables.now) }
     ensures { result ≡ list_any (λ h. h.object.file.0 == file.0 && objects.is_hwpt_over ioas h.object.kind) tables.now }
 {
+    if tables.len() <= FEW {
+        any_over(tables, file, ioas)
+    } else {
+        own_over(tables, file, ioas)
+    }
+}
+
+/// The same, by search.
+fn own_over(tables: &[Hwpt], file: FileNo, ioas: ObjId) -> bool
+    requires { IsTrue (are_by_file tables.now) }
+    ensures { result ≡ list_any (λ h. h.object.file.0 == file.0 && objects.is_hwpt_over ioas h.object.kind) tables.now }
+{
     any_over(of_file(tables, file), file, ioas)
 }
 
@@ -70,6 +86,18 @@ pub(crate) fn find(tables: &[Hwpt], file: FileNo, id: ObjId) -> Option<&Hwpt>
     requires { IsTrue (are_by_file tables.now) }
     ensures { option_copied result ≡ hwpt_of tables.now file id }
 {
+    if tables.len() <= FEW {
+        find_in(tables, file, id)
+    } else {
+        find_own(tables, file, id)
+    }
+}
+
+/// The same, by search.
+fn find_own(tables: &[Hwpt], file: FileNo, id: ObjId) -> Option<&Hwpt>
+    requires { IsTrue (are_by_file tables.now) }
+    ensures { option_copied result ≡ hwpt_of tables.now file id }
+{
     find_in(of_file(tables, file), file, id)
 }
 
@@ -88,13 +116,27 @@ pub(crate) fn place(tables: &[Hwpt], file: FileNo, id: ObjId) -> Option<usize>
     ensures value { result ≡ position (λ h. objects.is_object file id h.object) tables.now }
     ensures within { IfSome result (λ place. place < length tables.now) }
 {
+    if tables.len() <= FEW {
+        place_in(tables, file, id)
+    } else {
+        own_place(tables, file, id)
+    }
+}
+
+/// The same, by search.
+fn own_place(tables: &[Hwpt], file: FileNo, id: ObjId) -> Option<usize>
+    requires { IsTrue (are_by_file tables.now) }
+    ensures value { result ≡ position (λ h. objects.is_object file id h.object) tables.now }
+    ensures within { IfSome result (λ place. place < length tables.now) }
+{
     let behind = place_in(of_file(tables, file), file, id)?;
     Some(count_below(tables, file) + behind)
 }
 
 /// The same, each of them looked at.
 fn place_in(tables: &[Hwpt], file: FileNo, id: ObjId) -> Option<usize>
-    ensures { result ≡ position (λ h. objects.is_object file id h.object) tables.now }
+    ensures value { result ≡ position (λ h. objects.is_object file id h.object) tables.now }
+    ensures within { IfSome result (λ place. place < length tables.now) }
 {
     tables
         .iter()

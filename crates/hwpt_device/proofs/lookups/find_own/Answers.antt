@@ -1,7 +1,7 @@
 use Rattle.std.proofs.Common.{◌∙◌, eqb, List, ap}
 use Rattle.hwpt_device.specs.PageTables.{Hwpt, hwpt_of}
 use Rattle.hwpt_device.proofs.ByFile.{find_of}
-use Rattle.hwpt_device.proofs.lookups.find.Goals as goal
+use Rattle.hwpt_device.proofs.lookups.find_own.Goals as goal
 
 pub returns : goal.returns
 returns c =

@@ -3,7 +3,7 @@ use Rattle.std.specs.List.{list_any}
 use Rattle.iofd_words.specs.Objects.{is_hwpt_over}
 use Rattle.hwpt_device.specs.PageTables.{Hwpt}
 use Rattle.hwpt_device.proofs.ByFile.{any_of, file_of}
-use Rattle.hwpt_device.proofs.lookups.has_over.Goals as goal
+use Rattle.hwpt_device.proofs.lookups.own_over.Goals as goal
 
 pub returns : goal.returns
 returns c =

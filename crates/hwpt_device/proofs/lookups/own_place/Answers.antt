@@ -3,7 +3,7 @@ use Rattle.std.specs.List.{position}
 use Rattle.iofd_words.specs.Objects.{is_object}
 use Rattle.hwpt_device.specs.PageTables.{Hwpt}
 use Rattle.hwpt_device.proofs.PlaceOfFile.{no_place, place_of}
-use Rattle.hwpt_device.proofs.lookups.place.Goals as goal
+use Rattle.hwpt_device.proofs.lookups.own_place.Goals as goal
 
 pub returns-in_err-behind-clause-value : goal.returns-in_err-behind-clause-value
 returns-in_err-behind-clause-value c =
@@ -11,14 +11,14 @@ returns-in_err-behind-clause-value c =
     c.of_file.ensures in
     c.from_residual.ensures
     ∙ sym (no_place c.args.file.0 (λ h. eqb h.object.id.0 c.args.id.0) c.args.tables.now
-    (sym (c.in_err-behind.ensures ∙ same)))
+    (sym (c.in_err-behind.ensures.value ∙ same)))
 
 pub returns-clause-value : goal.returns-clause-value
 returns-clause-value c =
     let same = ap (λ (list : List Hwpt). position (λ h. is_object c.args.file c.args.id h.object) list)
     c.of_file.ensures in
     let place = place_of c.args.file.0 (λ h. eqb h.object.id.0 c.args.id.0) c.args.tables.now c.in_ok-behind.behind
-    c.requires (sym (c.in_ok-behind.ensures ∙ same)) in
+    c.requires (sym (c.in_ok-behind.ensures.value ∙ same)) in
     rw c.count_below.ensures.value (sym place.0)
 
 pub returns-clause-within : goal.returns-clause-within
@@ -26,5 +26,5 @@ returns-clause-within c =
     let same = ap (λ (list : List Hwpt). position (λ h. is_object c.args.file c.args.id h.object) list)
     c.of_file.ensures in
     let place = place_of c.args.file.0 (λ h. eqb h.object.id.0 c.args.id.0) c.args.tables.now c.in_ok-behind.behind
-    c.requires (sym (c.in_ok-behind.ensures ∙ same)) in
+    c.requires (sym (c.in_ok-behind.ensures.value ∙ same)) in
     rw c.count_below.ensures.value place.1
