@@ -30,6 +30,8 @@ enum Call {
     Amount,
     /// Takes away the areas in the span, if these are their memory objects.
     Take(&'static [u64]),
+    /// The least address from the span's first on from which so many are free.
+    Free(u64),
     /// Whether these are all areas' memory objects, by rising start, whatever the span.
     Have(&'static [u64]),
 }
@@ -109,6 +111,17 @@ fn have(areas: &Areas, memories: &[u64]) -> bool {
             .all(|(area, memory)| area.memory == *memory)
 }
 
+// The least address from this one on from which so many are free.
+fn free(areas: &Areas, start: u64, count: u64) -> Answer {
+    if count == 0 {
+        return Nothing;
+    }
+    match areas.free_from(start, count) {
+        Some(at) => Gives(at),
+        None => Nothing,
+    }
+}
+
 fn asked(areas: &mut Areas, span: Span, call: Call) -> Answer {
     match call {
         Call::Add(memory) => return added(areas, span, memory),
@@ -120,6 +133,7 @@ fn asked(areas: &mut Areas, span: Span, call: Call) -> Answer {
         Call::MostTries => return Gives(u64::from(areas.most_tries(span))),
         Call::Amount => return Counts(areas.count_within(span), areas.bytes_within(span)),
         Call::Take(memories) => return taken(areas, span, memories),
+        Call::Free(count) => return free(areas, span.first(), count),
         Call::Have(memories) => return Is(have(areas, memories)),
         Call::Pay(device) => areas.pay(DeviceNo(device)),
         Call::SetTries(tries) => areas.set_tries(span, tries),
@@ -229,7 +243,31 @@ const ENDS: &[Row] = &[
     (0, TOP, Call::Have(&[]), Is(true)),
 ];
 
-static TABLES: [(&str, &[Row]); 4] = [
+const FREE: &[Row] = &[
+    (0, 0, Call::Free(0x1000), Gives(0)),
+    (0, 0, Call::Free(0x1001), Gives(0x3000)),
+    (1, 1, Call::Free(0xfff), Gives(1)),
+    (1, 1, Call::Free(0x1000), Gives(0x3000)),
+    (0x2fff, 0x2fff, Call::Free(0x2000), Gives(0x3000)),
+    (0x3001, 0x3001, Call::Free(0x1fff), Gives(0x3001)),
+    (0x3001, 0x3001, Call::Free(0x2000), Gives(0x8000)),
+    (0x5000, 0x7fff, Call::Leave(&[7]), Done),
+    (0, 0, Call::Free(0x2001), Gives(0x8000)),
+    (0, 0, Call::Free(TOP - 0x8fff), Gives(0x8000)),
+    (0, 0, Call::Free(TOP - 0x8ffe), Nothing),
+    (TOP, TOP, Call::Free(1), Nothing),
+    (TOP - 0xfff, TOP, Call::Take(&[14]), Done),
+    (TOP, TOP, Call::Free(1), Gives(TOP)),
+    (TOP, TOP, Call::Free(2), Nothing),
+    (0x8001, 0x8001, Call::Free(TOP - 0x8000), Gives(0x8001)),
+    (0x8001, 0x8001, Call::Free(TOP - 0x7fff), Nothing),
+    (0, TOP, Call::Take(&[11, 12, 13]), Done),
+    (0, 0, Call::Free(TOP), Gives(0)),
+    (1, 1, Call::Free(TOP), Gives(1)),
+    (2, 2, Call::Free(TOP), Nothing),
+];
+
+static TABLES: [(&str, &[Row]); 5] = [
     (
         "areas are found by address and span, and counted; spans meet, cut and are covered",
         FOUND,
@@ -240,6 +278,10 @@ static TABLES: [(&str, &[Row]); 4] = [
         LEAVING,
     ),
     ("areas lie at the ends of all addresses", ENDS),
+    (
+        "so many addresses are free before, between and behind areas, or nowhere",
+        FREE,
+    ),
 ];
 
 #[test]

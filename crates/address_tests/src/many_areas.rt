@@ -81,6 +81,16 @@ impl Pair {
             && self.areas.meets(span) == is_there
             && self.areas.covered(span).is_ok() == is_there
             && self.areas.at(span.last().saturating_add(1)).is_none()
+            && self.finds_free(is_there, span)
+    }
+
+    // Whether the page behind this one is the first free one from here on, if this one is taken, else this one, and
+    // both together.
+    fn finds_free(&self, is_there: bool, span: Span) -> bool {
+        let behind = span.last().saturating_add(1);
+        let first = if is_there { behind } else { span.first() };
+        self.areas.free_from(span.first(), 0x1000) == Some(first)
+            && (is_there || self.areas.free_from(first, 0x2000) == Some(first))
     }
 
     // The same of a span of three pages, of which the last is this number's.

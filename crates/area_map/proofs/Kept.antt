@@ -1,6 +1,6 @@
 -- Areas stay in order and apart where their spans stay, and where some are taken away.
 use Rattle.std.proofs.Common.{◌≡◌, ℕ, ◌+◌, ◌≤◌, Bool, true, false, ◌&&◌, List, [], ◌∷◌, length, map, refl, arith}
-use Rattle.std.proofs.Common.{⊎_elim}
+use Rattle.std.proofs.Common.{ap, ⊎_elim}
 use Rattle.std.specs.List.{filter, list_any}
 use Rattle.std.proofs.lemmas.Bool.{cases_Bool}
 use Rattle.std.proofs.lemmas.Bool.Decides.{nat_tests}
@@ -8,7 +8,10 @@ use Rattle.std.proofs.lemmas.List.{length-map}
 use Rattle.iofd_words.specs.Bounds.{Bounds}
 use Rattle.iofd_words.specs.Span.{holds}
 use Rattle.iofd_words.specs.declared.rows.Area.{Area}
-use Rattle.area_map.specs.Areas.{AreApartFrom, AreKept, IsCovered, HasGap}
+use Rattle.area_map.specs.Areas.{AreApartFrom, AreKept, IsCovered, HasGap, changed}
+use Rattle.area_map.specs.Rows.{end_of, widest_behind, widest_of}
+use Rattle.area_map.specs.declared.marking.Change.{Change}
+use Rattle.area_map.specs.declared.marking.Change.TheVariants.{Leave, Pay, SetTries}
 use Rattle.area_map.proofs.Found.{list_any-find}
 
 apart-map : (f : Area → Area) → ((a : Area) → (f a).span ≡ a.span) → (low : ℕ) (xs : List Area) → AreApartFrom low xs
@@ -61,3 +64,25 @@ gap_tells span xs gap all =
     let none = list_any-find (λ area. holds area.span gap.number) xs in
     let free = gap.free in
     cc
+
+-- a change of phases leaves where they end, and the gaps between them
+pub changed-span : (change : Change) (span : Bounds) (a : Area) → (changed change span a).span ≡ a.span
+changed-span (Leave owed) span a = refl
+changed-span (Pay device) span a = refl
+changed-span (SetTries tries) span a = refl
+
+pub end-map : (f : Area → Area) → ((a : Area) → (f a).span ≡ a.span) → (xs : List Area)
+    → end_of (map f xs) ≡ end_of xs
+end-map f same [] = refl
+end-map f same (x ∷ []) = ap (λ (s : Bounds). s.last) (same x)
+end-map f same (x ∷ y ∷ xs) = end-map f same (y ∷ xs)
+
+behind-map : (f : Area → Area) → ((a : Area) → (f a).span ≡ a.span) → (last : ℕ) (xs : List Area)
+    → widest_behind last (map f xs) ≡ widest_behind last xs
+behind-map f same last [] = refl
+behind-map f same last (x ∷ xs) = rw (same x, behind-map f same x.span.last xs) refl
+
+pub widest-map : (f : Area → Area) → ((a : Area) → (f a).span ≡ a.span) → (xs : List Area)
+    → widest_of (map f xs) ≡ widest_of xs
+widest-map f same [] = refl
+widest-map f same (x ∷ xs) = rw (same x, behind-map f same x.span.last xs) refl

@@ -11,3 +11,4 @@ pub mod RowsChanged
 pub mod RowsRemoved
 pub mod Hull
 pub mod RowsKept
+pub mod FirstFree

@@ -1,10 +1,10 @@
 -- Lists of areas: which areas a span names, and what a step makes of them.
-use Rattle.std.specs.Prelude.{ℕ, ◌+◌, ◌≤◌, ◌≡◌, Bool, true, false, ◌==◌, ◌&&◌, not, nat_lt, nat_le, Option, Some, None}
-use Rattle.std.specs.Prelude.{List, [], ◌∷◌, length, filter, sum_by, fold, max, find, if◌then◌else◌}
+use Rattle.std.specs.Prelude.{ℕ, ◌+◌, ◌^◌, ◌<◌, ◌≤◌, ◌≡◌, Bool, true, false, ◌==◌, ◌&&◌, not, nat_lt, nat_le, Option}
+use Rattle.std.specs.Prelude.{Some, None, List, [], ◌∷◌, length, filter, sum_by, fold, max, find, if◌then◌else◌}
 use Rattle.std.specs.List.{list_any}
-use Rattle.iofd_words.specs.Areas.{area_at, leaving, most_areas, paid}
+use Rattle.iofd_words.specs.Areas.{area_at, areas_meet, leaving, most_areas, paid}
 use Rattle.iofd_words.specs.Bounds.{Bounds}
-use Rattle.iofd_words.specs.Span.{lies_in, holds, size_of}
+use Rattle.iofd_words.specs.Span.{lies_in, holds, size_of, span_from}
 use Rattle.iofd_words.specs.declared.numbers.DeviceNo.{DeviceNo}
 use Rattle.iofd_words.specs.declared.rows.Area.{Area}
 use Rattle.iofd_words.specs.declared.rows.Phase.{Phase}
@@ -67,6 +67,18 @@ runs_on next last (area ∷ areas) =
 -- the areas that end in the span or behind it hold the span's addresses without a gap
 abbrev pub is_covered : Bounds → List Area → Bool
 is_covered span areas = runs_on span.first span.last (filter (λ area. nat_le span.first area.span.last) areas)
+
+-- from each of these addresses on so many meet an area
+abbrev pub HasNoneFree : ℕ → ℕ → List Area → Type 0
+HasNoneFree start count areas =
+    (x : ℕ) → start ≤ x → x + count ≤ 2 ^ 64 → areas_meet (span_from x count) areas ≡ true
+
+-- the least address from which so many meet no area
+pub record IsFirstFree (start count : ℕ) (areas : List Area) (at : ℕ) : Type 0 where
+  pub from : start ≤ at
+  pub within : at + count ≤ 2 ^ 64
+  pub free : areas_meet (span_from at count) areas ≡ false
+  pub least : (x : ℕ) → start ≤ x → x < at → areas_meet (span_from x count) areas ≡ true
 
 -- the areas that lie in the span
 abbrev pub areas_within : Bounds → List Area → List Area

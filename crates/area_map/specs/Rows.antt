@@ -1,6 +1,6 @@
 -- Areas in rows, one row behind the other.
-use Rattle.std.specs.Prelude.{ℕ, ◌<◌, ◌≡◌, Bool, true, false, ◌||◌, get_or, nat_le, min, max, Option, Some, None}
-use Rattle.std.specs.Prelude.{IfSome, List, [], ◌∷◌, ◌++◌, length, if◌then◌else◌}
+use Rattle.std.specs.Prelude.{ℕ, ◌+◌, ◌-◌, ◌<◌, ◌≡◌, Bool, true, false, ◌||◌, get_or, nat_le, min, max, Option, Some}
+use Rattle.std.specs.Prelude.{None, IfSome, List, [], ◌∷◌, ◌++◌, length, if◌then◌else◌}
 use Rattle.iofd_words.specs.Bounds.{Bounds}
 use Rattle.iofd_words.specs.Span.{lies_in}
 use Rattle.iofd_words.specs.declared.rows.Area.{Area}
@@ -25,6 +25,27 @@ abbrev pub end_of : List Area → ℕ
 end_of [] = 0
 end_of (area ∷ []) = area.span.last
 end_of (area ∷ next ∷ areas) = end_of (next ∷ areas)
+
+-- how many free addresses the widest gap has behind an area that ends there and between the others
+abbrev pub widest_behind : ℕ → List Area → ℕ
+widest_behind last [] = 0
+widest_behind last (area ∷ areas) = max (area.span.first - last - 1) (widest_behind area.span.last areas)
+
+-- how many the widest gap between two neighbours has
+abbrev pub widest_of : List Area → ℕ
+widest_of [] = 0
+widest_of (area ∷ areas) = widest_behind area.span.last areas
+
+-- no area begins below this number
+abbrev pub starts_from : ℕ → List Area → Bool
+starts_from low [] = true
+starts_from low (area ∷ areas) = nat_le low area.span.first
+
+-- the least place from which so many addresses lie before the first area, between two, or behind the last
+abbrev pub first_free : ℕ → ℕ → List Area → ℕ
+first_free at count [] = at
+first_free at count (area ∷ areas) =
+    if nat_le (at + count) area.span.first then at else first_free (max at (area.span.last + 1)) count areas
 
 -- those before the first that ends above this number, if there is one
 abbrev pub up_to : Option ℕ → List Area → List Area

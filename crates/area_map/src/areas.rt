@@ -1,10 +1,11 @@
 //! The map of areas.
 
 ghost use Rattle.std.specs.Prelude.{◌≡◌, ◌==◌, ◌↔◌, ◌+◌, ◌<◌, ◌≤◌, [], find, length, map, nat_le, is_ok, IsOk, IfOk};
-ghost use Rattle.std.specs.Prelude.{IfErr, IfSome, IfNone, OnOk, OnErr, IsOkUnless};
+ghost use Rattle.std.specs.Prelude.{MatchOption, IfErr, IfSome, IfNone, OnOk, OnErr, IsOkUnless};
 ghost use Rattle.std.specs.List.{list_any};
 ghost use Rattle.std.specs.Option.{option_copied};
 ghost use Rattle.area_map.specs.Areas.{AreKept, with_area, area_of, is_covered, IsCovered, HasGap, marked};
+ghost use Rattle.area_map.specs.Areas.{HasNoneFree, IsFirstFree};
 ghost use Rattle.area_map.specs.Areas.{without_debt, areas_owe, areas_within, areas_outside, bytes_of, most_tries};
 ghost use Rattle.area_map.specs.Areas.{tried};
 ghost use Rattle.iofd_words.specs.Areas.{areas_meet, has_no_room, is_cut, area_at};
@@ -14,7 +15,7 @@ use crate::insertion::MOST_AREAS;
 use crate::iter::Iter;
 use crate::marking::Change;
 use crate::row::Row;
-use crate::{changes, insertion, leaving, lookups, removal, totals};
+use crate::{changes, gaps, insertion, leaving, lookups, removal, totals};
 use iofd_words::{Area, CallError, Cause, DeviceNo, DeviceSet, NoMemory, Refusal, Span};
 use std::alloc::{Allocator, Global};
 use std::marker::Model;
@@ -124,6 +125,16 @@ impl<A: Allocator> Areas<A> {
         ensures cuts { result.1 ≡ is_cut span self.now.areas }
     {
         lookups::meets_and_cuts(&self.rows, span)
+    }
+
+    /// The least address from `start` on from which this many addresses meet no area; None where there is none below
+    /// 2^64. It looks at each row once from there on, and into those rows alone that have a gap so wide.
+    pub fn free_from(&self, start: u64, count: u64) -> Option<u64>
+        requires { 0 < count }
+        ensures { MatchOption result (HasNoneFree start count self.now.areas)
+            (IsFirstFree start count self.now.areas) }
+    {
+        gaps::free_from(&self.rows, start, count)
     }
 
     /// The areas, by rising start.

@@ -4,6 +4,7 @@
 
 mod areas;
 mod changes;
+mod gaps;
 mod insertion;
 mod iter;
 mod joining;

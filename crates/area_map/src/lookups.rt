@@ -219,8 +219,8 @@ pub fn covers<A: Allocator>(rows: &[Row<A>], span: Span) -> bool
     runs_on(reaching(rows, span.first()), span.first(), span.last())
 }
 
-// The rows from this place on.
-fn rows_from<A: Allocator>(rows: &[Row<A>], place: usize) -> &[Row<A>]
+/// The rows from this place on.
+pub fn rows_from<A: Allocator>(rows: &[Row<A>], place: usize) -> &[Row<A>]
     requires apart { AreApart (in_rows rows.now) }
     requires rows { AreRows rows.now }
     requires bound { place ≤ length rows.now }

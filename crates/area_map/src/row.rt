@@ -1,13 +1,13 @@
 //! A row of areas: so many as one insertion or removal moves at most.
 
-ghost use Rattle.std.specs.Prelude.{◌≡◌, ◌==◌, ◌+◌, ◌<◌, ◌≤◌, ◌++◌, false, [], IfOk, length, map, take, drop};
+ghost use Rattle.std.specs.Prelude.{◌≡◌, ◌==◌, ◌+◌, ◌<◌, ◌≤◌, ◌^◌, ◌++◌, false, [], IfOk, length, map, take, drop};
 ghost use Rattle.std.specs.Prelude.{vec_capacity};
 ghost use Rattle.area_map.specs.Areas.{AreApart, with_area, changed, areas_outside};
-ghost use Rattle.area_map.specs.Rows.{end_of};
+ghost use Rattle.area_map.specs.Rows.{end_of, first_free, starts_from, widest_of};
 ghost use Rattle.iofd_words.specs.Areas.{areas_meet};
 
 use crate::marking::Change;
-use crate::{lookups, marking};
+use crate::{gaps, lookups, marking};
 use iofd_words::{Area, NoMemory, Span};
 use std::alloc::{Allocator, Global};
 use std::marker::Model;
@@ -21,19 +21,22 @@ pub(crate) struct Row<A: Allocator = Global> {
     areas: Vec<Area, A>,
     // Where the last area ends, and 0 where there is none: a search among rows looks at no area.
     end: u64,
+    // How many free addresses the widest gap between two neighbours has.
+    widest: u64,
 }
 
 impl<A: Allocator> Model for Row<A> {
     ghost use Rattle.std.specs.Prelude.{List, ◌≡◌, ◌≤◌};
     ghost use Rattle.std.specs.Vec.{vec_capacity};
     ghost use Rattle.iofd_words.specs.declared.rows.Area.{Area};
-    ghost use Rattle.area_map.specs.Rows.{end_of};
+    ghost use Rattle.area_map.specs.Rows.{end_of, widest_of};
 
     ghost Value = { List Area };
 
     ghost view = { λ row. row.areas.items };
 
-    ghost invariant = { λ row. (32 ≤ vec_capacity row.areas) × (row.end ≡ end_of row.areas.items) };
+    ghost invariant = { λ row. (32 ≤ vec_capacity row.areas) × (row.end ≡ end_of row.areas.items)
+        × (row.widest ≡ widest_of row.areas.items) };
 }
 
 impl<A: Allocator> Row<A> {
@@ -42,7 +45,11 @@ impl<A: Allocator> Row<A> {
         ensures { IfOk result (λ row. row ≡ []) }
     {
         let areas = Vec::with_capacity(alloc, ROW)?;
-        Ok(Row { areas, end: 0 })
+        Ok(Row {
+            areas,
+            end: 0,
+            widest: 0,
+        })
     }
 
     /// Its areas.
@@ -66,6 +73,33 @@ impl<A: Allocator> Row<A> {
         self.end
     }
 
+    /// Whether so many addresses from the place on end below its first area, if it has one.
+    pub(crate) fn starts_from(&self, at: u128, count: u64) -> bool
+        requires { at ≤ 2 ^ 64 }
+        ensures { result ≡ starts_from (at + count) self.now }
+    {
+        match self.areas.first() {
+            Some(area) => at + u128::from(count) <= u128::from(area.span.first()),
+            None => true,
+        }
+    }
+
+    /// From which place on so many addresses are free, as far as its areas go, which begin below that many from the
+    /// place on. It looks at each of them only where a gap is so wide.
+    pub(crate) fn free_from(&self, at: u128, count: u64) -> u128
+        requires at { at ≤ 2 ^ 64 }
+        requires apart { AreApart self.now }
+        requires begun { starts_from (at + count) self.now ≡ false }
+        ensures value { result ≡ first_free at count self.now }
+        ensures bound { result ≤ 2 ^ 64 }
+    {
+        if self.widest < count {
+            at.max(u128::from(self.end) + 1)
+        } else {
+            gaps::free_in(&self.areas, at, count)
+        }
+    }
+
     /// Adds an area that meets none of them, before the first that begins after it.
     pub(crate) fn add(&mut self, area: Area)
         requires apart { AreApart self.old }
@@ -76,6 +110,7 @@ impl<A: Allocator> Row<A> {
         let place = lookups::count_below(&self.areas, area.span.first());
         self.areas.insert(place, area).unwrap();
         self.end = end_of(&self.areas);
+        self.widest = gaps::widest_of(&self.areas);
     }
 
     /// The areas from this place on go to the other row.
@@ -88,7 +123,9 @@ impl<A: Allocator> Row<A> {
     {
         move_rest(&mut self.areas, at, &mut upper.areas);
         self.end = end_of(&self.areas);
+        self.widest = gaps::widest_of(&self.areas);
         upper.end = end_of(&upper.areas);
+        upper.widest = gaps::widest_of(&upper.areas);
     }
 
     /// The areas of the next row come behind its own.
@@ -98,6 +135,7 @@ impl<A: Allocator> Row<A> {
     {
         self.areas.append(&mut next.areas).unwrap();
         self.end = end_of(&self.areas);
+        self.widest = gaps::widest_of(&self.areas);
     }
 
     /// Changes its areas.
@@ -105,7 +143,6 @@ impl<A: Allocator> Row<A> {
         ensures { self.new ≡ map (changed change.now span) self.old }
     {
         marking::change_all(&mut self.areas, change, span);
-        self.end = end_of(&self.areas);
     }
 
     /// Takes away the areas that lie in the span, and says how many they were.
@@ -117,6 +154,7 @@ impl<A: Allocator> Row<A> {
         let before = self.areas.len();
         remove_within(&mut self.areas, span);
         self.end = end_of(&self.areas);
+        self.widest = gaps::widest_of(&self.areas);
         before - self.areas.len()
     }
 }

@@ -1,19 +1,16 @@
 -- The search for the least address that may be chosen: it starts at 0, and goes behind what is in the way.
 use Rattle.std.proofs.Common.{◌≡◌, ℕ, ◌+◌, ◌-◌, ◌%◌, ◌<◌, ◌≤◌, Bool, true, false, ◌&&◌, ◌||◌, not, leb, Option, Some}
-use Rattle.std.proofs.Common.{None, find, is_none, is_some, List, [], ◌∷◌, map, MatchOption, refl, ap, sym, ◌∙◌, ⊎_elim}
-use Rattle.std.proofs.Common.{arith}
+use Rattle.std.proofs.Common.{None, is_none, is_some, List, [], ◌∷◌, map, MatchOption, refl, ap, sym, ◌∙◌, ⊎_elim}
+use Rattle.std.proofs.Common.{◌^◌, arith}
 use Rattle.std.specs.List.{list_any}
 use Rattle.std.proofs.lemmas.Bool.Decides.{nat_tests}
 use Rattle.std.proofs.lemmas.Bool.{cases_lt}
 use Rattle.std.proofs.lemmas.List.Folds.{list_any-append}
-use Rattle.area_map.proofs.Found.{meets_none, meets_some}
-use Rattle.area_map.specs.Areas.{AreKept}
-use Rattle.iofd_rows.proofs.Bools.{and_true, both_false, both_true, clash}
-use Rattle.iofd_rows.proofs.Each.{in_found, of_any}
+use Rattle.iofd_rows.proofs.Bools.{and_true, both_false, clash}
 use Rattle.iofd_rows.proofs.ListTests.{any_weaker, false_else, or_left, or_right}
 use Rattle.iofd_words.specs.Areas.{areas_meet}
 use Rattle.iofd_words.specs.Bounds.{Bounds}
-use Rattle.iofd_words.specs.Checks.{choices, has_choice, may_choose, taken_spans}
+use Rattle.iofd_words.specs.Checks.{choices, has_choice, may_choose, taken_spans, unusable_in}
 use Rattle.iofd_words.specs.Fits.{whole_from}
 use Rattle.iofd_words.specs.Pages.{is_above_sum}
 use Rattle.iofd_words.specs.Ranges as ranges
@@ -29,7 +26,7 @@ use Rattle.iofd_words.specs.View.{View}
 use Rattle.iofd_words.specs.declared.event.MapRequest.{MapRequest}
 use Rattle.iofd_words.specs.declared.numbers.FileNo.{FileNo}
 use Rattle.iofd_words.specs.declared.rows.Area.{Area}
-use Rattle.map_events.specs.Place.{IsClear, IsInTheWay, IsLeastSpan, IsPlace, IsPlaceBy}
+use Rattle.map_events.specs.Place.{AreMetUpTo, IsClear, IsInTheWay, IsLeastSpan, IsOpen, IsPlace, IsPlaceBy}
 use Rattle.server_state.specs.Reach.{IsOneOf}
 
 -- ---- areas
@@ -42,40 +39,7 @@ any-spans : (test : Bounds → Bool) (areas : List Area)
 any-spans test [] = refl
 any-spans test (a ∷ areas) = ap (λ b. test a.span || b) (any-spans test areas)
 
-pub no_area : (span : Bounds) (areas : List Area) → AreKept areas
-    → find (λ (a : Area). leb span.first a.span.last) areas ≡ None → areas_meet span areas ≡ false
-no_area span areas kept none = meets_none span areas kept.apart none
-
-pub area_behind : (span : Bounds) (areas : List Area) (a : Area) → AreKept areas
-    → find (λ (a : Area). leb span.first a.span.last) areas ≡ Some a → leb a.span.first span.last ≡ false
-    → areas_meet span areas ≡ false
-area_behind span areas a kept found behind = meets_some span areas a kept.apart found ∙ behind
-
-pub area_met : (span : Bounds) (areas : List Area) (a : Area)
-    → find (λ (a : Area). leb span.first a.span.last) areas ≡ Some a → leb a.span.first span.last ≡ true
-    → IsOneOf (spans_of areas) span a.span
-area_met span areas a found begins =
-    let place = in_found (λ (a : Area). leb span.first a.span.last) areas a found in
-    record {
-      met = both_true _ _ begins place.1;
-      among = λ test passes. any-spans test areas ∙ of_any (λ (x : Area). test x.span) areas a place.0 passes;
-    }
-
--- what can't be used, and the areas
-pub nothing_else : (unusable : List Bounds) (areas : List Area) (span : Bounds) (o : Option Bounds)
-    → ranges.meets_some unusable span ≡ false
-    → MatchOption o (areas_meet span areas ≡ false) (IsOneOf (spans_of areas) span)
-    → MatchOption o (ranges.meets_some (occupied unusable areas) span ≡ false) (IsOneOf (occupied unusable areas) span)
-nothing_else unusable areas span None free clear =
-    list_any-append (λ (one : Bounds). meets one span) unusable (spans_of areas)
-    ∙ both_false _ _ free (any-spans (λ (one : Bounds). meets one span) areas ∙ clear)
-nothing_else unusable areas span (Some one) free is =
-    record {
-      met = is.met;
-      among = λ test passes. list_any-append test unusable (spans_of areas)
-          ∙ or_right (list_any test unusable) _ (is.among test passes);
-    }
-
+-- what can't be used is taken
 pub unusable_one : (unusable : List Bounds) (areas : List Area) (span one : Bounds) → IsOneOf unusable span one
     → IsOneOf (occupied unusable areas) span one
 unusable_one unusable areas span one is =
@@ -84,6 +48,15 @@ unusable_one unusable areas span one is =
       among = λ test passes. list_any-append test unusable (spans_of areas)
           ∙ or_left (list_any test unusable) _ (is.among test passes);
     }
+
+-- what is taken is what can't be used, and the areas
+taken_is : (v : View) (file : FileNo) (request : MapRequest) (areas : List Area)
+    → v.areas_of file request.ioas ≡ areas → (span : Bounds)
+    → ranges.meets_some (taken_spans v file request) span ≡ (ranges.meets_some (unusable_in v file request.ioas) span
+    || list_any (λ (one : Bounds). meets one span) (spans_of areas))
+taken_is v file request areas here span =
+    ap (λ (areas : List Area). ranges.meets_some (occupied (unusable_in v file request.ioas) areas) span) here
+    ∙ list_any-append (λ (one : Bounds). meets one span) (unusable_in v file request.ioas) (spans_of areas)
 
 -- ---- the search
 
@@ -217,16 +190,39 @@ module _ (v : View) (file : FileNo) (request : MapRequest) where
       → start < whole_from (one.last + 1)
   rises start one is = let reaches = is.reaches in omega (arith, reaches)
 
--- allowed and free, or behind a gap
-pub clear_or_gap : (v : View) (file : FileNo) (request : MapRequest) (span : Bounds) (o : Option Bounds)
+-- allowed and usable, or behind a gap
+pub open_or_gap : (v : View) (file : FileNo) (request : MapRequest) (span : Bounds) (o : Option Bounds)
     → 0 < request.length → span ≡ span_from span.first request.length → span.first ≤ span.last
-    → ranges.meets_some (taken_spans v file request) span ≡ false
+    → ranges.meets_some (unusable_in v file request.ioas) span ≡ false
     → MatchOption o (AllIn (choices v file request) span) (IsGap (choices v file request) span)
-    → MatchOption o (IsClear v file request span) (IsInTheWay v file request span)
-clear_or_gap v file request span None some from ordered free all =
-    record { inside = all-covered_by (choices v file request) span ordered all; free = free }
-clear_or_gap v file request span (Some gap) some from ordered free is =
+    → MatchOption o (IsOpen v file request span) (IsInTheWay v file request span)
+open_or_gap v file request span None some from ordered usable all =
+    record { inside = all-covered_by (choices v file request) span ordered all; usable = usable }
+open_or_gap v file request span (Some gap) some from ordered usable is =
     gap_in_the_way v file request span gap some from is
+
+-- free of areas too, or they are met
+pub clear_or_met : (v : View) (file : FileNo) (request : MapRequest) (areas : List Area) (span : Bounds)
+    (o : Option Bounds) → v.areas_of file request.ioas ≡ areas → IsOpen v file request span
+    → MatchOption o (areas_meet span areas ≡ false) (AreMetUpTo areas request.length span)
+    → MatchOption o (IsClear v file request span) (IsInTheWay v file request span)
+clear_or_met v file request areas span None here is_open clear =
+    record {
+      inside = is_open.inside;
+      free = taken_is v file request areas here span
+          ∙ both_false _ _ is_open.usable (any-spans (λ (one : Bounds). meets one span) areas ∙ clear);
+    }
+clear_or_met v file request areas span (Some one) here is_open is =
+    record {
+      reaches = is.reaches;
+      none = λ x low high. false_else (may_choose v file request x) (λ may.
+          let sum = (parts v file request x may).sum in
+          let within : x + request.length ≤ 2 ^ 64 = grind (arith, nat_tests) in
+          let next = span_from x request.length in
+          let met = any-spans (λ (one : Bounds). meets one next) areas ∙ is.met x low high within in
+          clash _ (parts v file request x may).free
+          (taken_is v file request areas here next ∙ or_right _ _ met));
+    }
 
 pub fewer_left : (start next high : ℕ) → start < next → start < high → high - next < high - start
 fewer_left start next high above below = omega (arith, above, below)

@@ -1,7 +1,8 @@
 -- Where a MAP puts its area.
-use Rattle.std.specs.Prelude.{◌≡◌, ℕ, ◌≤◌, Bool, true, false}
+use Rattle.std.specs.Prelude.{◌≡◌, ℕ, ◌+◌, ◌^◌, ◌≤◌, Bool, List, true, false}
+use Rattle.iofd_words.specs.Areas.{areas_meet}
 use Rattle.iofd_words.specs.Bounds.{Bounds}
-use Rattle.iofd_words.specs.Checks.{choices, has_choice, taken_spans, may_choose}
+use Rattle.iofd_words.specs.Checks.{choices, has_choice, taken_spans, may_choose, unusable_in}
 use Rattle.iofd_words.specs.Objects.{has_ioas}
 use Rattle.iofd_words.specs.Pages.{is_above_sum}
 use Rattle.iofd_words.specs.Ranges.{meets_some}
@@ -11,11 +12,23 @@ use Rattle.iofd_words.specs.Span.{span_from}
 use Rattle.iofd_words.specs.View.{View}
 use Rattle.iofd_words.specs.declared.event.MapRequest.{MapRequest}
 use Rattle.iofd_words.specs.declared.numbers.FileNo.{FileNo}
+use Rattle.iofd_words.specs.declared.rows.Area.{Area}
 
 -- nothing stands in the way of the span: it lies in the allowed ranges, can be used, and meets no area
 pub record IsClear (v : View) (file : FileNo) (request : MapRequest) (span : Bounds) : Type 0 where
   pub inside : is_covered_by (choices v file request) span ≡ true
   pub free : meets_some (taken_spans v file request) span ≡ false
+
+-- but for areas nothing stands in its way
+pub record IsOpen (v : View) (file : FileNo) (request : MapRequest) (span : Bounds) : Type 0 where
+  pub inside : is_covered_by (choices v file request) span ≡ true
+  pub usable : meets_some (unusable_in v file request.ioas) span ≡ false
+
+-- from each address from the span's first up to this one's last on so many meet an area
+pub record AreMetUpTo (areas : List Area) (length : ℕ) (span one : Bounds) : Type 0 where
+  pub reaches : span.first ≤ one.last
+  pub met : (x : ℕ) → span.first ≤ x → x ≤ one.last → x + length ≤ 2 ^ 64
+      → areas_meet (span_from x length) areas ≡ true
 
 -- something stands in its way: from no address of the span up to this one's last may a span be chosen
 pub record IsInTheWay (v : View) (file : FileNo) (request : MapRequest) (span one : Bounds) : Type 0 where

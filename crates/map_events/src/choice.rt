@@ -1,18 +1,16 @@
 //! The address that the server chooses for a MAP that doesn't fix one.
 
-ghost use Rattle.std.specs.Prelude.{◌≡◌, ◌==◌, ◌+◌, ◌≤◌, ◌^◌, ℕ, false, map, IfSome, MatchOption};
+ghost use Rattle.std.specs.Prelude.{◌≡◌, ◌==◌, ◌+◌, ◌≤◌, ◌^◌, ℕ, false, MatchOption};
 ghost use Rattle.iofd_words.specs.Allowed.{allowed_of};
 ghost use Rattle.iofd_words.specs.Areas.{areas_meet};
-ghost use Rattle.iofd_words.specs.Checks.{may_choose, taken_spans};
+ghost use Rattle.iofd_words.specs.Checks.{may_choose};
 ghost use Rattle.iofd_words.specs.Fits.{whole_from};
-ghost use Rattle.iofd_words.specs.Ranges.{meets_some};
 ghost use Rattle.iofd_words.specs.Span.{span_from};
 ghost use Rattle.iofd_words.specs.Usable.{allowed_spans};
 ghost use Rattle.iova_ranges.specs.Gaps.{IsGap};
 ghost use Rattle.iova_ranges.specs.Ranges.{AllIn};
-ghost use Rattle.map_events.specs.Place.{IsClear, IsInTheWay, IsLeastSpan};
+ghost use Rattle.map_events.specs.Place.{AreMetUpTo, IsClear, IsInTheWay, IsLeastSpan, IsOpen};
 ghost use Rattle.server_state.specs.Held.{areas_at};
-ghost use Rattle.server_state.specs.Reach.{IsOneOf};
 ghost use Rattle.server_state.specs.Seen.{seen};
 ghost use Rattle.server_state.specs.Step.{IsKnown};
 
@@ -21,8 +19,9 @@ use iofd_words::{FileNo, MapRequest, ObjId, PAGE_SIZE, Span};
 use server_state::State;
 use std::alloc::Allocator;
 
-/// The span from the least address that the server may choose; None where it may choose none. It passes each area and
-/// each span that can't be used or isn't allowed at most twice, from below. It takes no memory.
+/// The span from the least address that the server may choose; None where it may choose none. It passes each span that
+/// can't be used or isn't allowed at most twice, from below, and asks the areas for the next gap that is wide enough.
+/// It takes no memory.
 pub(crate) fn least_span<A: Allocator>(
     state: &State<A>,
     file: FileNo,
@@ -49,7 +48,7 @@ pub(crate) fn least_span<A: Allocator>(
     None
 }
 
-/// Something in the way of the span from some address on: addresses that can't be used or aren't allowed, or an area.
+/// Something in the way of the span from some address on: addresses that can't be used or aren't allowed, or areas.
 fn in_the_way<A: Allocator>(
     state: &State<A>,
     file: FileNo,
@@ -65,7 +64,27 @@ fn in_the_way<A: Allocator>(
         (IsClear (seen state.now) file request span)
         (IsInTheWay (seen state.now) file request span) }
 {
-    match taken_meeting(state, file, request, areas, span) {
+    match closed_meeting(state, file, request, span) {
+        Some(one) => Some(one),
+        None => met_from(areas, span, request.length),
+    }
+}
+
+/// Addresses that can't be used or aren't allowed, one of which lies in the span.
+fn closed_meeting<A: Allocator>(
+    state: &State<A>,
+    file: FileNo,
+    request: MapRequest,
+    span: Span,
+) -> Option<Span>
+    requires known { IsKnown state.now }
+    requires some { (request.length == 0) ≡ false }
+    requires from { span ≡ span_from span.first request.length }
+    ensures { MatchOption result
+        (IsOpen (seen state.now) file request span)
+        (IsInTheWay (seen state.now) file request span) }
+{
+    match state.unusable_meeting(file, request.ioas, span) {
         Some(one) => Some(one),
         None => gap_meeting(state, file, request.ioas, span),
     }
@@ -88,40 +107,19 @@ fn gap_meeting<A: Allocator>(
     }
 }
 
-/// Something at which the span can't be mapped, and which meets it: addresses that can't be used, or an area.
-fn taken_meeting<A: Allocator>(
-    state: &State<A>,
-    file: FileNo,
-    request: MapRequest,
-    areas: &Areas<A>,
-    span: Span,
-) -> Option<Span>
-    requires known { IsKnown state.now }
-    requires here { areas_at state.now.objects.rows file request.ioas ≡ areas.now.areas }
-    ensures { MatchOption result
-        (meets_some (taken_spans (seen state.now) file request) span ≡ false)
-        (IsOneOf (taken_spans (seen state.now) file request) span) }
-{
-    match state.unusable_meeting(file, request.ioas, span) {
-        Some(one) => Some(one),
-        None => area_meeting(areas, span),
-    }
-}
-
-/// The first area that meets the span.
-fn area_meeting<A: Allocator>(areas: &Areas<A>, span: Span) -> Option<Span>
+/// The addresses from the span's first on from each of which so many meet an area. None where the span meets none.
+fn met_from<A: Allocator>(areas: &Areas<A>, span: Span, length: u64) -> Option<Span>
+    requires some { (length == 0) ≡ false }
+    requires from { span ≡ span_from span.first length }
     ensures { MatchOption result
         (areas_meet span areas.now.areas ≡ false)
-        (IsOneOf (map (λ area. area.span) areas.now.areas) span) }
+        (AreMetUpTo areas.now.areas length span) }
 {
-    let Some(area) = areas.first_reaching(span.first()) else {
-        return None;
+    let last = match areas.free_from(span.first(), length) {
+        Some(free) => free.checked_sub(1)?,
+        None => u64::MAX,
     };
-    if area.span.first() <= span.last() {
-        Some(area.span)
-    } else {
-        None
-    }
+    Span::new(span.first(), last)
 }
 
 /// The first address of the page behind the one in which this address lies; None where it is the last.

@@ -1,25 +1,11 @@
-use Rattle.std.proofs.Common.{◌≡◌, ℕ, ◌<◌, ◌≤◌, eqb, false, ap, arith}
-use Rattle.std.proofs.lemmas.Bool.Decides.{nat_tests}
-use Rattle.iofd_words.specs.Bounds.{Bounds}
-use Rattle.iofd_words.specs.Span.{span_from}
-use Rattle.map_events.proofs.Chosen.{clear_or_gap, taken_in_the_way}
+use Rattle.map_events.proofs.Chosen.{clear_or_met}
 use Rattle.server_state.specs.Seen.{seen}
 use Rattle.map_events.proofs.choice.in_the_way.Goals as goal
 
-positive : (n : ℕ) → eqb n 0 ≡ false → 0 < n
-positive n is = grind (arith, nat_tests)
-
-ordered : (span : Bounds) (length : ℕ) → 0 < length → span ≡ span_from span.first length → span.first ≤ span.last
-ordered span length some from = let last = ap (λ (s : Bounds). s.last) from in omega (arith, last, some)
-
 pub returns-in-Some : goal.returns-in-Some
-returns-in-Some g c = taken_in_the_way (seen c.args.state.now) c.args.file c.args.request c.args.span c.in-Some.one
-    (positive c.args.request.length c.requires.some) c.requires.from (rw c.in-Some.is at c.taken_meeting.ensures)
+returns-in-Some g c = rw c.in-Some.is at c.closed_meeting.ensures
 
 pub returns-in-None : goal.returns-in-None
 returns-in-None g c =
-    let some = positive c.args.request.length c.requires.some in
-    clear_or_gap (seen c.args.state.now) c.args.file c.args.request c.args.span c.gap_meeting.result some
-    c.requires.from (ordered c.args.span c.args.request.length some c.requires.from)
-    (rw c.in-None.is at c.taken_meeting.ensures)
-    c.gap_meeting.ensures
+    clear_or_met (seen c.args.state.now) c.args.file c.args.request c.args.areas.now.areas c.args.span
+    c.met_from.result c.requires.here (rw c.in-None.is at c.closed_meeting.ensures) c.met_from.ensures
