@@ -1,5 +1,5 @@
 -- The objects by which devices are bound, after objects came or went.
-use Rattle.std.proofs.Common.{◌≡◌, Bool, true, false, cond, eqb, is_some, Option, Some, None, List, [], ◌∷◌, ◌++◌}
+use Rattle.std.proofs.Common.{◌≡◌, Bool, true, false, eqb, is_some, Option, Some, None, List}
 use Rattle.std.proofs.Common.{subst, refl, sym, ◌∙◌, ap}
 use Rattle.std.specs.List.{find, list_any}
 use Rattle.std.proofs.lemmas.Bool.{eqb-true}
@@ -86,7 +86,7 @@ module _ {A : Type 0} where
         users = 0;
         value =
             held.Device device;
-      }) table bindings shows refl refl unused refl rows files
+      }) table bindings shows refl refl refl unused refl rows files
       (λ d. bound_by w.objects s.bindings.items file id device shows.devices.bindings free d
       ∙ ap (find (λ (object : Object). is_bound_as d object.kind)) (sym came))
       (ap are_bindings came

@@ -1,6 +1,6 @@
 -- What is kept after an attachment ended shows the world after it.
 use Rattle.std.proofs.Common.{◌≡◌, ℕ, Bool, true, false, not, eqb, Option, Some, None, List, [], map, refl, sym, ◌∙◌}
-use Rattle.std.proofs.Common.{ap, subst, ◌+◌, arith, Vec}
+use Rattle.std.proofs.Common.{ap, subst, ◌+◌, ◌-◌, ◌<◌, arith, Vec, IfSome}
 use Rattle.iofd_rows.specs.Ids.{have_own_ids}
 use Rattle.iofd_words.specs.Checks.{detach_checks}
 use Rattle.iofd_words.specs.FirstTrue.{first_true}
@@ -18,12 +18,12 @@ use Rattle.memory_rows.specs.Shown.{FramesShown, over, tables_in, translated}
 use Rattle.user_memory.specs.Changes.{never}
 use Rattle.user_memory.specs.Memory.{Memory}
 use Rattle.std.specs.Prelude.{is_none}
-use Rattle.std.specs.List.{filter, list_all}
+use Rattle.std.specs.List.{filter, find, list_all}
 use Rattle.std.specs.List.Sorted.{IsNonDecreasingBy, IsPermutation}
 use Rattle.iofd_words.specs.After.{changed, detach_changes, detached, goes_with, settle}
 use Rattle.iofd_words.specs.Areas.{all_paid, areas_of, paid, with_phase}
 use Rattle.iofd_words.specs.Attachments.{attachment_of, ioas_of_attachment, without_attachment}
-use Rattle.iofd_words.specs.Objects.{has_hwpt, kind_of, without_object}
+use Rattle.iofd_words.specs.Objects.{has_hwpt, has_ioas, is_ioas, kind_of, without_object}
 use Rattle.iofd_words.specs.View.{view}
 use Rattle.iofd_words.specs.World.{World}
 use Rattle.iofd_words.specs.declared.event.Event.TheVariants as event
@@ -34,6 +34,7 @@ use Rattle.iofd_words.specs.declared.reply.Reply.TheVariants as reply
 use Rattle.iofd_words.specs.declared.rows.Area.{Area}
 use Rattle.iofd_words.specs.declared.rows.Attachment.{Attachment}
 use Rattle.iofd_words.specs.declared.rows.Object.{Object}
+use Rattle.iofd_words.specs.declared.rows.ObjectKind.{ObjectKind}
 use Rattle.iofd_words.specs.declared.rows.ObjectKind.TheVariants as kind
 use Rattle.iofd_rows.proofs.Found.{all_filter}
 use Rattle.iofd_rows.proofs.Owed.{table_of}
@@ -50,6 +51,10 @@ use Rattle.server_state.specs.Tables.{has_own_width, page_tables_among}
 use Rattle.server_state.specs.declared.held.Held.{Held}
 use Rattle.server_state.specs.declared.state.State.{State}
 use Rattle.server_state.proofs.AreasBecome.{own_at}
+use Rattle.server_state.proofs.Counted.{areas-counted, objects-counted, over_spaces, proper-counted, some_over}
+use Rattle.server_state.proofs.Counted.{space_row, space_under, still_none, table_goes, users-removed, users_of_row}
+use Rattle.server_state.proofs.Counted.{where_found}
+use Rattle.server_state.specs.Users.{AreCounted, tables_over, users_at}
 use Rattle.device_events.proofs.Detached.{all_stay, bindings_stay, left_of, none_goes, none_of, one_goes, others_stay}
 use Rattle.device_events.proofs.PaidLeads.{paid_leads}
 use Rattle.device_events.proofs.ReleasedAfter.{may_release_after, shown_after_it, tables_stand_after}
@@ -77,7 +82,7 @@ use Rattle.server_state.proofs.MemoryReleased.{AreFewer, nothing_released, over_
 use Rattle.server_state.proofs.ObjectsGone.{objects-removed}
 use Rattle.server_state.proofs.PageTables.{has_hwpt_kept}
 use Rattle.server_state.proofs.TableRows.{areas_removed, destroyable}
-use Rattle.object_table.specs.Table.{Table, destroy_refusal, is_at, removed}
+use Rattle.object_table.specs.Table.{Row, Table, changed_at, destroy_refusal, is_at, is_own, own, removed, with_users}
 use Rattle.object_table.specs.declared.kind.Kind.TheVariants as of_kind
 
 -- what isn't attached was refused
@@ -260,6 +265,8 @@ module _ {A : Type 0} where
           proper = paid_shown.objects.proper;
           spaces = paid_shown.objects.spaces;
           files = paid_shown.objects.files;
+          counted = λ f i. paid_shown.objects.counted f i
+              ∙ ap (λ (l : List Object). tables_over l f i) (sym stays);
         })
         fewer shows.frames
         (record {
@@ -289,11 +296,14 @@ module _ {A : Type 0} where
 
     -- ---- the page table goes with the attachment
 
-    module _ (new : Table (Held A))
+    module _ (base new : Table (Held A))
         (idle : is_idle (objects_in table) attachments.items a.file a.hwpt ≡ true)
-        (dropped : destroy_refusal table a.file of_kind.Hwpt a.hwpt ≡ None
-        → new.rows ≡ removed a.file a.hwpt table.rows)
-        (files : new.files ≡ table.files)
+        (counts : IfSome (own table a.file of_kind.Ioas ioas) (λ row. 0 < row.users
+        → base.rows ≡ changed_at a.file ioas (with_users (row.users - 1)) table.rows))
+        (others_same : base ≡ record table { rows = base.rows })
+        (dropped : destroy_refusal base a.file of_kind.Hwpt a.hwpt ≡ None
+        → new.rows ≡ removed a.file a.hwpt base.rows)
+        (files : new.files ≡ base.files)
         (kept : PageTables) (before : FramePool)
         (is_kept : kept.tables ≡ without_hwpt a.file a.hwpt s.page_tables.tables)
         (stand : IfAllStand s.pool s.page_tables.tables
@@ -322,31 +332,95 @@ module _ {A : Type 0} where
       kind_table width automatic kind_w =
           sym (ap (λ (objects : List Object). kind_of objects a.file a.hwpt) paid_shown.objects.rows) ∙ kind_w
 
-      rows : new.rows ≡ removed a.file a.hwpt table.rows
+      -- its address space has one user fewer
+      space_is : has_ioas (objects_in table) a.file ioas ≡ true
+      space_is =
+          let (width, automatic, kind_w) = of_world in
+          ap (λ (l : List Object). has_ioas l a.file ioas) (sym paid_shown.objects.rows)
+          ∙ space_under w.objects a.file a.hwpt ioas width automatic tidy.debts.spaces kind_w
+
+      its_space : (row : Row (Held A)) × (find (is_own a.file of_kind.Ioas ioas) table.rows ≡ Some row)
+          × (find (is_at a.file ioas) table.rows ≡ Some row)
+      its_space = space_row table.rows a.file ioas paid_shown.objects.proper space_is
+
+      abbrev fewer_rows : List (Row (Held A))
+      fewer_rows = changed_at a.file ioas (with_users (its_space.0.users - 1)) table.rows
+
+      base_rows : base.rows ≡ fewer_rows
+      base_rows =
+          let (width, automatic, kind_w) = of_world in
+          let many = users_of_row w.objects table.rows paid_shown.objects.counted a.file ioas its_space.0
+          its_space.2 in
+          let some = some_over w.objects a.file a.hwpt ioas width automatic tidy.ids kind_w in
+          where_found (λ (r : Row (Held A)). 0 < r.users
+          → base.rows ≡ changed_at a.file ioas (with_users (r.users - 1)) table.rows)
+          (own table a.file of_kind.Ioas ioas) its_space.0 its_space.1 counts (omega (arith, many, some))
+
+      objects_base : objects_in base ≡ objects_in table
+      objects_base = ap (map object_of) base_rows
+          ∙ objects-counted table.rows a.file ioas (its_space.0.users - 1)
+
+      proper_base : list_all is_proper base.rows ≡ true
+      proper_base = ap (list_all is_proper) base_rows
+          ∙ proper-counted table.rows a.file ioas (its_space.0.users - 1) ∙ paid_shown.objects.proper
+
+      -- nobody uses the page table
+      none_base : users_at base.rows a.file a.hwpt ≡ 0
+      none_base =
+          let (width, automatic, kind_w) = of_world in
+          let no_space : has_ioas w.objects a.file a.hwpt ≡ false =
+          ap (λ (o : Option ObjectKind). elim o [ Some k ↦ is_ioas k | None ↦ false ]) kind_w in
+          ap (λ (l : List (Row (Held A))). users_at l a.file a.hwpt) base_rows
+          ∙ still_none table.rows a.file a.hwpt ioas its_space.0 its_space.2
+          (paid_shown.objects.counted a.file a.hwpt
+          ∙ over_spaces w.objects a.file a.hwpt tidy.debts.spaces no_space)
+
+      kind_base : (width : Width) (automatic : Bool)
+          → kind_of w.objects a.file a.hwpt ≡ Some (kind.Hwpt ioas width automatic)
+          → kind_of (objects_in base) a.file a.hwpt ≡ Some (kind.Hwpt ioas width automatic)
+      kind_base width automatic kind_w =
+          ap (λ (l : List Object). kind_of l a.file a.hwpt) objects_base ∙ kind_table width automatic kind_w
+
+      rows : new.rows ≡ removed a.file a.hwpt base.rows
       rows = let (width, automatic, kind_w) = of_world in dropped
-          (destroyable table a.file a.hwpt ioas width automatic paid_shown.objects.proper
-          (kind_table width automatic kind_w))
+          (destroyable base a.file a.hwpt ioas width automatic proper_base
+          (kind_base width automatic kind_w) none_base)
 
       objects : left ≡ map object_of new.rows
-      objects = one_left ∙ ap (without_object a.file a.hwpt) paid_shown.objects.rows
-          ∙ sym (objects-removed table.rows a.file a.hwpt) ∙ ap (map object_of) (sym rows)
+      objects = one_left ∙ ap (without_object a.file a.hwpt) (paid_shown.objects.rows ∙ sym objects_base)
+          ∙ sym (objects-removed base.rows a.file a.hwpt) ∙ ap (map object_of) (sym rows)
 
       areas : (f : FileNo) (i : ObjId) → areas_of (all_paid device w.areas) f i ≡ areas_at new.rows f i
       areas f i =
           let (width, automatic, kind_w) = of_world in
-          paid_shown.objects.spaces f i ∙ sym (areas_removed table.rows a.file a.hwpt ioas width automatic
-          (kind_table width automatic kind_w) f i) ∙ ap (λ rows. areas_at rows f i) (sym rows)
+          paid_shown.objects.spaces f i
+          ∙ sym (areas_removed base.rows a.file a.hwpt ioas width automatic (kind_base width automatic kind_w) f i
+          ∙ ap (λ (l : List (Row (Held A))). areas_at l f i) base_rows
+          ∙ areas-counted table.rows a.file ioas (its_space.0.users - 1) f i)
+          ∙ ap (λ rows. areas_at rows f i) (sym rows)
 
       proper : list_all is_proper new.rows ≡ true
-      proper = ap (list_all is_proper) rows ∙ all_filter is_proper (λ row. not (is_at a.file a.hwpt row)) table.rows
-          paid_shown.objects.proper
+      proper = ap (list_all is_proper) rows ∙ all_filter is_proper (λ row. not (is_at a.file a.hwpt row)) base.rows
+          proper_base
+
+      counted : AreCounted left new.rows
+      counted f i =
+          let (width, automatic, kind_w) = of_world in
+          ap (λ (l : List (Row (Held A))). users_at l f i) rows
+          ∙ users-removed base.rows a.file a.hwpt none_base f i
+          ∙ ap (λ (l : List (Row (Held A))). users_at l f i) base_rows
+          ∙ table_goes w.objects table.rows paid_shown.objects.counted a.file ioas a.hwpt width automatic its_space.0
+          tidy.ids kind_w its_space.2 f i
+          ∙ ap (λ (l : List Object). tables_over l f i) (sym one_left)
 
       objects_shown : ObjectsShown w.settings w.closed left (all_paid device w.areas) new
       objects_shown = record {
         rows = objects;
         proper = proper;
         spaces = areas;
-        files = λ number. rw files (paid_shown.objects.files number);
+        files = λ number.
+            rw (files, ap (λ (t : Table (Held A)). t.files) others_same) (paid_shown.objects.files number);
+        counted = counted;
       }
 
       had : has_hwpt w.objects a.file ioas ≡ true

@@ -119,6 +119,7 @@ module _ {A : Type 0} where
           proper = has.proper;
           spaces = areas_paid w s device file ioas table tidy.debts shows space has;
           files = λ number. rw has.files (shows.objects.files number);
+          counted = λ f i. has.users f i ∙ shows.objects.counted f i;
         };
         devices = shows.devices;
         limits = shows.limits;

@@ -18,7 +18,7 @@ use iofd_words::{
     Attachment, Cause, DeviceNo, FileNo, FrameNo, NoMemory, ObjId, ObjectKind, Reply,
 };
 use object_table::{Kind, ObjectTable};
-use server_state::{Held, State, lookups, release};
+use server_state::{Held, State, counts, lookups, release};
 use std::alloc::Allocator;
 
 /// Why it is refused, by the first row of the definitions that holds. None where nothing refuses it.
@@ -63,6 +63,7 @@ pub fn commit<A: Allocator>(
     spaces::pay(&mut state.objects, file, ioas, device);
     attachments::remove(&mut state.attachments, device);
     if is_idle(&state.objects, &state.attachments, file, hwpt) {
+        counts::table_goes(&mut state.objects, file, ioas);
         drop_table(&mut state.objects, file, hwpt);
         state.page_tables.remove(&mut state.pool, file, hwpt, given);
         if !state.page_tables.has_over(file, ioas) {

@@ -1,6 +1,6 @@
 -- An object that was destroyed: an address space with its areas, or a page table with pins.
 use Rattle.std.proofs.Common.{◌≡◌, ℕ, Bool, true, false, cond, ◌&&◌, ltb, not, eqb, is_none, Option, Some, None, List}
-use Rattle.std.proofs.Common.{[], map, refl, sym, ◌∙◌, ap, subst, arith, ◌+◌}
+use Rattle.std.proofs.Common.{[], map, refl, sym, ◌∙◌, ap, subst, arith, ◌+◌, ◌-◌, ◌<◌, IfSome}
 use Rattle.iofd_words.specs.Allowed.{AllowedRanges, allowed_of, without_allowed}
 use Rattle.iofd_words.specs.Answers.{Answers}
 use Rattle.iofd_runs.proofs.KeepsPins.{keeps_pins}
@@ -15,7 +15,7 @@ use Rattle.memory_rows.specs.Shown.{over, tables_in, translated}
 use Rattle.user_memory.specs.Changes.{never}
 use Rattle.user_memory.specs.Memory.{Memory}
 use Rattle.iofd_rows.specs.Pinned.{ArePinned}
-use Rattle.std.specs.List.{filter, list_all}
+use Rattle.std.specs.List.{filter, find, list_all}
 use Rattle.std.proofs.lemmas.Bool.Decides.{nat_tests}
 use Rattle.iofd_words.specs.After.{settle, without_areas, changed}
 use Rattle.iofd_words.specs.Areas.{areas_of, is_of}
@@ -23,7 +23,7 @@ use Rattle.iofd_words.specs.Checks.{destroy_checks, is_device_object, is_used}
 use Rattle.iofd_rows.specs.Ids.{have_own_ids}
 use Rattle.iofd_words.specs.FirstTrue.{first_true}
 use Rattle.iofd_words.specs.Objects.{has_hwpt, is_bound_as, is_bound_device, is_hwpt, is_hwpt_over, is_object, kind_of}
-use Rattle.iofd_words.specs.Objects.{without_object}
+use Rattle.iofd_words.specs.Objects.{has_ioas, is_ioas, without_object}
 use Rattle.iofd_words.specs.View.{view}
 use Rattle.iofd_words.specs.World.{World}
 use Rattle.iofd_words.specs.declared.event.Event.TheVariants as event
@@ -44,6 +44,9 @@ use Rattle.iofd_rows.proofs.ListTests.{false_else, filter_all}
 use Rattle.iofd_rows.proofs.Named.{file_is, id_is, kind_only}
 use Rattle.iofd_rows.proofs.PageTables.{hwpt_alike}
 use Rattle.server_state.proofs.AreasBecome.{own_at}
+use Rattle.server_state.proofs.Counted.{areas-counted, none_over, objects-counted, other_goes, over_spaces}
+use Rattle.server_state.proofs.Counted.{proper-counted, some_over, space_row, space_under, still_none, table_goes}
+use Rattle.server_state.proofs.Counted.{users-removed, users_of_row, where_found}
 use Rattle.server_state.proofs.Objects.{has_table}
 use Rattle.server_state.proofs.Orderly.{orderly}
 use Rattle.server_state.proofs.MemoryReleased.{AreFewer}
@@ -52,7 +55,8 @@ use Rattle.file_events.proofs.SpacesGone.{any_without, areas-removed, areas_else
 use Rattle.server_state.proofs.ObjectsGone.{may_go, objects-removed}
 use Rattle.server_state.specs.Held.{is_proper, areas_at, object_of, objects_in}
 use Rattle.server_state.specs.Mapping.{own_areas}
-use Rattle.server_state.specs.Shows.{Shows}
+use Rattle.server_state.specs.Shows.{ObjectsShown, Shows}
+use Rattle.server_state.specs.Users.{AreCounted, tables_over, users_at}
 use Rattle.server_state.specs.Step.{IsTidy}
 use Rattle.server_state.specs.Tables.{has_own_width, page_tables_among}
 use Rattle.server_state.specs.Choice.{AreFramesChosen, IsChosen}
@@ -79,7 +83,7 @@ use Rattle.table_words.specs.Rows.{TableRow}
 use Rattle.server_state.specs.declared.held.Held.{Held}
 use Rattle.server_state.specs.declared.held.Held.TheVariants as held
 use Rattle.server_state.specs.declared.state.State.{State}
-use Rattle.object_table.specs.Table.{Table, destroy_refusal, is_at, removed}
+use Rattle.object_table.specs.Table.{Row, Table, changed_at, destroy_refusal, is_at, is_own, own, removed, with_users}
 use Rattle.object_table.specs.declared.kind.Kind.TheVariants as tablekind
 
 -- ---- what goes of the counts
@@ -231,13 +235,31 @@ module _ {A : Type 0} where
       ∙ no_areas_in (value_at s.objects.rows file id) ioas width automatic (sym (kind_of_rows s.objects.rows file id)
       ∙ ap (λ (l : List Object). kind_of l file id) (sym shows.objects.rows) ∙ is_kind)
 
+  -- the object's row goes, of rows that have these objects and areas
+  objects_gone : (w : World) (s : State A) (file : FileNo) (id : ObjId) (base table : Table (Held A)) → Shows w s
+      → w.objects ≡ map object_of base.rows → list_all is_proper base.rows ≡ true
+      → ((f : FileNo) (i : ObjId) → areas_of w.areas f i ≡ areas_at base.rows f i)
+      → table.rows ≡ removed file id base.rows → table.files ≡ s.objects.files
+      → AreCounted (without_object file id w.objects) table.rows
+      → ObjectsShown w.settings w.closed (without_object file id w.objects)
+      (filter (λ (area : Area). not (is_of file id area)) w.areas) table
+  objects_gone w s file id base table shows objects proper areas rows files counted = record {
+    rows = ap (without_object file id) objects ∙ sym (objects-removed base.rows file id)
+        ∙ ap (map object_of) (sym rows);
+    proper = rw rows (all_filter is_proper (λ row. not (is_at file id row)) base.rows proper);
+    spaces = λ f i. areas-removed w.areas base.rows file id areas f i ∙ ap (λ l. areas_at l f i) (sym rows);
+    files = λ number. rw files (shows.objects.files number);
+    counted = counted;
+  }
+
   -- the object is gone, where page tables have these rows in the pool before memory objects are let go of
   pub shows_destroyed : (at : ℕ) (w : World) (s : State A) (file : FileNo) (id : ObjId) (k : ObjectKind)
       (table : Table (Held A)) (areas pins : ℕ
       → ℕ) (memory : Memory) (before pool : FramePool) (allowed : List AllowedRanges) (kept : List TableFrame)
       (tables : PageTables) → IsTidy at w → Shows w s → first_true (destroy_checks (view w) file id) ≡ None
-      → kind_of w.objects file id ≡ Some k → is_bound_device k ≡ false → table.rows ≡ removed file id s.objects.rows
-      → table.files ≡ s.objects.files
+      → kind_of w.objects file id ≡ Some k → is_bound_device k ≡ false
+      → ObjectsShown w.settings w.closed (without_object file id w.objects)
+      (filter (λ (area : Area). not (is_of file id area)) w.areas) table
       → FramesShown w.settings.pool w.writes kept s.memory before → AllStand before kept (leads_of w) tables.tables
       → objects_of tables ≡ page_tables_among (without_object file id w.objects)
       → list_all has_own_width tables.tables ≡ true
@@ -255,7 +277,7 @@ module _ {A : Type 0} where
       })
   unfolding settle without_areas changed Answers
   shows_destroyed at w s file id k table areas pins memory before pool allowed kept tables tidy shows none is_kind
-      no_device rows files shown stand are widths stay fewer released forgets =
+      no_device objects shown stand are widths stay fewer released forgets =
       let next : ArePinned (at + 1) (gone w file id) =
       keeps_pins {A = A} at w (event.Destroy file id) reply.Done none tt tidy.pins in
       let after = freed at w s tidy shows kept tables.tables before shown stand areas pins
@@ -264,14 +286,7 @@ module _ {A : Type 0} where
       (objects_left (is_of file id) w.areas w.memory) refl refl released in
       record {
         settings = shows.settings;
-        objects = record {
-          rows = ap (without_object file id) shows.objects.rows ∙ sym (objects-removed s.objects.rows file id)
-              ∙ ap (map object_of) (sym rows);
-          proper = rw rows (all_filter is_proper (λ row. not (is_at file id row)) s.objects.rows shows.objects.proper);
-          spaces = λ f i. areas-removed w.areas s.objects.rows file id shows.objects.spaces f i
-              ∙ ap (λ l. areas_at l f i) (sym rows);
-          files = λ number. rw files (shows.objects.files number);
-        };
+        objects = objects;
         devices = record {
           bindings = λ device. found_without (λ (o : Object). is_bound_as device o.kind) w.objects file id k tidy.ids
               is_kind (λ object of_file of_kind. rw of_kind (unbound k device no_device))
@@ -343,6 +358,9 @@ module _ {A : Type 0} where
         (over (own_areas s.objects file id)) never (without_object file id w.objects)
         (filter (λ (area : Area). not (is_of file id area)) w.areas) goes
 
+    nothing_over : tables_over w.objects file id ≡ 0
+    nothing_over = none_over w.objects file id (unused w file id kind.Ioas none space_kind)
+
     -- the page tables are the same
     same_among : page_tables_among (without_object file id w.objects) ≡ page_tables_among w.objects
     same_among = no_table_goes w.objects file id tidy.ids kind.Ioas space_kind refl
@@ -357,12 +375,20 @@ module _ {A : Type 0} where
     space_destroyed table memory pool allowed rows files released forgets =
         shows_destroyed at w s file id kind.Ioas table (over (own_areas s.objects file id)) never memory s.pool pool
         allowed w.table_frames s.page_tables tidy shows none space_kind refl
-        (rows (may_go s.objects file id kind.Ioas shows.objects.proper is_kind)) files
+        (objects_gone w s file id s.objects table shows shows.objects.rows shows.objects.proper shows.objects.spaces
+        row_gone files
+        (λ f i. ap (λ (l : List (Row (Held A))). users_at l f i) row_gone
+        ∙ other_goes w.objects s.objects.rows shows.objects.counted file id kind.Ioas tidy.ids space_kind refl
+        nothing_over f i))
         shows.frames shows.tables.stand (shows.tables.tables ∙ sym same_among) shows.tables.widths
         (others_stay w file id tidy.ids space_kind (unused w file id kind.Ioas none space_kind)
         (own_areas s.objects file id) (own_at s.objects file id (orderly at w s tidy shows)
         ∙ sym (shows.objects.spaces file id)))
         goes released forgets
+      where
+        row_gone : table.rows ≡ removed file id s.objects.rows
+        row_gone = rows (may_go s.objects file id kind.Ioas shows.objects.proper is_kind
+            (shows.objects.counted file id ∙ nothing_over))
 
     pub space_moves : (via : Option FrameNo) (given : List FrameNo) (new : State A) → given ≡ []
         → Shows (gone w file id) new → Moves at w file id via given new
@@ -378,8 +404,12 @@ module _ {A : Type 0} where
       (table : Table (Held A)) (tidy : IsTidy at w) (shows : Shows w s)
       (none : first_true (destroy_checks (view w) file id) ≡ None)
       (is_kind : kind_of (objects_in s.objects) file id ≡ Some (kind.Hwpt ioas width automatic))
-      (may : destroy_refusal s.objects file tablekind.Hwpt id ≡ None
-      → table.rows ≡ removed file id s.objects.rows) (files : table.files ≡ s.objects.files)
+      (base : Table (Held A))
+      (counts : IfSome (own s.objects file tablekind.Ioas ioas) (λ row. 0 < row.users
+      → base.rows ≡ changed_at file ioas (with_users (row.users - 1)) s.objects.rows))
+      (others_same : base ≡ record s.objects { rows = base.rows })
+      (may : destroy_refusal base file tablekind.Hwpt id ≡ None
+      → table.rows ≡ removed file id base.rows) (files : table.files ≡ base.files)
       (tables : PageTables) (between : FramePool) (kept : tables.tables ≡ without_hwpt file id s.page_tables.tables)
       (stands : IfAllStand s.pool s.page_tables.tables
       (λ frames leads. AllStand between (without_tables file id frames) leads tables.tables))
@@ -392,16 +422,69 @@ module _ {A : Type 0} where
       empty : areas_of w.areas file id ≡ []
       empty = no_areas w s file id ioas width automatic shows of_world
 
-      rows : table.rows ≡ removed file id s.objects.rows
-      rows = may (may_go s.objects file id (kind.Hwpt ioas width automatic) shows.objects.proper is_kind)
+      -- its address space has one user fewer
+      space_is : has_ioas (objects_in s.objects) file ioas ≡ true
+      space_is = ap (λ (l : List Object). has_ioas l file ioas) (sym shows.objects.rows)
+          ∙ space_under w.objects file id ioas width automatic tidy.debts.spaces of_world
+
+      its_space : (row : Row (Held A)) × (find (is_own file tablekind.Ioas ioas) s.objects.rows ≡ Some row)
+          × (find (is_at file ioas) s.objects.rows ≡ Some row)
+      its_space = space_row s.objects.rows file ioas shows.objects.proper space_is
+
+      base_rows : base.rows ≡ changed_at file ioas (with_users (its_space.0.users - 1)) s.objects.rows
+      base_rows =
+          let many = users_of_row w.objects s.objects.rows shows.objects.counted file ioas its_space.0 its_space.2 in
+          let some = some_over w.objects file id ioas width automatic tidy.ids of_world in
+          where_found (λ (r : Row (Held A)). 0 < r.users
+          → base.rows ≡ changed_at file ioas (with_users (r.users - 1)) s.objects.rows)
+          (own s.objects file tablekind.Ioas ioas) its_space.0 its_space.1 counts (omega (arith, many, some))
+
+      objects_base : objects_in base ≡ objects_in s.objects
+      objects_base = ap (map object_of) base_rows
+          ∙ objects-counted s.objects.rows file ioas (its_space.0.users - 1)
+
+      proper_base : list_all is_proper base.rows ≡ true
+      proper_base = ap (list_all is_proper) base_rows
+          ∙ proper-counted s.objects.rows file ioas (its_space.0.users - 1) ∙ shows.objects.proper
+
+      areas_base : (f : FileNo) (i : ObjId) → areas_of w.areas f i ≡ areas_at base.rows f i
+      areas_base f i = shows.objects.spaces f i
+          ∙ sym (ap (λ (l : List (Row (Held A))). areas_at l f i) base_rows
+          ∙ areas-counted s.objects.rows file ioas (its_space.0.users - 1) f i)
+
+      -- nobody uses the page table
+      none_base : users_at base.rows file id ≡ 0
+      none_base =
+          let no_space : has_ioas w.objects file id ≡ false =
+          ap (λ (o : Option ObjectKind). elim o [ Some k ↦ is_ioas k | None ↦ false ]) of_world in
+          ap (λ (l : List (Row (Held A))). users_at l file id) base_rows
+          ∙ still_none s.objects.rows file id ioas its_space.0 its_space.2
+          (shows.objects.counted file id ∙ over_spaces w.objects file id tidy.debts.spaces no_space)
+
+      rows : table.rows ≡ removed file id base.rows
+      rows = may (may_go base file id (kind.Hwpt ioas width automatic) proper_base
+          (ap (λ (l : List Object). kind_of l file id) objects_base ∙ is_kind) none_base)
 
       objects_kept : objects_in table ≡ without_object file id w.objects
-      objects_kept = ap (map object_of) rows ∙ objects-removed s.objects.rows file id
-          ∙ ap (without_object file id) (sym shows.objects.rows)
+      objects_kept = ap (map object_of) rows ∙ objects-removed base.rows file id
+          ∙ ap (without_object file id) (objects_base ∙ sym shows.objects.rows)
 
       proper_kept : list_all is_proper table.rows ≡ true
       proper_kept = ap (list_all is_proper) rows
-          ∙ all_filter is_proper (λ row. not (is_at file id row)) s.objects.rows shows.objects.proper
+          ∙ all_filter is_proper (λ row. not (is_at file id row)) base.rows proper_base
+
+      counted_kept : AreCounted (without_object file id w.objects) table.rows
+      counted_kept f i =
+          ap (λ (l : List (Row (Held A))). users_at l f i) rows
+          ∙ users-removed base.rows file id none_base f i
+          ∙ ap (λ (l : List (Row (Held A))). users_at l f i) base_rows
+          ∙ table_goes w.objects s.objects.rows shows.objects.counted file ioas id width automatic its_space.0 tidy.ids
+          of_world its_space.2 f i
+
+      objects_shown : ObjectsShown w.settings w.closed (without_object file id w.objects)
+          (filter (λ (area : Area). not (is_of file id area)) w.areas) table
+      objects_shown = objects_gone w s file id base table shows (shows.objects.rows ∙ sym objects_base) proper_base
+          areas_base rows (files ∙ ap (λ (t : Table (Held A)). t.files) others_same) counted_kept
 
       -- the areas of its address space
       own_kept : own_areas table file ioas ≡ areas_of w.areas file ioas
@@ -411,7 +494,7 @@ module _ {A : Type 0} where
             ids = ap have_own_ids objects_kept ∙ own_ids-filter _ w.objects tidy.ids;
           })
           ∙ ap (λ l. areas_at l file ioas) rows
-          ∙ sym (areas-removed w.areas s.objects.rows file id shows.objects.spaces file ioas)
+          ∙ sym (areas-removed w.areas base.rows file id areas_base file ioas)
           ∙ ap (λ (l : List Area). areas_of l file ioas)
           (all_stay w file id tidy.ids ioas width automatic of_world empty)
 
@@ -480,7 +563,7 @@ module _ {A : Type 0} where
           (record s { objects = table; allowed = allowed; page_tables = tables; memory = memory; pool = pool })
       shown_kept areas pins memory pool allowed fewer released forgets =
           shows_destroyed at w s file id (kind.Hwpt ioas width automatic) table areas pins memory between pool allowed
-          (without_tables file id w.table_frames) tables tidy shows none of_world refl rows files
+          (without_tables file id w.table_frames) tables tidy shows none of_world refl objects_shown
           frames_between stand_between tables_here widths_here areas_kept fewer released forgets
 
       -- the pins of the space's areas went with its last page table

@@ -60,7 +60,9 @@ use Rattle.iofd_rows.proofs.Bools.{and_true, both_true, clash}
 use Rattle.iofd_rows.proofs.Found.{all_filter, find-filter}
 use Rattle.iofd_rows.proofs.ListTests.{any-filter, none_stronger}
 use Rattle.file_events.proofs.SpacesGone.{device_rows}
+use Rattle.server_state.proofs.Counted.{file_goes}
 use Rattle.server_state.specs.Held.{is_proper, areas_at, kind_in, object_of, objects_in, table_kind}
+use Rattle.server_state.specs.Users.{users_at}
 use Rattle.server_state.specs.Shows.{Shows}
 use Rattle.server_state.specs.Step.{IsTidy}
 use Rattle.server_state.specs.Tables.{has_own_width, page_tables_among}
@@ -182,8 +184,7 @@ module _ {A : Type 0} where
   held_open [] file proper = refl
   held_open (row ∷ rows) file proper =
       let parts = and_true (is_proper row) (list_all is_proper rows) proper in
-      let here = and_true (is_same_kind row.kind (table_kind (kind_in row.value))) (eqb row.users 0) parts.0 in
-      by_file (is_of_file file row) (keeps_open row.kind (kind_in row.value) here.0) (held_open rows file parts.1)
+      by_file (is_of_file file row) (keeps_open row.kind (kind_in row.value) parts.0) (held_open rows file parts.1)
     where
       by_file : (b : Bool) → keeps_file_open row.kind ≡ is_bound_device (kind_in row.value)
           → list_any (λ (row : Row (Held A)). keeps_file_open row.kind) (filter (is_of_file file) rows) ≡ list_any
@@ -392,6 +393,8 @@ module _ {A : Type 0} where
                 spaces = λ f i. areas-closed w.areas s.objects.rows file shows.objects.spaces f i
                     ∙ ap (λ (t : Table (Held A)). areas_at t.rows f i) (sym is);
                 files = λ number. ap (λ (t : Table (Held A)). is_open t number) is ∙ files_left number;
+                counted = λ f i. ap (λ (t : Table (Held A)). users_at t.rows f i) is
+                    ∙ file_goes w.objects s.objects.rows shows.objects.counted file f i;
               };
               devices = record {
                 bindings = λ device. bound_left device ∙ shows.devices.bindings device;

@@ -28,16 +28,18 @@ use Rattle.iofd_rows.specs.Ids.{AreBoundOnce, have_own_ids}
 use Rattle.iofd_runs.proofs.NotRefused.{unbind_passed}
 use Rattle.memory_rows.proofs.FramesFollow.{pins_moved, translated_same}
 use Rattle.file_events.proofs.SpacesGone.{areas-removed, areas_stay, found_without}
-use Rattle.object_table.specs.Table.{Table, destroy_refusal, is_at, removed}
+use Rattle.object_table.specs.Table.{Row, Table, destroy_refusal, is_at, removed}
 use Rattle.object_table.specs.declared.kind.Kind.TheVariants as of_kind
 use Rattle.server_state.proofs.Bindings.{are_left}
 use Rattle.server_state.proofs.ObjectsGone.{may_go, objects-removed}
 use Rattle.file_events.proofs.TablesLeft.{among_stay}
+use Rattle.server_state.proofs.Counted.{other_goes, over_spaces}
 use Rattle.server_state.proofs.TableRows.{areas_of_other}
 use Rattle.server_state.specs.Devices.{are_bindings}
 use Rattle.server_state.specs.Held.{areas_at, is_proper, object_of, objects_in}
 use Rattle.server_state.specs.Shows.{Shows}
 use Rattle.server_state.specs.Step.{IsTidy}
+use Rattle.server_state.specs.Users.{tables_over, users_at}
 use Rattle.server_state.specs.declared.held.Held.{Held}
 use Rattle.server_state.specs.declared.state.State.{State}
 
@@ -147,8 +149,11 @@ module _ {A : Type 0} where
   shows_unbound at w s file id device table bindings tidy shows is_kind goes files left =
       let of_world = in_world w s file id (Some (kind.Device device)) shows is_kind in
       let left_objects = without_device_object file id w.objects in
-      let rows = goes (may_go s.objects file id (kind.Device device) shows.objects.proper is_kind) in
       let no_space = ap (λ (o : Option ObjectKind). elim o [ Some k ↦ is_ioas k | None ↦ false ]) is_kind in
+      let no_space_w = ap (λ (o : Option ObjectKind). elim o [ Some k ↦ is_ioas k | None ↦ false ]) of_world in
+      let none_over = over_spaces w.objects file id tidy.debts.spaces no_space_w in
+      let rows = goes (may_go s.objects file id (kind.Device device) shows.objects.proper is_kind
+      (shows.objects.counted file id ∙ none_over)) in
       let empty = shows.objects.spaces file id ∙ areas_of_other s.objects.rows file id no_space in
       record {
         settings = shows.settings;
@@ -164,6 +169,11 @@ module _ {A : Type 0} where
               ∙ areas-removed w.areas s.objects.rows file id shows.objects.spaces f i
               ∙ ap (λ l. areas_at l f i) (sym rows);
           files = λ number. rw files (shows.objects.files number);
+          counted = λ f i. ap (λ (l : List (Row (Held A))). users_at l f i) rows
+              ∙ other_goes w.objects s.objects.rows shows.objects.counted file id (kind.Device device) tidy.ids of_world
+              refl none_over f i
+              ∙ ap (λ (l : List Object). tables_over l f i) (sym (only_device w.objects file id device tidy.ids
+              of_world));
         };
         devices = record {
           bindings =

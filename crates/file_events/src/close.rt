@@ -1,7 +1,7 @@
 //! Close: a file goes, with all that it has.
 
 ghost use Rattle.std.specs.Prelude.{◌≡◌, ◌≤◌, ◌-◌, ℕ, not, ◌==◌, filter, length, Option, None, [], IfOk, OnErr, OnOk};
-ghost use Rattle.std.specs.Prelude.{vec_capacity, vec_len};
+ghost use Rattle.std.specs.Prelude.{IsTrue, vec_capacity, vec_len};
 ghost use Rattle.std.specs.List.{list_any};
 ghost use Rattle.iofd_words.specs.Checks.{close_checks};
 ghost use Rattle.iofd_words.specs.FirstTrue.{first_true};
@@ -17,7 +17,7 @@ ghost use Rattle.memory_rows.specs.Moves.{IsReleased, MayRelease};
 ghost use Rattle.memory_rows.specs.Shown.{over};
 ghost use Rattle.server_state.specs.Seen.{seen};
 ghost use Rattle.server_state.specs.Step.{IsGranted, IsKnown, MovingSteps, ShowsSame};
-ghost use Rattle.server_state.specs.Tables.{page_tables_among};
+ghost use Rattle.server_state.specs.Tables.{has_page_tables, page_tables_among};
 
 use frame_memory::Pool;
 use hwpt_device::PageTables;
@@ -58,7 +58,7 @@ fn is_device<A: Allocator>(held: &Held<A>) -> bool
 /// their memory objects and the pins of their pages. Its page tables give the frames of their tables back, which are
 /// listed by rising number.
 ///
-/// The only error is want of memory for that list. It leaves the world as it was.
+/// The only error is want of memory for that list, where there are page tables. It leaves the world as it was.
 pub fn commit<A: Allocator>(
     state: &mut State<A>,
     file: FileNo,
@@ -70,6 +70,7 @@ pub fn commit<A: Allocator>(
         MovingSteps at (event.Close file) via state.old reply [] given.new.items state.new) }
     ensures err { OnErr result (ShowsSame state.old state.new) }
     ensures none_err { OnErr result (given.new.items ≡ []) }
+    ensures memory { OnErr result (IsTrue (has_page_tables (objects_in state.old.objects) file)) }
 {
     reserve_given(state, file, given)?;
     state.allowed.remove_file(file);
@@ -87,6 +88,7 @@ pub fn commit<A: Allocator>(
 }
 
 /// Takes memory for the numbers of the frames that the file's page tables give back where they go. None are listed yet.
+/// Memory may be wanting only where there are page tables.
 fn reserve_given<A: Allocator>(
     state: &State<A>,
     file: FileNo,
@@ -96,6 +98,7 @@ fn reserve_given<A: Allocator>(
     ensures same { given.new.items ≡ given.old.items }
     ensures room { OnOk result (IfAllStand state.now.pool state.now.page_tables.tables (λ frames leads.
         length (rows_of_file frames file state.now.page_tables.tables) ≤ vec_capacity given.new - vec_len given.new)) }
+    ensures memory { OnErr result (IsTrue (has_page_tables (objects_in state.now.objects) file)) }
 {
     let count = frames_of(state, file);
     given.reserve(count as usize)?;

@@ -1,18 +1,20 @@
 //! Destroy: an object of a file goes.
 
-ghost use Rattle.std.specs.Prelude.{◌≡◌, ℕ, Option, Some, None, [], IfOk, OnErr};
+ghost use Rattle.std.specs.Prelude.{◌≡◌, ℕ, Option, Some, None, [], IfOk, IsTrue, OnErr};
 ghost use Rattle.iofd_words.specs.Attachments.{has_device_on};
 ghost use Rattle.iofd_words.specs.Checks.{destroy_checks, is_device_object, is_used};
 ghost use Rattle.iofd_words.specs.FirstTrue.{first_true};
 ghost use Rattle.iofd_words.specs.declared.event.Event.TheVariants as event;
 ghost use Rattle.iofd_words.specs.declared.numbers.FrameNo.{FrameNo};
 ghost use Rattle.object_table.specs.Table.{destroy_refusal, removed};
+ghost use Rattle.server_state.specs.Held.{objects_in};
 ghost use Rattle.server_state.specs.Seen.{seen};
 ghost use Rattle.server_state.specs.Step.{IsGranted, IsKnown, MovingSteps, ShowsSame};
+ghost use Rattle.server_state.specs.Tables.{has_page_table};
 
 use iofd_words::{Attachment, Cause, FileNo, FrameNo, NoMemory, ObjId, ObjectKind, Reply};
 use object_table::{Kind, ObjectTable};
-use server_state::{Held, State, lookups, release};
+use server_state::{Held, State, counts, lookups, release};
 use std::alloc::Allocator;
 
 /// Why it is refused, by the first row of the definitions that holds. None where nothing refuses it.
@@ -66,7 +68,7 @@ fn is_device(kind: ObjectKind) -> bool
 /// memory objects, of which no page is pinned. A page table gives the frames of its tables back, which are listed by
 /// rising number, and with the last one over an address space the pins of its areas' pages go.
 ///
-/// The only error is want of memory for that list. It leaves the world as it was.
+/// The only error is want of memory for that list, where it is a page table. It leaves the world as it was.
 pub fn commit<A: Allocator>(
     state: &mut State<A>,
     file: FileNo,
@@ -79,6 +81,7 @@ pub fn commit<A: Allocator>(
         MovingSteps at (event.Destroy file id) via state.old reply [] given.new.items state.new) }
     ensures err { OnErr result (ShowsSame state.old state.new) }
     ensures none_err { OnErr result (given.new.items ≡ []) }
+    ensures memory { OnErr result (IsTrue (has_page_table (objects_in state.old.objects) file id)) }
 {
     state.reserve_given(file, id, given)?;
     state.allowed.remove(file, id);
@@ -96,6 +99,7 @@ pub fn commit<A: Allocator>(
             remove(&mut state.objects, file, Kind::Ioas, id);
         }
         Some(ObjectKind::Hwpt { ioas, .. }) => {
+            counts::table_goes(&mut state.objects, file, ioas);
             remove(&mut state.objects, file, Kind::Hwpt, id);
             state.page_tables.remove(&mut state.pool, file, id, given);
             if !state.page_tables.has_over(file, ioas) {

@@ -16,6 +16,7 @@ pub mod NeverRefused
 pub mod PinnedFirst
 pub mod Placed
 pub mod RootAdded
+pub mod SpaceCounted
 pub mod TableMade
 pub mod TablesInTurn
 pub mod TakenAlone

@@ -14,6 +14,7 @@ use Rattle.server_state.specs.Held.{areas_at, is_proper, object_of}
 use Rattle.server_state.specs.Leads.{leads_of}
 use Rattle.server_state.specs.Shows.{Shows, TablesShown}
 use Rattle.server_state.specs.Tables.{has_own_width}
+use Rattle.server_state.specs.Users.{users_at}
 use Rattle.server_state.specs.declared.held.Held.{Held}
 use Rattle.server_state.specs.declared.state.State.{State}
 use Rattle.user_memory.specs.Memory.{Memory, reached}
@@ -44,6 +45,7 @@ module _ {A : Type 0} where
           proper = ap (list_all is_proper) rows ∙ shows.objects.proper;
           spaces = λ f i. shows.objects.spaces f i ∙ ap (λ (l : List (Row (Held A))). areas_at l f i) (sym rows);
           files = λ number. rw files (shows.objects.files number);
+          counted = λ f i. ap (λ (l : List (Row (Held A))). users_at l f i) rows ∙ shows.objects.counted f i;
         };
         devices = shows.devices;
         users = shows.users;

@@ -28,7 +28,7 @@ use iofd_words::{
     Width,
 };
 use object_table::{Kind, ObjectTable};
-use server_state::{Held, State, accounts, area_changes, lookups};
+use server_state::{Held, State, accounts, area_changes, counts, lookups};
 use std::alloc::Allocator;
 use user_memory::UserMemory;
 
@@ -68,6 +68,7 @@ pub(crate) fn make<A: Allocator + Copy>(
         &mut state.memory,
         &mut state.pool,
     )?;
+    counts::table_comes(&mut state.objects, file, ioas);
     let table = held_table(ioas, width, automatic);
     let id = state.objects.insert_reserved(file, Kind::Hwpt, table);
     filling::add(

@@ -3,6 +3,7 @@
 ghost use Rattle.std.specs.Prelude.{◌≡◌, None, [], IfOk, IsTrue, OnErr};
 ghost use Rattle.iofd_words.specs.Checks.{checks};
 ghost use Rattle.iofd_words.specs.FirstTrue.{first_true};
+ghost use Rattle.server_state.specs.Held.{objects_in};
 ghost use Rattle.server_state.specs.Seen.{seen};
 ghost use Rattle.iommufd_core.specs.Server.{takes_memory};
 ghost use Rattle.server_state.specs.Step.{Answered, IsCalled, IsGrantedFor, IsKnown, MovingSteps, TidyShowsSame};
@@ -32,7 +33,7 @@ pub(crate) fn answer<A: Allocator + Copy>(
         Answered at act.now.event act.now.via state.old reply taken.new.items given.new.items state.new) }
     ensures err { OnErr result (TidyShowsSame at state.old state.new) }
     ensures memory { OnErr result ((first_true (checks (seen state.old) act.now.event) ≡ None)
-        × IsTrue (takes_memory act.now.event)) }
+        × IsTrue (takes_memory (objects_in state.old.objects) act.now.event)) }
 {
     match refusal(state, &act.event) {
         Some(cause) => Ok(Reply::Refused(Refusal { cause })),
@@ -84,7 +85,7 @@ fn commit<A: Allocator + Copy>(
     ensures ok { IfOk result (λ reply.
         MovingSteps at act.now.event act.now.via state.old reply taken.new.items given.new.items state.new) }
     ensures err { OnErr result (TidyShowsSame at state.old state.new) }
-    ensures memory { OnErr result (IsTrue (takes_memory act.now.event)) }
+    ensures memory { OnErr result (IsTrue (takes_memory (objects_in state.old.objects) act.now.event)) }
 {
     match &act.event {
         Event::IoasAlloc(file) => ioas_alloc::commit(state, *file),

@@ -76,6 +76,7 @@ module _ {A : Type 0} where
           spaces = areas_become w.areas w s file ioas (areas_at s.objects.rows file ioas) table shows has
               (shows.objects.spaces file ioas) (λ f i other. refl);
           files = λ number. rw has.files (shows.objects.files number);
+          counted = λ f i. has.users f i ∙ shows.objects.counted f i;
         };
         devices = shows.devices;
         users = shows.users;
@@ -119,6 +120,7 @@ module _ {A : Type 0} where
         here = last.here ∙ ap (own.with_area added) first.here;
         others = λ f i other. last.others f i other ∙ first.others f i other;
         files = last.files ∙ first.files;
+        users = λ f i. last.users f i ∙ first.users f i;
       }
 
   -- the address space has the area now
@@ -138,6 +140,7 @@ module _ {A : Type 0} where
             (with_area_own added w.areas ∙ ap (own.with_area added) (shows.objects.spaces added.file added.ioas))
             (λ f i other. with_area_other added w.areas f i (not_of added f i other));
         files = λ number. rw has.files (shows.objects.files number);
+        counted = λ f i. has.users f i ∙ shows.objects.counted f i;
       }
 
 -- ---- where nothing refuses its place

@@ -222,6 +222,7 @@ module _ {A : Type 0} where
                     (shows.objects.spaces file request.ioas))
                     (leaving_other file request devices w.areas);
                 files = λ number. rw has.files (shows.objects.files number);
+                counted = λ f i. has.users f i ∙ shows.objects.counted f i;
               };
               devices = shows.devices;
               limits = shows.limits;
@@ -366,6 +367,7 @@ module _ {A : Type 0} where
                       ∙ ap (areas_outside (unmapped_span request)) (shows.objects.spaces file request.ioas))
                       (left_other file request w.areas);
                   files = λ number. rw has.files (shows.objects.files number);
+                  counted = λ f i. has.users f i ∙ shows.objects.counted f i;
                 };
                 devices = shows.devices;
                 users = shown.users;

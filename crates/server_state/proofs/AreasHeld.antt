@@ -1,5 +1,5 @@
 -- What a change of one address space's areas leaves as it was.
-use Rattle.std.proofs.Common.{◌≡◌, Bool, true, false, cond, ◌&&◌, not, eqb, Some, None, List, [], ◌∷◌, map, refl, sym}
+use Rattle.std.proofs.Common.{◌≡◌, Bool, true, false, cond, ◌&&◌, not, Some, None, List, [], ◌∷◌, map, refl, sym}
 use Rattle.std.proofs.Common.{◌∙◌, ap, arith}
 use Rattle.std.specs.List.{find, list_all, list_any}
 use Rattle.std.specs.Option.{option_map}
@@ -11,8 +11,9 @@ use Rattle.iofd_words.specs.declared.numbers.FileNo.{FileNo}
 use Rattle.iofd_words.specs.declared.numbers.ObjId.{ObjId}
 use Rattle.iofd_words.specs.declared.rows.Area.{Area}
 use Rattle.iofd_words.specs.declared.rows.Object.{Object}
-use Rattle.server_state.specs.Held.{is_proper, areas_at, areas_in, kind_in, object_of, objects_in, table_kind}
+use Rattle.server_state.specs.Held.{is_proper, areas_at, areas_in, kind_in, object_of, objects_in}
 use Rattle.server_state.specs.Spaces.{IsOrderly, IsWith, HasAreas, is_space}
+use Rattle.server_state.specs.Users.{users_at}
 use Rattle.server_state.specs.declared.held.Held.{Held}
 use Rattle.server_state.specs.declared.held.Held.TheVariants as held
 use Rattle.server_state.proofs.Objects.{areas_at_rows, areas_of_held, kind_at, kind_of_rows}
@@ -98,6 +99,27 @@ module _ {A : Type 0} where
           rw is (ap Some (first_there row rows file kind id old is (none_own rows file kind id others) found))
       by_test false is none later = rw is (later (rw (not_first row rows file kind id is) at found))
 
+  -- and so is the whole row
+  pub found_first : (rows : List (Row (Held A))) (file : FileNo) (kind : Kind) (id : ObjId) (found : Row (Held A))
+      → have_own_ids (map object_of rows) ≡ true → find (is_own file kind id) rows ≡ Some found
+      → find (is_at file id) rows ≡ Some found
+  found_first [] file kind id found ids is = cc
+  found_first (row ∷ rows) file kind id found ids is =
+      let owns = and_true (not (list_any (is_object row.file row.id) (map object_of rows)))
+      (have_own_ids (map object_of rows)) ids in
+      by_tests (is_at file id row) (is_same_kind row.kind kind) refl (not_true _ owns.0) is
+      (λ later. found_first rows file kind id found owns.1 later)
+    where
+      by_tests : (b k : Bool) → is_at file id row ≡ b
+          → list_any (is_object row.file row.id) (map object_of rows) ≡ false
+          → cond (b && k) (Some row) (find (is_own file kind id) rows) ≡ Some found
+          → (find (is_own file kind id) rows ≡ Some found → find (is_at file id) rows ≡ Some found)
+          → find (is_at file id) (row ∷ rows) ≡ Some found
+      by_tests true true here none is later = rw here is
+      by_tests true false here none is later =
+          let no = none_own rows file kind id (sym (same_at row file id (map object_of rows) here) ∙ none) in cc
+      by_tests false k here none is later = rw here (later is)
+
   areas_here : (rows : List (Row (Held A))) (file : FileNo) (id : ObjId) (old new : Held A)
       → option_map (λ (row : Row (Held A)). row.value) (find (is_at file id) rows) ≡ Some old
       → areas_at (changed_at file id (with_value new) rows) file id ≡ areas_in new
@@ -143,6 +165,22 @@ module _ {A : Type 0} where
       by_test false is none proper rest later =
           rw (is, proper) (later (rw (not_first row rows file kind id is) at found))
 
+  -- what an object holds isn't how many use it
+  users_kept : (rows : List (Row (Held A))) (file : FileNo) (id : ObjId) (new : Held A) (f : FileNo) (i : ObjId)
+      → users_at (changed_at file id (with_value new) rows) f i ≡ users_at rows f i
+  users_kept [] file id new f i = refl
+  users_kept (row ∷ rows) file id new f i =
+      by_test (is_at file id row) (is_at f i row) refl (users_kept rows file id new f i)
+    where
+      by_test : (b c : Bool) → is_at f i row ≡ c
+          → users_at (changed_at file id (with_value new) rows) f i ≡ users_at rows f i
+          → users_at (cond b (with_value new row) row ∷ changed_at file id (with_value new) rows) f i
+          ≡ users_at (row ∷ rows) f i
+      by_test true true is rest = rw (is, users_at) refl
+      by_test true false is rest = rw (is, users_at) rest
+      by_test false true is rest = rw (is, users_at) refl
+      by_test false false is rest = rw (is, users_at) rest
+
   -- an object's areas are changed: the objects stay, and so do all other areas
   pub written : (table : Table (Held A)) (file : FileNo) (kind : Kind) (ioas : ObjId) (old new : Held A)
       (areas : List Area) → IsOrderly table → option_map (λ (row : Row (Held A)). row.value) (own table file kind ioas)
@@ -156,13 +194,21 @@ module _ {A : Type 0} where
             ∙ with.has;
         others = λ f i other. areas_elsewhere table.rows file ioas new f i other;
         files = refl;
+        users = λ f i. users_kept table.rows file ioas new f i;
       }
 
   -- nothing is changed
   pub unwritten : (table : Table (Held A)) (file : FileNo) (ioas : ObjId) (areas : List Area) → IsOrderly table
       → areas_at table.rows file ioas ≡ areas → HasAreas file ioas areas table table
   unwritten table file ioas areas orderly same =
-      record { objects = refl; proper = orderly.proper; here = same; others = λ f i other. refl; files = refl }
+      record {
+        objects = refl;
+        proper = orderly.proper;
+        here = same;
+        others = λ f i other. refl;
+        files = refl;
+        users = λ f i. refl;
+      }
 
   -- the areas of what was found
   pub areas_found : (table : Table (Held A)) (file : FileNo) (kind : Kind) (ioas : ObjId) (old : Held A)
@@ -175,8 +221,7 @@ module _ {A : Type 0} where
   no_areas : (row : Row (Held A)) (held : Held A) → row.value ≡ held → is_proper row ≡ true
       → is_same_kind row.kind tablekind.Ioas ≡ false → areas_in held ≡ []
   no_areas row (held.Ioas areas) is proper other =
-      let parts = and_true (is_same_kind row.kind (table_kind (kind_in row.value))) (eqb row.users 0) proper in
-      let same = rw is at parts.0 in
+      let same = rw is at proper in
       absurd (differ (sym other ∙ same))
     where
       differ : false ≡ true → ⊥
@@ -234,8 +279,7 @@ module _ {A : Type 0} where
   no_ioas : (row : Row (Held A)) (held : Held A) → row.value ≡ held → is_proper row ≡ true
       → is_same_kind row.kind tablekind.Ioas ≡ false → is_ioas (kind_in held) ≡ false
   no_ioas row (held.Ioas areas) is proper other =
-      let parts = and_true (is_same_kind row.kind (table_kind (kind_in row.value))) (eqb row.users 0) proper in
-      let same : is_same_kind row.kind tablekind.Ioas ≡ true = rw is at parts.0 in
+      let same : is_same_kind row.kind tablekind.Ioas ≡ true = rw is at proper in
       cc
   no_ioas row (held.Hwpt ioas width automatic) is proper other = refl
   no_ioas row (held.Device device) is proper other = refl

@@ -1,6 +1,7 @@
 pub mod AreasBecome
 pub mod AreasHeld
 pub mod Bindings
+pub mod Counted
 pub mod Errors
 pub mod FewTables
 pub mod FreeAlike
@@ -29,4 +30,5 @@ pub mod TablesTold
 pub mod TablesUnreached
 pub mod TakenShown
 pub mod Users
+pub mod UsersTold
 pub mod ViewShown

@@ -17,10 +17,12 @@ use Rattle.iofd_rows.proofs.PageTables.{same_hwpt}
 use Rattle.memory_rows.proofs.FramesFollow.{pins_moved, translated_same}
 use Rattle.server_state.proofs.Objects.{kind_at, kind_of_rows}
 use Rattle.server_state.proofs.PageTables.{over_no_other}
+use Rattle.server_state.proofs.Counted.{over-beside, users-inserted}
 use Rattle.server_state.specs.Devices.{are_bindings}
 use Rattle.server_state.specs.Held.{is_proper, areas_at, areas_in, object_of}
 use Rattle.server_state.specs.Shows.{Shows}
 use Rattle.server_state.specs.Tables.{page_tables_among}
+use Rattle.server_state.specs.Users.{users_at}
 use Rattle.server_state.specs.declared.held.Held.{Held}
 use Rattle.server_state.specs.declared.state.State.{State}
 use Rattle.object_table.specs.Table.{Row, Table, inserted, is_at, is_of_file, stands_before}
@@ -87,7 +89,8 @@ module _ {A : Type 0} where
 
   -- one that no other id is like, in its file
   pub shows_inserted : (w : World) (s : State A) (row : Row (Held A)) (table : Table (Held A)) (bindings : Vec Object A)
-      → Shows w s → is_proper row ≡ true → areas_in row.value ≡ [] → find (is_at row.file row.id) s.objects.rows ≡ None
+      → Shows w s → is_proper row ≡ true → row.users ≡ 0 → areas_in row.value ≡ []
+      → find (is_at row.file row.id) s.objects.rows ≡ None
       → is_hwpt (object_of row).kind ≡ false
       → table.rows ≡ inserted row s.objects.rows → table.files ≡ s.objects.files
       → ((device : DeviceNo) → binding_of (with_object (object_of row) w.objects) device ≡ find
@@ -95,7 +98,7 @@ module _ {A : Type 0} where
       → are_bindings bindings.items ≡ true
       → Shows (record w { objects = with_object (object_of row) w.objects })
       (record s { objects = table; bindings = bindings })
-  shows_inserted w s row table bindings shows proper none unused no_table rows files bound rising =
+  shows_inserted w s row table bindings shows proper no_users none unused no_table rows files bound rising =
       record {
         settings = shows.settings;
         objects = record {
@@ -105,6 +108,9 @@ module _ {A : Type 0} where
           spaces = λ file id. shows.objects.spaces file id ∙ sym (areas-inserted row s.objects.rows file id none unused)
               ∙ ap (λ l. areas_at l file id) (sym rows);
           files = λ number. rw files (shows.objects.files number);
+          counted = λ f i. ap (λ l. users_at l f i) rows ∙ users-inserted row s.objects.rows f i no_users unused
+              ∙ shows.objects.counted f i
+              ∙ sym (over-beside (object_of row) w.objects f i no_table);
         };
         devices = record { bindings = bound; rising = rising; attached = shows.devices.attached };
         limits = shows.limits;

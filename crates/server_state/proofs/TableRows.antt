@@ -14,6 +14,7 @@ use Rattle.iofd_rows.proofs.Bools.{and_true}
 use Rattle.iofd_rows.proofs.Found.{find-filter, none_both}
 use Rattle.iofd_rows.proofs.Named.{file_is, id_is}
 use Rattle.server_state.specs.Held.{areas_at, areas_in, is_proper, object_of, objects_in}
+use Rattle.server_state.specs.Users.{users_at}
 use Rattle.server_state.specs.declared.held.Held.{Held}
 use Rattle.server_state.specs.declared.held.Held.TheVariants as held
 use Rattle.server_state.proofs.Objects.{areas_at_rows, areas_of_held, has_ioas_rows, is_space, value_at}
@@ -39,7 +40,7 @@ module _ {A : Type 0} where
   abbrev areas_of_row : Option (Row (Held A)) → List Area
   areas_of_row o = elim o [ Some row ↦ areas_in row.value | None ↦ [] ]
 
-  none_removed : (rows : List (Row (Held A))) (file : FileNo) (id : ObjId)
+  pub none_removed : (rows : List (Row (Held A))) (file : FileNo) (id : ObjId)
       → find (is_at file id) (removed file id rows) ≡ None
   none_removed [] file id = refl
   none_removed (row ∷ rows) file id = by_test (is_at file id row) refl (none_removed rows file id)
@@ -75,6 +76,7 @@ module _ {A : Type 0} where
   -- a page table may be destroyed
   pub destroyable : (table : Table (Held A)) (file : FileNo) (id ioas : ObjId) (width : Width) (automatic : Bool)
       → list_all is_proper table.rows ≡ true → kind_of (objects_in table) file id ≡ Some
-      (kind.Hwpt ioas width automatic) → destroy_refusal table file of_kind.Hwpt id ≡ None
-  destroyable table file id ioas width automatic proper is =
-      may_go table file id (kind.Hwpt ioas width automatic) proper is
+      (kind.Hwpt ioas width automatic) → users_at table.rows file id ≡ 0
+      → destroy_refusal table file of_kind.Hwpt id ≡ None
+  destroyable table file id ioas width automatic proper is none =
+      may_go table file id (kind.Hwpt ioas width automatic) proper is none

@@ -1,5 +1,5 @@
 -- What the objects of a table are in the world.
-use Rattle.std.specs.Prelude.{ℕ, Bool, ◌==◌, ◌&&◌, Option, Some, None, List, [], find, map}
+use Rattle.std.specs.Prelude.{ℕ, Bool, Option, Some, None, List, [], find, map}
 use Rattle.iofd_words.specs.Attachments.{ioas_of_attachment}
 use Rattle.iofd_words.specs.declared.numbers.FileNo.{FileNo}
 use Rattle.iofd_words.specs.declared.numbers.ObjId.{ObjId}
@@ -42,9 +42,9 @@ module _ {A : Type 0} where
   abbrev pub object_of : Row (Held A) → Object
   object_of row = record { file = row.file; id = row.id; kind = kind_in row.value }
 
-  -- it stands under its kind; nobody counts its users
+  -- it stands under its kind
   abbrev pub is_proper : Row (Held A) → Bool
-  is_proper row = is_same_kind row.kind (table_kind (kind_in row.value)) && row.users == 0
+  is_proper row = is_same_kind row.kind (table_kind (kind_in row.value))
 
   -- the areas of the address space of this id; of another object none
   abbrev pub areas_at : List (Row (Held A)) → FileNo → ObjId → List Area

@@ -10,3 +10,4 @@ pub mod Shows
 pub mod Spaces
 pub mod Step
 pub mod Tables
+pub mod Users

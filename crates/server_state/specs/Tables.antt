@@ -1,8 +1,11 @@
 -- The page tables, kept beside the other objects.
-use Rattle.std.specs.Prelude.{Bool, false, ◌==◌, List, filter}
+use Rattle.std.specs.Prelude.{Bool, false, ◌==◌, ◌&&◌, List, filter}
+use Rattle.std.specs.List.{list_any}
 use Rattle.hwpt_device.specs.PageTables.{Hwpt}
-use Rattle.iofd_words.specs.Objects.{is_hwpt}
+use Rattle.iofd_words.specs.Objects.{is_hwpt, is_object}
 use Rattle.iofd_words.specs.Width.{bits_of}
+use Rattle.iofd_words.specs.declared.numbers.FileNo.{FileNo}
+use Rattle.iofd_words.specs.declared.numbers.ObjId.{ObjId}
 use Rattle.iofd_words.specs.declared.rows.Object.{Object}
 use Rattle.iofd_words.specs.declared.rows.ObjectKind.{ObjectKind}
 use Rattle.iofd_words.specs.declared.rows.ObjectKind.TheVariants as kind
@@ -11,6 +14,14 @@ use Rattle.iofd_words.specs.declared.width.Width.{Width}
 -- those among the objects, in their order
 abbrev pub page_tables_among : List Object → List Object
 page_tables_among objects = filter (λ object. is_hwpt object.kind) objects
+
+-- the file has a page table of this id
+abbrev pub has_page_table : List Object → FileNo → ObjId → Bool
+has_page_table objects file id = list_any (λ object. is_object file id object && is_hwpt object.kind) objects
+
+-- the file has some page table
+abbrev pub has_page_tables : List Object → FileNo → Bool
+has_page_tables objects file = list_any (λ object. object.file.0 == file.0 && is_hwpt object.kind) objects
 
 -- a page table of this width
 abbrev pub is_hwpt_of : Width → ObjectKind → Bool

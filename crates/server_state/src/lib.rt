@@ -6,6 +6,7 @@ pub mod accesses;
 pub mod accounts;
 pub mod addresses;
 pub mod area_changes;
+pub mod counts;
 pub mod devices;
 pub mod frames;
 mod held;

@@ -15,7 +15,7 @@ use crate::held::Held;
 use crate::state::State;
 use area_map::Areas;
 use iofd_words::{Attachment, DeviceNo, FileNo, ObjId, Object, ObjectKind, Width};
-use object_table::{ObjectRef, ObjectTable};
+use object_table::{Kind, ObjectRef, ObjectTable};
 use std::alloc::Allocator;
 
 /// What the object is.
@@ -139,7 +139,10 @@ impl<A: Allocator> State<A> {
         requires { IsKnown self.now }
         ensures { result ≡ objects.has_hwpt (objects_in self.now.objects) file ioas }
     {
-        self.page_tables.has_over(file, ioas)
+        match self.objects.users(file, Kind::Ioas, ioas) {
+            Ok(users) => users > 0,
+            Err(_) => false,
+        }
     }
 
     /// The attachment of the device.

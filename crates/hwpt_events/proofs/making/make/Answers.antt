@@ -1,4 +1,5 @@
-use Rattle.std.proofs.Common.{◌≡◌, ◌-◌, ℕ, List, false, length, refl, sym, ◌∙◌, ap, subst, arith, vec_capacity, vec_len}
+use Rattle.std.proofs.Common.{◌≡◌, ◌-◌, ℕ, List, false, IsSome, length, refl, sym, ◌∙◌, ap, subst, arith, vec_capacity}
+use Rattle.std.proofs.Common.{vec_len}
 use Rattle.frame_memory.specs.Pool.{least_free}
 use Rattle.hwpt_device.specs.PageTables.{hwpt_at, with_hwpt}
 use Rattle.iofd_runs.proofs.TableCounts.{no_kind}
@@ -13,7 +14,7 @@ use Rattle.iofd_words.specs.declared.rows.Object.{Object}
 use Rattle.server_state.proofs.Errors.{on_err_same}
 use Rattle.server_state.specs.Mapping.{own_areas}
 use Rattle.server_state.specs.declared.state.State.{State}
-use Rattle.object_table.specs.Table.{inserted}
+use Rattle.object_table.specs.Table.{Table, inserted, reserved_id}
 use Rattle.object_table.specs.declared.kind.Kind.TheVariants as of_kind
 use Rattle.server_state.specs.declared.held.Held.{Held}
 use Rattle.hwpt_events.proofs.AreasOwn.{fresh_there, objects_made, own_still, row_of}
@@ -22,6 +23,7 @@ use Rattle.hwpt_events.proofs.Made.{reserved_unseen, shows_stayed}
 use Rattle.hwpt_events.proofs.MayAdd.{can_add, free_there, leads_none, no_row, pinned_more}
 use Rattle.hwpt_events.proofs.PinnedFirst.{leads_yet, stand_yet}
 use Rattle.hwpt_events.proofs.RootAdded.{of_some, takes_one}
+use Rattle.hwpt_events.proofs.SpaceCounted.{counts_one}
 use Rattle.hwpt_events.proofs.TableMade.{are_chosen, as_many_taken, made_shown}
 use Rattle.hwpt_events.proofs.NeverRefused.{never_userless}
 use Rattle.hwpt_events.specs.Filling.{Adds, CanAdd}
@@ -66,6 +68,11 @@ returns-in_err-pin_space-clause-err g c =
     (reserved_unseen w c.args.state.now c.reserve.new.state c.reserve.ensures.rows c.reserve.ensures.files
     c.reserve.ensures.tables c.reserve.ensures.others shows))
 
+pub insert_reserved-id-requires : goal.insert_reserved-id-requires
+insert_reserved-id-requires g c =
+    let HasRoom = λ (t : Table _). IsSome (reserved_id t c.args.file) in
+    subst HasRoom (sym c.table_comes.ensures.others) c.in_ok-reserve.ensures.object_room
+
 pub add-requires-clause-can : goal.add-requires-clause-can
 add-requires-clause-can g c =
     let w = c.requires.may.world in
@@ -76,18 +83,23 @@ add-requires-clause-can g c =
     c.reserve.ensures.tables c.reserve.ensures.others c.requires.may.shows in
     let table = c.insert_reserved-id.new.self in
     let range = c.insert_reserved-id.ensures.in_range in
+    let base = c.table_comes.new.table in
+    let one = counts_one w s c.args.file c.args.ioas c.args.width base shows c.requires.may.may
+    c.table_comes.ensures.rows in
+    let base_files = ap (λ (t : Table _). t.files) c.table_comes.ensures.others in
     let fresh = fresh_there c.requires.may.at w s tidy shows c.args.file c.args.ioas id c.args.width c.args.automatic
-    table c.insert_reserved-id.ensures.unused range.0 range.1 in
-    let rows : table.rows ≡ inserted (row_of c.args.file c.args.ioas id c.args.width c.args.automatic) s.objects.rows =
+    table base one c.insert_reserved-id.ensures.unused range.0 range.1 in
+    let rows : table.rows ≡ inserted (row_of c.args.file c.args.ioas id c.args.width c.args.automatic) base.rows =
     c.insert_reserved-id.ensures.rows ∙ ap (λ (value : Held _). inserted (record {
       file = c.args.file;
       id = id;
       kind = of_kind.Hwpt;
       users = 0;
       value = value;
-    }) s.objects.rows) c.held_table-table.ensures in
+    }) base.rows) c.held_table-table.ensures in
     let own = own_still c.requires.may.at w s tidy shows c.args.file c.args.ioas id c.args.width c.args.automatic table
-    c.insert_reserved-id.ensures.unused range.0 range.1 rows c.insert_reserved-id.ensures.files in
+    base one c.insert_reserved-id.ensures.unused range.0 range.1 rows
+    (c.insert_reserved-id.ensures.files ∙ base_files) in
     let more = pinned_more c.requires.may.at w s tidy shows c.args.file c.args.ioas c.pin_space.new.memory
     c.pin_space.new.pool c.in_ok-pin_space.ensures.ok in
     let few = c.in_ok-reserve.ensures.frame_room in
@@ -118,20 +130,23 @@ returns-clause-ok g c =
     let object = made_object c.args.file c.args.ioas id c.args.width c.args.automatic in
     let shows = reserved_unseen w c.args.state.now s c.reserve.ensures.rows c.reserve.ensures.files
     c.reserve.ensures.tables c.reserve.ensures.others shows_old in
-    let fresh = fresh_there at w s tidy shows c.args.file c.args.ioas id c.args.width c.args.automatic table
+    let base = c.table_comes.new.table in
+    let one = counts_one w s c.args.file c.args.ioas c.args.width base shows roomy c.table_comes.ensures.rows in
+    let files = c.insert_reserved-id.ensures.files ∙ ap (λ (t : Table _). t.files) c.table_comes.ensures.others in
+    let fresh = fresh_there at w s tidy shows c.args.file c.args.ioas id c.args.width c.args.automatic table base one
     unused range.0 range.1 in
-    let rows : table.rows ≡ inserted (row_of c.args.file c.args.ioas id c.args.width c.args.automatic) s.objects.rows =
+    let rows : table.rows ≡ inserted (row_of c.args.file c.args.ioas id c.args.width c.args.automatic) base.rows =
     c.insert_reserved-id.ensures.rows ∙ ap (λ (value : Held _). inserted (record {
       file = c.args.file;
       id = id;
       kind = of_kind.Hwpt;
       users = 0;
       value = value;
-    }) s.objects.rows) c.held_table-table.ensures in
-    let objects = objects_made at w s tidy shows c.args.file c.args.ioas id c.args.width c.args.automatic table unused
-    range.0 range.1 rows c.insert_reserved-id.ensures.files in
-    let own = own_still at w s tidy shows c.args.file c.args.ioas id c.args.width c.args.automatic table unused range.0
-    range.1 rows c.insert_reserved-id.ensures.files in
+    }) base.rows) c.held_table-table.ensures in
+    let objects = objects_made at w s tidy shows c.args.file c.args.ioas id c.args.width c.args.automatic table base one
+    unused range.0 range.1 rows files in
+    let own = own_still at w s tidy shows c.args.file c.args.ioas id c.args.width c.args.automatic table base one unused
+    range.0 range.1 rows files in
     let more = pinned_more at w s tidy shows c.args.file c.args.ioas after pool c.in_ok-pin_space.ensures.ok in
     let few = free_there at w s tidy shows c.args.file c.args.ioas id c.args.width c.args.automatic roomy
     fresh after pool more in

@@ -1,6 +1,8 @@
-use Rattle.std.proofs.Common.{[], sym, subst}
+use Rattle.std.proofs.Common.{[], IsTrue, sym, subst}
 use Rattle.iofd_words.specs.declared.event.Event.{Event}
 use Rattle.iommufd_core.proofs.Answering.{if_ok, none_chosen, none_moved, on_err}
+use Rattle.iommufd_core.specs.Server.{takes_memory}
+use Rattle.server_state.specs.Held.{objects_in}
 use Rattle.server_state.specs.Step.{MovingSteps}
 use Rattle.iommufd_core.proofs.events.commit.Goals as goal
 
@@ -180,3 +182,17 @@ returns-in-Detach-clause-ok g c = rw c.requires.none_taken (if_ok c.commit-in-De
 pub returns-in-Detach-clause-err : goal.returns-in-Detach-clause-err
 returns-in-Detach-clause-err g c =
     on_err c.commit-in-Detach.result _ _ (λ same w tidy shows. same w shows) c.commit-in-Detach.ensures.err
+
+-- ---- want of memory, where page tables may go
+
+pub returns-in-Destroy-clause-memory : goal.returns-in-Destroy-clause-memory
+returns-in-Destroy-clause-memory g c = on_err c.commit-in-Destroy.result _ _
+    (λ has. subst (λ (e : Event _). IsTrue (takes_memory (objects_in c.args.state.now.objects) e))
+    (sym c.in-Destroy.is) has)
+    c.commit-in-Destroy.ensures.memory
+
+pub returns-in-Close-clause-memory : goal.returns-in-Close-clause-memory
+returns-in-Close-clause-memory g c = on_err c.commit-in-Close.result _ _
+    (λ has. subst (λ (e : Event _). IsTrue (takes_memory (objects_in c.args.state.now.objects) e))
+    (sym c.in-Close.is) has)
+    c.commit-in-Close.ensures.memory

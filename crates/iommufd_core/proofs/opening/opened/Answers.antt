@@ -14,6 +14,7 @@ returns-clause-shows g c =
         proper = rw c.in_ok-new.ensures refl;
         spaces = λ file ioas. rw c.in_ok-new.ensures refl;
         files = λ number. rw (c.in_ok-new.ensures, c.files.ensures) (all_open g.row.A.Denot c.args.config.now number);
+        counted = λ file id. rw c.in_ok-new.ensures refl;
       };
       devices = record {
         bindings = λ device. rw c.new-3.ensures.items refl;

@@ -1,4 +1,4 @@
-use Rattle.std.proofs.Common.{◌≡◌, length, inr, refl, ◌∙◌, ap, subst, sym}
+use Rattle.std.proofs.Common.{◌≡◌, IsTrue, length, inr, refl, ◌∙◌, ap, subst, sym}
 use Rattle.iofd_words.specs.Run.{world_of}
 use Rattle.iommufd_core.proofs.Applied.{may_use, unchanged_config, unchanged_kept, applied_chosen, applied_config}
 use Rattle.iommufd_core.proofs.Applied.{applied_frames, applied_kept}
@@ -6,7 +6,7 @@ use Rattle.iommufd_core.proofs.Histories.{tidy_run}
 use Rattle.server_state.specs.Choice.{MayUse}
 use Rattle.iommufd_core.specs.History.{HasOneMore}
 use Rattle.server_state.specs.Step.{recorded}
-use Rattle.iommufd_core.specs.Server.{Server}
+use Rattle.iommufd_core.specs.Server.{Server, takes_memory}
 use Rattle.server_state.proofs.ViewShown.{same_refusal}
 use Rattle.server_state.specs.Step.{Answered, IsCalled, TidyShowsSame}
 use Rattle.iommufd_core.proofs.apply.Core.apply.Goals as goal
@@ -112,7 +112,8 @@ returns-in_default-answer-clause-memory g c =
       sym (same_refusal (world_of old.config records) old c.self.invariant.shows
           (tidy_run old.config records c.self.invariant.run).tabled.owned c.args.act.now.event)
           ∙ wants.0,
-      wants.1,
+      subst (λ objects. IsTrue (takes_memory objects c.args.act.now.event))
+          (sym c.self.invariant.shows.objects.rows) wants.1,
     ))
 
 pub answer-requires-clause-called : goal.answer-requires-clause-called

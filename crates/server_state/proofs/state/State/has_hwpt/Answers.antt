@@ -1,10 +1,8 @@
-use Rattle.hwpt_device.specs.PageTables.{objects_of}
-use Rattle.server_state.proofs.PageTables.{has_hwpt_kept, tables_known}
-use Rattle.server_state.specs.Held.{objects_in}
+use Rattle.server_state.proofs.UsersTold.{none_told, users_told}
 use Rattle.server_state.proofs.state.State.has_hwpt.Goals as goal
 
-pub returns : goal.returns
-returns g c =
-    rw c.has_over.ensures
-    (has_hwpt_kept (objects_of c.args.self.now.page_tables) (objects_in c.args.self.now.objects)
-    (tables_known c.args.self.now c.requires) c.args.file c.args.ioas)
+pub returns-in-Ok : goal.returns-in-Ok
+returns-in-Ok g c = users_told c.args.self.now c.args.file c.args.ioas c.requires c.in-Ok.users c.in-Ok.ensures.ok
+
+pub returns-in-Err : goal.returns-in-Err
+returns-in-Err g c = none_told c.args.self.now c.args.file c.args.ioas c.requires c.in-Err.ensures.refused.0

@@ -1,5 +1,10 @@
-use Rattle.std.proofs.Common.{arith}
+use Rattle.std.proofs.Common.{◌≡◌, true, false, ⊎_elim, arith}
+use Rattle.std.proofs.lemmas.Bool.{cases_Bool}
+use Rattle.server_state.proofs.Errors.{on_err_same}
+use Rattle.server_state.proofs.PageTables.{none_kept}
+use Rattle.server_state.specs.Held.{objects_in}
 use Rattle.server_state.specs.Leads.{leads_of}
+use Rattle.server_state.specs.Tables.{has_page_table}
 use Rattle.server_state.proofs.state.State.reserve_given.Goals as goal
 
 pub returns-clause-room : goal.returns-clause-room
@@ -9,3 +14,19 @@ returns-clause-room g c =
     let count = c.frames-count.ensures w.table_frames (leads_of w) stand in
     let room = c.in_ok-reserve.ensures.ok in
     record { frames = w.table_frames; leads = leads_of w; stand = stand; enough = omega (arith, count, room) }
+
+-- there is always room for none
+pub returns-in_err-reserve-clause-memory : goal.returns-in_err-reserve-clause-memory
+returns-in_err-reserve-clause-memory g c =
+    let has = has_page_table (objects_in c.args.self.now.objects) c.args.file c.args.id in
+    let w = c.requires.world in
+    let count = c.frames-count.ensures w.table_frames (leads_of w) c.requires.shows.tables.stand in
+    let full = c.in_err-reserve.ensures.full in
+    let room = c.args.given.now.ok in
+    on_err_same c.from_residual.result _
+    (⊎_elim (λ (is : has ≡ true). is)
+    (λ (none : has ≡ false).
+    let zero : c.frames-count.result ≡ 0 =
+    rw (none_kept c.args.self.now c.requires c.args.file c.args.id none) at count in
+    absurd (omega (arith, zero, full, room)))
+    (cases_Bool has))

@@ -1,0 +1,579 @@
+-- The page tables that are counted with their address spaces, as objects come, change and go.
+use Rattle.std.proofs.Common.{◌≡◌, ℕ, ◌+◌, ◌-◌, ◌<◌, ◌≤◌, Bool, true, false, cond, ◌&&◌, not, eqb, leb, ltb, Option}
+use Rattle.std.proofs.Common.{Some, None, List, [], ◌∷◌, length, map, refl, sym, ◌∙◌, ap, subst, arith}
+use Rattle.std.proofs.Common.{IfSome, IsSomeAnd}
+use Rattle.std.specs.Option.{ForSome, option_map}
+use Rattle.std.specs.List.{count_by, filter, find, list_all, list_any}
+use Rattle.std.proofs.lemmas.Bool.Decides.{nat_tests}
+use Rattle.iofd_rows.proofs.Bools.{and_true, not_true}
+use Rattle.iofd_rows.proofs.Found.{found_passes}
+use Rattle.iofd_rows.proofs.Named.{file_is, id_is}
+use Rattle.iofd_rows.specs.Debts.{is_over_space}
+use Rattle.iofd_rows.specs.Ids.{have_own_ids}
+use Rattle.iofd_words.specs.Attachments.{ioas_of}
+use Rattle.iofd_words.specs.Objects.{comes_before, has_hwpt, has_ioas, is_full, is_hwpt, is_hwpt_over, is_ioas}
+use Rattle.iofd_words.specs.Objects.{is_object, kind_of, with_object, without_object}
+use Rattle.iofd_words.specs.declared.numbers.FileNo.{FileNo}
+use Rattle.iofd_words.specs.declared.numbers.ObjId.{ObjId}
+use Rattle.iofd_words.specs.declared.rows.Object.{Object}
+use Rattle.iofd_words.specs.declared.rows.ObjectKind.{ObjectKind}
+use Rattle.iofd_words.specs.declared.rows.ObjectKind.TheVariants as kind
+use Rattle.iofd_words.specs.declared.width.Width.{Width}
+use Rattle.memory_rows.proofs.PinsFollow.{any_count, count-cons}
+use Rattle.object_table.specs.Table.{Row, Table, changed_at, inserted, is_at, is_of_file, is_own, is_same_kind, removed}
+use Rattle.object_table.specs.Table.{with_users}
+use Rattle.object_table.specs.declared.kind.Kind.TheVariants as of_kind
+use Rattle.server_state.specs.Held.{areas_at, is_proper, kind_in, object_of, table_kind}
+use Rattle.server_state.specs.Spaces.{is_space}
+use Rattle.server_state.specs.Users.{AreCounted, tables_over, users_at}
+use Rattle.server_state.specs.declared.held.Held.{Held}
+use Rattle.server_state.specs.declared.held.Held.TheVariants as held
+
+-- what holds where something is found
+pub where_found : {X : Type 0} (P : X → Type 0) (o : Option X) (x : X) → o ≡ Some x → IfSome o P → P x
+where_found {X = X} P o x is holds = let Holds = λ (o : Option X). IfSome o P in subst Holds is holds
+
+-- ---- what the table says of a count
+
+module _ {V : Type 0} (counts : ℕ → ℕ) (file : FileNo) (id : ObjId) (old new : Table V) where
+  abbrev Changed : Row V → List (Row V)
+  Changed row = changed_at file id (with_users (counts row.users)) old.rows
+
+  pub rows_counted : (May : Row V → Type 0) (o : Option (Row V))
+      → IsSomeAnd o (λ row. new ≡ record old { rows = Changed row })
+      → IfSome o (λ row. May row → new.rows ≡ Changed row)
+  rows_counted May None counted = tt
+  rows_counted May (Some row) counted = λ may. ap (λ (t : Table V). t.rows) counted
+
+  pub others_counted : (o : Option (Row V)) → IsSomeAnd o (λ row. new ≡ record old { rows = Changed row })
+      → new ≡ record old { rows = new.rows }
+  others_counted None counted = absurd counted
+  others_counted (Some row) counted =
+      let same = ap (λ (t : Table V). t.rows) counted in
+      counted ∙ ap (λ (rows : List (Row V)). let t : Table V = record old { rows = rows } in t) (sym same)
+
+-- where there is no such object nothing is said
+pub none_counted : {V : Type 0} (P : Row V → Type 0) (o : Option (Row V)) → o ≡ None → IfSome o P
+none_counted {V = V} P o is = let Holds = λ (o : Option (Row V)). IfSome o P in subst Holds (sym is) tt
+
+module _ {V : Type 0} (o : Option (Row V)) (n : ℕ) (is : option_map (λ (row : Row V). row.users) o ≡ Some n) where
+  -- what a number says that its row is asked for
+  pub number_may : (May : ℕ → Type 0) → May n → ForSome o (λ row. May row.users)
+  number_may May may = λ row found.
+      let here = sym (ap (option_map (λ (row : Row V). row.users)) found) ∙ is in
+      let same : n ≡ row.users = cc in
+      subst May same may
+
+  -- and what it doesn't
+  pub number_may_not : (May : ℕ → Type 0) (P : Row V → Type 0) → (May n → ⊥)
+      → IfSome o (λ row. May row.users → P row)
+  number_may_not May P not = by_row o is
+    where
+      by_row : (o : Option (Row V)) → option_map (λ (row : Row V). row.users) o ≡ Some n
+          → IfSome o (λ row. May row.users → P row)
+      by_row None is = tt
+      by_row (Some row) is = let same : row.users ≡ n = cc in λ may. absurd (not (subst May same may))
+
+-- ---- how many page tables stand over an address space
+
+-- 1 where an object of this file and kind is a page table over it
+abbrev pub over_by : FileNo → ObjectKind → FileNo → ObjId → ℕ
+over_by file k f i = cond (eqb file.0 f.0 && is_hwpt_over i k) 1 0
+
+pub has_over : (objects : List Object) (f : FileNo) (i : ObjId)
+    → has_hwpt objects f i ≡ ltb 0 (tables_over objects f i)
+has_over objects f i = any_count (λ (o : Object). eqb o.file.0 f.0 && is_hwpt_over i o.kind) objects
+
+pub none_over : (objects : List Object) (f : FileNo) (i : ObjId) → has_hwpt objects f i ≡ false
+    → tables_over objects f i ≡ 0
+none_over objects f i none = zero (tables_over objects f i) (sym (has_over objects f i) ∙ none)
+  where
+    zero : (n : ℕ) → ltb 0 n ≡ false → n ≡ 0
+    zero n is = search (is, arith, nat_tests)
+
+-- page tables stand over address spaces alone
+pub over_spaces : (objects : List Object) (f : FileNo) (i : ObjId)
+    → list_all (is_over_space objects) objects ≡ true → has_ioas objects f i ≡ false → tables_over objects f i ≡ 0
+over_spaces objects f i over none = among objects over
+  where
+    not_over : (file : FileNo) (k : ObjectKind) → is_over_space objects (record {
+      file = file;
+      id = i;
+      kind = k;
+    }) ≡ true → (eqb file.0 f.0 && is_hwpt_over i k) ≡ false
+    not_over file kind.Ioas is = fails (eqb file.0 f.0)
+      where
+        fails : (b : Bool) → (b && false) ≡ false
+        fails true = refl
+        fails false = refl
+    not_over file (kind.Device device) is = fails (eqb file.0 f.0)
+      where
+        fails : (b : Bool) → (b && false) ≡ false
+        fails true = refl
+        fails false = refl
+    not_over file (kind.Hwpt own width automatic) is = by_names (eqb file.0 f.0) (eqb own.0 i.0) refl refl
+      where
+        by_names : (b c : Bool) → eqb file.0 f.0 ≡ b → eqb own.0 i.0 ≡ c → (b && c) ≡ false
+        by_names true true of_file of_id =
+            let there : has_ioas objects f i ≡ true =
+            sym (ap (λ (x : FileNo). has_ioas objects x own) (file_is file f of_file)
+            ∙ ap (λ (x : ObjId). has_ioas objects f x) (id_is own i of_id)) ∙ is in
+            cc
+        by_names true false of_file of_id = refl
+        by_names false c of_file of_id = refl
+
+    among : (xs : List Object) → list_all (is_over_space objects) xs ≡ true → tables_over xs f i ≡ 0
+    among [] all = refl
+    among (x ∷ xs) all =
+        let parts = and_true (is_over_space objects x) (list_all (is_over_space objects) xs) all in
+        let rest = among xs parts.1 in
+        let one : over_by x.file x.kind f i ≡ 0 = ap (λ (b : Bool). cond b 1 0) (not_over x.file x.kind parts.0) in
+        let all = count-cons (λ (o : Object). eqb o.file.0 f.0 && is_hwpt_over i o.kind) x xs in
+        omega (arith, all, one, rest)
+
+-- a page table is over an address space
+pub space_under : (objects : List Object) (file : FileNo) (id ioas : ObjId) (width : Width) (automatic : Bool)
+    → list_all (is_over_space objects) objects ≡ true
+    → kind_of objects file id ≡ Some (kind.Hwpt ioas width automatic) → has_ioas objects file ioas ≡ true
+space_under objects file id ioas width automatic over is = by_object (find (is_object file id) objects) refl is
+  where
+    by_object : (o : Option Object) → find (is_object file id) objects ≡ o
+        → elim o as (λ _. Option ObjectKind) [ Some x ↦ Some x.kind | None ↦ None ]
+        ≡ Some (kind.Hwpt ioas width automatic) → has_ioas objects file ioas ≡ true
+    by_object None found is = cc
+    by_object (Some x) found is =
+        let passes = found_passes (is_over_space objects) (is_object file id) objects x over found in
+        let names = and_true (eqb x.file.0 file.0) (eqb x.id.0 id.0) passes.1 in
+        let of_kind : x.kind ≡ kind.Hwpt ioas width automatic = cc in
+        let there : has_ioas objects x.file ioas ≡ true = sym (ap (λ (k : ObjectKind). elim (ioas_of k) as (λ _. Bool)
+        [ Some own ↦ has_ioas objects x.file own | None ↦ true ]) of_kind) ∙ passes.0 in
+        sym (ap (λ (f : FileNo). has_ioas objects f ioas) (file_is x.file file names.0)) ∙ there
+
+count-with : (p : Object → Bool) (object : Object) (objects : List Object)
+    → count_by p (with_object object objects) ≡ cond (p object) 1 0 + count_by p objects
+count-with p object [] = count-cons p object []
+count-with p object (o ∷ objects) =
+    rw (count-cons p o objects) (by_order (comes_before object o) (count-with p object objects))
+  where
+    by_order : (b : Bool) → count_by p (with_object object objects) ≡ cond (p object) 1 0 + count_by p objects
+        → count_by p (cond b (object ∷ o ∷ objects) (o ∷ with_object object objects)) ≡ cond (p object) 1 0
+        + (cond (p o) 1 0 + count_by p objects)
+    by_order true rest = rw (count-cons p object (o ∷ objects), count-cons p o objects) refl
+    by_order false rest = rw (count-cons p o (with_object object objects)) (omega (arith, rest))
+
+pub over-with : (object : Object) (objects : List Object) (f : FileNo) (i : ObjId)
+    → tables_over (with_object object objects) f i ≡ over_by object.file object.kind f i + tables_over objects f i
+over-with object objects f i =
+    count-with (λ (o : Object). eqb o.file.0 f.0 && is_hwpt_over i o.kind) object objects
+
+no_one : (b : Bool) → ◌≡◌ {A = ℕ} (cond (b && false) 1 0) 0
+no_one true = refl
+no_one false = refl
+
+other_over : (file : FileNo) (k : ObjectKind) (f : FileNo) (i : ObjId) → is_hwpt k ≡ false → over_by file k f i ≡ 0
+other_over file kind.Ioas f i is = no_one (eqb file.0 f.0)
+other_over file (kind.Hwpt ioas width automatic) f i is = cc
+other_over file (kind.Device device) f i is = no_one (eqb file.0 f.0)
+
+-- an object that is no page table comes
+pub over-beside : (object : Object) (objects : List Object) (f : FileNo) (i : ObjId) → is_hwpt object.kind ≡ false
+    → tables_over (with_object object objects) f i ≡ tables_over objects f i
+over-beside object objects f i other =
+    let all = over-with object objects f i in
+    let none = other_over object.file object.kind f i other in
+    omega (arith, all, none)
+
+not_there : (objects : List Object) (file : FileNo) (id : ObjId) → list_any (is_object file id) objects ≡ false
+    → without_object file id objects ≡ objects
+not_there [] file id none = refl
+not_there (o ∷ objects) file id none = let rest = not_there objects file id in grind (arith, nat_tests)
+
+same_named : (object : Object) (file : FileNo) (id : ObjId) (objects : List Object) → is_object file id object ≡ true
+    → list_any (is_object object.file object.id) objects ≡ list_any (is_object file id) objects
+same_named object file id [] is = refl
+same_named object file id (o ∷ objects) is =
+    let rest = same_named object file id objects is in grind (arith, nat_tests)
+
+-- one goes
+pub over-without : (objects : List Object) (file : FileNo) (id : ObjId) (k : ObjectKind) (f : FileNo) (i : ObjId)
+    → have_own_ids objects ≡ true → kind_of objects file id ≡ Some k
+    → tables_over (without_object file id objects) f i + over_by file k f i ≡ tables_over objects f i
+over-without [] file id k f i ids is = cc
+over-without (object ∷ objects) file id k f i ids is =
+    let owns = and_true (not (list_any (is_object object.file object.id) objects)) (have_own_ids objects) ids in
+    by_test (is_object file id object) refl (not_true _ owns.0) is
+    (λ later. over-without objects file id k f i owns.1 later)
+  where
+    by_test : (b : Bool) → is_object file id object ≡ b
+        → list_any (is_object object.file object.id) objects ≡ false
+        → elim (cond b (Some object) (find (is_object file id) objects)) as (λ _. Option ObjectKind)
+        [ Some o ↦ Some o.kind | None ↦ None ] ≡ Some k
+        → (kind_of objects file id ≡ Some k
+        → tables_over (without_object file id objects) f i + over_by file k f i ≡ tables_over objects f i)
+        → tables_over (cond (not b) (object ∷ without_object file id objects) (without_object file id objects)) f i
+        + over_by file k f i ≡ tables_over (object ∷ objects) f i
+    by_test true named none is later =
+        let gone = not_there objects file id (sym (same_named object file id objects named) ∙ none) in
+        let names = and_true (eqb object.file.0 file.0) (eqb object.id.0 id.0) named in
+        let of_kind : object.kind ≡ k = cc in
+        let one : over_by object.file object.kind f i ≡ over_by file k f i =
+        ap (λ (x : FileNo). over_by x object.kind f i) (file_is object.file file names.0)
+        ∙ ap (λ (x : ObjectKind). over_by file x f i) of_kind in
+        let all = count-cons (λ (o : Object). eqb o.file.0 f.0 && is_hwpt_over i o.kind) object objects in
+        let same : tables_over (without_object file id objects) f i ≡ tables_over objects f i =
+        ap (λ (l : List Object). tables_over l f i) gone in
+        omega (arith, all, same, one)
+    by_test false named none is later =
+        let rest = later is in
+        let all = count-cons (λ (o : Object). eqb o.file.0 f.0 && is_hwpt_over i o.kind) object objects in
+        let left = count-cons (λ (o : Object). eqb o.file.0 f.0 && is_hwpt_over i o.kind) object
+        (without_object file id objects) in
+        omega (arith, rest, all, left)
+
+itself : (n : ℕ) → eqb n n ≡ true
+itself n = grind (arith, nat_tests)
+
+-- over the address space of a page table stands one
+pub some_over : (objects : List Object) (file : FileNo) (id ioas : ObjId) (width : Width) (automatic : Bool)
+    → have_own_ids objects ≡ true → kind_of objects file id ≡ Some (kind.Hwpt ioas width automatic)
+    → 0 < tables_over objects file ioas
+some_over objects file id ioas width automatic ids is =
+    let all = over-without objects file id (kind.Hwpt ioas width automatic) file ioas ids is in
+    let one : over_by file (kind.Hwpt ioas width automatic) file ioas ≡ 1 = rw (itself file.0, itself ioas.0) refl in
+    omega (arith, all, one)
+
+-- a file that isn't full has fewer page tables than it may have objects
+pub few_over : (objects : List Object) (file : FileNo) (i : ObjId) → is_full objects file ≡ false
+    → tables_over objects file i < 65535
+few_over objects file i room =
+    let few = within objects in
+    let below = short (length (filter (λ (o : Object). eqb o.file.0 file.0) objects)) room in
+    omega (arith, few, below)
+  where
+    short : (n : ℕ) → leb 65535 n ≡ false → n < 65535
+    short n is = grind (arith, nat_tests)
+
+    within : (xs : List Object) → tables_over xs file i ≤ length (filter (λ (o : Object). eqb o.file.0 file.0) xs)
+    within [] = omega arith
+    within (x ∷ xs) =
+        rw (count-cons (λ (o : Object). eqb o.file.0 file.0 && is_hwpt_over i o.kind) x xs)
+        (by_tests (eqb x.file.0 file.0) (is_hwpt_over i x.kind) (within xs))
+      where
+        by_tests : (b c : Bool) → tables_over xs file i ≤ length (filter (λ (o : Object). eqb o.file.0 file.0) xs)
+            → cond (b && c) 1 0 + tables_over xs file i ≤ length (cond b
+            (x ∷ filter (λ (o : Object). eqb o.file.0 file.0) xs) (filter (λ (o : Object). eqb o.file.0 file.0) xs))
+        by_tests true true rest = omega (arith, rest)
+        by_tests true false rest = omega (arith, rest)
+        by_tests false c rest = omega (arith, rest)
+
+-- the file goes
+pub over-closed : (objects : List Object) (file f : FileNo) (i : ObjId)
+    → tables_over (filter (λ (o : Object). not (eqb o.file.0 file.0)) objects) f i
+    ≡ cond (eqb f.0 file.0) 0 (tables_over objects f i)
+over-closed [] file f i = by_file (eqb f.0 file.0)
+  where
+    by_file : (b : Bool) → ◌≡◌ {A = ℕ} 0 (cond b 0 0)
+    by_file true = refl
+    by_file false = refl
+over-closed (o ∷ objects) file f i =
+    let all = count-cons (λ (o : Object). eqb o.file.0 f.0 && is_hwpt_over i o.kind) o objects in
+    let left = count-cons (λ (o : Object). eqb o.file.0 f.0 && is_hwpt_over i o.kind) o
+    (filter (λ (o : Object). not (eqb o.file.0 file.0)) objects) in
+    by_files (eqb o.file.0 file.0) (eqb f.0 file.0) (eqb o.file.0 f.0) (is_hwpt_over i o.kind) refl refl refl refl all
+    left (over-closed objects file f i)
+  where
+    by_files : (b c d e : Bool) → eqb o.file.0 file.0 ≡ b → eqb f.0 file.0 ≡ c → eqb o.file.0 f.0 ≡ d
+        → is_hwpt_over i o.kind ≡ e
+        → tables_over (o ∷ objects) f i ≡ cond (eqb o.file.0 f.0 && is_hwpt_over i o.kind) 1 0 + tables_over objects f i
+        → tables_over (o ∷ filter (λ (o : Object). not (eqb o.file.0 file.0)) objects) f i
+        ≡ cond (eqb o.file.0 f.0 && is_hwpt_over i o.kind) 1 0
+        + tables_over (filter (λ (o : Object). not (eqb o.file.0 file.0)) objects) f i
+        → tables_over (filter (λ (o : Object). not (eqb o.file.0 file.0)) objects) f i
+        ≡ cond c 0 (tables_over objects f i)
+        → tables_over (cond (not b) (o ∷ filter (λ (o : Object). not (eqb o.file.0 file.0)) objects)
+        (filter (λ (o : Object). not (eqb o.file.0 file.0)) objects)) f i ≡ cond c 0 (tables_over (o ∷ objects) f i)
+    by_files true true d e ob fc od oe all left rest = rest
+    by_files true false true e ob fc od oe all left rest = absurd (apart o.file.0 f.0 file.0 ob fc od)
+      where
+        apart : (a b c : ℕ) → eqb a c ≡ true → eqb b c ≡ false → eqb a b ≡ true → ⊥
+        apart a b c ac bc ab = grind (arith, nat_tests)
+    by_files true false false e ob fc od oe all left rest =
+        let one : over_by o.file o.kind f i ≡ 0 = ap (λ (x : Bool). cond (x && is_hwpt_over i o.kind) 1 0) od in
+        omega (arith, all, rest, one)
+    by_files false true true e ob fc od oe all left rest = absurd (apart o.file.0 f.0 file.0 ob fc od)
+      where
+        apart : (a b c : ℕ) → eqb a c ≡ false → eqb b c ≡ true → eqb a b ≡ true → ⊥
+        apart a b c ac bc ab = grind (arith, nat_tests)
+    by_files false true false e ob fc od oe all left rest =
+        let one : over_by o.file o.kind f i ≡ 0 = ap (λ (x : Bool). cond (x && is_hwpt_over i o.kind) 1 0) od in
+        omega (arith, left, rest, one)
+    by_files false false d e ob fc od oe all left rest = omega (arith, all, left, rest)
+
+-- ---- how many are counted
+
+module _ {A : Type 0} where
+  abbrev users_from : Option (Row (Held A)) → ℕ
+  users_from o = elim o [ Some row ↦ row.users | None ↦ 0 ]
+
+  -- an object that nobody uses comes, under an unused id
+  pub users-inserted : (row : Row (Held A)) (rows : List (Row (Held A))) (f : FileNo) (i : ObjId) → row.users ≡ 0
+      → find (is_at row.file row.id) rows ≡ None → users_at (inserted row rows) f i ≡ users_at rows f i
+  users-inserted row [] f i none unused = grind (arith, nat_tests)
+  users-inserted row (next ∷ rows) f i none unused =
+      let rest = users-inserted row rows f i none in grind (arith, nat_tests)
+
+  -- a count changes: the objects stay, and their areas
+  pub objects-counted : (rows : List (Row (Held A))) (file : FileNo) (id : ObjId) (n : ℕ)
+      → map object_of (changed_at file id (with_users n) rows) ≡ map object_of rows
+  objects-counted [] file id n = refl
+  objects-counted (row ∷ rows) file id n = by_test (is_at file id row) (objects-counted rows file id n)
+    where
+      by_test : (b : Bool) → map object_of (changed_at file id (with_users n) rows) ≡ map object_of rows
+          → map object_of (cond b (with_users n row) row ∷ changed_at file id (with_users n) rows)
+          ≡ map object_of (row ∷ rows)
+      by_test true rest = ap (λ (l : List Object). object_of row ∷ l) rest
+      by_test false rest = ap (λ (l : List Object). object_of row ∷ l) rest
+
+  pub proper-counted : (rows : List (Row (Held A))) (file : FileNo) (id : ObjId) (n : ℕ)
+      → list_all is_proper (changed_at file id (with_users n) rows) ≡ list_all is_proper rows
+  proper-counted [] file id n = refl
+  proper-counted (row ∷ rows) file id n = by_test (is_at file id row) (proper-counted rows file id n)
+    where
+      by_test : (b : Bool)
+          → list_all is_proper (changed_at file id (with_users n) rows) ≡ list_all is_proper rows
+          → list_all is_proper (cond b (with_users n row) row ∷ changed_at file id (with_users n) rows)
+          ≡ list_all is_proper (row ∷ rows)
+      by_test true rest = ap (λ b. is_proper row && b) rest
+      by_test false rest = ap (λ b. is_proper row && b) rest
+
+  pub areas-counted : (rows : List (Row (Held A))) (file : FileNo) (id : ObjId) (n : ℕ) (f : FileNo) (i : ObjId)
+      → areas_at (changed_at file id (with_users n) rows) f i ≡ areas_at rows f i
+  areas-counted [] file id n f i = refl
+  areas-counted (row ∷ rows) file id n f i =
+      by_tests (is_at file id row) (is_at f i row) refl (areas-counted rows file id n f i)
+    where
+      by_tests : (b c : Bool) → is_at f i row ≡ c
+          → areas_at (changed_at file id (with_users n) rows) f i ≡ areas_at rows f i
+          → areas_at (cond b (with_users n row) row ∷ changed_at file id (with_users n) rows) f i
+          ≡ areas_at (row ∷ rows) f i
+      by_tests true true is rest = rw (is, areas_at) refl
+      by_tests true false is rest = rw (is, areas_at) rest
+      by_tests false true is rest = rw (is, areas_at) refl
+      by_tests false false is rest = rw (is, areas_at) rest
+
+  pub unused-counted : (rows : List (Row (Held A))) (file : FileNo) (id : ObjId) (n : ℕ) (f : FileNo) (i : ObjId)
+      → find (is_at f i) rows ≡ None → find (is_at f i) (changed_at file id (with_users n) rows) ≡ None
+  unused-counted [] file id n f i none = refl
+  unused-counted (row ∷ rows) file id n f i none =
+      by_tests (is_at file id row) (is_at f i row) refl none (unused-counted rows file id n f i)
+    where
+      by_tests : (b c : Bool) → is_at f i row ≡ c → cond c (Some row) (find (is_at f i) rows) ≡ None
+          → (find (is_at f i) rows ≡ None → find (is_at f i) (changed_at file id (with_users n) rows) ≡ None)
+          → find (is_at f i) (cond b (with_users n row) row ∷ changed_at file id (with_users n) rows) ≡ None
+      by_tests b true is none later = cc
+      by_tests true false is none later = rw is (later none)
+      by_tests false false is none later = rw is (later none)
+
+  users_here : (rows : List (Row (Held A))) (file : FileNo) (id : ObjId) (n : ℕ) (row : Row (Held A))
+      → find (is_at file id) rows ≡ Some row → users_at (changed_at file id (with_users n) rows) file id ≡ n
+  users_here [] file id n found is = cc
+  users_here (row ∷ rows) file id n found is =
+      by_test (is_at file id row) refl is (users_here rows file id n found)
+    where
+      by_test : (b : Bool) → is_at file id row ≡ b → cond b (Some row) (find (is_at file id) rows) ≡ Some found
+          → (find (is_at file id) rows ≡ Some found → users_at (changed_at file id (with_users n) rows) file id ≡ n)
+          → users_at (cond b (with_users n row) row ∷ changed_at file id (with_users n) rows) file id ≡ n
+      by_test true here is later = rw (here, users_at) refl
+      by_test false here is later = rw (here, users_at) (later is)
+
+  users_elsewhere : (rows : List (Row (Held A))) (file : FileNo) (id : ObjId) (n : ℕ) (f : FileNo) (i : ObjId)
+      → is_space file id f i ≡ false → users_at (changed_at file id (with_users n) rows) f i ≡ users_at rows f i
+  users_elsewhere [] file id n f i other = refl
+  users_elsewhere (row ∷ rows) file id n f i other =
+      let rest = users_elsewhere rows file id n f i other in grind (arith, nat_tests)
+
+  users_left : (rows : List (Row (Held A))) (file : FileNo) (id : ObjId) (f : FileNo) (i : ObjId)
+      → is_space file id f i ≡ false → users_at (removed file id rows) f i ≡ users_at rows f i
+  users_left [] file id f i other = refl
+  users_left (row ∷ rows) file id f i other =
+      let rest = users_left rows file id f i other in grind (arith, nat_tests)
+
+  none_left : (rows : List (Row (Held A))) (file : FileNo) (id : ObjId) → users_at (removed file id rows) file id ≡ 0
+  none_left [] file id = refl
+  none_left (row ∷ rows) file id = by_test (is_at file id row) refl (none_left rows file id)
+    where
+      by_test : (b : Bool) → is_at file id row ≡ b → users_at (removed file id rows) file id ≡ 0
+          → users_at (cond (not b) (row ∷ removed file id rows) (removed file id rows)) file id ≡ 0
+      by_test true is rest = rest
+      by_test false is rest = rw (is, users_at) rest
+
+  -- one that nobody uses goes
+  pub users-removed : (rows : List (Row (Held A))) (file : FileNo) (id : ObjId) → users_at rows file id ≡ 0
+      → (f : FileNo) (i : ObjId) → users_at (removed file id rows) f i ≡ users_at rows f i
+  users-removed rows file id none f i = by_name (is_space file id f i) refl
+    where
+      by_name : (b : Bool) → is_space file id f i ≡ b → users_at (removed file id rows) f i ≡ users_at rows f i
+      by_name true is =
+          let names = and_true (eqb f.0 file.0) (eqb i.0 id.0) is in
+          rw (file_is f file names.0, id_is i id names.1) (none_left rows file id ∙ sym none)
+      by_name false is = users_left rows file id f i is
+
+  pub users-closed : (rows : List (Row (Held A))) (file f : FileNo) (i : ObjId)
+      → users_at (filter (λ row. not (is_of_file file row)) rows) f i ≡ cond (eqb f.0 file.0) 0 (users_at rows f i)
+  users-closed [] file f i = by_file (eqb f.0 file.0)
+    where
+      by_file : (b : Bool) → ◌≡◌ {A = ℕ} 0 (cond b 0 0)
+      by_file true = refl
+      by_file false = refl
+  users-closed (row ∷ rows) file f i = let rest = users-closed rows file f i in grind (arith, nat_tests)
+
+  -- ---- the row of an address space
+
+  pub space_row : (rows : List (Row (Held A))) (file : FileNo) (ioas : ObjId) → list_all is_proper rows ≡ true
+      → has_ioas (map object_of rows) file ioas ≡ true
+      → (row : Row (Held A)) × (find (is_own file of_kind.Ioas ioas) rows ≡ Some row)
+      × (find (is_at file ioas) rows ≡ Some row)
+  space_row [] file ioas proper has = cc
+  space_row (row ∷ rows) file ioas proper has =
+      let propers = and_true (is_proper row) (list_all is_proper rows) proper in
+      by_test (is_at file ioas row) refl has propers.0 (λ later. space_row rows file ioas propers.1 later)
+    where
+      of_space : (held : Held A) → is_ioas (kind_in held) ≡ true → table_kind (kind_in held) ≡ of_kind.Ioas
+      of_space (held.Ioas areas) is = refl
+      of_space (held.Hwpt ioas width automatic) is = cc
+      of_space (held.Device device) is = cc
+
+      by_test : (b : Bool) → is_at file ioas row ≡ b
+          → elim (elim (cond b (Some (object_of row)) (find (is_object file ioas) (map object_of rows)))
+          as (λ _. Option ObjectKind) [ Some o ↦ Some o.kind | None ↦ None ]) as (λ _. Bool)
+          [ Some k ↦ is_ioas k | None ↦ false ] ≡ true
+          → is_proper row ≡ true
+          → (has_ioas (map object_of rows) file ioas ≡ true → (found : Row (Held A))
+          × (find (is_own file of_kind.Ioas ioas) rows ≡ Some found) × (find (is_at file ioas) rows ≡ Some found))
+          → (found : Row (Held A)) × (find (is_own file of_kind.Ioas ioas) (row ∷ rows) ≡ Some found)
+          × (find (is_at file ioas) (row ∷ rows) ≡ Some found)
+      by_test true here has proper later =
+          let same : is_same_kind row.kind of_kind.Ioas ≡ true = rw (of_space row.value has) at proper in
+          (row, rw (here, same) refl, rw here refl)
+      by_test false here has proper later =
+          let (found, own, at) = later has in (found, rw here own, rw here at)
+
+  -- ---- what is counted stays right
+
+  module _ (objects : List Object) (rows : List (Row (Held A))) (counted : AreCounted objects rows) where
+    -- the users of a row that is found
+    pub users_of_row : (file : FileNo) (id : ObjId) (row : Row (Held A)) → find (is_at file id) rows ≡ Some row
+        → row.users ≡ tables_over objects file id
+    users_of_row file id row found = sym (ap users_from found) ∙ counted file id
+
+    -- one more is counted where a page table comes
+    pub table_comes : (file : FileNo) (ioas id : ObjId) (width : Width) (automatic : Bool) (row : Row (Held A))
+        → find (is_at file ioas) rows ≡ Some row → AreCounted
+        (with_object (record { file = file; id = id; kind = kind.Hwpt ioas width automatic }) objects)
+        (changed_at file ioas (with_users (row.users + 1)) rows)
+    table_comes file ioas id width automatic row found f i = by_space (is_space file ioas f i) refl
+      where
+        all : tables_over (with_object (record { file = file; id = id; kind = kind.Hwpt ioas width automatic })
+            objects) f i ≡ over_by file (kind.Hwpt ioas width automatic) f i + tables_over objects f i
+        all = over-with (record { file = file; id = id; kind = kind.Hwpt ioas width automatic }) objects f i
+
+        by_space : (b : Bool) → is_space file ioas f i ≡ b
+            → users_at (changed_at file ioas (with_users (row.users + 1)) rows) f i ≡ tables_over
+            (with_object (record { file = file; id = id; kind = kind.Hwpt ioas width automatic }) objects) f i
+        by_space true is =
+            let names = and_true (eqb f.0 file.0) (eqb i.0 ioas.0) is in
+            let one : over_by file (kind.Hwpt ioas width automatic) f i ≡ 1 =
+            rw (file_is f file names.0, id_is i ioas names.1, itself file.0, itself ioas.0) refl in
+            let here : users_at (changed_at file ioas (with_users (row.users + 1)) rows) f i ≡ row.users + 1 =
+            rw (file_is f file names.0, id_is i ioas names.1) (users_here rows file ioas (row.users + 1) row found) in
+            let was : row.users ≡ tables_over objects f i =
+            rw (file_is f file names.0, id_is i ioas names.1) (users_of_row file ioas row found) in
+            let sum = all in
+            omega (arith, one, here, was, sum)
+        by_space false is =
+            let none : over_by file (kind.Hwpt ioas width automatic) f i ≡ 0 = apart file.0 f.0 ioas.0 i.0 is in
+            let same = users_elsewhere rows file ioas (row.users + 1) f i is in
+            let was = counted f i in
+            let sum = all in
+            omega (arith, none, same, was, sum)
+          where
+            apart : (a b c d : ℕ) → (eqb b a && eqb d c) ≡ false
+                → ◌≡◌ {A = ℕ} (cond (eqb a b && eqb c d) 1 0) 0
+            apart a b c d other = grind (arith, nat_tests)
+
+    -- one fewer where one goes
+    pub table_goes : (file : FileNo) (ioas id : ObjId) (width : Width) (automatic : Bool) (row : Row (Held A))
+        → have_own_ids objects ≡ true → kind_of objects file id ≡ Some (kind.Hwpt ioas width automatic)
+        → find (is_at file ioas) rows ≡ Some row → AreCounted (without_object file id objects)
+        (changed_at file ioas (with_users (row.users - 1)) rows)
+    table_goes file ioas id width automatic row ids is_kind found f i = by_space (is_space file ioas f i) refl
+      where
+        all : tables_over (without_object file id objects) f i + over_by file (kind.Hwpt ioas width automatic) f i
+            ≡ tables_over objects f i
+        all = over-without objects file id (kind.Hwpt ioas width automatic) f i ids is_kind
+
+        by_space : (b : Bool) → is_space file ioas f i ≡ b
+            → users_at (changed_at file ioas (with_users (row.users - 1)) rows) f i ≡ tables_over
+            (without_object file id objects) f i
+        by_space true is =
+            let names = and_true (eqb f.0 file.0) (eqb i.0 ioas.0) is in
+            let one : over_by file (kind.Hwpt ioas width automatic) f i ≡ 1 =
+            rw (file_is f file names.0, id_is i ioas names.1, itself file.0, itself ioas.0) refl in
+            let here : users_at (changed_at file ioas (with_users (row.users - 1)) rows) f i ≡ row.users - 1 =
+            rw (file_is f file names.0, id_is i ioas names.1) (users_here rows file ioas (row.users - 1) row found) in
+            let was : row.users ≡ tables_over objects f i =
+            rw (file_is f file names.0, id_is i ioas names.1) (users_of_row file ioas row found) in
+            let sum = all in
+            omega (arith, one, here, was, sum)
+        by_space false is =
+            let none : over_by file (kind.Hwpt ioas width automatic) f i ≡ 0 = apart file.0 f.0 ioas.0 i.0 is in
+            let same = users_elsewhere rows file ioas (row.users - 1) f i is in
+            let was = counted f i in
+            let sum = all in
+            omega (arith, none, same, was, sum)
+          where
+            apart : (a b c d : ℕ) → (eqb b a && eqb d c) ≡ false
+                → ◌≡◌ {A = ℕ} (cond (eqb a b && eqb c d) 1 0) 0
+            apart a b c d other = grind (arith, nat_tests)
+
+    -- another object goes, on which no page table stands
+    pub other_goes : (file : FileNo) (id : ObjId) (k : ObjectKind) → have_own_ids objects ≡ true
+        → kind_of objects file id ≡ Some k → is_hwpt k ≡ false → tables_over objects file id ≡ 0
+        → AreCounted (without_object file id objects) (removed file id rows)
+    other_goes file id k ids is_kind other none f i =
+        let same = users-removed rows file id (counted file id ∙ none) f i in
+        let all = over-without objects file id k f i ids is_kind in
+        let not_over = other_over file k f i other in
+        let was = counted f i in
+        omega (arith, same, all, not_over, was)
+
+    -- all of a file go
+    pub file_goes : (file : FileNo) → AreCounted (filter (λ (o : Object). not (eqb o.file.0 file.0)) objects)
+        (filter (λ row. not (is_of_file file row)) rows)
+    file_goes file f i = users-closed rows file f i ∙ ap (cond (eqb f.0 file.0) 0) (counted f i)
+        ∙ sym (over-closed objects file f i)
+
+  -- a page table's object is removed from rows in which nobody uses it
+  pub counted-removed : (objects : List Object) (rows : List (Row (Held A))) (file : FileNo) (id : ObjId)
+      → users_at rows file id ≡ 0 → AreCounted objects rows → AreCounted objects (removed file id rows)
+  counted-removed objects rows file id none counted f i = users-removed rows file id none f i ∙ counted f i
+
+  pub counted-inserted : (objects : List Object) (row : Row (Held A)) (rows : List (Row (Held A))) → row.users ≡ 0
+      → find (is_at row.file row.id) rows ≡ None → AreCounted objects rows → AreCounted objects (inserted row rows)
+  counted-inserted objects row rows none unused counted f i = users-inserted row rows f i none unused ∙ counted f i
+
+  -- a count that goes down where nobody was counted stays
+  pub still_none : (rows : List (Row (Held A))) (file : FileNo) (id ioas : ObjId) (row : Row (Held A))
+      → find (is_at file ioas) rows ≡ Some row → users_at rows file id ≡ 0
+      → users_at (changed_at file ioas (with_users (row.users - 1)) rows) file id ≡ 0
+  still_none rows file id ioas row found none = by_space (is_space file ioas file id) refl
+    where
+      by_space : (b : Bool) → is_space file ioas file id ≡ b
+          → users_at (changed_at file ioas (with_users (row.users - 1)) rows) file id ≡ 0
+      by_space true is =
+          let names = and_true (eqb file.0 file.0) (eqb id.0 ioas.0) is in
+          let here : users_at (changed_at file ioas (with_users (row.users - 1)) rows) file id ≡ row.users - 1 =
+          rw (id_is id ioas names.1) (users_here rows file ioas (row.users - 1) row found) in
+          let was : users_at rows file id ≡ row.users = rw (id_is id ioas names.1) (ap users_from found) in
+          omega (arith, here, was, none)
+      by_space false is = users_elsewhere rows file ioas (row.users - 1) file id is ∙ none
