@@ -94,9 +94,22 @@ static WORKED_STEPS: [Said<'static>; 21] = [
 // Whether the digits are these bytes.
 fn are(alloc: Global, digits: &HexBytes, bytes: &[u8]) -> bool {
     match digits.to_vec(alloc) {
-        Ok(decoded) => digits.len() == bytes.len() && decoded.as_slice() == bytes,
+        Ok(decoded) => {
+            digits.len() == bytes.len() && decoded.as_slice() == bytes && are_written(digits, bytes)
+        }
         Err(_) => false,
     }
+}
+
+// Whether they are written to the front of a buffer, if they have room there.
+fn are_written(digits: &HexBytes, bytes: &[u8]) -> bool {
+    let len = digits.len();
+    if len > 64 {
+        return true;
+    }
+    let mut buffer = [0xa5; 64];
+    digits.write_to(&mut buffer);
+    &buffer[..len] == bytes
 }
 
 // Whether the step says this.

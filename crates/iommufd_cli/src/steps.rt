@@ -4,17 +4,24 @@ ghost use Rattle.std.specs.Prelude.{◌≡◌, ◌⊎◌, ◌<◌, ◌^◌, ℕ,
 ghost use Rattle.iommufd_cli.specs.Replies.{command_of, event_text, line, memory_text, ranges_text};
 ghost use Rattle.iommufd_cli.specs.Steps.{IsAnswered, IsApplied, IsAsked, IsCommanded, IsDecoded, IsIoctl, IsRanges};
 ghost use Rattle.iommufd_cli.specs.Steps.{text_of};
+ghost use Rattle.iofd_words.specs.declared.event.Event.TheVariants as event;
+ghost use Rattle.iofd_words.specs.declared.query.Query.TheVariants as query;
 
 use crate::line::Line;
 use crate::replies::ranges_line;
 use ioctl_codec::{Command, DecodeError, RangesRequest, decode};
-use iofd_words::{Act, CallError, Event, FileNo, PassNo, Query, Reply, Span};
+use iofd_words::{
+    Act, CallError, DeviceNo, Event, FileNo, Iova, PassNo, Query, Reply, Span, UserNo,
+};
 use iommufd_core::Core;
-use iommufd_script::{HexBytes, Step};
+use iommufd_script::{AccessBytes, HexBytes, Step};
 use std::alloc::Allocator;
 
 /// The caller that a session's records have.
 const CALLER: PassNo = PassNo(0);
+
+/// The most bytes of an ioctl that are decoded in place: all but those of ALLOW_IOVAS with several ranges.
+const SHORT: usize = 64;
 
 /// Carries out a step of the script, and writes the line for it, in place of what `out` had: what the reply tells, or
 /// `12 Memory` where memory was wanting, and then nothing has changed. A line of ranges, which may be long, is
@@ -34,27 +41,77 @@ pub fn answer_step<A: Allocator + Copy>(
         Step::Close(file) => Event::Close(*file),
         Step::UserMap(user, va) => Event::UserMap(*user, *va),
         Step::UserUnmap(user, va) => Event::UserUnmap(*user, *va),
-        Step::UserRead(user, va, len) => {
-            let (user, va, len) = (*user, *va, *len);
-            return answer_query(core, &Query::UserRead { user, va, len }, out);
+        Step::UserRead(user, va, len) => return answer_user_read(core, *user, *va, *len, out),
+        Step::UserWrite(user, va, bytes) => {
+            return answer_user_write(core, *user, *va, bytes, out);
         }
-        Step::UserWrite(user, va, bytes) => Event::UserWrite(*user, *va, bytes.burst()),
         Step::Bind(file, device) => Event::Bind(*file, *device),
         Step::Unbind(file, id) => Event::Unbind(*file, *id),
         Step::Attach(device, pt_id) => Event::Attach(*device, *pt_id),
         Step::Detach(device) => Event::Detach(*device),
         Step::Flush(device) => Event::Flush(*device),
         Step::DeviceRead(device, iova, len) => {
-            let (device, iova, len) = (*device, *iova, *len);
-            return answer_query(core, &Query::DeviceRead { device, iova, len }, out);
+            return answer_device_read(core, *device, *iova, *len, out);
         }
         Step::DeviceWrite(device, iova, bytes) => {
-            Event::DeviceWrite(*device, *iova, bytes.burst())
+            return answer_device_write(core, *device, *iova, bytes, out);
         }
         Step::FreeFrames => return answer_query(core, &Query::FreeFrames, out),
         Step::Held(user) => return answer_query(core, &Query::Held(*user), out),
     };
     answer_event(core, event, out)
+}
+
+// The line for a user's read. Each kind of access has a function of its own, so that no other step pays for its values.
+fn answer_user_read<A: Allocator>(
+    core: &Core<A>,
+    user: UserNo,
+    va: u64,
+    len: u8,
+    out: &mut Line,
+) -> Option<Vec<u8, A>>
+    ensures { IsAsked core.now (query.UserRead user va len) (text_of result out.new) core.now }
+{
+    answer_query(core, &Query::UserRead { user, va, len }, out)
+}
+
+// The line for a user's write.
+fn answer_user_write<A: Allocator + Copy>(
+    core: &mut Core<A>,
+    user: UserNo,
+    va: u64,
+    bytes: &AccessBytes<'_>,
+    out: &mut Line,
+) -> Option<Vec<u8, A>>
+    ensures { IsApplied core.old (event.UserWrite user va bytes.now) (text_of result out.new) core.new }
+{
+    answer_event(core, Event::UserWrite(user, va, bytes.burst()), out)
+}
+
+// The line for a device's read.
+fn answer_device_read<A: Allocator>(
+    core: &Core<A>,
+    device: DeviceNo,
+    iova: Iova,
+    len: u8,
+    out: &mut Line,
+) -> Option<Vec<u8, A>>
+    ensures { IsAsked core.now (query.DeviceRead device iova len) (text_of result out.new) core.now }
+{
+    answer_query(core, &Query::DeviceRead { device, iova, len }, out)
+}
+
+// The line for a device's write.
+fn answer_device_write<A: Allocator + Copy>(
+    core: &mut Core<A>,
+    device: DeviceNo,
+    iova: Iova,
+    bytes: &AccessBytes<'_>,
+    out: &mut Line,
+) -> Option<Vec<u8, A>>
+    ensures { IsApplied core.old (event.DeviceWrite device iova bytes.now) (text_of result out.new) core.new }
+{
+    answer_event(core, Event::DeviceWrite(device, iova, bytes.burst()), out)
 }
 
 // The line for an event: always a short one.
@@ -109,6 +166,26 @@ fn answer_query<A: Allocator>(core: &Core<A>, query: &Query, out: &mut Line) -> 
 
 // The line for an ioctl.
 fn answer_ioctl<A: Allocator + Copy>(
+    alloc: A,
+    core: &mut Core<A>,
+    file: FileNo,
+    number: u32,
+    bytes: &HexBytes<'_>,
+    out: &mut Line,
+) -> Option<Vec<u8, A>>
+    ensures { IsIoctl core.old file number bytes.now (text_of result out.new) core.new }
+{
+    let len = bytes.len();
+    if len > SHORT {
+        return answer_long_ioctl(alloc, core, file, number, bytes, out);
+    }
+    let mut buffer = [0; SHORT];
+    bytes.write_to(&mut buffer);
+    answer_bytes(alloc, core, file, number, &buffer[..len], out)
+}
+
+// The line for an ioctl whose bytes take memory.
+fn answer_long_ioctl<A: Allocator + Copy>(
     alloc: A,
     core: &mut Core<A>,
     file: FileNo,

@@ -7,3 +7,4 @@ pub mod Beginnings
 pub mod Bools
 pub mod Spans
 pub mod Ascii
+pub mod Whole

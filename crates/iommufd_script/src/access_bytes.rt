@@ -41,9 +41,7 @@ impl<'a> AccessBytes<'a> {
     {
         let len = self.bytes.len();
         let mut bytes = [0; 64];
-        for i in 0..len {
-            bytes[i] = self.bytes.byte_at(i);
-        }
+        self.bytes.write_to(&mut bytes);
         Burst::new(&bytes[..len]).unwrap()
     }
 }

@@ -149,11 +149,14 @@ impl<'a> Fields<'a> {
         Some((width_of(field)?, others))
     }
 
-    // Bytes, or `-` for none.
-    #[tactic(auto, unfolding(crate::specs::Fields::next))]
+    // Bytes, or `-` for none. They mostly end their line, and no digit is a space; so all that is left is tried first.
+    #[tactic(auto, using(crate::proofs::Whole::whole_field), unfolding(crate::specs::Fields::next))]
     pub fn bytes(self) -> Option<(HexBytes<'a>, Fields<'a>)>
         ensures { result ≡ next Bytes self.entry }
     {
+        if let Some(bytes) = HexBytes::of(self.rest?) {
+            return Some((bytes, Fields { rest: None }));
+        }
         let (field, others) = self.split()?;
         Some((HexBytes::of(field)?, others))
     }
@@ -163,8 +166,8 @@ impl<'a> Fields<'a> {
     pub fn access(self) -> Option<(AccessBytes<'a>, Fields<'a>)>
         ensures { result ≡ next Access self.entry }
     {
-        let (field, others) = self.split()?;
-        Some((AccessBytes::of(HexBytes::of(field)?)?, others))
+        let (bytes, others) = self.bytes()?;
+        Some((AccessBytes::of(bytes)?, others))
     }
 
     // Whether the mark `x86` is the first field, which is taken then.

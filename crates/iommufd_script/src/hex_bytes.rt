@@ -1,7 +1,7 @@
 //! Bytes that a script spells in hexadecimal.
 
 ghost use Rattle.std.specs.Prelude.{◌≡◌, ◌==◌, ◌%◌, ◌/◌, ◌&&◌, ◌≤◌, Some, IfOk, OnErr, length, nat_lt, slice_index};
-ghost use Rattle.std.specs.Prelude.{if◌then◌else◌, None, true, ◌<◌, ◌+◌, ◌*◌};
+ghost use Rattle.std.specs.Prelude.{if◌then◌else◌, None, true, ◌<◌, ◌+◌, ◌*◌, take};
 ghost use Rattle.std.specs.Char.{digit_value};
 ghost use Rattle.std.specs.List.{list_all};
 ghost use Rattle.iommufd_script.specs.Digits.{bytes_of, is_lower_digit, pairs};
@@ -91,6 +91,16 @@ impl<'a> HexBytes<'a> {
     {
         let digits = self.digits;
         byte_of(digits[2 * i], digits[2 * i + 1])
+    }
+
+    /// Writes them to the front of a buffer, which has to have room for them.
+    pub fn write_to(&self, buffer: &mut [u8; 64])
+        requires { length self.now ≤ 64 }
+        ensures { take (length self.now) buffer.new ≡ self.now }
+    {
+        for i in 0..self.len() {
+            buffer[i] = self.byte_at(i);
+        }
     }
 
     /// They, in memory of this allocator. The error comes only where the memory was refused; no bytes need none.

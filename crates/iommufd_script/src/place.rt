@@ -66,7 +66,7 @@ impl Place {
     // The place behind a line of the head; None where it may not come here. Few lines of a script are of the head, so
     // its code stands apart from that of the steps.
     #[inline(never)]
-    fn after_heading(self, line: &HeadLine<'_>) -> Option<Place>
+    pub fn after_heading(self, line: &HeadLine<'_>) -> Option<Place>
         ensures { result ≡ (if not self.begun && allows self line.now then Some (behind self line.now) else None) }
     {
         if self.begun || !self.allows(line) {

@@ -1,15 +1,14 @@
 //! A whole script: its first bad line, and its steps.
 
-ghost use Rattle.std.specs.Prelude.{◌≡◌, ◌<◌, ◌^◌, [], ◌∷◌, ◌++◌, None, MatchOption, IfOk, IfErr, OnOk, length};
+ghost use Rattle.std.specs.Prelude.{◌≡◌, ◌<◌, ◌^◌, [], ◌∷◌, None, MatchOption, IfOk, IfErr, length};
 ghost use Rattle.iommufd_script.specs.Opening.{bad_line_in};
-ghost use Rattle.iommufd_script.specs.Script.{first_bad_line, step_before, steps_of};
+ghost use Rattle.iommufd_script.specs.Script.{first_bad_line, steps_of};
 
 use crate::error::ScriptError;
 use crate::line::{Line, Step};
 use crate::parsing::parse_line;
 use crate::place::Place;
 use crate::split::split_line;
-use iofd_words::NoMemory;
 use std::alloc::{Allocator, Global};
 use std::marker::Model;
 use std::vec::IntoIter;
@@ -70,14 +69,24 @@ impl<'a, A: Allocator> Steps<'a, A> {
         while !rest.is_empty() {
             let (line, others) = split_line(rest);
             number += 1;
-            let said = parse_line(line);
-            let Some(next) = place.after(&said) else {
-                return Err(ScriptError::BadLine(number));
-            };
-            if add_step(&mut steps, said).is_err() {
-                return Err(without_memory(text));
+            match parse_line(line) {
+                Some(Line::Step(step)) => {
+                    if !place.begun {
+                        return Err(ScriptError::BadLine(number));
+                    }
+                    if steps.push(step).is_err() {
+                        return Err(without_memory(text));
+                    }
+                }
+                Some(Line::Head(heading)) => {
+                    let Some(next) = place.after_heading(&heading) else {
+                        return Err(ScriptError::BadLine(number));
+                    };
+                    place = next;
+                }
+                Some(Line::Skipped) => {}
+                None => return Err(ScriptError::BadLine(number)),
             }
-            place = next;
             rest = others;
         }
         if !place.begun {
@@ -94,19 +103,6 @@ impl<'a, A: Allocator> Steps<'a, A> {
     {
         self.steps.next()
     }
-}
-
-// Adds the step that a line says, if it says one.
-fn add_step<'a, A: Allocator>(
-    steps: &mut Vec<Step<'a>, A>,
-    line: Option<Line<'a>>,
-) -> Result<(), NoMemory>
-    ensures { OnOk result (steps.new.items ≡ steps.old.items ++ step_before line.entry []) }
-{
-    if let Some(Line::Step(step)) = line {
-        steps.push(step)?;
-    }
-    Ok(())
 }
 
 // Why a script isn't carried out for whose steps there is no memory.
