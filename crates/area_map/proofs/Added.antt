@@ -1,5 +1,5 @@
 -- An area added in order.
-use Rattle.std.proofs.Common.{◌≡◌, ℕ, suc, ◌+◌, ◌<◌, ◌≤◌, true, false, ltb, List, [], ◌∷◌, length, refl, ap, arith}
+use Rattle.std.proofs.Common.{◌≡◌, ℕ, suc, ◌+◌, ◌<◌, ◌≤◌, true, false, ltb, List, [], ◌∷◌, length, refl, ap, ◌∙◌, arith}
 use Rattle.std.proofs.Common.{⊎_elim}
 use Rattle.std.specs.List.{insert, prefix_len}
 use Rattle.std.proofs.lemmas.Bool.{cases_lt}
@@ -59,3 +59,11 @@ length-with_area a (x ∷ xs) =
     let rest = length-with_area a xs in
     ⊎_elim (λ (before : a.span.first < x.span.first). grind (arith, nat_tests))
     (λ (behind : x.span.first ≤ a.span.first). grind (arith, nat_tests)) (cases_lt a.span.first x.span.first)
+
+-- what is inserted behind the areas that end below it
+pub inserted-with : (a : Area) (xs seen ys : List Area) (place : ℕ) → xs ≡ seen → AreApart seen
+    → areas_meet a.span seen ≡ false → a.span.first ≤ a.span.last
+    → place ≡ prefix_len (λ (x : Area). ltb x.span.last a.span.first) xs → ys ≡ insert xs place a
+    → ys ≡ with_area a seen
+inserted-with a xs seen ys place is apart alone ordered at made =
+    made ∙ rw (at, is) (with_area-place a 0 seen apart ordered alone)

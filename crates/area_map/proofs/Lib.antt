@@ -12,3 +12,4 @@ pub mod RowsRemoved
 pub mod Hull
 pub mod RowsKept
 pub mod FirstFree
+pub mod Widest

@@ -1,6 +1,6 @@
 -- Areas in rows, one row behind the other.
-use Rattle.std.specs.Prelude.{ℕ, ◌+◌, ◌-◌, ◌<◌, ◌≡◌, Bool, true, false, ◌||◌, get_or, nat_le, min, max, Option, Some}
-use Rattle.std.specs.Prelude.{None, IfSome, List, [], ◌∷◌, ◌++◌, length, if◌then◌else◌}
+use Rattle.std.specs.Prelude.{ℕ, suc, zero, ◌+◌, ◌-◌, ◌<◌, ◌≤◌, ◌≡◌, Bool, true, false, ◌||◌, get_or, nat_le, min, max}
+use Rattle.std.specs.Prelude.{Option, Some, None, IfSome, List, [], ◌∷◌, ◌++◌, length, take, drop, if◌then◌else◌}
 use Rattle.iofd_words.specs.Bounds.{Bounds}
 use Rattle.iofd_words.specs.Span.{lies_in}
 use Rattle.iofd_words.specs.declared.rows.Area.{Area}
@@ -35,6 +35,25 @@ widest_behind last (area ∷ areas) = max (area.span.first - last - 1) (widest_b
 abbrev pub widest_of : List Area → ℕ
 widest_of [] = 0
 widest_of (area ∷ areas) = widest_behind area.span.last areas
+
+-- how many free addresses lie before the area at this place, behind one that ends there and the others before it; more
+-- than any gap has where no area stands at the place
+abbrev pub gap_behind : ℕ → ℕ → List Area → ℕ
+gap_behind last place [] = 18446744073709551615
+gap_behind last zero (area ∷ areas) = area.span.first - last - 1
+gap_behind last (suc place) (area ∷ areas) = gap_behind area.span.last place areas
+
+-- the same, behind the area before the place; more than any gap has where there is none on a side
+abbrev pub gap_at : ℕ → List Area → ℕ
+gap_at place [] = 18446744073709551615
+gap_at zero (area ∷ areas) = 18446744073709551615
+gap_at (suc place) (area ∷ areas) = gap_behind area.span.last place areas
+
+-- some side by side from this place on are gone
+pub record IsCutAt (place : ℕ) (old new : List Area) : Type 0 where
+  pub to : ℕ
+  pub order : place ≤ to
+  pub rest : new ≡ take place old ++ drop to old
 
 -- no area begins below this number
 abbrev pub starts_from : ℕ → List Area → Bool

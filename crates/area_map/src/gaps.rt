@@ -2,7 +2,7 @@
 
 ghost use Rattle.std.specs.Prelude.{◌≡◌, ◌+◌, ◌<◌, ◌≤◌, ◌^◌, MatchOption};
 ghost use Rattle.area_map.specs.Areas.{AreApart, HasNoneFree, IsFirstFree};
-ghost use Rattle.area_map.specs.Rows.{in_rows, AreRows, first_free, widest_of, widest_behind};
+ghost use Rattle.area_map.specs.Rows.{in_rows, AreRows, first_free, gap_at, widest_of, widest_behind};
 
 use crate::lookups;
 use crate::row::Row;
@@ -69,7 +69,23 @@ pub fn widest_of(areas: &[Area]) -> u64
     }
 }
 
-// The same, of areas behind one that ends there.
+/// How many free addresses lie between the area before this place and the one at it; more than any gap has where there
+/// is none on a side.
+pub fn gap_at(areas: &[Area], place: usize) -> u64
+    ensures { result ≡ gap_at place areas.now }
+{
+    if place == 0 || place >= areas.len() {
+        return u64::MAX;
+    }
+    let end = areas[place - 1].span.last();
+    areas[place]
+        .span
+        .first()
+        .saturating_sub(end)
+        .saturating_sub(1)
+}
+
+// The same as `widest_of`, of areas behind one that ends there.
 fn widest_behind(last: u64, areas: &[Area]) -> u64
     ensures { result ≡ widest_behind last areas.now }
 {

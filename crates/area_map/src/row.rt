@@ -3,7 +3,7 @@
 ghost use Rattle.std.specs.Prelude.{◌≡◌, ◌==◌, ◌+◌, ◌<◌, ◌≤◌, ◌^◌, ◌++◌, false, [], IfOk, length, map, take, drop};
 ghost use Rattle.std.specs.Prelude.{vec_capacity};
 ghost use Rattle.area_map.specs.Areas.{AreApart, with_area, changed, areas_outside};
-ghost use Rattle.area_map.specs.Rows.{end_of, first_free, starts_from, widest_of};
+ghost use Rattle.area_map.specs.Rows.{end_of, first_free, starts_from, widest_of, IsCutAt};
 ghost use Rattle.iofd_words.specs.Areas.{areas_meet};
 
 use crate::marking::Change;
@@ -108,9 +108,13 @@ impl<A: Allocator> Row<A> {
         ensures { self.new ≡ with_area area self.old }
     {
         let place = lookups::count_below(&self.areas, area.span.first());
+        let parted = gaps::gap_at(&self.areas, place);
         self.areas.insert(place, area).unwrap();
         self.end = end_of(&self.areas);
-        self.widest = gaps::widest_of(&self.areas);
+        // The widest gap stays where it isn't the one that is parted.
+        if self.widest <= parted {
+            self.widest = gaps::widest_of(&self.areas);
+        }
     }
 
     /// The areas from this place on go to the other row.
@@ -152,9 +156,13 @@ impl<A: Allocator> Row<A> {
         ensures count { result + length self.new ≡ length self.old }
     {
         let before = self.areas.len();
-        remove_within(&mut self.areas, span);
+        let place = remove_within(&mut self.areas, span);
         self.end = end_of(&self.areas);
-        self.widest = gaps::widest_of(&self.areas);
+        // What they leave joins the gaps beside them, if areas are left on both sides.
+        self.widest = match gaps::gap_at(&self.areas, place) {
+            u64::MAX => gaps::widest_of(&self.areas),
+            joined => self.widest.max(joined),
+        };
         before - self.areas.len()
     }
 }
@@ -185,16 +193,18 @@ fn move_rest<A: Allocator>(areas: &mut Vec<Area, A>, at: usize, others: &mut Vec
     }
 }
 
-// The areas that lie in the span go. They stand side by side.
-fn remove_within<A: Allocator>(areas: &mut Vec<Area, A>, span: Span)
+// The areas that lie in the span go, which stand side by side. It answers where they stood.
+fn remove_within<A: Allocator>(areas: &mut Vec<Area, A>, span: Span) -> usize
     requires { AreApart areas.old.items }
     ensures areas { areas.new.items ≡ areas_outside span areas.old.items }
+    ensures cut { IsCutAt result areas.old.items areas.new.items }
     ensures len { length areas.new.items ≤ length areas.old.items }
     ensures capacity { vec_capacity areas.new ≡ vec_capacity areas.old }
 {
     let from = lookups::count_before(areas, span.first());
     let count = lookups::count_until(&areas[from..], span.last());
     remove_between(areas, from, from + count);
+    from
 }
 
 // The areas from the one place on and before the other go, from the last one on: where all behind go, none moves.
