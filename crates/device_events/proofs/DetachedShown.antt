@@ -1,6 +1,6 @@
 -- What is kept after an attachment ended shows the world after it.
 use Rattle.std.proofs.Common.{◌≡◌, ℕ, Bool, true, false, not, eqb, Option, Some, None, List, [], map, refl, sym, ◌∙◌}
-use Rattle.std.proofs.Common.{ap, subst, ◌+◌, ◌-◌, ◌<◌, arith, Vec, IfSome}
+use Rattle.std.proofs.Common.{◌&&◌, ltb, ap, subst, ◌+◌, ◌-◌, ◌<◌, arith, Vec, IfSome}
 use Rattle.iofd_rows.specs.Ids.{have_own_ids}
 use Rattle.iofd_words.specs.Checks.{detach_checks}
 use Rattle.iofd_words.specs.FirstTrue.{first_true}
@@ -41,7 +41,7 @@ use Rattle.iofd_rows.proofs.Owed.{table_of}
 use Rattle.iofd_rows.proofs.Paid.{paid_areas_of}
 use Rattle.server_state.specs.Held.{areas_at, is_proper, object_of, objects_in, space_of}
 use Rattle.server_state.specs.Mapping.{own_areas}
-use Rattle.device_events.specs.Attaching.{is_idle}
+use Rattle.device_events.specs.Attaching.{has_no_user, is_automatic_at, is_idle}
 use Rattle.server_state.specs.Choice.{AreFramesChosen, IsChosen}
 use Rattle.server_state.specs.Leads.{leads_of}
 use Rattle.server_state.specs.Shows.{ObjectsShown, Shows, TablesShown}
@@ -51,10 +51,16 @@ use Rattle.server_state.specs.Tables.{has_own_width, page_tables_among}
 use Rattle.server_state.specs.declared.held.Held.{Held}
 use Rattle.server_state.specs.declared.state.State.{State}
 use Rattle.server_state.proofs.AreasBecome.{own_at}
+use Rattle.server_state.proofs.Counted.{own_row}
 use Rattle.server_state.proofs.Counted.{areas-counted, objects-counted, over_spaces, proper-counted, some_over}
 use Rattle.server_state.proofs.Counted.{space_row, space_under, still_none, table_goes, users-removed, users_of_row}
 use Rattle.server_state.proofs.Counted.{where_found}
-use Rattle.server_state.specs.Users.{AreCounted, tables_over, users_at}
+use Rattle.server_state.specs.Users.{AreCounted, devices_on, tables_over, users_at}
+use Rattle.server_state.proofs.CountsShown.{device_leaves}
+use Rattle.server_state.proofs.DevicesOn.{has_devices, none_on}
+use Rattle.iofd_words.specs.Attachments.{has_device_on}
+use Rattle.iofd_rows.proofs.Bools.{and_true, not_true}
+use Rattle.std.proofs.lemmas.Bool.Decides.{nat_tests}
 use Rattle.device_events.proofs.Detached.{all_stay, bindings_stay, left_of, none_goes, none_of, one_goes, others_stay}
 use Rattle.device_events.proofs.PaidLeads.{paid_leads}
 use Rattle.device_events.proofs.ReleasedAfter.{may_release_after, shown_after_it, tables_stand_after}
@@ -184,7 +190,11 @@ module _ {A : Type 0} where
       (space : space_of (objects_in s.objects) (attachment_of s.attachments.items device) ≡ Some (file, ioas))
       (pays : IsOrderly s.objects → HasAreas a.file ioas
       (all_paid device (areas_at s.objects.rows a.file ioas)) s.objects table)
-      (without : attachments.items ≡ without_attachment device s.attachments.items) where
+      (without : attachments.items ≡ without_attachment device s.attachments.items)
+      (less : Table (Held A))
+      (leaves : IfSome (own table a.file of_kind.Hwpt a.hwpt) (λ row. 0 < row.users
+      → less.rows ≡ changed_at a.file a.hwpt (with_users (row.users - 1)) table.rows))
+      (less_same : less ≡ record table { rows = less.rows }) where
     end : Ending w device a ioas
     end = ending w s device a file ioas shows found space
 
@@ -194,6 +204,61 @@ module _ {A : Type 0} where
 
     others : attachments.items ≡ without_attachment device w.attachments
     others = rw (← shows.devices.attached) at without
+
+    -- what the page table is
+    of_world : (width : Width) × (automatic : Bool)
+        × (kind_of w.objects a.file a.hwpt ≡ Some (kind.Hwpt ioas width automatic))
+    of_world = table_of w.objects a ioas end.over
+
+    -- the page table has one user fewer
+    less_shown : ObjectsShown w.settings w.closed w.objects (without_attachment device w.attachments)
+        (all_paid device w.areas) less
+    less_shown =
+        let (width, automatic, kind_w) = of_world in
+        device_leaves w.settings w.closed w.objects w.attachments (all_paid device w.areas) table less
+        paid_shown.objects a ioas width automatic kind_w less_same device tidy.debts.once end.found leaves
+
+    kind_less : (width : Width) (automatic : Bool)
+        → kind_of w.objects a.file a.hwpt ≡ Some (kind.Hwpt ioas width automatic)
+        → kind_of (objects_in less) a.file a.hwpt ≡ Some (kind.Hwpt ioas width automatic)
+    kind_less width automatic kind_w =
+        sym (ap (λ (objects : List Object). kind_of objects a.file a.hwpt) less_shown.rows) ∙ kind_w
+
+    -- no page table stands over a page table
+    none_over_it : tables_over w.objects a.file a.hwpt ≡ 0
+    none_over_it =
+        let (width, automatic, kind_w) = of_world in
+        let no_space : has_ioas w.objects a.file a.hwpt ≡ false =
+        ap (λ (o : Option ObjectKind). elim o [ Some k ↦ is_ioas k | None ↦ false ]) kind_w in
+        over_spaces w.objects a.file a.hwpt tidy.debts.spaces no_space
+
+    -- whether a device is left on it is told by its users
+    users_tell : has_no_user less a.file a.hwpt
+        ≡ not (has_device_on (without_attachment device w.attachments) a.file a.hwpt)
+    users_tell =
+        let (width, automatic, kind_w) = of_world in
+        let (row, found, there) = own_row less.rows a.file a.hwpt (kind.Hwpt ioas width automatic) less_shown.proper
+        (kind_less width automatic kind_w) in
+        let many = users_of_row w.objects (without_attachment device w.attachments) less.rows less_shown.counted
+        a.file a.hwpt row there in
+        let none = none_over_it in
+        let on : row.users ≡ devices_on (without_attachment device w.attachments) a.file a.hwpt =
+        omega (arith, many, none) in
+        ap (λ (o : Option (Row (Held A))). elim o as (λ _. Bool) [ Some r ↦ eqb r.users 0 | None ↦ true ]) found
+        ∙ none_or_some row.users
+        ∙ ap (λ (n : ℕ). not (ltb 0 n)) on
+        ∙ ap not (sym (has_devices (without_attachment device w.attachments) a.file a.hwpt))
+      where
+        none_or_some : (n : ℕ) → eqb n 0 ≡ not (ltb 0 n)
+        none_or_some n = grind (arith, nat_tests)
+
+    -- so whether the page table goes is told by the table
+    table_tells : (is_automatic_at (objects_in less) a.file a.hwpt && has_no_user less a.file a.hwpt)
+        ≡ is_idle w.objects (without_attachment device w.attachments) a.file a.hwpt
+    table_tells =
+        ap (λ (l : List Object). is_automatic_at l a.file a.hwpt && has_no_user less a.file a.hwpt)
+        (sym less_shown.rows)
+        ∙ ap (λ (b : Bool). is_automatic_at w.objects a.file a.hwpt && b) users_tell
 
     -- the objects that are left
     abbrev left : List Object
@@ -208,7 +273,8 @@ module _ {A : Type 0} where
     -- were given back
     module _ (areas_gone pins_gone : ℕ → ℕ) (rows : List TableFrame) (kept : PageTables) (before : FramePool)
         (new : Table (Held A)) (memory : Memory) (pool : FramePool)
-        (objects : ObjectsShown w.settings w.closed left (all_paid device w.areas) new)
+        (objects : ObjectsShown w.settings w.closed left (without_attachment device w.attachments)
+        (all_paid device w.areas) new)
         (fewer : AreFewer areas_gone pins_gone w left (all_paid device w.areas))
         (frames : FramesShown w.settings.pool w.writes rows s.memory before)
         (tables : TablesShown (record w { objects = left; table_frames = rows }) kept before)
@@ -250,23 +316,24 @@ module _ {A : Type 0} where
     -- ---- the page table stays
 
     pub shows_detached : (via : Option FrameNo) (given : List FrameNo) → given ≡ []
-        → is_idle (objects_in table) attachments.items a.file a.hwpt ≡ false
-        → IsStep at w device via given (record s { objects = table; attachments = attachments })
+        → (is_automatic_at (objects_in less) a.file a.hwpt && has_no_user less a.file a.hwpt) ≡ false
+        → IsStep at w device via given (record s { objects = less; attachments = attachments })
     unfolding changed settle detached Answers
     shows_detached via given nothing busy =
         let busy_w : is_idle w.objects (without_attachment device w.attachments) a.file a.hwpt ≡ false =
-        rw (← others, paid_shown.objects.rows) busy in
+        sym table_tells ∙ busy in
         let stays = none_goes w.objects (without_attachment device w.attachments) a tidy.ids busy_w in
         let fewer = fewer_none w device left (λ f i. ap (λ (l : List Object). has_hwpt l f i) stays) in
         let shown =
-        shows_ended never never w.table_frames s.page_tables s.pool table s.memory s.pool
+        shows_ended never never w.table_frames s.page_tables s.pool less s.memory s.pool
         (record {
-          rows = stays ∙ paid_shown.objects.rows;
-          proper = paid_shown.objects.proper;
-          spaces = paid_shown.objects.spaces;
-          files = paid_shown.objects.files;
-          counted = λ f i. paid_shown.objects.counted f i
-              ∙ ap (λ (l : List Object). tables_over l f i) (sym stays);
+          rows = stays ∙ less_shown.rows;
+          proper = less_shown.proper;
+          spaces = less_shown.spaces;
+          files = less_shown.files;
+          counted = λ f i. less_shown.counted f i
+              ∙ ap (λ (l : List Object). tables_over l f i + devices_on (without_attachment device w.attachments) f i)
+              (sym stays);
         })
         fewer shows.frames
         (record {
@@ -285,22 +352,22 @@ module _ {A : Type 0} where
         in
         let takes : leaves_table w.objects w.attachments (attachment_of w.attachments device) ≡ true =
         ap (leaves_table w.objects w.attachments) end.found ∙ leaves in
-        subst (λ (l : List FrameNo). IsStep at w device via l (record s { objects = table; attachments = attachments }))
+        subst (λ (l : List FrameNo). IsStep at w device via l (record s { objects = less; attachments = attachments }))
         (sym nothing)
         (still {A = A} at (event.Detach device) via reply.Done (record s {
-          objects = table;
+          objects = less;
           attachments = attachments;
         }) w tidy tt tt
-        (subst (λ (v : World). Shows v (record s { objects = table; attachments = attachments })) (sym ends) shown)
+        (subst (λ (v : World). Shows v (record s { objects = less; attachments = attachments })) (sym ends) shown)
         tt takes)
 
     -- ---- the page table goes with the attachment
 
     module _ (base new : Table (Held A))
-        (idle : is_idle (objects_in table) attachments.items a.file a.hwpt ≡ true)
-        (counts : IfSome (own table a.file of_kind.Ioas ioas) (λ row. 0 < row.users
-        → base.rows ≡ changed_at a.file ioas (with_users (row.users - 1)) table.rows))
-        (others_same : base ≡ record table { rows = base.rows })
+        (idle : (is_automatic_at (objects_in less) a.file a.hwpt && has_no_user less a.file a.hwpt) ≡ true)
+        (counts : IfSome (own less a.file of_kind.Ioas ioas) (λ row. 0 < row.users
+        → base.rows ≡ changed_at a.file ioas (with_users (row.users - 1)) less.rows))
+        (others_same : base ≡ record less { rows = base.rows })
         (dropped : destroy_refusal base a.file of_kind.Hwpt a.hwpt ≡ None
         → new.rows ≡ removed a.file a.hwpt base.rows)
         (files : new.files ≡ base.files)
@@ -311,75 +378,61 @@ module _ {A : Type 0} where
         (releases : IfAllStand s.pool s.page_tables.tables
         (λ frames leads. Releases (rows_found frames (hwpt_of s.page_tables.tables a.file a.hwpt)) s.pool
         before)) where
+      idle_w : is_idle w.objects (without_attachment device w.attachments) a.file a.hwpt ≡ true
+      idle_w = sym table_tells ∙ idle
+
       one_left : left ≡ without_object a.file a.hwpt w.objects
       one_left = one_goes w.objects (without_attachment device w.attachments) a tidy.ids
-          (idle_in w.objects others paid_shown.objects.rows)
-        where
-          idle_in : (objects : List Object) → attachments.items ≡ without_attachment device w.attachments
-              → objects ≡ objects_in table → is_idle objects
-              (without_attachment device w.attachments) a.file a.hwpt ≡ true
-          idle_in objects same rows = ap (λ (l : List Attachment). is_idle objects l a.file a.hwpt) (sym same)
-              ∙ ap (λ (l : List Object). is_idle l attachments.items a.file a.hwpt) rows ∙ idle
-
-      -- what the page table is
-      of_world : (width : Width) × (automatic : Bool)
-          × (kind_of w.objects a.file a.hwpt ≡ Some (kind.Hwpt ioas width automatic))
-      of_world = table_of w.objects a ioas end.over
-
-      kind_table : (width : Width) (automatic : Bool)
-          → kind_of w.objects a.file a.hwpt ≡ Some (kind.Hwpt ioas width automatic)
-          → kind_of (objects_in table) a.file a.hwpt ≡ Some (kind.Hwpt ioas width automatic)
-      kind_table width automatic kind_w =
-          sym (ap (λ (objects : List Object). kind_of objects a.file a.hwpt) paid_shown.objects.rows) ∙ kind_w
+          idle_w
 
       -- its address space has one user fewer
-      space_is : has_ioas (objects_in table) a.file ioas ≡ true
+      space_is : has_ioas (objects_in less) a.file ioas ≡ true
       space_is =
           let (width, automatic, kind_w) = of_world in
-          ap (λ (l : List Object). has_ioas l a.file ioas) (sym paid_shown.objects.rows)
+          ap (λ (l : List Object). has_ioas l a.file ioas) (sym less_shown.rows)
           ∙ space_under w.objects a.file a.hwpt ioas width automatic tidy.debts.spaces kind_w
 
-      its_space : (row : Row (Held A)) × (find (is_own a.file of_kind.Ioas ioas) table.rows ≡ Some row)
-          × (find (is_at a.file ioas) table.rows ≡ Some row)
-      its_space = space_row table.rows a.file ioas paid_shown.objects.proper space_is
+      its_space : (row : Row (Held A)) × (find (is_own a.file of_kind.Ioas ioas) less.rows ≡ Some row)
+          × (find (is_at a.file ioas) less.rows ≡ Some row)
+      its_space = space_row less.rows a.file ioas less_shown.proper space_is
 
       abbrev fewer_rows : List (Row (Held A))
-      fewer_rows = changed_at a.file ioas (with_users (its_space.0.users - 1)) table.rows
+      fewer_rows = changed_at a.file ioas (with_users (its_space.0.users - 1)) less.rows
 
       base_rows : base.rows ≡ fewer_rows
       base_rows =
           let (width, automatic, kind_w) = of_world in
-          let many = users_of_row w.objects table.rows paid_shown.objects.counted a.file ioas its_space.0
-          its_space.2 in
+          let many = users_of_row w.objects (without_attachment device w.attachments) less.rows less_shown.counted
+          a.file ioas its_space.0 its_space.2 in
           let some = some_over w.objects a.file a.hwpt ioas width automatic tidy.ids kind_w in
           where_found (λ (r : Row (Held A)). 0 < r.users
-          → base.rows ≡ changed_at a.file ioas (with_users (r.users - 1)) table.rows)
-          (own table a.file of_kind.Ioas ioas) its_space.0 its_space.1 counts (omega (arith, many, some))
+          → base.rows ≡ changed_at a.file ioas (with_users (r.users - 1)) less.rows)
+          (own less a.file of_kind.Ioas ioas) its_space.0 its_space.1 counts (omega (arith, many, some))
 
-      objects_base : objects_in base ≡ objects_in table
+      objects_base : objects_in base ≡ objects_in less
       objects_base = ap (map object_of) base_rows
-          ∙ objects-counted table.rows a.file ioas (its_space.0.users - 1)
+          ∙ objects-counted less.rows a.file ioas (its_space.0.users - 1)
 
       proper_base : list_all is_proper base.rows ≡ true
       proper_base = ap (list_all is_proper) base_rows
-          ∙ proper-counted table.rows a.file ioas (its_space.0.users - 1) ∙ paid_shown.objects.proper
+          ∙ proper-counted less.rows a.file ioas (its_space.0.users - 1) ∙ less_shown.proper
 
       -- nobody uses the page table
       none_base : users_at base.rows a.file a.hwpt ≡ 0
       none_base =
-          let (width, automatic, kind_w) = of_world in
-          let no_space : has_ioas w.objects a.file a.hwpt ≡ false =
-          ap (λ (o : Option ObjectKind). elim o [ Some k ↦ is_ioas k | None ↦ false ]) kind_w in
+          let here = less_shown.counted a.file a.hwpt in
+          let over = none_over_it in
+          let on = none_on (without_attachment device w.attachments) a.file a.hwpt (not_true _
+          (and_true (is_automatic_at w.objects a.file a.hwpt)
+          (not (has_device_on (without_attachment device w.attachments) a.file a.hwpt)) idle_w).1) in
           ap (λ (l : List (Row (Held A))). users_at l a.file a.hwpt) base_rows
-          ∙ still_none table.rows a.file a.hwpt ioas its_space.0 its_space.2
-          (paid_shown.objects.counted a.file a.hwpt
-          ∙ over_spaces w.objects a.file a.hwpt tidy.debts.spaces no_space)
+          ∙ still_none less.rows a.file a.hwpt ioas its_space.0 its_space.2 (omega (arith, here, over, on))
 
       kind_base : (width : Width) (automatic : Bool)
           → kind_of w.objects a.file a.hwpt ≡ Some (kind.Hwpt ioas width automatic)
           → kind_of (objects_in base) a.file a.hwpt ≡ Some (kind.Hwpt ioas width automatic)
       kind_base width automatic kind_w =
-          ap (λ (l : List Object). kind_of l a.file a.hwpt) objects_base ∙ kind_table width automatic kind_w
+          ap (λ (l : List Object). kind_of l a.file a.hwpt) objects_base ∙ kind_less width automatic kind_w
 
       rows : new.rows ≡ removed a.file a.hwpt base.rows
       rows = let (width, automatic, kind_w) = of_world in dropped
@@ -387,39 +440,41 @@ module _ {A : Type 0} where
           (kind_base width automatic kind_w) none_base)
 
       objects : left ≡ map object_of new.rows
-      objects = one_left ∙ ap (without_object a.file a.hwpt) (paid_shown.objects.rows ∙ sym objects_base)
+      objects = one_left ∙ ap (without_object a.file a.hwpt) (less_shown.rows ∙ sym objects_base)
           ∙ sym (objects-removed base.rows a.file a.hwpt) ∙ ap (map object_of) (sym rows)
 
       areas : (f : FileNo) (i : ObjId) → areas_of (all_paid device w.areas) f i ≡ areas_at new.rows f i
       areas f i =
           let (width, automatic, kind_w) = of_world in
-          paid_shown.objects.spaces f i
+          less_shown.spaces f i
           ∙ sym (areas_removed base.rows a.file a.hwpt ioas width automatic (kind_base width automatic kind_w) f i
           ∙ ap (λ (l : List (Row (Held A))). areas_at l f i) base_rows
-          ∙ areas-counted table.rows a.file ioas (its_space.0.users - 1) f i)
+          ∙ areas-counted less.rows a.file ioas (its_space.0.users - 1) f i)
           ∙ ap (λ rows. areas_at rows f i) (sym rows)
 
       proper : list_all is_proper new.rows ≡ true
       proper = ap (list_all is_proper) rows ∙ all_filter is_proper (λ row. not (is_at a.file a.hwpt row)) base.rows
           proper_base
 
-      counted : AreCounted left new.rows
+      counted : AreCounted left (without_attachment device w.attachments) new.rows
       counted f i =
           let (width, automatic, kind_w) = of_world in
           ap (λ (l : List (Row (Held A))). users_at l f i) rows
           ∙ users-removed base.rows a.file a.hwpt none_base f i
           ∙ ap (λ (l : List (Row (Held A))). users_at l f i) base_rows
-          ∙ table_goes w.objects table.rows paid_shown.objects.counted a.file ioas a.hwpt width automatic its_space.0
-          tidy.ids kind_w its_space.2 f i
-          ∙ ap (λ (l : List Object). tables_over l f i) (sym one_left)
+          ∙ table_goes w.objects (without_attachment device w.attachments) less.rows less_shown.counted a.file ioas
+          a.hwpt width automatic its_space.0 tidy.ids kind_w its_space.2 f i
+          ∙ ap (λ (l : List Object). tables_over l f i + devices_on (without_attachment device w.attachments) f i)
+          (sym one_left)
 
-      objects_shown : ObjectsShown w.settings w.closed left (all_paid device w.areas) new
+      objects_shown : ObjectsShown w.settings w.closed left (without_attachment device w.attachments)
+          (all_paid device w.areas) new
       objects_shown = record {
         rows = objects;
         proper = proper;
         spaces = areas;
         files = λ number.
-            rw (files, ap (λ (t : Table (Held A)). t.files) others_same) (paid_shown.objects.files number);
+            rw (files, ap (λ (t : Table (Held A)). t.files) others_same) (less_shown.files number);
         counted = counted;
       }
 

@@ -6,6 +6,7 @@ pub mod DeviceReads
 pub mod DeviceWrites
 pub mod Flushed
 pub mod NeverRefused
+pub mod NoUser
 pub mod PaidLeads
 pub mod ReleasedAfter
 pub mod TableGone

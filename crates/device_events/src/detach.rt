@@ -1,13 +1,12 @@
 //! Detach: a device translates no more.
 
-ghost use Rattle.std.specs.Prelude.{◌≡◌, ℕ, Option, Some, None, false, [], IfOk, OnErr};
+ghost use Rattle.std.specs.Prelude.{◌≡◌, ℕ, ◌&&◌, Option, None, [], IfOk, OnErr};
 ghost use Rattle.iofd_words.specs.declared.numbers.FrameNo.{FrameNo};
 ghost use Rattle.iofd_words.specs.Checks.{detach_checks};
 ghost use Rattle.iofd_words.specs.FirstTrue.{first_true};
-ghost use Rattle.iofd_words.specs.Objects as objects;
 ghost use Rattle.iofd_words.specs.declared.event.Event.TheVariants as event;
 ghost use Rattle.server_state.specs.Held.{objects_in};
-ghost use Rattle.device_events.specs.Attaching.{is_idle};
+ghost use Rattle.device_events.specs.Attaching.{has_no_user, is_automatic_at};
 ghost use Rattle.server_state.specs.Seen.{seen};
 ghost use Rattle.server_state.specs.Step.{IsGranted, IsKnown, MovingSteps, ShowsSame};
 ghost use Rattle.object_table.specs.Table.{destroy_refusal, removed};
@@ -62,8 +61,9 @@ pub fn commit<A: Allocator>(
     state.reserve_given(file, hwpt, given)?;
     spaces::pay(&mut state.objects, file, ioas, device);
     attachments::remove(&mut state.attachments, device);
-    if is_idle(&state.objects, &state.attachments, file, hwpt) {
-        counts::table_goes(&mut state.objects, file, ioas);
+    counts::one_fewer(&mut state.objects, file, Kind::Hwpt, hwpt);
+    if is_idle(&state.objects, file, hwpt) {
+        counts::one_fewer(&mut state.objects, file, Kind::Ioas, ioas);
         drop_table(&mut state.objects, file, hwpt);
         state.page_tables.remove(&mut state.pool, file, hwpt, given);
         if !state.page_tables.has_over(file, ioas) {
@@ -79,22 +79,26 @@ pub fn commit<A: Allocator>(
     Ok(Reply::Done)
 }
 
-/// Whether the page table is an automatic one that no device is on.
-fn is_idle<A: Allocator>(
-    table: &ObjectTable<Held<A>, A>,
-    attachments: &[Attachment],
-    file: FileNo,
-    hwpt: ObjId,
-) -> bool
-    ensures { result ≡ is_idle (objects_in table.now) attachments.now file hwpt }
+/// Whether the page table is an automatic one with which no user is counted.
+fn is_idle<A: Allocator>(table: &ObjectTable<Held<A>, A>, file: FileNo, hwpt: ObjId) -> bool
+    ensures { result ≡ is_automatic_at (objects_in table.now) file hwpt && has_no_user table.now file hwpt }
 {
-    is_automatic(table, file, hwpt) && !attachments::has_device_on(attachments, file, hwpt)
+    is_automatic(table, file, hwpt) && has_no_user(table, file, hwpt)
+}
+
+/// Whether no user is counted with the page table.
+fn has_no_user<A: Allocator>(table: &ObjectTable<Held<A>, A>, file: FileNo, hwpt: ObjId) -> bool
+    ensures { result ≡ has_no_user table.now file hwpt }
+{
+    match table.users(file, Kind::Hwpt, hwpt) {
+        Ok(users) => users == 0,
+        Err(_) => true,
+    }
 }
 
 /// Whether the object is an automatic page table.
 fn is_automatic<A: Allocator>(table: &ObjectTable<Held<A>, A>, file: FileNo, id: ObjId) -> bool
-    ensures { result ≡ elim (objects.kind_of (objects_in table.now) file id)
-        [ Some kind ↦ objects.is_automatic kind | None ↦ false ] }
+    ensures { result ≡ is_automatic_at (objects_in table.now) file id }
 {
     match lookups::kind_of(table, file, id) {
         Some(ObjectKind::Hwpt { automatic, .. }) => automatic,

@@ -44,6 +44,7 @@ use Rattle.iofd_rows.proofs.ListTests.{false_else, filter_all}
 use Rattle.iofd_rows.proofs.Named.{file_is, id_is, kind_only}
 use Rattle.iofd_rows.proofs.PageTables.{hwpt_alike}
 use Rattle.server_state.proofs.AreasBecome.{own_at}
+use Rattle.server_state.proofs.DevicesOn.{none_on, on_tables}
 use Rattle.server_state.proofs.Counted.{areas-counted, none_over, objects-counted, other_goes, over_spaces}
 use Rattle.server_state.proofs.Counted.{proper-counted, some_over, space_row, space_under, still_none, table_goes}
 use Rattle.server_state.proofs.Counted.{users-removed, users_of_row, where_found}
@@ -56,7 +57,7 @@ use Rattle.server_state.proofs.ObjectsGone.{may_go, objects-removed}
 use Rattle.server_state.specs.Held.{is_proper, areas_at, object_of, objects_in}
 use Rattle.server_state.specs.Mapping.{own_areas}
 use Rattle.server_state.specs.Shows.{ObjectsShown, Shows}
-use Rattle.server_state.specs.Users.{AreCounted, tables_over, users_at}
+use Rattle.server_state.specs.Users.{AreCounted, devices_on, tables_over, users_at}
 use Rattle.server_state.specs.Step.{IsTidy}
 use Rattle.server_state.specs.Tables.{has_own_width, page_tables_among}
 use Rattle.server_state.specs.Choice.{AreFramesChosen, IsChosen}
@@ -240,8 +241,8 @@ module _ {A : Type 0} where
       → w.objects ≡ map object_of base.rows → list_all is_proper base.rows ≡ true
       → ((f : FileNo) (i : ObjId) → areas_of w.areas f i ≡ areas_at base.rows f i)
       → table.rows ≡ removed file id base.rows → table.files ≡ s.objects.files
-      → AreCounted (without_object file id w.objects) table.rows
-      → ObjectsShown w.settings w.closed (without_object file id w.objects)
+      → AreCounted (without_object file id w.objects) w.attachments table.rows
+      → ObjectsShown w.settings w.closed (without_object file id w.objects) w.attachments
       (filter (λ (area : Area). not (is_of file id area)) w.areas) table
   objects_gone w s file id base table shows objects proper areas rows files counted = record {
     rows = ap (without_object file id) objects ∙ sym (objects-removed base.rows file id)
@@ -258,7 +259,7 @@ module _ {A : Type 0} where
       → ℕ) (memory : Memory) (before pool : FramePool) (allowed : List AllowedRanges) (kept : List TableFrame)
       (tables : PageTables) → IsTidy at w → Shows w s → first_true (destroy_checks (view w) file id) ≡ None
       → kind_of w.objects file id ≡ Some k → is_bound_device k ≡ false
-      → ObjectsShown w.settings w.closed (without_object file id w.objects)
+      → ObjectsShown w.settings w.closed (without_object file id w.objects) w.attachments
       (filter (λ (area : Area). not (is_of file id area)) w.areas) table
       → FramesShown w.settings.pool w.writes kept s.memory before → AllStand before kept (leads_of w) tables.tables
       → objects_of tables ≡ page_tables_among (without_object file id w.objects)
@@ -361,6 +362,11 @@ module _ {A : Type 0} where
     nothing_over : tables_over w.objects file id ≡ 0
     nothing_over = none_over w.objects file id (unused w file id kind.Ioas none space_kind)
 
+    -- and no device translates by it
+    nothing_on : devices_on w.attachments file id ≡ 0
+    nothing_on = on_tables w.objects w.attachments file id tidy.debts.tables
+        (ap (λ (o : Option ObjectKind). elim o as (λ _. Bool) [ Some k ↦ is_hwpt k | None ↦ false ]) space_kind)
+
     -- the page tables are the same
     same_among : page_tables_among (without_object file id w.objects) ≡ page_tables_among w.objects
     same_among = no_table_goes w.objects file id tidy.ids kind.Ioas space_kind refl
@@ -378,8 +384,8 @@ module _ {A : Type 0} where
         (objects_gone w s file id s.objects table shows shows.objects.rows shows.objects.proper shows.objects.spaces
         row_gone files
         (λ f i. ap (λ (l : List (Row (Held A))). users_at l f i) row_gone
-        ∙ other_goes w.objects s.objects.rows shows.objects.counted file id kind.Ioas tidy.ids space_kind refl
-        nothing_over f i))
+        ∙ other_goes w.objects w.attachments s.objects.rows shows.objects.counted file id kind.Ioas tidy.ids space_kind
+        refl nothing_over nothing_on f i))
         shows.frames shows.tables.stand (shows.tables.tables ∙ sym same_among) shows.tables.widths
         (others_stay w file id tidy.ids space_kind (unused w file id kind.Ioas none space_kind)
         (own_areas s.objects file id) (own_at s.objects file id (orderly at w s tidy shows)
@@ -387,8 +393,11 @@ module _ {A : Type 0} where
         goes released forgets
       where
         row_gone : table.rows ≡ removed file id s.objects.rows
-        row_gone = rows (may_go s.objects file id kind.Ioas shows.objects.proper is_kind
-            (shows.objects.counted file id ∙ nothing_over))
+        row_gone =
+            let here = shows.objects.counted file id in
+            let over = nothing_over in
+            let on = nothing_on in
+            rows (may_go s.objects file id kind.Ioas shows.objects.proper is_kind (omega (arith, here, over, on)))
 
     pub space_moves : (via : Option FrameNo) (given : List FrameNo) (new : State A) → given ≡ []
         → Shows (gone w file id) new → Moves at w file id via given new
@@ -433,7 +442,8 @@ module _ {A : Type 0} where
 
       base_rows : base.rows ≡ changed_at file ioas (with_users (its_space.0.users - 1)) s.objects.rows
       base_rows =
-          let many = users_of_row w.objects s.objects.rows shows.objects.counted file ioas its_space.0 its_space.2 in
+          let many = users_of_row w.objects w.attachments s.objects.rows shows.objects.counted file ioas its_space.0
+          its_space.2 in
           let some = some_over w.objects file id ioas width automatic tidy.ids of_world in
           where_found (λ (r : Row (Held A)). 0 < r.users
           → base.rows ≡ changed_at file ioas (with_users (r.users - 1)) s.objects.rows)
@@ -459,7 +469,11 @@ module _ {A : Type 0} where
           ap (λ (o : Option ObjectKind). elim o [ Some k ↦ is_ioas k | None ↦ false ]) of_world in
           ap (λ (l : List (Row (Held A))). users_at l file id) base_rows
           ∙ still_none s.objects.rows file id ioas its_space.0 its_space.2
-          (shows.objects.counted file id ∙ over_spaces w.objects file id tidy.debts.spaces no_space)
+          (let here = shows.objects.counted file id in
+          let over = over_spaces w.objects file id tidy.debts.spaces no_space in
+          let on = none_on w.attachments file id
+          (unused w file id (kind.Hwpt ioas width automatic) none of_world) in
+          omega (arith, here, over, on))
 
       rows : table.rows ≡ removed file id base.rows
       rows = may (may_go base file id (kind.Hwpt ioas width automatic) proper_base
@@ -473,15 +487,15 @@ module _ {A : Type 0} where
       proper_kept = ap (list_all is_proper) rows
           ∙ all_filter is_proper (λ row. not (is_at file id row)) base.rows proper_base
 
-      counted_kept : AreCounted (without_object file id w.objects) table.rows
+      counted_kept : AreCounted (without_object file id w.objects) w.attachments table.rows
       counted_kept f i =
           ap (λ (l : List (Row (Held A))). users_at l f i) rows
           ∙ users-removed base.rows file id none_base f i
           ∙ ap (λ (l : List (Row (Held A))). users_at l f i) base_rows
-          ∙ table_goes w.objects s.objects.rows shows.objects.counted file ioas id width automatic its_space.0 tidy.ids
-          of_world its_space.2 f i
+          ∙ table_goes w.objects w.attachments s.objects.rows shows.objects.counted file ioas id width automatic
+          its_space.0 tidy.ids of_world its_space.2 f i
 
-      objects_shown : ObjectsShown w.settings w.closed (without_object file id w.objects)
+      objects_shown : ObjectsShown w.settings w.closed (without_object file id w.objects) w.attachments
           (filter (λ (area : Area). not (is_of file id area)) w.areas) table
       objects_shown = objects_gone w s file id base table shows (shows.objects.rows ∙ sym objects_base) proper_base
           areas_base rows (files ∙ ap (λ (t : Table (Held A)). t.files) others_same) counted_kept

@@ -394,7 +394,7 @@ module _ {A : Type 0} where
                     ∙ ap (λ (t : Table (Held A)). areas_at t.rows f i) (sym is);
                 files = λ number. ap (λ (t : Table (Held A)). is_open t number) is ∙ files_left number;
                 counted = λ f i. ap (λ (t : Table (Held A)). users_at t.rows f i) is
-                    ∙ file_goes w.objects s.objects.rows shows.objects.counted file f i;
+                    ∙ file_goes w.objects w.attachments s.objects.rows shows.objects.counted file f i;
               };
               devices = record {
                 bindings = λ device. bound_left device ∙ shows.devices.bindings device;

@@ -1,6 +1,6 @@
 -- A device that is bound no more: its object goes, and by which object it is bound.
 use Rattle.std.proofs.Common.{◌≡◌, ℕ, Bool, true, false, cond, ◌&&◌, ◌||◌, not, eqb, Option, Some, None, List, [], ◌∷◌}
-use Rattle.std.proofs.Common.{map, refl, sym, ◌∙◌, ap, Vec, arith}
+use Rattle.std.proofs.Common.{◌+◌, map, refl, sym, ◌∙◌, ap, Vec, arith}
 use Rattle.std.specs.List.{filter, find}
 use Rattle.std.proofs.lemmas.Bool.Decides.{nat_tests}
 use Rattle.iofd_words.specs.Areas.{areas_of}
@@ -34,12 +34,13 @@ use Rattle.server_state.proofs.Bindings.{are_left}
 use Rattle.server_state.proofs.ObjectsGone.{may_go, objects-removed}
 use Rattle.file_events.proofs.TablesLeft.{among_stay}
 use Rattle.server_state.proofs.Counted.{other_goes, over_spaces}
+use Rattle.server_state.proofs.DevicesOn.{on_tables}
 use Rattle.server_state.proofs.TableRows.{areas_of_other}
 use Rattle.server_state.specs.Devices.{are_bindings}
 use Rattle.server_state.specs.Held.{areas_at, is_proper, object_of, objects_in}
 use Rattle.server_state.specs.Shows.{Shows}
 use Rattle.server_state.specs.Step.{IsTidy}
-use Rattle.server_state.specs.Users.{tables_over, users_at}
+use Rattle.server_state.specs.Users.{devices_on, tables_over, users_at}
 use Rattle.server_state.specs.declared.held.Held.{Held}
 use Rattle.server_state.specs.declared.state.State.{State}
 
@@ -152,8 +153,11 @@ module _ {A : Type 0} where
       let no_space = ap (λ (o : Option ObjectKind). elim o [ Some k ↦ is_ioas k | None ↦ false ]) is_kind in
       let no_space_w = ap (λ (o : Option ObjectKind). elim o [ Some k ↦ is_ioas k | None ↦ false ]) of_world in
       let none_over = over_spaces w.objects file id tidy.debts.spaces no_space_w in
+      let none_on = on_tables w.objects w.attachments file id tidy.debts.tables
+      (ap (λ (o : Option ObjectKind). elim o [ Some k ↦ is_hwpt k | None ↦ false ]) of_world) in
+      let counted = shows.objects.counted file id in
       let rows = goes (may_go s.objects file id (kind.Device device) shows.objects.proper is_kind
-      (shows.objects.counted file id ∙ none_over)) in
+      (omega (arith, counted, none_over, none_on))) in
       let empty = shows.objects.spaces file id ∙ areas_of_other s.objects.rows file id no_space in
       record {
         settings = shows.settings;
@@ -170,10 +174,10 @@ module _ {A : Type 0} where
               ∙ ap (λ l. areas_at l f i) (sym rows);
           files = λ number. rw files (shows.objects.files number);
           counted = λ f i. ap (λ (l : List (Row (Held A))). users_at l f i) rows
-              ∙ other_goes w.objects s.objects.rows shows.objects.counted file id (kind.Device device) tidy.ids of_world
-              refl none_over f i
-              ∙ ap (λ (l : List Object). tables_over l f i) (sym (only_device w.objects file id device tidy.ids
-              of_world));
+              ∙ other_goes w.objects w.attachments s.objects.rows shows.objects.counted file id (kind.Device device)
+              tidy.ids of_world refl none_over none_on f i
+              ∙ ap (λ (l : List Object). tables_over l f i + devices_on w.attachments f i)
+              (sym (only_device w.objects file id device tidy.ids of_world));
         };
         devices = record {
           bindings =

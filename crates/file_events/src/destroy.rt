@@ -1,7 +1,6 @@
 //! Destroy: an object of a file goes.
 
 ghost use Rattle.std.specs.Prelude.{◌≡◌, ℕ, Option, Some, None, [], IfOk, IsTrue, OnErr};
-ghost use Rattle.iofd_words.specs.Attachments.{has_device_on};
 ghost use Rattle.iofd_words.specs.Checks.{destroy_checks, is_device_object, is_used};
 ghost use Rattle.iofd_words.specs.FirstTrue.{first_true};
 ghost use Rattle.iofd_words.specs.declared.event.Event.TheVariants as event;
@@ -12,7 +11,7 @@ ghost use Rattle.server_state.specs.Seen.{seen};
 ghost use Rattle.server_state.specs.Step.{IsGranted, IsKnown, MovingSteps, ShowsSame};
 ghost use Rattle.server_state.specs.Tables.{has_page_table};
 
-use iofd_words::{Attachment, Cause, FileNo, FrameNo, NoMemory, ObjId, ObjectKind, Reply};
+use iofd_words::{Cause, FileNo, FrameNo, NoMemory, ObjId, ObjectKind, Reply};
 use object_table::{Kind, ObjectTable};
 use server_state::{Held, State, counts, lookups, release};
 use std::alloc::Allocator;
@@ -46,16 +45,9 @@ fn is_used<A: Allocator>(state: &State<A>, file: FileNo, id: ObjId, kind: Object
 {
     match kind {
         ObjectKind::Ioas => state.has_hwpt(file, id),
-        ObjectKind::Hwpt { .. } => has_device_on(&state.attachments, file, id),
+        ObjectKind::Hwpt { .. } => state.has_device_on(file, id),
         ObjectKind::Device(_) => false,
     }
-}
-
-/// Whether some device translates by this page table.
-fn has_device_on(attachments: &[Attachment], file: FileNo, hwpt: ObjId) -> bool
-    ensures { result ≡ has_device_on attachments.now file hwpt }
-{
-    attachments.iter().any(|a| a.file == file && a.hwpt == hwpt)
 }
 
 fn is_device(kind: ObjectKind) -> bool
@@ -99,7 +91,7 @@ pub fn commit<A: Allocator>(
             remove(&mut state.objects, file, Kind::Ioas, id);
         }
         Some(ObjectKind::Hwpt { ioas, .. }) => {
-            counts::table_goes(&mut state.objects, file, ioas);
+            counts::one_fewer(&mut state.objects, file, Kind::Ioas, ioas);
             remove(&mut state.objects, file, Kind::Hwpt, id);
             state.page_tables.remove(&mut state.pool, file, id, given);
             if !state.page_tables.has_over(file, ioas) {

@@ -52,7 +52,7 @@ module _ {A : Type 0} (at : ℕ) (w : World) (s : State A) (tidy : IsTidy at w) 
   module _ (rows : new.rows ≡ inserted row base.rows) (files : new.files ≡ s.objects.files) where
     -- the object is there, and no area changes
     pub objects_made : ObjectsShown w.settings w.closed
-        (with_object (made_object file ioas id width automatic) w.objects) w.areas new
+        (with_object (made_object file ioas id width automatic) w.objects) w.attachments w.areas new
     objects_made = record {
       rows = ap (with_object (made_object file ioas id width automatic)) objects_base
           ∙ sym (objects-inserted row base.rows) ∙ ap (map object_of) (sym rows);
@@ -68,8 +68,8 @@ module _ {A : Type 0} (at : ℕ) (w : World) (s : State A) (tidy : IsTidy at w) 
       counted = λ f i. ap (λ (l : List (Row (Held A))). users_at l f i) rows
           ∙ users-inserted row base.rows f i refl free
           ∙ ap (λ (l : List (Row (Held A))). users_at l f i) one.changed
-          ∙ table_comes w.objects s.objects.rows shows.objects.counted file ioas id width automatic one.of one.found f
-          i;
+          ∙ table_comes w.objects w.attachments s.objects.rows shows.objects.counted file ioas id width automatic one.of
+          one.found f i;
     }
 
     orderly_made : IsOrderly new

@@ -1,6 +1,6 @@
 -- What is kept after an attachment came shows the world after it.
 use Rattle.std.proofs.Common.{◌≡◌, ℕ, ◌+◌, Bool, true, false, ◌&&◌, ◌||◌, not, is_none, is_some, Option, Some, None}
-use Rattle.std.proofs.Common.{List, [], length, Vec, refl, sym, ◌∙◌, ap, subst}
+use Rattle.std.proofs.Common.{List, [], length, Vec, refl, sym, ◌∙◌, ap, subst, arith, cond, eqb, ◌<◌, ◌≤◌, IfSome}
 use Rattle.std.specs.List.{find}
 use Rattle.std.specs.Prelude.{IsTrue}
 use Rattle.std.specs.Option.{option_map}
@@ -47,7 +47,22 @@ use Rattle.server_state.proofs.Still.{still}
 use Rattle.server_state.specs.Choice.{AreFramesChosen, IsChosen, least_free}
 use Rattle.server_state.specs.Held.{objects_in}
 use Rattle.server_state.specs.Leads.{object_page}
-use Rattle.server_state.specs.Shows.{Shows}
+use Rattle.iofd_rows.proofs.Bools.{and_true}
+use Rattle.iofd_rows.proofs.Each.{in_found}
+use Rattle.iofd_rows.proofs.Named.{file_is, kind_new, kind_only}
+use Rattle.iofd_rows.specs.Ids.{have_own_ids}
+use Rattle.iofd_runs.proofs.OwnIds.{unused}
+use Rattle.iofd_words.specs.Limits.{first_outside}
+use Rattle.iofd_words.specs.Settings.{Settings}
+use Rattle.object_table.specs.Table.{Table, changed_at, own, with_users}
+use Rattle.object_table.specs.declared.kind.Kind.TheVariants as of_kind
+use Rattle.server_state.proofs.Counted.{few_over, over-with, over_spaces}
+use Rattle.server_state.proofs.CountsShown.{device_joins}
+use Rattle.server_state.proofs.DevicesOn.{few_on}
+use Rattle.server_state.specs.Users.{devices_on}
+use Rattle.server_state.specs.declared.held.Held.{Held}
+use Rattle.iofd_words.specs.Objects.{has_ioas, is_automatic_over, is_hwpt_over, with_object}
+use Rattle.server_state.specs.Shows.{ObjectsShown, Shows}
 use Rattle.server_state.specs.Step.{IsGrantedAt, IsTidy}
 use Rattle.server_state.specs.declared.state.State.{State}
 
@@ -169,6 +184,50 @@ finds w pt_id id bound d (Some kind.Ioas) found = by_found (automatic_hwpt w.obj
 finds w pt_id id bound d (Some (kind.Device other)) found = refl
 finds w pt_id id bound d None found = refl
 
+-- an automatic page table that is found is one
+automatic_is : (objects : List Object) (file : FileNo) (ioas id : ObjId) (width : Width)
+    → have_own_ids objects ≡ true
+    → option_map (λ (object : Object). object.id) (automatic_hwpt objects file ioas width) ≡ Some id
+    → (over : ObjId) × (of : Width) × (automatic : Bool)
+    × (kind_of objects file id ≡ Some (kind.Hwpt over of automatic))
+automatic_is objects file ioas id width ids is =
+    let (object, found, of_id) = id_found (automatic_hwpt objects file ioas width) id is in
+    let within = in_found (λ (o : Object). eqb o.file.0 file.0 && is_automatic_over ioas width o.kind) objects object
+    found in
+    let parts = and_true (eqb object.file.0 file.0) (is_automatic_over ioas width object.kind) within.1 in
+    let (over, of, automatic, of_kind) = by_kind object.kind parts.1 in (
+      over,
+      of,
+      automatic,
+      ap (λ (f : FileNo). kind_of objects f id) (sym (file_is object.file file parts.0))
+          ∙ ap (λ (i : ObjId). kind_of objects object.file i) (sym of_id)
+          ∙ kind_only objects object ids within.0
+          ∙ ap (λ (k : ObjectKind). let o : Option ObjectKind = Some k in o) of_kind,
+    )
+  where
+    by_kind : (k : ObjectKind) → is_automatic_over ioas width k ≡ true
+        → (over : ObjId) × (of : Width) × (automatic : Bool) × (k ≡ kind.Hwpt over of automatic)
+    by_kind kind.Ioas is = cc
+    by_kind (kind.Hwpt over of automatic) is = (over, of, automatic, refl)
+    by_kind (kind.Device device) is = cc
+
+-- the page table that is there for an attachment is one
+there_is : (objects : List Object) (file : FileNo) (pt_id id : ObjId) (width : Width) (k : Option ObjectKind)
+    → have_own_ids objects ≡ true → kind_of objects file pt_id ≡ k → named_table objects file pt_id width k ≡ Some id
+    → (ioas : ObjId) × (of : Width) × (automatic : Bool)
+    × (kind_of objects file id ≡ Some (kind.Hwpt ioas of automatic))
+there_is objects file pt_id id width (Some (kind.Hwpt ioas of automatic)) ids is found =
+    let same : pt_id ≡ id = cc in
+    (ioas, of, automatic, ap (λ (i : ObjId). kind_of objects file i) (sym same) ∙ is)
+there_is objects file pt_id id width (Some kind.Ioas) ids is found = automatic_is objects file pt_id id width ids found
+there_is objects file pt_id id width (Some (kind.Device device)) ids is found =
+    automatic_is objects file pt_id id width ids found
+there_is objects file pt_id id width None ids is found = automatic_is objects file pt_id id width ids found
+
+at_most_one : (b : Bool) → cond b 1 0 ≤ 1
+at_most_one true = omega arith
+at_most_one false = omega arith
+
 module _ {A : Type 0} where
   -- it is shown, where the world after is by what the id names
   attached_by : (at : ℕ) (w : World) (s : State A) (device : DeviceNo) (pt_id id : ObjId) (bound : Object)
@@ -187,14 +246,17 @@ module _ {A : Type 0} where
       (answers, subst (λ v. Shows v s) (sym is) (shown (subst (ArePinned (at + 1)) is next)))
 
   -- one more attachment is shown
-  more_attached : (v : World) (s : State A) (attachments : Vec Attachment A) (a : Attachment) → Shows v s
+  more_attached : (v : World) (s : State A) (table : Table (Held A)) (attachments : Vec Attachment A) (a : Attachment)
+      → Shows v s
+      → ObjectsShown v.settings v.closed v.objects (with_attachment a v.attachments) v.areas table
       → attachments.items ≡ with_attachment a s.attachments.items
-      → Shows (record v { attachments = with_attachment a v.attachments }) (record s { attachments = attachments })
-  more_attached v s attachments a shows added = record {
+      → Shows (record v { attachments = with_attachment a v.attachments })
+      (record s { objects = table; attachments = attachments })
+  more_attached v s table attachments a shows objects added = record {
     settings = shows.settings;
     limits = shows.limits;
     allowed = shows.allowed;
-    objects = shows.objects;
+    objects = objects;
     devices = record {
       bindings = shows.devices.bindings;
       rising = shows.devices.rising;
@@ -225,42 +287,84 @@ module _ {A : Type 0} where
     tables = shows.tables;
   }
 
+  -- ---- its count
+
+  -- there are few devices
+  devices_few : (at : ℕ) (w : World) (s : State A) (file : FileNo) (id : ObjId) → IsTidy at w → Shows w s
+      → first_outside s.config ≡ None → devices_on w.attachments file id ≤ 256
+  devices_few at w s file id tidy shows inside =
+      few_on w.settings w.attachments file id (ap (λ (settings : Settings). first_outside settings) shows.settings
+      ∙ inside) tidy.fit.rise tidy.fit.attached
+
+  -- a page table that is there is counted one user more
+  joins_there : (at : ℕ) (w : World) (s : State A) (table : Table (Held A)) (device : DeviceNo) (pt_id id : ObjId)
+      (file : FileNo) (width : Width) → IsTidy at w → Shows w s → table_there w.objects file pt_id width ≡ Some id
+      → first_outside s.config ≡ None
+      → IfSome (own s.objects file of_kind.Hwpt id) (λ row. row.users < 4294967295
+      → table.rows ≡ changed_at file id (with_users (row.users + 1)) s.objects.rows)
+      → table ≡ record s.objects { rows = table.rows }
+      → ObjectsShown w.settings w.closed w.objects
+      (with_attachment (record { device = device; file = file; hwpt = id }) w.attachments) w.areas table
+  joins_there at w s table device pt_id id file width tidy shows there inside counts others =
+      let (ioas, of, automatic, is_kind) = there_is w.objects file pt_id id width
+      (kind_of w.objects file pt_id) tidy.ids refl there in
+      let no_space : has_ioas w.objects file id ≡ false =
+      ap (λ (o : Option ObjectKind). elim o as (λ _. Bool) [ Some k ↦ is_ioas k | None ↦ false ]) is_kind in
+      let none_over = over_spaces w.objects file id tidy.debts.spaces no_space in
+      let few = devices_few at w s file id tidy shows inside in
+      device_joins w.settings w.closed w.objects w.attachments w.areas s.objects table shows.objects
+      (record { device = device; file = file; hwpt = id }) ioas of automatic is_kind others
+      (omega (arith, none_over, few)) counts
+
   -- ---- by a page table that is there
 
-  joined_shown : (at : ℕ) (w : World) (s : State A) (attachments : Vec Attachment A) (device : DeviceNo)
+  -- the objects are shown where the device translates by the page table of this id
+  abbrev JoinsObjects : World → DeviceNo → FileNo → ObjId → Table (Held A) → Type 0
+  JoinsObjects w device file id table =
+      ObjectsShown w.settings w.closed w.objects
+      (with_attachment (record { device = device; file = file; hwpt = id }) w.attachments) w.areas table
+
+  joined_shown : (at : ℕ) (w : World) (s : State A) (table : Table (Held A)) (attachments : Vec Attachment A)
+      (device : DeviceNo)
       (pt_id id : ObjId) (bound : Object) → IsTidy at w → Shows w s
       → first_true (attach_checks (view w) device pt_id) ≡ None
       → binding_of w.objects device ≡ Some bound
+      → JoinsObjects w device bound.file id table
       → attachments.items ≡ with_attachment (record {
         device = device;
         file = bound.file;
         hwpt = id;
       }) s.attachments.items
-      → Shows (joined w device id bound) (record s { attachments = attachments })
+      → Shows (joined w device id bound) (record s { objects = table; attachments = attachments })
   unfolding joined
-  joined_shown at w s attachments device pt_id id bound tidy shows none binding added =
+  joined_shown at w s table attachments device pt_id id bound tidy shows none binding objects added =
       let a : Attachment = record { device = device; file = bound.file; hwpt = id } in
       let is : joined w device id bound ≡ record w { attachments = with_attachment a w.attachments } =
       ap (λ (areas : List Area). let v : World = record w {
         attachments = with_attachment a w.attachments;
         areas = areas;
       } in v) (unpaid at w device pt_id bound tidy none binding) in
-      subst (λ v. Shows v (record s { attachments = attachments })) (sym is)
-      (more_attached w s attachments a shows added)
+      subst (λ v. Shows v (record s { objects = table; attachments = attachments })) (sym is)
+      (more_attached w s table attachments a shows objects added)
 
-  automatic_shown : (at : ℕ) (w : World) (s : State A) (attachments : Vec Attachment A) (device : DeviceNo)
+  automatic_shown : (at : ℕ) (w : World) (s : State A) (table : Table (Held A)) (attachments : Vec Attachment A)
+      (device : DeviceNo)
       (pt_id id : ObjId) (bound object : Object) (width : Width) → IsTidy at w → Shows w s
       → first_true (attach_checks (view w) device pt_id) ≡ None
       → binding_of w.objects device ≡ Some bound
+      → JoinsObjects w device bound.file id table
       → attachments.items ≡ with_attachment (record {
         device = device;
         file = bound.file;
         hwpt = id;
       }) s.attachments.items
       → ArePinned (at + 1) (grown w device bound.file pt_id id width (Some object) w.areas)
-      → Shows (grown w device bound.file pt_id id width (Some object) w.areas) (record s { attachments = attachments })
-  automatic_shown at w s attachments device pt_id id bound object width tidy shows none binding added next =
-      let seen = more_attached w s attachments (record { device = device; file = bound.file; hwpt = id }) shows added in
+      → Shows (grown w device bound.file pt_id id width (Some object) w.areas)
+      (record s { objects = table; attachments = attachments })
+  automatic_shown at w s table attachments device pt_id id bound object width tidy shows none binding objects added
+      next =
+      let seen = more_attached w s table attachments (record { device = device; file = bound.file; hwpt = id }) shows
+      objects added in
       let left = grown w device bound.file pt_id id width (Some object) w.areas in
       let pins = pins_follow at (at + 1) w left s.memory s.memory s.pool s.pool tidy.pins next shows.pins refl
       shows.users.pages shows.pins.rows
@@ -285,12 +389,14 @@ module _ {A : Type 0} where
         };
       }
 
-  there_shown : (at : ℕ) (w : World) (s : State A) (attachments : Vec Attachment A) (device : DeviceNo)
+  there_shown : (at : ℕ) (w : World) (s : State A) (table : Table (Held A)) (attachments : Vec Attachment A)
+      (device : DeviceNo)
       (pt_id id : ObjId) (bound : Object) (width : Width) → IsTidy at w → Shows w s
       → first_true (attach_checks (view w) device pt_id) ≡ None
       → find (λ object. is_bound_as device object.kind) s.bindings.items ≡ Some bound
       → width_of s.config device ≡ Some width
       → table_there (objects_in s.objects) bound.file pt_id width ≡ Some id
+      → JoinsObjects w device bound.file id table
       → attachments.items ≡ with_attachment (record {
         device = device;
         file = bound.file;
@@ -298,8 +404,8 @@ module _ {A : Type 0} where
       }) s.attachments.items
       → Answers {A = A} w (event.Attach device pt_id) (reply.Id id)
       × Shows (changed {A = A} at w (event.Attach device pt_id) (reply.Id id))
-      (record s { attachments = attachments })
-  there_shown at w s attachments device pt_id id bound width tidy shows none binding wide there added =
+      (record s { objects = table; attachments = attachments })
+  there_shown at w s table attachments device pt_id id bound width tidy shows none binding wide there objects added =
       let binding_w : binding_of w.objects device ≡ Some bound = shows.devices.bindings device ∙ binding in
       let (d, known, same) = width_found (device_of w.settings device) width
       (ap (λ settings. width_of settings device) shows.settings ∙ wide) in
@@ -313,12 +419,12 @@ module _ {A : Type 0} where
           → named_table w.objects bound.file pt_id d.width k ≡ Some id
           → Answers {A = A} w (event.Attach device pt_id) (reply.Id id)
           × Shows (changed {A = A} at w (event.Attach device pt_id) (reply.Id id))
-          (record s { attachments = attachments })
+          (record s { objects = table; attachments = attachments })
       by_kind d known binding_w (Some (kind.Hwpt ioas of automatic)) named found =
           let same : id ≡ pt_id = cc in
-          attached_by at w (record s { attachments = attachments }) device pt_id id bound d
+          attached_by at w (record s { objects = table; attachments = attachments }) device pt_id id bound d
           (Some (kind.Hwpt ioas of automatic)) tidy none binding_w known named same
-          (λ next. joined_shown at w s attachments device pt_id id bound tidy shows none binding_w added)
+          (λ next. joined_shown at w s table attachments device pt_id id bound tidy shows none binding_w objects added)
       by_kind d known binding_w (Some kind.Ioas) named found =
           let (object, automatic, of_id) = id_found (automatic_hwpt w.objects bound.file pt_id d.width) id found in
           let is : settle w (attached w device pt_id id bound d) ≡ grown w device bound.file pt_id id
@@ -327,11 +433,12 @@ module _ {A : Type 0} where
           ∙ ap (λ (o : Option Object). grown w device bound.file pt_id id d.width o (all_paid device w.areas)) automatic
           ∙ ap (grown w device bound.file pt_id id d.width (Some object))
           (unpaid at w device pt_id bound tidy none binding_w) in
-          attached_by at w (record s { attachments = attachments }) device pt_id id bound d (Some kind.Ioas) tidy none
+          attached_by at w (record s { objects = table; attachments = attachments }) device pt_id id bound d
+          (Some kind.Ioas) tidy none
           binding_w known named (subst (IsHwptFor w bound.file id) (sym automatic) (sym of_id))
-          (λ next. subst (λ v. Shows v (record s { attachments = attachments })) (sym is)
-          (automatic_shown at w s attachments device pt_id id bound object d.width tidy shows none binding_w
-          added (subst (ArePinned (at + 1)) is next)))
+          (λ next. subst (λ v. Shows v (record s { objects = table; attachments = attachments })) (sym is)
+          (automatic_shown at w s table attachments device pt_id id bound object d.width tidy shows none binding_w
+          objects added (subst (ArePinned (at + 1)) is next)))
       by_kind d known binding_w (Some (kind.Device other)) named found =
           absurd (never (target_passed (view w) device pt_id bound (Some (kind.Device other)) binding_w named none).1)
         where
@@ -344,12 +451,17 @@ module _ {A : Type 0} where
           never is = cc
 
   -- so none is made, and no frame moves
-  pub shows_there : (at : ℕ) (w : World) (s : State A) (attachments : Vec Attachment A) (device : DeviceNo)
+  pub shows_there : (at : ℕ) (w : World) (s : State A) (table : Table (Held A)) (attachments : Vec Attachment A)
+      (device : DeviceNo)
       (pt_id id : ObjId) (bound : Object) (width : Width) (via : Option FrameNo) → IsTidy at w → Shows w s
       → first_true (attach_checks (view w) device pt_id) ≡ None
       → find (λ object. is_bound_as device object.kind) s.bindings.items ≡ Some bound
       → width_of s.config device ≡ Some width
       → table_there (objects_in s.objects) bound.file pt_id width ≡ Some id
+      → first_outside s.config ≡ None
+      → IfSome (own s.objects bound.file of_kind.Hwpt id) (λ row. row.users < 4294967295
+      → table.rows ≡ changed_at bound.file id (with_users (row.users + 1)) s.objects.rows)
+      → table ≡ record s.objects { rows = table.rows }
       → attachments.items ≡ with_attachment (record {
         device = device;
         file = bound.file;
@@ -361,10 +473,16 @@ module _ {A : Type 0} where
       (event.Attach device pt_id) (reply.Id id) [] []
       × AreFramesChosen w (changed {A = A} at w (event.Attach device pt_id) (reply.Id id)) [] []
       × Shows (with_tables [] [] (changed {A = A} at w (event.Attach device pt_id) (reply.Id id)))
-      (record s { attachments = attachments })
-  shows_there at w s attachments device pt_id id bound width via tidy shows none binding wide there added =
+      (record s { objects = table; attachments = attachments })
+  shows_there at w s table attachments device pt_id id bound width via tidy shows none binding wide there inside counts
+      others added =
+      let there_of : table_there w.objects bound.file pt_id width ≡ Some id =
+      ap (λ (objects : List Object). table_there objects bound.file pt_id width) shows.objects.rows ∙ there in
+      let objects =
+      joins_there at w s table device pt_id id bound.file width tidy shows there_of inside counts others in
       let (answers, shown) =
-      there_shown at w s attachments device pt_id id bound width tidy shows none binding wide there added in
+      there_shown at w s table attachments device pt_id id bound width tidy shows none binding wide there objects
+      added in
       let binding_w : binding_of w.objects device ≡ Some bound = shows.devices.bindings device ∙ binding in
       let (d, known, same) = width_found (device_of w.settings device) width
       (ap (λ settings. width_of settings device) shows.settings ∙ wide) in
@@ -375,7 +493,8 @@ module _ {A : Type 0} where
       ap (λ (o : Option Object). finds_table w.objects pt_id o (device_of w.settings device)) binding_w
       ∙ ap (finds_table w.objects pt_id (Some bound)) known
       ∙ finds w pt_id id bound d (kind_of w.objects bound.file pt_id) there_w in
-      still {A = A} at (event.Attach device pt_id) via (reply.Id id) (record s { attachments = attachments }) w tidy
+      still {A = A} at (event.Attach device pt_id) via (reply.Id id)
+      (record s { objects = table; attachments = attachments }) w tidy
       answers tt shown makes tt
 
   -- ---- by a new page table
@@ -447,8 +566,9 @@ module _ {A : Type 0} where
         granted.none binding wide absent;
   }
 
-  pub shows_new : (at : ℕ) (w : World) (s made : State A) (attachments : Vec Attachment A) (device : DeviceNo)
-      (pt_id id : ObjId) (bound : Object) (width : Width) (via : Option FrameNo) (taken : List FrameNo) → IsTidy at w
+  pub shows_new : (at : ℕ) (w : World) (s made : State A) (new : Table (Held A)) (attachments : Vec Attachment A)
+      (device : DeviceNo) (pt_id id : ObjId) (bound : Object) (width : Width) (via : Option FrameNo)
+      (taken : List FrameNo) → IsTidy at w
       → Shows w s → first_true (attach_checks (view w) device pt_id) ≡ None
       → find (λ object. is_bound_as device object.kind) s.bindings.items ≡ Some bound
       → width_of s.config device ≡ Some width
@@ -456,6 +576,10 @@ module _ {A : Type 0} where
       → IsTrue (is_fresh w.objects bound.file id) × (taken ≡ least_free w (length taken))
       × (length taken ≡ length (missing_with w (made_object bound.file pt_id id width true)))
       × Shows (with_tables taken [] (with_table w (made_object bound.file pt_id id width true))) made
+      → first_outside s.config ≡ None
+      → IfSome (own made.objects bound.file of_kind.Hwpt id) (λ row. row.users < 4294967295
+      → new.rows ≡ changed_at bound.file id (with_users (row.users + 1)) made.objects.rows)
+      → new ≡ record made.objects { rows = new.rows }
       → attachments.items ≡ with_attachment (record {
         device = device;
         file = bound.file;
@@ -467,14 +591,14 @@ module _ {A : Type 0} where
       (event.Attach device pt_id) (reply.Id id) taken []
       × AreFramesChosen w (changed {A = A} at w (event.Attach device pt_id) (reply.Id id)) taken []
       × Shows (with_tables taken [] (changed {A = A} at w (event.Attach device pt_id) (reply.Id id)))
-      (record made { attachments = attachments })
+      (record made { objects = new; attachments = attachments })
   unfolding settle changed Answers with_tables
-  shows_new at w s made attachments device pt_id id bound width via taken tidy shows none binding wide absent (
+  shows_new at w s made new attachments device pt_id id bound width via taken tidy shows none binding wide absent (
     fresh,
     chosen,
     many,
     with,
-  ) added =
+  ) inside counts others added =
       let binding_w : binding_of w.objects device ≡ Some bound = shows.devices.bindings device ∙ binding in
       let (d, known, same) = width_found (device_of w.settings device) width
       (ap (λ settings. width_of settings device) shows.settings ∙ wide) in
@@ -494,6 +618,15 @@ module _ {A : Type 0} where
       let target : IsTarget w bound.file pt_id id d.width (Some kind.Ioas) =
       subst (IsHwptFor w bound.file id) (sym lacking_d) fresh in
       let (answers, to) = is_target w device pt_id id bound d (Some kind.Ioas) binding_w known space target in
+      let object = made_object bound.file pt_id id width true in
+      let over = over-with object w.objects bound.file id in
+      let few_tables = few_over w.objects bound.file id roomy.roomy in
+      let one = at_most_one (eqb bound.file.0 bound.file.0 && is_hwpt_over id object.kind) in
+      let few_devices = devices_few at w s bound.file id tidy shows inside in
+      let objects =
+      device_joins w.settings w.closed (with_object object w.objects) w.attachments w.areas made.objects new
+      with.objects a pt_id width true (kind_new object w.objects (unused w.objects bound.file id fresh)) others
+      (omega (arith, over, few_tables, one, few_devices)) counts in
       let left : World = device_attached w device pt_id (reply.Id id) in
       let left_is : left ≡ record table { attachments = with_attachment a w.attachments } = to ∙ is in
       let owned = owned_after {A = A} at w (event.Attach device pt_id) (reply.Id id) answers tt tidy.tabled.owned in
@@ -501,13 +634,13 @@ module _ {A : Type 0} where
       (event.Attach device pt_id) (reply.Id id)
       (ap (λ (v : World). v.objects) left_is) (ap (λ (v : World). v.areas) left_is)
       (ap (λ (v : World). v.table_frames) left_is) owned in
-      let shown = more_attached (with_tables taken [] table) made attachments a with added in (
+      let shown = more_attached (with_tables taken [] table) made new attachments a with objects added in (
         answers,
         tt,
         moves.0,
         moves.1,
         subst (λ v. Shows (with_tables taken [] v)
-            (record made { attachments = attachments })) (sym left_is) shown,
+            (record made { objects = new; attachments = attachments })) (sym left_is) shown,
       )
 
   -- a device that isn't bound was refused

@@ -235,7 +235,8 @@ module _ {A : Type 0} (at : ℕ) (w : World) (s : State A) (tidy : IsTidy at w) 
       (none_given w.table_frames)
       ∙ ap (λ (l : List MissingTable). w.table_frames ++ in_frames l taken) missing_is
 
-  pub made_shown : (new : Table (Held A)) → ObjectsShown w.settings w.closed (with_object object w.objects) w.areas new
+  pub made_shown : (new : Table (Held A))
+      → ObjectsShown w.settings w.closed (with_object object w.objects) w.attachments w.areas new
       → Shows (with_tables taken [] (with_table w object)) (record s {
         objects = new;
         page_tables = kept;

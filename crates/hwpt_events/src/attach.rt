@@ -18,8 +18,8 @@ use crate::{attachments, making, narrow};
 use iofd_words::{
     Attachment, Cause, Config, DeviceNo, FileNo, FrameNo, NoMemory, ObjId, ObjectKind, Reply, Width,
 };
-use object_table::ObjectTable;
-use server_state::{Held, State, lookups};
+use object_table::{Kind, ObjectTable};
+use server_state::{Held, State, counts, lookups};
 use std::alloc::Allocator;
 
 /// Why it is refused, by the first row of the definitions that holds. None where nothing refuses it.
@@ -146,13 +146,22 @@ pub fn commit<A: Allocator + Copy>(
         return Ok(Reply::Done);
     };
     state.attachments.reserve(1)?;
+    // Its clause says that the configuration is within its limits: so there are few devices.
+    let _ = state.config.pool();
     if let Some(hwpt) = table_there(&state.objects, file, pt_id, width) {
+        counts::one_more(&mut state.objects, file, Kind::Hwpt, hwpt);
         attachments::insert(&mut state.attachments, Attachment { device, file, hwpt });
         return Ok(Reply::Id(hwpt));
     }
-    let hwpt = making::make(state, file, pt_id, width, true, taken)?;
-    attachments::insert(&mut state.attachments, Attachment { device, file, hwpt });
-    Ok(Reply::Id(hwpt))
+    let made = making::make(state, file, pt_id, width, true, taken)?;
+    counts::one_more(&mut state.objects, file, Kind::Hwpt, made);
+    let attachment = Attachment {
+        device,
+        file,
+        hwpt: made,
+    };
+    attachments::insert(&mut state.attachments, attachment);
+    Ok(Reply::Id(made))
 }
 
 /// The page table that is there for an attachment: the one that is named, or the automatic one of the width over the

@@ -68,7 +68,7 @@ pub(crate) fn make<A: Allocator + Copy>(
         &mut state.memory,
         &mut state.pool,
     )?;
-    counts::table_comes(&mut state.objects, file, ioas);
+    counts::one_more(&mut state.objects, file, Kind::Ioas, ioas);
     let table = held_table(ioas, width, automatic);
     let id = state.objects.insert_reserved(file, Kind::Hwpt, table);
     filling::add(

@@ -128,7 +128,7 @@ module _ {A : Type 0} where
       → Shows w s
       → (IsOrderly s.objects → HasAreas added.file added.ioas
       (own.with_area added (areas_at s.objects.rows added.file added.ioas)) s.objects table)
-      → ObjectsShown w.settings w.closed w.objects (world.with_area added w.areas) table
+      → ObjectsShown w.settings w.closed w.objects w.attachments (world.with_area added w.areas) table
   objects_mapped w s added table is_orderly shows inserted =
       let has = inserted is_orderly in
       record {

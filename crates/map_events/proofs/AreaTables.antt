@@ -232,7 +232,7 @@ module _ {A : Type 0} (at : ℕ) (w : World) (s : State A) (tidy : IsTidy at w) 
         ∙ ap (λ (l : List MissingTable). w.table_frames ++ in_frames l taken) missing_is
 
     pub mapped_shows : (table : Table (Held A))
-        → ObjectsShown w.settings w.closed w.objects (world.with_area new_area w.areas) table
+        → ObjectsShown w.settings w.closed w.objects w.attachments (world.with_area new_area w.areas) table
         → Shows (with_tables taken [] left) (record s {
           objects = table;
           page_tables = kept;

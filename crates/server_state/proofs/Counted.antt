@@ -1,4 +1,5 @@
--- The page tables that are counted with their address spaces, as objects come, change and go.
+-- The page tables that are counted with their address spaces, and the devices with their page tables, as objects and
+-- attachments come and go.
 use Rattle.std.proofs.Common.{◌≡◌, ℕ, ◌+◌, ◌-◌, ◌<◌, ◌≤◌, Bool, true, false, cond, ◌&&◌, not, eqb, leb, ltb, Option}
 use Rattle.std.proofs.Common.{Some, None, List, [], ◌∷◌, length, map, refl, sym, ◌∙◌, ap, subst, arith}
 use Rattle.std.proofs.Common.{IfSome, IsSomeAnd}
@@ -8,13 +9,15 @@ use Rattle.std.proofs.lemmas.Bool.Decides.{nat_tests}
 use Rattle.iofd_rows.proofs.Bools.{and_true, not_true}
 use Rattle.iofd_rows.proofs.Found.{found_passes}
 use Rattle.iofd_rows.proofs.Named.{file_is, id_is}
-use Rattle.iofd_rows.specs.Debts.{is_over_space}
+use Rattle.iofd_rows.specs.Debts.{attach_once, is_over_space}
 use Rattle.iofd_rows.specs.Ids.{have_own_ids}
-use Rattle.iofd_words.specs.Attachments.{ioas_of}
+use Rattle.iofd_words.specs.Attachments.{attachment_of, ioas_of, with_attachment, without_attachment}
 use Rattle.iofd_words.specs.Objects.{comes_before, has_hwpt, has_ioas, is_full, is_hwpt, is_hwpt_over, is_ioas}
 use Rattle.iofd_words.specs.Objects.{is_object, kind_of, with_object, without_object}
 use Rattle.iofd_words.specs.declared.numbers.FileNo.{FileNo}
 use Rattle.iofd_words.specs.declared.numbers.ObjId.{ObjId}
+use Rattle.iofd_words.specs.declared.numbers.DeviceNo.{DeviceNo}
+use Rattle.iofd_words.specs.declared.rows.Attachment.{Attachment}
 use Rattle.iofd_words.specs.declared.rows.Object.{Object}
 use Rattle.iofd_words.specs.declared.rows.ObjectKind.{ObjectKind}
 use Rattle.iofd_words.specs.declared.rows.ObjectKind.TheVariants as kind
@@ -22,12 +25,19 @@ use Rattle.iofd_words.specs.declared.width.Width.{Width}
 use Rattle.memory_rows.proofs.PinsFollow.{any_count, count-cons}
 use Rattle.object_table.specs.Table.{Row, Table, changed_at, inserted, is_at, is_of_file, is_own, is_same_kind, removed}
 use Rattle.object_table.specs.Table.{with_users}
+use Rattle.object_table.specs.declared.kind.Kind.{Kind}
 use Rattle.object_table.specs.declared.kind.Kind.TheVariants as of_kind
+use Rattle.server_state.proofs.AreasHeld.{found_first}
+use Rattle.server_state.proofs.Objects.{kind_at, kind_of_rows}
+use Rattle.server_state.proofs.CountsClosed.{count-closed}
+use Rattle.server_state.proofs.DevicesOn.{devices-closed, devices-with, devices-without, on_by}
 use Rattle.server_state.specs.Held.{areas_at, is_proper, kind_in, object_of, table_kind}
 use Rattle.server_state.specs.Spaces.{is_space}
-use Rattle.server_state.specs.Users.{AreCounted, tables_over, users_at}
+use Rattle.server_state.specs.Users.{AreCounted, devices_on, tables_over, users_at}
 use Rattle.server_state.specs.declared.held.Held.{Held}
-use Rattle.server_state.specs.declared.held.Held.TheVariants as held
+
+turned : (a b c d : ℕ) → ◌≡◌ {A = ℕ} (cond (eqb a b && eqb c d) 1 0) (cond (eqb b a && eqb d c) 1 0)
+turned a b c d = grind (arith, nat_tests)
 
 -- what holds where something is found
 pub where_found : {X : Type 0} (P : X → Type 0) (o : Option X) (x : X) → o ≡ Some x → IfSome o P → P x
@@ -270,44 +280,8 @@ few_over objects file i room =
 pub over-closed : (objects : List Object) (file f : FileNo) (i : ObjId)
     → tables_over (filter (λ (o : Object). not (eqb o.file.0 file.0)) objects) f i
     ≡ cond (eqb f.0 file.0) 0 (tables_over objects f i)
-over-closed [] file f i = by_file (eqb f.0 file.0)
-  where
-    by_file : (b : Bool) → ◌≡◌ {A = ℕ} 0 (cond b 0 0)
-    by_file true = refl
-    by_file false = refl
-over-closed (o ∷ objects) file f i =
-    let all = count-cons (λ (o : Object). eqb o.file.0 f.0 && is_hwpt_over i o.kind) o objects in
-    let left = count-cons (λ (o : Object). eqb o.file.0 f.0 && is_hwpt_over i o.kind) o
-    (filter (λ (o : Object). not (eqb o.file.0 file.0)) objects) in
-    by_files (eqb o.file.0 file.0) (eqb f.0 file.0) (eqb o.file.0 f.0) (is_hwpt_over i o.kind) refl refl refl refl all
-    left (over-closed objects file f i)
-  where
-    by_files : (b c d e : Bool) → eqb o.file.0 file.0 ≡ b → eqb f.0 file.0 ≡ c → eqb o.file.0 f.0 ≡ d
-        → is_hwpt_over i o.kind ≡ e
-        → tables_over (o ∷ objects) f i ≡ cond (eqb o.file.0 f.0 && is_hwpt_over i o.kind) 1 0 + tables_over objects f i
-        → tables_over (o ∷ filter (λ (o : Object). not (eqb o.file.0 file.0)) objects) f i
-        ≡ cond (eqb o.file.0 f.0 && is_hwpt_over i o.kind) 1 0
-        + tables_over (filter (λ (o : Object). not (eqb o.file.0 file.0)) objects) f i
-        → tables_over (filter (λ (o : Object). not (eqb o.file.0 file.0)) objects) f i
-        ≡ cond c 0 (tables_over objects f i)
-        → tables_over (cond (not b) (o ∷ filter (λ (o : Object). not (eqb o.file.0 file.0)) objects)
-        (filter (λ (o : Object). not (eqb o.file.0 file.0)) objects)) f i ≡ cond c 0 (tables_over (o ∷ objects) f i)
-    by_files true true d e ob fc od oe all left rest = rest
-    by_files true false true e ob fc od oe all left rest = absurd (apart o.file.0 f.0 file.0 ob fc od)
-      where
-        apart : (a b c : ℕ) → eqb a c ≡ true → eqb b c ≡ false → eqb a b ≡ true → ⊥
-        apart a b c ac bc ab = grind (arith, nat_tests)
-    by_files true false false e ob fc od oe all left rest =
-        let one : over_by o.file o.kind f i ≡ 0 = ap (λ (x : Bool). cond (x && is_hwpt_over i o.kind) 1 0) od in
-        omega (arith, all, rest, one)
-    by_files false true true e ob fc od oe all left rest = absurd (apart o.file.0 f.0 file.0 ob fc od)
-      where
-        apart : (a b c : ℕ) → eqb a c ≡ false → eqb b c ≡ true → eqb a b ≡ true → ⊥
-        apart a b c ac bc ab = grind (arith, nat_tests)
-    by_files false true false e ob fc od oe all left rest =
-        let one : over_by o.file o.kind f i ≡ 0 = ap (λ (x : Bool). cond (x && is_hwpt_over i o.kind) 1 0) od in
-        omega (arith, left, rest, one)
-    by_files false false d e ob fc od oe all left rest = omega (arith, all, left, rest)
+over-closed objects file f i =
+    count-closed (λ (o : Object). o.file) (λ (o : Object). is_hwpt_over i o.kind) objects file f
 
 -- ---- how many are counted
 
@@ -427,121 +401,199 @@ module _ {A : Type 0} where
       by_file false = refl
   users-closed (row ∷ rows) file f i = let rest = users-closed rows file f i in grind (arith, nat_tests)
 
-  -- ---- the row of an address space
+  -- ---- the row of an object
 
+  pub own_row : (rows : List (Row (Held A))) (file : FileNo) (id : ObjId) (k : ObjectKind)
+      → list_all is_proper rows ≡ true → kind_of (map object_of rows) file id ≡ Some k
+      → (row : Row (Held A)) × (find (is_own file (table_kind k) id) rows ≡ Some row)
+      × (find (is_at file id) rows ≡ Some row)
+  own_row [] file id k proper is = cc
+  own_row (row ∷ rows) file id k proper is =
+      let propers = and_true (is_proper row) (list_all is_proper rows) proper in
+      by_test (is_at file id row) refl is propers.0 (λ later. own_row rows file id k propers.1 later)
+    where
+      by_test : (b : Bool) → is_at file id row ≡ b
+          → elim (cond b (Some (object_of row)) (find (is_object file id) (map object_of rows)))
+          as (λ _. Option ObjectKind) [ Some o ↦ Some o.kind | None ↦ None ] ≡ Some k
+          → is_proper row ≡ true
+          → (kind_of (map object_of rows) file id ≡ Some k → (found : Row (Held A))
+          × (find (is_own file (table_kind k) id) rows ≡ Some found) × (find (is_at file id) rows ≡ Some found))
+          → (found : Row (Held A)) × (find (is_own file (table_kind k) id) (row ∷ rows) ≡ Some found)
+          × (find (is_at file id) (row ∷ rows) ≡ Some found)
+      by_test true here is proper later =
+          let of_kind : kind_in row.value ≡ k = cc in
+          let same : is_same_kind row.kind (table_kind k) ≡ true = rw of_kind at proper in
+          (row, rw (here, same) refl, rw here refl)
+      by_test false here is proper later =
+          let (found, own, at) = later is in (found, rw here own, rw here at)
+
+  -- an object that stands under a kind is of that kind
+  pub own_kind : (rows : List (Row (Held A))) (file : FileNo) (id : ObjId) (k : Kind) (row : Row (Held A))
+      → list_all is_proper rows ≡ true → have_own_ids (map object_of rows) ≡ true
+      → find (is_own file k id) rows ≡ Some row
+      → (find (is_at file id) rows ≡ Some row) × (kind_of (map object_of rows) file id ≡ Some (kind_in row.value))
+      × (table_kind (kind_in row.value) ≡ k)
+  own_kind rows file id k row proper ids found =
+      let there = found_first rows file k id row ids found in
+      let passes = found_passes is_proper (is_own file k id) rows row proper found in
+      let own = and_true (is_at file id row) (is_same_kind row.kind k) passes.1 in (
+        there,
+        kind_of_rows rows file id
+            ∙ ap (λ (o : Option (Row (Held A))). kind_at (option_map (λ (r : Row (Held A)). r.value) o)) there,
+        sym (kind_is row.kind (table_kind (kind_in row.value)) passes.0) ∙ kind_is row.kind k own.1,
+      )
+    where
+      kind_is : (a b : Kind) → is_same_kind a b ≡ true → a ≡ b
+      kind_is of_kind.Ioas of_kind.Ioas is = refl
+      kind_is of_kind.Ioas of_kind.Hwpt is = cc
+      kind_is of_kind.Ioas of_kind.Device is = cc
+      kind_is of_kind.Ioas of_kind.Access is = cc
+      kind_is of_kind.Hwpt of_kind.Ioas is = cc
+      kind_is of_kind.Hwpt of_kind.Hwpt is = refl
+      kind_is of_kind.Hwpt of_kind.Device is = cc
+      kind_is of_kind.Hwpt of_kind.Access is = cc
+      kind_is of_kind.Device of_kind.Ioas is = cc
+      kind_is of_kind.Device of_kind.Hwpt is = cc
+      kind_is of_kind.Device of_kind.Device is = refl
+      kind_is of_kind.Device of_kind.Access is = cc
+      kind_is of_kind.Access of_kind.Ioas is = cc
+      kind_is of_kind.Access of_kind.Hwpt is = cc
+      kind_is of_kind.Access of_kind.Device is = cc
+      kind_is of_kind.Access of_kind.Access is = refl
+
+  -- the row of an address space
   pub space_row : (rows : List (Row (Held A))) (file : FileNo) (ioas : ObjId) → list_all is_proper rows ≡ true
       → has_ioas (map object_of rows) file ioas ≡ true
       → (row : Row (Held A)) × (find (is_own file of_kind.Ioas ioas) rows ≡ Some row)
       × (find (is_at file ioas) rows ≡ Some row)
-  space_row [] file ioas proper has = cc
-  space_row (row ∷ rows) file ioas proper has =
-      let propers = and_true (is_proper row) (list_all is_proper rows) proper in
-      by_test (is_at file ioas row) refl has propers.0 (λ later. space_row rows file ioas propers.1 later)
+  space_row rows file ioas proper has =
+      own_row rows file ioas kind.Ioas proper (by_kind (kind_of (map object_of rows) file ioas) has)
     where
-      of_space : (held : Held A) → is_ioas (kind_in held) ≡ true → table_kind (kind_in held) ≡ of_kind.Ioas
-      of_space (held.Ioas areas) is = refl
-      of_space (held.Hwpt ioas width automatic) is = cc
-      of_space (held.Device device) is = cc
-
-      by_test : (b : Bool) → is_at file ioas row ≡ b
-          → elim (elim (cond b (Some (object_of row)) (find (is_object file ioas) (map object_of rows)))
-          as (λ _. Option ObjectKind) [ Some o ↦ Some o.kind | None ↦ None ]) as (λ _. Bool)
-          [ Some k ↦ is_ioas k | None ↦ false ] ≡ true
-          → is_proper row ≡ true
-          → (has_ioas (map object_of rows) file ioas ≡ true → (found : Row (Held A))
-          × (find (is_own file of_kind.Ioas ioas) rows ≡ Some found) × (find (is_at file ioas) rows ≡ Some found))
-          → (found : Row (Held A)) × (find (is_own file of_kind.Ioas ioas) (row ∷ rows) ≡ Some found)
-          × (find (is_at file ioas) (row ∷ rows) ≡ Some found)
-      by_test true here has proper later =
-          let same : is_same_kind row.kind of_kind.Ioas ≡ true = rw (of_space row.value has) at proper in
-          (row, rw (here, same) refl, rw here refl)
-      by_test false here has proper later =
-          let (found, own, at) = later has in (found, rw here own, rw here at)
+      by_kind : (o : Option ObjectKind) → elim o as (λ _. Bool) [ Some k ↦ is_ioas k | None ↦ false ] ≡ true
+          → o ≡ Some kind.Ioas
+      by_kind None is = cc
+      by_kind (Some kind.Ioas) is = refl
+      by_kind (Some (kind.Hwpt over width automatic)) is = cc
+      by_kind (Some (kind.Device device)) is = cc
 
   -- ---- what is counted stays right
 
-  module _ (objects : List Object) (rows : List (Row (Held A))) (counted : AreCounted objects rows) where
+  module _ (rows : List (Row (Held A))) (file : FileNo) (id : ObjId) (row : Row (Held A)) (old new : FileNo → ObjId → ℕ)
+      (found : find (is_at file id) rows ≡ Some row)
+      (was : (f : FileNo) (i : ObjId) → users_at rows f i ≡ old f i) where
+    -- where there is one more under one id, one more is counted there
+    pub one_more : ((f : FileNo) (i : ObjId) → new f i ≡ cond (is_space file id f i) 1 0 + old f i)
+        → (f : FileNo) (i : ObjId) → users_at (changed_at file id (with_users (row.users + 1)) rows) f i ≡ new f i
+    one_more more f i = by_name (is_space file id f i) refl (more f i)
+      where
+        by_name : (b : Bool) → is_space file id f i ≡ b → new f i ≡ cond b 1 0 + old f i
+            → users_at (changed_at file id (with_users (row.users + 1)) rows) f i ≡ new f i
+        by_name true is sum =
+            let names = and_true (eqb f.0 file.0) (eqb i.0 id.0) is in
+            let here : users_at (changed_at file id (with_users (row.users + 1)) rows) f i ≡ row.users + 1 =
+            rw (file_is f file names.0, id_is i id names.1) (users_here rows file id (row.users + 1) row found) in
+            let there : users_at rows f i ≡ row.users =
+            rw (file_is f file names.0, id_is i id names.1) (ap users_from found) in
+            let before = was f i in
+            omega (arith, here, there, before, sum)
+        by_name false is sum =
+            let same = users_elsewhere rows file id (row.users + 1) f i is in
+            let before = was f i in
+            omega (arith, same, before, sum)
+
+    -- and one fewer where there is one fewer
+    pub one_fewer : ((f : FileNo) (i : ObjId) → new f i + cond (is_space file id f i) 1 0 ≡ old f i)
+        → (f : FileNo) (i : ObjId) → users_at (changed_at file id (with_users (row.users - 1)) rows) f i ≡ new f i
+    one_fewer fewer f i = by_name (is_space file id f i) refl (fewer f i)
+      where
+        by_name : (b : Bool) → is_space file id f i ≡ b → new f i + cond b 1 0 ≡ old f i
+            → users_at (changed_at file id (with_users (row.users - 1)) rows) f i ≡ new f i
+        by_name true is sum =
+            let names = and_true (eqb f.0 file.0) (eqb i.0 id.0) is in
+            let here : users_at (changed_at file id (with_users (row.users - 1)) rows) f i ≡ row.users - 1 =
+            rw (file_is f file names.0, id_is i id names.1) (users_here rows file id (row.users - 1) row found) in
+            let there : users_at rows f i ≡ row.users =
+            rw (file_is f file names.0, id_is i id names.1) (ap users_from found) in
+            let before = was f i in
+            omega (arith, here, there, before, sum)
+        by_name false is sum =
+            let same = users_elsewhere rows file id (row.users - 1) f i is in
+            let before = was f i in
+            omega (arith, same, before, sum)
+
+  module _ (objects : List Object) (attachments : List Attachment) (rows : List (Row (Held A)))
+      (counted : AreCounted objects attachments rows) where
     -- the users of a row that is found
     pub users_of_row : (file : FileNo) (id : ObjId) (row : Row (Held A)) → find (is_at file id) rows ≡ Some row
-        → row.users ≡ tables_over objects file id
+        → row.users ≡ tables_over objects file id + devices_on attachments file id
     users_of_row file id row found = sym (ap users_from found) ∙ counted file id
+
+    -- a page table is over its own address space
+    over_own : (file : FileNo) (ioas : ObjId) (width : Width) (automatic : Bool) (f : FileNo) (i : ObjId)
+        → over_by file (kind.Hwpt ioas width automatic) f i ≡ cond (is_space file ioas f i) 1 0
+    over_own file ioas width automatic f i = turned file.0 f.0 ioas.0 i.0
 
     -- one more is counted where a page table comes
     pub table_comes : (file : FileNo) (ioas id : ObjId) (width : Width) (automatic : Bool) (row : Row (Held A))
         → find (is_at file ioas) rows ≡ Some row → AreCounted
-        (with_object (record { file = file; id = id; kind = kind.Hwpt ioas width automatic }) objects)
+        (with_object (record { file = file; id = id; kind = kind.Hwpt ioas width automatic }) objects) attachments
         (changed_at file ioas (with_users (row.users + 1)) rows)
-    table_comes file ioas id width automatic row found f i = by_space (is_space file ioas f i) refl
-      where
-        all : tables_over (with_object (record { file = file; id = id; kind = kind.Hwpt ioas width automatic })
-            objects) f i ≡ over_by file (kind.Hwpt ioas width automatic) f i + tables_over objects f i
-        all = over-with (record { file = file; id = id; kind = kind.Hwpt ioas width automatic }) objects f i
-
-        by_space : (b : Bool) → is_space file ioas f i ≡ b
-            → users_at (changed_at file ioas (with_users (row.users + 1)) rows) f i ≡ tables_over
-            (with_object (record { file = file; id = id; kind = kind.Hwpt ioas width automatic }) objects) f i
-        by_space true is =
-            let names = and_true (eqb f.0 file.0) (eqb i.0 ioas.0) is in
-            let one : over_by file (kind.Hwpt ioas width automatic) f i ≡ 1 =
-            rw (file_is f file names.0, id_is i ioas names.1, itself file.0, itself ioas.0) refl in
-            let here : users_at (changed_at file ioas (with_users (row.users + 1)) rows) f i ≡ row.users + 1 =
-            rw (file_is f file names.0, id_is i ioas names.1) (users_here rows file ioas (row.users + 1) row found) in
-            let was : row.users ≡ tables_over objects f i =
-            rw (file_is f file names.0, id_is i ioas names.1) (users_of_row file ioas row found) in
-            let sum = all in
-            omega (arith, one, here, was, sum)
-        by_space false is =
-            let none : over_by file (kind.Hwpt ioas width automatic) f i ≡ 0 = apart file.0 f.0 ioas.0 i.0 is in
-            let same = users_elsewhere rows file ioas (row.users + 1) f i is in
-            let was = counted f i in
-            let sum = all in
-            omega (arith, none, same, was, sum)
-          where
-            apart : (a b c d : ℕ) → (eqb b a && eqb d c) ≡ false
-                → ◌≡◌ {A = ℕ} (cond (eqb a b && eqb c d) 1 0) 0
-            apart a b c d other = grind (arith, nat_tests)
+    table_comes file ioas id width automatic row found =
+        let object : Object = record { file = file; id = id; kind = kind.Hwpt ioas width automatic } in
+        one_more rows file ioas row (λ f i. tables_over objects f i + devices_on attachments f i)
+        (λ f i. tables_over (with_object object objects) f i + devices_on attachments f i) found counted
+        (λ f i.
+        let all = over-with object objects f i in
+        let one = over_own file ioas width automatic f i in
+        omega (arith, all, one))
 
     -- one fewer where one goes
     pub table_goes : (file : FileNo) (ioas id : ObjId) (width : Width) (automatic : Bool) (row : Row (Held A))
         → have_own_ids objects ≡ true → kind_of objects file id ≡ Some (kind.Hwpt ioas width automatic)
-        → find (is_at file ioas) rows ≡ Some row → AreCounted (without_object file id objects)
+        → find (is_at file ioas) rows ≡ Some row → AreCounted (without_object file id objects) attachments
         (changed_at file ioas (with_users (row.users - 1)) rows)
-    table_goes file ioas id width automatic row ids is_kind found f i = by_space (is_space file ioas f i) refl
-      where
-        all : tables_over (without_object file id objects) f i + over_by file (kind.Hwpt ioas width automatic) f i
-            ≡ tables_over objects f i
-        all = over-without objects file id (kind.Hwpt ioas width automatic) f i ids is_kind
+    table_goes file ioas id width automatic row ids is_kind found =
+        one_fewer rows file ioas row (λ f i. tables_over objects f i + devices_on attachments f i)
+        (λ f i. tables_over (without_object file id objects) f i + devices_on attachments f i) found counted
+        (λ f i.
+        let all = over-without objects file id (kind.Hwpt ioas width automatic) f i ids is_kind in
+        let one = over_own file ioas width automatic f i in
+        omega (arith, all, one))
 
-        by_space : (b : Bool) → is_space file ioas f i ≡ b
-            → users_at (changed_at file ioas (with_users (row.users - 1)) rows) f i ≡ tables_over
-            (without_object file id objects) f i
-        by_space true is =
-            let names = and_true (eqb f.0 file.0) (eqb i.0 ioas.0) is in
-            let one : over_by file (kind.Hwpt ioas width automatic) f i ≡ 1 =
-            rw (file_is f file names.0, id_is i ioas names.1, itself file.0, itself ioas.0) refl in
-            let here : users_at (changed_at file ioas (with_users (row.users - 1)) rows) f i ≡ row.users - 1 =
-            rw (file_is f file names.0, id_is i ioas names.1) (users_here rows file ioas (row.users - 1) row found) in
-            let was : row.users ≡ tables_over objects f i =
-            rw (file_is f file names.0, id_is i ioas names.1) (users_of_row file ioas row found) in
-            let sum = all in
-            omega (arith, one, here, was, sum)
-        by_space false is =
-            let none : over_by file (kind.Hwpt ioas width automatic) f i ≡ 0 = apart file.0 f.0 ioas.0 i.0 is in
-            let same = users_elsewhere rows file ioas (row.users - 1) f i is in
-            let was = counted f i in
-            let sum = all in
-            omega (arith, none, same, was, sum)
-          where
-            apart : (a b c d : ℕ) → (eqb b a && eqb d c) ≡ false
-                → ◌≡◌ {A = ℕ} (cond (eqb a b && eqb c d) 1 0) 0
-            apart a b c d other = grind (arith, nat_tests)
+    -- one more where a device comes to a page table
+    pub device_comes : (a : Attachment) (row : Row (Held A)) → find (is_at a.file a.hwpt) rows ≡ Some row
+        → AreCounted objects (with_attachment a attachments)
+        (changed_at a.file a.hwpt (with_users (row.users + 1)) rows)
+    device_comes a row found =
+        one_more rows a.file a.hwpt row (λ f i. tables_over objects f i + devices_on attachments f i)
+        (λ f i. tables_over objects f i + devices_on (with_attachment a attachments) f i) found counted
+        (λ f i.
+        let all = devices-with a attachments f i in
+        let one : on_by a f i ≡ cond (is_space a.file a.hwpt f i) 1 0 = turned a.file.0 f.0 a.hwpt.0 i.0 in
+        omega (arith, all, one))
 
-    -- another object goes, on which no page table stands
+    -- one fewer where it goes
+    pub device_goes : (device : DeviceNo) (a : Attachment) (row : Row (Held A)) → attach_once attachments ≡ true
+        → attachment_of attachments device ≡ Some a → find (is_at a.file a.hwpt) rows ≡ Some row
+        → AreCounted objects (without_attachment device attachments)
+        (changed_at a.file a.hwpt (with_users (row.users - 1)) rows)
+    device_goes device a row once is found =
+        one_fewer rows a.file a.hwpt row (λ f i. tables_over objects f i + devices_on attachments f i)
+        (λ f i. tables_over objects f i + devices_on (without_attachment device attachments) f i) found counted
+        (λ f i.
+        let all = devices-without attachments device a f i once is in
+        let one : on_by a f i ≡ cond (is_space a.file a.hwpt f i) 1 0 = turned a.file.0 f.0 a.hwpt.0 i.0 in
+        omega (arith, all, one))
+
+    -- another object goes, on which no page table stands and by which no device translates
     pub other_goes : (file : FileNo) (id : ObjId) (k : ObjectKind) → have_own_ids objects ≡ true
         → kind_of objects file id ≡ Some k → is_hwpt k ≡ false → tables_over objects file id ≡ 0
-        → AreCounted (without_object file id objects) (removed file id rows)
-    other_goes file id k ids is_kind other none f i =
-        let same = users-removed rows file id (counted file id ∙ none) f i in
+        → devices_on attachments file id ≡ 0
+        → AreCounted (without_object file id objects) attachments (removed file id rows)
+    other_goes file id k ids is_kind other none no_device f i =
+        let unused : users_at rows file id ≡ 0 =
+        let here = counted file id in omega (arith, here, none, no_device) in
+        let same = users-removed rows file id unused f i in
         let all = over-without objects file id k f i ids is_kind in
         let not_over = other_over file k f i other in
         let was = counted f i in
@@ -549,18 +601,20 @@ module _ {A : Type 0} where
 
     -- all of a file go
     pub file_goes : (file : FileNo) → AreCounted (filter (λ (o : Object). not (eqb o.file.0 file.0)) objects)
+        (filter (λ (a : Attachment). not (eqb a.file.0 file.0)) attachments)
         (filter (λ row. not (is_of_file file row)) rows)
     file_goes file f i = users-closed rows file f i ∙ ap (cond (eqb f.0 file.0) 0) (counted f i)
-        ∙ sym (over-closed objects file f i)
-
-  -- a page table's object is removed from rows in which nobody uses it
-  pub counted-removed : (objects : List Object) (rows : List (Row (Held A))) (file : FileNo) (id : ObjId)
-      → users_at rows file id ≡ 0 → AreCounted objects rows → AreCounted objects (removed file id rows)
-  counted-removed objects rows file id none counted f i = users-removed rows file id none f i ∙ counted f i
-
-  pub counted-inserted : (objects : List Object) (row : Row (Held A)) (rows : List (Row (Held A))) → row.users ≡ 0
-      → find (is_at row.file row.id) rows ≡ None → AreCounted objects rows → AreCounted objects (inserted row rows)
-  counted-inserted objects row rows none unused counted f i = users-inserted row rows f i none unused ∙ counted f i
+        ∙ both (eqb f.0 file.0) (over-closed objects file f i) (devices-closed attachments file f i)
+      where
+        both : (b : Bool) → tables_over (filter (λ (o : Object). not (eqb o.file.0 file.0)) objects) f i
+            ≡ cond b 0 (tables_over objects f i)
+            → devices_on (filter (λ (a : Attachment). not (eqb a.file.0 file.0)) attachments) f i
+            ≡ cond b 0 (devices_on attachments f i)
+            → cond b 0 (tables_over objects f i + devices_on attachments f i)
+            ≡ tables_over (filter (λ (o : Object). not (eqb o.file.0 file.0)) objects) f i
+            + devices_on (filter (λ (a : Attachment). not (eqb a.file.0 file.0)) attachments) f i
+        both true over on = omega (arith, over, on)
+        both false over on = omega (arith, over, on)
 
   -- a count that goes down where nobody was counted stays
   pub still_none : (rows : List (Row (Held A))) (file : FileNo) (id ioas : ObjId) (row : Row (Held A))

@@ -1,4 +1,5 @@
 -- What objects that come or go leave of what is kept.
+use Rattle.std.proofs.Common.{ℕ, ◌+◌}
 use Rattle.std.proofs.Common.{◌≡◌, ◌<◌, ◌^◌, is_some, Vec, Bool, true, false, cond, leb, Option, Some, None, List, []}
 use Rattle.std.proofs.Common.{◌∷◌, length, map, refl, sym, ◌∙◌, ap, arith}
 use Rattle.std.specs.List.{find, filter, list_all}
@@ -22,7 +23,7 @@ use Rattle.server_state.specs.Devices.{are_bindings}
 use Rattle.server_state.specs.Held.{is_proper, areas_at, areas_in, object_of}
 use Rattle.server_state.specs.Shows.{Shows}
 use Rattle.server_state.specs.Tables.{page_tables_among}
-use Rattle.server_state.specs.Users.{users_at}
+use Rattle.server_state.specs.Users.{devices_on, users_at}
 use Rattle.server_state.specs.declared.held.Held.{Held}
 use Rattle.server_state.specs.declared.state.State.{State}
 use Rattle.object_table.specs.Table.{Row, Table, inserted, is_at, is_of_file, stands_before}
@@ -110,7 +111,8 @@ module _ {A : Type 0} where
           files = λ number. rw files (shows.objects.files number);
           counted = λ f i. ap (λ l. users_at l f i) rows ∙ users-inserted row s.objects.rows f i no_users unused
               ∙ shows.objects.counted f i
-              ∙ sym (over-beside (object_of row) w.objects f i no_table);
+              ∙ sym (ap (λ (n : ℕ). n + devices_on w.attachments f i)
+              (over-beside (object_of row) w.objects f i no_table));
         };
         devices = record { bindings = bound; rising = rising; attached = shows.devices.attached };
         limits = shows.limits;

@@ -28,14 +28,15 @@ use Rattle.object_table.specs.Table.{Table, is_open}
 
 -- the files, and the objects of each with the areas of its address spaces
 pub record ObjectsShown {A : Type 0} (settings : Settings) (closed : List FileNo) (objects : List Object)
-    (areas : List Area) (table : Table (Held A)) : Type 0 where
+    (attachments : List Attachment) (areas : List Area) (table : Table (Held A)) : Type 0 where
   pub rows : objects ≡ map object_of table.rows
   pub proper : list_all is_proper table.rows ≡ true
   -- each address space has its areas; no other object has any
   pub spaces : (f : FileNo) (ioas : ObjId) → areas_of areas f ioas ≡ areas_at table.rows f ioas
   pub files : (number : FileNo) → is_open table number ≡ file.is_open settings closed number
-  -- each address space is counted as many users as page tables stand over it; no other object has any
-  pub counted : AreCounted objects table.rows
+  -- each address space is counted as many users as page tables stand over it, and each page table as many as devices
+  -- translate by it; no other object has any
+  pub counted : AreCounted objects attachments table.rows
 
 -- by which object a device is bound, and by which page table it translates
 pub record DevicesShown (objects : List Object) (attachments : List Attachment) (kept_bindings : List Object)
@@ -56,7 +57,7 @@ pub record Shows {A : Type 0} (w : World) (s : State A) : Type 0 where
   pub limits : s.memory.limits ≡ w.settings.users
   -- each address space has its allowed ranges
   pub allowed : (file : FileNo) (ioas : ObjId) → allowed_of w.allowed file ioas ≡ allowed_of s.allowed file ioas
-  pub objects : ObjectsShown w.settings w.closed w.objects w.areas s.objects
+  pub objects : ObjectsShown w.settings w.closed w.objects w.attachments w.areas s.objects
   pub devices : DevicesShown w.objects w.attachments s.bindings.items s.attachments.items
   pub users : UsersShown w.user_pages s.memory.pages
   pub pins : PinsShown w.objects w.areas w.memory w.pins s.memory

@@ -145,6 +145,17 @@ impl<A: Allocator> State<A> {
         }
     }
 
+    /// Whether some device translates by the file's page table of this id.
+    pub fn has_device_on(&self, file: FileNo, hwpt: ObjId) -> bool
+        requires { IsKnown self.now }
+        ensures { result ≡ attachments.has_device_on self.now.attachments.items file hwpt }
+    {
+        match self.objects.users(file, Kind::Hwpt, hwpt) {
+            Ok(users) => users > 0,
+            Err(_) => false,
+        }
+    }
+
     /// The attachment of the device.
     pub fn attachment_of(&self, device: DeviceNo) -> Option<&Attachment>
         requires { IsKnown self.now }

@@ -15,8 +15,9 @@ pub returns-else-is_idle-clause-ok : goal.returns-else-is_idle-clause-ok
 returns-else-is_idle-clause-ok g c = λ at via w tidy shows none may.
     shows_detached at w c.args.state.now c.remove.new.list c.args.device c.in-Some.attachment.now
     c.in-Some-space_of.field-0-0 c.in-Some-space_of.ioas c.pay.new.table tidy shows none (sym c.in-Some.ensures)
-    (sym c.in-Some-space_of.ensures) c.pay.ensures c.remove.ensures via c.reserve_given.new.given.items
-    (c.reserve_given.ensures.same ∙ c.requires.none) (rw c.deref.ensures.value at (sym c.if-is_idle.ensures))
+    (sym c.in-Some-space_of.ensures) c.pay.ensures c.remove.ensures c.one_fewer.new.table c.one_fewer.ensures.rows
+    c.one_fewer.ensures.others via c.reserve_given.new.given.items
+    (c.reserve_given.ensures.same ∙ c.requires.none) (sym c.if-is_idle.ensures)
 
 pub unpin_space-requires : goal.unpin_space-requires
 unpin_space-requires g c =
@@ -24,8 +25,10 @@ unpin_space-requires g c =
     may_unpin c.requires.granted.at known.world c.args.state.now c.remove.new.list c.args.device
     c.in-Some.attachment.now c.in-Some-space_of.field-0-0 c.in-Some-space_of.ioas c.pay.new.table known.tidy
     known.shows known.none (sym c.in-Some.ensures) (sym c.in-Some-space_of.ensures) c.pay.ensures c.remove.ensures
-    c.table_goes.new.table c.drop_table.new.table (rw c.deref.ensures.value at (sym c.if-is_idle.ensures))
-    c.table_goes.ensures.rows c.table_goes.ensures.others c.drop_table.ensures.rows
+    c.one_fewer.new.table c.one_fewer.ensures.rows
+    c.one_fewer.ensures.others
+    c.one_fewer-then-is_idle.new.table c.drop_table.new.table (sym c.if-is_idle.ensures)
+    c.one_fewer-then-is_idle.ensures.rows c.one_fewer-then-is_idle.ensures.others c.drop_table.ensures.rows
     c.drop_table.ensures.files c.remove-then-is_idle.new.self c.remove-then-is_idle.new.pool
     c.remove-then-is_idle.ensures.tables c.remove-then-is_idle.ensures.stand c.remove-then-is_idle.ensures.pool
     (sym c.has_over.ensures ∙ c.if-not-has_over.true)
@@ -34,9 +37,10 @@ pub returns-then-not-has_over-clause-ok : goal.returns-then-not-has_over-clause-
 returns-then-not-has_over-clause-ok g c = λ at via w tidy shows none may.
     shows_last at w c.args.state.now c.remove.new.list c.args.device c.in-Some.attachment.now
     c.in-Some-space_of.field-0-0 c.in-Some-space_of.ioas c.pay.new.table tidy shows none (sym c.in-Some.ensures)
-    (sym c.in-Some-space_of.ensures) c.pay.ensures c.remove.ensures c.table_goes.new.table
-    c.drop_table.new.table (rw c.deref.ensures.value at (sym c.if-is_idle.ensures)) c.table_goes.ensures.rows
-    c.table_goes.ensures.others c.drop_table.ensures.rows c.drop_table.ensures.files
+    (sym c.in-Some-space_of.ensures) c.pay.ensures c.remove.ensures c.one_fewer.new.table c.one_fewer.ensures.rows
+    c.one_fewer.ensures.others c.one_fewer-then-is_idle.new.table
+    c.drop_table.new.table (sym c.if-is_idle.ensures) c.one_fewer-then-is_idle.ensures.rows
+    c.one_fewer-then-is_idle.ensures.others c.drop_table.ensures.rows c.drop_table.ensures.files
     c.remove-then-is_idle.new.self c.remove-then-is_idle.new.pool c.remove-then-is_idle.ensures.tables
     c.remove-then-is_idle.ensures.stand c.remove-then-is_idle.ensures.pool c.reserve_given.new.given.items
     c.remove-then-is_idle.new.out.items (c.reserve_given.ensures.same ∙ c.requires.none)
@@ -47,9 +51,10 @@ pub returns-else-not-has_over-clause-ok : goal.returns-else-not-has_over-clause-
 returns-else-not-has_over-clause-ok g c = λ at via w tidy shows none may.
     shows_dropped at w c.args.state.now c.remove.new.list c.args.device c.in-Some.attachment.now
     c.in-Some-space_of.field-0-0 c.in-Some-space_of.ioas c.pay.new.table tidy shows none (sym c.in-Some.ensures)
-    (sym c.in-Some-space_of.ensures) c.pay.ensures c.remove.ensures c.table_goes.new.table
-    c.drop_table.new.table (rw c.deref.ensures.value at (sym c.if-is_idle.ensures)) c.table_goes.ensures.rows
-    c.table_goes.ensures.others c.drop_table.ensures.rows c.drop_table.ensures.files
+    (sym c.in-Some-space_of.ensures) c.pay.ensures c.remove.ensures c.one_fewer.new.table c.one_fewer.ensures.rows
+    c.one_fewer.ensures.others c.one_fewer-then-is_idle.new.table
+    c.drop_table.new.table (sym c.if-is_idle.ensures) c.one_fewer-then-is_idle.ensures.rows
+    c.one_fewer-then-is_idle.ensures.others c.drop_table.ensures.rows c.drop_table.ensures.files
     c.remove-then-is_idle.new.self c.remove-then-is_idle.new.pool c.remove-then-is_idle.ensures.tables
     c.remove-then-is_idle.ensures.stand c.remove-then-is_idle.ensures.pool c.reserve_given.new.given.items
     c.remove-then-is_idle.new.out.items (c.reserve_given.ensures.same ∙ c.requires.none)

@@ -29,8 +29,8 @@ unpin_space-requires g c =
     last_may c.requires.granted.at known.world c.args.state.now c.args.file c.args.id c.in-Some-Hwpt.ioas
     c.in-Some-Hwpt.field-0-1 c.in-Some-Hwpt.field-0-2 c.remove-in-Some-Hwpt.new.table
     known.tidy known.shows known.none
-    (sym c.in-Some-Hwpt.ensures ∙ ap Some c.in-Some-Hwpt.field-0-is) c.table_goes.new.table c.table_goes.ensures.rows
-    c.table_goes.ensures.others c.remove-in-Some-Hwpt.ensures.rows
+    (sym c.in-Some-Hwpt.ensures ∙ ap Some c.in-Some-Hwpt.field-0-is) c.one_fewer.new.table c.one_fewer.ensures.rows
+    c.one_fewer.ensures.others c.remove-in-Some-Hwpt.ensures.rows
     c.remove-in-Some-Hwpt.ensures.files
     c.remove-in-Some-Hwpt-2.new.self c.remove-in-Some-Hwpt-2.new.pool c.remove-in-Some-Hwpt-2.ensures.tables
     c.remove-in-Some-Hwpt-2.ensures.stand c.remove-in-Some-Hwpt-2.ensures.pool
@@ -41,7 +41,7 @@ returns-then-not-has_over-clause-ok g c = λ at via w tidy shows none may.
     let is_kind = sym c.in-Some-Hwpt.ensures ∙ ap Some c.in-Some-Hwpt.field-0-is in
     table_moves at w c.args.state.now c.args.file c.args.id c.in-Some-Hwpt.ioas c.in-Some-Hwpt.field-0-1
     c.in-Some-Hwpt.field-0-2 c.remove-in-Some-Hwpt.new.table tidy shows none is_kind
-    c.table_goes.new.table c.table_goes.ensures.rows c.table_goes.ensures.others
+    c.one_fewer.new.table c.one_fewer.ensures.rows c.one_fewer.ensures.others
     c.remove-in-Some-Hwpt.ensures.rows c.remove-in-Some-Hwpt.ensures.files
     c.remove-in-Some-Hwpt-2.new.self c.remove-in-Some-Hwpt-2.new.pool c.remove-in-Some-Hwpt-2.ensures.tables
     c.remove-in-Some-Hwpt-2.ensures.stand c.remove-in-Some-Hwpt-2.ensures.pool
@@ -49,7 +49,7 @@ returns-then-not-has_over-clause-ok g c = λ at via w tidy shows none may.
     ∙ c.requires.none) c.remove-in-Some-Hwpt-2.ensures.out
     (last_destroyed at w c.args.state.now c.args.file c.args.id c.in-Some-Hwpt.ioas c.in-Some-Hwpt.field-0-1
     c.in-Some-Hwpt.field-0-2 c.remove-in-Some-Hwpt.new.table tidy shows none is_kind
-    c.table_goes.new.table c.table_goes.ensures.rows c.table_goes.ensures.others
+    c.one_fewer.new.table c.one_fewer.ensures.rows c.one_fewer.ensures.others
     c.remove-in-Some-Hwpt.ensures.rows c.remove-in-Some-Hwpt.ensures.files
     c.remove-in-Some-Hwpt-2.new.self c.remove-in-Some-Hwpt-2.new.pool c.remove-in-Some-Hwpt-2.ensures.tables
     c.remove-in-Some-Hwpt-2.ensures.stand c.remove-in-Some-Hwpt-2.ensures.pool
@@ -61,7 +61,7 @@ returns-else-not-has_over-clause-ok g c = λ at via w tidy shows none may.
     let is_kind = sym c.in-Some-Hwpt.ensures ∙ ap Some c.in-Some-Hwpt.field-0-is in
     table_moves at w c.args.state.now c.args.file c.args.id c.in-Some-Hwpt.ioas c.in-Some-Hwpt.field-0-1
     c.in-Some-Hwpt.field-0-2 c.remove-in-Some-Hwpt.new.table tidy shows none is_kind
-    c.table_goes.new.table c.table_goes.ensures.rows c.table_goes.ensures.others
+    c.one_fewer.new.table c.one_fewer.ensures.rows c.one_fewer.ensures.others
     c.remove-in-Some-Hwpt.ensures.rows c.remove-in-Some-Hwpt.ensures.files
     c.remove-in-Some-Hwpt-2.new.self c.remove-in-Some-Hwpt-2.new.pool c.remove-in-Some-Hwpt-2.ensures.tables
     c.remove-in-Some-Hwpt-2.ensures.stand c.remove-in-Some-Hwpt-2.ensures.pool
@@ -69,7 +69,7 @@ returns-else-not-has_over-clause-ok g c = λ at via w tidy shows none may.
     ∙ c.requires.none) c.remove-in-Some-Hwpt-2.ensures.out
     (other_destroyed at w c.args.state.now c.args.file c.args.id c.in-Some-Hwpt.ioas c.in-Some-Hwpt.field-0-1
     c.in-Some-Hwpt.field-0-2 c.remove-in-Some-Hwpt.new.table tidy shows none is_kind
-    c.table_goes.new.table c.table_goes.ensures.rows c.table_goes.ensures.others
+    c.one_fewer.new.table c.one_fewer.ensures.rows c.one_fewer.ensures.others
     c.remove-in-Some-Hwpt.ensures.rows c.remove-in-Some-Hwpt.ensures.files
     c.remove-in-Some-Hwpt-2.new.self c.remove-in-Some-Hwpt-2.new.pool c.remove-in-Some-Hwpt-2.ensures.tables
     c.remove-in-Some-Hwpt-2.ensures.stand c.remove-in-Some-Hwpt-2.ensures.pool

@@ -22,11 +22,14 @@ returns-in-Some-table_there-clause-ok g c =
     λ at via.
     subst (λ (taken : List FrameNo). MovingSteps at (event.Attach c.args.device c.args.pt_id) via c.args.state.now
     (reply.Id c.in-Some-table_there.hwpt) taken []
-    (record c.args.state.now { attachments = c.insert.new.list })) (sym c.requires.empty)
+    (record c.args.state.now { objects = c.one_more.new.table; attachments = c.insert.new.list }))
+    (sym c.requires.empty)
     (λ w tidy shows none may.
-    shows_there at w c.args.state.now c.insert.new.list c.args.device c.args.pt_id c.in-Some-table_there.hwpt
+    shows_there at w c.args.state.now c.one_more.new.table c.insert.new.list c.args.device c.args.pt_id
+    c.in-Some-table_there.hwpt
     c.in-Some.bound.now c.in-Some-width_of.width via tidy shows none
     (sym c.in-Some.ensures) (sym c.in-Some-width_of.ensures) (sym c.in-Some-table_there.ensures)
+    c.pool.ensures.within c.one_more.ensures.rows c.one_more.ensures.others
     (c.insert.ensures ∙ ap (with_attachment (record {
       device = c.args.device;
       file = c.in-Some.bound.now.file;
@@ -47,8 +50,10 @@ returns-clause-ok g c =
     let roomy = attach_roomy at w c.args.state.now c.args.device c.args.pt_id c.in-Some.bound.now
     c.in-Some-width_of.width tidy shows none (sym c.in-Some.ensures) (sym c.in-Some-width_of.ensures)
     (sym c.in_default-table_there.ensures) in
-    shows_new at w c.args.state.now c.make.new.state c.insert-2.new.list c.args.device c.args.pt_id c.in_ok-hwpt.hwpt
+    shows_new at w c.args.state.now c.make.new.state c.one_more-2.new.table c.insert-2.new.list c.args.device
+    c.args.pt_id c.in_ok-made.made
     c.in-Some.bound.now c.in-Some-width_of.width via c.make.new.taken.items tidy shows none
     (sym c.in-Some.ensures) (sym c.in-Some-width_of.ensures) (sym c.in_default-table_there.ensures)
-    (c.in_ok-hwpt.ensures.ok at w tidy shows_room roomy)
+    (c.in_ok-made.ensures.ok at w tidy shows_room roomy) c.pool.ensures.within c.one_more-2.ensures.rows
+    c.one_more-2.ensures.others
     c.insert-2.ensures
