@@ -1,6 +1,7 @@
 pub mod Numerals
 pub mod Parts
 pub mod Pairs
+pub mod Strides
 pub mod Within
 pub mod Orders
 pub mod Beginnings

@@ -30,7 +30,7 @@ passes_at p [] i h e = absurd (omega arith)
 passes_at p (x ∷ xs) zero h e = grind arith
 passes_at p (x ∷ xs) (suc i) h e = grind (arith, passes_at p xs i)
 
-small : (c : ℕ) → is_lower_digit c ≡ true → digit_value c < 16
+pub small : (c : ℕ) → is_lower_digit c ≡ true → digit_value c < 16
 small c e = let d = digit_value c in grind (arith, nat_tests)
 
 pub lower_small : (text : List ℕ) (i : ℕ) → i < length text → list_all is_lower_digit text ≡ true

@@ -1,14 +1,16 @@
 //! Bytes that a script spells in hexadecimal.
 
 ghost use Rattle.std.specs.Prelude.{◌≡◌, ◌==◌, ◌%◌, ◌/◌, ◌&&◌, ◌≤◌, Some, IfOk, OnErr, length, nat_lt, slice_index};
-ghost use Rattle.std.specs.Prelude.{if◌then◌else◌, None, true, ◌<◌, ◌+◌, ◌*◌, take};
+ghost use Rattle.std.specs.Prelude.{if◌then◌else◌, None, true, ◌<◌, ◌+◌, ◌*◌, map, take};
 ghost use Rattle.std.specs.Char.{digit_value};
 ghost use Rattle.std.specs.List.{list_all};
+ghost use Rattle.std.specs.Simd.Lanes.{chunk};
 ghost use Rattle.iommufd_script.specs.Digits.{bytes_of, is_lower_digit, pairs};
 
 use iofd_words::NoMemory;
 use std::alloc::Allocator;
 use std::marker::Model;
+use std::simd::prelude::*;
 
 /// Bytes, as the digits that the script has for them. They take no memory.
 #[derive(Debug, Drop)]
@@ -42,8 +44,7 @@ fn are_lower_digits(text: &[u8]) -> bool
     all
 }
 
-// The four bits of a hexadecimal digit. A letter's low bits count from 1, and bit 6 is set in letters alone; so no
-// digit needs a branch or a table, and the compiler can take many at once.
+// The four bits of a digit. A letter's low bits count from 1, and bit 6 is set in letters alone: none needs a branch.
 fn bits_of(digit: u8) -> u8
     requires { digit_value digit < 16 }
     ensures { result ≡ digit_value digit }
@@ -51,13 +52,28 @@ fn bits_of(digit: u8) -> u8
     (digit & 15) + 9 * (digit >> 6)
 }
 
-// The byte of two digits, the high four bits first.
-fn byte_of(high: u8, low: u8) -> u8
-    requires high { digit_value high < 16 }
-    requires low { digit_value low < 16 }
-    ensures { result ≡ 16 * digit_value high + digit_value low }
+// How many bytes are decoded together.
+const STRIDE: usize = 16;
+
+// What sixteen digits stand for. A decimal one lies 48 above that, and a letter 87; the wrong one of the two, taken
+// away, leaves more, or wraps round to more.
+fn values_of(digits: u8x16) -> u8x16
+    requires { list_all is_lower_digit digits ≡ true }
+    ensures { result ≡ map digit_value digits }
 {
-    bits_of(high) * 16 + bits_of(low)
+    (digits - u8x16::splat(48)).simd_min(digits - u8x16::splat(87))
+}
+
+// The bytes of the 32 digits from this place on.
+fn sixteen_bytes(digits: &[u8], at: usize) -> u8x16
+    requires within { at + 32 ≤ length digits.now }
+    requires lower { list_all is_lower_digit digits.now ≡ true }
+    ensures { result ≡ pairs (chunk at 32 digits.now) }
+{
+    let front = values_of(u8x16::from_slice(&digits[at..]));
+    let back = values_of(u8x16::from_slice(&digits[at + 16..]));
+    let (high, low) = front.deinterleave(back);
+    high * u8x16::splat(16) + low
 }
 
 impl<'a> HexBytes<'a> {
@@ -90,7 +106,35 @@ impl<'a> HexBytes<'a> {
         ensures { result ≡ slice_index self.now i }
     {
         let digits = self.digits;
-        byte_of(digits[2 * i], digits[2 * i + 1])
+        bits_of(digits[2 * i]) * 16 + bits_of(digits[2 * i + 1])
+    }
+
+    // Writes sixteen or more to the front of a buffer. The last stride overlaps the one before.
+    fn write_many(&self, buffer: &mut [u8])
+        requires many { 16 ≤ length self.now }
+        requires room { length self.now ≤ length buffer.old }
+        ensures { take (length self.now) buffer.new ≡ self.now }
+    {
+        let last = self.len() - STRIDE;
+        let mut done = 0;
+        while done < last {
+            sixteen_bytes(self.digits, 2 * done).copy_to_slice(&mut buffer[done..]);
+            done += STRIDE;
+        }
+        sixteen_bytes(self.digits, 2 * last).copy_to_slice(&mut buffer[last..]);
+    }
+
+    // Writes them to the front of a buffer.
+    fn write_over(&self, buffer: &mut [u8])
+        requires { length self.now ≤ length buffer.old }
+        ensures { take (length self.now) buffer.new ≡ self.now }
+    {
+        if self.len() >= STRIDE {
+            return self.write_many(buffer);
+        }
+        for i in 0..self.len() {
+            buffer[i] = self.byte_at(i);
+        }
     }
 
     /// Writes them to the front of a buffer, which has to have room for them.
@@ -98,9 +142,7 @@ impl<'a> HexBytes<'a> {
         requires { length self.now ≤ 64 }
         ensures { take (length self.now) buffer.new ≡ self.now }
     {
-        for i in 0..self.len() {
-            buffer[i] = self.byte_at(i);
-        }
+        self.write_over(buffer);
     }
 
     /// They, in memory of this allocator. The error comes only where the memory was refused; no bytes need none.
@@ -113,9 +155,7 @@ impl<'a> HexBytes<'a> {
             return Ok(Vec::new(alloc));
         }
         let mut vec = vec![in alloc; 0; len]?;
-        for i in 0..len {
-            vec[i] = self.byte_at(i);
-        }
+        self.write_over(&mut vec);
         Ok(vec)
     }
 }

@@ -1,6 +1,6 @@
 //! The words that lines begin with.
 
-ghost use Rattle.std.specs.Prelude.{◌≡◌};
+ghost use Rattle.std.specs.Prelude.{◌≡◌, length};
 ghost use Rattle.std.specs.Str.{bytes_eq};
 ghost use Rattle.iommufd_script.specs.Grammar.{head_keyword, step_keyword};
 
@@ -60,40 +60,73 @@ pub fn head_keyword(word: &[u8]) -> Option<HeadKeyword>
     }
 }
 
-// The word of a step that this is.
+// The word of a step that this is. Its length leaves a few of them.
 pub fn step_keyword(word: &[u8]) -> Option<StepKeyword>
+    ensures { result ≡ step_keyword word.now }
+{
+    match word.len() {
+        4 => step_keyword_of_4(word),
+        5 => step_keyword_of_5(word),
+        6 => step_keyword_of_6(word),
+        _ => None,
+    }
+}
+
+// The same of a word of four letters.
+fn step_keyword_of_4(word: &[u8]) -> Option<StepKeyword>
+    requires { length word.now ≡ 4 }
+    ensures { result ≡ step_keyword word.now }
+{
+    if is_word(word, b"umap") {
+        Some(StepKeyword::UserMap)
+    } else if is_word(word, b"bind") {
+        Some(StepKeyword::Bind)
+    } else if is_word(word, b"free") {
+        Some(StepKeyword::FreeFrames)
+    } else if is_word(word, b"held") {
+        Some(StepKeyword::Held)
+    } else {
+        None
+    }
+}
+
+// The same of a word of five letters.
+fn step_keyword_of_5(word: &[u8]) -> Option<StepKeyword>
+    requires { length word.now ≡ 5 }
     ensures { result ≡ step_keyword word.now }
 {
     if is_word(word, b"ioctl") {
         Some(StepKeyword::Ioctl)
     } else if is_word(word, b"close") {
         Some(StepKeyword::Close)
-    } else if is_word(word, b"umap") {
-        Some(StepKeyword::UserMap)
-    } else if is_word(word, b"uunmap") {
-        Some(StepKeyword::UserUnmap)
     } else if is_word(word, b"uread") {
         Some(StepKeyword::UserRead)
+    } else if is_word(word, b"flush") {
+        Some(StepKeyword::Flush)
+    } else if is_word(word, b"dread") {
+        Some(StepKeyword::DeviceRead)
+    } else {
+        None
+    }
+}
+
+// The same of a word of six letters.
+fn step_keyword_of_6(word: &[u8]) -> Option<StepKeyword>
+    requires { length word.now ≡ 6 }
+    ensures { result ≡ step_keyword word.now }
+{
+    if is_word(word, b"uunmap") {
+        Some(StepKeyword::UserUnmap)
     } else if is_word(word, b"uwrite") {
         Some(StepKeyword::UserWrite)
-    } else if is_word(word, b"bind") {
-        Some(StepKeyword::Bind)
     } else if is_word(word, b"unbind") {
         Some(StepKeyword::Unbind)
     } else if is_word(word, b"attach") {
         Some(StepKeyword::Attach)
     } else if is_word(word, b"detach") {
         Some(StepKeyword::Detach)
-    } else if is_word(word, b"flush") {
-        Some(StepKeyword::Flush)
-    } else if is_word(word, b"dread") {
-        Some(StepKeyword::DeviceRead)
     } else if is_word(word, b"dwrite") {
         Some(StepKeyword::DeviceWrite)
-    } else if is_word(word, b"free") {
-        Some(StepKeyword::FreeFrames)
-    } else if is_word(word, b"held") {
-        Some(StepKeyword::Held)
     } else {
         None
     }

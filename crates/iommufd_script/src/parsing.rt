@@ -233,10 +233,10 @@ fn worded_line(text: &[u8]) -> Option<Line<'_>>
     ensures { result ≡ worded (fields text.now) }
 {
     let (word, fields) = Fields::of(text).split()?;
-    if let Some(keyword) = head_keyword(word) {
-        return Some(Line::Head(head_line(keyword, fields)?));
+    if let Some(keyword) = step_keyword(word) {
+        return Some(Line::Step(step(keyword, fields)?));
     }
-    Some(Line::Step(step(step_keyword(word)?, fields)?))
+    Some(Line::Head(head_line(head_keyword(word)?, fields)?))
 }
 
 /// What a line says, given without its line feed; None where it isn't of the grammar. It takes no
