@@ -71,6 +71,16 @@ tells-set words new n m holds f c told within here others count =
       counts = omega (arith, told.counts, counted, count);
     }
 
+-- where a frame is free the number isn't 0
+pub some-free : (words : List ℕ) (n : ℕ) (holds : List ℕ) (f : ℕ) → TellsFree words n holds → f < length holds
+    → get_or holds f 0 ≡ 0 → 1 ≤ n
+some-free words n holds f told within free =
+    let one : eqb (get_or holds f 0) 0 ≡ true = rw free refl in
+    let counted : cond (eqb (get_or holds f 0) 0) 1 0 ≤ free_count holds =
+    get_or-le-sum_by (λ count. cond (eqb count 0) 1 0) holds f 0 within in
+    let some : 1 ≤ free_count holds = rw one at counted in
+    omega (arith, told.counts, some)
+
 -- a frame that was free is held from now on
 pub tells-held : (words new : List ℕ) (n : ℕ) (holds : List ℕ) (f c : ℕ) → TellsFree words n holds → f < length holds
     → get_or holds f 0 ≡ 0 → c ≢ 0 → has_frame new f ≡ false → ((g : ℕ) → g ≢ f → has_frame new g ≡ has_frame words g)
@@ -78,11 +88,9 @@ pub tells-held : (words new : List ℕ) (n : ℕ) (holds : List ℕ) (f c : ℕ)
 tells-held words new n holds f c told within free some here others =
     let one : eqb (get_or holds f 0) 0 ≡ true = rw free refl in
     let none : eqb c 0 ≡ false = grind (arith, nat_tests) in
-    let counted : cond (eqb (get_or holds f 0) 0) 1 0 ≤ free_count holds =
-    get_or-le-sum_by (λ count. cond (eqb count 0) 1 0) holds f 0 within in
-    let some_free : 1 ≤ free_count holds = rw one at counted in
+    let some : 1 ≤ n = some-free words n holds f told within free in
     tells-set words new n (n - 1) holds f c told within (here ∙ sym none) others
-    (rw (one, none) (omega (arith, told.counts, some_free)))
+    (rw (one, none) (omega (arith, some)))
 
 -- a frame that was held is free from now on
 pub tells-freed : (words new : List ℕ) (n : ℕ) (holds : List ℕ) (f c : ℕ) → TellsFree words n holds → f < length holds

@@ -1,6 +1,7 @@
 pub mod Holds
 pub mod Listed
 pub mod Named
+pub mod Reached
 pub mod Rising
 pub mod Seen
 pub mod Splice

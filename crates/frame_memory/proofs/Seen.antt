@@ -1,108 +1,136 @@
 -- What is seen of the frames when one of them is written.
 use Rattle.std.proofs.Common.{◌≡◌, ◌∙◌, [], ap, sym, ◌≢◌, ◌+◌, ◌-◌, ◌<◌, ◌≤◌, ℕ, true, false, get_or, length, List}
 use Rattle.std.proofs.Common.{replicate, set, refl, arith}
-use Rattle.std.specs.Prelude.{nat_lt}
-use Rattle.std.proofs.lemmas.List.{get_or-map, length-map, map-set}
-use Rattle.std.proofs.Math.ListN.{get_or-eq_default}
+use Rattle.std.proofs.lemmas.List.{get_or-map, get_or_append_left, length-map, length-set, map-set, set-append_left}
 use Rattle.std.proofs.Math.Seq.{map-set_same}
 use Rattle.frame_memory.specs.FreeMap.{has_frame}
-use Rattle.frame_memory.specs.Kept.{TellsFree, seen}
-use Rattle.frame_memory.specs.Pool.{fresh, with_bytes, with_holds, zeros}
+use Rattle.frame_memory.specs.Kept.{IsKept, TellsFree, all_frames, fresh_frame, seen}
+use Rattle.frame_memory.specs.Pool.{given, with_bytes, with_holds, zeros}
 use Rattle.frame_memory.specs.declared.pool.Frame.{Frame}
-use Rattle.frame_memory.proofs.Holds.{map-replicate, tells-fresh, tells-freed, tells-held, tells-same}
+use Rattle.frame_memory.proofs.Holds.{some-free, tells-freed, tells-held, tells-same}
+use Rattle.frame_memory.proofs.Reached.{IsReached, length-all}
 
-pub seen-set : (frames : List Frame) (f : ℕ) (frame : Frame)
-    → seen (set frames f frame) ≡ record {
-      holds = set (seen frames).holds f frame.holds;
-      bytes = set (seen frames).bytes f frame.bytes;
-    }
-seen-set frames f frame =
-    rw (map-set (λ (x : Frame). x.holds) frames f frame, map-set (λ (x : Frame). x.bytes) frames f frame) refl
+-- a frame that was reached, y, is written
+module _ {written there : List Frame} {f count : ℕ} (is : IsReached written there f count) where
+  in_all : f < length (all_frames written count)
+  in_all = rw (← is.same, length-all there count is.few) (omega (arith, is.few, is.within))
 
-pub seen-fresh : (n : ℕ) → seen (replicate n (record { holds = 0; bytes = zeros })) ≡ fresh n
-seen-fresh n =
-    let frame : Frame = record { holds = 0; bytes = zeros } in
-    rw (map-replicate (λ (x : Frame). x.holds) n frame, map-replicate (λ (x : Frame). x.bytes) n frame) refl
+  pub in_counts : f < length (seen (all_frames written count)).holds
+  in_counts = rw (length-map (all_frames written count) (λ (z : Frame). z.holds)) in_all
 
--- the words that tell of fresh frames
-pub tells-seen : (words : List ℕ) (n : ℕ) (frames : List Frame)
-    → frames ≡ replicate n (record { holds = 0; bytes = zeros }) → n ≤ 4096 → ((f : ℕ) → has_frame words f ≡ nat_lt f n)
-    → TellsFree words n (seen frames).holds
-tells-seen words n frames fresh few told =
-    let frame : Frame = record { holds = 0; bytes = zeros } in
-    rw (fresh, map-replicate (λ (x : Frame). x.holds) n frame) (tells-fresh words n few told)
+  pub in_bytes : f < length (seen (all_frames written count)).bytes
+  in_bytes = rw (length-map (all_frames written count) (λ (z : Frame). z.bytes)) in_all
 
--- as many frames as counts
-pub in_frames : (frames : List Frame) (f : ℕ) → f < length (seen frames).holds → f < length frames
-in_frames frames f within = rw (length-map frames (λ (x : Frame). x.holds)) at within
+  set-all : (y : Frame) → all_frames (set there f y) count ≡ set (all_frames written count) f y
+  set-all y =
+      rw (length-set there f y)
+      (sym (set-append_left there (replicate (count - length there) fresh_frame) f y is.within))
+      ∙ ap (λ (all : List Frame). set all f y) is.same
 
--- only a frame of the pool has a hold
-pub some_frame : (frames : List Frame) (f : ℕ) → 0 < get_or (seen frames).holds f 0 → f < length frames
-some_frame frames f some =
-    let past : length (seen frames).holds ≤ f → get_or (seen frames).holds f 0 ≡ 0 =
-    λ out. get_or-eq_default (seen frames).holds 0 out in
-    in_frames frames f (grind (arith, past, some))
+  set-kept : (room : ℕ) (words : List ℕ) (free : ℕ) (y : Frame) → count ≤ room
+      → TellsFree words free (seen (set (all_frames written count) f y)).holds
+      → IsKept (set there f y) room count words free
+  set-kept room words free y fits told = record {
+    few = rw (length-set there f y) is.few;
+    fits = fits;
+    told = rw (set-all y) told;
+  }
 
--- the frame that was read, x, and what is seen of it
-module _ (frames : List Frame) (f : ℕ) (x : Frame) (is : x ≡ get_or frames f x) (within : f < length frames) where
-  pub count_seen : x.holds ≡ get_or (seen frames).holds f 0
-  count_seen = ap (λ (y : Frame). y.holds) is ∙ sym (get_or-map (λ (y : Frame). y.holds) frames f x 0 within)
-
-  pub bytes_seen : x.bytes ≡ get_or (seen frames).bytes f []
-  bytes_seen = ap (λ (y : Frame). y.bytes) is ∙ sym (get_or-map (λ (y : Frame). y.bytes) frames f x [] within)
-
-  in_counts : f < length (seen frames).holds
-  in_counts = rw (length-map frames (λ (z : Frame). z.holds)) within
-
-  pub in_bytes : f < length (seen frames).bytes
-  in_bytes = rw (length-map frames (λ (z : Frame). z.bytes)) within
-
-  pub seen-counted : (count other : ℕ) → count ≡ other
-      → seen (set frames f (record { holds = count; bytes = x.bytes })) ≡ with_holds (seen frames) f other
-  seen-counted count other same =
-      let y : Frame = record { holds = count; bytes = x.bytes } in
+  pub seen-given : (bytes : List ℕ) → bytes ≡ zeros
+      → seen (all_frames (set there f (record { holds = 1; bytes = bytes })) count)
+      ≡ given (seen (all_frames written count)) f
+  seen-given bytes zero =
+      let y : Frame = record { holds = 1; bytes = bytes } in
       rw (
+        set-all y,
+        map-set (λ (z : Frame). z.holds) (all_frames written count) f y,
+        map-set (λ (z : Frame). z.bytes) (all_frames written count) f y,
+        zero,
+      ) refl
+
+-- and the frame that was read there, x, is seen
+module _ {written there : List Frame} {f count : ℕ} (is : IsReached written there f count) (x : Frame)
+    (read : x ≡ get_or there f x) where
+  from_all : x ≡ get_or (all_frames written count) f x
+  from_all =
+      read ∙ sym (get_or_append_left there (replicate (count - length there) fresh_frame) x f is.within)
+      ∙ ap (λ (all : List Frame). get_or all f x) is.same
+
+  pub count_seen : x.holds ≡ get_or (seen (all_frames written count)).holds f 0
+  count_seen =
+      ap (λ (y : Frame). y.holds) from_all
+      ∙ sym (get_or-map (λ (y : Frame). y.holds) (all_frames written count) f x 0 (in_all is))
+
+  pub bytes_seen : x.bytes ≡ get_or (seen (all_frames written count)).bytes f []
+  bytes_seen =
+      ap (λ (y : Frame). y.bytes) from_all
+      ∙ sym (get_or-map (λ (y : Frame). y.bytes) (all_frames written count) f x [] (in_all is))
+
+  pub seen-counted : (holds other : ℕ) → holds ≡ other
+      → seen (all_frames (set there f (record { holds = holds; bytes = x.bytes })) count)
+      ≡ with_holds (seen (all_frames written count)) f other
+  seen-counted holds other same =
+      let all = all_frames written count in
+      let y : Frame = record { holds = holds; bytes = x.bytes } in
+      rw (
+        set-all is y,
         ← same,
-        map-set (λ (z : Frame). z.holds) frames f y,
-        map-set_same (λ (z : Frame). z.bytes) frames f y x (ap (λ (z : Frame). z.bytes) is),
+        map-set (λ (z : Frame). z.holds) all f y,
+        map-set_same (λ (z : Frame). z.bytes) all f y x (ap (λ (z : Frame). z.bytes) from_all),
       ) refl
 
   pub seen-written : (bytes other : List ℕ) → bytes ≡ other
-      → seen (set frames f (record { holds = x.holds; bytes = bytes })) ≡ with_bytes (seen frames) f other
+      → seen (all_frames (set there f (record { holds = x.holds; bytes = bytes })) count)
+      ≡ with_bytes (seen (all_frames written count)) f other
   seen-written bytes other same =
+      let all = all_frames written count in
       let y : Frame = record { holds = x.holds; bytes = bytes } in
       rw (
+        set-all is y,
         ← same,
-        map-set (λ (z : Frame). z.bytes) frames f y,
-        map-set_same (λ (z : Frame). z.holds) frames f y x (ap (λ (z : Frame). z.holds) is),
+        map-set (λ (z : Frame). z.bytes) all f y,
+        map-set_same (λ (z : Frame). z.holds) all f y x (ap (λ (z : Frame). z.holds) from_all),
       ) refl
 
-  -- a frame that was free is held, with whatever bytes
-  pub seen-held : (words new : List ℕ) (n : ℕ) (y : Frame) → TellsFree words n (seen frames).holds → x.holds ≡ 0
-      → y.holds ≢ 0 → has_frame new f ≡ false → ((g : ℕ) → g ≢ f → has_frame new g ≡ has_frame words g)
-      → TellsFree new (n - 1) (seen (set frames f y)).holds
-  seen-held words new n y told free some here others =
-      rw (map-set (λ (z : Frame). z.holds) frames f y)
-      (tells-held words new n (seen frames).holds f y.holds told in_counts (sym count_seen ∙ free) some here others)
+  module _ (words : List ℕ) (n : ℕ) (told : TellsFree words n (seen (all_frames written count)).holds) where
+    -- where it was free some frame is
+    pub some-counted : x.holds ≡ 0 → 1 ≤ n
+    some-counted free =
+        some-free words n (seen (all_frames written count)).holds f told (in_counts is) (sym count_seen ∙ free)
 
-  -- a frame that was held is free
-  pub seen-freed : (words new : List ℕ) (n : ℕ) (y : Frame) → TellsFree words n (seen frames).holds → x.holds ≢ 0
-      → y.holds ≡ 0 → has_frame new f ≡ true → ((g : ℕ) → g ≢ f → has_frame new g ≡ has_frame words g)
-      → TellsFree new (n + 1) (seen (set frames f y)).holds
-  seen-freed words new n y told held none here others =
-      rw (map-set (λ (z : Frame). z.holds) frames f y)
-      (tells-freed words new n (seen frames).holds f y.holds told in_counts
-      (λ zero. held (count_seen ∙ zero)) none here others)
+    -- a frame that was free is held, with whatever bytes
+    pub kept-held : (room : ℕ) (new : List ℕ) (y : Frame) → count ≤ room → x.holds ≡ 0 → y.holds ≢ 0
+        → has_frame new f ≡ false → ((g : ℕ) → g ≢ f → has_frame new g ≡ has_frame words g)
+        → IsKept (set there f y) room count new (n - 1)
+    kept-held room new y fits free some here others =
+        set-kept is room new (n - 1) y fits
+        (rw (map-set (λ (z : Frame). z.holds) (all_frames written count) f y)
+        (tells-held words new n (seen (all_frames written count)).holds f y.holds told (in_counts is)
+        (sym count_seen ∙ free) some here others))
 
-  -- a frame that was held still is
-  pub seen-same : (words : List ℕ) (n : ℕ) (y : Frame) → TellsFree words n (seen frames).holds → x.holds ≢ 0
-      → y.holds ≢ 0 → TellsFree words n (seen (set frames f y)).holds
-  seen-same words n y told held some =
-      rw (map-set (λ (z : Frame). z.holds) frames f y)
-      (tells-same words n (seen frames).holds f y.holds told in_counts (λ zero. held (count_seen ∙ zero)) some)
+    -- a frame that was held is free
+    pub kept-freed : (room : ℕ) (new : List ℕ) (y : Frame) → count ≤ room → x.holds ≢ 0 → y.holds ≡ 0
+        → has_frame new f ≡ true → ((g : ℕ) → g ≢ f → has_frame new g ≡ has_frame words g)
+        → IsKept (set there f y) room count new (n + 1)
+    kept-freed room new y fits held none here others =
+        set-kept is room new (n + 1) y fits
+        (rw (map-set (λ (z : Frame). z.holds) (all_frames written count) f y)
+        (tells-freed words new n (seen (all_frames written count)).holds f y.holds told (in_counts is)
+        (λ zero. held (count_seen ∙ zero)) none here others))
 
-  -- a frame's bytes are written
-  pub tells-written : (words : List ℕ) (n : ℕ) (y : Frame) → TellsFree words n (seen frames).holds → y.holds ≡ x.holds
-      → TellsFree words n (seen (set frames f y)).holds
-  tells-written words n y told same =
-      rw (map-set_same (λ (z : Frame). z.holds) frames f y x (same ∙ ap (λ (z : Frame). z.holds) is)) told
+    -- a frame that was held still is
+    pub kept-same : (room : ℕ) (y : Frame) → count ≤ room → x.holds ≢ 0 → y.holds ≢ 0
+        → IsKept (set there f y) room count words n
+    kept-same room y fits held some =
+        set-kept is room words n y fits
+        (rw (map-set (λ (z : Frame). z.holds) (all_frames written count) f y)
+        (tells-same words n (seen (all_frames written count)).holds f y.holds told (in_counts is)
+        (λ zero. held (count_seen ∙ zero)) some))
+
+    -- a frame's bytes are written
+    pub kept-written : (room : ℕ) (y : Frame) → count ≤ room → y.holds ≡ x.holds
+        → IsKept (set there f y) room count words n
+    kept-written room y fits same =
+        set-kept is room words n y fits
+        (rw (map-set_same (λ (z : Frame). z.holds) (all_frames written count) f y x
+        (same ∙ ap (λ (z : Frame). z.holds) from_all)) told)

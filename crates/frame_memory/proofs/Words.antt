@@ -98,16 +98,16 @@ summed-none words summary w n is small none =
     (λ i within differ. bit_at_clear_other w64 summary w small i within differ)
 
 -- no frame is in words of zero
-zeros : (n i : ℕ) → ◌≡◌ {A = ℕ} (get_or (replicate n 0) i 0) 0
-zeros zero i = refl
-zeros (suc n) zero = refl
-zeros (suc n) (suc i) = zeros n i
+pub zero_at : (n i : ℕ) → ◌≡◌ {A = ℕ} (get_or (replicate n 0) i 0) 0
+zero_at zero i = refl
+zero_at (suc n) zero = refl
+zero_at (suc n) (suc i) = zero_at n i
 
 pub none_there : (f : ℕ) → has_frame (replicate 64 0) f ≡ false
-none_there f = rw (zeros 64 (f / 64), bit_at-zero) refl
+none_there f = rw (zero_at 64 (f / 64), bit_at-zero) refl
 
 pub none_summed : IsSummed (replicate 64 0) 0
-none_summed = record { count = refl; bits = λ k within. rw (zeros 64 k, bit_at-zero) refl }
+none_summed = record { count = refl; bits = λ k within. rw (zero_at 64 k, bit_at-zero) refl }
 
 -- a word whose bit in the summary is clear is 0
 empty_word : (words : List ℕ) (summary k : ℕ) → IsSummed words summary → k < 64 → bit_at summary k ≡ 0

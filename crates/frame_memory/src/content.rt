@@ -5,6 +5,9 @@ ghost use Rattle.std.specs.List.{splice};
 ghost use Rattle.std.specs.Int.{w64, from_le_bytes};
 ghost use Rattle.frame_memory.specs.Pool.{zeros};
 
+/// What is read of a frame that wasn't written so far.
+pub static ZEROS: [u8; 4096] = [0; 4096];
+
 // The bytes of a frame that reads zero.
 pub fn zero_bytes() -> [u8; 4096]
     ensures { result ≡ zeros }

@@ -1,11 +1,11 @@
 //! The pool of frames.
 
 ghost use Rattle.std.specs.Prelude.{ℕ, ◌≡◌, ◌≢◌, ◌⊎◌, ◌<◌, ◌≤◌, ◌+◌, ◌-◌, ◌^◌, nat_lt, false, length, slice_index};
-ghost use Rattle.std.specs.Prelude.{replicate, is_some, IfOk, IfSome, IfNone, OnErr};
+ghost use Rattle.std.specs.Prelude.{◌++◌, replicate, vec_capacity, is_some, IfOk, IfSome, IfNone, OnErr};
 ghost use Rattle.frame_memory.specs.Pool.{fresh, is_free, least_free, free_count, may_hold, with_holds, given};
-ghost use Rattle.frame_memory.specs.Pool.{bytes_at, written, word_at, with_word, zeros, AreApart};
+ghost use Rattle.frame_memory.specs.Pool.{bytes_at, bytes_of, written, word_at, with_word, zeros, AreApart};
 
-use crate::content::{overwrite, word_of, zero_bytes};
+use crate::content::{ZEROS, overwrite, word_of, zero_bytes};
 use crate::free_map::FreeMap;
 use iofd_words::{Cause, FrameNo, NoMemory, Refusal};
 use std::alloc::{Allocator, Global};
@@ -19,22 +19,28 @@ struct Frame {
 }
 
 /// The frames of modelled memory, counted from 0. A contract sees how many holds stand on each, and its bytes.
+///
+/// A frame is written when it is first needed, so that a pool of which little is used costs little. There is room
+/// for the frames that lack: no hold stands on them, and they read zero.
 #[derive(Debug, Drop)]
 pub struct Pool<A: Allocator = Global> {
     frames: Vec<Frame, A>,
+    count: u32,
     free: FreeMap,
     free_count: u32,
 }
 
 impl<A: Allocator> Model for Pool<A> {
-    ghost use Rattle.frame_memory.specs.Kept.{TellsFree, seen};
+    ghost use Rattle.std.specs.Vec.{vec_capacity};
+    ghost use Rattle.frame_memory.specs.Kept.{IsKept, all_frames, seen};
     ghost use Rattle.frame_memory.specs.Pool.{FramePool};
 
     ghost Value = { FramePool };
 
-    ghost view = { λ pool. seen pool.frames.items };
+    ghost view = { λ pool. seen (all_frames pool.frames.items pool.count) };
 
-    ghost invariant = { λ pool. TellsFree pool.free pool.free_count (seen pool.frames.items).holds };
+    ghost invariant = { λ pool.
+        IsKept pool.frames.items (vec_capacity pool.frames) pool.count pool.free pool.free_count };
 }
 
 impl<A: Allocator> Pool<A> {
@@ -45,9 +51,10 @@ impl<A: Allocator> Pool<A> {
         requires few { count ≤ 4096 }
         ensures { IfOk result (λ pool. pool ≡ fresh count) }
     {
-        let frames = fresh_frames(alloc, count)?;
+        let frames = Vec::with_capacity(alloc, count as usize)?;
         Ok(Pool {
             frames,
+            count,
             free: FreeMap::below(count),
             free_count: count,
         })
@@ -59,14 +66,14 @@ impl<A: Allocator> Pool<A> {
         ensures few { result ≤ 4096 }
         ensures bytes { length self.now.bytes ≡ length self.now.holds }
     {
-        self.frames.len()
+        self.count as usize
     }
 
     /// Whether the frame is one of the pool's.
     pub fn has(&self, frame: FrameNo) -> bool
         ensures { result ≡ nat_lt frame.0 (length self.now.holds) }
     {
-        (frame.0 as usize) < self.frames.len()
+        frame.0 < self.count
     }
 
     /// How many holds stand on the frame.
@@ -74,7 +81,10 @@ impl<A: Allocator> Pool<A> {
         requires { frame.0 < length self.now.holds }
         ensures { result ≡ slice_index self.now.holds frame.0 }
     {
-        self.frames[frame.0 as usize].holds
+        match self.frames.get(frame.0 as usize) {
+            Some(held) => held.holds,
+            None => 0,
+        }
     }
 
     /// Whether the frame is one of the pool's and no hold stands on it.
@@ -115,6 +125,7 @@ impl<A: Allocator> Pool<A> {
         };
         self.free.remove(frame);
         self.free_count -= 1;
+        reach(&mut self.frames, frame as usize);
         let taken = &mut self.frames[frame as usize];
         taken.holds = 1;
         taken.bytes = zero_bytes();
@@ -134,6 +145,7 @@ impl<A: Allocator> Pool<A> {
         requires room { slice_index self.old.holds frame.0 + 1 < 2 ^ 128 }
         ensures { self.new ≡ with_holds self.old frame.0 (slice_index self.old.holds frame.0 + 1) }
     {
+        reach(&mut self.frames, frame.0 as usize);
         let held = &mut self.frames[frame.0 as usize];
         held.holds += 1;
         if held.holds == 1 {
@@ -162,8 +174,18 @@ impl<A: Allocator> Pool<A> {
         ensures bytes { result.now ≡ bytes_at self.now frame.0 offset len }
         ensures len { length result.now ≡ len }
     {
-        let bytes = &self.frames[frame.0 as usize].bytes;
-        &bytes[offset..offset + len]
+        &self.bytes(frame)[offset..offset + len]
+    }
+
+    // The bytes of the frame, also where it wasn't needed so far.
+    fn bytes(&self, frame: FrameNo) -> &[u8; 4096]
+        requires { frame.0 < length self.now.holds }
+        ensures { result.now ≡ bytes_of self.now frame.0 }
+    {
+        match self.frames.get(frame.0 as usize) {
+            Some(written) => &written.bytes,
+            None => &ZEROS,
+        }
     }
 
     /// Writes the bytes into the frame, from this offset on. Every other byte stays, and every hold.
@@ -175,6 +197,7 @@ impl<A: Allocator> Pool<A> {
         ensures others { (f at len : ℕ) → AreApart f at len frame.0 offset (length bytes.now) →
             bytes_at self.new f at len ≡ bytes_at self.old f at len }
     {
+        reach(&mut self.frames, frame.0 as usize);
         overwrite(&mut self.frames[frame.0 as usize].bytes, offset, bytes);
     }
 
@@ -206,16 +229,17 @@ fn can_hold(frame: &Frame, count: u64) -> bool
     frame.holds <= u128::MAX - u128::from(count)
 }
 
-// So many frames on which no hold stands, and that read zero.
-fn fresh_frames<A: Allocator>(alloc: A, count: u32) -> Result<Vec<Frame, A>, NoMemory>
-    ensures { IfOk result (λ frames. frames.items ≡ replicate count (record { holds = 0; bytes = zeros })) }
+// Writes the frames that lack up to this one, for which there is room.
+fn reach<A: Allocator>(frames: &mut Vec<Frame, A>, index: usize)
+    requires { index < vec_capacity frames.old }
+    ensures items { frames.new.items ≡
+        frames.old.items ++ replicate (index + 1 - length frames.old.items) (record { holds = 0; bytes = zeros }) }
+    ensures capacity { vec_capacity frames.new ≡ vec_capacity frames.old }
 {
-    let mut frames = Vec::with_capacity(alloc, count as usize)?;
-    for _ in 0..count {
-        frames.push(Frame {
+    while frames.len() <= index {
+        frames.push_reserved(Frame {
             holds: 0,
             bytes: zero_bytes(),
-        })?;
+        });
     }
-    Ok(frames)
 }

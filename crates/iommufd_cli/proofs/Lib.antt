@@ -1,2 +1,3 @@
+pub mod ByteDigits
 pub mod HexDigits
 pub mod Written

@@ -1,6 +1,7 @@
 //! The command-line program: what its words ask for, and a session, from a script's bytes to its reply lines.
 #![tactic(auto)]
 
+mod byte_digits;
 mod command_line;
 mod digits;
 mod fault;

@@ -4,6 +4,7 @@ ghost use Rattle.std.specs.Prelude.{◌≡◌, ◌≤◌, ◌<◌, ◌+◌, ◌*
 ghost use Rattle.std.specs.Fmt.{digits};
 ghost use Rattle.hex.specs.Hex.{encode_lower};
 
+use crate::byte_digits::put_hex_bytes;
 use crate::digits::put_hex_number;
 use itoa::Buffer;
 use std::marker::Model;
@@ -94,7 +95,7 @@ impl Line {
         ensures count { length self.new ≡ length self.old + 2 * length bytes.now }
     {
         let end = self.len + 2 * bytes.len();
-        hex::encode_to_slice(bytes, &mut self.bytes[self.len..end]).unwrap();
+        put_hex_bytes(bytes, &mut self.bytes[self.len..end]);
         self.len = end;
     }
 }

@@ -19,6 +19,10 @@ use std::alloc::Allocator;
 
 /// Answers the event, at this position, and carries it out if nothing refuses it. The frames that it takes for tables
 /// and gives back are listed, each list in the order of its record. An error leaves the world as it was.
+///
+/// It is part of its only caller, as `commit` is of it: a reply handed over in memory would be read back while the
+/// stores before it, an access's own among them, are still on their way to the cache.
+#[inline(always)]
 pub(crate) fn answer<A: Allocator + Copy>(
     state: &mut State<A>,
     at: u64,
@@ -72,6 +76,7 @@ fn refusal<A: Allocator + Copy>(state: &State<A>, event: &Event<A>) -> Option<Ca
 }
 
 /// Carries out an event that nothing refuses, at this position. An error leaves the world as it was.
+#[inline(always)]
 fn commit<A: Allocator + Copy>(
     state: &mut State<A>,
     at: u64,

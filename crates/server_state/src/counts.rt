@@ -1,7 +1,7 @@
 //! How many page tables stand over an address space, and how many devices translate by a page table, is counted with
 //! the object as its users.
 
-ghost use Rattle.std.specs.Prelude.{◌≡◌, ◌<◌, ◌+◌, ◌-◌, IfSome};
+ghost use Rattle.std.specs.Prelude.{◌≡◌, ◌<◌, ◌+◌, ◌-◌, IfSome, None};
 ghost use Rattle.object_table.specs.Table.{changed_at, own, with_users};
 
 use crate::held::Held;
@@ -10,7 +10,7 @@ use object_table::{Kind, ObjectTable};
 use std::alloc::Allocator;
 
 /// Counts one user more of the file's object of this kind and id. There are fewer than 2^32 - 1, since a file has at
-/// most 65,535 objects, and there are at most 256 devices.
+/// most 65,535 objects, and there are at most 256 devices. Without such an object nothing changes.
 pub fn one_more<A: Allocator>(
     table: &mut ObjectTable<Held<A>, A>,
     file: FileNo,
@@ -19,6 +19,8 @@ pub fn one_more<A: Allocator>(
 )
     ensures rows { IfSome (own table.old file kind id) (λ row. row.users < 4294967295
         → table.new.rows ≡ changed_at file id (with_users (row.users + 1)) table.old.rows) }
+    ensures full { IfSome (own table.old file kind id) (λ row. row.users ≡ 4294967295 → table.new ≡ table.old) }
+    ensures absent { own table.old file kind id ≡ None → table.new ≡ table.old }
     ensures others { table.new ≡ record table.old { rows = table.new.rows } }
 {
     match table.users(file, kind, id) {
@@ -33,7 +35,8 @@ pub fn one_more<A: Allocator>(
     }
 }
 
-/// Counts one user fewer of the file's object of this kind and id, which has some.
+/// Counts one user fewer of the file's object of this kind and id, which has some. Without such an object, or where it
+/// has none, nothing changes.
 pub fn one_fewer<A: Allocator>(
     table: &mut ObjectTable<Held<A>, A>,
     file: FileNo,
@@ -42,6 +45,8 @@ pub fn one_fewer<A: Allocator>(
 )
     ensures rows { IfSome (own table.old file kind id) (λ row. 0 < row.users
         → table.new.rows ≡ changed_at file id (with_users (row.users - 1)) table.old.rows) }
+    ensures unused { IfSome (own table.old file kind id) (λ row. row.users ≡ 0 → table.new ≡ table.old) }
+    ensures absent { own table.old file kind id ≡ None → table.new ≡ table.old }
     ensures others { table.new ≡ record table.old { rows = table.new.rows } }
 {
     match table.users(file, kind, id) {

@@ -1,11 +1,11 @@
-use Rattle.std.proofs.Common.{◌+◌, ◌^◌, ltb, rules, sym, ap, ◌∙◌}
+use Rattle.std.proofs.Common.{◌+◌, ◌^◌, arith, ltb, rules, sym, ap, ◌∙◌}
 use borrow.Author.Tests.{tests}
 use Rattle.std.specs.List.{list_all}
 use Rattle.std.proofs.lemmas.Iterator.{YieldsList-from_slice}
 use Rattle.std.proofs.lemmas.Iterator.Search.{all_from_yields_List}
-use Rattle.std.proofs.lemmas.List.Folds.{list_all-map}
 use Rattle.frame_memory.specs.Pool.{FramePool, may_hold}
 use Rattle.frame_memory.specs.declared.pool.Frame.{Frame}
+use Rattle.frame_memory.proofs.Reached.{may_hold-all}
 use Rattle.frame_memory.proofs.pool.Pool.may_hold.Goals as goal
 
 pub returns : goal.returns
@@ -14,6 +14,6 @@ returns g c =
     all_from_yields_List has_room _ _ _ c.all.ensures.ran (YieldsList-from_slice c.deref.result.now c.iter.ensures.rest)
     (λ x b q k. search (rules, tests))
     ∙ ap (list_all has_room) c.deref.ensures.value
-    ∙ sym (list_all-map (λ held. ltb (held + c.args.count) (2 ^ 128)) (λ (frame : Frame). frame.holds)
-    c.self.inside.frames.items)
+    ∙ sym (may_hold-all c.self.inside.frames.items c.self.inside.count c.args.count
+    (omega (arith, c.ranges.count)))
     ∙ ap (λ (pool : FramePool). may_hold pool.holds c.args.count) c.self.view_is

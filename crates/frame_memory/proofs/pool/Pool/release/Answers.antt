@@ -1,45 +1,56 @@
-use Rattle.std.proofs.Common.{◌<◌, ◌-◌, arith, ap}
-use Rattle.frame_memory.proofs.Seen.{count_seen, some_frame, seen-counted, seen-freed, seen-same}
+use Rattle.std.proofs.Common.{◌<◌, ◌-◌, ap, arith, vec_capacity}
+use Rattle.frame_memory.proofs.Reached.{already, some_written}
+use Rattle.frame_memory.proofs.Seen.{count_seen, kept-freed, kept-same, seen-counted}
 use Rattle.frame_memory.proofs.pool.Pool.release.Goals as goal
+
+pub index_mut-held-requires : goal.index_mut-held-requires
+index_mut-held-requires g c =
+    let some = rw (← c.self.view_is) at c.requires in
+    omega (arith, some_written c.self.inside.frames.items c.args.frame.0 c.self.inside.count some)
+
+pub overflow_sub-held : goal.overflow_sub-held
+overflow_sub-held g c =
+    let some = rw (← c.self.view_is) at c.requires in
+    let is = already c.self.inside.frames.items c.args.frame.0 c.self.inside.count c.self.invariant.few some in
+    let x = c.index_mut-held.result.now in
+    let read = c.index_mut-held.ensures.value in
+    omega (arith, count_seen is x read, some)
 
 pub returns-then-held-eq0 : goal.returns-then-held-eq0
 returns-then-held-eq0 g c =
-    let frames = c.self.inside.frames.items in
+    let some = rw (← c.self.view_is) at c.requires in
+    let is = already c.self.inside.frames.items c.args.frame.0 c.self.inside.count c.self.invariant.few some in
     let x = c.index_mut-held.result.now in
-    let is = c.index_mut-held.ensures.value in
-    let within = some_frame frames c.args.frame.0 (rw (← c.self.view_is) at c.requires) in
-    rw (← c.self.view_is) (seen-counted frames c.args.frame.0 x is within (x.holds - 1) _
-    (ap (λ k. k - 1) (count_seen frames c.args.frame.0 x is within)))
+    let read = c.index_mut-held.ensures.value in
+    rw (← c.self.view_is) (seen-counted is x read (x.holds - 1) _ (ap (λ k. k - 1) (count_seen is x read)))
 
 pub returns-else-held-eq0 : goal.returns-else-held-eq0
 returns-else-held-eq0 g c =
-    let frames = c.self.inside.frames.items in
+    let some = rw (← c.self.view_is) at c.requires in
+    let is = already c.self.inside.frames.items c.args.frame.0 c.self.inside.count c.self.invariant.few some in
     let x = c.index_mut-held.result.now in
-    let is = c.index_mut-held.ensures.value in
-    let within = some_frame frames c.args.frame.0 (rw (← c.self.view_is) at c.requires) in
-    rw (← c.self.view_is) (seen-counted frames c.args.frame.0 x is within (x.holds - 1) _
-    (ap (λ k. k - 1) (count_seen frames c.args.frame.0 x is within)))
+    let read = c.index_mut-held.ensures.value in
+    rw (← c.self.view_is) (seen-counted is x read (x.holds - 1) _ (ap (λ k. k - 1) (count_seen is x read)))
 
 pub invariant_of-self : goal.invariant_of-self
 invariant_of-self g c =
-    let frames = c.self.inside.frames.items in
+    let some = rw (← c.self.view_is) at c.requires in
+    let is = already c.self.inside.frames.items c.args.frame.0 c.self.inside.count c.self.invariant.few some in
     let x = c.index_mut-held.result.now in
-    let is = c.index_mut-held.ensures.value in
-    let within = some_frame frames c.args.frame.0 (rw (← c.self.view_is) at c.requires) in
-    let held : 0 < x.holds =
-    omega (arith, count_seen frames c.args.frame.0 x is within, rw (← c.self.view_is) at c.requires) in
-    seen-freed frames c.args.frame.0 x is within c.self.inside.free c.insert.new.self c.self.inside.free_count
-    (record { holds = x.holds - 1; bytes = x.bytes }) c.self.invariant
+    let read = c.index_mut-held.ensures.value in
+    let held : 0 < x.holds = omega (arith, count_seen is x read, some) in
+    kept-freed is x read c.self.inside.free c.self.inside.free_count c.self.invariant.told
+    (vec_capacity c.self.inside.frames)
+    c.insert.new.self (record { holds = x.holds - 1; bytes = x.bytes }) c.self.invariant.fits
     (omega arith) (omega arith) c.insert.ensures.this c.insert.ensures.others
 
 pub invariant_of-self-else-held-eq0 : goal.invariant_of-self-else-held-eq0
 invariant_of-self-else-held-eq0 g c =
-    let frames = c.self.inside.frames.items in
+    let some = rw (← c.self.view_is) at c.requires in
+    let is = already c.self.inside.frames.items c.args.frame.0 c.self.inside.count c.self.invariant.few some in
     let x = c.index_mut-held.result.now in
-    let is = c.index_mut-held.ensures.value in
-    let within = some_frame frames c.args.frame.0 (rw (← c.self.view_is) at c.requires) in
-    let held : 0 < x.holds =
-    omega (arith, count_seen frames c.args.frame.0 x is within, rw (← c.self.view_is) at c.requires) in
-    seen-same frames c.args.frame.0 x is within c.self.inside.free c.self.inside.free_count
-    (record { holds = x.holds - 1; bytes = x.bytes }) c.self.invariant
-    (omega arith) (omega arith)
+    let read = c.index_mut-held.ensures.value in
+    let held : 0 < x.holds = omega (arith, count_seen is x read, some) in
+    kept-same is x read c.self.inside.free c.self.inside.free_count c.self.invariant.told
+    (vec_capacity c.self.inside.frames)
+    (record { holds = x.holds - 1; bytes = x.bytes }) c.self.invariant.fits (omega arith) (omega arith)
