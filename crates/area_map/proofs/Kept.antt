@@ -9,7 +9,7 @@ use Rattle.iofd_words.specs.Bounds.{Bounds}
 use Rattle.iofd_words.specs.Span.{holds}
 use Rattle.iofd_words.specs.declared.rows.Area.{Area}
 use Rattle.area_map.specs.Areas.{AreApartFrom, AreKept, IsCovered, HasGap, changed}
-use Rattle.area_map.specs.Rows.{end_of, widest_behind, widest_of}
+use Rattle.area_map.specs.Rows.{end_of, first_of, widest_behind, widest_of}
 use Rattle.area_map.specs.declared.marking.Change.{Change}
 use Rattle.area_map.specs.declared.marking.Change.TheVariants.{Leave, Pay, SetTries}
 use Rattle.area_map.proofs.Found.{list_any-find}
@@ -65,11 +65,16 @@ gap_tells span xs gap all =
     let free = gap.free in
     cc
 
--- a change of phases leaves where they end, and the gaps between them
+-- a change of phases leaves where they begin and end, and the gaps between them
 pub changed-span : (change : Change) (span : Bounds) (a : Area) → (changed change span a).span ≡ a.span
 changed-span (Leave owed) span a = refl
 changed-span (Pay device) span a = refl
 changed-span (SetTries tries) span a = refl
+
+pub first-map : (f : Area → Area) → ((a : Area) → (f a).span ≡ a.span) → (xs : List Area)
+    → first_of (map f xs) ≡ first_of xs
+first-map f same [] = refl
+first-map f same (x ∷ xs) = ap (λ (s : Bounds). s.first) (same x)
 
 pub end-map : (f : Area → Area) → ((a : Area) → (f a).span ≡ a.span) → (xs : List Area)
     → end_of (map f xs) ≡ end_of xs

@@ -13,3 +13,6 @@ pub mod Hull
 pub mod RowsKept
 pub mod FirstFree
 pub mod Widest
+pub mod RowsInBlocks
+pub mod RowsSame
+pub mod OneRow

@@ -11,6 +11,7 @@ ghost use Rattle.area_map.specs.Areas.{tried};
 ghost use Rattle.iofd_words.specs.Areas.{areas_meet, has_no_room, is_cut, area_at};
 ghost use Rattle.area_map.specs.Insertion.{insert_refusal};
 
+use crate::blocks::Blocks;
 use crate::insertion::MOST_AREAS;
 use crate::iter::Iter;
 use crate::marking::Change;
@@ -27,6 +28,8 @@ use std::marker::Model;
 pub struct Areas<A: Allocator = Global> {
     // By rising start. Each has areas, and memory for one more than it has.
     rows: Vec<Row<A>, A>,
+    // What is kept of the blocks of rows: a search for free addresses looks into no others than it has to.
+    blocks: Blocks<A>,
     // A row without areas, for which there is a place among the rows.
     spare: Option<Row<A>>,
     // How many areas there are.
@@ -36,16 +39,19 @@ pub struct Areas<A: Allocator = Global> {
 }
 
 impl<A: Allocator> Model for Areas<A> {
+    ghost use Rattle.std.specs.Prelude.{◌+◌, ◌*◌, ◌≤◌, length};
     ghost use Rattle.std.specs.Vec.{vec_len, vec_capacity};
     ghost use Rattle.area_map.specs.AreaTable.{AreaTable};
-    ghost use Rattle.area_map.specs.Rows.{in_rows, room_of, AreInRows, IsSpare};
+    ghost use Rattle.area_map.specs.Rows.{in_rows, room_of, AreBlocks, AreInRows, IsSpare};
 
     ghost Value = { AreaTable };
 
     ghost view = { λ map. record { areas = in_rows map.rows.items; room = room_of map.spare } };
 
     ghost invariant = { λ map. AreInRows map.rows.items map.count map.leaving
-        × IsSpare map.spare (vec_len map.rows) (vec_capacity map.rows) };
+        × IsSpare map.spare (vec_len map.rows) (vec_capacity map.rows)
+        × AreBlocks map.blocks map.rows.items
+        × (vec_len map.rows + room_of map.spare ≤ 32 * length map.blocks) };
 }
 
 impl<A: Allocator> Areas<A> {
@@ -55,6 +61,7 @@ impl<A: Allocator> Areas<A> {
     {
         Areas {
             rows: Vec::new(alloc),
+            blocks: Blocks::new(),
             spare: None,
             count: 0,
             leaving: None,
@@ -128,13 +135,14 @@ impl<A: Allocator> Areas<A> {
     }
 
     /// The least address from `start` on from which this many addresses meet no area; None where there is none below
-    /// 2^64. It looks at each row once from there on, and into those rows alone that have a gap so wide.
+    /// 2^64. It looks at the rows of the block where it begins, at the blocks behind, at the rows of those that may
+    /// have a gap so wide, and into those rows alone that have one.
     pub fn free_from(&self, start: u64, count: u64) -> Option<u64>
         requires { 0 < count }
         ensures { MatchOption result (HasNoneFree start count self.now.areas)
             (IsFirstFree start count self.now.areas) }
     {
-        gaps::free_from(&self.rows, start, count)
+        gaps::free_from(&self.rows, self.blocks.all(), start, count)
     }
 
     /// The areas, by rising start.
@@ -181,12 +189,18 @@ impl<A: Allocator> Areas<A> {
             return Err(refused(Cause::Full));
         }
         let index = insertion::row_for(&self.rows, below);
-        if insertion::prepare(&mut self.rows, &mut self.spare, index).is_err() {
+        if insertion::prepare(&mut self.rows, &mut self.blocks, &mut self.spare, index).is_err() {
             return Err(CallError::Memory(NoMemory));
         }
         self.leaving = leaving::with_area(self.leaving, &area);
         self.count += 1;
-        insertion::add(&mut self.rows, &mut self.spare, index, area);
+        insertion::add(
+            &mut self.rows,
+            &mut self.blocks,
+            &mut self.spare,
+            index,
+            area,
+        );
         Ok(())
     }
 
@@ -201,7 +215,7 @@ impl<A: Allocator> Areas<A> {
         ensures room { self.old.room ≤ self.new.room }
         ensures unchanged { OnErr result (self.new ≡ self.old) }
     {
-        insertion::reserve(&mut self.rows, &mut self.spare)
+        insertion::reserve(&mut self.rows, &mut self.blocks, &mut self.spare)
     }
 
     /// Whether each address of the span lies in some area, of any phase. Where one doesn't, Span (10,
@@ -298,7 +312,7 @@ impl<A: Allocator> Areas<A> {
         ensures areas { self.new.areas ≡ areas_outside span self.old.areas }
         ensures room { self.old.room ≤ self.new.room }
     {
-        self.count -= removal::remove(&mut self.rows, span);
+        self.count -= removal::remove(&mut self.rows, &mut self.blocks, span);
         self.leaving = leaving::without(self.leaving, span, &self.rows);
     }
 }

@@ -1,13 +1,13 @@
 //! Adding an area.
 
-ghost use Rattle.std.specs.Prelude.{◌≡◌, ◌+◌, ◌-◌, ◌<◌, ◌≤◌, [], ◌∷◌, true, false, IsSome, None, OnOk, OnErr, drop};
-ghost use Rattle.std.specs.Prelude.{get_or, length, min, nat_le, nat_lt, set, take, vec_len, vec_capacity};
+ghost use Rattle.std.specs.Prelude.{◌≡◌, ◌+◌, ◌-◌, ◌*◌, ◌<◌, ◌≤◌, [], ◌∷◌, true, false, IsSome, None, OnOk, OnErr};
+ghost use Rattle.std.specs.Prelude.{drop, get_or, length, min, nat_le, nat_lt, set, take, vec_len, vec_capacity};
 ghost use Rattle.std.specs.List.{prefix_len};
 ghost use Rattle.area_map.specs.Areas.{AreApart, with_area};
-ghost use Rattle.area_map.specs.Rows.{in_rows, AreRows, IsSpare, end_of, takes_row};
+ghost use Rattle.area_map.specs.Rows.{in_rows, AreBlocks, AreRows, IsSameBut, IsSpare, end_of, room_of, takes_row};
 ghost use Rattle.iofd_words.specs.Areas.{areas_meet};
 
-use crate::lookups;
+use crate::blocks::{self, Blocks};
 use crate::row::{ROW, Row};
 use iofd_words::{Area, NoMemory};
 use std::alloc::Allocator;
@@ -18,11 +18,16 @@ pub const MOST_AREAS: usize = 65_535;
 /// Takes memory for one more row, if there is no spare one.
 pub fn reserve<A: Allocator + Copy>(
     rows: &mut Vec<Row<A>, A>,
+    blocks: &mut Blocks<A>,
     spare: &mut Option<Row<A>>,
 ) -> Result<(), NoMemory>
-    requires { IsSpare spare.old (vec_len rows.old) (vec_capacity rows.old) }
+    requires spare { IsSpare spare.old (vec_len rows.old) (vec_capacity rows.old) }
+    requires blocks { AreBlocks blocks.old rows.old.items }
+    requires places { vec_len rows.old + room_of spare.old ≤ 32 * length blocks.old }
     ensures rows { rows.new.items ≡ rows.old.items }
     ensures spare { IsSpare spare.new (vec_len rows.new) (vec_capacity rows.new) }
+    ensures blocks { AreBlocks blocks.new rows.old.items }
+    ensures places { vec_len rows.new + room_of spare.new ≤ 32 * length blocks.new }
     ensures ok { OnOk result (IsSome spare.new) }
     ensures err { OnErr result (spare.old ≡ None) }
     ensures unchanged { OnErr result (spare.new ≡ None) }
@@ -32,6 +37,7 @@ pub fn reserve<A: Allocator + Copy>(
     }
     let alloc = *rows.allocator();
     rows.reserve(1)?;
+    blocks.reserve(alloc, rows.len())?;
     *spare = Some(Row::new(alloc)?);
     Ok(())
 }
@@ -57,18 +63,23 @@ pub fn takes_row<A: Allocator>(rows: &[Row<A>], index: usize) -> bool
 /// Takes memory for one more row, if one more area in this row takes one and there is no spare one.
 pub fn prepare<A: Allocator + Copy>(
     rows: &mut Vec<Row<A>, A>,
+    blocks: &mut Blocks<A>,
     spare: &mut Option<Row<A>>,
     index: usize,
 ) -> Result<(), NoMemory>
-    requires { IsSpare spare.old (vec_len rows.old) (vec_capacity rows.old) }
+    requires spare { IsSpare spare.old (vec_len rows.old) (vec_capacity rows.old) }
+    requires blocks { AreBlocks blocks.old rows.old.items }
+    requires places { vec_len rows.old + room_of spare.old ≤ 32 * length blocks.old }
     ensures rows { rows.new.items ≡ rows.old.items }
     ensures spare { IsSpare spare.new (vec_len rows.new) (vec_capacity rows.new) }
+    ensures blocks { AreBlocks blocks.new rows.old.items }
+    ensures places { vec_len rows.new + room_of spare.new ≤ 32 * length blocks.new }
     ensures ok { OnOk result (takes_row rows.old.items index ≡ true → IsSome spare.new) }
     ensures err { OnErr result (spare.old ≡ None) }
     ensures unchanged { OnErr result (spare.new ≡ None) }
 {
     if takes_row(rows, index) {
-        reserve(rows, spare)
+        reserve(rows, blocks, spare)
     } else {
         Ok(())
     }
@@ -77,10 +88,38 @@ pub fn prepare<A: Allocator + Copy>(
 /// Adds the area to this row, to which it belongs. A row that is full then becomes two.
 pub fn add<A: Allocator>(
     rows: &mut Vec<Row<A>, A>,
+    blocks: &mut Blocks<A>,
     spare: &mut Option<Row<A>>,
     index: usize,
     area: Area,
 )
+    requires apart { AreApart (in_rows rows.old.items) }
+    requires rows { AreRows rows.old.items }
+    requires blocks { AreBlocks blocks.old rows.old.items }
+    requires spare { IsSpare spare.old (vec_len rows.old) (vec_capacity rows.old) }
+    requires room { takes_row rows.old.items index ≡ true → IsSome spare.old }
+    requires place { index ≡ min (prefix_len (λ row. nat_lt (end_of row) area.span.first) rows.old.items)
+        (length rows.old.items - 1) }
+    requires alone { areas_meet area.span (in_rows rows.old.items) ≡ false }
+    ensures areas { in_rows rows.new.items ≡ with_area area (in_rows rows.old.items) }
+    ensures rows { AreRows rows.new.items }
+    ensures spare { IsSpare spare.new (vec_len rows.new) (vec_capacity rows.new) }
+    ensures blocks { AreBlocks blocks.new rows.new.items }
+    ensures places { vec_len rows.new + room_of spare.new ≡ vec_len rows.old + room_of spare.old }
+    ensures blocks_len { length blocks.new ≡ length blocks.old }
+{
+    let parted = blocks::widest_at(rows, index);
+    let to = add_area(rows, spare, index, area);
+    blocks.renew(rows, index, to, parted);
+}
+
+// The same, but for the blocks. Says up to which row rows may have changed.
+fn add_area<A: Allocator>(
+    rows: &mut Vec<Row<A>, A>,
+    spare: &mut Option<Row<A>>,
+    index: usize,
+    area: Area,
+) -> usize
     requires apart { AreApart (in_rows rows.old.items) }
     requires rows { AreRows rows.old.items }
     requires spare { IsSpare spare.old (vec_len rows.old) (vec_capacity rows.old) }
@@ -91,12 +130,18 @@ pub fn add<A: Allocator>(
     ensures areas { in_rows rows.new.items ≡ with_area area (in_rows rows.old.items) }
     ensures rows { AreRows rows.new.items }
     ensures spare { IsSpare spare.new (vec_len rows.new) (vec_capacity rows.new) }
+    ensures places { vec_len rows.new + room_of spare.new ≡ vec_len rows.old + room_of spare.old }
+    ensures others { IsSameBut index result rows.old.items rows.new.items }
 {
     if rows.is_empty() {
-        return add_first(rows, spare, area);
+        add_first(rows, spare, area);
+        return 1;
     }
     if add_to(rows, index, area) {
         split(rows, spare, index);
+        rows.len()
+    } else {
+        index + 1
     }
 }
 
@@ -148,6 +193,8 @@ fn split<A: Allocator>(rows: &mut Vec<Row<A>, A>, spare: &mut Option<Row<A>>, in
     ensures areas { in_rows rows.new.items ≡ in_rows rows.old.items }
     ensures rows { AreRows rows.new.items }
     ensures spare { spare.new ≡ None }
+    ensures len { vec_len rows.new ≡ vec_len rows.old + 1 }
+    ensures before { take index rows.new.items ≡ take index rows.old.items }
 {
     let at = split_place(index, rows.len());
     if let Some(mut upper) = spare.take() {

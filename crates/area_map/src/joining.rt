@@ -1,22 +1,28 @@
 //! Rows of few areas become one, so that rows take little more memory than their areas.
 
-ghost use Rattle.std.specs.Prelude.{◌≡◌, ◌+◌, ◌<◌, ◌≤◌, ◌++◌, [], IsTrue, get_or, length, set, vec_len, vec_capacity};
+ghost use Rattle.std.specs.Prelude.{◌≡◌, ◌+◌, ◌-◌, ◌<◌, ◌≤◌, ◌++◌, [], IsTrue, false, get_or, length, set};
+ghost use Rattle.std.specs.Prelude.{take, vec_len, vec_capacity};
 ghost use Rattle.area_map.specs.Rows.{in_rows, AreRows};
 
 use crate::row::{ROW, Row};
 use std::alloc::Allocator;
 
 /// Joins the row at this place with those beside it where they have few areas, and so the row behind it with the next.
-pub fn join_around<A: Allocator>(rows: &mut Vec<Row<A>, A>, index: usize)
+/// Says whether it joined some.
+pub fn join_around<A: Allocator>(rows: &mut Vec<Row<A>, A>, index: usize) -> bool
     requires { AreRows rows.old.items }
     ensures areas { in_rows rows.new.items ≡ in_rows rows.old.items }
     ensures rows { AreRows rows.new.items }
     ensures len { vec_len rows.new ≤ vec_len rows.old }
     ensures capacity { vec_capacity rows.new ≡ vec_capacity rows.old }
+    ensures before { take (index - 1) rows.new.items ≡ take (index - 1) rows.old.items }
+    ensures none { result ≡ false → rows.new.items ≡ rows.old.items }
 {
+    let count = rows.len();
     join(rows, index.saturating_add(1));
     join(rows, index);
     join(rows, index.saturating_sub(1));
+    rows.len() < count
 }
 
 // Joins the row at this place with the one behind it where both together fill half a row at most.
@@ -26,6 +32,8 @@ fn join<A: Allocator>(rows: &mut Vec<Row<A>, A>, index: usize)
     ensures rows { AreRows rows.new.items }
     ensures len { vec_len rows.new ≤ vec_len rows.old }
     ensures capacity { vec_capacity rows.new ≡ vec_capacity rows.old }
+    ensures before { take index rows.new.items ≡ take index rows.old.items }
+    ensures none { vec_len rows.old ≤ vec_len rows.new → rows.new.items ≡ rows.old.items }
 {
     if !are_few(rows, index) {
         return;

@@ -3,6 +3,7 @@
 #![tactic(auto)]
 
 mod areas;
+mod blocks;
 mod changes;
 mod gaps;
 mod insertion;

@@ -3,7 +3,7 @@
 ghost use Rattle.std.specs.Prelude.{◌≡◌, ◌==◌, ◌+◌, ◌<◌, ◌≤◌, ◌^◌, ◌++◌, false, [], IfOk, length, map, take, drop};
 ghost use Rattle.std.specs.Prelude.{vec_capacity};
 ghost use Rattle.area_map.specs.Areas.{AreApart, with_area, changed, areas_outside};
-ghost use Rattle.area_map.specs.Rows.{end_of, first_free, starts_from, widest_of, IsCutAt};
+ghost use Rattle.area_map.specs.Rows.{end_of, first_free, first_of, starts_from, widest_of, IsCutAt};
 ghost use Rattle.iofd_words.specs.Areas.{areas_meet};
 
 use crate::marking::Change;
@@ -19,7 +19,9 @@ pub(crate) const ROW: usize = 32;
 #[derive(Debug, Drop)]
 pub(crate) struct Row<A: Allocator = Global> {
     areas: Vec<Area, A>,
-    // Where the last area ends, and 0 where there is none: a search among rows looks at no area.
+    // Where the first area begins and the last ends: a search among rows looks at no area. Where there is none, the
+    // highest address and 0.
+    first: u64,
     end: u64,
     // How many free addresses the widest gap between two neighbours has.
     widest: u64,
@@ -29,14 +31,14 @@ impl<A: Allocator> Model for Row<A> {
     ghost use Rattle.std.specs.Prelude.{List, ◌≡◌, ◌≤◌};
     ghost use Rattle.std.specs.Vec.{vec_capacity};
     ghost use Rattle.iofd_words.specs.declared.rows.Area.{Area};
-    ghost use Rattle.area_map.specs.Rows.{end_of, widest_of};
+    ghost use Rattle.area_map.specs.Rows.{end_of, first_of, widest_of};
 
     ghost Value = { List Area };
 
     ghost view = { λ row. row.areas.items };
 
     ghost invariant = { λ row. (32 ≤ vec_capacity row.areas) × (row.end ≡ end_of row.areas.items)
-        × (row.widest ≡ widest_of row.areas.items) };
+        × (row.widest ≡ widest_of row.areas.items) × (row.first ≡ first_of row.areas.items) };
 }
 
 impl<A: Allocator> Row<A> {
@@ -47,6 +49,7 @@ impl<A: Allocator> Row<A> {
         let areas = Vec::with_capacity(alloc, ROW)?;
         Ok(Row {
             areas,
+            first: u64::MAX,
             end: 0,
             widest: 0,
         })
@@ -66,6 +69,13 @@ impl<A: Allocator> Row<A> {
         self.areas.len()
     }
 
+    /// Where its first area begins.
+    pub(crate) fn first(&self) -> u64
+        ensures { result ≡ first_of self.now }
+    {
+        self.first
+    }
+
     /// Where its last area ends.
     pub(crate) fn end(&self) -> u64
         ensures { result ≡ end_of self.now }
@@ -73,15 +83,20 @@ impl<A: Allocator> Row<A> {
         self.end
     }
 
-    /// Whether so many addresses from the place on end below its first area, if it has one.
+    /// How many free addresses the widest gap between two of its areas has.
+    pub(crate) fn widest(&self) -> u64
+        ensures { result ≡ widest_of self.now }
+    {
+        self.widest
+    }
+
+    /// Whether so many addresses from the place on end below its first area.
     pub(crate) fn starts_from(&self, at: u128, count: u64) -> bool
-        requires { at ≤ 2 ^ 64 }
+        requires at { at ≤ 2 ^ 64 }
+        requires some { 0 < length self.now }
         ensures { result ≡ starts_from (at + count) self.now }
     {
-        match self.areas.first() {
-            Some(area) => at + u128::from(count) <= u128::from(area.span.first()),
-            None => true,
-        }
+        at + u128::from(count) <= u128::from(self.first)
     }
 
     /// From which place on so many addresses are free, as far as its areas go, which begin below that many from the
@@ -110,6 +125,7 @@ impl<A: Allocator> Row<A> {
         let place = lookups::count_below(&self.areas, area.span.first());
         let parted = gaps::gap_at(&self.areas, place);
         self.areas.insert(place, area).unwrap();
+        self.first = first_of(&self.areas);
         self.end = end_of(&self.areas);
         // The widest gap stays where it isn't the one that is parted.
         if self.widest <= parted {
@@ -126,8 +142,10 @@ impl<A: Allocator> Row<A> {
         ensures upper { upper.new ≡ drop at self.old }
     {
         move_rest(&mut self.areas, at, &mut upper.areas);
+        self.first = first_of(&self.areas);
         self.end = end_of(&self.areas);
         self.widest = gaps::widest_of(&self.areas);
+        upper.first = first_of(&upper.areas);
         upper.end = end_of(&upper.areas);
         upper.widest = gaps::widest_of(&upper.areas);
     }
@@ -138,6 +156,7 @@ impl<A: Allocator> Row<A> {
         ensures { self.new ≡ self.old ++ next }
     {
         self.areas.append(&mut next.areas).unwrap();
+        self.first = first_of(&self.areas);
         self.end = end_of(&self.areas);
         self.widest = gaps::widest_of(&self.areas);
     }
@@ -157,6 +176,7 @@ impl<A: Allocator> Row<A> {
     {
         let before = self.areas.len();
         let place = remove_within(&mut self.areas, span);
+        self.first = first_of(&self.areas);
         self.end = end_of(&self.areas);
         // What they leave joins the gaps beside them, if areas are left on both sides.
         self.widest = match gaps::gap_at(&self.areas, place) {
@@ -164,6 +184,16 @@ impl<A: Allocator> Row<A> {
             joined => self.widest.max(joined),
         };
         before - self.areas.len()
+    }
+}
+
+// Where the first of the areas begins.
+fn first_of(areas: &[Area]) -> u64
+    ensures { result ≡ first_of areas.now }
+{
+    match areas.first() {
+        Some(area) => area.span.first(),
+        None => u64::MAX,
     }
 }
 

@@ -61,6 +61,10 @@ fn source_of<A: Allocator>(config: &Config<A>, device: DeviceNo) -> SourceId
 
 /// What it does where nothing refuses it. With a cached frame the write passes there; without one it passes
 /// where the policy lets it, and is denied while the device owes the area a flush.
+///
+/// It is part of its caller, so that its reply isn't read back from memory while the bytes that it writes are still on
+/// their way to the cache.
+#[inline(always)]
 pub fn commit<A: Allocator>(
     state: &mut State<A>,
     device: DeviceNo,

@@ -1,40 +1,36 @@
-use Rattle.std.proofs.Common.{◌≡◌, ◌∙◌, ◌+◌, ◌<◌, ℕ, List, [], true, drop, get_or, length, subst, sym, ap, arith}
-use Rattle.std.proofs.lemmas.List.{get_or_default}
+use Rattle.std.proofs.Common.{◌≡◌, ◌∙◌, ℕ, ◌-◌, ◌*◌, ◌≤◌, List, take, drop, sym, ap, arith}
+use Rattle.std.proofs.lemmas.List.{drop_min}
 use Rattle.iofd_words.specs.declared.rows.Area.{Area}
-use Rattle.area_map.specs.Areas.{AreApart}
-use Rattle.area_map.specs.Rows.{first_free, in_rows, starts_from}
-use Rattle.area_map.proofs.FirstFree.{free-next, free-stops}
-use Rattle.area_map.proofs.RowsAdded.{row-apart}
+use Rattle.area_map.specs.Rows.{first_free, in_rows}
+use Rattle.area_map.proofs.Rows.{AreRows-take, AreRows-drop, apart-drop}
+use Rattle.area_map.proofs.RowsInBlocks.{apart-take, free-own}
 use Rattle.area_map.proofs.gaps.free_behind.Goals as goal
 
-pub returns-then-starts_from-clause-value : goal.returns-then-starts_from-clause-value
-returns-then-starts_from-clause-value g c =
+pub free_in_rows-at-requires-clause-apart : goal.free_in_rows-at-requires-clause-apart
+free_in_rows-at-requires-clause-apart g c =
     let rows : List (List Area) = c.args.rows.now in
-    let i = c.loop-row.row-index in
-    let at = c.loop-row.at in
-    let before : starts_from (at + c.args.count) (get_or rows i c.row-item.result) ≡ true =
-    subst (λ (row : List Area). starts_from (at + c.args.count) row ≡ true) c.row-item.is
-    (sym c.if-starts_from.ensures) in
-    sym (free-stops at c.args.count rows i c.row-item.result (omega arith) c.requires.rows before)
-    ∙ c.loop-row.invariant.left
+    let below = c.rows_below-below.result in
+    apart-take 0 (drop below rows) (c.begin_of.result - below)
+    (apart-drop 0 rows below c.requires.rows c.requires.apart)
 
-pub free_from-at-requires-clause-apart : goal.free_from-at-requires-clause-apart
-free_from-at-requires-clause-apart g c =
-    let rows : List (List Area) = c.args.rows.now in
-    let i = c.loop-row.row-index in
-    let within : i < length rows = omega arith in
-    let is = c.row-item.is ∙ get_or_default rows i c.row-item.result [] within in
-    subst (λ (row : List Area). AreApart row) (sym is) (row-apart 0 rows i within c.requires.rows c.requires.apart)
+pub free_in_rows-at-requires-clause-rows : goal.free_in_rows-at-requires-clause-rows
+free_in_rows-at-requires-clause-rows g c =
+    let below = c.rows_below-below.result in
+    AreRows-take (drop below c.args.rows.now) (c.begin_of.result - below)
+    (AreRows-drop c.args.rows.now below c.requires.rows)
 
-pub loop-row-preserved : goal.loop-row-preserved
-loop-row-preserved g c =
+pub returns-clause-value : goal.returns-clause-value
+returns-clause-value g c =
     let rows : List (List Area) = c.args.rows.now in
-    let i = c.loop-row.row-index in
-    let at = c.loop-row.at in
-    let value = c.free_from-at.ensures.value ∙ ap (λ (row : List Area). first_free at c.args.count row) c.row-item.is in
-    record {
-      bound = c.free_from-at.ensures.bound;
-      left = ap (λ (n : ℕ). first_free n c.args.count (in_rows (drop (i + 1) rows))) value
-          ∙ free-next at c.args.count 0 rows i c.row-item.result (omega arith) c.requires.rows c.requires.apart
-          ∙ c.loop-row.invariant.left;
-    }
+    let below = c.rows_below-below.result in
+    let stop = c.begin_of.result in
+    let order : below ≤ stop = omega arith in
+    let first = c.free_in_rows-at.ensures.value ∙ ap (λ (n : ℕ). first_free n c.args.count
+    (in_rows (take (stop - below) (drop below rows)))) c.from.ensures in
+    let behind : drop (32 * c.number_behind-next.result) rows ≡ drop stop rows =
+    sym (ap (λ (n : ℕ). drop n rows) c.begin_of.ensures ∙ drop_min (32 * c.number_behind-next.result) rows) in
+    c.free_in_blocks.ensures.value
+    ∙ ap (λ (rs : List (List Area)). first_free c.free_in_rows-at.result c.args.count (in_rows rs)) behind
+    ∙ ap (λ (n : ℕ). first_free n c.args.count (in_rows (drop stop rows))) first
+    ∙ free-own c.args.start c.args.count below stop rows c.requires.rows c.requires.apart
+    c.rows_below-below.ensures.value order

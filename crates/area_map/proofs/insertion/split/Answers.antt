@@ -3,6 +3,7 @@ use Rattle.std.specs.List.{insert}
 use Rattle.std.proofs.lemmas.List.{take_at, length-set}
 use Rattle.iofd_words.specs.declared.rows.Area.{Area}
 use Rattle.area_map.proofs.RowsAdded.{parts_in_rows, parts_are_rows}
+use Rattle.area_map.proofs.RowsSame.{before_split}
 use Rattle.area_map.proofs.insertion.split.Given as given
 use Rattle.area_map.proofs.insertion.split.Goals as goal
 
@@ -40,3 +41,9 @@ cut-requires-clause-few g c = rw c.deref_mut.ensures.value (omega (arith, c.requ
 pub cut-requires-clause-at : goal.cut-requires-clause-at
 cut-requires-clause-at g c =
     rw c.deref_mut.ensures.value (omega (arith, c.requires.full, c.split_place-at.ensures.few))
+
+pub returns-in-Some-clause-before : goal.returns-in-Some-clause-before
+returns-in-Some-clause-before g c =
+    let row = get_or c.args.rows.now.items c.args.index [] in
+    rw (parted g c) (before_split c.args.rows.now.items c.args.index (take c.split_place-at.result row)
+    (drop c.split_place-at.result row) c.requires.bound)

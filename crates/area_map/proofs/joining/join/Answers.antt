@@ -5,6 +5,7 @@ use Rattle.std.proofs.lemmas.List.Edits.{get_or-remove_below}
 use Rattle.iofd_words.specs.declared.rows.Area.{Area}
 use Rattle.area_map.proofs.Rows.{written_back}
 use Rattle.area_map.proofs.RowsAdded.{in_rows-join, AreRows-join}
+use Rattle.area_map.proofs.RowsSame.{before_join}
 use Rattle.area_map.proofs.joining.join.Goals as goal
 
 pub remove-next-requires : goal.remove-next-requires
@@ -65,3 +66,21 @@ returns-clause-rows g c =
     c.remove-next.new.self.len is long in
     rw written (AreRows-join items i within (rw c.deref.ensures.value at (c.if-not-are_few.ensures.few refl))
     c.requires)
+
+pub returns-clause-before : goal.returns-clause-before
+returns-clause-before g c =
+    let items : List (List Area) = c.args.rows.now.items in
+    let i = c.args.index in
+    let within : i + 1 < length items = rw c.deref.ensures.value at (c.if-not-are_few.ensures.two refl) in
+    let base = rw (c.deref_mut.ensures.value, c.remove-next.ensures.items) at c.take_over.ensures in
+    let same = get_or-remove_below items (i + 1) [] i (omega arith) within in
+    let next = c.remove-next.ensures.value ∙ get_or_default items (i + 1) c.remove-next.result [] within in
+    let is = base ∙ ap (λ (row : List Area). set (remove items (i + 1)) i (row ++ c.remove-next.result)) same
+    ∙ ap (λ (row : List Area). set (remove items (i + 1)) i (get_or items i [] ++ row)) next in
+    let left : length (remove items (i + 1)) ≡ c.remove-next.new.self.len =
+    ap length (sym c.remove-next.ensures.items) ∙ omega arith in
+    let long = length-set (remove items (i + 1)) i (get_or items i [] ++ get_or items (i + 1) []) ∙ left in
+    let written = written_back c.remove-next.new.self.items c.take_over.new.rows
+    (set (remove items (i + 1)) i (get_or items i [] ++ get_or items (i + 1) []))
+    c.remove-next.new.self.len is long in
+    rw written (before_join items i (get_or items i [] ++ get_or items (i + 1) []) within)

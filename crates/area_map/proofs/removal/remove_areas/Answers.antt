@@ -1,9 +1,10 @@
-use Rattle.std.proofs.Common.{◌≡◌, ◌∙◌, List, length, map, arith}
+use Rattle.std.proofs.Common.{◌≡◌, ◌∙◌, List, length, map, ap, arith}
 use Rattle.std.proofs.lemmas.List.{length-map}
 use Rattle.iofd_words.specs.declared.rows.Area.{Area}
 use Rattle.area_map.specs.Areas.{areas_outside}
 use Rattle.area_map.proofs.Rows.{written_back}
 use Rattle.area_map.proofs.RowsRemoved.{outside_in_rows, few_outside, nonempty_in_rows, nonempty_rows}
+use Rattle.area_map.proofs.RowsSame.{same_dropped, slice_back}
 use Rattle.area_map.proofs.removal.remove_areas.Goals as goal
 
 pub returns-then-not-empty-clause-areas : goal.returns-then-not-empty-clause-areas
@@ -45,3 +46,24 @@ returns-clause-count g c =
     let rows : List (List Area) = c.args.rows.now.items in
     let count = rw (c.deref_mut.ensures.value, is) at c.remove_within-from.ensures.count in
     rw (c.drop_empty.ensures.rows, written, nonempty_in_rows (map (areas_outside c.args.span) rows)) count
+
+pub returns-then-not-empty-clause-others : goal.returns-then-not-empty-clause-others
+returns-then-not-empty-clause-others g c =
+    let part = c.remove_within-from in
+    let is = rw c.deref_mut.ensures.value at part.ensures.rows in
+    let long : length part.new.rows ≡ c.args.rows.now.len =
+    ap length is ∙ length-map c.args.rows.now.items (areas_outside c.args.span) ∙ omega arith in
+    let back = slice_back c.args.rows.now.items part.new.rows c.args.rows.now.len long in
+    let others = rw c.deref_mut.ensures.value at part.ensures.others in
+    rw back others
+
+pub returns-clause-others : goal.returns-clause-others
+returns-clause-others g c =
+    let part = c.remove_within-from in
+    let is = rw c.deref_mut.ensures.value at part.ensures.rows in
+    let long : length part.new.rows ≡ c.args.rows.now.len =
+    ap length is ∙ length-map c.args.rows.now.items (areas_outside c.args.span) ∙ omega arith in
+    let back = slice_back c.args.rows.now.items part.new.rows c.args.rows.now.len long in
+    let others = rw c.deref_mut.ensures.value at part.ensures.others in
+    rw (c.drop_empty.ensures.rows, back) (same_dropped part.result.0 c.len-count.result c.args.rows.now.items
+    part.new.rows c.requires.rows (omega arith) (omega (arith, long)) others.before)

@@ -1,8 +1,13 @@
-use Rattle.std.proofs.Common.{◌-◌, drop}
+use Rattle.std.proofs.Common.{◌≡◌, ◌∙◌, ◌-◌, List, length, drop, ap}
+use Rattle.std.specs.List.{between}
+use Rattle.std.proofs.lemmas.List.{length-map}
+use Rattle.std.proofs.lemmas.List.Edits.{length-between}
+use Rattle.iofd_words.specs.declared.rows.Area.{Area}
 use Rattle.area_map.proofs.Rows.{AreRows-take, AreRows-drop}
 use Rattle.area_map.specs.Areas.{areas_outside}
 use Rattle.area_map.proofs.RowsChanged.{changed_mid, outside_between, always}
 use Rattle.area_map.proofs.RowsRemoved.{kept_between, count_around, rows_around}
+use Rattle.area_map.proofs.RowsSame.{same_mid}
 use Rattle.area_map.proofs.removal.remove_within.Goals as goal
 
 pub remove_each-removed-requires-clause-kept : goal.remove_each-removed-requires-clause-kept
@@ -36,3 +41,16 @@ returns-clause-empty g c = λ none.
     let part = c.meeting-from in
     rows_around c.args.span c.args.rows.now c.remove_each-removed.new.rows part.result.0 part.result.1 c.requires.rows
     c.remove_each-removed.ensures.areas (rw c.has_empty.ensures at none)
+
+pub returns-clause-others : goal.returns-clause-others
+returns-clause-others g c =
+    let rows : List (List Area) = c.args.rows.now in
+    let mid : List (List Area) = c.remove_each-removed.new.rows in
+    let part = c.meeting-from in
+    let from = part.result.0 in
+    let to = part.result.1 in
+    let long : length mid ≡ to - from =
+    ap length c.remove_each-removed.ensures.areas
+    ∙ length-map (between from to rows) (areas_outside c.args.span)
+    ∙ length-between rows from to part.ensures.bound in
+    same_mid rows mid from to part.ensures.order part.ensures.bound long

@@ -11,11 +11,22 @@ rows_below-below-requires-clause-apart g c = rw c.deref.ensures.value c.self.inv
 pub rows_below-below-requires-clause-rows : goal.rows_below-below-requires-clause-rows
 rows_below-below-requires-clause-rows g c = rw c.deref.ensures.value c.self.invariant.0.each
 
-pub prepare-requires : goal.prepare-requires
-prepare-requires g c = c.self.invariant.1
+pub prepare-requires-clause-spare : goal.prepare-requires-clause-spare
+prepare-requires-clause-spare g c = c.self.invariant.1
+
+pub prepare-requires-clause-blocks : goal.prepare-requires-clause-blocks
+prepare-requires-clause-blocks g c = c.self.invariant.2
+
+pub prepare-requires-clause-places : goal.prepare-requires-clause-places
+prepare-requires-clause-places g c = c.self.invariant.3
 
 pub invariant_of-self : goal.invariant_of-self
-invariant_of-self g c = (rw c.prepare.ensures.rows c.self.invariant.0, c.prepare.ensures.spare)
+invariant_of-self g c = (
+  rw c.prepare.ensures.rows c.self.invariant.0,
+  c.prepare.ensures.spare,
+  rw c.prepare.ensures.rows c.prepare.ensures.blocks,
+  c.prepare.ensures.places,
+)
 
 pub returns-then-is_err-clause-err : goal.returns-then-is_err-clause-err
 returns-then-is_err-clause-err g c = rw (c.prepare.ensures.rows, ← c.self.view_is) refl
@@ -28,6 +39,9 @@ add-requires-clause-rows g c = rw c.prepare.ensures.rows c.self.invariant.0.each
 
 pub add-requires-clause-spare : goal.add-requires-clause-spare
 add-requires-clause-spare g c = c.prepare.ensures.spare
+
+pub add-requires-clause-blocks : goal.add-requires-clause-blocks
+add-requires-clause-blocks g c = rw c.prepare.ensures.rows c.prepare.ensures.blocks
 
 pub add-requires-clause-alone : goal.add-requires-clause-alone
 add-requires-clause-alone g c =
@@ -46,6 +60,8 @@ invariant_of-self-2 g c =
           c.add.ensures.rows added (omega arith) alone (omega arith) hull.ensures.area
           (hull.ensures.others (in_rows rows) leave),
       c.add.ensures.spare,
+      c.add.ensures.blocks,
+      omega (arith, c.add.ensures.places, c.add.ensures.blocks_len, c.prepare.ensures.places),
     )
 
 pub returns-clause-ok : goal.returns-clause-ok

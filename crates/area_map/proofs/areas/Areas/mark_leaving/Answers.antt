@@ -4,6 +4,7 @@ use Rattle.area_map.specs.Areas.{marked}
 use Rattle.area_map.specs.Rows.{in_rows, joined}
 use Rattle.area_map.proofs.Hull.{leave-marked}
 use Rattle.area_map.proofs.Rows.{in_rows-map_map}
+use Rattle.area_map.proofs.RowsInBlocks.{blocks_mapped}
 use Rattle.area_map.proofs.RowsKept.{rows_mapped, mapped_back}
 use Rattle.area_map.proofs.areas.Areas.mark_leaving.Goals as goal
 
@@ -19,6 +20,8 @@ invariant_of-self g c =
           (leave-marked c.self.inside.leaving c.args.span c.args.owed.now (in_rows rows)
           c.self.invariant.0.leave)),
       c.self.invariant.1,
+      rw written (blocks_mapped f (λ a. refl) c.self.inside.blocks rows c.self.invariant.2),
+      c.self.invariant.3,
     )
 
 pub returns-clause-areas : goal.returns-clause-areas

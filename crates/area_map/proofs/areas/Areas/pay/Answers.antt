@@ -4,6 +4,7 @@ use Rattle.area_map.specs.Areas.{without_debt}
 use Rattle.area_map.specs.Rows.{in_rows}
 use Rattle.area_map.proofs.Hull.{leave-paid}
 use Rattle.area_map.proofs.Rows.{in_rows-map_map}
+use Rattle.area_map.proofs.RowsInBlocks.{blocks_mapped}
 use Rattle.area_map.proofs.RowsKept.{rows_mapped, mapped_back, live_all}
 use Rattle.area_map.proofs.areas.Areas.pay.Goals as goal
 
@@ -17,6 +18,8 @@ invariant_of-self g c =
           c.self.invariant.0 (leave-paid c.args.device c.self.inside.leaving (in_rows rows)
           c.self.invariant.0.leave)),
       c.self.invariant.1,
+      rw written (blocks_mapped f (λ a. refl) c.self.inside.blocks rows c.self.invariant.2),
+      c.self.invariant.3,
     )
 
 pub returns-in-Some-clause-areas : goal.returns-in-Some-clause-areas

@@ -27,4 +27,6 @@ invariant_of-self g c =
           c.remove.ensures.areas left leave,
       spare_stays c.self.inside.spare c.self.inside.rows.len c.remove.new.rows.len c.self.inside.rows.cap
           c.remove.new.rows.cap c.remove.ensures.len c.remove.ensures.capacity c.self.invariant.1,
+      c.remove.ensures.blocks,
+      omega (arith, c.remove.ensures.len, c.remove.ensures.blocks_len, c.self.invariant.3),
     )

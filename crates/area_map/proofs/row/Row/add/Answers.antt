@@ -3,7 +3,7 @@ use Rattle.std.specs.List.{prefix_len}
 use Rattle.iofd_words.specs.declared.rows.Area.{Area}
 use Rattle.iofd_words.specs.Areas.{areas_meet}
 use Rattle.area_map.specs.Areas.{AreApart}
-use Rattle.area_map.specs.Rows.{end_of, gap_at, widest_of}
+use Rattle.area_map.specs.Rows.{end_of, first_of, gap_at, widest_of}
 use Rattle.area_map.proofs.Added.{inserted-with}
 use Rattle.area_map.proofs.Widest.{widest-with}
 use Rattle.area_map.proofs.row.Row.add.Goals as goal
@@ -40,6 +40,7 @@ invariant_of-self-else-self-parted g c =
     rw (← place, ← gap) c.if-self-parted.false in
     let stays = widest-with a xs apart ordered alone c.self.inside.widest c.self.invariant.2 (omega arith) less in (
       omega (arith, c.insert.ensures.capacity, c.self.invariant.0),
-      c.end_of-self-inside.ensures ∙ ap end_of c.deref-3.ensures.value,
+      c.end_of-self-inside.ensures ∙ ap end_of c.deref-4.ensures.value,
       sym stays ∙ ap widest_of (sym made),
+      c.first_of-self-inside.ensures ∙ ap first_of c.deref-3.ensures.value,
     )

@@ -1,7 +1,7 @@
 use Rattle.std.proofs.Common.{sym, ap, ◌∙◌}
 use Rattle.area_map.specs.Areas.{changed}
-use Rattle.area_map.specs.Rows.{end_of, widest_of}
-use Rattle.area_map.proofs.Kept.{changed-span, end-map, widest-map}
+use Rattle.area_map.specs.Rows.{end_of, first_of, widest_of}
+use Rattle.area_map.proofs.Kept.{changed-span, end-map, first-map, widest-map}
 use Rattle.area_map.proofs.row.Row.change.Goals as goal
 
 pub invariant_of-self : goal.invariant_of-self
@@ -13,4 +13,5 @@ invariant_of-self g c =
       rw (sym c.change_all.ensures.capacity) at before.0,
       before.1 ∙ sym (ap end_of areas ∙ end-map f same c.self.inside.areas.items),
       before.2 ∙ sym (ap widest_of areas ∙ widest-map f same c.self.inside.areas.items),
+      before.3 ∙ sym (ap first_of areas ∙ first-map f same c.self.inside.areas.items),
     )

@@ -1,7 +1,7 @@
 use Rattle.std.proofs.Common.{◌≡◌, ◌<◌, ◌++◌, List, take, drop, sym, ap, ◌∙◌, arith}
 use Rattle.iofd_words.specs.declared.rows.Area.{Area}
 use Rattle.area_map.specs.Areas.{AreApart}
-use Rattle.area_map.specs.Rows.{end_of, gap_at, widest_of}
+use Rattle.area_map.specs.Rows.{end_of, first_of, gap_at, widest_of}
 use Rattle.area_map.proofs.Widest.{widest-without}
 use Rattle.area_map.proofs.row.Row.remove.Goals as goal
 use Rattle.area_map.proofs.row.Row.remove.Goals.{in-18446744073709551615, in_default}
@@ -14,7 +14,7 @@ invariant_of-self g c =
     let cut = c.remove_within-place.ensures.cut in
     let from = c.remove_within-place.result in
     let gap : c.gap_at.result ≡ gap_at from (take from xs ++ drop cut.to xs) =
-    c.gap_at.ensures ∙ ap (gap_at from) (c.deref-2.ensures.value ∙ cut.rest) in
+    c.gap_at.ensures ∙ ap (gap_at from) (c.deref-3.ensures.value ∙ cut.rest) in
     let widest : c.match-gap_at.self ≡ widest_of ys = elim c.match-gap_at.branch [
       | in-18446744073709551615 w ↦ w.self-is ∙ w.widest_of-self-inside.ensures
           ∙ ap widest_of w.deref-in-18446744073709551615.ensures.value
@@ -24,6 +24,7 @@ invariant_of-self g c =
           w.self-is ∙ w.max-self-inside.ensures ∙ rw (c.self.invariant.2, gap, cut.rest) (sym without)
     ] in (
       omega (arith, c.remove_within-place.ensures.capacity, c.self.invariant.0),
-      c.end_of-self-inside.ensures ∙ ap end_of c.deref.ensures.value,
+      c.end_of-self-inside.ensures ∙ ap end_of c.deref-2.ensures.value,
       widest,
+      c.first_of-self-inside.ensures ∙ ap first_of c.deref.ensures.value,
     )

@@ -1,6 +1,6 @@
 use Rattle.std.proofs.Common.{◌≡◌, ◌≤◌, ◌^◌, drop}
 use Rattle.area_map.specs.Rows.{first_free, in_rows}
-use Rattle.area_map.proofs.gaps.free_behind.Given as goal
+use Rattle.area_map.proofs.gaps.free_in_rows.Given as goal
 
 abbrev pub invariant-loop-row : goal.invariant-loop-row
 invariant-loop-row g l = record {
