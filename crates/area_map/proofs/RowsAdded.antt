@@ -11,11 +11,10 @@ use Rattle.iofd_words.specs.Bounds.{Bounds}
 use Rattle.iofd_words.specs.Span.{meets}
 use Rattle.iofd_words.specs.declared.rows.Area.{Area}
 use Rattle.iofd_words.specs.Areas.{areas_meet}
-use Rattle.area_map.specs.Areas.{AreApartFrom, with_area}
-use Rattle.area_map.specs.Rows.{in_rows, AreRows, end_of}
-use Rattle.area_map.proofs.Kept.{apart-lower}
-use Rattle.area_map.proofs.Added.{length-with_area}
-use Rattle.area_map.proofs.Rows.{apart_left, apart_right, end-above, AreRows-take, AreRows-drop, written_back}
+use Rattle.area_rows.specs.Areas.{AreApartFrom, with_area}
+use Rattle.area_rows.specs.Rows.{in_rows, AreRows, end_of}
+use Rattle.area_rows.proofs.Added.{length-with_area}
+use Rattle.area_rows.proofs.Rows.{row-few, apart_left, apart_right, end-above, AreRows-take, AreRows-drop, written_back}
 
 pub meet_left : (span : Bounds) (xs ys : List Area) → areas_meet span (xs ++ ys) ≡ false → areas_meet span xs ≡ false
 meet_left span xs ys alone =
@@ -86,28 +85,12 @@ added_in_row a low (row ∷ next ∷ rows) (suc i) some each apart ordered alone
     (meet_right a.span row (in_rows (next ∷ rows)) alone) later in
     ap (λ zs. row ++ zs) rest ∙ sym (with_area-behind a low row (in_rows (next ∷ rows)) own below)
 
--- a row of all rows
-pub row-apart : (low : ℕ) (rows : List (List Area)) (i : ℕ) → i < length rows → AreRows rows
-    → AreApartFrom low (in_rows rows) → AreApartFrom low (get_or rows i [])
-row-apart low [] i within each apart = absurd (omega arith)
-row-apart low (row ∷ rows) zero within each apart = apart_left low row (in_rows rows) apart
-row-apart low (row ∷ rows) (suc i) within each apart =
-    let above = end-above low row each.0 (apart_left low row (in_rows rows) apart) in
-    apart-lower (end_of row + 1) low (get_or rows i []) (omega arith)
-    (row-apart (end_of row + 1) rows i (omega arith) each.2 (apart_right low row (in_rows rows) each.0 apart))
-
 pub row-alone : (span : Bounds) (rows : List (List Area)) (i : ℕ) → i < length rows
     → areas_meet span (in_rows rows) ≡ false → areas_meet span (get_or rows i []) ≡ false
 row-alone span [] i within alone = absurd (omega arith)
 row-alone span (row ∷ rows) zero within alone = meet_left span row (in_rows rows) alone
 row-alone span (row ∷ rows) (suc i) within alone =
     row-alone span rows i (omega arith) (meet_right span row (in_rows rows) alone)
-
-pub row-few : (rows : List (List Area)) (i : ℕ) → i < length rows → AreRows rows → (0 < length (get_or rows i []))
-    × (length (get_or rows i []) < 32)
-row-few [] i within each = absurd (omega arith)
-row-few (row ∷ rows) zero within each = (each.0, each.1)
-row-few (row ∷ rows) (suc i) within each = row-few rows i (omega arith) each.2
 
 pub AreRows-set : (rows : List (List Area)) (i : ℕ) (row : List Area) → AreRows rows → 0 < length row → length row < 32
     → AreRows (set rows i row)

@@ -1,5 +1,5 @@
 -- What is kept of blocks of rows.
-use Rattle.std.proofs.Common.{◌≡◌, ◌≢◌, ℕ, suc, ◌+◌, ◌-◌, ◌*◌, ◌<◌, ◌≤◌, ◌^◌, false, leb, ltb, min, max, List, []}
+use Rattle.std.proofs.Common.{◌≡◌, ◌≢◌, ℕ, suc, ◌+◌, ◌-◌, ◌*◌, ◌<◌, ◌≤◌, ◌^◌, false, ltb, min, max, List, []}
 use Rattle.std.proofs.Common.{◌∷◌, ◌++◌, length, get_or, set, take, drop, map, refl, sym, ap, subst, append-nil, ◌∙◌}
 use Rattle.std.proofs.Common.{arith, ⊎_elim, Some}
 use Rattle.std.specs.List.{prefix_len, slice_get}
@@ -10,12 +10,12 @@ use Rattle.std.proofs.lemmas.List.{drop_more, length-append, length-set}
 use Rattle.std.proofs.lemmas.List.{get_or-set_same, get_or-set_other}
 use Rattle.iofd_words.specs.declared.rows.Area.{Area}
 use Rattle.area_map.specs.declared.blocks.Block.{Block}
-use Rattle.area_map.specs.Areas.{AreApartFrom, AreApart}
-use Rattle.area_map.specs.Rows.{in_rows, AreRows, AreBlocks, AreBlocksBut, IsBlockOf, IsSameBut, block_of, end_of}
-use Rattle.area_map.specs.Rows.{first_free, first_of, rows_of, starts_from, widest_behind, widest_of}
-use Rattle.area_map.proofs.FirstFree.{free-append, free-behind, free-rows}
-use Rattle.area_map.proofs.Kept.{end-map, first-map, widest-map}
-use Rattle.area_map.proofs.Rows.{AreRows-drop, apart_left, apart-drop, in_rows-append, in_rows-map_map}
+use Rattle.area_rows.specs.Areas.{AreApartFrom, AreApart}
+use Rattle.area_rows.specs.Rows.{in_rows, AreRows, end_of, first_free, first_of, starts_from, widest_behind, widest_of}
+use Rattle.area_map.specs.Blocks.{AreBlocks, AreBlocksBut, IsBlockOf, IsSameBut, block_of, rows_of}
+use Rattle.area_rows.proofs.FirstFree.{free-append, free-behind, free-rows}
+use Rattle.area_rows.proofs.Kept.{end-map, first-map, widest-map}
+use Rattle.area_rows.proofs.Rows.{AreRows-drop, apart_left, apart-drop, in_rows-append, in_rows-map_map}
 
 -- ---- some areas, and others behind them
 
@@ -75,10 +75,6 @@ behind_next widest end rows i d within each =
     let both = behind-append end row (in_rows (drop (i + 1) rows)) left.0 in
     let behind = ap (λ (rs : List (List Area)). widest_behind end (in_rows rs)) is in
     omega (arith, both, behind)
-
-pub starts_from-first : (low : ℕ) (xs : List Area) → 0 < length xs → starts_from low xs ≡ leb low (first_of xs)
-starts_from-first low [] some = absurd (omega (arith, some))
-starts_from-first low (x ∷ xs) some = refl
 
 -- ---- a search passes over a block
 

@@ -1,4 +1,4 @@
-pub mod Areas
 pub mod AreaTable
+pub mod Blocks
 pub mod Insertion
-pub mod Rows
+pub mod Kept

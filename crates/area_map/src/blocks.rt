@@ -4,12 +4,12 @@
 
 ghost use Rattle.std.specs.Prelude.{◌≡◌, ◌+◌, ◌*◌, ◌/◌, ◌%◌, ◌<◌, ◌≤◌, ◌^◌, ◌++◌, ◌∷◌, [], IsTrue, List, OnErr, OnOk};
 ghost use Rattle.std.specs.Prelude.{length, max, min};
-ghost use Rattle.area_map.specs.Rows.{in_rows, AreBlocks, AreBlocksBut, AreRows, IsBlockOf, IsSameBut, block_of};
-ghost use Rattle.area_map.specs.Rows.{end_of, first_of, gap_before, listed, rows_of, widest_around, widest_behind};
-ghost use Rattle.area_map.specs.Rows.{widest_of};
+ghost use Rattle.area_rows.specs.Rows.{in_rows, AreRows, end_of, first_of, widest_behind, widest_of};
+ghost use Rattle.area_map.specs.Blocks.{AreBlocks, AreBlocksBut, IsBlockOf, IsSameBut, block_of};
+ghost use Rattle.area_map.specs.Blocks.{gap_before, listed, rows_of, widest_around};
 ghost use Rattle.iofd_words.specs.declared.rows.Area.{Area};
 
-use crate::row::Row;
+use area_rows::Row;
 use iofd_words::NoMemory;
 use std::alloc::{Allocator, Global};
 use std::marker::Model;
@@ -69,7 +69,7 @@ pub(crate) struct Blocks<A: Allocator = Global> {
 impl<A: Allocator> Model for Blocks<A> {
     ghost use Rattle.std.specs.Prelude.{List};
     ghost use Rattle.area_map.specs.declared.blocks.Block.{Block};
-    ghost use Rattle.area_map.specs.Rows.{listed};
+    ghost use Rattle.area_map.specs.Blocks.{listed};
 
     ghost Value = { List Block };
 

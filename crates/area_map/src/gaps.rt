@@ -1,14 +1,12 @@
-//! The addresses between areas.
+//! The least free addresses, past blocks of rows.
 
 ghost use Rattle.std.specs.Prelude.{◌≡◌, ◌+◌, ◌*◌, ◌<◌, ◌≤◌, ◌^◌, MatchOption, drop};
-ghost use Rattle.area_map.specs.Areas.{AreApart, HasNoneFree, IsFirstFree};
-ghost use Rattle.area_map.specs.Rows.{in_rows, AreBlocks, AreRows, IsBlockOf, first_free, gap_at, rows_of, widest_of};
-ghost use Rattle.area_map.specs.Rows.{widest_behind};
+ghost use Rattle.area_map.specs.Blocks.{AreBlocks, IsBlockOf, rows_of};
+ghost use Rattle.area_rows.specs.Areas.{AreApart, HasNoneFree, IsFirstFree};
+ghost use Rattle.area_rows.specs.Rows.{in_rows, AreRows, first_free};
 
 use crate::blocks::{self, Block};
-use crate::lookups;
-use crate::row::Row;
-use iofd_words::Area;
+use area_rows::{Row, gaps, lookups};
 use std::alloc::Allocator;
 
 /// The least address from `start` on from which so many addresses meet no area.
@@ -45,7 +43,7 @@ fn free_behind<A: Allocator>(rows: &[Row<A>], blocks: &[Block], start: u64, coun
     // The rows of its block that stand before it would leave the place as it is.
     let next = blocks::number_behind(below);
     let own = &rows[below..blocks::begin_of(rows, next)];
-    let at = free_in_rows(own, u128::from(start), count);
+    let at = gaps::free_in_rows(own, u128::from(start), count);
     free_in_blocks(rows, blocks, next, at, count)
 }
 
@@ -70,7 +68,7 @@ fn free_in_blocks<A: Allocator>(
         at = free_in_block(rows, &blocks[number], number, at, count);
         number += 1;
     }
-    free_in_rows(&rows[blocks::begin_of(rows, number)..], at, count)
+    gaps::free_in_rows(&rows[blocks::begin_of(rows, number)..], at, count)
 }
 
 // The same, of the rows of the block of this number, which so many addresses from the place on reach. Its bound may be
@@ -93,80 +91,6 @@ fn free_in_block<A: Allocator>(
     if block.is_narrow(count) {
         block.behind(at)
     } else {
-        free_in_rows(blocks::rows_of(rows, number), at, count)
+        gaps::free_in_rows(blocks::rows_of(rows, number), at, count)
     }
-}
-
-// The same, of these rows.
-fn free_in_rows<A: Allocator>(rows: &[Row<A>], start: u128, count: u64) -> u128
-    requires start { start ≤ 2 ^ 64 }
-    requires apart { AreApart (in_rows rows.now) }
-    requires rows { AreRows rows.now }
-    ensures value { result ≡ first_free start count (in_rows rows.now) }
-    ensures bound { result ≤ 2 ^ 64 }
-{
-    let mut at = start;
-    for row in rows {
-        if row.starts_from(at, count) {
-            return at;
-        }
-        at = row.free_from(at, count);
-    }
-    at
-}
-
-/// The same, of a row's areas and from a place on that may be too high.
-pub fn free_in(areas: &[Area], from: u128, count: u64) -> u128
-    requires { from ≤ 2 ^ 64 }
-    ensures value { result ≡ first_free from count areas.now }
-    ensures bound { result ≤ 2 ^ 64 }
-{
-    let mut at = from;
-    for area in areas {
-        if at + u128::from(count) <= u128::from(area.span.first()) {
-            return at;
-        }
-        at = at.max(u128::from(area.span.last()) + 1);
-    }
-    at
-}
-
-/// How many free addresses the widest gap between two neighbours has; 0 where there are no two.
-pub fn widest_of(areas: &[Area]) -> u64
-    ensures { result ≡ widest_of areas.now }
-{
-    match areas.split_first() {
-        Some((area, others)) => widest_behind(area.span.last(), others),
-        None => 0,
-    }
-}
-
-/// How many free addresses lie between the area before this place and the one at it; more than any gap has where there
-/// is none on a side.
-pub fn gap_at(areas: &[Area], place: usize) -> u64
-    ensures { result ≡ gap_at place areas.now }
-{
-    if place == 0 || place >= areas.len() {
-        return u64::MAX;
-    }
-    let end = areas[place - 1].span.last();
-    areas[place]
-        .span
-        .first()
-        .saturating_sub(end)
-        .saturating_sub(1)
-}
-
-// The same as `widest_of`, of areas behind one that ends there.
-fn widest_behind(last: u64, areas: &[Area]) -> u64
-    ensures { result ≡ widest_behind last areas.now }
-{
-    let mut widest = 0;
-    let mut end = last;
-    for area in areas {
-        let gap = area.span.first().saturating_sub(end).saturating_sub(1);
-        widest = gap.max(widest);
-        end = area.span.last();
-    }
-    widest
 }

@@ -4,19 +4,12 @@
 
 mod areas;
 mod blocks;
-mod changes;
 mod gaps;
 mod insertion;
-mod iter;
 mod joining;
 mod leaving;
-mod lookups;
-mod marking;
 mod removal;
-mod row;
-mod search;
-mod totals;
 
+pub use area_rows::Iter;
 pub use areas::Areas;
 pub use insertion::MOST_AREAS;
-pub use iter::Iter;

@@ -2,12 +2,13 @@
 
 ghost use Rattle.std.specs.Prelude.{◌≡◌, ◌==◌, ◌+◌, ◌≤◌, false, length, map, not, vec_len, vec_capacity};
 ghost use Rattle.std.specs.List.{list_any, filter};
-ghost use Rattle.area_map.specs.Areas.{AreKept, areas_outside};
-ghost use Rattle.area_map.specs.Rows.{in_rows, AreBlocks, AreRows, IsSameBut};
+ghost use Rattle.area_rows.specs.Areas.{AreKept, areas_outside};
+ghost use Rattle.area_rows.specs.Rows.{in_rows, AreRows};
+ghost use Rattle.area_map.specs.Blocks.{AreBlocks, IsSameBut};
 
 use crate::blocks::Blocks;
-use crate::row::Row;
-use crate::{changes, joining};
+use crate::joining;
+use area_rows::{Row, changes};
 use iofd_words::Span;
 use std::alloc::Allocator;
 

@@ -5,7 +5,7 @@ use Rattle.std.proofs.Common.{sym, ◌∙◌, arith, Vec, vec_capacity, vec_len}
 use Rattle.std.specs.List.{filter, flat_map}
 use Rattle.std.proofs.lemmas.Grind.{flat_map-append}
 use Rattle.std.proofs.lemmas.List.{append_assoc, length-map}
-use Rattle.area_map.specs.Areas.{AreApart, AreApartFrom}
+use Rattle.area_rows.specs.Areas.{AreApart, AreApartFrom}
 use Rattle.frame_memory.specs.Pool.{FramePool}
 use Rattle.hwpt_device.proofs.Kept.{rows_have}
 use Rattle.hwpt_device.proofs.Missing.{missing_at}

@@ -5,7 +5,7 @@ use Rattle.std.proofs.Common.{arith}
 use Rattle.std.specs.List.{find}
 use Rattle.std.proofs.lemmas.Bool.Decides.{nat_tests}
 use Rattle.std.proofs.lemmas.List.{append_assoc}
-use Rattle.area_map.specs.Areas.{AreApart, AreApartFrom}
+use Rattle.area_rows.specs.Areas.{AreApart, AreApartFrom}
 use Rattle.frame_memory.specs.Pool.{FramePool, free_count}
 use Rattle.hwpt_device.proofs.Counted.{tables_append}
 use Rattle.hwpt_device.proofs.Missing.{frames_in_turn, held_more, missing_in_turn}

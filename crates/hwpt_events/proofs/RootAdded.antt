@@ -4,7 +4,7 @@ use Rattle.std.proofs.Common.{◌++◌, length, length-append, refl, ap, subst, 
 use Rattle.std.specs.Prelude.{IfSome}
 use Rattle.std.proofs.lemmas.Bool.Decides.{nat_tests}
 use Rattle.std.proofs.lemmas.List.{get_or-set_other}
-use Rattle.area_map.specs.Areas.{AreApart}
+use Rattle.area_rows.specs.Areas.{AreApart}
 use Rattle.frame_memory.specs.Pool.{FramePool, bytes_of, free_count, given, least_free, zeros}
 use Rattle.hwpt_device.proofs.Inserted.{tables_in_with}
 use Rattle.hwpt_device.proofs.Kept.{rows_have}

@@ -1,7 +1,7 @@
 -- A page table that comes with what its address space maps: which tables it takes, and where its pages lead then.
 use Rattle.std.specs.Prelude.{ℕ, ◌≡◌, ◌≤◌, ◌<◌, ◌+◌, ◌*◌, true, false, ◌==◌, ◌&&◌, Option, Some, None, is_some}
 use Rattle.std.specs.Prelude.{List, [], ◌++◌, find, length, map, if◌then◌else◌}
-use Rattle.area_map.specs.Areas.{AreApart}
+use Rattle.area_rows.specs.Areas.{AreApart}
 use Rattle.frame_memory.specs.Pool.{FramePool, free_count}
 use Rattle.hwpt_device.specs.OverSpans.{frames_for, with_missing}
 use Rattle.hwpt_device.specs.PageTables.{AllStand, Hwpt, KeepsOthers, hwpt_of, rows_of}

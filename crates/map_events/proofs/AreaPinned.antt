@@ -3,7 +3,7 @@
 use Rattle.std.proofs.Common.{◌≡◌, ℕ, ◌*◌, ◌<◌, ◌≤◌, Bool, true, false, cond, ◌&&◌, ◌||◌, eqb, ltb, get_or}
 use Rattle.std.proofs.Common.{is_some, Option, Some, None, List, [], ◌∷◌, refl, ◌∙◌, ap, arith}
 use Rattle.std.proofs.lemmas.Bool.Decides.{nat_tests}
-use Rattle.area_map.specs.Areas as own
+use Rattle.area_rows.specs.Areas as own
 use Rattle.frame_memory.specs.Pool.{FramePool}
 use Rattle.hwpt_device.specs.PageTables.{AllStand}
 use Rattle.iofd_rows.proofs.Bools.{and_true, clash}

@@ -2,7 +2,7 @@
 use Rattle.std.proofs.Common.{◌≡◌, ℕ, ◌+◌, ◌<◌, Bool, true, false, ◌&&◌, not, eqb, None, is_some, List, [], ◌∷◌, refl}
 use Rattle.std.proofs.Common.{sym, ◌∙◌, ap, arith, subst}
 use Rattle.std.proofs.lemmas.Bool.Decides.{nat_tests}
-use Rattle.area_map.specs.Areas as own
+use Rattle.area_rows.specs.Areas as own
 use Rattle.area_map.specs.Insertion.{insert_refusal}
 use Rattle.std.specs.List.{count_by, list_any}
 use Rattle.iofd_rows.proofs.Bools.{both_false, clash, not_false}

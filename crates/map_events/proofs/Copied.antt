@@ -2,7 +2,7 @@
 use Rattle.std.proofs.Common.{◌≡◌, ℕ, ◌+◌, ◌<◌, ◌≤◌, ◌^◌, Bool, true, false, Option, Some, None, List, [], length, sym}
 use Rattle.std.proofs.Common.{◌∙◌, ap, subst}
 use Rattle.std.specs.Prelude.{if◌then◌else◌}
-use Rattle.area_map.specs.Areas as own
+use Rattle.area_rows.specs.Areas as own
 use Rattle.frame_memory.specs.Pool.{FramePool, free_count}
 use Rattle.hwpt_device.specs.PageTables.{IfAllStand, PageTables}
 use Rattle.iofd_runs.proofs.CopySource.{IsSource, copy_source, source_area}

@@ -1,7 +1,7 @@
 -- The world after a MAP is shown.
 use Rattle.std.proofs.Common.{◌≡◌, ℕ, Bool, Option, Some, None, List, [], ◌∷◌, ◌++◌, length, sym, ◌+◌, ◌≤◌, subst}
 use Rattle.iofd_words.specs.Answers.{Answers, IsMappedAt}
-use Rattle.area_map.specs.Areas as own
+use Rattle.area_rows.specs.Areas as own
 use Rattle.iofd_runs.proofs.KeepsOwnMemory.{OwnPins, keeps_own_pins}
 use Rattle.iofd_runs.proofs.MappedAt.{lies_at}
 use Rattle.iofd_words.specs.Checks.{map_checks, tables_to_map}

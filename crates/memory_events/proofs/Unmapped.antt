@@ -2,10 +2,10 @@
 use Rattle.std.proofs.Common.{◌≡◌, ℕ, ◌+◌, ◌*◌, ◌<◌, ◌≤◌, leb, Bool, true, false, cond, not, eqb, Option, None, is_some}
 use Rattle.std.proofs.Common.{List, [], ◌∷◌, get_or, length, map, refl, subst, sym, ◌∙◌, ap, arith}
 use Rattle.std.specs.List.{filter, list_all, list_any}
-use Rattle.area_map.specs.Areas.{AreApart, AreKept, areas_outside, areas_within, bytes_of, marked}
+use Rattle.area_rows.specs.Areas.{AreApart, AreKept, areas_outside, areas_within, bytes_of, marked}
 use Rattle.std.proofs.lemmas.Bool.Decides.{nat_tests}
 use Rattle.std.proofs.lemmas.List.Sums.{sum_by-cons}
-use Rattle.area_map.proofs.Kept.{length-filter-le}
+use Rattle.area_rows.proofs.Kept.{length-filter-le}
 use Rattle.iofd_rows.proofs.Bools.{and_true}
 use Rattle.iofd_rows.proofs.Found.{all_filter}
 use Rattle.iofd_runs.proofs.NotRefused.{unmap_passed}

@@ -4,7 +4,7 @@ use Rattle.std.proofs.Common.{◌≡◌, ℕ, zero, suc, ◌+◌, ◌-◌, ◌<�
 use Rattle.std.proofs.Common.{[], ◌∷◌, length, refl, sym, ◌∙◌, ap, arith}
 use Rattle.std.specs.List.{All, find, list_all, list_any}
 use Rattle.std.proofs.lemmas.Bool.Decides.{nat_tests}
-use Rattle.area_map.specs.Areas.{AreApart, AreApartFrom}
+use Rattle.area_rows.specs.Areas.{AreApart, AreApartFrom}
 use Rattle.iofd_rows.proofs.Bools.{and_true, both_true, clash, or_false}
 use Rattle.iofd_rows.proofs.Each.{in_found, of_any}
 use Rattle.iofd_rows.proofs.Found.{all_filter}

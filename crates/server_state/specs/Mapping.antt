@@ -1,7 +1,7 @@
 -- Words for MAP and UNMAP: the pins that come, and the areas of one address space.
 use Rattle.std.specs.Prelude.{ℕ, Bool, false, ◌==◌, not, Some, None, List, [], length}
 use Rattle.std.specs.List.{list_any}
-use Rattle.area_map.specs.Areas.{areas_within}
+use Rattle.area_rows.specs.Areas.{areas_within}
 use Rattle.iofd_words.specs.Areas.{owed_by}
 use Rattle.iofd_words.specs.Bounds.{Bounds}
 use Rattle.iofd_words.specs.Objects.{kind_of, is_hwpt_over}

@@ -2,7 +2,7 @@
 
 ghost use Rattle.std.specs.Prelude.{◌≡◌, ◌<◌, ◌==◌, not, true, None, [], length, map, OnErr, OnOk, MatchOption};
 ghost use Rattle.std.specs.List.{list_any};
-ghost use Rattle.area_map.specs.Areas.{AreKept, areas_outside, areas_within, marked, with_area};
+ghost use Rattle.area_rows.specs.Areas.{AreKept, areas_outside, areas_within, marked, with_area};
 ghost use Rattle.area_map.specs.Insertion.{insert_refusal};
 ghost use Rattle.iofd_words.specs.Areas.{owed_by};
 ghost use Rattle.iofd_words.specs.Objects.{has_ioas, is_ioas};

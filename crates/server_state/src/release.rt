@@ -1,7 +1,7 @@
 //! Areas that go, or that no page table translates any more, let go of their memory objects.
 
 ghost use Rattle.std.specs.Prelude.{if◌then◌else◌};
-ghost use Rattle.area_map.specs.Areas.{areas_within};
+ghost use Rattle.area_rows.specs.Areas.{areas_within};
 ghost use Rattle.server_state.specs.Mapping.{own_areas};
 ghost use Rattle.memory_rows.specs.Moves.{IsReleased, MayRelease, if_translated};
 ghost use Rattle.memory_rows.specs.Shown.{over};

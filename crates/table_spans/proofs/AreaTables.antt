@@ -11,7 +11,7 @@ use Rattle.iofd_words.specs.Pages.{page_of}
 use Rattle.iofd_words.specs.Span.{is_whole_pages}
 use Rattle.iofd_words.specs.TablePlaces.{TablePlace, is_live, lacking, live_pages, pages_in, places_from}
 use Rattle.iofd_words.specs.declared.rows.Area.{Area}
-use Rattle.area_map.specs.Areas.{AreApartFrom}
+use Rattle.area_rows.specs.Areas.{AreApartFrom}
 use Rattle.table_words.proofs.Members.{each_then}
 use Rattle.table_words.proofs.Needs.{number_grows}
 use Rattle.table_spans.proofs.ByLevel.{by_levels, lacked_at}

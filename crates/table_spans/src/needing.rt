@@ -7,7 +7,7 @@ ghost use Rattle.iofd_words.specs.Span.{is_whole_pages};
 ghost use Rattle.iofd_words.specs.TablePlaces.{is_live, lacking, live_pages, pages_in, places_of};
 ghost use Rattle.table_words.specs.Mapped.{IsTable};
 ghost use Rattle.table_words.specs.Stands.{IfStands};
-ghost use Rattle.area_map.specs.Areas.{AreApart};
+ghost use Rattle.area_rows.specs.Areas.{AreApart};
 ghost use Rattle.table_spans.specs.Spans.{IsOfPages, lacked};
 ghost use Rattle.table_spans.specs.Levels.{place_at};
 

@@ -2,7 +2,7 @@ use Rattle.std.proofs.Common.{ℕ, ◌+◌, ◌/◌, ◌%◌, ◌<◌, List, [],
 use Rattle.std.proofs.lemmas.List.{get_or_default}
 use Rattle.iofd_words.specs.declared.rows.Area.{Area}
 use Rattle.area_map.specs.declared.blocks.Block.{Block}
-use Rattle.area_map.specs.Rows.{block_of, rows_of}
+use Rattle.area_map.specs.Blocks.{block_of, rows_of}
 use Rattle.area_map.proofs.OneRow.{same_block}
 use Rattle.area_map.proofs.RowsInBlocks.{all_renewed, blocks_but, renewed}
 use Rattle.area_map.proofs.blocks.renew_at.Goals as goal

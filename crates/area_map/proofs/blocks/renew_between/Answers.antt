@@ -1,5 +1,5 @@
 use Rattle.std.proofs.Common.{◌∙◌, ap, arith}
-use Rattle.area_map.specs.Rows.{block_of}
+use Rattle.area_map.specs.Blocks.{block_of}
 use Rattle.area_map.proofs.RowsInBlocks.{all_renewed, found, renewed}
 use Rattle.area_map.proofs.blocks.renew_between.Goals as goal
 

@@ -1,4 +1,4 @@
-use Rattle.area_map.specs.Rows.{AreBlocksBut}
+use Rattle.area_map.specs.Blocks.{AreBlocksBut}
 use Rattle.area_map.proofs.blocks.renew_between.Given as goal
 
 abbrev pub invariant-loop-number : goal.invariant-loop-number

@@ -1,6 +1,6 @@
 use Rattle.std.proofs.Common.{◌≡◌, ◌∙◌, ℕ, ◌+◌, ◌<◌, List, drop, get_or, length, ap, arith}
 use Rattle.iofd_words.specs.declared.rows.Area.{Area}
-use Rattle.area_map.specs.Rows.{end_of, first_of, in_rows, widest_behind, widest_of}
+use Rattle.area_rows.specs.Rows.{end_of, first_of, in_rows, widest_behind, widest_of}
 use Rattle.area_map.proofs.RowsInBlocks.{behind_next}
 use Rattle.area_map.proofs.blocks.widest_behind.Goals as goal
 

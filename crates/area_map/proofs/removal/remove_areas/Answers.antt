@@ -1,8 +1,8 @@
 use Rattle.std.proofs.Common.{◌≡◌, ◌∙◌, List, length, map, ap, arith}
 use Rattle.std.proofs.lemmas.List.{length-map}
 use Rattle.iofd_words.specs.declared.rows.Area.{Area}
-use Rattle.area_map.specs.Areas.{areas_outside}
-use Rattle.area_map.proofs.Rows.{written_back}
+use Rattle.area_rows.specs.Areas.{areas_outside}
+use Rattle.area_rows.proofs.Rows.{written_back}
 use Rattle.area_map.proofs.RowsRemoved.{outside_in_rows, few_outside, nonempty_in_rows, nonempty_rows}
 use Rattle.area_map.proofs.RowsSame.{same_dropped, slice_back}
 use Rattle.area_map.proofs.removal.remove_areas.Goals as goal

@@ -1,11 +1,10 @@
 use Rattle.std.proofs.Common.{◌≡◌, ◌∙◌, ◌<◌, List, [], length, ap, sym, set, arith}
 use Rattle.std.proofs.lemmas.List.Edits.{map_over_more}
 use Rattle.iofd_words.specs.declared.rows.Area.{Area}
-use Rattle.area_map.specs.Areas.{areas_outside}
+use Rattle.area_rows.specs.Areas.{areas_outside}
 use Rattle.area_map.proofs.RowsRemoved.{length-set_row, row_ahead}
-use Rattle.area_map.proofs.RowsAdded.{row-apart}
+use Rattle.area_rows.proofs.Rows.{row-apart, map_over_all}
 use Rattle.std.proofs.lemmas.List.{get_or_default}
-use Rattle.area_map.proofs.Rows.{map_over_all}
 use Rattle.area_map.proofs.removal.remove_each.Goals as goal
 
 pub overflow_add-removed : goal.overflow_add-removed

@@ -2,7 +2,7 @@ use Rattle.std.proofs.Common.{◌≡◌, ℕ, ◌+◌, ◌^◌, ◌≤◌}
 use Rattle.iofd_words.specs.Levels.{number_at}
 use Rattle.iofd_words.specs.Pages.{page_of}
 use Rattle.iofd_words.specs.TablePlaces.{live_pages}
-use Rattle.area_map.specs.Areas.{AreApartFrom}
+use Rattle.area_rows.specs.Areas.{AreApartFrom}
 use Rattle.table_spans.proofs.AreaTables.{AreWhole, nothing}
 use Rattle.table_spans.proofs.ByLevel.{lacked_at}
 use Rattle.table_spans.proofs.LevelNumbers.{or_before}

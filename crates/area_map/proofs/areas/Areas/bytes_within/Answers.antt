@@ -1,8 +1,8 @@
 use Rattle.std.proofs.Common.{arith}
 use Rattle.iofd_words.specs.Span.{lies_in}
 use Rattle.iofd_words.specs.declared.rows.Area.{Area}
-use Rattle.area_map.specs.Rows.{in_rows}
-use Rattle.area_map.proofs.Kept.{length-filter-le}
+use Rattle.area_rows.specs.Rows.{in_rows}
+use Rattle.area_rows.proofs.Kept.{length-filter-le}
 use Rattle.area_map.proofs.areas.Areas.bytes_within.Goals as goal
 
 pub bytes_of-requires : goal.bytes_of-requires

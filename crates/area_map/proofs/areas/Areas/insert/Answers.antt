@@ -1,7 +1,7 @@
 use Rattle.std.proofs.Common.{◌≡◌, false, List, refl, sym, arith}
 use Rattle.iofd_words.specs.declared.rows.Area.{Area}
 use Rattle.iofd_words.specs.Areas.{areas_meet}
-use Rattle.area_map.specs.Rows.{in_rows}
+use Rattle.area_rows.specs.Rows.{in_rows}
 use Rattle.area_map.proofs.RowsKept.{rows_with}
 use Rattle.area_map.proofs.areas.Areas.insert.Goals as goal
 

@@ -1,7 +1,7 @@
 use Rattle.iofd_words.specs.Span.{lies_in}
 use Rattle.iofd_words.specs.declared.rows.Area.{Area}
-use Rattle.area_map.specs.Areas.{is_owing}
-use Rattle.area_map.proofs.Kept.{list_any-filter}
+use Rattle.area_rows.specs.Areas.{is_owing}
+use Rattle.area_rows.proofs.Kept.{list_any-filter}
 use Rattle.area_map.proofs.areas.Areas.owes.Goals as goal
 
 pub returns : goal.returns

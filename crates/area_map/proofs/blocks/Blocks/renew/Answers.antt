@@ -1,7 +1,7 @@
 use Rattle.std.proofs.Common.{◌≡◌, ◌∙◌, List, [], drop, length, sym, ap, subst, arith}
 use Rattle.std.proofs.lemmas.List.{take_at}
 use Rattle.area_map.specs.declared.blocks.Block.{Block}
-use Rattle.area_map.specs.Rows.{AreBlocks, listed}
+use Rattle.area_map.specs.Blocks.{AreBlocks, listed}
 use Rattle.area_map.proofs.blocks.Blocks.renew.Goals as goal
 use Rattle.area_map.proofs.blocks.Blocks.renew.Goals.{in-Some, in_default}
 

@@ -1,0 +1,12 @@
+pub mod Found
+pub mod Added
+pub mod Covers
+pub mod Within
+pub mod Kept
+pub mod Rows
+pub mod RowsFound
+pub mod RowsWithin
+pub mod RowsChanged
+pub mod FirstFree
+pub mod Widest
+pub mod RowCut
