@@ -54,8 +54,10 @@ impl FaultReason {
 /// A denied access: of which device, at which page (the address divided by 4096), of which kind, and why.
 #[derive(Clone, Copy, PartialEq, Eq, Debug)]
 pub struct Fault {
-    pub source: SourceId,
+    // First, as the one number that other replies have: a reply is smaller so, and what one wrote in a piece isn't read
+    // back as another's pieces, for which a processor would wait.
     pub page: u64,
+    pub source: SourceId,
     pub kind: AccessKind,
     pub reason: FaultReason,
 }
