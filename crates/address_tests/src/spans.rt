@@ -7,6 +7,9 @@ use std::test::Fail;
 
 pub(crate) const TOP: u64 = 0xffff_ffff_ffff_ffff;
 
+/// The first and the last number of each span.
+pub(crate) type Ends = &'static [(u64, u64)];
+
 pub(crate) fn span(first: u64, last: u64) -> Result<Span, Fail> {
     Ok(Span::new(first, last).ok_or("a span that ends before it begins")?)
 }

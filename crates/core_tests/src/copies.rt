@@ -1,12 +1,12 @@
 //! Copies: each growth refused in turn. A long chain of them is a script of `tests/long`.
 
 use crate::growth::growing_steps;
-use crate::steps::{FIRST, NARROW, Step, WIDE, config};
+use crate::steps::{FIRST, NARROW, Step, WIDE};
+use crate::tasks::{Growth, Told, is_within, told_in_heap};
 use iofd_words::{Answer, Burst, DeviceNo, FrameNo, Iova, ObjId, Query, Reply};
 use iommufd_core::Core;
 use linked_list_allocator::LocalHeap;
-use std::alloc::Global;
-use std::test::Fail;
+use std::alloc::{Allocator, Global};
 
 /// An address space with the user's page, of which two bytes are written, one with a page table of either width, whose
 /// roots take the frames 1 and 2, and one without.
@@ -42,7 +42,7 @@ static WRITTEN: [(DeviceNo, u64); 4] = [
 ];
 
 /// Whether the device reads the two bytes there.
-fn reads(core: &Core<&LocalHeap>, device: DeviceNo, iova: u64) -> bool {
+fn reads<A: Allocator>(core: &Core<A>, device: DeviceNo, iova: u64) -> bool {
     let query = Query::DeviceRead {
         device,
         iova: Iova(iova),
@@ -55,25 +55,33 @@ fn reads(core: &Core<&LocalHeap>, device: DeviceNo, iova: u64) -> bool {
 }
 
 /// Whether one frame is left, and each copy leads both devices to the page.
-fn copies_lead(core: &Core<&LocalHeap>) -> bool {
+fn copies_lead<A: Allocator>(core: &Core<A>) -> bool {
+    for (device, iova) in &WRITTEN {
+        if !reads(core, *device, *iova) {
+            return false;
+        }
+    }
     core.look(&Query::FreeFrames) == Answer::Count(1)
-        && WRITTEN
-            .iter()
-            .all(|(device, iova)| reads(core, *device, *iova))
 }
 
-/// Whether each copy finds no memory at first, and then leads both devices to the page.
-fn copies_grow(alloc: Global) -> Result<bool, Fail> {
-    let config = config(alloc, 13)?;
-    let heap = LocalHeap::new(alloc, 81920)?;
-    let mut core = Core::new(&heap, &config)?;
-    let started = growing_steps(alloc, &heap, &mut core, &SPACES)?.is_some();
-    let grown = growing_steps(alloc, &heap, &mut core, &COPIES)? == Some(3);
-    Ok(started & grown & copies_lead(&core))
+/// How many copies find no memory at first, and then lead both devices to the page.
+pub(crate) fn growing_copies<A: Allocator + Copy>(
+    alloc: Global,
+    heap: &LocalHeap,
+    core: &mut Core<A>,
+    lists: A,
+) -> Told {
+    growing_steps(alloc, heap, core, lists, &SPACES)?;
+    let grown = growing_steps(alloc, heap, core, lists, &COPIES)?;
+    if copies_lead(core) {
+        Ok(grown)
+    } else {
+        Err("a copy leads elsewhere")
+    }
 }
 
 #[test]
-fn a_refused_growth_of_a_copy_changes_nothing(rt: HostRuntime) -> Result<(), Fail> {
-    assert!(rt; copies_grow(rt.alloc())?);
-    Ok(())
+fn a_refused_growth_of_a_copy_changes_nothing(rt: HostRuntime) {
+    let grown = told_in_heap(rt.alloc(), 13, 81920, Growth::Copies);
+    is_within(&rt, grown, 3, 3);
 }

@@ -1,15 +1,15 @@
 //! The worked script, each call once.
 
 use crate::steps::{
-    AGAIN, FIRST, IN_USE, NARROW, NO_FRAME, SECOND, Step, UNKNOWN, apply, config, event, read,
+    AGAIN, FIRST, IN_USE, NARROW, NO_FRAME, SECOND, Step, UNKNOWN, apply, event, read,
 };
+use crate::tasks::{Task, Told, WANT, is_within, told_in_memory};
 use iofd_words::{
     AccessKind, Act, Answer, Burst, Cause, Event, Fault, FaultReason, FrameNo, Iova, NoMemory,
     ObjId, PassNo, Refusal, Reply, SourceId,
 };
 use iommufd_core::Core;
-use std::alloc::Global;
-use std::test::Fail;
+use std::alloc::Allocator;
 
 const OVERLAP: Reply = Reply::Refused(Refusal {
     cause: Cause::Overlap,
@@ -62,13 +62,13 @@ pub(crate) static SCRIPT: [(Step, Reply); 27] = [
 ];
 
 /// Whether the event is answered so, under the next number, and one record more is told.
-pub(crate) fn answers(
-    alloc: Global,
-    core: &mut Core,
+fn answers<A: Allocator + Copy>(
+    memory: A,
+    core: &mut Core<A>,
     step: Step,
     reply: Reply,
-) -> Result<bool, Fail> {
-    let event = event(alloc, step)?;
+) -> Result<bool, NoMemory> {
+    let event = event(memory, step)?;
     let count = core.records().len();
     let stamp = apply(core, event)?;
     Ok(
@@ -79,44 +79,34 @@ pub(crate) fn answers(
 }
 
 /// How many steps are answered by their replies, up to the first that isn't.
-fn answered(alloc: Global, core: &mut Core, script: &[(Step, Reply)]) -> Result<usize, Fail> {
-    for (place, (step, reply)) in script.iter().enumerate() {
-        if !answers(alloc, core, *step, *reply)? {
-            return Ok(place);
+pub(crate) fn answered<A: Allocator + Copy>(
+    memory: A,
+    core: &mut Core<A>,
+    script: &[(Step, Reply)],
+) -> u32 {
+    let mut right = 0u32;
+    for (step, reply) in script {
+        if answers(memory, core, *step, *reply) != Ok(true) {
+            return right;
         }
+        right = right.saturating_add(1);
     }
-    Ok(script.len())
-}
-
-/// A core that the first steps of the script have gone through.
-fn core_after(alloc: Global, steps: usize) -> Result<Core, Fail> {
-    let first = SCRIPT.get(..steps).ok_or("so many steps")?;
-    let config = config(alloc, FRAMES)?;
-    let mut core = Core::new(alloc, &config)?;
-    answered(alloc, &mut core, first)?;
-    Ok(core)
-}
-
-/// How many steps of the script are answered so in a new core.
-fn answered_by_new(alloc: Global) -> Result<usize, Fail> {
-    let mut core = core_after(alloc, 0)?;
-    answered(alloc, &mut core, &SCRIPT)
+    right
 }
 
 #[test]
-fn worked_script_has_its_replies(rt: HostRuntime) -> Result<(), Fail> {
-    let right = answered_by_new(rt.alloc())?;
-    assert!(rt; right == SCRIPT.len(), "event {right}");
-    Ok(())
+fn worked_script_has_its_replies(rt: HostRuntime) {
+    let right = told_in_memory(rt.alloc(), Task::Script(&SCRIPT));
+    is_within(&rt, right, 27, 27);
 }
 
 /// Whether the narrow device's access to a byte of the page at 0x1000 may pass at this frame.
-fn may_pass(core: &Core, kind: AccessKind, frame: u32) -> bool {
+fn may_pass<A: Allocator + Copy>(core: &Core<A>, kind: AccessKind, frame: u32) -> bool {
     core.may_pass(NARROW, Iova(0x1000), 1, kind, FrameNo(frame))
 }
 
 /// Whether the device's write there passes by the cached frame, and is read at the page's other address.
-fn passes_cached(core: &mut Core, bytes: Burst) -> Result<bool, NoMemory> {
+fn passes_cached<A: Allocator + Copy>(core: &mut Core<A>, bytes: Burst) -> Result<bool, NoMemory> {
     let frame = FrameNo(0);
     let iova = Iova(0x1000);
     let len = bytes.as_slice().len() as u8;
@@ -136,17 +126,27 @@ fn passes_cached(core: &mut Core, bytes: Burst) -> Result<bool, NoMemory> {
 }
 
 /// Whether the frame of the page that was unmapped may be used, and no longer after the flush.
-fn is_cached_until_flush(core: &mut Core) -> Result<bool, Fail> {
-    let bytes = Burst::new(&[0x55]).ok_or("a byte")?;
+fn is_cached_until_flush<A: Allocator + Copy>(core: &mut Core<A>) -> Result<bool, NoMemory> {
+    let bytes = Burst::new(&[0x55]).ok_or(NoMemory)?;
     let cached = !may_pass(core, AccessKind::Write, 1) & may_pass(core, AccessKind::Read, 0);
     let passed = passes_cached(core, bytes)?;
     apply(core, Event::Flush(NARROW))?;
     Ok(cached & passed & !may_pass(core, AccessKind::Write, 0))
 }
 
+/// The same behind the script's UNMAP: how many steps came before it.
+pub(crate) fn cached_until_flush<A: Allocator + Copy>(memory: A, core: &mut Core<A>) -> Told {
+    let first = SCRIPT.get(..12).ok_or("so many steps")?;
+    let right = answered(memory, core, first);
+    match is_cached_until_flush(core) {
+        Ok(true) => Ok(right),
+        Ok(false) => Err("the frame is used otherwise"),
+        Err(NoMemory) => Err(WANT),
+    }
+}
+
 #[test]
-fn a_cached_frame_may_be_used_until_the_flush(rt: HostRuntime) -> Result<(), Fail> {
-    let mut core = core_after(rt.alloc(), 12)?;
-    assert!(rt; is_cached_until_flush(&mut core)?);
-    Ok(())
+fn a_cached_frame_may_be_used_until_the_flush(rt: HostRuntime) {
+    let steps = told_in_memory(rt.alloc(), Task::Cached);
+    is_within(&rt, steps, 12, 12);
 }

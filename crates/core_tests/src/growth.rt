@@ -1,17 +1,18 @@
 //! Each growth refused in turn: the answer is want of memory, nothing has changed, and the step gives its reply later.
 
 use crate::events::{FRAMES, SCRIPT};
-use crate::steps::{
-    AGAIN, FIRST, IN_USE, NARROW, NO_FRAME, Step, WIDE, apply, config, event, read,
-};
-use iofd_words::{Answer, Config, Event, FrameNo, Iova, NoMemory, ObjId, Query, Reply, UserNo};
+use crate::steps::{AGAIN, FIRST, IN_USE, NARROW, NO_FRAME, Step, WIDE, apply, event, read};
+use crate::tasks::{Growth, Told, WANT, is_within, told_in_heap};
+use iofd_words::{Answer, Event, FrameNo, Iova, NoMemory, ObjId, Query, Reply, UserNo};
 use iommufd_core::Core;
 use linked_list_allocator::LocalHeap;
-use std::alloc::{AllocError, Global};
-use std::test::Fail;
+use std::alloc::{AllocError, Allocator, Global};
 
 /// Takes all that the heap has left, in blocks of its least size.
-fn fill(alloc: Global, heap: &LocalHeap) -> Result<Vec<Vec<u8, &LocalHeap>>, AllocError> {
+pub(crate) fn fill(
+    alloc: Global,
+    heap: &LocalHeap,
+) -> Result<Vec<Vec<u8, &LocalHeap>>, AllocError> {
     let mut blocks = Vec::new(alloc);
     for _ in 0..2048 {
         let Ok(block) = Vec::with_capacity(heap, 1) else {
@@ -26,7 +27,7 @@ fn fill(alloc: Global, heap: &LocalHeap) -> Result<Vec<Vec<u8, &LocalHeap>>, All
 fn fill_but(
     alloc: Global,
     heap: &LocalHeap,
-    left: u64,
+    left: u32,
 ) -> Result<Vec<Vec<u8, &LocalHeap>>, AllocError> {
     let mut blocks = fill(alloc, heap)?;
     for _ in 0..left {
@@ -35,20 +36,16 @@ fn fill_but(
     Ok(blocks)
 }
 
-/// Whether no core opens in a full heap.
-fn is_refused(alloc: Global, heap: &LocalHeap, config: &Config) -> Result<bool, AllocError> {
-    let _blocks = fill(alloc, heap)?;
-    Ok(Core::new(heap, config).is_err())
-}
-
-/// What the event is answered with so much memory left in blocks of the least size; None where it wants for some.
-fn apply_with<'a>(
+/// What the step is answered with so much memory left in blocks of the least size; None where it wants for some. Its
+/// list is in memory of the core's.
+fn apply_with<A: Allocator + Copy>(
     alloc: Global,
-    heap: &'a LocalHeap,
-    core: &mut Core<&'a LocalHeap>,
-    event: Event<&'a LocalHeap>,
-    left: u64,
-) -> Result<Option<Reply>, AllocError> {
+    heap: &LocalHeap,
+    core: &mut Core<A>,
+    (step, lists): (Step, A),
+    left: u32,
+) -> Result<Option<Reply>, NoMemory> {
+    let event = event(lists, step)?;
     let _blocks = fill_but(alloc, heap, left)?;
     match apply(core, event) {
         Ok(stamp) => Ok(Some(stamp.reply)),
@@ -58,7 +55,7 @@ fn apply_with<'a>(
 
 /// How many records there are, how many frames are free, how many pages the user has pinned, and what the narrow device
 /// reads.
-fn seen(core: &Core<&LocalHeap>) -> (usize, Answer, Answer, Answer) {
+fn seen<A: Allocator>(core: &Core<A>) -> (usize, Answer, Answer, Answer) {
     (
         core.records().len(),
         core.look(&Query::FreeFrames),
@@ -67,77 +64,51 @@ fn seen(core: &Core<&LocalHeap>) -> (usize, Answer, Answer, Answer) {
     )
 }
 
-fn same(holds: bool) -> Result<(), Fail> {
-    let wanted = if holds { Some(()) } else { None };
-    Ok(wanted.ok_or("want of memory changed something")?)
-}
+const CHANGED: &str = "want of memory changed something";
 
 /// The step with ever more memory left, until it is taken: its reply, and how often it found none, which changed
 /// nothing.
-fn apply_at_last<'a>(
+fn apply_at_last<A: Allocator + Copy>(
     alloc: Global,
-    heap: &'a LocalHeap,
-    core: &mut Core<&'a LocalHeap>,
-    step: Step,
-) -> Result<(Reply, u64), Fail> {
+    heap: &LocalHeap,
+    core: &mut Core<A>,
+    step: (Step, A),
+) -> Result<(Reply, u32), &'static str> {
     let before = seen(core);
-    for left in 0..2048u64 {
-        let answer = apply_with(alloc, heap, core, event(heap, step)?, left)?;
-        if let Some(reply) = answer {
-            return Ok((reply, left));
+    for left in 0..2049u32 {
+        match apply_with(alloc, heap, core, step, left) {
+            Ok(Some(reply)) => return Ok((reply, left)),
+            Ok(None) if seen(core) == before => {}
+            Ok(None) => return Err(CHANGED),
+            Err(NoMemory) => return Err(WANT),
         }
-        same(seen(core) == before)?;
     }
-    Ok((apply(core, event(heap, step)?)?.reply, 2048))
+    Err(WANT)
 }
 
-/// How many steps of the script found no memory at first; None where one had another reply than it should.
-pub(crate) fn growing_steps<'a>(
+/// How many steps of the script found no memory at first; their lists are in memory of the core's.
+pub(crate) fn growing_steps<A: Allocator + Copy>(
     alloc: Global,
-    heap: &'a LocalHeap,
-    core: &mut Core<&'a LocalHeap>,
+    heap: &LocalHeap,
+    core: &mut Core<A>,
+    lists: A,
     script: &[(Step, Reply)],
-) -> Result<Option<u32>, Fail> {
+) -> Told {
     let mut grown = 0u32;
     for (step, reply) in script {
-        let (answer, refusals) = apply_at_last(alloc, heap, core, *step)?;
+        let (answer, refusals) = apply_at_last(alloc, heap, core, (*step, lists))?;
         if answer != *reply {
-            return Ok(None);
+            return Err("another reply");
         }
         grown = grown.saturating_add(u32::from(refusals > 0));
     }
-    Ok(Some(grown))
-}
-
-/// The same in a core of its own.
-fn steps_that_grow_in(
-    alloc: Global,
-    heap: &LocalHeap,
-    config: &Config,
-    script: &[(Step, Reply)],
-) -> Result<Option<u32>, Fail> {
-    let mut core = Core::new(heap, config)?;
-    growing_steps(alloc, heap, &mut core, script)
-}
-
-/// The same in so much memory, in which no core opens while it is full.
-fn steps_that_grow(
-    alloc: Global,
-    pool: u32,
-    memory: usize,
-    script: &[(Step, Reply)],
-) -> Result<Option<u32>, Fail> {
-    let config = config(alloc, pool)?;
-    let heap = LocalHeap::new(alloc, memory)?;
-    same(is_refused(alloc, &heap, &config)?)?;
-    steps_that_grow_in(alloc, &heap, &config, script)
+    Ok(grown)
 }
 
 #[test]
-fn a_refused_growth_changes_nothing(rt: HostRuntime) -> Result<(), Fail> {
-    let grown = steps_that_grow(rt.alloc(), FRAMES, 43008, &SCRIPT)?;
-    assert!(rt; grown.ok_or("another reply")? >= 8, "{grown:?}");
-    Ok(())
+fn a_refused_growth_changes_nothing(rt: HostRuntime) {
+    let grown = told_in_heap(rt.alloc(), FRAMES, 43008, Growth::Steps(&SCRIPT));
+    is_within(&rt, grown, 8, 27);
 }
 
 /// Two page tables over one address space: one of width 39, made by hand, whose tables take the frames 1, 3, 4, 8 and
@@ -169,15 +140,14 @@ static TWO_TABLES: [(Step, Reply); 23] = [
 ];
 
 #[test]
-fn a_refused_growth_leaves_two_page_tables(rt: HostRuntime) -> Result<(), Fail> {
-    let grown = steps_that_grow(rt.alloc(), 13, 81920, &TWO_TABLES)?;
-    assert!(rt; grown.ok_or("another reply")? >= 8, "{grown:?}");
-    Ok(())
+fn a_refused_growth_leaves_two_page_tables(rt: HostRuntime) {
+    let grown = told_in_heap(rt.alloc(), 13, 81920, Growth::Steps(&TWO_TABLES));
+    is_within(&rt, grown, 8, 23);
 }
 
 /// Whether the question for ranges is answered by all addresses, since no device is attached; None where it isn't
 /// answered.
-fn are_all_usable(core: &Core<&LocalHeap>) -> Option<bool> {
+fn are_all_usable<A: Allocator + Copy>(core: &Core<A>) -> Option<bool> {
     match core.ranges(FIRST, ObjId(1)) {
         Ok(set) => match set.spans() {
             [span] => Some(span.first() == 0 && span.last() == u64::MAX),
@@ -188,43 +158,38 @@ fn are_all_usable(core: &Core<&LocalHeap>) -> Option<bool> {
 }
 
 /// The same with so much memory left.
-fn answer_with(
+fn answer_with<A: Allocator + Copy>(
     alloc: Global,
     heap: &LocalHeap,
-    core: &Core<&LocalHeap>,
-    left: u64,
+    core: &Core<A>,
+    left: u32,
 ) -> Result<Option<bool>, AllocError> {
     let _blocks = fill_but(alloc, heap, left)?;
     Ok(are_all_usable(core))
 }
 
-/// How often the question found no memory, with ever more left.
-fn refused_questions(
+/// How often the question found no memory, with ever more left, in a core that gets one address space.
+pub(crate) fn refused_questions<A: Allocator + Copy>(
     alloc: Global,
     heap: &LocalHeap,
-    core: &Core<&LocalHeap>,
-) -> Result<u64, Fail> {
-    for left in 0..64 {
-        if let Some(whole) = answer_with(alloc, heap, core, left)? {
-            same(whole)?;
-            return Ok(left);
+    core: &mut Core<A>,
+) -> Told {
+    if apply(core, Event::IoasAlloc(FIRST)).is_err() {
+        return Err(WANT);
+    }
+    for left in 0..64u32 {
+        match answer_with(alloc, heap, core, left) {
+            Ok(Some(true)) => return Ok(left),
+            Ok(Some(false)) => return Err(CHANGED),
+            Ok(None) => {}
+            Err(_) => return Err(WANT),
         }
     }
     Ok(64)
 }
 
-/// The same in a core that has one address space.
-fn refused_questions_in(alloc: Global, heap: &LocalHeap, config: &Config) -> Result<u64, Fail> {
-    let mut core = Core::new(heap, config)?;
-    apply(&mut core, Event::IoasAlloc(FIRST))?;
-    refused_questions(alloc, heap, &core)
-}
-
 #[test]
-fn a_question_for_ranges_may_want_for_memory(rt: HostRuntime) -> Result<(), Fail> {
-    let config = config(rt.alloc(), FRAMES)?;
-    let heap = LocalHeap::new(rt.alloc(), 43008)?;
-    let refusals = refused_questions_in(rt.alloc(), &heap, &config)?;
-    assert!(rt; 0 < refusals && refusals < 64, "{refusals}");
-    Ok(())
+fn a_question_for_ranges_may_want_for_memory(rt: HostRuntime) {
+    let refusals = told_in_heap(rt.alloc(), FRAMES, 43008, Growth::Ranges);
+    is_within(&rt, refusals, 1, 63);
 }

@@ -10,3 +10,5 @@ mod events;
 mod growth;
 #[cfg(test)]
 mod steps;
+#[cfg(test)]
+mod tasks;

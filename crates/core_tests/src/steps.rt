@@ -7,7 +7,6 @@ use iofd_words::{
 };
 use iommufd_core::{Core, Stamp};
 use std::alloc::{AllocError, Allocator, Global};
-use std::test::Fail;
 
 /// A device of width 39.
 pub(crate) const NARROW: DeviceNo = DeviceNo(1);
@@ -34,10 +33,11 @@ fn devices(alloc: Global) -> Result<Vec<DeviceConfig>, AllocError> {
 }
 
 /// A pool of so many frames, a user with two files, and both devices.
-pub(crate) fn config(alloc: Global, pool: u32) -> Result<Config, Fail> {
-    let users = vec![in alloc; 4]?;
-    let files = vec![in alloc; UserNo(1), UserNo(1)]?;
-    Ok(Config::new(pool, users, files, devices(alloc)?, 1)?)
+pub(crate) fn config(alloc: Global, pool: u32) -> Option<Config> {
+    let users = vec![in alloc; 4].ok()?;
+    let files = vec![in alloc; UserNo(1), UserNo(1)].ok()?;
+    let devices = devices(alloc).ok()?;
+    Config::new(pool, users, files, devices, 1).ok()
 }
 
 /// An event, with what stands in all of them left out. Address space 1 of the first file is meant where none is named.
@@ -123,15 +123,13 @@ const ALLOWED: [IovaRange; 2] = [
     },
 ];
 
-fn allowed<A: Allocator>(alloc: A) -> Result<RangeList<A>, Fail> {
-    let mut ranges = Vec::with_capacity(alloc, ALLOWED.len())?;
-    ranges.extend_from_slice(&ALLOWED)?;
-    Ok(RangeList::new(ranges))
+fn allowed<A: Allocator>(alloc: A) -> Result<RangeList<A>, NoMemory> {
+    Ok(RangeList::new(Vec::from_slice(alloc, &ALLOWED)?))
 }
 
 /// The event of a step, its list in memory of this allocator.
-pub(crate) fn event<A: Allocator>(alloc: A, step: Step) -> Result<Event<A>, Fail> {
-    let bytes = Burst::new(&[0xbe, 0xef]).ok_or("two bytes")?;
+pub(crate) fn event<A: Allocator>(alloc: A, step: Step) -> Result<Event<A>, NoMemory> {
+    let bytes = Burst::new(&[0xbe, 0xef]).ok_or(NoMemory)?;
     Ok(match step {
         Step::Alloc(file) => Event::IoasAlloc(file),
         Step::Allow => Event::AllowIovas(FIRST, ObjId(1), allowed(alloc)?),

@@ -10,7 +10,7 @@ use iofd_words::{
 };
 use linked_list_allocator::LocalHeap;
 use std::alloc::{AllocError, Allocator, Global};
-use std::test::Fail;
+use std::process::Abort;
 
 const BUSY: Reply = Reply::Refused(Refusal {
     cause: Cause::InUse,
@@ -152,13 +152,16 @@ const PART_UNMAPPED: &[u8] = b"\x18\0\0\0\x01\0\0\0\xff\x4f\0\0\0\0\0\0\0\x10\0\
 const HWPT_MADE: &[u8] =
     b"\x18\0\0\0\0\0\0\0\x01\x02\x03\x04\x05\x06\x07\x08\x09\x0a\x0b\x0c\0\0\0\0";
 
-// What is written back for a reply; nothing for one that isn't good.
-fn replies(alloc: Global) -> Result<[(Command, Reply, &'static [u8]); 20], AllocError> {
+// A command, its reply, and what is written back for it.
+type Row = (Command, Reply, &'static [u8]);
+
+fn good_replies(alloc: Global) -> Result<[Row; 11], AllocError> {
     let last = 0xffff_ffff_ffff_f000;
+    let allow = allow(alloc)?;
     Ok([
         (Command::Destroy(ObjId(1)), Reply::Done, DESTROY),
         (Command::IoasAlloc, Reply::Id(ObjId(1)), ALLOCATED),
-        (allow(alloc)?, Reply::Done, ALLOWED),
+        (allow, Reply::Done, ALLOWED),
         (copy(7, 0x5000), Reply::Iova(Iova(0x5000)), COPY),
         (copy(6, 0), Reply::Iova(Iova(0x3000)), COPIED),
         (map(7, 0x2000, 0x1000), Reply::Iova(Iova(0x1000)), MAP),
@@ -167,6 +170,12 @@ fn replies(alloc: Global) -> Result<[(Command, Reply, &'static [u8]); 20], Alloc
         (unmap(0, u64::MAX), Reply::Bytes(0x6000), UNMAPPED),
         (unmap(0x4fff, 0x1002), Reply::Bytes(0x1000), PART_UNMAPPED),
         (hwpt(), Reply::Id(ObjId(0x0c0b_0a09)), HWPT_MADE),
+    ])
+}
+
+// Nothing is written back for a reply that isn't good.
+fn bad_replies() -> [Row; 9] {
+    [
         (Command::Destroy(ObjId(1)), BUSY, b""),
         (copy(7, 0x5000), BUSY, b""),
         (copy(6, 0), Reply::Done, b""),
@@ -176,7 +185,7 @@ fn replies(alloc: Global) -> Result<[(Command, Reply, &'static [u8]); 20], Alloc
         (Command::IoasIovaRanges(ranges(1)), Reply::Done, b""),
         (hwpt(), Reply::Done, b""),
         (hwpt(), BUSY, b""),
-    ])
+    ]
 }
 
 // A reserved field is looked at before the number of entries.
@@ -239,8 +248,19 @@ static ONE_BYTE_OFF: [(u32, &[u8], usize, u8, Cause); 12] = [
 ];
 
 // Whether the bytes are refused for this cause.
-fn refuses(alloc: Global, nr: u32, bytes: &[u8], cause: Cause) -> bool {
+fn refuses<A: Allocator>(alloc: A, nr: u32, bytes: &[u8], cause: Cause) -> bool {
     decode(alloc, nr, bytes).err() == Some(DecodeError::Refused(Refusal { cause }))
+}
+
+// Whether both are the same mapping, copy, unmapping or making of a page table.
+fn is_same_request(a: &Command, b: &Command) -> bool {
+    match (a, b) {
+        (Command::IoasCopy(a), Command::IoasCopy(b)) => a == b,
+        (Command::IoasMap(a), Command::IoasMap(b)) => a == b,
+        (Command::IoasUnmap(a), Command::IoasUnmap(b)) => a == b,
+        (Command::HwptAlloc(a), Command::HwptAlloc(b)) => a == b,
+        _ => false,
+    }
 }
 
 fn is_same(a: &Command, b: &Command) -> bool {
@@ -250,17 +270,13 @@ fn is_same(a: &Command, b: &Command) -> bool {
         (Command::IoasAllowIovas(a, from), Command::IoasAllowIovas(b, to)) => {
             a == b && from.as_slice() == to.as_slice()
         }
-        (Command::IoasCopy(a), Command::IoasCopy(b)) => a == b,
         (Command::IoasIovaRanges(a), Command::IoasIovaRanges(b)) => a == b,
-        (Command::IoasMap(a), Command::IoasMap(b)) => a == b,
-        (Command::IoasUnmap(a), Command::IoasUnmap(b)) => a == b,
-        (Command::HwptAlloc(a), Command::HwptAlloc(b)) => a == b,
-        _ => false,
+        _ => is_same_request(a, b),
     }
 }
 
 // Whether the bytes are this command.
-fn reads(alloc: Global, nr: u32, bytes: &[u8], command: &Command) -> bool {
+fn reads(alloc: Global, command: &Command, nr: u32, bytes: &[u8]) -> bool {
     match decode(alloc, nr, bytes) {
         Ok(read) => is_same(&read, command),
         Err(_) => false,
@@ -285,30 +301,39 @@ fn grown(alloc: Global, bytes: &[u8], size: u32) -> Result<Vec<u8>, AllocError> 
     Ok(grown)
 }
 
-#[test]
-fn canonical_bytes_are_read(rt: HostRuntime) -> Result<(), Fail> {
-    let commands = commands(rt.alloc())?;
+// This holds for each of the commands, with its number and its canonical bytes.
+fn all_hold<F>(rt: &impl Abort, alloc: Global, holds: F)
+where
+    F: Fn(Global, &Command, u32, &[u8]) -> bool,
+    requires { F.IsAlwaysCallable holds }
+{
+    let commands = commands(alloc).expect(rt, "memory for the commands");
     for ((nr, bytes), command) in CANONICAL.iter().zip(&commands) {
-        assert!(rt; reads(rt.alloc(), *nr, *bytes, command), "{nr:x}");
+        assert!(rt; holds(alloc, command, *nr, *bytes), "{nr:x}");
     }
+}
+
+#[test]
+fn canonical_bytes_are_read(rt: HostRuntime) {
+    all_hold(&rt, rt.alloc(), reads);
     round_trip::<Global>();
-    Ok(())
 }
 
 // Whether the command has this number and these canonical bytes.
-fn is_written(alloc: Global, command: &Command, nr: u32, bytes: &[u8]) -> Result<bool, NoMemory> {
-    let written = command.is_spellable() && encode(alloc, command)?.as_slice() == bytes;
-    Ok(command.number() == nr && written)
+fn is_written(alloc: Global, command: &Command, nr: u32, bytes: &[u8]) -> bool {
+    if !command.is_spellable() || command.number() != nr {
+        return false;
+    }
+    match encode(alloc, command) {
+        Ok(written) => written.as_slice() == bytes,
+        Err(_) => false,
+    }
 }
 
 #[test]
-fn canonical_bytes_are_written(rt: HostRuntime) -> Result<(), Fail> {
-    let commands = commands(rt.alloc())?;
-    for ((nr, bytes), command) in CANONICAL.iter().zip(&commands) {
-        assert!(rt; is_written(rt.alloc(), command, *nr, *bytes)?, "{nr:x}");
-    }
+fn canonical_bytes_are_written(rt: HostRuntime) {
+    all_hold(&rt, rt.alloc(), is_written);
     spellable_commands::<Global>();
-    Ok(())
 }
 
 // Whether this is written to the front of a buffer, and nothing behind it.
@@ -318,31 +343,49 @@ fn puts(command: &Command, reply: &Reply, bytes: &[u8]) -> bool {
     &buffer[..count] == bytes && buffer[count..].iter().all(|byte| *byte == 0xaa)
 }
 
-#[test]
-fn replies_are_written_back(rt: HostRuntime) -> Result<(), Fail> {
-    for (place, (command, reply, bytes)) in replies(rt.alloc())?.iter().enumerate() {
-        let written = encode_reply(rt.alloc(), command, reply)?;
-        assert!(rt; written.as_slice() == *bytes, "row {place}");
-        assert!(rt; puts(command, reply, *bytes), "row {place}");
+// Whether this is written back, in memory of its own and to the front of a buffer.
+fn writes_back(alloc: Global, row: &Row) -> bool {
+    let (command, reply, bytes) = row;
+    match encode_reply(alloc, command, reply) {
+        Ok(written) => written.as_slice() == *bytes && puts(command, reply, *bytes),
+        Err(_) => false,
     }
-    Ok(())
+}
+
+fn are_written_back(rt: &impl Abort, alloc: Global, rows: &[Row]) {
+    for (place, row) in rows.iter().enumerate() {
+        assert!(rt; writes_back(alloc, row), "row {place}");
+    }
+}
+
+#[test]
+fn replies_are_written_back(rt: HostRuntime) {
+    let good = good_replies(rt.alloc()).expect(&rt, "memory for the replies");
+    are_written_back(&rt, rt.alloc(), &good);
+    are_written_back(&rt, rt.alloc(), &bad_replies());
 }
 
 const WRITTEN_RANGES: &[u8] =
     b"\x20\0\0\0\x01\0\0\0\x02\0\0\0\0\0\0\0\0\0\0\0\0\0\0\0\0\x10\0\0\0\0\0\0\0\0\0\0\0\0\0\0\xff\xff\xdf\xfe\0\0\0\0\0\0\xf0\xfe\0\0\0\0\xff\xff\xff\xff\x7f\0\0\0";
 
-#[test]
-fn ranges_are_written_as_far_as_there_are_places(rt: HostRuntime) -> Result<(), Fail> {
-    let below = Span::new(0, 0xfedf_ffff).ok_or(NoMemory)?;
-    let above = Span::new(0xfef0_0000, 0x7f_ffff_ffff).ok_or(NoMemory)?;
-    for (places, count) in [(0, 32), (1, 48), (2, 64), (3, 64), (u32::MAX, 64)] {
-        let written = encode_ranges(rt.alloc(), ranges(places), &[below, above])?;
-        assert!(rt;
-            Some(written.as_slice()) == WRITTEN_RANGES.get(..count),
-            "{places}"
-        );
+// Whether so many bytes are written for two ranges, where there are so many places.
+fn are_ranges_written(alloc: Global, places: u32, count: usize) -> bool {
+    let below = Span::new(0, 0xfedf_ffff);
+    let above = Span::new(0xfef0_0000, 0x7f_ffff_ffff);
+    let (Some(below), Some(above)) = (below, above) else {
+        return false;
+    };
+    match encode_ranges(alloc, ranges(places), &[below, above]) {
+        Ok(written) => Some(written.as_slice()) == WRITTEN_RANGES.get(..count),
+        Err(_) => false,
     }
-    Ok(())
+}
+
+#[test]
+fn ranges_are_written_as_far_as_there_are_places(rt: HostRuntime) {
+    for (places, count) in [(0, 32), (1, 48), (2, 64), (3, 64), (u32::MAX, 64)] {
+        assert!(rt; are_ranges_written(rt.alloc(), places, count), "{places}");
+    }
 }
 
 // A MAP whose address the server chooses, with an address all the same.
@@ -361,65 +404,79 @@ const IGNORED_OUTPUT: &[u8] =
 const IGNORED_ID: &[u8] =
     b"\x18\0\0\0\0\0\0\0\x01\x02\x03\x04\x05\x06\x07\x08\xff\xff\xff\xff\0\0\0\0";
 
+// Whether the bytes are this command.
+fn reads_as(alloc: Global, nr: u32, bytes: &[u8], command: Command) -> bool {
+    reads(alloc, &command, nr, bytes)
+}
+
 #[test]
 fn ignored_fields(rt: HostRuntime) {
-    assert!(rt; reads(rt.alloc(), 0x3b85, IGNORED_IOVA, &map(6, 0x2000, 0)));
-    assert!(rt; reads(rt.alloc(), 0x3b83, IGNORED_DST_IOVA, &copy(6, 0)));
+    assert!(rt; reads_as(rt.alloc(), 0x3b85, IGNORED_IOVA, map(6, 0x2000, 0)));
+    assert!(rt; reads_as(rt.alloc(), 0x3b83, IGNORED_DST_IOVA, copy(6, 0)));
     let request = Command::IoasIovaRanges(ranges(1));
-    assert!(rt; reads(rt.alloc(), 0x3b84, IGNORED_OUTPUT, &request));
-    assert!(rt; reads(rt.alloc(), 0x3b89, IGNORED_ID, &hwpt()));
+    assert!(rt; reads_as(rt.alloc(), 0x3b84, IGNORED_OUTPUT, request));
+    assert!(rt; reads_as(rt.alloc(), 0x3b89, IGNORED_ID, hwpt()));
+}
+
+// Whether the bytes are an ALLOC, and this is written back for it with the id 1.
+fn is_allocated(alloc: Global, bytes: &[u8], written: &[u8]) -> bool {
+    match decode(alloc, 0x3b81, bytes) {
+        Ok(command) => {
+            is_same(&command, &Command::IoasAlloc) && puts(&command, &Reply::Id(ObjId(1)), written)
+        }
+        Err(_) => false,
+    }
 }
 
 // A structure of 16 bytes that are zero behind the known ones is read, and one of 12 is written back.
 #[test]
 fn size_written_is_the_structures_own(rt: HostRuntime) {
     let sixteen = b"\x10\0\0\0\0\0\0\0\0\0\0\0\0\0\0\0";
-    assert!(rt; reads(rt.alloc(), 0x3b81, sixteen, &Command::IoasAlloc));
-    if let Ok(command) = decode(rt.alloc(), 0x3b81, sixteen) {
-        assert!(rt; puts(&command, &Reply::Id(ObjId(1)), ALLOCATED));
-    }
+    assert!(rt; is_allocated(rt.alloc(), sixteen, ALLOCATED));
 }
 
 // Whether the bytes with this one in its place are refused for this cause.
-fn refuses_byte(alloc: Global, row: &(u32, &[u8], usize, u8, Cause)) -> Result<bool, AllocError> {
+fn refuses_byte(alloc: Global, row: &(u32, &[u8], usize, u8, Cause)) -> bool {
     let (nr, bytes, place, byte, cause) = *row;
-    let mut bytes = Vec::from_slice(alloc, bytes)?;
+    let Ok(mut bytes) = Vec::from_slice(alloc, bytes) else {
+        return false;
+    };
     if let Some(at) = bytes.get_mut(place) {
         *at = byte;
     }
-    Ok(refuses(alloc, nr, &bytes, cause))
+    refuses(alloc, nr, &bytes, cause)
 }
 
 #[test]
-fn refusals(rt: HostRuntime) -> Result<(), Fail> {
+fn refusals(rt: HostRuntime) {
     for (place, (nr, bytes, cause)) in REFUSED.iter().enumerate() {
         assert!(rt; refuses(rt.alloc(), *nr, *bytes, *cause), "row {place}");
     }
-    for (place, row) in ONE_BYTE_OFF.iter().enumerate() {
-        assert!(rt; refuses_byte(rt.alloc(), row)?, "byte of row {place}");
-    }
-    Ok(())
 }
 
-// Whether a HWPT_ALLOC is refused for each bit of the four bytes from this place on, set alone.
-fn refuses_each_bit(alloc: Global, from: usize) -> Result<bool, AllocError> {
-    for place in from..from.saturating_add(4) {
-        for bit in [1, 2, 4, 8, 16, 32, 64, 128] {
-            if !refuses_byte(alloc, &(0x3b89, HWPT, place, bit, Cause::Unsupported))? {
-                return Ok(false);
-            }
+#[test]
+fn refusals_of_one_byte(rt: HostRuntime) {
+    for (place, row) in ONE_BYTE_OFF.iter().enumerate() {
+        assert!(rt; refuses_byte(rt.alloc(), row), "row {place}");
+    }
+}
+
+// Whether a HWPT_ALLOC is refused for each bit of the byte in this place, set alone.
+fn refuses_each_bit(alloc: Global, place: usize) -> bool {
+    for bit in [1, 2, 4, 8, 16, 32, 64, 128] {
+        if !refuses_byte(alloc, &(0x3b89, HWPT, place, bit, Cause::Unsupported)) {
+            return false;
         }
     }
-    Ok(true)
+    true
 }
 
 // It knows no flag, and its last field is reserved.
 #[test]
-fn each_bit_of_flags_and_reserved_is_unsupported(rt: HostRuntime) -> Result<(), Fail> {
-    for place in [4, 20] {
-        assert!(rt; refuses_each_bit(rt.alloc(), place)?, "{place}");
+fn each_bit_of_flags_and_reserved_is_unsupported(rt: HostRuntime) {
+    for place in [4, 5, 6, 7, 20, 21, 22, 23] {
+        assert!(rt; refuses_each_bit(rt.alloc(), place), "{place}");
     }
-    Ok(())
 }
 
 // Whether each part of the bytes from the first on is too short for the structure, or else for its entries.
@@ -446,22 +503,23 @@ fn less_than_a_structure_is_short(rt: HostRuntime) {
 }
 
 // Whether the bytes with each larger size up to 4096 are this command.
-fn may_grow(alloc: Global, nr: u32, bytes: &[u8], command: &Command) -> Result<bool, AllocError> {
+fn may_grow(alloc: Global, command: &Command, nr: u32, bytes: &[u8]) -> Result<bool, AllocError> {
     for size in parts(bytes).0.len()..4096 {
-        if !reads(alloc, nr, &grown(alloc, bytes, size as u32 + 1)?, command) {
+        if !reads(alloc, command, nr, &grown(alloc, bytes, size as u32 + 1)?) {
             return Ok(false);
         }
     }
     Ok(refuses(alloc, nr, &grown(alloc, bytes, 4097)?, Cause::Tail))
 }
 
+// The same; it wants for no memory.
+fn grows(alloc: Global, command: &Command, nr: u32, bytes: &[u8]) -> bool {
+    may_grow(alloc, command, nr, bytes) == Ok(true)
+}
+
 #[test]
-fn sizes_up_to_4096_are_read(rt: HostRuntime) -> Result<(), Fail> {
-    let commands = commands(rt.alloc())?;
-    for ((nr, bytes), command) in CANONICAL.iter().zip(&commands) {
-        assert!(rt; may_grow(rt.alloc(), *nr, *bytes, command)?, "{nr:x}");
-    }
-    Ok(())
+fn sizes_up_to_4096_are_read(rt: HostRuntime) {
+    all_hold(&rt, rt.alloc(), grows);
 }
 
 // Whether a byte other than zero is seen at each of these places.
@@ -478,31 +536,35 @@ fn is_tail_read(alloc: Global, nr: u32, exact: &mut Vec<u8>, from: usize, to: us
 }
 
 // Whether with this size each byte of the tail is looked at, and one behind it or its entries is too many.
-fn has_tail(alloc: Global, nr: u32, bytes: &[u8], size: u32) -> Result<bool, AllocError> {
-    let mut exact = grown(alloc, bytes, size)?;
+fn has_tail(alloc: Global, nr: u32, bytes: &[u8], size: u32) -> bool {
+    let Ok(mut exact) = grown(alloc, bytes, size) else {
+        return false;
+    };
     let known = parts(bytes).0.len();
     let seen = is_tail_read(alloc, nr, &mut exact, known, size as usize);
-    exact.push(0)?;
-    Ok(seen && refuses(alloc, nr, &exact, Cause::Array))
+    exact.push(0).is_ok() && seen && refuses(alloc, nr, &exact, Cause::Array)
 }
 
 #[test]
-fn each_byte_of_a_tail_is_zero(rt: HostRuntime) -> Result<(), Fail> {
+fn each_byte_of_a_tail_is_zero(rt: HostRuntime) {
     for (nr, bytes) in &CANONICAL {
         let length = u32::from(bytes.first().map_or(0, |first| *first));
         for size in [length.wrapping_add(1), length.wrapping_add(8), 4095, 4096] {
-            assert!(rt; has_tail(rt.alloc(), *nr, *bytes, size)?, "{nr:x} {size}");
+            assert!(rt; has_tail(rt.alloc(), *nr, *bytes, size), "{nr:x} {size}");
         }
     }
-    Ok(())
+}
+
+fn is_unspellable(command: Command) -> bool {
+    !command.is_spellable()
 }
 
 #[test]
 fn commands_without_a_spelling(rt: HostRuntime) {
     // Unknown flags, and an address that isn't fixed.
     for flags in [6, 9, 15, 0] {
-        assert!(rt; !map(flags, 0x2000, 0x1000).is_spellable());
-        assert!(rt; !copy(flags, 0x5000).is_spellable());
+        assert!(rt; is_unspellable(map(flags, 0x2000, 0x1000)));
+        assert!(rt; is_unspellable(copy(flags, 0x5000)));
     }
 }
 
@@ -516,24 +578,24 @@ fn takes_memory<A: Allocator + Copy>(full: A, command: &Command, nr: u32, bytes:
         && decode(full, nr, bytes).err() == has_entries.then_some(DecodeError::Memory(NoMemory))
 }
 
-#[test]
-fn want_of_memory(rt: HostRuntime) -> Result<(), Fail> {
-    // The smallest heap has one block, which is taken.
-    let full = LocalHeap::new(rt.alloc(), 0)?;
-    let _taken: Vec<u8, &LocalHeap> = Vec::with_capacity(&full, 1)?;
-    let commands = commands(rt.alloc())?;
-    for ((nr, bytes), command) in CANONICAL.iter().zip(&commands) {
-        assert!(rt; takes_memory(&full, command, *nr, *bytes), "{nr:x}");
-    }
-    let reply = Reply::Id(ObjId(1));
+// Whether memory is asked for to write back an id, and ranges.
+fn replies_take_memory<A: Allocator + Copy>(full: A) -> bool {
     let alloc: Command = Command::IoasAlloc;
-    assert!(rt; encode_reply(&full, &alloc, &reply).err() == Some(NoMemory));
-    assert!(rt; encode_ranges(&full, ranges(1), &[]).err() == Some(NoMemory));
+    encode_reply(full, &alloc, &Reply::Id(ObjId(1))).err() == Some(NoMemory)
+        && encode_ranges(full, ranges(1), &[]).err() == Some(NoMemory)
+}
+
+#[test]
+fn want_of_memory(rt: HostRuntime) {
+    // The smallest heap has one block, which is taken.
+    let full = LocalHeap::new(rt.alloc(), 0).expect(&rt, "memory for a heap");
+    let taken: Result<Vec<u8, &LocalHeap>, AllocError> = Vec::with_capacity(&full, 1);
+    assert!(rt; taken.is_ok());
+    all_hold(&rt, rt.alloc(), |_, command, nr, bytes| {
+        takes_memory(&full, command, nr, bytes)
+    });
+    assert!(rt; replies_take_memory(&full));
     // Entries that aren't there are refused before memory is asked for.
     let most = b"\x18\0\0\0\x01\0\0\0\xff\xff\xff\xff\0\0\0\0\0\0\0\0\0\0\0\0";
-    let array = DecodeError::Refused(Refusal {
-        cause: Cause::Array,
-    });
-    assert!(rt; decode(&full, 0x3b82, most).err() == Some(array));
-    Ok(())
+    assert!(rt; refuses(&full, 0x3b82, most, Cause::Array));
 }

@@ -1,10 +1,10 @@
 //! What scripts say, and want of memory. Bad lines and limits are scripts of `tests/lines`.
 
-use iofd_words::{DeviceConfig, UserNo};
+use iofd_words::{Config, DeviceConfig, UserNo};
 use iommufd_script::{HexBytes, Line, ScriptError, Step, Steps, laws, parse_line, read_script};
 use linked_list_allocator::LocalHeap;
 use std::alloc::{AllocError, Allocator, Global};
-use std::test::Fail;
+use std::process::Abort;
 
 // A map, reads and a write of the device, an unmap that waits for a flush, and destroys.
 static WORKED: &str = "pool 8
@@ -112,36 +112,55 @@ fn are_written(digits: &HexBytes, bytes: &[u8]) -> bool {
     &buffer[..len] == bytes
 }
 
-// Whether the step says this.
-fn says(alloc: Global, step: &Step, said: Said) -> bool {
+// Whether a file's step says this.
+fn file_says(alloc: Global, step: &Step, said: Said) -> bool {
     match (step, said) {
         (Step::Ioctl(file, number, digits), Said::Ioctl(of, nr, bytes)) => {
             file.0 == of && *number == nr && are(alloc, digits, bytes)
         }
         (Step::Close(file), Said::Close(of)) => file.0 == of,
-        (Step::UserMap(user, at), Said::UserMap(of, va)) => user.0 == of && *at == va,
-        (Step::UserUnmap(user, at), Said::UserUnmap(of, va)) => user.0 == of && *at == va,
+        (Step::Bind(file, device), Said::Bind(to, of)) => (file.0 == to) & (device.0 == of),
+        (Step::Unbind(file, id), Said::Unbind(of, at)) => (file.0 == of) & (id.0 == at),
+        _ => false,
+    }
+}
+
+// Whether a step of a user's memory, or of all memory, says this.
+fn memory_says(step: &Step, said: Said) -> bool {
+    match (step, said) {
+        (Step::UserMap(user, at), Said::UserMap(of, va)) => (user.0 == of) & (*at == va),
+        (Step::UserUnmap(user, at), Said::UserUnmap(of, va)) => (user.0 == of) & (*at == va),
         (Step::UserRead(user, at, count), Said::UserRead(of, va, bytes)) => {
-            user.0 == of && *at == va && *count == bytes
+            (user.0 == of) & (*at == va) & (*count == bytes)
         }
         (Step::UserWrite(user, at, digits), Said::UserWrite(of, va, bytes)) => {
-            user.0 == of && *at == va && digits.burst().as_slice() == bytes
-        }
-        (Step::Bind(file, device), Said::Bind(to, of)) => file.0 == to && device.0 == of,
-        (Step::Unbind(file, id), Said::Unbind(of, at)) => file.0 == of && id.0 == at,
-        (Step::Attach(device, space), Said::Attach(of, to)) => device.0 == of && space.0 == to,
-        (Step::Detach(device), Said::Detach(of)) => device.0 == of,
-        (Step::Flush(device), Said::Flush(of)) => device.0 == of,
-        (Step::DeviceRead(device, iova, count), Said::Read(of, at, bytes)) => {
-            device.0 == of && iova.0 == at && *count == bytes
-        }
-        (Step::DeviceWrite(device, iova, digits), Said::Write(of, at, bytes)) => {
-            device.0 == of && iova.0 == at && digits.burst().as_slice() == bytes
+            (user.0 == of) & (*at == va) && digits.burst().as_slice() == bytes
         }
         (Step::FreeFrames, Said::FreeFrames) => true,
         (Step::Held(user), Said::Held(of)) => user.0 == of,
         _ => false,
     }
+}
+
+// Whether a device's step says this.
+fn device_says(step: &Step, said: Said) -> bool {
+    match (step, said) {
+        (Step::Attach(device, space), Said::Attach(of, to)) => (device.0 == of) & (space.0 == to),
+        (Step::Detach(device), Said::Detach(of)) => device.0 == of,
+        (Step::Flush(device), Said::Flush(of)) => device.0 == of,
+        (Step::DeviceRead(device, iova, count), Said::Read(of, at, bytes)) => {
+            (device.0 == of) & (iova.0 == at) & (*count == bytes)
+        }
+        (Step::DeviceWrite(device, iova, digits), Said::Write(of, at, bytes)) => {
+            (device.0 == of) & (iova.0 == at) && digits.burst().as_slice() == bytes
+        }
+        _ => false,
+    }
+}
+
+// Whether the step says this.
+fn says(alloc: Global, step: &Step, said: Said) -> bool {
+    file_says(alloc, step, said) || memory_says(step, said) || device_says(step, said)
 }
 
 // Whether the next step says this.
@@ -158,28 +177,38 @@ fn is_plain(device: &DeviceConfig, source: u16, bits: u8) -> bool {
     device.source().0 == source && device.width().bits() == bits && !device.is_x86() && spans == 0
 }
 
-#[test]
-fn a_head_says_the_configuration(rt: HostRuntime) -> Result<(), Fail> {
-    let (config, mut steps) = read_script(rt.alloc(), WORKED.as_bytes())?;
-    assert!(rt; config.pool() == 8 && config.passes() == 1);
-    assert!(rt; config.users() == [4].as_slice());
-    assert!(rt; config.files() == [UserNo(1), UserNo(1)].as_slice());
-    assert_eq!(rt; config.devices().len(), 1);
-    assert!(rt; is_plain(&config.devices()[0], 0x18, 39));
-    assert!(rt; steps.next_step().is_some());
-    Ok(())
+// Whether it has this pool, user and files, and one plain device.
+fn is_head_of_worked(config: &Config) -> bool {
+    let files = [UserNo(1), UserNo(1)];
+    let ends = config.pool() == 8 && config.passes() == 1;
+    let lists = config.users() == [4].as_slice() && config.files() == files.as_slice();
+    match config.devices() {
+        [device] => ends && lists && is_plain(device, 0x18, 39),
+        _ => false,
+    }
 }
 
 #[test]
-fn steps_come_in_order(rt: HostRuntime) -> Result<(), Fail> {
-    let mut steps = Steps::read(rt.alloc(), WORKED.as_bytes())?;
+fn a_head_says_the_configuration(rt: HostRuntime) {
+    let read = read_script(rt.alloc(), WORKED.as_bytes());
+    let (config, mut steps) = read.expect(&rt, "a good script");
+    assert!(rt; is_head_of_worked(&config));
+    assert!(rt; steps.next_step().is_some());
+}
+
+fn worked_steps_say(rt: &impl Abort, alloc: Global, steps: &mut Steps) {
     for (place, said) in WORKED_STEPS.iter().enumerate() {
-        assert!(rt; next_says(rt.alloc(), &mut steps, *said), "step {place}");
+        assert!(rt; next_says(alloc, steps, *said), "step {place}");
     }
+}
+
+#[test]
+fn steps_come_in_order(rt: HostRuntime) {
+    let mut steps = Steps::read(rt.alloc(), WORKED.as_bytes()).expect(&rt, "a good script");
+    worked_steps_say(&rt, rt.alloc(), &mut steps);
     assert!(rt; steps.next_step().is_none() && steps.next_step().is_none());
     laws::good_scripts();
     laws::first_bad_lines();
-    Ok(())
 }
 
 // Why the script isn't read.
@@ -237,21 +266,38 @@ fn reserves(device: &DeviceConfig, spans: &[(u64, u64)]) -> bool {
         && pairs.all(|(span, ends)| span.first() == ends.0 && span.last() == ends.1)
 }
 
+// Whether it has one device, with this width, mark and reserved spans.
+fn has_device(config: &Config, bits: u8, x86: bool, spans: &[(u64, u64)]) -> bool {
+    match config.devices() {
+        [device] => {
+            device.source().0 == 0x18
+                && device.width().bits() == bits
+                && device.is_x86() == x86
+                && reserves(device, spans)
+        }
+        _ => false,
+    }
+}
+
+// Whether the script is read, has such a device, and no step.
+fn is_device_read(alloc: Global, text: &str, bits: u8, x86: bool, spans: &[(u64, u64)]) -> bool {
+    match read_script(alloc, text.as_bytes()) {
+        Ok((config, mut steps)) => {
+            has_device(&config, bits, x86, spans) & steps.next_step().is_none()
+        }
+        Err(_) => false,
+    }
+}
+
 #[test]
-fn a_device_line_says_its_width_its_mark_and_its_spans(rt: HostRuntime) -> Result<(), Fail> {
+fn a_device_line_says_its_width_its_mark_and_its_spans(rt: HostRuntime) {
     for (fields, bits, x86, spans) in &DEVICES {
-        let text = with_device(rt.alloc(), fields)?;
-        let (config, mut steps) = read_script(rt.alloc(), text.as_bytes())?;
-        assert_eq!(rt; config.devices().len(), 1);
-        let device = &config.devices()[0];
-        assert!(rt; device.source().0 == 0x18 && device.width().bits() == *bits);
+        let text = with_device(rt.alloc(), fields).expect(&rt, "memory for a script");
         assert!(rt;
-            device.is_x86() == *x86 && reserves(device, spans),
+            is_device_read(rt.alloc(), &text, *bits, *x86, spans),
             "{fields}"
         );
-        assert!(rt; steps.next_step().is_none());
     }
-    Ok(())
 }
 
 static NUMBERS: [(&str, Said<'static>); 5] = [
@@ -304,36 +350,41 @@ fn line_says(alloc: Global, line: &str, said: Said) -> bool {
     }
 }
 
+fn lines_say(rt: &impl Abort, alloc: Global, rows: &[(&'static str, Said<'static>)]) {
+    for (line, said) in rows {
+        assert!(rt; line_says(alloc, line, *said), "{line}");
+    }
+}
+
 #[test]
 fn numbers_have_zeros_before_them_and_either_case(rt: HostRuntime) {
-    for (line, said) in &NUMBERS {
-        assert!(rt; line_says(rt.alloc(), line, *said), "{line}");
-    }
+    lines_say(&rt, rt.alloc(), &NUMBERS);
 }
 
 #[test]
 fn devices_are_bound_and_unbound(rt: HostRuntime) {
-    for (line, said) in &BINDING_STEPS {
-        assert!(rt; line_says(rt.alloc(), line, *said), "{line}");
-    }
+    lines_say(&rt, rt.alloc(), &BINDING_STEPS);
 }
 
 #[test]
 fn users_read_and_write_and_give_up_pages(rt: HostRuntime) {
-    for (line, said) in &MEMORY_STEPS {
-        assert!(rt; line_says(rt.alloc(), line, *said), "{line}");
-    }
+    lines_say(&rt, rt.alloc(), &MEMORY_STEPS);
+}
+
+// Whether a script that is right is told to want for memory, and others by their bad lines.
+fn tells_bad_lines<A: Allocator + Copy>(full: A) -> bool {
+    // The first step has no place, and the line behind it is bad.
+    let bad = "pool 8\nuser 4\nfile 1\nbegin\nclose 1\nclose\n";
+    error(full, WORKED) == Some(ScriptError::NoMemory)
+        && error(full, "pool 8\n") == Some(ScriptError::BadLine(2))
+        && error(full, bad) == Some(ScriptError::BadLine(6))
 }
 
 #[test]
-fn a_bad_line_is_told_without_memory(rt: HostRuntime) -> Result<(), Fail> {
+fn a_bad_line_is_told_without_memory(rt: HostRuntime) {
     // The smallest heap has one block, which is taken.
-    let full = LocalHeap::new(rt.alloc(), 0)?;
-    let _taken: Vec<u8, &LocalHeap> = Vec::with_capacity(&full, 1)?;
-    assert!(rt; error(&full, WORKED) == Some(ScriptError::NoMemory));
-    assert!(rt; error(&full, "pool 8\n") == Some(ScriptError::BadLine(2)));
-    // The first step has no place, and the line behind it is bad.
-    let bad = "pool 8\nuser 4\nfile 1\nbegin\nclose 1\nclose\n";
-    assert!(rt; error(&full, bad) == Some(ScriptError::BadLine(6)));
-    Ok(())
+    let full = LocalHeap::new(rt.alloc(), 0).expect(&rt, "memory for a heap");
+    let taken: Result<Vec<u8, &LocalHeap>, AllocError> = Vec::with_capacity(&full, 1);
+    assert!(rt; taken.is_ok());
+    assert!(rt; tells_bad_lines(&full));
 }

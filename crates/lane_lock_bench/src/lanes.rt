@@ -110,14 +110,29 @@ pub fn reads<R: Threads + Wait + Sync>(
     requires { (1 ≤ lanes) × (lanes ≤ 64) × (1 ≤ apart) × (apart ≤ 256) }
 {
     let entries = Entries::of_one(alloc).ok()?;
-    let (lock, mut passes) = LaneLock::new(alloc, entries, lanes, 4 * apart).ok()?;
-    let p3 = pass_after(&lock, &mut passes, apart - 1)?;
-    let p2 = pass_after(&lock, &mut passes, apart - 1)?;
-    let p1 = pass_after(&lock, &mut passes, apart - 1)?;
-    let p0 = pass_after(&lock, &mut passes, apart - 1)?;
+    let (lock, passes) = LaneLock::new(alloc, entries, lanes, 4 * apart).ok()?;
+    crowd_reads(rt, &lock, passes, apart, crowd, count)
+}
+
+// The crowd reads by the last of these passes and those that stand so far apart from it.
+fn crowd_reads<R: Threads + Wait + Sync>(
+    rt: &R,
+    lock: &LaneLock<Entries>,
+    mut passes: Vec<Pass<Entries>>,
+    apart: u16,
+    crowd: Crowd,
+    count: u64,
+) -> Option<u64>
+    requires passes { OwnsAll lock.now passes.items }
+    requires apart { 1 ≤ apart }
+{
+    let p3 = pass_after(lock, &mut passes, apart - 1)?;
+    let p2 = pass_after(lock, &mut passes, apart - 1)?;
+    let p1 = pass_after(lock, &mut passes, apart - 1)?;
+    let p0 = pass_after(lock, &mut passes, apart - 1)?;
     Some(match crowd {
-        Crowd::One => one(rt, &lock, p0, count),
-        Crowd::Two => two(rt, &lock, p0, p1, count),
-        Crowd::Four => four(rt, &lock, p0, p1, p2, p3, count),
+        Crowd::One => one(rt, lock, p0, count),
+        Crowd::Two => two(rt, lock, p0, p1, count),
+        Crowd::Four => four(rt, lock, p0, p1, p2, p3, count),
     })
 }

@@ -124,16 +124,16 @@ fn passes_meet(
     lock: LaneLock<Numbers>,
     mut p0: Pass<Numbers>,
     mut p1: Pass<Numbers>,
-    passes: Vec<Pass<Numbers>>,
+    alloc: Global,
 ) -> bool
-    requires { Owns lock p0 × Owns lock p1 × (passes.items ≡ []) }
+    requires { Owns lock p0 × Owns lock p1 }
 {
     let added = add(&lock, &mut p0, 7) == Some(Ok(0));
     let apart = p0.seen() == 1 && p1.seen() == 0;
     lock.meet(&mut p0, &mut p1);
     let together = p0.seen() == 1 && p1.seen() == 1;
     let given_back = refusal_of_write(&lock, &mut p1).is_none();
-    added && apart && together && given_back && closes_with_both(lock, p0, p1, passes)
+    added && apart && together && given_back && closes_with_both(lock, p0, p1, alloc)
 }
 
 // One pass alone can't close the lock; both can.
@@ -141,20 +141,29 @@ fn closes_with_both(
     lock: LaneLock<Numbers>,
     p0: Pass<Numbers>,
     p1: Pass<Numbers>,
-    mut passes: Vec<Pass<Numbers>>,
+    alloc: Global,
 ) -> bool
-    requires { Owns lock p0 × Owns lock p1 × (passes.items ≡ []) }
+    requires { Owns lock p0 × Owns lock p1 }
 {
-    if passes.push(p0).is_err() {
-        return false;
-    }
-    let Err(CloseError::NotAll { lock, mut passes }) = lock.close(passes) else {
+    let Ok(alone) = vec![in alloc; p0] else {
         return false;
     };
-    if passes.push(p1).is_err() {
-        return false;
+    match lock.close(alone) {
+        Err(CloseError::NotAll { lock, passes }) => closes_with(lock, passes, p1),
+        _ => false,
     }
-    match lock.close(passes) {
+}
+
+// Whether the lock closes with this pass behind the others, over the one number.
+fn closes_with(lock: LaneLock<Numbers>, mut passes: Vec<Pass<Numbers>>, last: Pass<Numbers>) -> bool
+    requires { OwnsAll lock passes.items × Owns lock last }
+{
+    put_last(&lock, &mut passes, last) && has_seven(lock.close(passes))
+}
+
+// Whether a lock was closed over the number 7 of pass 0 alone.
+fn has_seven(closed: Result<Numbers, CloseError<Numbers>>) -> bool {
+    match closed {
         Ok(numbers) => numbers.entries.len() == 1 && numbers.has_of(PassNo(0), &[7]),
         Err(_) => false,
     }
@@ -188,24 +197,26 @@ fn dropped_guards(lock: &LaneLock<Numbers>, p0: &mut Pass<Numbers>, p1: &mut Pas
     read_again && written && after && shown(lock, p1) == Ok(0)
 }
 
-// A forgotten guard keeps its lane, for its own pass too. The other lane serves, and the lock can't be closed.
-fn forgotten_guard(
-    lock: LaneLock<Numbers>,
-    mut p0: Pass<Numbers>,
-    mut p1: Pass<Numbers>,
-    mut passes: Vec<Pass<Numbers>>,
-) -> bool
-    requires { Owns lock p0 × Owns lock p1 × (passes.items ≡ []) }
+// A forgotten guard keeps its lane, for its own pass too. The other lane serves.
+fn forgotten_guard(lock: &LaneLock<Numbers>, p0: &mut Pass<Numbers>, p1: &mut Pass<Numbers>) -> bool
+    requires { Owns lock.now p0.old × Owns lock.now p1.old }
+    ensures { Owns lock.now p0.new × Owns lock.now p1.new }
 {
-    let taken = forgets_guard(&lock, &mut p0);
-    let own = shown(&lock, &mut p0) == Err(NotNow::Busy(busy(0, 0)));
-    let written = refusal_of_write(&lock, &mut p1) == Some(busy(0, 0));
-    let read = shown(&lock, &mut p1) == Ok(0);
-    if passes.push(p0).is_err() || passes.push(p1).is_err() {
-        return false;
+    let taken = forgets_guard(lock, p0);
+    let own = shown(lock, p0) == Err(NotNow::Busy(busy(0, 0)));
+    let written = refusal_of_write(lock, p1) == Some(busy(0, 0));
+    let read = shown(lock, p1) == Ok(0);
+    taken && own && written && read
+}
+
+// Whether the lock can't be closed with both of its passes.
+fn stays_open(lock: LaneLock<Numbers>, p0: Pass<Numbers>, p1: Pass<Numbers>, alloc: Global) -> bool
+    requires { Owns lock p0 × Owns lock p1 }
+{
+    match vec![in alloc; p0, p1] {
+        Ok(passes) => hands_back_both(lock.close(passes)),
+        Err(_) => false,
     }
-    let open = hands_back_both(lock.close(passes));
-    taken && own && written && read && open
 }
 
 // Whether a lock was not closed, and two passes come back with it.
@@ -236,24 +247,31 @@ fn forgets_guard(lock: &LaneLock<Numbers>, pass: &mut Pass<Numbers>) -> bool
     }
 }
 
+// Whether the passes have their numbers, and their lanes, of which there are two.
+fn are_numbered(p0: &Pass<Numbers>, p1: &Pass<Numbers>, p2: &Pass<Numbers>) -> bool {
+    p0.number() == PassNo(0)
+        && p1.number() == PassNo(1)
+        && p2.number() == PassNo(2)
+        && (p0.lane(), p1.lane(), p2.lane()) == (0, 1, 0)
+}
+
+// The three passes of a lock of two lanes, and what two of them do while the third writes.
+fn two_readers(lock: &LaneLock<Numbers>, mut passes: Vec<Pass<Numbers>>) -> Option<bool>
+    requires { OwnsAll lock.now passes.items }
+{
+    let mut p2 = last_pass(lock, &mut passes)?;
+    let mut p1 = last_pass(lock, &mut passes)?;
+    let mut p0 = last_pass(lock, &mut passes)?;
+    let are_all = passes.is_empty() && are_numbered(&p0, &p1, &p2);
+    Some(are_all && readers_refuse_a_writer(lock, &mut p0, &mut p1, &mut p2))
+}
+
 #[test]
 fn two_readers_refuse_a_writer(rt: HostRuntime) {
-    let Some((lock, mut passes)) = new_lock(rt.alloc(), 8, 2, 3) else {
+    let Some((lock, passes)) = new_lock(rt.alloc(), 8, 2, 3) else {
         panic!(rt; "no memory");
     };
-    assert!(rt; passes.len() == 3);
-    let Some(mut p2) = last_pass(&lock, &mut passes) else {
-        panic!(rt; "no pass");
-    };
-    let Some(mut p1) = last_pass(&lock, &mut passes) else {
-        panic!(rt; "no pass");
-    };
-    let Some(mut p0) = last_pass(&lock, &mut passes) else {
-        panic!(rt; "no pass");
-    };
-    assert!(rt; p0.number() == PassNo(0) && p1.number() == PassNo(1) && p2.number() == PassNo(2));
-    assert!(rt; p0.lane() == 0 && p1.lane() == 1 && p2.lane() == 0);
-    assert!(rt; readers_refuse_a_writer(&lock, &mut p0, &mut p1, &mut p2));
+    assert!(rt; two_readers(&lock, passes) == Some(true));
 }
 
 #[test]
@@ -261,7 +279,7 @@ fn a_record_is_met(rt: HostRuntime) {
     let Some((lock, p0, p1)) = lock_of_two(rt.alloc(), 8) else {
         panic!(rt; "no memory");
     };
-    assert!(rt; passes_meet(lock, p0, p1, Vec::new(rt.alloc())));
+    assert!(rt; passes_meet(lock, p0, p1, rt.alloc()));
 }
 
 #[test]
@@ -282,10 +300,11 @@ fn dropped_guards_put_their_lanes_back(rt: HostRuntime) {
 
 #[test]
 fn a_forgotten_guard_keeps_its_lane(rt: HostRuntime) {
-    let Some((lock, p0, p1)) = lock_of_two(rt.alloc(), 8) else {
+    let Some((lock, mut p0, mut p1)) = lock_of_two(rt.alloc(), 8) else {
         panic!(rt; "no memory");
     };
-    assert!(rt; forgotten_guard(lock, p0, p1, Vec::new(rt.alloc())));
+    assert!(rt; forgotten_guard(&lock, &mut p0, &mut p1));
+    assert!(rt; stays_open(lock, p0, p1, rt.alloc()));
 }
 
 // Puts the pass behind the others, if there is memory.

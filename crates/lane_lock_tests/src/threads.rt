@@ -6,7 +6,8 @@ ghost use Rattle.lane_lock.specs.Passes.{Owns};
 use crate::numbers::Numbers;
 use crate::one_thread::{last_pass, new_lock};
 use iofd_words::PassNo;
-use lane_lock::{LaneLock, Pass};
+use lane_lock::{CloseError, LaneLock, Pass};
+use std::alloc::Global;
 use std::sync::Wait;
 use std::thread::{Threads, join};
 
@@ -89,18 +90,20 @@ fn closes_in_order(
         (Pass<Numbers>, Pass<Numbers>),
         (Pass<Numbers>, Pass<Numbers>),
     ),
-    mut passes: Vec<Pass<Numbers>>,
+    alloc: Global,
 ) -> bool
-    requires { Owns lock done.0.0 × Owns lock done.0.1 × Owns lock done.1.0 × Owns lock done.1.1 × (passes.items ≡ []) }
+    requires { Owns lock done.0.0 × Owns lock done.0.1 × Owns lock done.1.0 × Owns lock done.1.1 }
 {
     let ((p0, p1), (p2, p3)) = done;
-    if passes.push(p0).is_err() || passes.push(p1).is_err() {
-        return false;
+    match vec![in alloc; p0, p1, p2, p3] {
+        Ok(passes) => count_up(lock.close(passes)),
+        Err(_) => false,
     }
-    if passes.push(p2).is_err() || passes.push(p3).is_err() {
-        return false;
-    }
-    match lock.close(passes) {
+}
+
+// Whether a lock was closed, and each of the four passes added the numbers in order.
+fn count_up(closed: Result<Numbers, CloseError<Numbers>>) -> bool {
+    match closed {
         Ok(numbers) => (0..4).all(|pass| numbers.counts_up(PassNo(pass), ROUNDS)),
         Err(_) => false,
     }
@@ -124,5 +127,5 @@ fn four_threads_make_each_record_once(rt: HostRuntime) {
         panic!(rt; "no pass");
     };
     let done = four(&rt, &lock, p0, p1, p2, p3);
-    assert!(rt; closes_in_order(lock, done, Vec::new(rt.alloc())));
+    assert!(rt; closes_in_order(lock, done, rt.alloc()));
 }

@@ -1,9 +1,9 @@
 //! Each growth refused in turn: nothing changes, and the call repeated with memory answers as with ample memory.
 
-use crate::objects::{Answer, Call, Memory, asked};
-use frame_memory::{Pool, UserMap};
+use crate::memory::{Answer, Memory};
+use crate::objects::{Call, asked};
+use iofd_words::NoMemory;
 use linked_list_allocator::LocalHeap;
-use mem_account::Accounts;
 use memory_objects::MemoryObjects;
 use std::alloc::{AllocError, Global};
 use std::test::Fail;
@@ -60,16 +60,15 @@ type Objects<'a> = MemoryObjects<&'a LocalHeap>;
 
 /// The answers to all questions.
 fn answers<'a>(
-    alloc: Global,
     heap: &'a LocalHeap,
     objects: &mut Objects<'a>,
     memory: &mut Memory,
-) -> Result<Vec<Answer>, AllocError> {
-    let mut told = Vec::new(alloc);
-    for question in &QUESTIONS {
-        told.push(asked(objects, memory, heap, *question))?;
+) -> [Answer; 14] {
+    let mut told = [Answer::Nothing; 14];
+    for (answer, question) in told.iter_mut().zip(&QUESTIONS) {
+        *answer = asked(objects, memory, heap, *question);
     }
-    Ok(told)
+    told
 }
 
 /// Takes all that the heap has left, in blocks of its least size.
@@ -108,36 +107,52 @@ fn asked_at_last<'a>(
     objects: &mut Objects<'a>,
     memory: &mut Memory,
     call: Call,
-) -> Result<Option<(Answer, u64)>, AllocError> {
-    let before = answers(alloc, heap, objects, memory)?;
+) -> Option<(Answer, u64)> {
+    let before = answers(heap, objects, memory);
     for left in 0..2048u64 {
-        let answer = asked_with(alloc, heap, objects, memory, call, left)?;
+        let answer = asked_with(alloc, heap, objects, memory, call, left).ok()?;
         if answer != Answer::NoMemory {
-            return Ok(Some((answer, left)));
+            return Some((answer, left));
         }
-        if answers(alloc, heap, objects, memory)? != before {
-            return Ok(None);
+        if answers(heap, objects, memory) != before {
+            return None;
         }
     }
-    Ok(None)
+    None
+}
+
+/// How many calls of the script answer as they should, from the first on, and how many of them found too little memory.
+fn asked_in_turn<'a>(
+    alloc: Global,
+    heap: &'a LocalHeap,
+    objects: &mut Objects<'a>,
+    memory: &mut Memory,
+) -> (u64, u64) {
+    let (mut right, mut refused) = (0_u64, 0_u64);
+    for (call, wanted) in &SCRIPT {
+        match asked_at_last(alloc, heap, objects, memory, *call) {
+            Some((answer, refusals)) if answer == *wanted => {
+                right = right.saturating_add(1);
+                refused = refused.saturating_add(u64::from(refusals > 0));
+            }
+            _ => return (right, refused),
+        }
+    }
+    (right, refused)
+}
+
+/// The same of no objects, in a heap of their own.
+fn asked_of_none(alloc: Global) -> Result<(u64, u64), NoMemory> {
+    let mut memory = Memory::new(alloc, &[10])?;
+    let heap = LocalHeap::new(alloc, 1 << 13)?;
+    let mut objects = MemoryObjects::new(&heap);
+    Ok(asked_in_turn(alloc, &heap, &mut objects, &mut memory))
 }
 
 #[test]
 fn a_refused_growth_changes_nothing(rt: HostRuntime) -> Result<(), Fail> {
-    let heap = LocalHeap::new(rt.alloc(), 1 << 13)?;
-    let mut memory = Memory {
-        pool: Pool::new(rt.alloc(), 4)?,
-        users: UserMap::new(rt.alloc()),
-        accounts: Accounts::new(rt.alloc(), &[10])?,
-    };
-    let mut objects = MemoryObjects::new(&heap);
-    let mut refused_calls = 0_u32;
-    for (call, wanted) in &SCRIPT {
-        let given = asked_at_last(rt.alloc(), &heap, &mut objects, &mut memory, *call)?;
-        let (answer, refusals) = given.ok_or("want of memory changed an answer")?;
-        assert_eq!(rt; answer, *wanted);
-        refused_calls = refused_calls.saturating_add(u32::from(refusals > 0));
-    }
-    assert!(rt; refused_calls >= 4, "calls that grow: {refused_calls}");
+    let (right, refused) = asked_of_none(rt.alloc())?;
+    assert_eq!(rt; right, 24, "calls that answer as with ample memory");
+    assert!(rt; refused >= 4, "calls that grow: {refused}");
     Ok(())
 }

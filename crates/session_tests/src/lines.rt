@@ -6,7 +6,7 @@ use iofd_words::{
     MapRequest, ObjId, RangeList, Refusal, Reply, SourceId, UnmapRequest,
 };
 use iommufd_cli::{Line, bad_line, no_memory_line};
-use std::test::Fail;
+use std::alloc::Global;
 
 const MAP: MapRequest = MapRequest {
     flags: MapFlags(7),
@@ -44,7 +44,7 @@ static REFUSALS: [(Cause, &str); 4] = [
 // A read that the device 0010 isn't attached for.
 const UNATTACHED: Fault = Fault {
     source: SourceId(0x10),
-    page: 9,
+    page: u64::MAX,
     kind: AccessKind::Read,
     reason: FaultReason::NoContext,
 };
@@ -61,24 +61,19 @@ fn tells_reply(reply: &Reply, text: &str) -> bool {
 }
 
 // Replies with numbers that no short script leads to, and their lines. The others are in scripts.
-static REPLIES: [(Reply, &str); 2] = [
+static REPLIES: [(Reply, &str); 3] = [
     (Reply::Id(ObjId(0x7fff_ffff)), "ok id 2147483647\n"),
     (Reply::Frame(FrameNo(120)), "ok frame 120\n"),
+    (
+        Reply::Fault(UNATTACHED),
+        "fault 2 source 0010 page ffffffffffffffff read\n",
+    ),
 ];
-
-static PAGES: [(u64, &str); 1] = [(u64::MAX, "fault 2 source 0010 page ffffffffffffffff read\n")];
 
 #[test]
 fn steps(rt: HostRuntime) {
     for (reply, text) in &REPLIES {
         assert!(rt; tells_reply(reply, text), "{text}");
-    }
-    for (page, text) in &PAGES {
-        let fault = Fault {
-            page: *page,
-            ..UNATTACHED
-        };
-        assert!(rt; tells_reply(&Reply::Fault(fault), text), "{text}");
     }
 }
 
@@ -135,30 +130,40 @@ fn tells_bare(command: &Command) -> bool {
     BARE.iter().all(|(reply, text)| tells(command, reply, text))
 }
 
-#[test]
-fn ioctls(rt: HostRuntime) {
-    for (command, reply, text) in &GOOD {
-        assert!(rt; tells(command, reply, text), "{text}");
-        assert!(rt; tells_bare(command), "{text}");
-    }
+// Whether the command's line for its good reply is this text, and each of the bare replies has its line.
+fn tells_each(row: &(Command, Reply, &str)) -> bool {
+    let (command, reply, text) = row;
+    tells(command, reply, text) && tells_bare(command)
 }
 
 #[test]
-fn allowed_ranges(rt: HostRuntime) -> Result<(), Fail> {
+fn ioctls(rt: HostRuntime) {
+    for (place, row) in GOOD.iter().enumerate() {
+        assert!(rt; tells_each(row), "row {place}");
+    }
+}
+
+// Whether the line for a list of so many ranges is this text, and each of the bare replies has its line.
+fn tells_allowed(alloc: Global, count: usize, text: &str) -> bool {
     let range = IovaRange {
         start: 0x2000,
         last: 0x2fff,
     };
+    let Ok(ranges) = vec![in alloc; range; count] else {
+        return false;
+    };
+    let command = Command::IoasAllowIovas(ObjId(1), RangeList::new(ranges));
+    tells(&command, &Reply::Done, text) && tells_bare(&command)
+}
+
+#[test]
+fn allowed_ranges(rt: HostRuntime) {
     for (count, text) in [
         (0, "0 180000000100000000000000000000000000000000000000\n"),
         (2, "0 180000000100000002000000000000000000000000000000\n"),
     ] {
-        let ranges = RangeList::new(vec![in rt.alloc(); range; count]?);
-        let command = Command::IoasAllowIovas(ObjId(1), ranges);
-        assert!(rt; tells(&command, &Reply::Done, text), "{text}");
-        assert!(rt; tells_bare(&command), "{text}");
+        assert!(rt; tells_allowed(rt.alloc(), count, text), "{text}");
     }
-    Ok(())
 }
 
 #[test]
