@@ -36,7 +36,7 @@ impl<A: Allocator> State<A> {
 
     /// How many tables a new page table of this width over the file's address space of this id would have, its root
     /// among them: so many frames does it take. No area reaches beyond the width. It goes through the areas once for
-    /// each level, and takes no memory.
+    /// each level at which they don't all lie in one table, and takes no memory.
     pub fn tables_for_new(&self, file: FileNo, ioas: ObjId, width: Width) -> u64
         requires known { IsKnown self.now }
         requires within { list_any (λ area. meets (beyond width) area.span)

@@ -51,7 +51,7 @@ abbrev pub AreWhole : List Area → Type 0
 AreWhole areas = All (λ area. is_whole_pages area.span ≡ true) areas
 
 -- no page lies before the one where they may begin
-pages_from : (low : ℕ) (areas : List Area) → AreApartFrom low areas → AreWhole areas
+pub pages_from : (low : ℕ) (areas : List Area) → AreApartFrom low areas → AreWhole areas
     → AllByRecursion (λ q. page_of low ≤ q) (live_pages areas)
 pages_from low [] apart whole = tt
 pages_from low (area ∷ areas) apart whole =

@@ -4,6 +4,7 @@ pub mod Lacking
 pub mod LeastFrames
 pub mod LevelNumbers
 pub mod OnePage
+pub mod OneTable
 pub mod SpanMapped
 pub mod SpanNeeds
 pub mod SpanPages

@@ -1,8 +1,7 @@
-use Rattle.std.proofs.Common.{◌≡◌, ℕ, ◌-◌, List, refl, ap, ◌∙◌, arith}
+use Rattle.std.proofs.Common.{◌≡◌, ℕ, ◌-◌, refl, ap, arith}
 use Rattle.std.specs.List.{range_with_len, sum_by}
 use Rattle.iofd_words.specs.Levels.{levels_of}
 use Rattle.iofd_words.specs.TablePlaces.{live_pages}
-use Rattle.iofd_words.specs.declared.rows.Area.{Area}
 use Rattle.table_words.proofs.Needs.{sum_range_more}
 use Rattle.table_words.proofs.Tops.{some_levels}
 use Rattle.table_spans.proofs.AreaTables.{nothing, root_alone}
@@ -15,8 +14,7 @@ loop-level-preserved g c =
     let level = c.loop-level.level in
     let small = c.loop-level.invariant.small in
     let value = c.loop-level.invariant.value in
-    let here = c.tables_at-total.ensures.value
-    ∙ ap (λ (list : List Area). lacked_at nothing (live_pages list) level) c.iter.ensures.areas in
+    let here = c.tables_at-total.ensures.value in
     let more = sum_range_more (lacked_at nothing (live_pages areas)) level
     (sum_by (lacked_at nothing (live_pages areas)) (range_with_len 1 (level - 1))) c.tables_at-total.result
     (omega arith) refl here in

@@ -6,7 +6,7 @@ use Rattle.area_rows.specs.Areas.{AreApartFrom}
 use Rattle.table_spans.proofs.AreaTables.{AreWhole, nothing}
 use Rattle.table_spans.proofs.ByLevel.{lacked_at}
 use Rattle.table_spans.proofs.LevelNumbers.{or_before}
-use Rattle.table_spans.proofs.needing.tables_at.Given as goal
+use Rattle.table_spans.proofs.needing.count_at.Given as goal
 
 -- the tables before the next one are counted; no other is
 abbrev pub invariant-loop-area : goal.invariant-loop-area
