@@ -13,8 +13,6 @@ use std::test::Fail;
 enum Call {
     /// Adds an area of the span, with this memory object.
     Add(u64),
-    /// Adds so many areas of a page side by side, from the span's first address on.
-    AddPages(u16),
     /// The memory object at the span's first address.
     At,
     /// The memory object of the area of just this span.
@@ -97,16 +95,6 @@ fn left(areas: &mut Areas, span: Span, devices: &[u16]) -> Answer {
     Done
 }
 
-fn pages_added(areas: &mut Areas, start: u64, count: u16) -> Answer {
-    for number in 0..u64::from(count) {
-        match Span::of_length(start.saturating_add(0x1000 * number), 0x1000) {
-            Some(page) if added(areas, page, number) == Done => {}
-            _ => return Nothing,
-        }
-    }
-    Done
-}
-
 fn listed(areas: &Areas, alloc: Global, ends: Ends) -> Answer {
     match areas.spans(alloc) {
         Ok(spans) => Is(are(&spans, ends)),
@@ -135,7 +123,6 @@ fn free(areas: &Areas, start: u64, count: u64) -> Answer {
 fn asked(areas: &mut Areas, alloc: Global, span: Span, call: Call) -> Answer {
     match call {
         Call::Add(memory) => return added(areas, span, memory),
-        Call::AddPages(count) => return pages_added(areas, span.first(), count),
         Call::At => return found(areas.at(span.first())),
         Call::Exact => return found(areas.exact(span)),
         Call::Look => return looked(areas, span),
@@ -266,32 +253,15 @@ const FREE: &[Row] = &[
     (TOP, TOP, Call::Free(2), Nothing),
 ];
 
-// Pages side by side, of which one goes.
-const SIDE_BY_SIDE: &[Row] = &[
-    (0x1_0000, TOP, Call::AddPages(4_000), Done),
-    (0x1_0000, 0xfa_ffff, Call::Look, Looks(true, false, true)),
-    (0x1_0fff, 0xfa_f000, Call::Look, Looks(true, true, true)),
-    (0x1_0000, 0xfb_0000, Call::Look, Looks(true, false, false)),
-    (0x80_0000, 0x80_0fff, Call::Remove, Done),
-    (0x1_0000, 0xfa_ffff, Call::Look, Looks(true, false, false)),
-];
-
-static TABLES: [(&str, &[Row]); 6] = [
-    (
-        "areas are found by address and span, and counted; spans meet, cut and are covered",
-        FOUND,
-    ),
+static TABLES: [(&str, &[Row]); 5] = [
+    ("areas are found and counted, met, cut and covered", FOUND),
     ("an area that meets another is refused", REFUSED),
-    (
-        "leaving areas owe until all have paid, count their tries, and are taken away",
-        LEAVING,
-    ),
+    ("leaving areas owe until all have paid", LEAVING),
     ("areas lie at the ends of all addresses", ENDS),
     (
         "so many addresses are free before, between and behind areas, or nowhere",
         FREE,
     ),
-    ("many areas cover a span", SIDE_BY_SIDE),
 ];
 
 // The first row that isn't answered so once the four areas are there, or their first one.
