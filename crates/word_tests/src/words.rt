@@ -2,7 +2,7 @@
 
 use iofd_words::{
     AccessKind, Burst, Cause, Config, ConfigError, DeviceConfig, DeviceNo, DeviceSet, FaultReason,
-    FileNo, MapFlags, Rights, SourceId, Span, SpanList, UserNo, Width,
+    FileNo, FrameList, FrameNo, MapFlags, Rights, SourceId, Span, SpanList, UserNo, Width,
 };
 use std::alloc::{AllocError, Global};
 use std::test::Fail;
@@ -210,4 +210,22 @@ fn a_field_outside_its_limits_is_told(rt: HostRuntime) {
     for (given, error) in &OUTSIDE {
         assert!(rt; outside(rt.alloc(), *given) == Some(*error), "{error:?}");
     }
+}
+
+#[test]
+fn a_list_has_the_frames_in_order(rt: HostRuntime) -> Result<(), Fail> {
+    let given = [FrameNo(2), FrameNo(3)];
+    let frames = FrameList::new(given.to_vec(rt.alloc())?);
+    assert!(rt; frames.as_slice() == given.as_slice());
+    assert!(rt; frames.into_vec().as_slice() == given.as_slice());
+    Ok(())
+}
+
+#[test]
+fn a_list_has_the_spans_in_order(rt: HostRuntime) -> Result<(), Fail> {
+    let given = [Span::new(0x1000, 0x1fff).ok_or("a span")?];
+    let spans = SpanList::new(given.to_vec(rt.alloc())?);
+    assert!(rt; spans.as_slice() == given.as_slice());
+    assert!(rt; spans.into_vec().as_slice() == given.as_slice());
+    Ok(())
 }
