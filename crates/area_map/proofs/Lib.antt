@@ -5,3 +5,4 @@ pub mod RowsKept
 pub mod RowsInBlocks
 pub mod RowsSame
 pub mod OneRow
+pub mod Room

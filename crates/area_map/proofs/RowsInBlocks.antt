@@ -1,7 +1,7 @@
 -- What is kept of blocks of rows.
 use Rattle.std.proofs.Common.{◌≡◌, ◌≢◌, ℕ, suc, ◌+◌, ◌-◌, ◌*◌, ◌<◌, ◌≤◌, ◌^◌, false, ltb, min, max, List, []}
 use Rattle.std.proofs.Common.{◌∷◌, ◌++◌, length, get_or, set, take, drop, map, refl, sym, ap, subst, append-nil, ◌∙◌}
-use Rattle.std.proofs.Common.{arith, ⊎_elim, Some}
+use Rattle.std.proofs.Common.{arith, ⊎_elim, Some, None}
 use Rattle.std.specs.List.{prefix_len, slice_get}
 use Rattle.std.proofs.lemmas.Bool.{cases_lt}
 use Rattle.std.proofs.lemmas.Bool.Decides.{nat_tests}
@@ -43,6 +43,20 @@ widest_of-append (x ∷ z ∷ xs) ys some =
     let rest = behind-append x.span.last (z ∷ xs) ys (omega arith) in
     omega (arith, rest)
 
+-- the first row has the first area
+pub first_of-rows : (rows : List (List Area)) (row : List Area) → AreRows rows → slice_get rows 0 ≡ Some row
+    → first_of (in_rows rows) ≡ first_of row
+first_of-rows [] row each is = cc
+first_of-rows ([] ∷ rows) row each is = absurd (omega (arith, each.0))
+first_of-rows ((x ∷ xs) ∷ rows) row each is =
+    let same : x ∷ xs ≡ row = cc in
+    ap first_of same
+
+pub first_of-none : (rows : List (List Area)) → slice_get rows 0 ≡ None
+    → first_of (in_rows rows) ≡ 18446744073709551615
+first_of-none [] is = refl
+first_of-none (row ∷ rows) is = absurd (cc)
+
 -- the last row has the last area
 pub end_of-rows : (rows : List (List Area)) (row : List Area) → AreRows rows
     → slice_get rows (length rows - 1) ≡ Some row → end_of (in_rows rows) ≡ end_of row
@@ -56,12 +70,27 @@ end_of-rows (one ∷ next ∷ rows) row each is =
     end_of-append one (in_rows (next ∷ rows)) (omega (arith, long, each.2.0))
     ∙ end_of-rows (next ∷ rows) row each.2 (rw less at is)
 
+last_there : (row : List Area) (rows : List (List Area))
+    → slice_get (row ∷ rows) (length (row ∷ rows) - 1) ≡ None → ⊥
+last_there row [] is = cc
+last_there row (next ∷ rows) is =
+    let less : length (row ∷ next ∷ rows) - 1 ≡ suc (length (next ∷ rows) - 1) = omega arith in
+    last_there next rows (rw less at is)
+
+pub end_of-none : (rows : List (List Area)) → slice_get rows (length rows - 1) ≡ None → end_of (in_rows rows) ≡ 0
+end_of-none [] is = refl
+end_of-none (row ∷ rows) is = absurd (last_there row rows is)
+
 pub widest_of-rows : (rows : List (List Area)) (row : List Area) (others : List (List Area)) → AreRows rows
     → rows ≡ row ∷ others
     → widest_of (in_rows rows) ≡ max (widest_of row) (widest_behind (end_of row) (in_rows others))
 widest_of-rows rows row others each is =
     let left : AreRows (row ∷ others) = rw is at each in
     rw is (widest_of-append row (in_rows others) left.0)
+
+pub widest_of-none : (rows : List (List Area)) → length rows ≡ 0 → widest_of (in_rows rows) ≡ 0
+widest_of-none [] none = refl
+widest_of-none (row ∷ rows) none = absurd (omega (arith, none))
 
 -- the first of the rows that are left is passed
 pub behind_next : (widest end : ℕ) (rows : List (List Area)) (i : ℕ) (d : List Area) → i < length rows → AreRows rows

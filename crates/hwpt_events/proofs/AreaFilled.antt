@@ -88,6 +88,17 @@ whole_size a ordered whole =
     let last : a.span.last % 4096 ≡ 4095 = let is = parts.1 in search (is, arith, nat_tests) in
     omega (arith, first, last, ordered)
 
+-- its pages alone are live
+live_only : (a : Area) → is_live a.phase ≡ true → live_pages (a ∷ []) ≡ pages_in a.span
+live_only a live = rw live (append-nil (pages_in a.span))
+
+-- so the tables that are missing for its span are those for them
+pub missing_is : (a : Area) → is_live a.phase ≡ true → (file : FileNo) (id : ObjId) (tables : List Hwpt) (h : Hwpt)
+    (frames : List TableFrame) → hwpt_of tables file id ≡ Some h → missing_found frames a.span (hwpt_of tables file id)
+    ≡ tables_for frames h.object h.table.width (live_pages (a ∷ []))
+missing_is a live file id tables h frames found =
+    ap (missing_found frames a.span) found ∙ ap (tables_for frames h.object h.table.width) (sym (live_only a live))
+
 module _ (m : Memory) (a : Area) (to : List FrameNo) (live : is_live a.phase ≡ true)
     (ordered : a.span.first ≤ a.span.last) (whole : is_whole_pages a.span ≡ true)
     (each : (index : ℕ) → slice_get to index ≡ pinned_frame m (record { memory = a.memory; index = index }))
@@ -162,18 +173,9 @@ module _ (m : Memory) (a : Area) (to : List FrameNo) (live : is_live a.phase ≡
       + length (missing_found frames a.span (hwpt_of tables file id)) ≡ free_count before.holds))
       (out : IfAllStand before tables (λ frames leads. new ≡ old
       ++ frames_for (missing_found frames a.span (hwpt_of tables file id)) before.holds)) where
-    live_only : live_pages (a ∷ []) ≡ pages_in a.span
-    live_only = rw live (append-nil (pages_in a.span))
-
-    missing_is : (h : Hwpt) (frames : List TableFrame) → hwpt_of tables file id ≡ Some h
-        → missing_found frames a.span (hwpt_of tables file id) ≡ tables_for frames h.object
-        h.table.width (live_pages (a ∷ []))
-    missing_is h frames found =
-        ap (missing_found frames a.span) found ∙ ap (tables_for frames h.object h.table.width) (sym live_only)
-
     pub live_filled : Fills file id m (a ∷ []) tables before after old new
     live_filled h found frames leads all =
-        let same = missing_is h frames found in
+        let same = missing_is a live file id tables h frames found in
         let names = and_true (eqb h.object.file.0 file.0) (eqb h.object.id.0 id.0)
         (in_found (λ (x : Hwpt). is_object file id x.object) tables h found).1 in
         let own_file : file ≡ h.object.file = sym (file_is h.object.file file names.0) in

@@ -36,3 +36,18 @@ small c e = let d = digit_value c in grind (arith, nat_tests)
 pub lower_small : (text : List ℕ) (i : ℕ) → i < length text → list_all is_lower_digit text ≡ true
     → digit_value (get_or text i 0) < 16
 lower_small text i h e = small (get_or text i 0) (passes_at is_lower_digit text i h e)
+
+-- the two digits of a byte
+pub pair_within : (text : List ℕ) {bytes : List ℕ} (i : ℕ) → pairs text ≡ bytes → i < length bytes
+    → 2 * i + 1 < length text
+pair_within text i all within =
+    let half = length_pairs text in let same = ap (λ (l : List ℕ). length l) all in omega (arith, half, same)
+
+pub high_small : (text : List ℕ) {bytes : List ℕ} (i : ℕ) → pairs text ≡ bytes → i < length bytes
+    → list_all is_lower_digit text ≡ true → digit_value (get_or text (2 * i) 0) < 16
+high_small text i all within lower =
+    let both = pair_within text i all within in lower_small text (2 * i) (omega (arith, both)) lower
+
+pub low_small : (text : List ℕ) {bytes : List ℕ} (i : ℕ) → pairs text ≡ bytes → i < length bytes
+    → list_all is_lower_digit text ≡ true → digit_value (get_or text (2 * i + 1) 0) < 16
+low_small text i all within lower = lower_small text (2 * i + 1) (pair_within text i all within) lower

@@ -100,7 +100,6 @@ impl<'a> HexBytes<'a> {
     }
 
     // The byte at a place.
-    #[tactic(auto, using(crate::proofs::Pairs::length_pairs, crate::proofs::Pairs::pair_at, crate::proofs::Pairs::lower_small))]
     pub fn byte_at(&self, i: usize) -> u8
         requires { i < length self.now }
         ensures { result ≡ slice_index self.now i }

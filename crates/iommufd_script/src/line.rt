@@ -6,7 +6,7 @@ use crate::span_texts::SpanTexts;
 use iofd_words::{DeviceNo, FileNo, Iova, ObjId, SourceId, UserNo, Width};
 
 /// A line of the head.
-#[derive(Debug, Drop)]
+#[derive(Drop)]
 pub enum HeadLine<'a> {
     /// The pool has so many frames.
     Pool(u32),
@@ -21,7 +21,7 @@ pub enum HeadLine<'a> {
 }
 
 /// A step.
-#[derive(Debug, Drop)]
+#[derive(Drop)]
 pub enum Step<'a> {
     /// A command of a file, by its number (0x3B80 and on) and its bytes.
     Ioctl(FileNo, u32, HexBytes<'a>),
@@ -56,7 +56,7 @@ pub enum Step<'a> {
 }
 
 /// A line of a script.
-#[derive(Debug, Drop)]
+#[derive(Drop)]
 pub enum Line<'a> {
     /// An empty line, or one that begins with `#`: it says nothing.
     Skipped,

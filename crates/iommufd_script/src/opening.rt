@@ -110,7 +110,7 @@ fn opened<A: Allocator>(head: Head<A>) -> Config<A>
 ///
 /// The error is BadLine with the number of the first bad line (`first_bad_line`), whatever memory there
 /// is; else NoMemory where the memory for the head or for the steps was refused.
-#[tactic(auto, using(crate::proofs::Within::good_settings), unfolding(crate::specs::Opening::script_of))]
+#[tactic(auto, unfolding(crate::specs::Opening::script_of))]
 pub fn read_script<'a, A: Allocator + Copy>(
     alloc: A,
     text: &'a [u8],

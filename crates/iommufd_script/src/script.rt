@@ -1,6 +1,6 @@
 //! A whole script: its first bad line, and its steps.
 
-ghost use Rattle.std.specs.Prelude.{◌≡◌, ◌<◌, ◌^◌, [], ◌∷◌, None, MatchOption, IfOk, IfErr, length};
+ghost use Rattle.std.specs.Prelude.{◌≡◌, ◌<◌, [], ◌∷◌, ◌++◌, None, MatchOption, IfOk, IfErr, length};
 ghost use Rattle.iommufd_script.specs.Opening.{bad_line_in};
 ghost use Rattle.iommufd_script.specs.Script.{first_bad_line, steps_of};
 
@@ -56,42 +56,13 @@ impl<'a, A: Allocator> Steps<'a, A> {
     ///
     /// The error is BadLine with the number of the first bad line (`first_bad_line`), whatever memory there is; else
     /// NoMemory where the memory for the steps was refused.
-    #[tactic(auto, unfolding(crate::specs::Script::first_bad_line))]
     pub fn read(alloc: A, text: &'a [u8]) -> Result<Steps<'a, A>, ScriptError>
         ensures ok { IfOk result (λ steps. steps ≡ steps_of text.now) }
         ensures good { IfOk result (λ _. first_bad_line text.now ≡ None) }
         ensures err { IfErr result (λ error. bad_line_in error ≡ first_bad_line text.now) }
     {
         let mut steps = Vec::new(alloc);
-        let mut place = Place::start();
-        let mut number: u64 = 0;
-        let mut rest = text;
-        while !rest.is_empty() {
-            let (line, others) = split_line(rest);
-            number += 1;
-            match parse_line(line) {
-                Some(Line::Step(step)) => {
-                    if !place.begun {
-                        return Err(ScriptError::BadLine(number));
-                    }
-                    if steps.push(step).is_err() {
-                        return Err(without_memory(text));
-                    }
-                }
-                Some(Line::Head(heading)) => {
-                    let Some(next) = place.after_heading(&heading) else {
-                        return Err(ScriptError::BadLine(number));
-                    };
-                    place = next;
-                }
-                Some(Line::Skipped) => {}
-                None => return Err(ScriptError::BadLine(number)),
-            }
-            rest = others;
-        }
-        if !place.begun {
-            return Err(ScriptError::BadLine(number + 1));
-        }
+        append_steps(&mut steps, text)?;
         Ok(Steps {
             steps: steps.into_iter(),
         })
@@ -103,6 +74,48 @@ impl<'a, A: Allocator> Steps<'a, A> {
     {
         self.steps.next()
     }
+}
+
+// Appends the steps of a good script. The vector is the caller's, so that no early end has to drop it.
+#[tactic(auto, unfolding(crate::specs::Script::first_bad_line))]
+fn append_steps<'a, A: Allocator>(
+    steps: &mut Vec<Step<'a>, A>,
+    text: &'a [u8],
+) -> Result<(), ScriptError>
+    ensures ok { IfOk result (λ _. steps.new.items ≡ steps.old.items ++ steps_of text.now) }
+    ensures good { IfOk result (λ _. first_bad_line text.now ≡ None) }
+    ensures err { IfErr result (λ error. bad_line_in error ≡ first_bad_line text.now) }
+{
+    let mut place = Place::start();
+    let mut number: u64 = 0;
+    let mut rest = text;
+    while !rest.is_empty() {
+        let (line, others) = split_line(rest);
+        number += 1;
+        match parse_line(line) {
+            Some(Line::Step(step)) => {
+                if !place.begun {
+                    return Err(ScriptError::BadLine(number));
+                }
+                if steps.push(step).is_err() {
+                    return Err(without_memory(text));
+                }
+            }
+            Some(Line::Head(heading)) => {
+                let Some(next) = place.after_heading(&heading) else {
+                    return Err(ScriptError::BadLine(number));
+                };
+                place = next;
+            }
+            Some(Line::Skipped) => {}
+            None => return Err(ScriptError::BadLine(number)),
+        }
+        rest = others;
+    }
+    if !place.begun {
+        return Err(ScriptError::BadLine(number + 1));
+    }
+    Ok(())
 }
 
 // Why a script isn't carried out for whose steps there is no memory.

@@ -77,24 +77,81 @@ module _ {A : Type 0} (s : State A) (file : FileNo) (request : CopyRequest) (num
 
 -- ---- the rows of its refusals
 
--- those behind the one of the source, where none before them holds
-pub rows_behind : (v : View) (file : FileNo) (request : CopyRequest) → v.is_open file ≡ true
-    → (is_readable request.flags || is_writeable request.flags) ≡ true
-    → is_above_sum request.src_iova.0 request.length ≡ false
-    → (is_fixed request.flags && is_above_sum request.dst_iova.0 request.length) ≡ false
-    → eqb request.length 0 ≡ false → (is_whole request.length && is_whole request.src_iova.0) ≡ true
-    → (is_fixed request.flags && not (is_whole request.dst_iova.0)) ≡ false
-    → has_ioas v.objects file request.dst_ioas ≡ true → has_ioas v.objects file request.src_ioas ≡ true
-    → is_none (source_of v file request) ≡ false
-    → first_true (copy_checks v file request) ≡ first_true (
-    (cause.Rights, is_writeable request.flags && not (is_source_writable v file request))
-    ∷ (cause.Reserved, is_outside_usable v file (placed_as request))
-    ∷ (cause.Overlap, overlaps v file (placed_as request))
-    ∷ (cause.Full, has_no_room (v.areas_of file request.dst_ioas) || lacks_choice v file (placed_as request))
-    ∷ (cause.Absent, lacks_copied_page v file request)
-    ∷ (cause.Account, passes_limit_copied v file request)
-    ∷ (cause.Frames, lacks_mapped_frames v file (placed_as request))
-    ∷ [])
-unfolding copy_checks
-rows_behind v file request opened right source_sum sum some whole starts target source found =
-    rw (opened, right, source_sum, sum, some, whole, starts, target, source, found) refl
+-- the one that refuses it, and those behind the one of the source, each where none before it holds
+module _ (v : View) (file : FileNo) (request : CopyRequest) where
+  pub closed_row : v.is_open file ≡ false → Some cause.Id ≡ first_true (copy_checks v file request)
+  unfolding copy_checks
+  closed_row closed = rw closed refl
+
+  module _ (opened : v.is_open file ≡ true) where
+    pub right_row : (is_readable request.flags || is_writeable request.flags) ≡ false
+        → Some cause.NoRight ≡ first_true (copy_checks v file request)
+    unfolding copy_checks
+    right_row rightless = rw (opened, rightless) refl
+
+    module _ (right : (is_readable request.flags || is_writeable request.flags) ≡ true) where
+      pub source_sum_row : is_above_sum request.src_iova.0 request.length ≡ true
+          → Some cause.Sum ≡ first_true (copy_checks v file request)
+      unfolding copy_checks
+      source_sum_row above = rw (opened, right, above) refl
+
+      module _ (source_sum : is_above_sum request.src_iova.0 request.length ≡ false) where
+        pub sum_row : (is_fixed request.flags && is_above_sum request.dst_iova.0 request.length) ≡ true
+            → Some cause.Sum ≡ first_true (copy_checks v file request)
+        unfolding copy_checks
+        sum_row above = rw (opened, right, source_sum, above) refl
+
+        module _ (sum : (is_fixed request.flags && is_above_sum request.dst_iova.0 request.length) ≡ false) where
+          pub empty_row : eqb request.length 0 ≡ true → Some cause.Align ≡ first_true (copy_checks v file request)
+          unfolding copy_checks
+          empty_row empty = rw (opened, right, source_sum, sum, empty) refl
+
+          module _ (some : eqb request.length 0 ≡ false) where
+            pub whole_row : (is_whole request.length && is_whole request.src_iova.0) ≡ false
+                → Some cause.Align ≡ first_true (copy_checks v file request)
+            unfolding copy_checks
+            whole_row cut = rw (opened, right, source_sum, sum, some, cut) refl
+
+            module _ (whole : (is_whole request.length && is_whole request.src_iova.0) ≡ true) where
+              pub starts_row : (is_fixed request.flags && not (is_whole request.dst_iova.0)) ≡ true
+                  → Some cause.Align ≡ first_true (copy_checks v file request)
+              unfolding copy_checks
+              starts_row within = rw (opened, right, source_sum, sum, some, whole, within) refl
+
+              module _ (starts : (is_fixed request.flags && not (is_whole request.dst_iova.0)) ≡ false) where
+                pub target_row : has_ioas v.objects file request.dst_ioas ≡ false
+                    → Some cause.Id ≡ first_true (copy_checks v file request)
+                unfolding copy_checks
+                target_row absent = rw (opened, right, source_sum, sum, some, whole, starts, absent) refl
+
+                module _ (target : has_ioas v.objects file request.dst_ioas ≡ true) where
+                  pub source_row : has_ioas v.objects file request.src_ioas ≡ false
+                      → Some cause.Id ≡ first_true (copy_checks v file request)
+                  unfolding copy_checks
+                  source_row absent =
+                      rw (opened, right, source_sum, sum, some, whole, starts, target, absent) refl
+
+                  module _ (source : has_ioas v.objects file request.src_ioas ≡ true) where
+                    pub span_row : is_none (source_of v file request) ≡ true
+                        → Some cause.Span ≡ first_true (copy_checks v file request)
+                    unfolding copy_checks
+                    span_row nowhere =
+                        rw (opened, right, source_sum, sum, some, whole, starts, target, source, nowhere) refl
+
+                    pub rows_behind : is_none (source_of v file request) ≡ false
+                        → first_true (copy_checks v file request) ≡ first_true (
+                        (cause.Rights, is_writeable request.flags && not (is_source_writable v file request))
+                        ∷ (cause.Reserved, is_outside_usable v file (placed_as request))
+                        ∷ (cause.Overlap, overlaps v file (placed_as request))
+                        ∷ (
+                          cause.Full,
+                          has_no_room (v.areas_of file request.dst_ioas)
+                              || lacks_choice v file (placed_as request),
+                        )
+                        ∷ (cause.Absent, lacks_copied_page v file request)
+                        ∷ (cause.Account, passes_limit_copied v file request)
+                        ∷ (cause.Frames, lacks_mapped_frames v file (placed_as request))
+                        ∷ [])
+                    unfolding copy_checks
+                    rows_behind found =
+                        rw (opened, right, source_sum, sum, some, whole, starts, target, source, found) refl

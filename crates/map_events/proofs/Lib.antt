@@ -11,6 +11,7 @@ pub mod CopyMemory
 pub mod MapAsks
 pub mod MapGranted
 pub mod MapMemory
+pub mod MapRows
 pub mod Mapped
 pub mod MayMap
 pub mod MissingMapped

@@ -9,6 +9,7 @@ pub mod RangesAllowed
 pub mod RangesSorted
 pub mod SpacesCleared
 pub mod Touched
+pub mod UnmapRows
 pub mod Unmapped
 pub mod UnusableAmong
 pub mod UsersNamed

@@ -1,5 +1,6 @@
 use Rattle.std.proofs.Common.{arith}
 use Rattle.area_map.proofs.OneRow.{changed_row}
+use Rattle.area_map.proofs.RowsInBlocks.{found}
 use Rattle.area_map.proofs.blocks.changed_block.Goals as goal
 
 pub returns : goal.returns
@@ -10,3 +11,7 @@ returns g c = λ before same narrow.
       end = c.end_of.ensures;
       widest = omega (arith, bound, c.max.ensures, c.widest_around-around.ensures);
     }
+
+pub returns-then-widest-parted : goal.returns-then-widest-parted
+returns-then-widest-parted g c = λ before same narrow.
+    found c.args.rows.now c.block_of.result c.block_of.ensures

@@ -1,4 +1,6 @@
-use Rattle.std.proofs.Common.{◌≡◌, ◌∙◌, ℕ, ◌+◌, ◌<◌, List, drop, get_or, length, ap, arith}
+use Rattle.std.proofs.Common.{◌≡◌, ◌∙◌, ℕ, ◌+◌, ◌<◌, List, drop, get_or, length, ap, arith, rules}
+use borrow.Author.Count.{falls}
+use Rattle.std.proofs.lemmas.List.{drop_all}
 use Rattle.iofd_words.specs.declared.rows.Area.{Area}
 use Rattle.area_rows.specs.Rows.{end_of, first_of, in_rows, widest_behind, widest_of}
 use Rattle.area_map.proofs.RowsInBlocks.{behind_next}
@@ -28,3 +30,21 @@ loop-row-preserved g c =
       c.max.ensures,
       c.max-widest.ensures,
     )
+
+pub loop-row-init : goal.loop-row-init
+loop-row-init g c = omega arith
+
+pub loop-row-smaller : goal.loop-row-smaller
+loop-row-smaller g c = falls (length c.args.rows.now) c.loop-row.row-index c.loop-row-test.true
+
+pub bounds-rows-row-index : goal.bounds-rows-row-index
+bounds-rows-row-index g c = c.loop-row-test.true
+
+pub offset_bounds-rows-row-index : goal.offset_bounds-rows-row-index
+offset_bounds-rows-row-index g c = search rules
+
+pub returns : goal.returns
+returns g c =
+    let gone = drop_all c.loop-row.row-index c.args.rows.now (omega arith) in
+    let rest = rw gone at c.loop-row.invariant in
+    omega (arith, rest)

@@ -1,3 +1,4 @@
+use borrow.Author.Rules.{scaled_Fits}
 use Rattle.std.proofs.Common.{◌∙◌, List, [], nat_le, length, refl, ap}
 use Rattle.iofd_words.specs.declared.rows.Area.{Area}
 use Rattle.area_map.proofs.RowsAdded.{length-added}
@@ -25,3 +26,9 @@ pub returns-clause-rows : goal.returns-clause-rows
 returns-clause-rows g c =
     let same = get_or_default c.args.rows.now c.args.index c.index-rows-index.result [] c.requires.bound in
     rw (c.add.ensures, same) refl
+
+pub offset_bounds-rows-index : goal.offset_bounds-rows-index
+offset_bounds-rows-index g c = scaled_Fits c.args.index (length c.args.rows.now) _ c.requires.bound c.well_formed.0.1
+
+pub bounds-rows-index : goal.bounds-rows-index
+bounds-rows-index g c = c.requires.bound

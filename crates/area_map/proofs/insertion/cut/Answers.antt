@@ -1,4 +1,5 @@
-use Rattle.std.proofs.Common.{[], refl}
+use borrow.Author.Rules.{scaled_Fits}
+use Rattle.std.proofs.Common.{[], length, refl}
 use Rattle.std.proofs.lemmas.List.{get_or_default}
 use Rattle.area_map.proofs.insertion.cut.Goals as goal
 
@@ -19,3 +20,10 @@ pub returns-clause-upper : goal.returns-clause-upper
 returns-clause-upper g c =
     let same = get_or_default c.args.rows.now c.args.index c.index-rows-index.result [] c.requires.bound in
     rw (c.split.ensures.upper, same) refl
+
+pub offset_bounds-rows-index : goal.offset_bounds-rows-index
+offset_bounds-rows-index g c =
+    scaled_Fits c.args.index (length c.args.rows.now) _ c.requires.bound c.well_formed.0.1
+
+pub bounds-rows-index : goal.bounds-rows-index
+bounds-rows-index g c = c.requires.bound

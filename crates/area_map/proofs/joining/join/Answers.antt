@@ -1,4 +1,5 @@
 use Rattle.std.proofs.Common.{◌≡◌, ◌∙◌, ◌+◌, ◌<◌, ◌++◌, List, [], length, get_or, set, refl, sym, ap, arith}
+use Rattle.std.proofs.Math.Nat.{le_refl}
 use Rattle.std.specs.List.{remove}
 use Rattle.std.proofs.lemmas.List.{get_or_default, length-set}
 use Rattle.std.proofs.lemmas.List.Edits.{get_or-remove_below}
@@ -84,3 +85,30 @@ returns-clause-before g c =
     (set (remove items (i + 1)) i (get_or items i [] ++ get_or items (i + 1) []))
     c.remove-next.new.self.len is long in
     rw written (before_join items i (get_or items i [] ++ get_or items (i + 1) []) within)
+
+pub returns-then-not-are_few-clause-areas : goal.returns-then-not-are_few-clause-areas
+returns-then-not-are_few-clause-areas g c = refl
+
+pub returns-then-not-are_few-clause-rows : goal.returns-then-not-are_few-clause-rows
+returns-then-not-are_few-clause-rows g c = c.requires
+
+pub returns-then-not-are_few-clause-len : goal.returns-then-not-are_few-clause-len
+returns-then-not-are_few-clause-len g c = le_refl c.args.rows.now.len
+
+pub returns-then-not-are_few-clause-capacity : goal.returns-then-not-are_few-clause-capacity
+returns-then-not-are_few-clause-capacity g c = refl
+
+pub returns-then-not-are_few-clause-before : goal.returns-then-not-are_few-clause-before
+returns-then-not-are_few-clause-before g c = refl
+
+pub returns-then-not-are_few-clause-none : goal.returns-then-not-are_few-clause-none
+returns-then-not-are_few-clause-none g c = λ less. refl
+
+pub returns-clause-len : goal.returns-clause-len
+returns-clause-len g c = omega (arith, c.remove-next.ensures.len)
+
+pub returns-clause-capacity : goal.returns-clause-capacity
+returns-clause-capacity g c = c.remove-next.ensures.capacity
+
+pub returns-clause-none : goal.returns-clause-none
+returns-clause-none g c = λ less. absurd (omega (arith, c.remove-next.ensures.len, less))

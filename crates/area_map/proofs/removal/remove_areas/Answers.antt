@@ -1,4 +1,5 @@
-use Rattle.std.proofs.Common.{◌≡◌, ◌∙◌, List, length, map, ap, arith}
+use Rattle.std.proofs.Common.{◌≡◌, ◌∙◌, List, length, map, refl, ap, arith}
+use Rattle.std.proofs.Math.Nat.{le_refl}
 use Rattle.std.proofs.lemmas.List.{length-map}
 use Rattle.iofd_words.specs.declared.rows.Area.{Area}
 use Rattle.area_rows.specs.Areas.{areas_outside}
@@ -67,3 +68,39 @@ returns-clause-others g c =
     let others = rw c.deref_mut.ensures.value at part.ensures.others in
     rw (c.drop_empty.ensures.rows, back) (same_dropped part.result.0 c.len-count.result c.args.rows.now.items
     part.new.rows c.requires.rows (omega arith) (omega (arith, long)) others.before)
+
+pub remove_within-from-requires-clause-kept : goal.remove_within-from-requires-clause-kept
+remove_within-from-requires-clause-kept g c = rw c.deref_mut.ensures.value c.requires.kept
+
+pub remove_within-from-requires-clause-rows : goal.remove_within-from-requires-clause-rows
+remove_within-from-requires-clause-rows g c = rw c.deref_mut.ensures.value c.requires.rows
+
+pub returns-then-not-empty-clause-rows : goal.returns-then-not-empty-clause-rows
+returns-then-not-empty-clause-rows g c =
+    let part = c.remove_within-from in
+    let is = rw c.deref_mut.ensures.value at part.ensures.rows in
+    let long : length part.new.rows ≡ c.args.rows.now.len =
+    ap length is ∙ length-map c.args.rows.now.items (areas_outside c.args.span) ∙ omega arith in
+    let back = slice_back c.args.rows.now.items part.new.rows c.args.rows.now.len long in
+    rw back (part.ensures.empty c.if-not-empty.true)
+
+pub returns-then-not-empty-clause-count : goal.returns-then-not-empty-clause-count
+returns-then-not-empty-clause-count g c =
+    let part = c.remove_within-from in
+    let is = rw c.deref_mut.ensures.value at part.ensures.rows in
+    let long : length part.new.rows ≡ c.args.rows.now.len =
+    ap length is ∙ length-map c.args.rows.now.items (areas_outside c.args.span) ∙ omega arith in
+    let back = slice_back c.args.rows.now.items part.new.rows c.args.rows.now.len long in
+    rw back (rw c.deref_mut.ensures.value at part.ensures.count)
+
+pub returns-then-not-empty-clause-len : goal.returns-then-not-empty-clause-len
+returns-then-not-empty-clause-len g c = le_refl c.args.rows.now.len
+
+pub returns-then-not-empty-clause-capacity : goal.returns-then-not-empty-clause-capacity
+returns-then-not-empty-clause-capacity g c = refl
+
+pub returns-clause-len : goal.returns-clause-len
+returns-clause-len g c = c.drop_empty.ensures.len
+
+pub returns-clause-capacity : goal.returns-clause-capacity
+returns-clause-capacity g c = c.drop_empty.ensures.capacity

@@ -1,4 +1,6 @@
-use Rattle.std.proofs.Common.{◌≡◌, ◌∙◌, ◌<◌, List, [], length, ap, sym, set, arith}
+use Rattle.std.proofs.Common.{◌≡◌, ◌∙◌, ◌<◌, List, [], length, ap, refl, sym, set, arith}
+use borrow.Author.Rules.{scaled_Fits}
+use borrow.Author.Count.{falls}
 use Rattle.std.proofs.lemmas.List.Edits.{map_over_more}
 use Rattle.iofd_words.specs.declared.rows.Area.{Area}
 use Rattle.area_rows.specs.Areas.{areas_outside}
@@ -49,3 +51,19 @@ loop-row-preserved g c =
 pub returns-clause-areas : goal.returns-clause-areas
 returns-clause-areas g c = map_over_all (areas_outside c.args.span) c.args.rows.now c.loop-row.rows c.loop-row.row-index
     (omega arith) c.loop-row.invariant.rows
+
+pub loop-row-init : goal.loop-row-init
+loop-row-init g c = record { rows = refl; count = omega arith }
+
+pub bounds-rows-row-index : goal.bounds-rows-row-index
+bounds-rows-row-index g c = rw c.loop-row.auto.rows c.loop-row-test.true
+
+pub loop-row-smaller : goal.loop-row-smaller
+loop-row-smaller g c = falls (length c.args.rows.now) c.loop-row.row-index c.loop-row-test.true
+
+pub returns-clause-count : goal.returns-clause-count
+returns-clause-count g c = c.loop-row.invariant.count
+
+pub offset_bounds-rows-row-index : goal.offset_bounds-rows-row-index
+offset_bounds-rows-row-index g c =
+    scaled_Fits c.loop-row.row-index (length c.args.rows.now) _ c.loop-row-test.true c.well_formed.0.1

@@ -1,3 +1,5 @@
+use borrow.Author.Rules.{scaled_fits≤}
+use native.Mathlib.Nat.{le_trans}
 use Rattle.std.proofs.Common.{◌≡◌, ◌∙◌, ◌-◌, List, length, drop, ap}
 use Rattle.std.specs.List.{between}
 use Rattle.std.proofs.lemmas.List.{length-map}
@@ -54,3 +56,18 @@ returns-clause-others g c =
     ∙ length-map (between from to rows) (areas_outside c.args.span)
     ∙ length-between rows from to part.ensures.bound in
     same_mid rows mid from to part.ensures.order part.ensures.bound long
+
+pub meeting-from-requires-clause-apart : goal.meeting-from-requires-clause-apart
+meeting-from-requires-clause-apart g c = c.requires.kept.apart
+
+pub meeting-from-requires-clause-rows : goal.meeting-from-requires-clause-rows
+meeting-from-requires-clause-rows g c = c.requires.rows
+
+pub slice_bounds-part-count : goal.slice_bounds-part-count
+slice_bounds-part-count g c = c.meeting-from.ensures.order
+
+pub offset_bounds-rows-from : goal.offset_bounds-rows-from
+offset_bounds-rows-from g c =
+    let part = c.meeting-from in
+    scaled_fits≤ part.result.0 (length c.args.rows.now) _ (le_trans part.ensures.order part.ensures.bound)
+    c.well_formed.0.1

@@ -1,4 +1,4 @@
-use Rattle.std.proofs.Common.{List, refl, arith}
+use Rattle.std.proofs.Common.{List, refl, ap, arith}
 use Rattle.iofd_words.specs.declared.rows.Area.{Area}
 use Rattle.area_rows.specs.Areas.{marked}
 use Rattle.area_rows.specs.Rows.{in_rows}
@@ -32,3 +32,12 @@ returns-clause-areas g c =
     let written = mapped_back f rows c.change.new.rows c.self.inside.rows.len
     (rw (c.deref_mut.ensures.value, c.copied.ensures) at c.change.ensures) (omega arith) in
     rw (written, ← c.self.view_is) (in_rows-map_map f rows)
+
+pub change-requires-clause-apart : goal.change-requires-clause-apart
+change-requires-clause-apart g c = rw c.deref_mut.ensures.value c.self.invariant.0.kept.apart
+
+pub change-requires-clause-rows : goal.change-requires-clause-rows
+change-requires-clause-rows g c = rw c.deref_mut.ensures.value c.self.invariant.0.each
+
+pub returns-clause-room : goal.returns-clause-room
+returns-clause-room g c = ap (λ table. table.room) c.self.view_is

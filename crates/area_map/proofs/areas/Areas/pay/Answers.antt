@@ -1,4 +1,4 @@
-use Rattle.std.proofs.Common.{List, sym, refl, arith}
+use Rattle.std.proofs.Common.{List, sym, refl, ap, arith}
 use Rattle.iofd_words.specs.declared.rows.Area.{Area}
 use Rattle.area_rows.specs.Areas.{without_debt}
 use Rattle.area_rows.specs.Rows.{in_rows}
@@ -34,3 +34,15 @@ pub returns-in_default-clause-areas : goal.returns-in_default-clause-areas
 returns-in_default-clause-areas g c =
     rw (← c.self.view_is) (sym (live_all c.args.device (in_rows c.self.inside.rows.items)
     (rw c.in_default.is at c.self.invariant.0.leave)))
+
+pub change-requires-clause-apart : goal.change-requires-clause-apart
+change-requires-clause-apart g c = rw c.deref_mut.ensures.value c.self.invariant.0.kept.apart
+
+pub change-requires-clause-rows : goal.change-requires-clause-rows
+change-requires-clause-rows g c = rw c.deref_mut.ensures.value c.self.invariant.0.each
+
+pub returns-in-Some-clause-room : goal.returns-in-Some-clause-room
+returns-in-Some-clause-room g c = ap (λ table. table.room) c.self.view_is
+
+pub returns-in_default-clause-room : goal.returns-in_default-clause-room
+returns-in_default-clause-room g c = refl

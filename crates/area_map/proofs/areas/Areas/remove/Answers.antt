@@ -1,8 +1,10 @@
 use Rattle.std.proofs.Common.{◌≡◌, ◌-◌, List, length, not, arith}
+use Rattle.std.proofs.Math.Nat.{le_refl}
 use Rattle.iofd_words.specs.Span.{lies_in}
 use Rattle.iofd_words.specs.declared.rows.Area.{Area}
 use Rattle.area_rows.specs.Rows.{in_rows, LeaveIn}
 use Rattle.area_rows.proofs.Kept.{kept-filter}
+use Rattle.area_map.specs.Kept.{room_of}
 use Rattle.area_map.proofs.RowsKept.{rows_without, spare_stays}
 use Rattle.area_map.proofs.areas.Areas.remove.Goals as goal
 
@@ -30,3 +32,21 @@ invariant_of-self g c =
       c.remove.ensures.blocks,
       omega (arith, c.remove.ensures.len, c.remove.ensures.blocks_len, c.self.invariant.3),
     )
+
+pub remove-requires-clause-kept : goal.remove-requires-clause-kept
+remove-requires-clause-kept g c = c.self.invariant.0.kept
+
+pub remove-requires-clause-rows : goal.remove-requires-clause-rows
+remove-requires-clause-rows g c = c.self.invariant.0.each
+
+pub remove-requires-clause-blocks : goal.remove-requires-clause-blocks
+remove-requires-clause-blocks g c = c.self.invariant.2
+
+pub without-self-inside-requires-clause-rows : goal.without-self-inside-requires-clause-rows
+without-self-inside-requires-clause-rows g c = rw c.deref.ensures.value c.remove.ensures.rows
+
+pub returns-clause-areas : goal.returns-clause-areas
+returns-clause-areas g c = rw (← c.self.view_is) c.remove.ensures.areas
+
+pub returns-clause-room : goal.returns-clause-room
+returns-clause-room g c = rw (← c.self.view_is) (le_refl (room_of c.self.inside.spare))

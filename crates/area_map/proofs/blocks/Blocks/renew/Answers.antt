@@ -25,3 +25,21 @@ returns-clause-blocks g c =
           subst (λ (bs : List Block). AreBlocks bs c.args.rows.now) (sym none)
           (λ number within. absurd (omega (arith, within)))
     ]
+
+pub renew_rows-requires : goal.renew_rows-requires
+renew_rows-requires g c = c.requires
+
+pub returns-clause-len : goal.returns-clause-len
+returns-clause-len g c =
+    elim c.match-self.branch [
+      | in-Some w ↦
+          let was = ap length (w.deref_mut.ensures.value ∙ sym (ap listed w.in-Some.is) ∙ c.self.view_is) in
+          let new : List Block = w.renew_rows.new.blocks in
+          let value = ap length w.deref_mut.ensures.value in
+          let long : length new ≡ w.in-Some.blocks.len =
+          omega (arith, value, w.renew_rows.auto.blocks, w.deref_mut.ensures.len) in
+          let back = take_at new (drop (length new) w.in-Some.blocks.items) w.in-Some.blocks.len long in
+          ap (λ inside. length (listed inside.blocks)) w.self-inside-is ∙ ap length back
+          ∙ w.renew_rows.auto.blocks ∙ was
+      | in_default w ↦ ap (λ inside. length (listed inside.blocks)) w.self-inside-is ∙ ap length c.self.view_is
+    ]
