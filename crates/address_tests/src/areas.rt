@@ -23,13 +23,12 @@ enum Call {
     Leave(&'static [u16]),
     /// A device pays, whatever the span.
     Pay(u16),
+    /// Whether an area in the span owes a flush.
     Owes,
     SetTries(u8),
     MostTries,
-    /// How many areas lie in the span, and how many addresses they have.
-    Amount,
-    /// Whether an area in the span has this memory object.
-    Has(u64),
+    /// How many areas there are, whatever the span.
+    Count,
     /// Takes away the areas in the span.
     Remove,
     /// The least address from the span's first on from which so many are free.
@@ -49,7 +48,7 @@ pub(crate) enum Answer {
     Nothing,
     Refused(Cause),
     Looks(bool, bool, bool),
-    Counts(usize, u128),
+    Counts(usize),
     NoMemory,
 }
 
@@ -95,6 +94,13 @@ fn left(areas: &mut Areas, span: Span, devices: &[u16]) -> Answer {
     Done
 }
 
+fn owes(area: &Area) -> bool {
+    match &area.phase {
+        Phase::Live => false,
+        Phase::Leaving { owed, .. } => !owed.is_empty(),
+    }
+}
+
 fn listed(areas: &Areas, alloc: Global, ends: Ends) -> Answer {
     match areas.spans(alloc) {
         Ok(spans) => Is(are(&spans, ends)),
@@ -127,10 +133,9 @@ fn asked(areas: &mut Areas, alloc: Global, span: Span, call: Call) -> Answer {
         Call::Exact => return found(areas.exact(span)),
         Call::Look => return looked(areas, span),
         Call::Leave(devices) => return left(areas, span, devices),
-        Call::Owes => return Is(areas.owes(span)),
+        Call::Owes => return Is(areas.within(span).any(owes)),
         Call::MostTries => return Gives(u64::from(areas.most_tries(span))),
-        Call::Amount => return Counts(areas.count_within(span), areas.bytes_within(span)),
-        Call::Has(memory) => return Is(areas.has_memory_within(span, memory)),
+        Call::Count => return Counts(areas.len()),
         Call::Free(count) => return free(areas, span.first(), count),
         Call::List(ends) => return listed(areas, alloc, ends),
         Call::ListInSmallHeap => return listed_in_small_heap(areas, alloc),
@@ -182,9 +187,7 @@ const FOUND: &[Row] = &[
     (0x5000, 0x7fff, Call::Exact, Gives(13)),
     (0x5000, 0x7ffe, Call::Exact, Nothing),
     (0x1000, 0x2fff, Call::Exact, Nothing),
-    (0x1000, 0x2fff, Call::Amount, Counts(2, 0x2000)),
-    (0x1000, 0x2fff, Call::Has(12), Is(true)),
-    (0x1000, 0x2fff, Call::Has(13), Is(false)),
+    (0, TOP, Call::Count, Counts(4)),
     (0, 0xfff, Call::Look, Looks(false, false, false)),
     (0, 0x1000, Call::Look, Looks(true, true, false)),
     (0x1000, 0x2fff, Call::Look, Looks(true, false, true)),
@@ -232,7 +235,7 @@ const ENDS: &[Row] = &[
     (TOP, TOP, Call::At, Gives(14)),
     (0, 0x2fff, Call::Look, Looks(true, false, true)),
     (TOP, TOP, Call::Look, Looks(true, true, true)),
-    (0, TOP, Call::Amount, Counts(5, 0x7000)),
+    (0, TOP, Call::Count, Counts(5)),
     (0, TOP, Call::Remove, Done),
     (0, TOP, Call::List(&[]), Is(true)),
 ];

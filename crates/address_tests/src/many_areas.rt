@@ -40,7 +40,7 @@ fn all_go(areas: &mut Areas, count: usize) -> bool {
     let Some(all) = Span::new(0, TOP) else {
         return false;
     };
-    let before = areas.count_within(all);
+    let before = areas.len();
     areas.remove(all);
     before == count && areas.is_empty() && !areas.meets(all)
 }

@@ -2,11 +2,10 @@
 
 ghost use Rattle.std.specs.Prelude.{◌≡◌, ◌==◌, ◌↔◌, ◌+◌, ◌<◌, ◌≤◌, [], find, length, map, nat_le, is_ok, IsOk, IfOk};
 ghost use Rattle.std.specs.Prelude.{MatchOption, IfErr, IfSome, IfNone, OnOk, OnErr, IsOkUnless};
-ghost use Rattle.std.specs.List.{list_any};
 ghost use Rattle.std.specs.Option.{option_copied};
 ghost use Rattle.area_rows.specs.Areas.{AreKept, with_area, area_of, is_covered, IsCovered, HasGap, marked};
 ghost use Rattle.area_rows.specs.Areas.{HasNoneFree, IsFirstFree};
-ghost use Rattle.area_rows.specs.Areas.{without_debt, areas_owe, areas_within, areas_outside, bytes_of, most_tries};
+ghost use Rattle.area_rows.specs.Areas.{without_debt, areas_within, areas_outside, most_tries};
 ghost use Rattle.area_rows.specs.Areas.{tried};
 ghost use Rattle.iofd_words.specs.Areas.{areas_meet, has_no_room, is_cut, area_at};
 ghost use Rattle.area_map.specs.Insertion.{insert_refusal};
@@ -252,13 +251,6 @@ impl<A: Allocator> Areas<A> {
         self.leaving = leaving::joined(self.leaving, span);
     }
 
-    /// Whether some leaving area that lies in the span still owes a flush. It takes no memory.
-    pub fn owes(&self, span: Span) -> bool
-        ensures { result ≡ areas_owe span self.now.areas }
-    {
-        totals::owe(self.within(span))
-    }
-
     /// Takes the device out of the debt of each leaving area. Nothing else changes. It takes no memory.
     pub fn pay(&mut self, device: DeviceNo)
         ensures areas { self.new.areas ≡ map (without_debt device) self.old.areas }
@@ -284,27 +276,6 @@ impl<A: Allocator> Areas<A> {
         ensures room { self.new.room ≡ self.old.room }
     {
         changes::change(&mut self.rows, &Change::SetTries(tries), span);
-    }
-
-    /// How many areas lie in the span. It takes no memory.
-    pub fn count_within(&self, span: Span) -> usize
-        ensures { result ≡ length (areas_within span self.now.areas) }
-    {
-        totals::count(lookups::within(&self.rows, span))
-    }
-
-    /// How many addresses the areas that lie in the span have together; it may be 2^64. It takes no memory.
-    pub fn bytes_within(&self, span: Span) -> u128
-        ensures { result ≡ bytes_of (areas_within span self.now.areas) }
-    {
-        totals::bytes_of(lookups::within(&self.rows, span))
-    }
-
-    /// Whether an area that lies in the span is over the memory object of this number. It takes no memory.
-    pub fn has_memory_within(&self, span: Span, memory: u64) -> bool
-        ensures { result ≡ list_any (λ area. area.memory == memory) (areas_within span self.now.areas) }
-    {
-        totals::have_memory(self.within(span), memory)
     }
 
     /// Takes away the areas that lie in the span. The other areas stay. It takes no memory.

@@ -100,15 +100,6 @@ marked span owed area = record area { phase = if lies_in area.span span then lea
 abbrev pub without_debt : DeviceNo → Area → Area
 without_debt device area = record area { phase = paid device area.phase }
 
--- a leaving area still waits for a device
-abbrev pub is_owing : Phase → Bool
-is_owing Live = false
-is_owing (Leaving owed tries) = not (length owed == 0)
-
--- some area that lies in the span still waits for a device
-abbrev pub areas_owe : Bounds → List Area → Bool
-areas_owe span areas = list_any (λ area. lies_in area.span span && is_owing area.phase) areas
-
 -- how many further calls an area on its way out has seen
 abbrev pub tries_of : Phase → ℕ
 tries_of Live = 0

@@ -8,8 +8,8 @@ use crate::row::Row;
 use iofd_words::Area;
 use std::alloc::Allocator;
 
-/// From which place on so many addresses are free, as far as the areas of these rows go. The place may be too high for an
-/// address.
+/// From which place on so many addresses are free, as far as the areas of these rows go. The place may be too high for
+/// an address.
 pub fn free_in_rows<A: Allocator>(rows: &[Row<A>], start: u128, count: u64) -> u128
     requires start { start ≤ 2 ^ 64 }
     requires apart { AreApart (in_rows rows.now) }

@@ -1,5 +1,5 @@
-//! Areas in rows: the areas of an address space by rising start, in rows of few, so that an insertion or a removal moves
-//! few of them. A row is seen as the list of its areas, and rows as the areas of all, one row behind the other.
+//! Areas in rows: the areas of an address space by rising start, in rows of few, so that an insertion or a removal
+//! moves few of them. A row is seen as the list of its areas, and rows as the areas of all, one row behind the other.
 #![tactic(auto)]
 
 pub mod changes;

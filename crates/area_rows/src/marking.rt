@@ -1,7 +1,7 @@
 //! Areas on their way out: what they owe to devices.
 
 ghost use Rattle.std.specs.Prelude.{◌≡◌, map, vec_capacity};
-ghost use Rattle.area_rows.specs.Areas.{changed, marked, without_debt, is_owing, tries_of, tried};
+ghost use Rattle.area_rows.specs.Areas.{changed, marked, without_debt, tries_of, tried};
 
 use iofd_words::{Area, DeviceNo, DeviceSet, Phase, Span};
 use std::alloc::Allocator;
@@ -57,16 +57,6 @@ fn pay_one(area: &mut Area, device: DeviceNo)
 {
     if let Phase::Leaving { owed, .. } = &mut area.phase {
         owed.remove(device);
-    }
-}
-
-/// Whether a device still has to flush.
-pub fn is_owing(phase: &Phase) -> bool
-    ensures { result ≡ is_owing phase.now }
-{
-    match phase {
-        Phase::Live => false,
-        Phase::Leaving { owed, .. } => !owed.is_empty(),
     }
 }
 

@@ -1,9 +1,8 @@
 //! What areas amount to.
 
-ghost use Rattle.std.specs.Prelude.{◌≡◌, ◌==◌, ◌<◌, ◌≤◌, ◌^◌, IfOk, OnErr, length, map};
-ghost use Rattle.std.specs.List.{list_any};
+ghost use Rattle.std.specs.Prelude.{◌≡◌, ◌<◌, ◌≤◌, ◌^◌, IfOk, OnErr, length, map};
 ghost use Rattle.iofd_words.specs.Span.{size_of};
-ghost use Rattle.area_rows.specs.Areas.{bytes_of, is_owing, most_tries};
+ghost use Rattle.area_rows.specs.Areas.{bytes_of, most_tries};
 ghost use Rattle.iofd_words.specs.Areas.{most_areas};
 
 use crate::iter::Iter;
@@ -31,18 +30,6 @@ fn size_of(span: Span) -> u128
     u128::from(span.last() - span.first()) + 1
 }
 
-/// How many areas there are.
-pub fn count<A: Allocator>(areas: Iter<'_, A>) -> usize
-    requires { length areas ≤ most_areas }
-    ensures { result ≡ length areas.entry }
-{
-    let mut count = 0;
-    for _area in areas {
-        count += 1;
-    }
-    count
-}
-
 /// The spans of the areas, of which there are `count`.
 pub fn spans<A: Allocator, B: Allocator>(
     alloc: B,
@@ -60,13 +47,6 @@ pub fn spans<A: Allocator, B: Allocator>(
     Ok(spans)
 }
 
-/// Whether some of the areas still waits for a device.
-pub fn owe<A: Allocator>(mut areas: Iter<'_, A>) -> bool
-    ensures { result ≡ list_any (λ area. is_owing area.phase) areas.entry }
-{
-    areas.any(|area| marking::is_owing(&area.phase))
-}
-
 /// The greatest number of further calls that one of the areas has seen.
 pub fn most_tries<A: Allocator>(areas: Iter<'_, A>) -> u8
     ensures { result ≡ most_tries areas.entry }
@@ -76,11 +56,4 @@ pub fn most_tries<A: Allocator>(areas: Iter<'_, A>) -> u8
         most = most.max(marking::tries_of(&area.phase));
     }
     most
-}
-
-/// Whether one of these areas is over the memory object of this number.
-pub fn have_memory<A: Allocator>(mut areas: Iter<'_, A>, memory: u64) -> bool
-    ensures { result ≡ list_any (λ area. area.memory == memory) areas.entry }
-{
-    areas.any(|area| area.memory == memory)
 }

@@ -46,25 +46,3 @@ within_from_counts (row ∷ rows) holds enough =
     (cases_lt row.frame.0 (length holds)) in
     rw here (within_from_counts rows holds (λ frame. let le = first.1 frame in let all = enough frame in
     omega (arith, le, all)))
-
--- the frame of a page that is there is named at least once
-pub named_once : (rows : List UserPage) (user : UserNo) (page : ℕ) (frame : FrameNo)
-    → frame_at rows user page ≡ Some frame → 1 ≤ pages_on rows frame.0
-named_once rows user page frame is = found_once rows (sym (frame_at-find rows user page) ∙ is)
-  where
-    found_once : (xs : List UserPage) → frame_found (find (is_page user page) xs) ≡ Some frame → 1 ≤ pages_on xs frame.0
-    found_once [] none = cc
-    found_once (row ∷ xs) found =
-        let first = pages_first row xs in
-        ⊎_elim
-        (λ (here : is_page user page row ≡ true).
-        let some : frame_found (Some row) ≡ Some frame = rw here at found in
-        let same : row.frame ≡ frame = cc in
-        let P : FrameNo → Type 0 = λ f. 1 ≤ pages_on (row ∷ xs) f.0 in
-        subst P same (omega (arith, first.0)))
-        (λ (other : is_page user page row ≡ false).
-        let later : frame_found (find (is_page user page) xs) ≡ Some frame = rw other at found in
-        let rest = found_once xs later in
-        let le = first.1 frame.0 in
-        omega (arith, rest, le))
-        (cases_Bool (is_page user page row))

@@ -1,16 +1,12 @@
 -- All frames of a pool, of which some were written and the others are fresh.
 use Rattle.std.proofs.Common.{◌≡◌, ◌∙◌, ℕ, zero, suc, ◌+◌, ◌-◌, ◌^◌, ◌<◌, ◌≤◌, Bool, true, List, [], ◌++◌, length}
-use Rattle.std.proofs.Common.{ap, arith, get_or, ltb, map, refl, replicate, append_assoc, length-append}
+use Rattle.std.proofs.Common.{ap, arith, get_or, map, refl, replicate, append_assoc, length-append}
 use Rattle.std.specs.Prelude.{nat_lt}
-use Rattle.std.specs.List.{list_all}
-use Rattle.std.proofs.Math.Bool.{and-true}
-use Rattle.std.proofs.lemmas.Bool.Decides.{nat_tests}
 use Rattle.std.proofs.lemmas.List.{get_or-append_right, get_or-replicate, length-map, length-replicate}
 use Rattle.std.proofs.lemmas.List.{map-append, replicate-append-replicate}
-use Rattle.std.proofs.lemmas.List.Folds.{list_all-append, list_all-map}
 use Rattle.frame_memory.specs.FreeMap.{has_frame}
 use Rattle.frame_memory.specs.Kept.{IsKept, all_frames, fresh_frame, seen}
-use Rattle.frame_memory.specs.Pool.{FramePool, fresh, may_hold, zeros}
+use Rattle.frame_memory.specs.Pool.{FramePool, fresh, zeros}
 use Rattle.frame_memory.specs.declared.pool.Frame.{Frame}
 use Rattle.frame_memory.proofs.Holds.{map-replicate, tells-fresh}
 use Rattle.frame_memory.proofs.Words.{zero_at}
@@ -78,26 +74,6 @@ bytes_behind written f count behind within =
       get_or-append_right (map (λ (x : Frame). x.bytes) written) (replicate n zeros) (length written) f none
           (length-map written (λ (x : Frame). x.bytes)) behind,
     ) (get_or-replicate n (f - length written) zeros none (omega arith))
-
--- frames that were written have room for more holds exactly where all have
-list_all-zeros : (p : ℕ → Bool) (n : ℕ) → p 0 ≡ true → list_all p (replicate n 0) ≡ true
-list_all-zeros p zero holds = refl
-list_all-zeros p (suc n) holds = rw (holds, list_all-zeros p n holds) refl
-
-pub may_hold-all : (written : List Frame) (n count : ℕ) → count < 2 ^ 64
-    → may_hold (seen (all_frames written n)).holds count
-    ≡ list_all (λ (frame : Frame). ltb (frame.holds + count) (2 ^ 128)) written
-may_hold-all written n count small =
-    let p = λ (held : ℕ). ltb (held + count) (2 ^ 128) in
-    let more = n - length written in
-    let room : p 0 ≡ true = grind (arith, nat_tests) in
-    rw (
-      map-append (λ (x : Frame). x.holds) written (replicate more fresh_frame),
-      map-replicate (λ (x : Frame). x.holds) more fresh_frame,
-      list_all-append p (map (λ (x : Frame). x.holds) written) (replicate more 0),
-      list_all-zeros p more room,
-      and-true,
-    ) (list_all-map p (λ (x : Frame). x.holds) written)
 
 -- of so many frames those that are there are the same as those that were written and some fresh ones behind them, and
 -- this one is among them

@@ -81,15 +81,6 @@ summed-set words summary w b is small low =
     summed words summary _ w _ is small (rw (bit_at_set_same w64 summary w small, some) refl)
     (λ i within differ. bit_at_set_other w64 summary w small i differ)
 
--- a word of which something is left
-pub summed-left : (words : List ℕ) (summary w b : ℕ) → IsSummed words summary → w < 64 → b < 64
-    → without_bit (get_or words w 0) b ≢ 0 → IsSummed (set words w (without_bit (get_or words w 0) b)) summary
-summed-left words summary w b is small low left =
-    let bits = is.bits w small in
-    let n = without_bit (get_or words w 0) b in
-    let full : get_or words w 0 ≢ 0 = λ none. left (rw none refl) in
-    summed words summary summary w n is small (grind (arith, nat_tests)) (λ i within differ. refl)
-
 -- a word of which nothing is left
 pub summed-none : (words : List ℕ) (summary w n : ℕ) → IsSummed words summary → w < 64 → n ≡ 0
     → IsSummed (set words w n) (without_bit summary w)

@@ -2,7 +2,7 @@
 
 ghost use Rattle.std.specs.Prelude.{◌≡◌, ◌<◌, ◌≤◌, ◌+◌, [], None, length, IsSome, IsTrue, IfSome, OnOk, OnErr};
 ghost use Rattle.iofd_words.specs.Frames.{frame_at};
-ghost use Rattle.frame_memory.specs.UserPages.{are_rising, are_within, user_page, with_page, without_page, HasOneMore};
+ghost use Rattle.frame_memory.specs.UserPages.{are_rising, user_page, with_page, without_page, HasOneMore};
 
 use crate::pool::Pool;
 use iofd_words::{FrameNo, NoMemory, UserNo};
@@ -52,13 +52,6 @@ impl<A: Allocator> PageFrames<A> {
         ensures { result ≡ frame_at self.now.pages user page }
     {
         self.frames.get(&(user.0, page)).copied()
-    }
-
-    /// Whether each page's frame is one of the pool's.
-    pub(crate) fn are_within<B: Allocator>(&self, pool: &Pool<B>) -> bool
-        ensures { result ≡ are_within self.now.pages pool.now.holds }
-    {
-        self.frames.values().all(|frame| pool.has(*frame))
     }
 
     /// Makes room for one more page. Its only error is want of memory, and changes nothing.

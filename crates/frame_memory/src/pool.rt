@@ -2,7 +2,7 @@
 
 ghost use Rattle.std.specs.Prelude.{ℕ, ◌≡◌, ◌≢◌, ◌⊎◌, ◌<◌, ◌≤◌, ◌+◌, ◌-◌, ◌^◌, nat_lt, false, length, slice_index};
 ghost use Rattle.std.specs.Prelude.{◌++◌, replicate, vec_capacity, is_some, IfOk, IfSome, IfNone, OnErr};
-ghost use Rattle.frame_memory.specs.Pool.{fresh, is_free, least_free, free_count, may_hold, with_holds, given};
+ghost use Rattle.frame_memory.specs.Pool.{fresh, is_free, least_free, free_count, with_holds, given};
 ghost use Rattle.frame_memory.specs.Pool.{bytes_at, bytes_of, written, word_at, with_word, zeros, AreApart};
 
 use crate::content::{ZEROS, overwrite, word_of, zero_bytes};
@@ -132,13 +132,6 @@ impl<A: Allocator> Pool<A> {
         Ok(FrameNo(frame))
     }
 
-    /// Whether so many holds more may be put on each frame.
-    pub fn may_hold(&self, count: u64) -> bool
-        ensures { result ≡ may_hold self.now.holds count }
-    {
-        self.frames.iter().all(|frame| can_hold(frame, count))
-    }
-
     /// Puts one more hold on the frame, be it free or not. Its bytes stay.
     pub fn hold(&mut self, frame: FrameNo)
         requires frame { frame.0 < length self.old.holds }
@@ -220,13 +213,6 @@ impl<A: Allocator> Pool<A> {
     {
         self.write(frame, 8 * index, &value.to_le_bytes());
     }
-}
-
-// Whether so many holds more may be put on the frame.
-fn can_hold(frame: &Frame, count: u64) -> bool
-    ensures { result ≡ nat_lt (frame.now.holds + count) (2 ^ 128) }
-{
-    frame.holds <= u128::MAX - u128::from(count)
 }
 
 // Writes the frames that lack up to this one, for which there is room.

@@ -5,7 +5,7 @@ ghost use Rattle.std.specs.Prelude.{OnErr, IsOkUnless};
 ghost use Rattle.iofd_words.specs.Frames.{frame_at};
 ghost use Rattle.iofd_words.specs.Pages.{page_of};
 ghost use Rattle.frame_memory.specs.Pool.{given, least_free, with_holds};
-ghost use Rattle.frame_memory.specs.UserPages.{are_within, user_page, with_page, without_page, map_refusal, HasOneMore};
+ghost use Rattle.frame_memory.specs.UserPages.{user_page, with_page, without_page, map_refusal, HasOneMore};
 
 use crate::page_frames::PageFrames;
 use crate::pool::Pool;
@@ -60,13 +60,6 @@ impl<A: Allocator> UserMap<A> {
         ensures { result ≡ frame_at self.now.pages user page }
     {
         self.pages.get(user, page)
-    }
-
-    /// Whether each page's frame is one of the pool's.
-    pub fn is_within<B: Allocator>(&self, pool: &Pool<B>) -> bool
-        ensures { result ≡ are_within self.now.pages pool.now.holds }
-    {
-        self.pages.are_within(pool)
     }
 
     /// Gives the user the page that holds this user address, in bytes: the least free frame, with one hold, which

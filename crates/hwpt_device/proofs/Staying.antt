@@ -130,12 +130,6 @@ stays_standing old new frames leads tables stand same =
         (λ (none : tables_in frames frame ≤ 0). omega (arith, none))
         (cases_lt 0 (tables_in frames frame))
 
--- in a frame on which no hold stands no table is
-pub no_table_in : (pool : FramePool) (frames : List TableFrame) (leads : Object → ℕ
-    → Option MappedPage) (tables : List Hwpt) (frame : ℕ)
-    → AllStand pool frames leads tables → slice_index pool.holds frame ≡ 0 → tables_in frames frame ≡ 0
-no_table_in pool frames leads tables frame stand free = let few = stand.held frame in omega (arith, few, free)
-
 -- one frame, in which no table is, differs
 pub one_frame_else : (old new : FramePool) (frames : List TableFrame) (leads : Object → ℕ
     → Option MappedPage) (tables : List Hwpt) (frame : ℕ)
@@ -153,19 +147,6 @@ one_frame_else old new frames leads tables frame stand none others =
     apart : (other : ℕ) → 0 < tables_in frames other → frame ≢ other
     apart other some same = let here = ap (tables_in frames) same in absurd (omega (arith, some, none, here))
 
--- bytes are written there, as by a user or a device
-pub write_stays : (pool : FramePool) (frames : List TableFrame) (leads : Object → ℕ
-    → Option MappedPage) (tables : List Hwpt) (frame offset : ℕ) (bytes : List ℕ)
-    → AllStand pool frames leads tables → tables_in frames frame ≡ 0
-    → AllStand (written pool frame offset bytes) frames leads tables
-write_stays pool frames leads tables frame offset bytes stand none =
-    one_frame_else pool (written pool frame offset bytes) frames leads tables frame stand none
-    (λ other apart. (
-      get_or-set_other pool.bytes frame other
-          (splice (bytes_of pool frame) offset (offset + length bytes) bytes) [] (λ same. apart (sym same)),
-      refl,
-    ))
-
 -- other holds stand on it, as by a pin that comes or goes
 pub holds_stay : (pool : FramePool) (frames : List TableFrame) (leads : Object → ℕ
     → Option MappedPage) (tables : List Hwpt) (frame count : ℕ)
@@ -174,16 +155,3 @@ pub holds_stay : (pool : FramePool) (frames : List TableFrame) (leads : Object �
 holds_stay pool frames leads tables frame count stand none =
     one_frame_else pool (with_holds pool frame count) frames leads tables frame stand none
     (λ other apart. (refl, get_or-set_other pool.holds frame other count 0 (λ same. apart (sym same))))
-
--- it was free and is given out
-pub given_stays : (pool : FramePool) (frames : List TableFrame) (leads : Object → ℕ
-    → Option MappedPage) (tables : List Hwpt) (frame : ℕ)
-    → AllStand pool frames leads tables → slice_index pool.holds frame ≡ 0
-    → AllStand (given pool frame) frames leads tables
-given_stays pool frames leads tables frame stand free =
-    one_frame_else pool (given pool frame) frames leads tables frame stand
-    (no_table_in pool frames leads tables frame stand free)
-    (λ other apart. (
-      get_or-set_other pool.bytes frame other zeros [] (λ same. apart (sym same)),
-      get_or-set_other pool.holds frame other 1 0 (λ same. apart (sym same)),
-    ))

@@ -118,10 +118,6 @@ pub memory_of_page : (area : Area) (page : ObjectPage) → list_any (is_page pag
     → eqb area.memory page.memory ≡ true
 memory_of_page area page within = memory_of_each area.memory _ page within
 
-pub memory_of_pinned : (objects : List Object) (area : Area) (page : ObjectPage) → pins_page objects page area ≡ true
-    → eqb area.memory page.memory ≡ true
-memory_of_pinned objects area page pins = memory_of_page area page (and_true _ _ pins).1
-
 -- ---- one more area
 
 pub any-with_area : (p : Area → Bool) (x : Area) (areas : List Area)

@@ -90,15 +90,3 @@ pub pinned_alike : (objects left : List Object) (areas : List Area)
     → pages_by_area left areas ≡ pages_by_area objects areas
 pinned_alike objects left [] same = refl
 pinned_alike objects left (a ∷ areas) same = rw (same a.file a.ioas, pinned_alike objects left areas same) refl
-
--- fewer page tables pin fewer pages
-pub pinned_within : (objects left : List Object) (areas : List Area)
-    → ((file : FileNo) (ioas : ObjId) → has_hwpt left file ioas ≡ true → has_hwpt objects file ioas ≡ true)
-    → list_all (λ page. list_any (is_page page) (pages_by_area objects areas)) (pages_by_area left areas) ≡ true
-pinned_within objects left areas fewer =
-    all_pages (λ page. list_any (is_page page) (pages_by_area objects areas)) (pages_by_area left areas)
-    (λ page within. any-pinned objects areas page
-    ∙ any_weaker (pins_page left page) (pins_page objects page) areas
-    (λ a pins. let parts = and_true (has_hwpt left a.file a.ioas) (list_any (is_page page) (area_pages a))
-    pins in both_true _ _ (fewer a.file a.ioas parts.0) parts.1) (sym (any-pinned left areas page)
-    ∙ within))

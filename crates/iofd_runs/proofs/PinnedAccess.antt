@@ -168,10 +168,6 @@ page_pinned at w a ioas area address pins fits space found_own =
 not_empty : {X : Type 0} (x : X) (xs : List X) → x ∷ xs ≡ [] → ⊥
 not_empty x xs is = cc
 
-end_not_empty : {X : Type 0} (xs : List X) (x : X) → xs ++ x ∷ [] ≡ [] → ⊥
-end_not_empty [] x is = cc
-end_not_empty (y ∷ xs) x is = cc
-
 within_empty : (o : Option DeviceSettings) (address : ℕ) (x : Outcome) (within : List Outcome)
     → by_width o address (x ∷ []) within ≡ [] → within ≡ []
 within_empty None address x within is = is

@@ -16,10 +16,6 @@ pub record IsLeft (length : ℕ) (spans areas : List Bounds) (from : ℕ) (more_
     pub on : (start : ℕ) → IsFit length spans areas start → IsFit length more_spans more_areas start
     pub back : (start : ℕ) → from ≤ start → IsFit length more_spans more_areas start → IsFit length spans areas start
 
-pub left-all : (length : ℕ) (spans areas : List Bounds) → IsLeft length spans areas 0 spans areas
-left-all length spans areas =
-    record { above = λ start fit. omega arith; on = λ start fit. fit; back = λ start above fit. fit }
-
 -- rounding up
 pub whole_from-above : (n : ℕ) → n ≤ whole_from n
 whole_from-above n = omega arith

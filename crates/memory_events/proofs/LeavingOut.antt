@@ -20,9 +20,6 @@ pub record IsLeaving {X : Type 0} (test : ℕ → X → Bool) (all left : List X
   pub merged : AreMerged before → AreMerged now
 
 module _ {X : Type 0} (test : ℕ → X → Bool) (all : List X) (before : List Bounds) where
-  pub none_left_out : IsLeaving test all all before before
-  none_left_out = record { numbers = λ n. refl; merged = λ merged. merged }
-
   step : (b now : Bool) (one left : Bool) → now ≡ (b && not one) → (now && not left) ≡ (b && not (one || left))
   step true now true left is = rw is refl
   step true now false left is = rw is refl

@@ -1,5 +1,4 @@
 pub mod AreaCounts
-pub mod BackedTest
 pub mod Counted
 pub mod FramesSeen
 pub mod Invariants

@@ -129,10 +129,6 @@ after_error (Err memory) P holds = holds
 -- ---- what stays enough
 
 module _ (old new : List MemoryEntry) (grows : MemoryGrows old new) where
-  pub rising_still : are_rising old ≡ true → are_rising new ≡ true
-  rising_still rising =
-      rw grows.objects (rising_changed (λ o. with_capacity (grows.capacity o) o) (λ o. refl) old rising)
-
   pub enough_still : (ns : List ℕ) → all_pass has_memory old ns ≡ true → all_pass has_memory new ns ≡ true
   enough_still ns all = rw grows.objects (all_changed (λ o. with_capacity (grows.capacity o) o) (λ o. refl) has_memory
       (λ o. more_memory o (grows.capacity o) (grows.more o)) old ns all)

@@ -1,12 +1,11 @@
 -- How the pins of memory objects stand to the pool and to the accounts.
-use Rattle.std.specs.Prelude.{ℕ, ◌≡◌, ◌+◌, ◌≤◌, Bool, true, ◌&&◌, nat_le, nat_lt, List, length, slice_index}
+use Rattle.std.specs.Prelude.{ℕ, ◌≡◌, ◌+◌, ◌≤◌, true, List, length, slice_index}
 use Rattle.std.specs.List.{list_all}
 use Rattle.iofd_words.specs.declared.rows.UserPage.{UserPage}
 use Rattle.frame_memory.specs.Pool.{FramePool, may_hold}
 use Rattle.frame_memory.specs.UserPages.{are_within}
 use Rattle.mem_account.specs.Accounts.{has_room, held_by, is_user, limit_of}
 use Rattle.mem_account.specs.declared.Account.{Account}
-use Rattle.pinned_pages.specs.Pages.{held_frames}
 use Rattle.memory_objects.specs.Objects.{MemoryEntry, all_pass, can_pin, has_memory, have_areas, is_of, new_pages}
 use Rattle.memory_objects.specs.Objects.{pinned_by, pins_on}
 
@@ -49,11 +48,3 @@ pub record CanPin (objects : List MemoryEntry) (numbers : List ℕ) (rows : List
   pub fits : Fits objects numbers accounts
   pub holds : may_hold pool_holds (new_pages objects numbers) ≡ true
   pub areas : have_areas numbers objects ≡ true
-
--- the object's user holds all pages that are pinned of the user's objects, and each of its frames all holds of all pins
-abbrev pub is_backed : List MemoryEntry → List ℕ → List Account → MemoryEntry → Bool
-is_backed objects pool_holds accounts object =
-    is_user accounts object.pages.pages.user.0
-    && nat_le (pinned_by objects object.pages.pages.user.0) (held_by accounts object.pages.pages.user.0)
-    && list_all (λ f. nat_lt f.0 (length pool_holds) && nat_le (pins_on objects f.0) (slice_index pool_holds f.0))
-    (held_frames object.pages.pages)

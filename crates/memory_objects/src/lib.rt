@@ -2,7 +2,6 @@
 //! pinned by one call, all of them or none.
 #![tactic(auto)]
 
-mod conditions;
 mod entry;
 mod lookups;
 mod objects;

@@ -2,11 +2,10 @@
 
 ghost use Rattle.std.specs.Prelude.{ℕ, ◌≡◌, ◌==◌, ◌+◌, ◌<◌, ◌≤◌, ◌^◌, ◌&&◌, ◌++◌, ◌∷◌, [], false, None, find, length};
 ghost use Rattle.std.specs.Prelude.{slice_get, if◌then◌else◌, IsTrue, IfSome, OnOk, OnErr};
-ghost use Rattle.std.specs.List.{list_all};
 ghost use Rattle.std.specs.List.Sorted.{IsNonDecreasing};
 ghost use Rattle.std.specs.Option.{option_map};
 ghost use Rattle.mem_account.specs.Accounts.{has_room, is_user};
-ghost use Rattle.memory_objects.specs.Backed.{AccountsMove, AreBacked, CanPin, Fits, HoldsMove, is_backed};
+ghost use Rattle.memory_objects.specs.Backed.{AccountsMove, AreBacked, CanPin, Fits, HoldsMove};
 ghost use Rattle.pinned_pages.specs.Holds.{times};
 ghost use Rattle.memory_objects.specs.Invariant.{MemoryInvariant};
 ghost use Rattle.memory_objects.specs.Objects.{MemoryGrows, SamePins, all_pass, all_pinned, all_unpinned, are_below};
@@ -16,7 +15,7 @@ ghost use Rattle.memory_objects.specs.Objects.{pinned_by, pinned_frame, pins_on,
 ghost use Rattle.pinned_pages.specs.Pages.{frame_of, held_frames, pinned_count};
 
 use crate::entry::Entry;
-use crate::{conditions, lookups, pinning, questions, removal, reserving};
+use crate::{lookups, pinning, questions, removal, reserving};
 use frame_memory::{Pool, UserMap};
 use iofd_words::{FrameNo, MemoryObject, NoMemory, UserNo};
 use mem_account::Accounts;
@@ -236,41 +235,6 @@ impl<A: Allocator> MemoryObjects<A> {
         questions::fit(&self.entries, numbers, user, accounts)
     }
 
-    /// Whether all objects have lower numbers. It goes over all of them; it takes no memory.
-    pub fn are_below(&self, number: u64) -> bool
-        ensures { result ≡ are_below self.now.objects number }
-    {
-        conditions::are_below(&self.entries, number)
-    }
-
-    /// Whether no object would have more pins than areas, were one pin more put on it for each time that its number
-    /// is there. It goes over all objects, each time over the list; it takes no memory.
-    pub fn have_areas(&self, numbers: &[u64]) -> bool
-        ensures { result ≡ have_areas numbers.now self.now.objects }
-    {
-        conditions::have_areas(&self.entries, numbers)
-    }
-
-    /// Whether each object has as many pins as its number is there. It goes over all objects, as `have_areas`.
-    pub fn have_pins(&self, numbers: &[u64]) -> bool
-        ensures { result ≡ have_pins numbers.now self.now.objects }
-    {
-        conditions::have_pins(&self.entries, numbers)
-    }
-
-    /// Whether each frame has a hold for each pin that names it, and each user holds all pinned pages of the user's
-    /// objects. For each pinned page it goes over all others; it takes no memory.
-    pub fn are_backed<B: Allocator, C: Allocator>(
-        &self,
-        pool: &Pool<B>,
-        accounts: &Accounts<C>,
-    ) -> bool
-        ensures value { result ≡ list_all (is_backed self.now.objects pool.now.holds accounts.now) self.now.objects }
-        ensures backed { IsTrue result → AreBacked self.now.objects pool.now.holds accounts.now }
-    {
-        conditions::are_backed(&self.entries, pool, accounts)
-    }
-
     /// Takes memory for the frames of these objects, where pinning them needs some and there is none. After an Ok
     /// pinning them doesn't want for memory; an error comes only where memory was lacking. The objects stay either
     /// way.
@@ -292,7 +256,7 @@ impl<A: Allocator> MemoryObjects<A> {
     /// else changes. It takes no memory.
     ///
     /// What refuses it was asked before (`are_present`, then `fit`), the memory was taken (`reserve_frames`), and
-    /// each frame may have as many holds more as pages are pinned anew (`Pool::may_hold`).
+    /// each frame may have as many holds more as pages are pinned anew.
     pub fn pin_by_table<B: Allocator, C: Allocator, D: Allocator>(
         &mut self,
         numbers: &[u64],

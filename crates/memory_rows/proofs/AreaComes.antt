@@ -115,25 +115,6 @@ none_over m n lower = ap areas_in (none m.objects lower)
         (objects.rows_of entries)) all in
         rw (other o.number n parts.0) (none entries parts.1)
 
-pub more_added : (count : ℕ) (row : MemoryObject) (old new : Memory) → HasObject count row old new
-    → list_all (λ (other : MemoryObject). ltb other.number row.number) (rows_of old) ≡ true
-    → HasAreaMore count row.number old new
-more_added count row old new has lower = record {
-  areas = has.areas;
-  pins = has.pins;
-  pages = λ page some.
-      let none = none_over old row.number lower in
-      ap (list_any (λ (r : MemoryObject). eqb page.memory r.number && ltb page.index r.count)) has.rows
-      ∙ list_any-append (λ (r : MemoryObject). eqb page.memory r.number && ltb page.index r.count)
-      (rows_of old) (row ∷ [])
-      ∙ rw (ne_eqb page.memory row.number (λ same. let here = ap (areas_over old) same in omega (
-        arith,
-        none,
-        here,
-        some,
-      ))) (or_none _);
-}
-
 module _ (count number : ℕ) (old new : Memory) (has : HasAreaMore count number old new) where
   -- what was pinned still is
   pub more_pinned : MemoryInvariant old.objects → (page : ObjectPage) → is_pinned old page ≡ true
@@ -204,20 +185,3 @@ pub copied_world : (w : World) (file : FileNo) (request : CopyRequest) (iova : I
     → copy_changes w file request iova (Some source) ≡ shared_world w
     (mapped_area source.memory file (placed_as request) iova)
 copied_world w file request iova source = refl
-
--- ---- frames and users' pages, whatever settles
-
-pub frames_settle : (pool : ℕ) (writes : List FrameWrite) (tables : List TableFrame) (old new : Memory)
-    (before after : FramePool) → FramesShown pool writes tables old before → Settles old new before after
-    → FramesShown pool writes tables new after
-frames_settle pool writes tables old new before after shown settles =
-    frames_follow pool writes tables old new before after shown settles.holds settles.bytes
-    (λ f named. settles_named old new before after settles f named)
-
-pub users_settle : (user_pages : List UserPage) (old new : Memory) (before after : FramePool)
-    → UsersShown user_pages old.pages → Settles old new before after → UsersShown user_pages new.pages
-users_settle user_pages old new before after shown settles = record {
-  pages =
-      λ user page. shown.pages user page ∙ ap (λ (rows : List UserPage). frame_at rows user page) (sym settles.pages);
-  counts = λ test. shown.counts test ∙ ap (count_by test) (sym settles.pages);
-}

@@ -160,14 +160,12 @@ fn grows_again<'a>(heap: &'a LocalHeap, map: &mut UserMap<&'a LocalHeap>, pool: 
 }
 
 /// Whether a page is the user's own at each of its addresses, and refused for that where no frame is free, too.
-fn has_pages(map: &mut UserMap, pool: &mut Pool, full: &mut Pool) -> bool {
+fn has_pages(map: &mut UserMap, full: &mut Pool) -> bool {
     map.map(full, UserNo(2), 0x1_0000) == Ok(FrameNo(0))
         && map.map(full, UserNo(2), 0x1_0fff) == refused(Cause::Overlap)
         && map.map(full, UserNo(3), 0x1_0000) == refused(Cause::Frames)
         && map.frame_at(UserNo(2), 0x1_0fff) == Some(FrameNo(0))
         && map.frame_at(UserNo(2), 0x1_1000).is_none()
-        && map.is_within(pool)
-        && !map.is_within(full)
 }
 
 /// Whether the user had the page, which is taken away, and its frame is free.
@@ -183,21 +181,20 @@ fn is_unmapped(map: &mut UserMap, pool: &mut Pool, user: UserNo, va: u64) -> boo
 }
 
 /// What these say of a map with two pages of the first user, over a pool of 64 frames and one of one.
-fn answers(alloc: Global) -> Result<[bool; 4], NoMemory> {
+fn answers(alloc: Global) -> Result<[bool; 3], NoMemory> {
     let mut pool = Pool::new(alloc, 64)?;
     let mut full = Pool::new(alloc, 1)?;
     let mut map = UserMap::new(alloc);
-    let may_hold = pool.may_hold(u64::MAX);
     let are_mapped = map.map(&mut pool, UserNo(1), 0) == Ok(FrameNo(0))
         && map.map(&mut pool, UserNo(1), 0x1000) == Ok(FrameNo(1));
-    let has = has_pages(&mut map, &mut pool, &mut full);
+    let has = has_pages(&mut map, &mut full);
     let is_gone = is_unmapped(&mut map, &mut pool, UserNo(1), 0xfff);
-    Ok([may_hold, are_mapped, has, is_gone])
+    Ok([are_mapped, has, is_gone])
 }
 
 #[test]
 fn users_have_pages(rt: HostRuntime) {
-    assert_eq!(rt; answers(rt.alloc()), Ok([true; 4]));
+    assert_eq!(rt; answers(rt.alloc()), Ok([true; 3]));
 }
 
 /// Whether a map in this heap grows again, over a pool of 64 frames.

@@ -19,10 +19,6 @@ use Rattle.object_table.proofs.Rows.{inserted_is}
 use Rattle.object_table.proofs.EntryRows.{Parts, rows_of_slots, rows_of_slots-filled, rows_of_slots-emptied}
 use Rattle.object_table.proofs.EntryRows.{rows_of_slots-written}
 
-pub some_value : {T : Type 0} (o : Option T) → IsSome o → (value : T) × (o ≡ Some value)
-some_value None some = absurd (cc)
-some_value (Some value) some = (value, refl)
-
 -- what holds of the choice of a value holds where there is one
 pub chosen : {T : Type 0} (b : Bool) (o : Option T) → IsSome (cond b o None) → (b ≡ true) × IsSome o
 chosen true o some = (refl, some)

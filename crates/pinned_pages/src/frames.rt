@@ -1,13 +1,12 @@
 //! The frames of a user's pages, and their holds.
 
-ghost use Rattle.std.specs.Prelude.{◌≡◌, ◌≤◌, ◌<◌, ◌+◌, ◌*◌, ◌^◌, ◌++◌, ◌&&◌, IsTrue, length, nat_le, nat_lt};
-ghost use Rattle.std.specs.Prelude.{slice_index, vec_capacity, vec_len};
+ghost use Rattle.std.specs.Prelude.{◌≡◌, ◌≤◌, ◌<◌, ◌+◌, ◌*◌, ◌^◌, ◌++◌, IsTrue, vec_capacity, vec_len};
 ghost use Rattle.iofd_words.specs.Checks.{has_pages};
 ghost use Rattle.iofd_words.specs.Frames.{frame_at};
 ghost use Rattle.iofd_words.specs.Pages.{page_of};
 ghost use Rattle.frame_memory.specs.Pool.{may_hold};
 ghost use Rattle.frame_memory.specs.UserPages.{are_within};
-ghost use Rattle.pinned_pages.specs.Holds.{HasMoreHolds, are_held, times};
+ghost use Rattle.pinned_pages.specs.Holds.{HasMoreHolds, are_held};
 ghost use Rattle.pinned_pages.specs.Pages.{frames_now};
 
 use frame_memory::{Pool, UserMap};
@@ -58,28 +57,6 @@ pub(crate) fn hold_all<A: Allocator, B: Allocator, C: Allocator>(
             frames.push_reserved(frame);
         }
     }
-}
-
-/// Whether each of the frames is one of the pool's, and has a hold for each time that it is in the list.
-pub(crate) fn are_held<A: Allocator>(frames: &[FrameNo], pool: &Pool<A>) -> bool
-    ensures { result ≡ are_held frames.now pool.now.holds }
-{
-    frames.iter().all(|frame| is_held(frames, *frame, pool))
-}
-
-// Whether the frame is one of the pool's, and has a hold for each time that it is in the list.
-fn is_held<A: Allocator>(frames: &[FrameNo], frame: FrameNo, pool: &Pool<A>) -> bool
-    ensures { result ≡ (nat_lt frame.0 (length pool.now.holds)
-        && nat_le (times frame.0 frames.now) (slice_index pool.now.holds frame.0)) }
-{
-    pool.has(frame) && count_of(frames, frame) as u128 <= pool.holds(frame)
-}
-
-/// How many times the frame is in the list.
-pub(crate) fn count_of(frames: &[FrameNo], frame: FrameNo) -> usize
-    ensures { result ≡ times frame.0 frames.now }
-{
-    frames.iter().filter(|f| f.0 == frame.0).count()
 }
 
 /// Takes a hold off each of the frames, as many as it is there times. It takes no memory.

@@ -115,25 +115,11 @@ impl<A: Allocator> Pages<A> {
         self.table_pins
     }
 
-    /// Whether each pinned page's frame is one of the pool's, with a hold for each time that it is pinned here.
-    pub fn are_held<B: Allocator>(&self, pool: &Pool<B>) -> bool
-        ensures { result ≡ are_held self.now.pages.frames pool.now.holds }
-    {
-        frames::are_held(&self.frames, pool)
-    }
-
     /// The frames of the pages that are pinned.
     pub fn frames(&self) -> &[FrameNo]
         ensures { result.now ≡ held_frames self.now.pages }
     {
         &self.frames
-    }
-
-    /// How many of the pinned pages have this frame.
-    pub fn times(&self, frame: FrameNo) -> usize
-        ensures { result ≡ times frame.0 (held_frames self.now.pages) }
-    {
-        frames::count_of(&self.frames, frame)
     }
 
     /// The frame of page `index`, counted from 0, where it is pinned. It takes no memory.
@@ -192,8 +178,8 @@ impl<A: Allocator> Pages<A> {
     /// ENOMEM) where the user would hold more pages than the limit. An error leaves the pages, the pool and the
     /// accounts as they were; want of memory comes only where there was none for all frames.
     ///
-    /// The first asks that the users' pages lie in the pool (`UserMap::is_within` tests it), and that each frame may
-    /// have as many holds more as there are pages (`Pool::may_hold`).
+    /// The first asks that the users' pages lie in the pool, and that each frame may have as many holds more as there
+    /// are pages.
     pub fn pin_by_table<B: Allocator, C: Allocator, D: Allocator>(
         &mut self,
         users: &UserMap<B>,

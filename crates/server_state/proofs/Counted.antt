@@ -66,24 +66,6 @@ module _ {V : Type 0} (counts : ℕ → ℕ) (file : FileNo) (id : ObjId) (old n
 pub none_counted : {V : Type 0} (P : Row V → Type 0) (o : Option (Row V)) → o ≡ None → IfSome o P
 none_counted {V = V} P o is = let Holds = λ (o : Option (Row V)). IfSome o P in subst Holds (sym is) tt
 
-module _ {V : Type 0} (o : Option (Row V)) (n : ℕ) (is : option_map (λ (row : Row V). row.users) o ≡ Some n) where
-  -- what a number says that its row is asked for
-  pub number_may : (May : ℕ → Type 0) → May n → ForSome o (λ row. May row.users)
-  number_may May may = λ row found.
-      let here = sym (ap (option_map (λ (row : Row V). row.users)) found) ∙ is in
-      let same : n ≡ row.users = cc in
-      subst May same may
-
-  -- and what it doesn't
-  pub number_may_not : (May : ℕ → Type 0) (P : Row V → Type 0) → (May n → ⊥)
-      → IfSome o (λ row. May row.users → P row)
-  number_may_not May P not = by_row o is
-    where
-      by_row : (o : Option (Row V)) → option_map (λ (row : Row V). row.users) o ≡ Some n
-          → IfSome o (λ row. May row.users → P row)
-      by_row None is = tt
-      by_row (Some row) is = let same : row.users ≡ n = cc in λ may. absurd (not (subst May same may))
-
 -- ---- how many page tables stand over an address space
 
 -- 1 where an object of this file and kind is a page table over it

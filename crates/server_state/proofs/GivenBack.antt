@@ -23,9 +23,6 @@ filter_same_in : {X : Type 0} (p q : X → Bool) (xs : List X) → ((x : X) → 
 filter_same_in p q [] same = refl
 filter_same_in p q (x ∷ xs) same = rw (same x (inl refl), filter_same_in p q xs (λ y later. same y (inr later))) refl
 
-all_same_in : {X : Type 0} (p : X → Bool) (xs : List X) → ((x : X) → IsIn xs x → p x ≡ true) → list_all p xs ≡ true
-all_same_in p xs each = of_all p xs each
-
 -- those that pass and those that don't
 pub parts : (goes : TableFrame → Bool) (tables : List TableFrame) (frame : ℕ)
     → tables_in (filter goes tables) frame + tables_in (filter (λ table. not (goes table)) tables)

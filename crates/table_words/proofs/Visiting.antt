@@ -60,12 +60,6 @@ present_frames pool below table next i entry is present named =
     entry_names pool below table next i (λ zero. some (ap (λ (e : ℕ). e % 4) is ∙ zero)) (named
     ∙ ap (λ (e : ℕ). e / 4096) is)
 
-pub absent_frames : (pool : FramePool) (below : ℕ) (table : FrameNo) (i entry : ℕ) → entry ≡ entry_at pool table.0 i
-    → not (eqb (entry % 4) 0) ≡ false → frames_of_entry pool below table i ≡ []
-absent_frames pool below table i entry is absent =
-    let none : entry % 4 ≡ 0 = grind (arith, nat_tests) in
-    entry_absent pool below table i (ap (λ (e : ℕ). e % 4) (sym is) ∙ none)
-
 -- ---- all entries
 
 module _ (f : ℕ → List FrameNo) where
