@@ -23,7 +23,6 @@ enum Call {
     Leave(&'static [u16]),
     /// A device pays, whatever the span.
     Pay(u16),
-    /// Whether an area in the span owes a flush.
     Owes,
     SetTries(u8),
     MostTries,
