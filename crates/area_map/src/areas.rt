@@ -134,12 +134,13 @@ impl<A: Allocator> Areas<A> {
     }
 
     /// The least address from `start` on from which this many addresses meet no area; None where there is none below
-    /// 2^64. It looks at the rows of the block where it begins, at the blocks behind, at the rows of those that may
+    /// 2^64. It looks at the rows of a block that it begins in, at the blocks behind, at the rows of those that may
     /// have a gap so wide, and into those rows alone that have one.
     pub fn free_from(&self, start: u64, count: u64) -> Option<u64>
         requires { 0 < count }
-        ensures { MatchOption result (HasNoneFree start count self.now.areas)
+        ensures first { MatchOption result (HasNoneFree start count self.now.areas)
             (IsFirstFree start count self.now.areas) }
+        ensures kept { AreKept self.now.areas }
     {
         gaps::free_from(&self.rows, self.blocks.all(), start, count)
     }

@@ -239,11 +239,11 @@ pub fn begin_of<A: Allocator>(rows: &[Row<A>], number: usize) -> usize
     number.saturating_mul(BLOCK).min(rows.len())
 }
 
-/// The number of the block behind that of the row at this place.
-pub fn number_behind(place: usize) -> usize
-    ensures { result ≡ place / 32 + 1 }
+/// The number of the first block that begins at the row of this place or behind it.
+pub fn number_from(place: usize) -> usize
+    ensures { result ≡ (place + 31) / 32 }
 {
-    place / BLOCK + 1
+    place.div_ceil(BLOCK)
 }
 
 /// The rows of the block of this number.

@@ -40,8 +40,9 @@ fn free_behind<A: Allocator>(rows: &[Row<A>], blocks: &[Block], start: u64, coun
     ensures bound { result ≤ 2 ^ 64 }
 {
     let below = lookups::rows_below(rows, start);
-    // The rows of its block that stand before it would leave the place as it is.
-    let next = blocks::number_behind(below);
+    // The rows that stand before it would leave the place as it is. Of its block those behind it are looked through,
+    // unless the block begins with it.
+    let next = blocks::number_from(below);
     let own = &rows[below..blocks::begin_of(rows, next)];
     let at = gaps::free_in_rows(own, u128::from(start), count);
     free_in_blocks(rows, blocks, next, at, count)

@@ -2,12 +2,14 @@
 use Rattle.std.proofs.Common.{◌≡◌, ℕ, ◌+◌, ◌-◌, ◌%◌, ◌<◌, ◌≤◌, Bool, true, false, ◌&&◌, ◌||◌, not, leb, Option, Some}
 use Rattle.std.proofs.Common.{None, is_none, is_some, List, [], ◌∷◌, map, MatchOption, refl, ap, sym, ◌∙◌, ⊎_elim}
 use Rattle.std.proofs.Common.{◌^◌, arith}
-use Rattle.std.specs.List.{list_any}
+use Rattle.std.specs.List.{list_all, list_any}
 use Rattle.std.proofs.lemmas.Bool.Decides.{nat_tests}
-use Rattle.std.proofs.lemmas.Bool.{cases_lt}
+use Rattle.std.proofs.lemmas.Bool.{cases_lt, or_cases}
 use Rattle.std.proofs.lemmas.List.Folds.{list_any-append}
-use Rattle.iofd_rows.proofs.Bools.{and_true, both_false, clash}
+use Rattle.iofd_rows.proofs.Bools.{and_true, both_false, clash, or_false}
 use Rattle.iofd_rows.proofs.ListTests.{any_weaker, false_else, or_left, or_right}
+use Rattle.area_rows.specs.Areas.{AreApart, AreApartFrom, HasNoneFree, IsFirstFree}
+use Rattle.iofd_runs.specs.Fits.{begins_at_page, is_of_pages}
 use Rattle.iofd_words.specs.Areas.{areas_meet}
 use Rattle.iofd_words.specs.Bounds.{Bounds}
 use Rattle.iofd_words.specs.Checks.{choices, has_choice, may_choose, taken_spans, unusable_in}
@@ -26,7 +28,7 @@ use Rattle.iofd_words.specs.View.{View}
 use Rattle.iofd_words.specs.declared.event.MapRequest.{MapRequest}
 use Rattle.iofd_words.specs.declared.numbers.FileNo.{FileNo}
 use Rattle.iofd_words.specs.declared.rows.Area.{Area}
-use Rattle.map_events.specs.Place.{AreMetUpTo, IsClear, IsInTheWay, IsLeastSpan, IsOpen, IsPlace, IsPlaceBy}
+use Rattle.map_events.specs.Place.{IsClear, IsInTheWay, IsLeastSpan, IsOpen, IsPlace, IsPlaceBy}
 use Rattle.server_state.specs.Reach.{IsOneOf}
 
 -- ---- areas
@@ -57,6 +59,30 @@ taken_is : (v : View) (file : FileNo) (request : MapRequest) (areas : List Area)
 taken_is v file request areas here span =
     ap (λ (areas : List Area). ranges.meets_some (occupied (unusable_in v file request.ioas) areas) span) here
     ∙ list_any-append (λ (one : Bounds). meets one span) (unusable_in v file request.ioas) (spans_of areas)
+
+-- where an area is met by so many addresses from the one before this on, and not from this one on, it ends before it;
+-- an area has whole pages, and so a page begins there
+ends_before : (a : Area) (at length : ℕ) → 0 < at → 0 < length → a.span.first ≤ a.span.last
+    → begins_at_page a ≡ true → is_of_pages a ≡ true → meets a.span (span_from (at - 1) length) ≡ true
+    → meets a.span (span_from at length) ≡ false → at % 4096 ≡ 0
+ends_before a at length low some ordered start whole met free = grind (arith, nat_tests)
+
+-- the same of some area, and of none
+page_behind : (from : ℕ) (areas : List Area) (at length : ℕ) → 0 < at → 0 < length → AreApartFrom from areas
+    → list_all begins_at_page areas ≡ true → list_all is_of_pages areas ≡ true
+    → areas_meet (span_from (at - 1) length) areas ≡ true → areas_meet (span_from at length) areas ≡ false
+    → at % 4096 ≡ 0
+page_behind from [] at length low some apart starts pages met free = absurd (clash false refl met)
+page_behind from (a ∷ areas) at length low some apart starts pages met free =
+    let start = and_true (begins_at_page a) (list_all begins_at_page areas) starts in
+    let whole = and_true (is_of_pages a) (list_all is_of_pages areas) pages in
+    let clear = or_false (meets a.span (span_from at length)) (areas_meet (span_from at length) areas) free in
+    ⊎_elim
+    (λ (here : meets a.span (span_from (at - 1) length) ≡ true).
+    ends_before a at length low some apart.1 start.0 whole.0 here clear.0)
+    (λ (later : areas_meet (span_from (at - 1) length) areas ≡ true).
+    page_behind (a.span.last + 1) areas at length low some apart.2 start.1 whole.1 later clear.1)
+    (or_cases (meets a.span (span_from (at - 1) length)) (areas_meet (span_from (at - 1) length) areas) met)
 
 -- ---- the search
 
@@ -148,6 +174,53 @@ module _ (v : View) (file : FileNo) (request : MapRequest) where
       (λ (from : start ≤ x). absurd (grind (arith, nat_tests)))
       (cases_lt x start))
 
+  -- from an address from which an area is met none is chosen
+  met_not_chosen : (areas : List Area) → v.areas_of file request.ioas ≡ areas → (x : ℕ)
+      → areas_meet (span_from x request.length) areas ≡ true → may_choose v file request x ≡ false
+  met_not_chosen areas here x met =
+      let next = span_from x request.length in
+      let taken_there = any-spans (λ (one : Bounds). meets one next) areas ∙ met in
+      false_else (may_choose v file request x) (λ may.
+      clash _ (parts x may).free (taken_is v file request areas here next ∙ or_right _ _ taken_there))
+
+  -- so none is, where an area is met from each
+  pub none_free : (start : ℕ) (areas : List Area) → v.areas_of file request.ioas ≡ areas → IsSearched start
+      → HasNoneFree start request.length areas → (x : ℕ) → may_choose v file request x ≡ false
+  none_free start areas here searched none x =
+      false_else (may_choose v file request x) (λ may.
+      let sum = (parts x may).sum in
+      let within : x + request.length ≤ 2 ^ 64 = grind (arith, nat_tests) in
+      ⊎_elim
+      (λ (before : x < start). clash _ (searched.below x before) may)
+      (λ (from : start ≤ x). clash _ (met_not_chosen areas here x (none x from within)) may)
+      (cases_lt x start))
+
+  -- the search goes on at the least address from which no area is met
+  pub goes_to : (start at : ℕ) (areas : List Area) → v.areas_of file request.ioas ≡ areas → 0 < request.length
+      → AreApart areas → list_all begins_at_page areas ≡ true → list_all is_of_pages areas ≡ true → IsSearched start
+      → IsFirstFree start request.length areas at → IsSearched at
+  goes_to start at areas here some apart starts pages searched first =
+      record { below = below; whole = whole }
+    where
+      below : (x : ℕ) → x < at → may_choose v file request x ≡ false
+      below x under =
+          ⊎_elim
+          (λ (before : x < start). searched.below x before)
+          (λ (from : start ≤ x). met_not_chosen areas here x (first.least x from under))
+          (cases_lt x start)
+
+      whole : at % 4096 ≡ 0
+      whole =
+          ⊎_elim
+          (λ (above : start < at).
+          page_behind 0 areas at request.length (omega (arith, above)) some apart starts pages
+          (first.least (at - 1) (omega (arith, above)) (omega (arith, above))) first.free)
+          (λ (below : at ≤ start).
+          let from = first.from in
+          let page = searched.whole in
+          omega (arith, below, from, page))
+          (cases_lt start at)
+
   pub begins : IsSearched 0
   begins = record { below = λ x under. absurd (omega (arith, under)); whole = refl }
 
@@ -201,27 +274,15 @@ open_or_gap v file request span None some from ordered usable all =
 open_or_gap v file request span (Some gap) some from ordered usable is =
     gap_in_the_way v file request span gap some from is
 
--- free of areas too, or they are met
-pub clear_or_met : (v : View) (file : FileNo) (request : MapRequest) (areas : List Area) (span : Bounds)
-    (o : Option Bounds) → v.areas_of file request.ioas ≡ areas → IsOpen v file request span
-    → MatchOption o (areas_meet span areas ≡ false) (AreMetUpTo areas request.length span)
-    → MatchOption o (IsClear v file request span) (IsInTheWay v file request span)
-clear_or_met v file request areas span None here is_open clear =
+-- free of areas too
+pub is_clear : (v : View) (file : FileNo) (request : MapRequest) (areas : List Area) (span : Bounds)
+    → v.areas_of file request.ioas ≡ areas → IsOpen v file request span → areas_meet span areas ≡ false
+    → IsClear v file request span
+is_clear v file request areas span here is_open free =
     record {
       inside = is_open.inside;
       free = taken_is v file request areas here span
-          ∙ both_false _ _ is_open.usable (any-spans (λ (one : Bounds). meets one span) areas ∙ clear);
-    }
-clear_or_met v file request areas span (Some one) here is_open is =
-    record {
-      reaches = is.reaches;
-      none = λ x low high. false_else (may_choose v file request x) (λ may.
-          let sum = (parts v file request x may).sum in
-          let within : x + request.length ≤ 2 ^ 64 = grind (arith, nat_tests) in
-          let next = span_from x request.length in
-          let met = any-spans (λ (one : Bounds). meets one next) areas ∙ is.met x low high within in
-          clash _ (parts v file request x may).free
-          (taken_is v file request areas here next ∙ or_right _ _ met));
+          ∙ both_false _ _ is_open.usable (any-spans (λ (one : Bounds). meets one span) areas ∙ free);
     }
 
 pub fewer_left : (start next high : ℕ) → start < next → start < high → high - next < high - start

@@ -1,6 +1,6 @@
 -- Where a MAP puts its area.
-use Rattle.std.specs.Prelude.{◌≡◌, ℕ, ◌+◌, ◌^◌, ◌≤◌, Bool, List, true, false}
-use Rattle.iofd_words.specs.Areas.{areas_meet}
+use Rattle.std.specs.Prelude.{◌≡◌, ℕ, ◌≤◌, Bool, List, true, false}
+use Rattle.area_rows.specs.Areas.{IsFirstFree}
 use Rattle.iofd_words.specs.Bounds.{Bounds}
 use Rattle.iofd_words.specs.Checks.{choices, has_choice, taken_spans, may_choose, unusable_in}
 use Rattle.iofd_words.specs.Objects.{has_ioas}
@@ -24,11 +24,10 @@ pub record IsOpen (v : View) (file : FileNo) (request : MapRequest) (span : Boun
   pub inside : is_covered_by (choices v file request) span ≡ true
   pub usable : meets_some (unusable_in v file request.ioas) span ≡ false
 
--- from each address from the span's first up to this one's last on so many meet an area
-pub record AreMetUpTo (areas : List Area) (length : ℕ) (span one : Bounds) : Type 0 where
-  pub reaches : span.first ≤ one.last
-  pub met : (x : ℕ) → span.first ≤ x → x ≤ one.last → x + length ≤ 2 ^ 64
-      → areas_meet (span_from x length) areas ≡ true
+-- so many addresses from the least one on, from the start on, from which they meet no area
+pub record IsFreeSpan (start length : ℕ) (areas : List Area) (span : Bounds) : Type 0 where
+  pub is : span ≡ span_from span.first length
+  pub first : IsFirstFree start length areas span.first
 
 -- something stands in its way: from no address of the span up to this one's last may a span be chosen
 pub record IsInTheWay (v : View) (file : FileNo) (request : MapRequest) (span one : Bounds) : Type 0 where

@@ -1,15 +1,15 @@
 //! The address that the server chooses for a MAP that doesn't fix one.
 
 ghost use Rattle.std.specs.Prelude.{◌≡◌, ◌==◌, ◌+◌, ◌≤◌, ◌^◌, ℕ, false, MatchOption};
+ghost use Rattle.area_rows.specs.Areas.{AreKept, HasNoneFree};
 ghost use Rattle.iofd_words.specs.Allowed.{allowed_of};
-ghost use Rattle.iofd_words.specs.Areas.{areas_meet};
 ghost use Rattle.iofd_words.specs.Checks.{may_choose};
 ghost use Rattle.iofd_words.specs.Fits.{whole_from};
 ghost use Rattle.iofd_words.specs.Span.{span_from};
 ghost use Rattle.iofd_words.specs.Usable.{allowed_spans};
 ghost use Rattle.iova_ranges.specs.Gaps.{IsGap};
 ghost use Rattle.iova_ranges.specs.Ranges.{AllIn};
-ghost use Rattle.map_events.specs.Place.{AreMetUpTo, IsClear, IsInTheWay, IsLeastSpan, IsOpen};
+ghost use Rattle.map_events.specs.Place.{IsFreeSpan, IsInTheWay, IsLeastSpan, IsOpen};
 ghost use Rattle.server_state.specs.Held.{areas_at};
 ghost use Rattle.server_state.specs.Seen.{seen};
 ghost use Rattle.server_state.specs.Step.{IsKnown};
@@ -19,9 +19,9 @@ use iofd_words::{FileNo, MapRequest, ObjId, PAGE_SIZE, Span};
 use server_state::State;
 use std::alloc::Allocator;
 
-/// The span from the least address that the server may choose; None where it may choose none. It passes each span that
-/// can't be used or isn't allowed at most twice, from below, and asks the areas for the next gap that is wide enough.
-/// It takes no memory.
+/// The span from the least address that the server may choose; None where it may choose none. It asks the areas for the
+/// next gap that is wide enough, and passes each span there that can't be used or isn't allowed at most twice, from
+/// below. It takes no memory.
 pub(crate) fn least_span<A: Allocator>(
     state: &State<A>,
     file: FileNo,
@@ -36,8 +36,8 @@ pub(crate) fn least_span<A: Allocator>(
         (IsLeastSpan (seen state.now) file request) }
 {
     let mut start = 0;
-    while let Some(span) = Span::of_length(start, request.length) {
-        let Some(one) = in_the_way(state, file, request, areas, span) else {
+    while let Some(span) = free_span(areas, start, request.length) {
+        let Some(one) = closed_meeting(state, file, request, span) else {
             return Some(span);
         };
         let Some(next) = page_after(one.last()) else {
@@ -48,26 +48,17 @@ pub(crate) fn least_span<A: Allocator>(
     None
 }
 
-/// Something in the way of the span from some address on: addresses that can't be used or aren't allowed, or areas.
-fn in_the_way<A: Allocator>(
-    state: &State<A>,
-    file: FileNo,
-    request: MapRequest,
-    areas: &Areas<A>,
-    span: Span,
-) -> Option<Span>
-    requires known { IsKnown state.now }
-    requires some { (request.length == 0) ≡ false }
-    requires from { span ≡ span_from span.first request.length }
-    requires here { areas_at state.now.objects.rows file request.ioas ≡ areas.now.areas }
-    ensures { MatchOption result
-        (IsClear (seen state.now) file request span)
-        (IsInTheWay (seen state.now) file request span) }
+/// So many addresses from the least one on, from the start on, from which they meet no area; None where they meet one
+/// from each.
+fn free_span<A: Allocator>(areas: &Areas<A>, start: u64, length: u64) -> Option<Span>
+    requires { (length == 0) ≡ false }
+    ensures span { MatchOption result
+        (HasNoneFree start length areas.now.areas)
+        (IsFreeSpan start length areas.now.areas) }
+    ensures kept { AreKept areas.now.areas }
 {
-    match closed_meeting(state, file, request, span) {
-        Some(one) => Some(one),
-        None => met_from(areas, span, request.length),
-    }
+    let first = areas.free_from(start, length)?;
+    Span::of_length(first, length)
 }
 
 /// Addresses that can't be used or aren't allowed, one of which lies in the span.
@@ -105,21 +96,6 @@ fn gap_meeting<A: Allocator>(
         Some(row) => row.gap_meeting(span),
         None => None,
     }
-}
-
-/// The addresses from the span's first on from each of which so many meet an area. None where the span meets none.
-fn met_from<A: Allocator>(areas: &Areas<A>, span: Span, length: u64) -> Option<Span>
-    requires some { (length == 0) ≡ false }
-    requires from { span ≡ span_from span.first length }
-    ensures { MatchOption result
-        (areas_meet span areas.now.areas ≡ false)
-        (AreMetUpTo areas.now.areas length span) }
-{
-    let last = match areas.free_from(span.first(), length) {
-        Some(free) => free.checked_sub(1)?,
-        None => u64::MAX,
-    };
-    Span::new(span.first(), last)
 }
 
 /// The first address of the page behind the one in which this address lies; None where it is the last.

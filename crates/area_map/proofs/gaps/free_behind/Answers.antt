@@ -27,8 +27,8 @@ returns-clause-value g c =
     let order : below ≤ stop = omega arith in
     let first = c.free_in_rows-at.ensures.value ∙ ap (λ (n : ℕ). first_free n c.args.count
     (in_rows (take (stop - below) (drop below rows)))) c.from.ensures in
-    let behind : drop (32 * c.number_behind-next.result) rows ≡ drop stop rows =
-    sym (ap (λ (n : ℕ). drop n rows) c.begin_of.ensures ∙ drop_min (32 * c.number_behind-next.result) rows) in
+    let behind : drop (32 * c.number_from-next.result) rows ≡ drop stop rows =
+    sym (ap (λ (n : ℕ). drop n rows) c.begin_of.ensures ∙ drop_min (32 * c.number_from-next.result) rows) in
     c.free_in_blocks.ensures.value
     ∙ ap (λ (rs : List (List Area)). first_free c.free_in_rows-at.result c.args.count (in_rows rs)) behind
     ∙ ap (λ (n : ℕ). first_free n c.args.count (in_rows (drop stop rows))) first

@@ -12,5 +12,8 @@ free_from-requires-clause-rows g c = rw c.deref.ensures.value c.self.invariant.0
 pub free_from-requires-clause-blocks : goal.free_from-requires-clause-blocks
 free_from-requires-clause-blocks g c = rw (c.all.ensures, c.deref.ensures.value) c.self.invariant.2
 
-pub returns : goal.returns
-returns g c = rw (← c.self.view_is) (rw c.deref.ensures.value at c.free_from.ensures)
+pub returns-clause-first : goal.returns-clause-first
+returns-clause-first g c = rw (← c.self.view_is) (rw c.deref.ensures.value at c.free_from.ensures)
+
+pub returns-clause-kept : goal.returns-clause-kept
+returns-clause-kept g c = rw (← c.self.view_is) c.self.invariant.0.kept
