@@ -2,6 +2,7 @@ pub mod Holds
 pub mod Listed
 pub mod Named
 pub mod Reached
+pub mod Refusals
 pub mod Rising
 pub mod Seen
 pub mod Splice

@@ -1,19 +1,20 @@
 -- The rows of one file, after a change of its slab.
-use Rattle.std.proofs.Common.{◌≡◌, ℕ, ◌+◌, ◌-◌, ◌<◌, Bool, true, false, ◌&&◌, not, cond, List, [], length, map, Option}
-use Rattle.std.proofs.Common.{Some, None, IsSome, is_some, count_by, get_or, set, refl, sym, ◌∙◌, inl, inr, arith}
+use Rattle.std.proofs.Common.{◌≡◌, ℕ, ◌+◌, ◌-◌, ◌^◌, ◌<◌, Bool, true, false, ◌&&◌, not, cond, List, [], length, map}
+use Rattle.std.proofs.Common.{Option, Some, None, IsSome, is_some, count_by, get_or, set, ap, refl, sym, ◌∙◌, inl, inr}
+use Rattle.std.proofs.Common.{arith, ⊎_elim}
 use Rattle.std.proofs.lemmas.Bool.Decides.{nat_tests}
-use Rattle.std.proofs.lemmas.Bool.{cases_lt}
+use Rattle.std.proofs.lemmas.Bool.{cases_Bool, cases_lt, ltb-true}
 use Rattle.std.proofs.lemmas.List.{length-map, get_or_past}
 use Rattle.std.proofs.lemmas.List.Sums.{sum_by-set}
 use Rattle.std.specs.Option.{option_map}
 use Rattle.std.specs.Prelude.{nat_lt}
-use Rattle.slab.specs.Slab.{entries, get, slab_len, Updates, with_value as with_slot}
+use Rattle.slab.specs.Slab.{entries, get, slab_len, Slab, Updates, with_value as with_slot}
 use Rattle.slab.proofs.SlabLemmas.{length-entries}
 use Rattle.iofd_words.specs.declared.numbers.ObjId.{ObjId}
 use Rattle.object_table.specs.declared.file_objects.Entry.{Entry}
 use Rattle.object_table.specs.declared.file_objects.FileObjects.{FileObjects}
-use Rattle.object_table.specs.Table.{Row, inserted, removed, changed_at, stands_before, is_at}
-use Rattle.object_table.specs.Layout.{row_of, keyed_row, entry_at, next_id, has_room, file_rows}
+use Rattle.object_table.specs.Table.{Row, greatest_count, inserted, removed, changed_at, stands_before, is_at}
+use Rattle.object_table.specs.Layout.{row_of, keyed_row, entry_at, key_end, next_id, has_room, file_rows}
 use Rattle.object_table.proofs.Lookup.{is_at-here, is_at-other_id}
 use Rattle.object_table.proofs.Rows.{inserted_is}
 use Rattle.object_table.proofs.EntryRows.{Parts, rows_of_slots, rows_of_slots-filled, rows_of_slots-emptied}
@@ -50,6 +51,15 @@ module _ {V : Type 0} where
       → Parts (keyed_row number) key (stands_before (keyed_row number (key, entry)))
   parts number key entry = record { early = λ e lt. grind (arith, nat_tests); late = λ e lt. grind (arith, nat_tests) }
 
+  -- what room there is
+  pub room_parts : (s : Slab (Entry V)) → has_room s ≡ true
+      → (slab_len s < greatest_count) × (slab_len s < s.capacity) × (s.vacant_key < key_end)
+  room_parts s room =
+      let parts = and_true (nat_lt (slab_len s) greatest_count && nat_lt (slab_len s) s.capacity)
+      (nat_lt s.vacant_key key_end) room in
+      let lens = and_true (nat_lt (slab_len s) greatest_count) (nat_lt (slab_len s) s.capacity) parts.0 in
+      (ltb-true _ _ lens.0, ltb-true _ _ lens.1, ltb-true _ _ parts.1)
+
 module _ {V A : Type 0} where
   -- a file with an object at an id is open, the id isn't 0, and its slab has the object
   pub record IsThere (f : FileObjects V A) (id : ObjId) : Type 0 where
@@ -74,6 +84,22 @@ module _ {V A : Type 0} where
   pub next_is_open : (f : FileObjects V A) → IsSome (next_id f) → (f.is_open ≡ true) × (has_room f.objects ≡ true)
   next_is_open f some = and_true f.is_open (has_room f.objects)
       (chosen (f.is_open && has_room f.objects) (Some (record { 0 = f.objects.vacant_key + 1 })) some).0
+
+  -- the next object's id is in range
+  pub next_in_range : (f : FileObjects V A) (id : ObjId) → next_id f ≡ Some id → (0 < id.0) × (id.0 < 2 ^ 31)
+  next_in_range f id next =
+      let marks = next_is_open f (rw next refl) in
+      let same : record { 0 = f.objects.vacant_key + 1 } ≡ id = let is = rw (marks.0, marks.1) at next in cc in
+      let number = ap (λ (i : ObjId). i.0) same in
+      let below = (room_parts f.objects marks.1).2 in
+      (omega (arith, number), omega (arith, number, below))
+
+  -- without room there is no next id
+  pub no_next : (f : FileObjects V A) → (has_room f.objects ≡ true → ⊥) → next_id f ≡ None
+  no_next f no_room =
+      let b = f.is_open && has_room f.objects in
+      ⊎_elim (λ (some : b ≡ true). absurd (no_room (and_true f.is_open (has_room f.objects) some).1))
+      (λ (none : b ≡ false). rw none refl) (cases_Bool b)
 
   -- an object that is added comes in at its place
   pub file_rows-filled : (number key : ℕ) (old new : FileObjects V A) (entry : Entry V) → new.is_open ≡ old.is_open

@@ -1,10 +1,10 @@
 -- A table whose files are all open and empty.
-use Rattle.std.proofs.Common.{◌≡◌, ℕ, zero, suc, ◌+◌, [], ◌∷◌, true, None, map, replicate, refl, ap}
+use Rattle.std.proofs.Common.{◌≡◌, ℕ, zero, suc, ◌+◌, [], ◌∷◌, true, None, map, replicate, refl, ap, arith}
 use Rattle.slab.specs.Slab.{Slab}
 use Rattle.object_table.specs.declared.file_objects.FileObjects.{FileObjects}
 use Rattle.object_table.specs.Table.{fresh_table}
-use Rattle.object_table.specs.Layout.{next_id, rows_from, table_of}
-use Rattle.object_table.proofs.Tables.{same_table}
+use Rattle.object_table.specs.Layout.{AllInLimits, next_id, rows_from, table_of}
+use Rattle.object_table.proofs.Tables.{no_value, same_table}
 
 abbrev pub fresh_slab : {T : Type 0} → Slab T
 fresh_slab = record { slots = []; vacant_key = 0; capacity = 0 }
@@ -30,3 +30,9 @@ module _ (V A : Type 0) where
 
   pub table_of-fresh : (n : ℕ) → table_of (replicate n (fresh_file {V = V} {A = A})) ≡ fresh_table n
   table_of-fresh n = same_table _ _ (marks n) (rooms n) (no_rows 1 n)
+
+  -- a file without an object is in its limits
+  pub AllInLimits-fresh : (n : ℕ) → AllInLimits (replicate n (fresh_file {V = V} {A = A}))
+  AllInLimits-fresh zero = tt
+  AllInLimits-fresh (suc n) =
+      (record { count = omega arith; keys = λ key there. absurd (no_value there) }, AllInLimits-fresh n)

@@ -1,6 +1,6 @@
 -- What the first pin makes of a memory object.
-use Rattle.std.proofs.Common.{◌≡◌, Bool, true, false, not, ◌&&◌, ◌||◌, eqb, None, ◌+◌, List, [], ◌∷◌, ◌++◌, length}
-use Rattle.std.proofs.Common.{refl, ◌∙◌, ap, arith}
+use Rattle.std.proofs.Common.{◌≡◌, Bool, true, false, not, ◌&&◌, ◌||◌, eqb, None, Some, ◌+◌, ◌≤◌, List, [], ◌∷◌, ◌++◌}
+use Rattle.std.proofs.Common.{length, refl, ◌∙◌, ap, arith}
 use Rattle.std.proofs.lemmas.Bool.{eqb-true}
 use Rattle.iofd_words.specs.FirstTrue.{first_true}
 use Rattle.iofd_words.specs.Pages.{page_of}
@@ -10,7 +10,8 @@ use Rattle.iofd_words.specs.declared.rows.UserPage.{UserPage}
 use Rattle.mem_account.specs.Accounts.{has_room}
 use Rattle.mem_account.specs.declared.Account.{Account}
 use Rattle.pinned_pages.specs.Kept.{AreKept}
-use Rattle.pinned_pages.specs.Pages.{ObjectPages, are_present, frames_now, new_count, pin_refusal, pinned_count}
+use Rattle.pinned_pages.specs.Pages.{MemoryPages, ObjectPages, are_present, frames_now, needed, new_count}
+use Rattle.pinned_pages.specs.Pages.{pin_refusal, pinned_count}
 use Rattle.pinned_pages.proofs.UsersPages.{all_framed}
 
 -- where nothing refuses the first pin, all pages are there and the user has room
@@ -63,3 +64,54 @@ module _ (pages : ObjectPages) (rows : List UserPage) (items : List FrameNo) (ke
       let first : eqb pages.table_pins 0 ≡ true = rw none refl in
       rw (kept.unpinned none, first) (ap length frames_are
       ∙ all_framed rows pages.user (page_of pages.va) pages.count present ∙ omega arith)
+
+-- ---- a first pin that is refused
+
+pub absent_refused : (pages : ObjectPages) (rows : List UserPage) (accounts : List Account) → pages.table_pins ≡ 0
+    → are_present pages rows ≡ false → pin_refusal pages rows accounts ≡ Some cause.Absent
+absent_refused pages rows accounts none absent = rw (none, absent) refl
+
+pub account_refused : (pages : ObjectPages) (rows : List UserPage) (accounts : List Account) → pages.table_pins ≡ 0
+    → are_present pages rows ≡ true → has_room accounts pages.user.0 pages.count ≡ false
+    → pin_refusal pages rows accounts ≡ Some cause.Account
+account_refused pages rows accounts none there full = rw (none, there, full) refl
+
+-- ---- a pin that nothing refuses
+
+granted_by : (b p r : Bool) → (b ≡ true → p ≡ true) → (b ≡ true → r ≡ true)
+    → first_true ((cause.Absent, b && not p) ∷ (cause.Account, b && not r) ∷ []) ≡ None
+granted_by false p r there fits = refl
+granted_by true p r there fits = rw (there refl, fits refl) refl
+
+-- the pages are as before, and only memory for more frames may have come
+pub record IsReady (before now : MemoryPages) (rows : List UserPage) (accounts : List Account) : Type 0 where
+  pub pages : now.pages ≡ before.pages
+  pub granted : pin_refusal before.pages rows accounts ≡ None
+  pub capacity : before.capacity ≤ now.capacity
+  pub enough : needed before.pages ≤ before.capacity → now.capacity ≡ before.capacity
+
+module _ (before now : MemoryPages) (rows : List UserPage) (accounts : List Account) where
+  pub ready_first : are_present before.pages rows ≡ true
+      → has_room accounts before.pages.user.0 before.pages.count ≡ true → now.pages ≡ before.pages
+      → before.capacity ≤ now.capacity
+      → (needed before.pages ≤ before.capacity → now ≡ before) → IsReady before now rows accounts
+  ready_first there room pages capacity enough = record {
+    pages = pages;
+    granted = granted_by (eqb before.pages.table_pins 0) (are_present before.pages rows)
+        (has_room accounts before.pages.user.0 before.pages.count) (λ first. there) (λ first. room);
+    capacity = capacity;
+    enough = λ some. ap (λ (m : MemoryPages). m.capacity) (enough some);
+  }
+
+  pub ready_later : (before.pages.table_pins ≡ 0 → ⊥) → now ≡ before → IsReady before now rows accounts
+  ready_later later same =
+      let capacity : now.capacity ≡ before.capacity = ap (λ (m : MemoryPages). m.capacity) same in
+      record {
+        pages = ap (λ (m : MemoryPages). m.pages) same;
+        granted = granted_by (eqb before.pages.table_pins 0) (are_present before.pages rows)
+            (has_room accounts before.pages.user.0 before.pages.count)
+            (λ first. absurd (later (eqb-true before.pages.table_pins 0 first)))
+            (λ first. absurd (later (eqb-true before.pages.table_pins 0 first)));
+        capacity = omega (arith, capacity);
+        enough = λ some. capacity;
+      }

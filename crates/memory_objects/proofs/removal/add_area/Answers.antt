@@ -39,3 +39,35 @@ returns-in-Some-clause-rising g c =
     slice_get_read all (length all) c.in-Some.place x refl (rw c.deref.ensures.value at c.in-Some.ensures.within)
     c.index_mut-entry.ensures.value in
     rising_set all c.in-Some.place x (with_areas (x.areas + 1) x) c.requires.rising here refl
+
+pub place_of-requires : goal.place_of-requires
+place_of-requires g c = rw c.deref.ensures.value c.requires.rising
+
+pub index_mut-entry-requires : goal.index_mut-entry-requires
+index_mut-entry-requires g c = rw c.deref.ensures.len at c.in-Some.ensures.within
+
+pub overflow_add-entry : goal.overflow_add-entry
+overflow_add-entry g c =
+    let all = c.args.entries.now.items in
+    let x = c.index_mut-entry.result.now in
+    let here : slice_get all c.in-Some.place ≡ Some x =
+    slice_get_read all (length all) c.in-Some.place x refl (rw c.deref.ensures.value at c.in-Some.ensures.within)
+    c.index_mut-entry.ensures.value in
+    let found : object_at (standing all) c.args.number ≡ Some x =
+    sym (rw c.deref.ensures.value at c.in-Some.ensures.some) ∙ here in
+    record { fits = rw found at c.requires.few }
+
+pub returns-in-Some-clause-len : goal.returns-in-Some-clause-len
+returns-in-Some-clause-len g c = refl
+
+pub returns-in-Some-clause-capacity : goal.returns-in-Some-clause-capacity
+returns-in-Some-clause-capacity g c = refl
+
+pub returns-in_default-clause-rising : goal.returns-in_default-clause-rising
+returns-in_default-clause-rising g c = c.requires.rising
+
+pub returns-in_default-clause-len : goal.returns-in_default-clause-len
+returns-in_default-clause-len g c = refl
+
+pub returns-in_default-clause-capacity : goal.returns-in_default-clause-capacity
+returns-in_default-clause-capacity g c = refl

@@ -48,3 +48,9 @@ invariant_of-self-else-held-eq1 g c =
     (vec_capacity c.reach.new.frames)
     (record { holds = x.holds + 1; bytes = x.bytes }) (rw c.reach.ensures.capacity c.self.invariant.fits)
     (omega arith) (omega arith)
+
+pub index_mut-held-requires : goal.index_mut-held-requires
+index_mut-held-requires g c =
+    let is = reached c.self.inside.frames.items c.reach.new.frames.items c.args.frame.0 c.self.inside.count
+    c.self.invariant.few (rw (← c.self.view_is) at c.requires.frame) c.reach.ensures.items in
+    omega (arith, c.reach.new.frames.ok.0, is.within)

@@ -3,8 +3,9 @@ use Rattle.std.proofs.lemmas.Bool.{false≢true}
 use Rattle.frame_memory.specs.Pool.{FramePool, is_free, word_at}
 use Rattle.frame_memory.proofs.Written.{given_others, given_zero}
 use Rattle.frame_memory.specs.Kept.{all_frames, seen}
-use Rattle.frame_memory.proofs.Holds.{least-is_free, least_free-none, least_free-some}
+use Rattle.frame_memory.proofs.Holds.{least-is_free, least_free-none, least_free-some, some-free}
 use Rattle.frame_memory.proofs.Reached.{reached}
+use Rattle.frame_memory.proofs.Refusals.{taken}
 use Rattle.frame_memory.proofs.Seen.{count_seen, in_bytes, kept-held, seen-given}
 use Rattle.frame_memory.proofs.pool.Pool.take.Goals as goal
 
@@ -81,3 +82,45 @@ returns-clause-others g c = λ other i held.
     λ same. false≢true (sym not_free ∙ ap (λ (k : ℕ). is_free (seen all).holds k) same ∙ free) in
     ap (λ (pool : FramePool). word_at pool other i) (returns-clause-ok g c)
     ∙ rw (← c.self.view_is) (given_others (seen all) f other i differ)
+
+pub first-requires : goal.first-requires
+first-requires g c = tt
+
+pub returns-in_default-clause-refused : goal.returns-in_default-clause-refused
+returns-in_default-clause-refused g c = taken _ _ refl
+
+pub returns-in_default-clause-ok : goal.returns-in_default-clause-ok
+returns-in_default-clause-ok g c = tt
+
+pub returns-in_default-clause-zero : goal.returns-in_default-clause-zero
+returns-in_default-clause-zero g c = tt
+
+pub returns-in_default-clause-others : goal.returns-in_default-clause-others
+returns-in_default-clause-others g c f i held = refl
+
+pub returns-in_default-clause-err : goal.returns-in_default-clause-err
+returns-in_default-clause-err g c = refl
+
+pub overflow_sub-self : goal.overflow_sub-self
+overflow_sub-self g c =
+    let all = all_frames c.self.inside.frames.items c.self.inside.count in
+    let f = c.in-Some.frame in
+    let free = least-is_free c.self.inside.free c.self.inside.free_count (seen all).holds f c.self.invariant.told
+    c.in-Some.ensures.some in
+    some-free c.self.inside.free c.self.inside.free_count (seen all).holds f c.self.invariant.told free.0 free.1
+
+pub index_mut-taken-requires : goal.index_mut-taken-requires
+index_mut-taken-requires g c =
+    let all = all_frames c.self.inside.frames.items c.self.inside.count in
+    let f = c.in-Some.frame in
+    let free = least-is_free c.self.inside.free c.self.inside.free_count (seen all).holds f c.self.invariant.told
+    c.in-Some.ensures.some in
+    let is = reached c.self.inside.frames.items c.reach.new.frames.items f c.self.inside.count c.self.invariant.few
+    free.0 c.reach.ensures.items in
+    omega (arith, c.reach.new.frames.ok.0, is.within)
+
+pub zero_bytes-taken-requires : goal.zero_bytes-taken-requires
+zero_bytes-taken-requires g c = tt
+
+pub returns-clause-err : goal.returns-clause-err
+returns-clause-err g c = tt

@@ -1,7 +1,7 @@
-use Rattle.std.proofs.Common.{◌∙◌, List, length, ap, sym, subst, arith}
+use Rattle.std.proofs.Common.{◌∙◌, ◌+◌, ◌<◌, ◌^◌, IfSome, List, length, ap, sym, subst, arith}
 use Rattle.std.proofs.lemmas.List.{length-map}
 use Rattle.memory_objects.specs.Invariant.{MemoryInvariant}
-use Rattle.memory_objects.specs.Objects.{MemoryEntry, standing}
+use Rattle.memory_objects.specs.Objects.{MemoryEntry, ObjectTable, object_at, standing, with_area}
 use Rattle.memory_objects.proofs.AreaCounts.{more_at}
 use Rattle.memory_objects.proofs.PinsStay.{rows_with_area, same_with_area}
 use Rattle.memory_objects.proofs.Invariants.{kept_with_area}
@@ -33,3 +33,21 @@ returns-clause-pins g c = rw (
   c.add_area.ensures.entries,
   ← c.self.view_is,
 ) (same_with_area c.args.number (standing c.self.inside.entries.items))
+
+pub add_area-requires-clause-rising : goal.add_area-requires-clause-rising
+add_area-requires-clause-rising g c = c.self.invariant.rising
+
+pub add_area-requires-clause-few : goal.add_area-requires-clause-few
+add_area-requires-clause-few g c =
+    let V : ObjectTable → Type 0 = λ v. IfSome (object_at v.objects c.args.number) (λ o. o.areas + 1 < 2 ^ 64) in
+    subst V (sym c.self.view_is) c.requires
+
+pub returns-clause-objects : goal.returns-clause-objects
+returns-clause-objects g c =
+    c.add_area.ensures.entries ∙ ap (λ (v : ObjectTable). with_area c.args.number v.objects) c.self.view_is
+
+pub returns-clause-room : goal.returns-clause-room
+returns-clause-room g c =
+    let same = ap length c.add_area.ensures.entries
+    ∙ length-map (standing c.self.inside.entries.items) (more_at c.args.number) in
+    omega (arith, same, c.add_area.ensures.capacity, ap (λ (v : ObjectTable). v.room) c.self.view_is)

@@ -14,3 +14,12 @@ pub returns-clause-fits : goal.returns-clause-fits
 returns-clause-fits g c = λ told.
     let F : ObjectTable → Type 0 = λ v. Fits v.objects c.args.numbers.now c.args.accounts.now in
     subst F c.self.view_is (rw c.deref.ensures.value at (c.fit.ensures.fits told))
+
+pub fit-requires-clause-rising : goal.fit-requires-clause-rising
+fit-requires-clause-rising g c = rw c.deref.ensures.value c.self.invariant.rising
+
+pub fit-requires-clause-sorted : goal.fit-requires-clause-sorted
+fit-requires-clause-sorted g c = c.requires.sorted
+
+pub fit-requires-clause-user : goal.fit-requires-clause-user
+fit-requires-clause-user g c = c.requires.user

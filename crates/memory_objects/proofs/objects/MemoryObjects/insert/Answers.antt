@@ -1,7 +1,7 @@
 use Rattle.std.proofs.Common.{◌≡◌, ◌∙◌, ◌++◌, ◌∷◌, [], List, true, length, refl, ap, sym, subst, arith}
 use Rattle.std.proofs.lemmas.List.{length-append}
 use Rattle.memory_objects.specs.Invariant.{MemoryInvariant}
-use Rattle.memory_objects.specs.Objects.{MemoryEntry, are_rising, standing}
+use Rattle.memory_objects.specs.Objects.{MemoryEntry, ObjectTable, are_rising, standing}
 use Rattle.memory_objects.proofs.Invariants.{kept_appended, rising_appended}
 use Rattle.memory_objects.proofs.PinsStay.{frames_appended}
 use Rattle.memory_objects.proofs.Standing.{standing_push}
@@ -36,3 +36,43 @@ returns-clause-frames g c =
 
 pub returns-clause-invariant : goal.returns-clause-invariant
 returns-clause-invariant g c = (invariant_of-self g c).kept
+
+pub make_way-self-inside-requires-clause-rising : goal.make_way-self-inside-requires-clause-rising
+make_way-self-inside-requires-clause-rising g c = c.self.invariant.rising
+
+pub make_way-self-inside-requires-clause-gone : goal.make_way-self-inside-requires-clause-gone
+make_way-self-inside-requires-clause-gone g c = c.self.invariant.count
+
+pub make_way-self-inside-requires-clause-room : goal.make_way-self-inside-requires-clause-room
+make_way-self-inside-requires-clause-room g c =
+    omega (arith, c.requires.room, ap (λ (v : ObjectTable). v.room) c.self.view_is)
+
+pub make_way-self-inside-requires-clause-below : goal.make_way-self-inside-requires-clause-below
+make_way-self-inside-requires-clause-below g c = rw (← c.self.view_is) at c.requires.rises
+
+pub push_reserved-requires : goal.push_reserved-requires
+push_reserved-requires g c = c.make_way-self-inside.ensures.room
+
+pub returns-clause-objects : goal.returns-clause-objects
+returns-clause-objects g c =
+    let object : MemoryEntry = record { number = c.args.number; areas = 1; pages = c.args.pages } in
+    ap standing c.push_reserved.ensures.items ∙ standing_push c.make_way-self-inside.new.entries.items object refl
+    ∙ ap (λ os. os ++ object ∷ []) c.make_way-self-inside.ensures.entries
+    ∙ ap (λ (v : ObjectTable). v.objects ++ object ∷ []) c.self.view_is
+
+pub returns-clause-room : goal.returns-clause-room
+returns-clause-room g c =
+    let object : MemoryEntry = record { number = c.args.number; areas = 1; pages = c.args.pages } in
+    let before = standing c.self.inside.entries.items in
+    let more = ap length (ap standing c.push_reserved.ensures.items
+    ∙ standing_push c.make_way-self-inside.new.entries.items object refl
+    ∙ ap (λ os. os ++ object ∷ []) c.make_way-self-inside.ensures.entries)
+    ∙ length-append before (object ∷ []) in
+    omega (
+      arith,
+      more,
+      c.push_reserved.ensures.capacity,
+      c.make_way-self-inside.ensures.capacity,
+      c.requires.room,
+      ap (λ (v : ObjectTable). v.room) c.self.view_is,
+    )

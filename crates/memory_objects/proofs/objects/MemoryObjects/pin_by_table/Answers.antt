@@ -1,8 +1,9 @@
 use Rattle.memory_objects.proofs.FramesSeen.{frames_pinned, rows_pinned}
 use Rattle.std.proofs.Common.{◌∙◌, List, length, refl, sym, ap, subst, arith}
 use Rattle.std.proofs.lemmas.List.{length-map}
-use Rattle.memory_objects.specs.Backed.{AccountsMove, AreBacked, HoldsMove}
-use Rattle.memory_objects.specs.Objects.{MemoryEntry, ObjectTable, pinned_more, standing, times_of, with_pages}
+use Rattle.memory_objects.specs.Backed.{AccountsMove, AreBacked, CanPin, HoldsMove}
+use Rattle.memory_objects.specs.Objects.{MemoryEntry, ObjectTable, all_pinned, pinned_more, standing, times_of}
+use Rattle.memory_objects.specs.Objects.{with_pages}
 use Rattle.memory_objects.specs.Invariant.{MemoryInvariant}
 use Rattle.memory_objects.proofs.Invariants.{kept_pinned}
 use Rattle.memory_objects.proofs.Unpinned.{backed_moved}
@@ -52,3 +53,37 @@ returns-clause-rows g c = rw (
   c.pin_all.ensures.entries,
   ← c.self.view_is,
 ) (rows_pinned c.args.users.now.pages c.args.numbers.now (standing c.self.inside.entries.items))
+
+pub pin_all-requires-clause-rising : goal.pin_all-requires-clause-rising
+pin_all-requires-clause-rising g c = c.self.invariant.rising
+
+pub pin_all-requires-clause-can : goal.pin_all-requires-clause-can
+pin_all-requires-clause-can g c =
+    let V : ObjectTable → Type 0 = λ v. CanPin v.objects c.args.numbers.now c.args.users.now.pages c.args.pool.now.holds
+    c.args.accounts.now in
+    subst V (sym c.self.view_is) c.requires
+
+pub returns-clause-objects : goal.returns-clause-objects
+returns-clause-objects g c =
+    c.pin_all.ensures.entries
+    ∙ ap (λ (v : ObjectTable). all_pinned c.args.users.now.pages c.args.numbers.now v.objects) c.self.view_is
+
+pub returns-clause-room : goal.returns-clause-room
+returns-clause-room g c =
+    let old = standing c.self.inside.entries.items in
+    let pin = λ (o : MemoryEntry). with_pages
+    (pinned_more c.args.users.now.pages (times_of o.number c.args.numbers.now) o.pages.pages) o in
+    let same = ap length c.pin_all.ensures.entries ∙ length-map old pin in
+    omega (arith, same, c.pin_all.ensures.capacity, ap (λ (v : ObjectTable). v.room) c.self.view_is)
+
+pub returns-clause-pool : goal.returns-clause-pool
+returns-clause-pool g c =
+    let V : ObjectTable → Type 0 = λ v. HoldsMove v.objects (standing c.pin_all.new.entries.items) c.args.pool.now
+    c.pin_all.new.pool in
+    subst V c.self.view_is c.pin_all.ensures.pool
+
+pub returns-clause-accounts : goal.returns-clause-accounts
+returns-clause-accounts g c =
+    let V : ObjectTable → Type 0 = λ v. AccountsMove v.objects (standing c.pin_all.new.entries.items)
+    c.args.accounts.now c.pin_all.new.accounts in
+    subst V c.self.view_is c.pin_all.ensures.accounts
