@@ -1,5 +1,6 @@
 -- A writer takes the lanes upwards, and puts them back downwards.
 use Rattle.std.proofs.Common.{true, ◌≡◌, ◌≢◌, inl, inr, ⊎_elim, ℕ, zero, suc, ◌+◌, ◌-◌, ◌<◌, ◌≤◌, List, ◌∷◌, length}
+use Rattle.std.proofs.Common.{drop}
 use Rattle.std.proofs.Common.{get_or, set, length-set, sym, refl, ap, ◌∙◌, subst, arith, Option, Some, None}
 use Rattle.std.proofs.Common.{get_or-set_same, get_or-set_other}
 use mathlib.Core.Logic.{dite}
@@ -12,8 +13,10 @@ use Rattle.lane_lock.specs.Outcomes.{MetHeld, Stops}
 use Rattle.lane_lock.specs.Rule.{Names}
 use Rattle.lane_lock.proofs.Keeps.{names_some}
 use Rattle.lane_lock.specs.Hands.{Shows, Stack, Climbed, Lowered}
-use Rattle.lane_lock.specs.Steps.{Mine, Takes, IsShare}
-use Rattle.lane_lock.specs.Views.{noted, holding, pin_or}
+use Rattle.lane_lock.specs.Steps.{Mine, Takes, IsShare, Offers}
+use Rattle.lane_lock.specs.Views.{freed, noted, holding, pin_or}
+use Rattle.lane_lock.proofs.Guards.{in_front}
+use Rattle.lane_lock.proofs.Writes.{zero_there}
 
 pin_kept : (n m : ℕ) → n ≢ 0 → pin_or n m ≡ n
 pin_kept zero m q = absurd (q refl)
@@ -108,6 +111,98 @@ module _ {K E Z : Type 0} where
       → Shows hist v.seen x → IsShare hist v k x
   is_share hist v k None some pin s = some
   is_share hist v k (Some a) some pin s = (pin, s)
+
+  pub lower_none : (P : Option (Arc K Z) → Type 0) (m : Mine K E Z) (n : ℕ) → Stack P n m.1 (drop n m.1)
+      → Lowered P n n m m
+  lower_none P m n s = record {
+    stack = s;
+    view = refl;
+    long = refl;
+    high = λ j lt le. absurd (omega arith);
+    else_same = λ j p. refl;
+  }
+
+  lower_one : (P : Option (Arc K Z) → Type 0) (m m' m'' : Mine K E Z) (n k : ℕ) → suc k ≤ n → Lowered P n (suc k) m m'
+      → m''.0 ≡ freed m'.0 (suc k) m'.0.pin → m''.1 ≡ rest m'.1 → Lowered P n k m m''
+  lower_one P m m' m'' n k within l now hand =
+      let held : m''.0.held ≡ set m'.0.held (suc k) 0 = ap (λ (v : View E). v.held) now in
+      let off : (j : ℕ) → j ≢ suc k → get_or m''.0.held j 0 ≡ get_or m'.0.held j 0 =
+      λ j e. ap (λ (h : List ℕ). get_or h j 0) held ∙ get_or-set_other m'.0.held (suc k) j 0 0 e in
+      record {
+        stack = subst (λ c. Stack P k c (drop n m.1)) (sym hand) l.stack.3;
+        view = now ∙ ((λ i. record (l.view i) { held = set m'.0.held (suc k) 0 })
+            ∙ (λ i. record m.0 { held = sym held i }));
+        long = ap length held ∙ (length-set m'.0.held (suc k) 0 ∙ l.long);
+        high = λ j lt le. dite (ℕ_discrete j (suc k)) (λ e. ap (λ (h : List ℕ). get_or h j 0) held
+            ∙ (ap (λ (i : ℕ). get_or (set m'.0.held (suc k) 0) i 0) e ∙ zero_there m'.0.held (suc k)))
+            (λ e. off j e ∙ l.high j (omega arith) le);
+        else_same = λ j p. off j (⊎_elim (λ (z : j ≤ k). λ e. omega arith) (λ (z : n < j). λ e. omega arith) p)
+            ∙ l.else_same j (⊎_elim (λ (z : j ≤ k). inl (let q : j ≤ suc k = omega arith in q))
+            (λ (z : n < j). inr z) p);
+      }
+
+  -- one more lane was put back
+  pub lower_next : (P : Option (Arc K Z) → Type 0) (m m' m'' : Mine K E Z) (n lane : ℕ) → 1 < lane → lane - 1 ≤ n
+      → Lowered P n (lane - 1) m m' → m'' ≡ (freed m'.0 (lane - 1) m'.0.pin, rest m'.1)
+      → Lowered P n (lane - 1 - 1) m m''
+  lower_next P m m' m'' n zero some within l now = absurd (omega arith)
+  lower_next P m m' m'' n (suc zero) some within l now = absurd (omega arith)
+  lower_next P m m' m'' n (suc (suc k)) some within l now =
+      let a : suc (suc k) - 1 ≡ suc k = omega arith in let b : k ≡ suc (suc k) - 1 - 1 = omega arith in
+      subst (λ (j : ℕ). Lowered P n j m m'') b (lower_one P m m' m'' n k (omega (arith, within))
+      (subst (λ (j : ℕ). Lowered P n j m m') a l) (ap (λ (u : Mine K E Z). u.0) now
+      ∙ ap (λ (j : ℕ). freed m'.0 j m'.0.pin) a) (ap (λ (u : Mine K E Z). u.1) now))
+
+  -- the lowest lane that was not put back has a share of what was seen, or none
+  pub lower_offer : (hist : K → List E) (m m' : Mine K E Z) (n lane : ℕ) → 1 < lane
+      → Lowered (Shows hist m.0.seen) n (lane - 1) m m' → m.0.pin ≢ 0 → Offers hist m'.0 (lane - 1) m'.1
+  lower_offer hist m m' n lane some l pin =
+      let top = lower_top (Shows hist m.0.seen) m m' n lane some l in (
+        top.0,
+        top.1,
+        is_share hist m'.0 (lane - 1) top.0 (λ z. omega arith)
+            (λ z. pin (sym (ap (λ (v : View E). v.pin) l.view) ∙ z))
+            (subst (λ (h : List E). Shows hist h top.0) (sym (ap (λ (v : View E). v.seen) l.view)) top.2),
+      )
+
+  -- it was put back with another share in its slot
+  pub refill_next : (P : Option (Arc K Z) → Type 0) (m m' me m'' : Mine K E Z) (n lane : ℕ) (x : Option (Arc K Z))
+      → 1 < lane → lane - 1 ≤ n → Lowered P n (lane - 1) m m' → me ≡ (m'.0, (lane - 1, x) ∷ rest m'.1)
+      → m'' ≡ (freed me.0 (lane - 1) me.0.pin, rest me.1) → Lowered P n (lane - 1 - 1) m m''
+  refill_next P m m' me m'' n lane x some within l filled now = lower_next P m m' m'' n lane some within l
+      (now ∙ ap (λ (u : Mine K E Z). (freed u.0 (lane - 1) u.0.pin, rest u.1)) filled)
+
+  pub refill_pass : (P : Option (Arc K Z) → Type 0) (m m' me : Mine K E Z) (n low lane count : ℕ) → low + 1 < lane
+      → lane ≤ count → Lowered P n (lane - 1) m m' → me.0 ≡ m'.0 → m.0.stands ≡ true → m.0.pin ≡ low + 1
+      → ((k : ℕ) → low < k → k < count → get_or m.0.held k 0 ≢ 0)
+      → (me.0.stands ≡ true) × (get_or me.0.held (lane - 1) 0 ≢ 0) × (me.0.pin ≢ 0 → me.0.pin - 1 ≢ lane - 1)
+  refill_pass P m m' me n low lane count some within l same up at held =
+      let pin : me.0.pin ≡ low + 1 = ap (λ (v : View E). v.pin) same ∙ (ap (λ (v : View E). v.pin) l.view ∙ at) in (
+        ap (λ (v : View E). v.stands) same ∙ (ap (λ (v : View E). v.stands) l.view ∙ up),
+        (λ z. held (lane - 1) (omega arith) (omega arith)
+            (sym (ap (λ (v : View E). get_or v.held (lane - 1) 0) same
+            ∙ lower_held P m m' n (lane - 1) (lane - 1) l (omega arith)) ∙ z)),
+        λ q e. omega (arith, pin, e, some),
+      )
+
+  pub refill_offer : (hist : K → List E) (P : Option (Arc K Z) → Type 0) (m m' me : Mine K E Z) (n low lane : ℕ)
+      (x : Option (Arc K Z)) → low + 1 < lane → Lowered P n (lane - 1) m m'
+      → me ≡ (m'.0, (lane - 1, x) ∷ rest m'.1) → m.0.pin ≡ low + 1 → Shows hist m.0.seen x
+      → Offers hist me.0 (lane - 1) me.1
+  refill_offer hist P m m' me n low lane x some l filled at shows =
+      let pin : me.0.pin ≡ low + 1 =
+      ap (λ (u : Mine K E Z). u.0.pin) filled ∙ (ap (λ (v : View E). v.pin) l.view ∙ at) in (
+        x,
+        in_front me.1 (rest m'.1) (lane - 1, x) (ap (λ (u : Mine K E Z). u.1) filled),
+        is_share hist me.0 (lane - 1) x (λ z. omega arith) (λ z. omega (arith, pin, z))
+            (subst (λ (h : List E). Shows hist h x)
+            (sym (ap (λ (u : Mine K E Z). u.0.seen) filled ∙ ap (λ (v : View E). v.seen) l.view)) shows),
+      )
+
+  pub lower_all : (P : Option (Arc K Z) → Type 0) (m m' : Mine K E Z) (n low lane : ℕ) → low < lane
+      → lane ≤ low + 1 → Lowered P n (lane - 1) m m' → Lowered P n low m m'
+  lower_all P m m' n low lane some last l = let at : lane - 1 ≡ low = omega (arith, some, last) in
+      subst (λ (k : ℕ). Lowered P n k m m') at l
 
 -- the first lane of a take was met held
 pub met : {K E Z : Type 0} (m m' : Mine K E Z) (lane found holder : ℕ) → m' ≡ (noted m.0 lane found, m.1)

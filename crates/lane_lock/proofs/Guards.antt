@@ -1,6 +1,7 @@
 -- What a take tells of the pass, and of the share.
 use Rattle.std.proofs.Common.{◌≡◌, ◌≢◌, ℕ, Bool, true, false, List, [], ◌∷◌, sym, refl, ap, ◌∙◌, Option}
 use Rattle.std.specs.declared.sync.Arc.{Arc}
+use Rattle.atomic_table.specs.Table.{rest}
 
 -- a pass whose lane is free is under no guard
 pub idle_if_free : (b : Bool) (n : ℕ) → (b ≡ true → n ≢ 0) → n ≡ 0 → b ≡ false
@@ -16,3 +17,6 @@ module _ {K Z : Type 0} where
   pub top_is : (lane : ℕ) (x y : Option (Arc K Z)) (c cs ds : List (ℕ × Option (Arc K Z))) → c ≡ (lane, x) ∷ cs
       → c ≡ (lane, y) ∷ ds → x ≡ y
   top_is lane x y c cs ds p q = ap (top_or x) (sym p ∙ q)
+
+pub in_front : {S : Type 0} (c cs : List (ℕ × S)) (x : ℕ × S) → c ≡ x ∷ cs → c ≡ x ∷ rest c
+in_front c cs x e = e ∙ ap (λ l. x ∷ rest l) (sym e)

@@ -7,6 +7,9 @@ pub mod Guards
 pub mod Keeps
 pub mod Moves
 pub mod NewPasses
+pub mod PassKept
 pub mod PassLists
+pub mod ReaderPass
+pub mod Retries
 pub mod Starts
 pub mod Writes

@@ -1,5 +1,6 @@
 -- The passes of a new lock, one by one.
-use Rattle.std.proofs.Common.{◌≡◌, ℕ, zero, suc, ◌+◌, List, [], ◌∷◌, ◌++◌, length, length-append, slice_get, Some, sym}
+use Rattle.std.proofs.Common.{◌≡◌, ℕ, zero, suc, ◌+◌, List, [], ◌∷◌, ◌++◌, length, length-append, slice_get, Some, None}
+use Rattle.std.proofs.Common.{sym, ap}
 use Rattle.std.proofs.Common.{refl, ◌∙◌, subst, ◌⊎◌, inl, inr, ⊎_elim, arith}
 use Rattle.lane_lock.specs.declared.kept.Kept as kept
 use Rattle.lane_lock.specs.declared.lock.LaneLock.{LaneLock}
@@ -16,6 +17,9 @@ get_snoc (z ∷ xs) x y (suc k) e = ⊎_elim (λ (h : slice_get xs k ≡ Some y)
       (let q : suc k ≡ length (z ∷ xs) = omega arith in q),
       h.1,
     )) (get_snoc xs x y k e)
+
+pub none_there : {A : Type 0} {xs : List A} → xs ≡ [] → (k : ℕ) (y : A) → slice_get xs k ≡ Some y → ⊥
+none_there {A} {xs} none k y e = let h : None ≡ Some y = sym (ap (λ l. slice_get l k) none) ∙ e in cc
 
 module _ {K A S E : Type 0} {g : kept.Ghosts K A S E} (lock : LaneLock K A S E) where
   pub more_new : (n : ℕ) (ps : List (Pass K A S E g)) (p : Pass K A S E g) → AllNew lock n ps → IsNew lock n p

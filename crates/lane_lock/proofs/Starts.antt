@@ -162,3 +162,11 @@ zeros_within zero m k = refl
 zeros_within (suc n) zero k = refl
 zeros_within (suc n) (suc m) zero = refl
 zeros_within (suc n) (suc m) (suc k) = zeros_within n m k
+
+-- the first seat of a table, said with the lock's own numbers
+pub starts_full : {A E : Type 0} (opening : List E) (passes all lanes words : ℕ) → passes ≡ all → lanes ≡ words
+    → let seat : View E × List A = (newcomer (all - 1) opening all words (crowd 0 (all - 1)), []) in
+    seat ≡ (newcomer (passes - 1) opening passes lanes (crowd 0 (passes - 1 - 0)), [])
+starts_full opening passes all lanes words p l = let none : passes - 1 ≡ passes - 1 - 0 = omega arith in
+    (λ i. (newcomer (sym p i - 1) opening (sym p i) (sym l i) (crowd 0 (sym p i - 1)), []))
+    ∙ ap (λ (n : ℕ). (newcomer (passes - 1) opening passes lanes (crowd 0 n), [])) none

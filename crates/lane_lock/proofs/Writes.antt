@@ -13,7 +13,8 @@ use Rattle.lane_lock.specs.declared.refusal.Busy.{Busy}
 use Rattle.lane_lock.specs.Guards.{HasAllLanes}
 use Rattle.lane_lock.specs.Hands.{Shows, Anything, Stack, Climbed, Lowered, AllBack}
 use Rattle.lane_lock.specs.History.{StartsWith}
-use Rattle.lane_lock.specs.Outcomes.{Appends, KeepsLanes, Stops}
+use Rattle.lane_lock.specs.Outcomes.{Appends, KeepsLanes, MetHeld, OnlySees, Stops}
+use Rattle.lane_lock.specs.Rule.{Names}
 use Rattle.lane_lock.specs.Steps.{Mine, Takes, top_history}
 use Rattle.lane_lock.specs.Views.{freed, seeing, written, pin_or, IsLegal}
 use Rattle.lane_lock.proofs.Drops.{stack_drop, stack_on, turned_stack}
@@ -24,7 +25,7 @@ beyond [] k le = refl
 beyond (x ∷ l) zero le = absurd (omega arith)
 beyond (x ∷ l) (suc k) le = beyond l k (omega arith)
 
-zero_there : (l : List ℕ) (i : ℕ) → get_or (set l i 0) i 0 ≡ 0
+pub zero_there : (l : List ℕ) (i : ℕ) → get_or (set l i 0) i 0 ≡ 0
 zero_there [] i = refl
 zero_there (y ∷ ys) zero = refl
 zero_there (y ∷ ys) (suc i) = zero_there ys i
@@ -75,6 +76,34 @@ module _ {K E Z : Type 0} (hist : K → List E) (by : E → ℕ) where
 
     first_here : 0 < length m.0.held → get_or m'.0.held 0 0 ≡ w
     first_here lt = ap (λ (u : Mine K E Z). get_or u.0.held 0 0) f.is ∙ get_or-set_same m.0.held 0 w 0 lt
+
+    pub first_pass : (lanes : ℕ) → m.0.stands ≡ true → length m.0.held ≡ lanes
+        → (m'.0.stands ≡ true) × (length m'.0.held ≡ lanes) × (m'.0.pin ≢ 0) × (m'.0.number ≡ m.0.number)
+    first_pass lanes up long = (
+      ap (λ (u : Mine K E Z). u.0.stands) f.is ∙ up,
+      ap (λ (u : Mine K E Z). length u.0.held) f.is ∙ (length-set m.0.held 0 w ∙ long),
+      (λ z. pin_there m.0.pin (sym (ap (λ (u : Mine K E Z). u.0.pin) f.is) ∙ z)),
+      ap (λ (u : Mine K E Z). u.0.number) f.is,
+    )
+
+    -- what was seen is what lane 0 showed
+    pub sees_first : (v : View E) → v.number ≡ m.0.number → v.opening ≡ m.0.opening → v.passes ≡ m.0.passes
+        → v.made ≡ m.0.made → v.seen ≡ hist (arc_value a) → OnlySees m.0 v
+    sees_first v number opening passes made seen = record {
+      number = number;
+      opening = opening;
+      passes = passes;
+      made = made;
+      later = subst (λ (l : List E). StartsWith l m.0.seen) (sym seen) f.later;
+    }
+
+    pub climbed_sees : (m'' : Mine K E Z) (n : ℕ) → Climbed hist m' w n m'' → OnlySees m.0 m''.0
+    climbed_sees m'' n c = sees_first m''.0
+        (ap (λ (v : View E). v.number) c.view ∙ ap (λ (u : Mine K E Z). u.0.number) f.is)
+        (ap (λ (v : View E). v.opening) c.view ∙ ap (λ (u : Mine K E Z). u.0.opening) f.is)
+        (ap (λ (v : View E). v.passes) c.view ∙ ap (λ (u : Mine K E Z). u.0.passes) f.is)
+        (ap (λ (v : View E). v.made) c.view ∙ ap (λ (u : Mine K E Z). u.0.made) f.is)
+        (ap (λ (v : View E). v.seen) c.view ∙ ap (λ (u : Mine K E Z). u.0.seen) f.is)
 
     -- the pass held none of the lanes that it took
     pub own_free : (m'' : Mine K E Z) (n own : ℕ) → Climbed hist m' w n m'' → own ≤ n → get_or m.0.held own 0 ≡ 0
@@ -149,6 +178,22 @@ module _ {K E Z : Type 0} (hist : K → List E) (by : E → ℕ) where
           (stack_on (Shows hist m'.0.seen) (b.lane - 1) m''.1 m'.1 at)
 
       module _ (l4 : Mine K E Z) (P : Option (Arc K Z) → Type 0) (low : Lowered P (b.lane - 1) 0 m'' l4) where
+        pub stopped_first : m.0.stands ≡ true → 0 < length m.0.held → w ≢ 0
+            → (l4.0.stands ≡ true) × (get_or l4.0.held 0 0 ≢ 0)
+        stopped_first up some word = (
+          ap (λ (v : View E). v.stands) low.view ∙ (ap (λ (v : View E). v.stands) same_but_held
+              ∙ (ap (λ (u : Mine K E Z). u.0.stands) f.is ∙ up)),
+          λ z. word (sym (low.else_same 0 (inl (omega arith))
+              ∙ (held_in 0 ∙ (s.climbed.else_same 0 (inl refl) ∙ first_here some))) ∙ z),
+        )
+
+        pub stopped_share : (l4.0.pin ≢ 0) × (hist (arc_value a) ≡ l4.0.seen)
+        stopped_share = (
+          (λ z. pin_there m.0.pin (sym (ap (λ (v : View E). v.pin) low.view ∙ stopped_pin) ∙ z)),
+          sym (ap (λ (v : View E). v.seen) low.view ∙ (ap (λ (v : View E). v.seen) same_but_held
+              ∙ ap (λ (u : Mine K E Z). u.0.seen) f.is)),
+        )
+
         pub stopped_hand : l4.1 ≡ (0, None) ∷ m.1
         stopped_hand = low.stack ∙ (stack_drop (Shows hist m'.0.seen) (b.lane - 1) m''.1 m'.1
             (subst (λ c. Stack (Shows hist m'.0.seen) (b.lane - 1) c m'.1)
@@ -195,6 +240,20 @@ module _ {K E Z : Type 0} (hist : K → List E) (by : E → ℕ) where
           ap (λ (v : View E). v.passes) now ∙ (ap (λ (v : View E). v.passes) low.view
               ∙ (ap (λ (v : View E). v.passes) same_but_held ∙ ap (λ (u : Mine K E Z). u.0.passes) f.is)),
         )
+
+        pub stopped_met : (l5 : Mine K E Z) → l5.0 ≡ freed l4.0 0 0 → MetHeld m.0 l5.0 b.lane b.holder.0
+        stopped_met l5 now = let met = s.met in
+            let number : m'.0.number ≡ m.0.number = ap (λ (u : Mine K E Z). u.0.number) f.is in
+            let view : (h : View E → ℕ) → ((v : View E) (l : List ℕ) (n : ℕ) → h (record v { held = l; pin = n }) ≡ h v)
+            → h l5.0 ≡ h m''.0 = λ h same. ap h now ∙ (same l4.0 (set l4.0.held 0 0) 0
+            ∙ (ap h low.view ∙ same m''.0 l4.0.held m''.0.pin)) in
+            record {
+              counted = view (λ v. v.busy) (λ v l n. refl) ∙ (met.counted ∙ ap (λ (u : Mine K E Z). u.0.busy + 1) f.is);
+              noted = view (λ v. v.lane) (λ v l n. refl) ∙ met.noted;
+              by_holder = subst (Names b.holder.0) (sym (view (λ v. v.word) (λ v l n. refl))) met.by_holder;
+              among = subst (λ (n : ℕ). b.holder.0 < n) (ap (λ (u : Mine K E Z). u.0.passes) f.is) met.among;
+              own = λ e z. met.own (e ∙ sym number) (first_else b.lane s.above ∙ z);
+            }
 
 module _ {K E Z : Type 0} where
   -- lane 0 was put back as the last
@@ -268,6 +327,48 @@ module _ {K E Z : Type 0} where
     grown_rest =
         stack_drop Anything (lanes - 1) m2.1 [] (subst (λ c. Stack Anything (lanes - 1) c []) (sym grown_hand) s)
 
+    grown_held : (k : ℕ) → 0 < k → get_or m2.0.held k 0 ≡ get_or m.0.held k 0
+    grown_held k lt = ap (λ (v : View E). get_or v.held k 0) grown_view
+        ∙ get_or-set_other m.0.held 0 k 0 0 (λ e. omega arith)
+
+    pub grown_pass : m.0.stands ≡ true → m2.0.pin ≡ 2 → ((k : ℕ) → k < lanes → get_or m.0.held k 0 ≢ 0)
+        → (m2.0.stands ≡ true) × (m2.0.pin ≡ 2) × ((k : ℕ) → 1 < k → k < lanes → get_or m2.0.held k 0 ≢ 0)
+    grown_pass up pin held = (
+      ap (λ (v : View E). v.stands) grown_view ∙ up,
+      pin,
+      λ k some lt z. held k lt (sym (grown_held k (omega arith)) ∙ z),
+    )
+
+    -- all lanes but lane 1 were put back
+    pub grown_last : (m3 : Mine K E Z) → Lowered Anything (lanes - 1) 1 m2 m3 → m.0.stands ≡ true → 1 < lanes
+        → ((k : ℕ) → k < lanes → get_or m.0.held k 0 ≢ 0) → (m3.0.stands ≡ true) × (get_or m3.0.held 1 0 ≢ 0)
+    grown_last m3 low up some held = (
+      ap (λ (v : View E). v.stands) low.view ∙ (ap (λ (v : View E). v.stands) grown_view ∙ up),
+      λ z. held 1 some (sym (low.else_same 1 (inl (omega arith)) ∙ grown_held 1 (omega arith)) ∙ z),
+    )
+
+    -- there is no other lane
+    pub grown_alone : lanes ≡ 1 → length m.0.held ≡ lanes
+        → (m2.0.pin ≢ 0 → get_or (set m1.0.held 0 0) (m2.0.pin - 1) 0 ≢ 0) → AllBack m (hist (arc_value share)) m2
+    grown_alone one long pinned =
+        let same : length (set m.0.held 0 0) ≡ length m.0.held = length-set m.0.held 0 0 in
+        let blank : (k : ℕ) → get_or (set m.0.held 0 0) k 0 ≡ 0 = λ k. dite (ℕ_discrete k 0)
+        (λ e. ap (λ (i : ℕ). get_or (set m.0.held 0 0) i 0) e ∙ zero_there m.0.held 0)
+        (λ e. beyond (set m.0.held 0 0) k (omega (arith, same, long, one, e))) in
+        record {
+          view = grown_view ∙ (λ i. record m.0 {
+            held = sym (ap (λ (v : View E). v.held) grown_view) i;
+            seen = hist (arc_value share);
+            made = m.0.made ++ drop (length m.0.seen) (hist (arc_value share));
+            pin = m2.0.pin;
+          });
+          hand = subst (λ (n : ℕ). drop n m2.1 ≡ []) (let none : lanes - 1 ≡ 0 = omega (arith, one) in none) grown_rest;
+          long = ap (λ (v : View E). length v.held) grown_view ∙ same;
+          blank = λ k. ap (λ (v : View E). get_or v.held k 0) grown_view ∙ blank k;
+          unpinned = no_pin m2.0.pin (set m.0.held 0 0) (subst
+              (λ (u : Mine K E Z). m2.0.pin ≢ 0 → get_or (set u.0.held 0 0) (m2.0.pin - 1) 0 ≢ 0) now pinned) blank;
+        }
+
     pub grown_back : (m3 m4 : Mine K E Z) → Lowered Anything (lanes - 1) 1 m2 m3 → 1 < lanes → length m.0.held ≡ lanes
         → m4 ≡ (freed m3.0 1 0, rest m3.1) → AllBack m (hist (arc_value share)) m4
     grown_back m3 m4 low some long back =
@@ -313,3 +414,13 @@ appended {E = E} by m m' v h r back is grown maker = record {
       ∙ ap (λ l. v.made ++ l) (drop-append_seam v.seen (r ∷ []))));
   maker = maker;
 }
+
+-- a writer that has all lanes can put lane 0 back with a record
+pub recording_pass : {E : Type 0} (v w : View E) (lanes slots : ℕ) → w ≡ v → lanes ≡ slots
+    → (v.stands ≡ true) × (v.others ≡ []) × (length v.held ≡ lanes)
+    × ((k : ℕ) → k < lanes → get_or v.held k 0 ≢ 0) × (v.pin ≡ 1)
+    → (w.stands ≡ true) × (w.others ≡ []) × (length w.held ≡ slots)
+    × ((k : ℕ) → k < slots → get_or w.held k 0 ≢ 0) × (w.pin ≢ 0)
+recording_pass {E} v w lanes slots same count has = subst (λ (z : View E × ℕ). (z.0.stands ≡ true)
+    × (z.0.others ≡ []) × (length z.0.held ≡ z.1) × ((k : ℕ) → k < z.1 → get_or z.0.held k 0 ≢ 0) × (z.0.pin ≢ 0))
+    (λ i. (sym same i, count i)) (has.0, has.1, has.2, has.3, λ z. let pin = has.4 in omega (arith, pin, z))

@@ -1,10 +1,25 @@
-use Rattle.std.proofs.Common.{◌≡◌, inl, inr, ⊎_elim, ℕ, length, slice_get, Some, rules, ap, ◌∙◌}
+use Rattle.std.proofs.Common.{◌≡◌, inl, inr, ⊎_elim, ℕ, length, slice_get, Some, rules, refl, sym, ap, ◌∙◌}
 use mathlib.Core.Option.{some}
 use lib.ListN.{get_elem?}
 use Rattle.atomic_table.proofs.Lists.{at_longer}
 use Rattle.lane_lock.specs.Ending.{known_of}
 use Rattle.lane_lock.proofs.PassLists.{last_at, front_at, either_at, snoc_last}
 use Rattle.lane_lock.proofs.close.gather_all.Goals as goal
+
+pub loop-pass-init : goal.loop-pass-init
+loop-pass-init g c = record {
+  table = refl;
+  owned = λ i p e. c.requires.owned i p e ∙ sym c.requires.table.0;
+  idle = c.requires.idle;
+  view = refl;
+  taken = λ i p e. inl e;
+}
+
+pub gather-requires-clause-pass : goal.gather-requires-clause-pass
+gather-requires-clause-pass g c = let e = c.into_seat.ensures in (e.alone.0, e.alone.1, e.idle.1)
+
+pub returns-clause-same_seat : goal.returns-clause-same_seat
+returns-clause-same_seat g c = c.loop-pass.invariant.table
 
 pub into_seat-requires : goal.into_seat-requires
 into_seat-requires g c = c.loop-pass.invariant.idle _ _ (last_at _ _ _ c.in-Some.ensures.items)

@@ -1,16 +1,59 @@
-use Rattle.std.proofs.Common.{◌-◌, rules}
-use Rattle.lane_lock.proofs.Climbs.{lower_top, is_share}
+use Rattle.std.proofs.Common.{◌-◌, refl, ap, ◌∙◌, arith}
 use Rattle.lane_lock.specs.Hands.{Anything}
+use Rattle.lane_lock.proofs.Climbs.{lower_all, lower_none, lower_top, refill_next, refill_offer, refill_pass}
 use Rattle.lane_lock.proofs.upper_lanes.refill.Goals as goal
 
+pub loop-lane-init : goal.loop-lane-init
+loop-lane-init g c = record {
+  some = c.requires.table.1;
+  within = omega arith;
+  table = refl;
+  number = refl;
+  lowered = lower_none Anything c.args.seat.now.me (c.args.count - 1) c.requires.stack;
+}
+
 pub exchange-requires : goal.exchange-requires
-exchange-requires g c = let t = lower_top Anything c.args.seat.now.me c.loop-lane.seat.me (c.args.count - 1)
-    c.loop-lane.lane (search rules) c.loop-lane.invariant.lowered in (search rules, (t.0, t.1))
+exchange-requires g c = let low = c.loop-lane-test.true in
+    let t = lower_top Anything c.args.seat.now.me c.loop-lane.seat.me (c.args.count - 1)
+    c.loop-lane.lane (omega (arith, low)) c.loop-lane.invariant.lowered in
+    (c.loop-lane.invariant.table ∙ c.requires.table.0, (t.0, t.1))
+
+pub put_back_pinned-requires-clause-table : goal.put_back_pinned-requires-clause-table
+put_back_pinned-requires-clause-table g c =
+    let within = c.loop-lane.invariant.within in let few = c.requires.table.2 in let some = c.loop-lane-test.true in (
+      c.exchange.ensures.0 ∙ (c.loop-lane.invariant.table ∙ c.requires.table.0),
+      omega (arith, within, few, some),
+    )
+
+pub put_back_pinned-requires-clause-pass : goal.put_back_pinned-requires-clause-pass
+put_back_pinned-requires-clause-pass g c =
+    refill_pass Anything c.args.seat.now.me c.loop-lane.seat.me c.exchange.new.seat.me (c.args.count - 1) c.args.low
+    c.loop-lane.lane c.args.count c.loop-lane-test.true c.loop-lane.invariant.within c.loop-lane.invariant.lowered
+    (ap (λ m. m.0) c.exchange.ensures.3) c.requires.pass.0 c.requires.pass.1 c.requires.pass.2
 
 pub put_back_pinned-requires-clause-share : goal.put_back_pinned-requires-clause-share
-put_back_pinned-requires-clause-share g c = (
-  c.another.result,
-  search rules,
-  is_share g.K.Kept.history c.exchange.new.seat.me.0 (c.loop-lane.lane - 1)
-      c.another.result (search rules) (search rules) (c.another.ensures _ (search rules)),
-)
+put_back_pinned-requires-clause-share g c =
+    refill_offer g.K.Kept.history Anything c.args.seat.now.me c.loop-lane.seat.me c.exchange.new.seat.me
+    (c.args.count - 1) c.args.low c.loop-lane.lane c.another.result c.loop-lane-test.true
+    c.loop-lane.invariant.lowered c.exchange.ensures.3 c.requires.pass.1
+    (c.another.ensures c.args.seat.now.me.0.seen c.requires.share)
+
+pub loop-lane-preserved : goal.loop-lane-preserved
+loop-lane-preserved g c = let i = c.loop-lane.invariant in let e = c.put_back_pinned.ensures in
+    let some = c.loop-lane-test.true in let within = i.within in record {
+      some = omega (arith, some);
+      within = omega (arith, within);
+      table = e.same_seat.0 ∙ (c.exchange.ensures.0 ∙ i.table);
+      number = e.same_seat.1 ∙ (c.exchange.ensures.1 ∙ i.number);
+      lowered = refill_next Anything c.args.seat.now.me c.loop-lane.seat.me c.exchange.new.seat.me
+          c.put_back_pinned.new.seat.me (c.args.count - 1) c.loop-lane.lane c.another.result (omega (arith, some))
+          (omega (arith, within, some)) i.lowered c.exchange.ensures.3 e.told;
+    }
+
+pub returns-clause-same_seat : goal.returns-clause-same_seat
+returns-clause-same_seat g c = (c.loop-lane.invariant.table, c.loop-lane.invariant.number)
+
+pub returns-clause-lowered : goal.returns-clause-lowered
+returns-clause-lowered g c =
+    lower_all Anything c.args.seat.now.me c.loop-lane.seat.me (c.args.count - 1) c.args.low c.loop-lane.lane
+    c.loop-lane.invariant.some c.loop-lane-test.false c.loop-lane.invariant.lowered

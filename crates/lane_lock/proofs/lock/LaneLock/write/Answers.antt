@@ -1,0 +1,49 @@
+use Rattle.std.proofs.Common.{refl, sym, ◌∙◌}
+use Rattle.lane_lock.proofs.Retries.{owned_still, same_then, sees_same, sees_then, told_if_ok}
+use Rattle.lane_lock.proofs.lock.LaneLock.write.Goals as goal
+
+pub loop-init : goal.loop-init
+loop-init g c = record {
+  can_next = tt;
+  is_finite = tt;
+  owned = c.requires;
+  same = record { table = refl; number = refl; lane = refl };
+  sees = sees_same c.args.pass.now.seat.me.0;
+}
+
+pub start_write-requires : goal.start_write-requires
+start_write-requires g c = c.loop.invariant.owned
+
+pub invariant_of-result : goal.invariant_of-result
+invariant_of-result g c = record {
+  owned = owned_still c.args.self.now c.loop.pass c.start_write.new.pass c.loop.invariant.owned
+      c.start_write.ensures.same c.start_write.ensures.sees;
+}
+
+pub returns-then-is_ok-clause-same_reference : goal.returns-then-is_ok-clause-same_reference
+returns-then-is_ok-clause-same_reference g c = refl
+
+pub returns-then-is_ok-clause-lock : goal.returns-then-is_ok-clause-lock
+returns-then-is_ok-clause-lock g c = refl
+
+pub returns-then-is_ok-clause-same_pass : goal.returns-then-is_ok-clause-same_pass
+returns-then-is_ok-clause-same_pass g c =
+    same_then c.args.pass.now c.loop.pass c.start_write.new.pass c.loop.invariant.same c.start_write.ensures.same
+
+pub returns-then-is_ok-clause-writing : goal.returns-then-is_ok-clause-writing
+returns-then-is_ok-clause-writing g c =
+    told_if_ok c.start_write.result (sym c.is_ok.ensures.value ∙ c.if-is_ok.true) c.start_write.ensures.writing
+
+pub returns-then-is_ok-clause-sees : goal.returns-then-is_ok-clause-sees
+returns-then-is_ok-clause-sees g c =
+    sees_then c.args.pass.now.seat.me.0 c.loop.pass.seat.me.0 c.start_write.new.pass.seat.me.0
+    c.loop.invariant.sees c.start_write.ensures.sees
+
+pub loop-preserved : goal.loop-preserved
+loop-preserved g c = let i = c.loop.invariant in let e = c.start_write.ensures in record {
+  can_next = tt;
+  is_finite = tt;
+  owned = owned_still c.args.self.now c.loop.pass c.start_write.new.pass i.owned e.same e.sees;
+  same = same_then c.args.pass.now c.loop.pass c.start_write.new.pass i.same e.same;
+  sees = sees_then c.args.pass.now.seat.me.0 c.loop.pass.seat.me.0 c.start_write.new.pass.seat.me.0 i.sees e.sees;
+}
