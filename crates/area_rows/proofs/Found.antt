@@ -175,3 +175,23 @@ pub cut_first : (span : Bounds) (xs : List Area) (first : Option Area) → AreAp
     → is_cut span xs ≡ cut_by span first (area_at span.last xs)
 cut_first span xs first apart ordered is =
     cut_from span 0 xs apart ordered ∙ ap (λ found. cut_by span found (area_at span.last xs)) is
+
+-- what decides where the first area that reaches the span reaches its end, and where it doesn't
+module _ (span : Bounds) (a : Area) (at_last : Option Area) where
+  pub cut_within : span.last ≤ a.span.last
+      → cut_by span (Some a) at_last ≡ (meets a.span span && not (lies_in a.span span))
+  cut_within within = let test : leb span.last a.span.last ≡ true = grind (arith, nat_tests) in rw test refl
+
+  pub cut_below : a.span.last < span.last → a.span.first < span.first
+      → cut_by span (Some a) at_last ≡ ltb a.span.first span.first
+  cut_below ends below =
+      let test : leb span.last a.span.last ≡ false = grind (arith, nat_tests) in
+      let first : ltb a.span.first span.first ≡ true = grind (arith, nat_tests) in
+      rw (test, first) refl
+
+  pub cut_above : a.span.last < span.last → span.first ≤ a.span.first
+      → cut_by span (Some a) at_last ≡ ends_after span.last at_last
+  cut_above ends above =
+      let test : leb span.last a.span.last ≡ false = grind (arith, nat_tests) in
+      let first : ltb a.span.first span.first ≡ false = grind (arith, nat_tests) in
+      rw (test, first) refl

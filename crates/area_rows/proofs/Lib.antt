@@ -10,3 +10,5 @@ pub mod RowsChanged
 pub mod FirstFree
 pub mod Widest
 pub mod RowCut
+pub mod Removed
+pub mod Numbers

@@ -1,6 +1,6 @@
 -- The areas that reach an address, and those that lie in a span, from the first row on that reaches it.
-use Rattle.std.proofs.Common.{◌≡◌, ℕ, suc, ◌+◌, ◌<◌, ◌≤◌, Bool, true, false, leb, ltb, Some, List, [], ◌∷◌, ◌++◌}
-use Rattle.std.proofs.Common.{length, drop, refl, sym, ap, ◌∙◌, arith, ⊎_elim}
+use Rattle.std.proofs.Common.{◌≡◌, ℕ, suc, ◌+◌, ◌<◌, ◌≤◌, Bool, true, false, leb, ltb, Option, Some, None}
+use Rattle.std.proofs.Common.{List, [], ◌∷◌, ◌++◌, length, drop, refl, sym, ap, ◌∙◌, arith, ⊎_elim}
 use Rattle.std.specs.List.{filter, prefix_len}
 use Rattle.std.proofs.lemmas.Bool.{cases_lt}
 use Rattle.std.proofs.lemmas.Bool.Decides.{nat_tests}
@@ -81,6 +81,10 @@ reaching_none p address fails rows each apart none =
     rw none at same
 
 -- ---- the areas that lie in a span
+
+pub up_to_none : (last : Option ℕ) → up_to last [] ≡ []
+up_to_none None = refl
+up_to_none (Some last) = refl
 
 -- from its first address on they are those that end in it
 up_to_last : (span : Bounds) (low : ℕ) (xs : List Area) → span.first ≤ low → AreApartFrom low xs

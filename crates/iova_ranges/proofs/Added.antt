@@ -39,6 +39,13 @@ head-reaches : (n low : ℕ) (xs : List Bounds) → AreMergedFrom low xs → n �
 head-reaches n low [] merged under = tt
 head-reaches n low (x ∷ xs) merged under = omega (arith, merged.0, merged.1)
 
+-- one more in front that the span reaches
+pub joined_next : (span next : Bounds) (xs : List Bounds) → next.first ≤ span.last + 1
+    → joined_on span (next ∷ xs) ≡ joined_on (joined span next) xs
+joined_next span next xs reached =
+    let test : ltb (span.last + 1) next.first ≡ false = grind (arith, nat_tests) in
+    rw test refl
+
 joined_on-set : (span : Bounds) (low : ℕ) (xs : List Bounds) → AreMergedFrom low xs → HeadReaches span.first xs
     → span.first ≤ span.last → (n : ℕ) → in_spans (joined_on span xs) n ≡ (in_spans xs n || holds span n)
 joined_on-set span low [] merged reaches ordered n = grind (arith, nat_tests)

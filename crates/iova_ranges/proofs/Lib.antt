@@ -7,6 +7,8 @@ pub mod LeftOut
 pub mod Merged
 pub mod Reaching
 pub mod Removed
+pub mod Replaced
 pub mod Rooms
 pub mod Same
 pub mod StartsFound
+pub mod Taken

@@ -1,6 +1,8 @@
 pub mod CutBefore
 pub mod Cutting
+pub mod Lessening
 pub mod Mapping
+pub mod NextLevel
 pub mod Parting
 pub mod Pruning
 pub mod Skipping

@@ -1,5 +1,5 @@
-use Rattle.std.proofs.Common.{◌≡◌, ◌∙◌, ◌+◌, ◌<◌, ℕ, List, [], true, drop, get_or, length, subst, sym, ap, arith}
-use Rattle.std.proofs.lemmas.List.{get_or_default}
+use Rattle.std.proofs.Common.{◌≡◌, ◌∙◌, ◌+◌, ◌<◌, ℕ, List, [], true, drop, get_or, length, subst, sym, ap, arith, refl}
+use Rattle.std.proofs.lemmas.List.{get_or_default, drop_all}
 use Rattle.iofd_words.specs.declared.rows.Area.{Area}
 use Rattle.area_rows.specs.Areas.{AreApart}
 use Rattle.area_rows.specs.Rows.{first_free, in_rows, starts_from}
@@ -46,3 +46,37 @@ loop-row-preserved g c =
           ∙ free-next at c.args.count 0 rows i c.row-item.result (omega arith) c.requires.rows c.requires.apart
           ∙ c.loop-row.invariant.left;
     }
+
+pub loop-row-init : goal.loop-row-init
+loop-row-init g c = record { bound = c.requires.start; left = refl }
+
+pub offset_bounds-rows-row-index : goal.offset_bounds-rows-row-index
+offset_bounds-rows-row-index g c = omega arith
+
+pub bounds-rows-row-index : goal.bounds-rows-row-index
+bounds-rows-row-index g c = c.loop-row-test.true
+
+pub starts_from-requires-clause-at : goal.starts_from-requires-clause-at
+starts_from-requires-clause-at g c = c.loop-row.invariant.bound
+
+pub returns-then-starts_from-clause-bound : goal.returns-then-starts_from-clause-bound
+returns-then-starts_from-clause-bound g c = c.loop-row.invariant.bound
+
+pub free_from-at-requires-clause-at : goal.free_from-at-requires-clause-at
+free_from-at-requires-clause-at g c = c.loop-row.invariant.bound
+
+pub free_from-at-requires-clause-begun : goal.free_from-at-requires-clause-begun
+free_from-at-requires-clause-begun g c = sym c.if-starts_from.ensures
+
+pub loop-row-smaller : goal.loop-row-smaller
+loop-row-smaller g c = omega arith
+
+pub returns-clause-value : goal.returns-clause-value
+returns-clause-value g c =
+    let rows : List (List Area) = c.args.rows.now in
+    let none = drop_all c.loop-row.row-index rows (omega arith) in
+    ap (λ (left : List (List Area)). first_free c.loop-row.at c.args.count (in_rows left)) (sym none)
+    ∙ c.loop-row.invariant.left
+
+pub returns-clause-bound : goal.returns-clause-bound
+returns-clause-bound g c = c.loop-row.invariant.bound

@@ -1,4 +1,4 @@
-use Rattle.std.proofs.Common.{◌≡◌, ◌-◌, ◌/◌, Some, None, length, ap, sym, ◌∙◌, refl, vec_capacity, vec_len}
+use Rattle.std.proofs.Common.{◌≡◌, ◌-◌, ◌/◌, Some, None, length, ap, sym, ◌∙◌, refl, vec_capacity, vec_len, List, set}
 use Rattle.iofd_words.specs.Pages.{page_of}
 use Rattle.iofd_words.specs.TablePlaces.{pages_in}
 use Rattle.hwpt_device.proofs.MappedIn.{found_all, found_frames, found_free, found_others, found_holds, found_out}
@@ -6,6 +6,7 @@ use Rattle.hwpt_device.proofs.MappedIn.{none_all, none_free, none_holds, none_ou
 use Rattle.hwpt_device.proofs.MappedOver.{SpanMapped, as_span, end_below}
 use Rattle.hwpt_device.proofs.TakenOut.{both_there, none_there}
 use Rattle.hwpt_device.specs.PageTables.{Hwpt, PageTables, hwpt_of}
+use Rattle.std.proofs.lemmas.List.{set-get_or}
 use Rattle.hwpt_device.proofs.page_tables.PageTables.map_in.Goals as goal
 
 pub map-requires-clause-table : goal.map-requires-clause-table
@@ -188,3 +189,44 @@ returns-in_default-clause-out g c =
     ∙ none_there c.args.file c.args.id c.self.inside.tables.items
     (rw (c.deref.ensures.value) at (sym c.place.ensures.value ∙ c.in_default.is)) in
     none_out c.args.pool.now c.args.self.now.tables c.args.file c.args.id c.args.span none c.args.out.now.items
+
+pub place-requires : goal.place-requires
+place-requires g c = rw c.deref.ensures.value c.self.invariant
+
+pub map-requires-clause-some_right : goal.map-requires-clause-some_right
+map-requires-clause-some_right g c = c.requires.some_right
+
+pub map-requires-clause-no_other : goal.map-requires-clause-no_other
+map-requires-clause-no_other g c = c.requires.no_other
+
+pub invariant_of-self : goal.invariant_of-self
+invariant_of-self g c =
+    let items : List Hwpt = c.self.inside.tables.items in
+    let hwpt = c.hwpt.view_is ∙ c.index_mut-hwpt.ensures.value in
+    let same = ap (λ table. set items c.in-Some.place (record { object = c.hwpt.inside.object; table = table }))
+    c.map.ensures.same ∙ ap (λ (h : Hwpt). set items c.in-Some.place h) hwpt
+    ∙ set-get_or items c.in-Some.place c.index_mut-hwpt.result.now in
+    rw same c.self.invariant
+
+pub returns-in-Some-clause-same : goal.returns-in-Some-clause-same
+returns-in-Some-clause-same g c =
+    let items : List Hwpt = c.self.inside.tables.items in
+    let hwpt = c.hwpt.view_is ∙ c.index_mut-hwpt.ensures.value in
+    let same = ap (λ table. set items c.in-Some.place (record { object = c.hwpt.inside.object; table = table }))
+    c.map.ensures.same ∙ ap (λ (h : Hwpt). set items c.in-Some.place h) hwpt
+    ∙ set-get_or items c.in-Some.place c.index_mut-hwpt.result.now in
+    let f : List Hwpt → PageTables =
+    λ tables. record { tables = tables; room = vec_capacity c.self.inside.tables - vec_len c.self.inside.tables } in
+    ap f same ∙ c.self.view_is
+
+pub returns-in-Some-clause-capacity : goal.returns-in-Some-clause-capacity
+returns-in-Some-clause-capacity g c = c.map.ensures.capacity
+
+pub returns-in_default-clause-same : goal.returns-in_default-clause-same
+returns-in_default-clause-same g c = refl
+
+pub returns-in_default-clause-others : goal.returns-in_default-clause-others
+returns-in_default-clause-others g c = λ frames leads stand frame none. refl
+
+pub returns-in_default-clause-capacity : goal.returns-in_default-clause-capacity
+returns-in_default-clause-capacity g c = refl
