@@ -21,7 +21,7 @@ use std::marker::Model;
 /// The areas of one I/O address space: what IOMMU_IOAS_MAP and IOMMU_IOAS_COPY made and IOMMU_IOAS_UNMAP
 /// hasn't taken away (uapi header, `linux/iommufd.h`). No two overlap, and there are at most 65,535. A
 /// contract sees their list by rising start, and for how many more there is memory.
-#[derive(Debug, Drop)]
+#[derive(Drop)]
 pub struct Areas<A: Allocator = Global> {
     // By rising start. Each has areas, and memory for one more than it has.
     rows: Vec<Row<A>, A>,

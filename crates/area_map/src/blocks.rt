@@ -18,7 +18,7 @@ use std::marker::Model;
 const BLOCK: usize = 32;
 
 /// What is kept of a block's rows.
-#[derive(Clone, Copy, Debug)]
+#[derive(Clone, Copy)]
 pub struct Block {
     first: u64,
     end: u64,
@@ -60,7 +60,7 @@ impl Block {
 }
 
 /// What is kept of the blocks. A contract sees their list. There may be more than the rows fill.
-#[derive(Debug, Drop)]
+#[derive(Drop)]
 pub(crate) struct Blocks<A: Allocator = Global> {
     // None as long as there has been no row.
     blocks: Option<Vec<Block, A>>,

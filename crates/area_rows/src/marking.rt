@@ -7,7 +7,7 @@ use iofd_words::{Area, DeviceNo, DeviceSet, Phase, Span};
 use std::alloc::Allocator;
 
 /// A change of areas' phases.
-#[derive(Debug, Drop)]
+#[derive(Drop)]
 pub enum Change {
     /// Each live area that lies in the span is leaving, with this debt.
     Leave(DeviceSet),

@@ -16,7 +16,7 @@ use std::marker::Model;
 pub const ROW: usize = 32;
 
 /// Areas by rising start. A contract sees their list.
-#[derive(Debug, Drop)]
+#[derive(Drop)]
 pub struct Row<A: Allocator = Global> {
     areas: Vec<Area, A>,
     // Where the first area begins and the last ends: a search among rows looks at no area. Where there is none, the

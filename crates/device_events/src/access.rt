@@ -29,7 +29,7 @@ use std::alloc::Allocator;
 use user_memory::UserMemory;
 
 /// What may come of an access.
-#[derive(Clone, Copy, PartialEq, Eq, Debug)]
+#[derive(Clone, Copy)]
 enum Access {
     /// It passes, at this frame.
     Passes(FrameNo),

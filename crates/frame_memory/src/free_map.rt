@@ -7,7 +7,7 @@ use std::marker::Model;
 
 /// The free frames, of which the least is found at once. Frame `f` has bit `f % 64` of word `f / 64`; bit `k`
 /// of the summary is set exactly where word `k` isn't 0. A contract sees the words.
-#[derive(Debug, Drop)]
+#[derive(Drop)]
 pub struct FreeMap {
     words: [u64; 64],
     summary: u64,

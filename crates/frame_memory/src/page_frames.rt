@@ -13,7 +13,7 @@ use std::marker::Model;
 
 /// The frame of each user's page. A contract sees the pages by rising user and page, and how many more there is
 /// room for.
-#[derive(Debug, Drop)]
+#[derive(Drop)]
 pub(crate) struct PageFrames<A: Allocator = Global> {
     frames: HashMap<(u16, u64), FrameNo, BuildHasherDefault<FoldHasher>, A>,
 }

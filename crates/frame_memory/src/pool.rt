@@ -12,7 +12,7 @@ use std::alloc::{Allocator, Global};
 use std::marker::Model;
 
 // A frame: how many holds stand on it, and its bytes.
-#[derive(Debug, Drop)]
+#[derive(Drop)]
 struct Frame {
     holds: u128,
     bytes: [u8; 4096],
@@ -22,7 +22,7 @@ struct Frame {
 ///
 /// A frame is written when it is first needed, so that a pool of which little is used costs little. There is room
 /// for the frames that lack: no hold stands on them, and they read zero.
-#[derive(Debug, Drop)]
+#[derive(Drop)]
 pub struct Pool<A: Allocator = Global> {
     frames: Vec<Frame, A>,
     count: u32,

@@ -15,7 +15,7 @@ use std::marker::Model;
 
 /// Which page of which user's memory is which frame. A contract sees the pages by rising user and page, and how many
 /// more there is room for. A page is found by its hash; one more or one less moves at most one of the others.
-#[derive(Debug, Drop)]
+#[derive(Drop)]
 pub struct UserMap<A: Allocator = Global> {
     pages: PageFrames<A>,
 }

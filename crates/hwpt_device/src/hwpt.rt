@@ -8,7 +8,7 @@ use std::marker::Model;
 
 /// A hardware page table: which object of a file it is, with its id and its address space, and its tables in frames of
 /// the pool.
-#[derive(Debug, Drop)]
+#[derive(Drop)]
 pub struct Hwpt {
     pub(crate) object: Object,
     pub(crate) table: Table,

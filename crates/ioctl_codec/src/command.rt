@@ -18,14 +18,14 @@ pub const KNOWN_FLAGS: u32 = MapFlags::FIXED_IOVA.0 | MapFlags::WRITEABLE.0 | Ma
 
 /// What IOAS_IOVA_RANGES asks for (uapi header, `struct iommu_ioas_iova_ranges`): the ranges of an address space, for
 /// so many of which the caller has places.
-#[derive(Clone, Copy, PartialEq, Eq, Debug)]
+#[derive(Clone, Copy)]
 pub struct RangesRequest {
     pub ioas: ObjId,
     pub places: u32,
 }
 
 /// What a call of `ioctl` asks for (uapi header `iommufd.h`, one structure each). One with a list owns it.
-#[derive(Debug, Drop)]
+#[derive(Drop)]
 pub enum Command<A: Allocator = Global> {
     /// IOMMU_DESTROY: takes the object of this id away.
     Destroy(ObjId),

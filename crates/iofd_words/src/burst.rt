@@ -5,7 +5,7 @@ ghost use Rattle.std.specs.Prelude.{◌≡◌, ◌↔◌, ◌≤◌, ◌<◌, �
 use std::marker::Model;
 
 /// 1 to 64 bytes, which one access reads or writes.
-#[derive(Clone, Copy, PartialEq, Eq, Debug)]
+#[derive(Clone, Copy, PartialEq, Eq)]
 pub struct Burst {
     // The bytes, and zeros behind them.
     bytes: [u8; 64],

@@ -19,7 +19,7 @@ use std::marker::Model;
 
 /// A device of a server: its source id, the width of its addresses, whether it has the interrupt range
 /// of x86, and its reserved spans.
-#[derive(Debug, Drop)]
+#[derive(Drop)]
 pub struct DeviceConfig<A: Allocator = Global> {
     source: SourceId,
     width: Width,
@@ -131,7 +131,7 @@ pub enum ConfigError {
 }
 
 /// What a server is opened with. Its values are within the limits.
-#[derive(Debug, Drop)]
+#[derive(Drop)]
 pub struct Config<A: Allocator = Global> {
     pool: u32,
     users: Vec<u64, A>,

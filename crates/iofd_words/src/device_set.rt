@@ -7,7 +7,7 @@ use crate::numbers::DeviceNo;
 use std::marker::Model;
 
 /// A set of devices, kept as 256 bits; a contract sees its members by rising number.
-#[derive(Debug, Drop)]
+#[derive(Drop)]
 pub struct DeviceSet {
     words: [u64; 4],
 }

@@ -11,7 +11,7 @@ use crate::refusal::NoMemory;
 use std::alloc::{Allocator, Global};
 
 /// What IOAS_MAP asks for (uapi header, `struct iommu_ioas_map`). Lengths and addresses are in bytes.
-#[derive(Clone, Copy, PartialEq, Eq, Debug)]
+#[derive(Clone, Copy)]
 pub struct MapRequest {
     pub flags: MapFlags,
     pub ioas: ObjId,
@@ -22,7 +22,7 @@ pub struct MapRequest {
 
 /// What IOAS_COPY asks for (uapi header, `struct iommu_ioas_copy`): the memory mapped at exactly the source range is
 /// mapped in the target as well. Lengths and addresses are in bytes.
-#[derive(Clone, Copy, PartialEq, Eq, Debug)]
+#[derive(Clone, Copy)]
 pub struct CopyRequest {
     pub flags: MapFlags,
     pub dst_ioas: ObjId,
@@ -34,7 +34,7 @@ pub struct CopyRequest {
 
 /// What IOAS_UNMAP asks for (uapi header, `struct iommu_ioas_unmap`). Iova 0 with a length of
 /// 2^64 - 1 names every address.
-#[derive(Clone, Copy, PartialEq, Eq, Debug)]
+#[derive(Clone, Copy)]
 pub struct UnmapRequest {
     pub ioas: ObjId,
     pub iova: Iova,
@@ -43,14 +43,14 @@ pub struct UnmapRequest {
 
 /// What HWPT_ALLOC asks for (uapi header, `struct iommu_hwpt_alloc`): a page table of the device's width over an
 /// address space, both by their ids in the file.
-#[derive(Clone, Copy, PartialEq, Eq, Debug)]
+#[derive(Clone, Copy)]
 pub struct HwptRequest {
     pub device: ObjId,
     pub ioas: ObjId,
 }
 
 /// A step that is recorded. One with a list owns it.
-#[derive(Debug, Drop)]
+#[derive(Drop)]
 pub enum Event<A: Allocator = Global> {
     /// IOAS_ALLOC: makes an I/O address space.
     IoasAlloc(FileNo),
@@ -120,7 +120,7 @@ impl<A: Allocator + Copy> Event<A> {
 }
 
 /// An event to apply, and for a DeviceWrite the frame of a cached translation, if it comes from one.
-#[derive(Debug, Drop)]
+#[derive(Drop)]
 pub struct Act<A: Allocator = Global> {
     pub event: Event<A>,
     pub via: Option<FrameNo>,

@@ -9,7 +9,7 @@ use std::alloc::{Allocator, Global};
 use std::marker::Model;
 
 /// Frames, in the order in which they were taken or given back.
-#[derive(Debug, Drop)]
+#[derive(Drop)]
 pub struct FrameList<A: Allocator = Global> {
     frames: Vec<FrameNo, A>,
 }
@@ -47,7 +47,7 @@ impl<A: Allocator> FrameList<A> {
 }
 
 /// Spans of addresses, in the order given.
-#[derive(Debug, Drop)]
+#[derive(Drop)]
 pub struct SpanList<A: Allocator = Global> {
     spans: Vec<Span, A>,
 }

@@ -6,7 +6,7 @@ use crate::numbers::{DeviceNo, Iova, UserNo};
 use crate::refusal::Refusal;
 
 /// A question about the world. It changes nothing and isn't recorded.
-#[derive(Clone, Copy, PartialEq, Eq, Debug)]
+#[derive(Clone, Copy)]
 pub enum Query {
     /// A device reads `len` bytes.
     DeviceRead {
@@ -27,7 +27,7 @@ pub enum Query {
 }
 
 /// The answer to a question.
-#[derive(Clone, Copy, PartialEq, Eq, Debug)]
+#[derive(Clone, Copy, PartialEq, Eq)]
 pub enum Answer {
     /// The bytes that were read.
     Read(Burst),

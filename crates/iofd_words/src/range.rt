@@ -8,7 +8,7 @@ use std::marker::Model;
 
 /// The addresses from `start` to `last` (uapi header, `struct iommu_iova_range`). It is what a caller has written, and
 /// so it may begin above its last address.
-#[derive(Clone, Copy, PartialEq, Eq, Debug)]
+#[derive(Clone, Copy)]
 pub struct IovaRange {
     pub start: u64,
     pub last: u64,
@@ -25,7 +25,7 @@ impl Model for IovaRange {
 }
 
 /// Ranges of addresses, in the order given.
-#[derive(Debug, Drop)]
+#[derive(Drop)]
 pub struct RangeList<A: Allocator = Global> {
     ranges: Vec<IovaRange, A>,
 }

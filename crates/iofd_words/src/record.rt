@@ -8,7 +8,7 @@ use std::alloc::{Allocator, Global};
 
 /// One step: who made it, what was asked, what was answered, and the table frames that it took from the
 /// pool and gave back, in order.
-#[derive(Debug, Drop)]
+#[derive(Drop)]
 pub struct Record<A: Allocator = Global> {
     pub pass: PassNo,
     pub event: Event<A>,

@@ -7,7 +7,7 @@ use crate::span::Span;
 use crate::width::Width;
 
 /// What an object is.
-#[derive(Clone, Copy, PartialEq, Eq, Debug)]
+#[derive(Clone, Copy, PartialEq, Eq)]
 pub enum ObjectKind {
     /// An I/O address space.
     Ioas,
@@ -22,7 +22,7 @@ pub enum ObjectKind {
 }
 
 /// An object of a file. Ids are unique in a file.
-#[derive(Clone, Copy, PartialEq, Eq, Debug)]
+#[derive(Clone, Copy)]
 pub struct Object {
     pub file: FileNo,
     pub id: ObjId,
@@ -30,7 +30,7 @@ pub struct Object {
 }
 
 /// Pages of a user that a MAP made ready for devices. Its number is the position of that MAP's record.
-#[derive(Clone, Copy, PartialEq, Eq, Debug)]
+#[derive(Clone, Copy)]
 pub struct MemoryObject {
     pub number: u64,
     pub user: UserNo,
@@ -42,7 +42,7 @@ pub struct MemoryObject {
 }
 
 /// Whether an area is mapped, or on its way out.
-#[derive(Debug, Drop)]
+#[derive(Drop)]
 pub enum Phase {
     Live,
     /// An UNMAP was called: these devices still have to flush. `tries` is for counting the calls that were
@@ -52,7 +52,7 @@ pub enum Phase {
 
 /// A span of an address space that is mapped: page `i` of the memory object lies `4096 * i` after the
 /// span's first address.
-#[derive(Debug, Drop)]
+#[derive(Drop)]
 pub struct Area {
     pub file: FileNo,
     pub ioas: ObjId,
@@ -64,7 +64,7 @@ pub struct Area {
 }
 
 /// A page in a user's memory: the page at `4096 * page` is this frame.
-#[derive(Clone, Copy, PartialEq, Eq, Debug)]
+#[derive(Clone, Copy)]
 pub struct UserPage {
     pub user: UserNo,
     pub page: u64,
@@ -72,7 +72,7 @@ pub struct UserPage {
 }
 
 /// A page of a memory object that devices may reach, and the frame that it had when it was pinned.
-#[derive(Clone, Copy, PartialEq, Eq, Debug)]
+#[derive(Clone, Copy)]
 pub struct Pin {
     /// The number of its memory object.
     pub memory: u64,
@@ -83,7 +83,7 @@ pub struct Pin {
 
 /// Whole pages of an address space that an access object has pinned, for writes too where `write` is true. Equal ones
 /// may stand side by side.
-#[derive(Clone, Copy, PartialEq, Eq, Debug)]
+#[derive(Clone, Copy)]
 pub struct AccessPin {
     pub file: FileNo,
     /// The access object.
@@ -93,7 +93,7 @@ pub struct AccessPin {
 }
 
 /// A frame of the pool that holds a table of a hardware page table.
-#[derive(Clone, Copy, PartialEq, Eq, Debug)]
+#[derive(Clone, Copy)]
 pub struct TableFrame {
     pub file: FileNo,
     pub hwpt: ObjId,
@@ -105,7 +105,7 @@ pub struct TableFrame {
 }
 
 /// A device that translates by a hardware page table of its file.
-#[derive(Clone, Copy, PartialEq, Eq, Debug)]
+#[derive(Clone, Copy)]
 pub struct Attachment {
     pub device: DeviceNo,
     pub file: FileNo,

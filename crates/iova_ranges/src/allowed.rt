@@ -12,7 +12,7 @@ use std::marker::Model;
 
 /// The ranges that IOMMU_IOAS_ALLOW_IOVAS allows in an address space (uapi header, `linux/iommufd.h`). With none, as
 /// at first, each address is allowed. A contract sees them as spans by rising start, no two of which overlap or adjoin.
-#[derive(Debug, Drop)]
+#[derive(Drop)]
 pub struct Allowed<A: Allocator = Global> {
     ranges: RangeSet<A>,
 }

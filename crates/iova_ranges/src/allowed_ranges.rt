@@ -18,7 +18,7 @@ use std::marker::Model;
 
 /// The ranges that IOMMU_IOAS_ALLOW_IOVAS allows in one address space of a file (uapi header, `linux/iommufd.h`). With
 /// none each address is allowed. A contract sees them in the order given.
-#[derive(Debug, Drop)]
+#[derive(Drop)]
 pub struct AllowedRow<A: Allocator = Global> {
     file: FileNo,
     ioas: ObjId,
@@ -129,7 +129,7 @@ fn add_range<A: Allocator>(set: &mut RangeSet<A>, range: IovaRange) -> Result<()
 
 /// The allowed ranges of all address spaces that have any. A contract sees the rows; what is asked of them is the
 /// ranges of an address space.
-#[derive(Debug, Drop)]
+#[derive(Drop)]
 pub struct AllowedTable<A: Allocator = Global> {
     rows: Vec<AllowedRow<A>, A>,
 }

@@ -16,7 +16,7 @@ use std::marker::Model;
 /// A set of addresses from 0 to 2^64 - 1. A contract sees the spans that make it up, by rising start, no two of
 /// which overlap or adjoin, so that equal sets have equal spans (`laws`); and for how many more spans there is memory.
 /// A number is in the set where some span holds it.
-#[derive(Debug, Drop)]
+#[derive(Drop)]
 pub struct RangeSet<A: Allocator = Global> {
     merged: Vec<Span, A>,
 }

@@ -11,7 +11,7 @@ use std::alloc::{Allocator, Global};
 use std::marker::Model;
 
 /// A span of addresses that a device keeps for itself.
-#[derive(Clone, Copy, PartialEq, Eq, Debug)]
+#[derive(Clone, Copy, PartialEq, Eq)]
 pub struct ReservedSpan {
     /// The device.
     pub owner: DeviceNo,
@@ -21,7 +21,7 @@ pub struct ReservedSpan {
 
 /// The reserved spans of the devices that are attached to an address space. They may overlap. A contract sees them in
 /// the order in which they came, and for how many more there is memory.
-#[derive(Debug, Drop)]
+#[derive(Drop)]
 pub struct Reserved<A: Allocator = Global> {
     rows: Vec<ReservedSpan, A>,
 }

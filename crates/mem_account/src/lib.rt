@@ -9,14 +9,14 @@ use std::alloc::{Allocator, Global};
 use std::marker::Model;
 
 /// What one user holds and may hold, in pages.
-#[derive(Clone, Copy, PartialEq, Eq, Debug)]
+#[derive(Clone, Copy, PartialEq, Eq)]
 pub struct Account {
     pub limit: u64,
     pub held: u64,
 }
 
 /// The accounts of all users, who are numbered from 1. No user holds more than the limit allows.
-#[derive(Debug, Drop)]
+#[derive(Drop)]
 pub struct Accounts<A: Allocator = Global> {
     accounts: Vec<Account, A>,
 }

@@ -1,7 +1,7 @@
 //! A memory object by its number.
 
 /// A memory object: its number, how many areas lie over it, and its pages.
-#[derive(Debug, Drop)]
+#[derive(Drop)]
 pub struct Entry<P> {
     /// The position of the MAP record that made it.
     pub number: u64,

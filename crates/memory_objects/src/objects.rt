@@ -29,7 +29,7 @@ use std::marker::Model;
 /// Several calls take a list of numbers, as those of the areas of one address space: an object's number stands there
 /// once for each area meant that lies over it, and a number of no object says nothing. An object is found by one look
 /// where the numbers follow each other, and by binary search else.
-#[derive(Debug, Drop)]
+#[derive(Drop)]
 pub struct MemoryObjects<A: Allocator = Global> {
     // By rising number. Over some no area lies any more: they are gone, and their entries go later.
     entries: Vec<Entry<Pages<A>>, A>,

@@ -4,7 +4,7 @@ ghost use Rattle.std.specs.Prelude.{◌≡◌};
 ghost use Rattle.object_table.specs.Table.{is_same_kind, keeps_file_open};
 
 /// What an object is (`iommufd.rst`, "User API": the objects that have an id).
-#[derive(Clone, Copy, PartialEq, Eq, Debug)]
+#[derive(Clone, Copy, PartialEq, Eq)]
 pub enum Kind {
     /// An I/O address space (`IOMMUFD_OBJ_IOAS`).
     Ioas,

@@ -13,7 +13,7 @@ use std::alloc::Allocator;
 
 /// A table that was reached from the root: its frame, its level, and the rights that all entries on the way gave. The
 /// frame stands first so that it all fits a machine word.
-#[derive(Clone, Copy, PartialEq, Eq, Debug)]
+#[derive(Clone, Copy, PartialEq, Eq)]
 pub(crate) struct Reached {
     pub(crate) frame: FrameNo,
     pub(crate) level: u8,

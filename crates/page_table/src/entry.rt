@@ -11,7 +11,7 @@ use std::alloc::Allocator;
 
 /// An entry of a table (VT-d, "Second-Stage Paging Entries"): bit 0 read, bit 1 write, the frame's number from bit 12
 /// on.
-#[derive(Clone, Copy, PartialEq, Eq, Debug)]
+#[derive(Clone, Copy, PartialEq, Eq)]
 pub(crate) struct Entry(pub(crate) u64);
 
 impl Entry {

@@ -32,7 +32,7 @@ use std::marker::Model;
 /// A hardware page table: second-stage tables of VT-d in frames of a pool, which is lent to each call. A contract sees
 /// its width and the frame of its root; what its rows of table frames and its mapped pages are is told by the words of
 /// the pool.
-#[derive(Debug, Drop)]
+#[derive(Drop)]
 pub struct Table {
     width: Width,
     root: FrameNo,

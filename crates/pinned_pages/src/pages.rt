@@ -21,7 +21,7 @@ use std::marker::Model;
 /// The pages that a MAP made ready for devices. They are pinned, all or none, once for each area over them that
 /// stands in an address space with a hardware page table. A contract sees whose pages they are, how many pins stand
 /// on them, their frames while some does, and for how many frames there is memory.
-#[derive(Debug, Drop)]
+#[derive(Drop)]
 pub struct Pages<A: Allocator = Global> {
     user: UserNo,
     va: u64,
