@@ -265,10 +265,18 @@ fn wrong_row(alloc: Global, rows: &[Row]) -> Option<usize> {
     first_wrong(&mut sets, alloc, rows)
 }
 
+// Whether each row of the table at this place is answered so.
+fn is_right(alloc: Global, place: usize) -> bool {
+    match TABLES.get(place) {
+        Some((_, rows)) => wrong_row(alloc, *rows).is_none(),
+        None => false,
+    }
+}
+
 #[test]
 fn each_call_answers_as_its_row_says(rt: HostRuntime) {
-    for (what, rows) in &TABLES {
-        assert_eq!(rt; wrong_row(rt.alloc(), *rows), None, "{what}");
+    for place in 0..TABLES.len() {
+        assert!(rt; is_right(rt.alloc(), place), "table {place}");
     }
 }
 

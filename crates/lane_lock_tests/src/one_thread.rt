@@ -266,45 +266,60 @@ fn two_readers(lock: &LaneLock<Numbers>, mut passes: Vec<Pass<Numbers>>) -> Opti
     Some(are_all && readers_refuse_a_writer(lock, &mut p0, &mut p1, &mut p2))
 }
 
+// Whether the three passes of a new lock do so.
+fn refuse_a_writer(alloc: Global) -> Option<bool> {
+    let (lock, passes) = new_lock(alloc, 8, 2, 3)?;
+    two_readers(&lock, passes)
+}
+
 #[test]
 fn two_readers_refuse_a_writer(rt: HostRuntime) {
-    let Some((lock, passes)) = new_lock(rt.alloc(), 8, 2, 3) else {
-        panic!(rt; "no memory");
-    };
-    assert!(rt; two_readers(&lock, passes) == Some(true));
+    assert!(rt; refuse_a_writer(rt.alloc()) == Some(true));
+}
+
+// Whether the two passes of a new lock do so.
+fn meet(alloc: Global) -> Option<bool> {
+    let (lock, p0, p1) = lock_of_two(alloc, 8)?;
+    Some(passes_meet(lock, p0, p1, alloc))
 }
 
 #[test]
 fn a_record_is_met(rt: HostRuntime) {
-    let Some((lock, p0, p1)) = lock_of_two(rt.alloc(), 8) else {
-        panic!(rt; "no memory");
-    };
-    assert!(rt; passes_meet(lock, p0, p1, rt.alloc()));
+    assert!(rt; meet(rt.alloc()) == Some(true));
+}
+
+// Whether those of a lock over numbers with room for one do so.
+fn refuse_growth(alloc: Global) -> Option<bool> {
+    let (lock, mut p0, mut p1) = lock_of_two(alloc, 1)?;
+    Some(refused_growth(&lock, &mut p0, &mut p1))
 }
 
 #[test]
 fn a_refused_growth_makes_no_record(rt: HostRuntime) {
-    let Some((lock, mut p0, mut p1)) = lock_of_two(rt.alloc(), 1) else {
-        panic!(rt; "no memory");
-    };
-    assert!(rt; refused_growth(&lock, &mut p0, &mut p1));
+    assert!(rt; refuse_growth(rt.alloc()) == Some(true));
+}
+
+// Whether the two passes of a new lock do so.
+fn drop_guards(alloc: Global) -> Option<bool> {
+    let (lock, mut p0, mut p1) = lock_of_two(alloc, 8)?;
+    Some(dropped_guards(&lock, &mut p0, &mut p1))
 }
 
 #[test]
 fn dropped_guards_put_their_lanes_back(rt: HostRuntime) {
-    let Some((lock, mut p0, mut p1)) = lock_of_two(rt.alloc(), 8) else {
-        panic!(rt; "no memory");
-    };
-    assert!(rt; dropped_guards(&lock, &mut p0, &mut p1));
+    assert!(rt; drop_guards(rt.alloc()) == Some(true));
+}
+
+// Whether the two passes of a new lock do so, and it can't be closed then.
+fn forget_a_guard(alloc: Global) -> Option<bool> {
+    let (lock, mut p0, mut p1) = lock_of_two(alloc, 8)?;
+    let kept = forgotten_guard(&lock, &mut p0, &mut p1);
+    Some(stays_open(lock, p0, p1, alloc) && kept)
 }
 
 #[test]
 fn a_forgotten_guard_keeps_its_lane(rt: HostRuntime) {
-    let Some((lock, mut p0, mut p1)) = lock_of_two(rt.alloc(), 8) else {
-        panic!(rt; "no memory");
-    };
-    assert!(rt; forgotten_guard(&lock, &mut p0, &mut p1));
-    assert!(rt; stays_open(lock, p0, p1, rt.alloc()));
+    assert!(rt; forget_a_guard(rt.alloc()) == Some(true));
 }
 
 // Puts the pass behind the others, if there is memory.
@@ -340,8 +355,7 @@ fn serves(alloc: Global, lanes: u16, passes: u16) -> bool
 
 #[test]
 fn locks_of_the_least_and_the_greatest_size_serve(rt: HostRuntime) {
-    assert!(rt; serves(rt.alloc(), 1, 1));
-    assert!(rt; serves(rt.alloc(), 1, 3));
-    assert!(rt; serves(rt.alloc(), 3, 2));
-    assert!(rt; serves(rt.alloc(), 64, 1024));
+    let few = serves(rt.alloc(), 1, 1) && serves(rt.alloc(), 1, 3);
+    let many = serves(rt.alloc(), 3, 2) && serves(rt.alloc(), 64, 1024);
+    assert!(rt; few && many);
 }

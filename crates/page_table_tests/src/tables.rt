@@ -407,7 +407,7 @@ fn first_wrong_run(alloc: Global) -> Result<Option<(usize, usize)>, NoMemory> {
 
 #[test]
 fn each_call_answers_as_its_row_says(rt: HostRuntime) {
-    assert_eq!(rt; first_wrong_run(rt.alloc()), Ok(None));
+    assert!(rt; matches!(first_wrong_run(rt.alloc()), Ok(None)));
 }
 
 /// Maps the first page of each last table, as long as a frame is free for each table that it lacks. How many.
@@ -445,5 +445,5 @@ fn fills_the_pool(alloc: Global) -> Result<bool, NoMemory> {
 
 #[test]
 fn a_whole_pool_of_tables_comes_back(rt: HostRuntime) {
-    assert_eq!(rt; fills_the_pool(rt.alloc()), Ok(true));
+    assert!(rt; matches!(fills_the_pool(rt.alloc()), Ok(true)));
 }
