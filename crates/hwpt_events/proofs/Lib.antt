@@ -14,6 +14,7 @@ pub mod MovesMade
 pub mod Narrowed
 pub mod NeverRefused
 pub mod PinnedFirst
+pub mod PinnedNone
 pub mod Placed
 pub mod RootAdded
 pub mod SpaceCounted

@@ -1,6 +1,7 @@
 -- Where nothing refuses an event, the file takes one more object, and a bound device has settings.
-use Rattle.std.proofs.Common.{◌≡◌, ℕ, true, is_some, Option, Some, None, refl, ◌∙◌, ap, Bool, ◌&&◌}
+use Rattle.std.proofs.Common.{◌≡◌, ℕ, true, is_some, Option, Some, None, Result, Ok, Err, refl, ◌∙◌, ap, Bool, ◌&&◌}
 use Rattle.std.specs.List.{find}
+use Rattle.std.specs.Result.{IsErr, OnOk}
 use Rattle.iofd_words.specs.Files as files
 use Rattle.iofd_words.specs.Files.{device_of}
 use Rattle.iofd_words.specs.Objects.{binding_of, is_bound_as}
@@ -63,3 +64,8 @@ module _ {A : Type 0} where
       by_user : {X : Type 0} (o : Option X) → o ≡ None → is_some o ≡ true → ⊥
       by_user None is there = cc
       by_user (Some x) is there = cc
+
+-- an error is no success, of which anything would be said
+pub on_ok_err : {X E : Type 0} (r : Result X E) (P : Type 0) → IsErr r → OnOk r P
+on_ok_err (Ok x) P is = absurd cc
+on_ok_err (Err e) P is = tt

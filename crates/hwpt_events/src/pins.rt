@@ -80,7 +80,7 @@ pub(crate) fn numbers_of<A: Allocator, B: Allocator>(
 {
     let mut numbers = Vec::with_capacity(alloc, areas.len())?;
     for area in areas.iter() {
-        numbers.push(area.memory)?;
+        numbers.push_reserved(area.memory);
     }
     Ok(numbers)
 }

@@ -1,6 +1,7 @@
 -- The record of an event that is refused, and of one that is carried out, with the frames of tables that it moves or
 -- doesn't.
 use Rattle.std.proofs.Common.{◌≡◌, ℕ, Option, Some, None, Result, Ok, Err, List, refl, sym, subst, []}
+use Rattle.std.specs.Prelude.{IsTrue}
 use Rattle.std.specs.Result.{IfOk, OnErr}
 use Rattle.iofd_words.specs.After.{changed}
 use Rattle.iofd_words.specs.Answers.{Answers}
@@ -13,11 +14,14 @@ use Rattle.iofd_words.specs.declared.numbers.FrameNo.{FrameNo}
 use Rattle.iofd_words.specs.declared.numbers.PassNo.{PassNo}
 use Rattle.iofd_words.specs.declared.refusal.Cause.{Cause}
 use Rattle.iofd_words.specs.declared.reply.Reply.{Reply}
+use Rattle.iofd_words.specs.declared.rows.Object.{Object}
+use Rattle.iommufd_core.specs.Server.{takes_memory}
 use Rattle.iofd_words.specs.declared.reply.Reply.TheVariants as reply
 use Rattle.iofd_runs.proofs.StillTabled.{MakesNone, TakesNone}
 use Rattle.server_state.proofs.Still.{chosen_moves}
 use Rattle.server_state.specs.Choice.{IsChosen}
-use Rattle.server_state.specs.Step.{ChosenSteps, MovingSteps, Steps, recorded}
+use Rattle.server_state.specs.Step.{ChosenSteps, IsGranted, IsGrantedAt, IsGrantedFor, IsGrantedVia, IsKnown}
+use Rattle.server_state.specs.Step.{MovingSteps, Steps, recorded}
 use Rattle.server_state.specs.declared.state.State.{State}
 
 module _ (A : Type 0) (at : ℕ) (w : World) (pass : PassNo) (e : Event A) where
@@ -67,3 +71,23 @@ module _ {A : Type 0} (at : ℕ) (e : Event A) (via : Option FrameNo) (old new :
       → MovingSteps at e via old answer taken given new
   none_chosen steps chosen =
       none_moved (λ w tidy shows none may. let (answers, after) = steps w tidy shows none in (answers, chosen w, after))
+
+-- ---- what an event is granted, and whether it may take memory, where it is known which one it is
+module _ {A : Type 0} (at : ℕ) (e f : Event A) (via : Option FrameNo) (s : State A) (same : e ≡ f)
+    (granted : IsGrantedFor at e via s) where
+  pub granted_at : IsGrantedAt at f s
+  granted_at = subst (λ (x : Event A). IsGrantedAt at x s) same granted.granted
+
+  pub granted_as : IsGranted f s
+  granted_as = record { at = at; granted = granted_at }
+
+  pub granted_via : IsGrantedVia f via s
+  granted_via = record { at = at; granted = subst (λ (x : Event A). IsGrantedFor at x via s) same granted }
+
+  pub granted_known : IsKnown s
+  granted_known =
+      record { at = at; world = granted.granted.world; tidy = granted.granted.tidy; shows = granted.granted.shows }
+
+pub takes_as : {A : Type 0} (objects : List Object) (e f : Event A) → e ≡ f → IsTrue (takes_memory objects f)
+    → IsTrue (takes_memory objects e)
+takes_as objects e f same takes = subst (λ (x : Event _). IsTrue (takes_memory objects x)) (sym same) takes

@@ -23,7 +23,7 @@ use std::alloc::{Allocator, Global};
 use std::marker::Model;
 
 /// Where a record stands in the history, from 0, and its reply.
-#[derive(Clone, Copy, PartialEq, Eq, Debug)]
+#[derive(Clone, Copy, PartialEq, Eq)]
 pub struct Stamp {
     pub at: u64,
     pub reply: Reply,

@@ -27,11 +27,12 @@ pub(crate) fn opened<A: Allocator + Copy, B: Allocator>(
         alloc,
         config: config.copied(alloc)?,
         objects: ObjectTable::new(alloc, files)?,
+        memory: UserMemory::new(alloc, config.users())?,
+        pool: Pool::new(alloc, pool)?,
+        // Those that take no memory come last: an error has fewer values to let go.
         allowed: AllowedTable::new(alloc),
         bindings: Vec::new(alloc),
         page_tables: PageTables::new(alloc),
         attachments: Vec::new(alloc),
-        memory: UserMemory::new(alloc, config.users())?,
-        pool: Pool::new(alloc, pool)?,
     })
 }

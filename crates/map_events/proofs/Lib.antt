@@ -1,6 +1,7 @@
 pub mod AreaInTables
 pub mod AreaPinned
 pub mod AreaPlaced
+pub mod AreaRows
 pub mod AreaTables
 pub mod AreasFiltered
 pub mod Chosen

@@ -1,8 +1,10 @@
-use Rattle.std.proofs.Common.{List, [], sym, ◌∙◌, ap, subst}
+use Rattle.std.proofs.Common.{◌<◌, List, [], Vec, sym, ◌∙◌, ap, subst, arith, vec_capacity, vec_len}
 use Rattle.iofd_words.specs.Attachments.{with_attachment}
 use Rattle.iofd_words.specs.declared.event.Event.TheVariants as event
 use Rattle.iofd_words.specs.declared.numbers.FrameNo.{FrameNo}
 use Rattle.iofd_words.specs.declared.reply.Reply.TheVariants as reply
+use Rattle.iofd_words.specs.declared.rows.Attachment.{Attachment}
+use Rattle.server_state.proofs.Errors.{on_err_same}
 use Rattle.server_state.specs.Step.{MovingSteps}
 use Rattle.hwpt_events.proofs.AttachedShown.{attach_roomy, may_come, never_loose, room_unseen, shows_new, shows_there}
 use Rattle.hwpt_events.proofs.NeverRefused.{never_unset}
@@ -16,6 +18,14 @@ pub returns-in_default-width_of-clause-ok : goal.returns-in_default-width_of-cla
 returns-in_default-width_of-clause-ok g c =
     λ at via w tidy shows none may. absurd (never_unset at w c.args.state.now c.args.device c.in-Some.bound.now tidy
     shows (sym c.in-Some.ensures) (sym c.in_default-width_of.ensures))
+
+pub returns-in_err-reserve-clause-err : goal.returns-in_err-reserve-clause-err
+returns-in_err-reserve-clause-err g c =
+    on_err_same c.from_residual.result _
+    (λ w shows. room_unseen w c.args.state.now c.reserve.new.self c.reserve.ensures.items shows)
+
+pub insert-requires : goal.insert-requires
+insert-requires g c = omega (arith, c.in_ok-reserve.ensures.ok)
 
 pub returns-in-Some-table_there-clause-ok : goal.returns-in-Some-table_there-clause-ok
 returns-in-Some-table_there-clause-ok g c =
@@ -42,6 +52,17 @@ make-requires-clause-may g c =
     c.in-Some-width_of.width c.requires.granted.granted
     (sym c.in-Some.ensures) (sym c.in-Some-width_of.ensures)
     (sym c.in_default-table_there.ensures) c.reserve.ensures.items
+
+pub returns-in_err-made-clause-err : goal.returns-in_err-made-clause-err
+returns-in_err-made-clause-err g c =
+    on_err_same c.from_residual-in_err-made.result _
+    (λ w shows. c.in_err-made.ensures.err w
+    (room_unseen w c.args.state.now c.reserve.new.self c.reserve.ensures.items shows))
+
+pub insert-requires-2 : goal.insert-requires-2
+insert-requires-2 g c =
+    subst (λ (list : Vec Attachment _). vec_len list < vec_capacity list) (sym c.make.ensures.attachments)
+    (omega (arith, c.in_ok-reserve.ensures.ok))
 
 pub returns-clause-ok : goal.returns-clause-ok
 returns-clause-ok g c =

@@ -1,6 +1,7 @@
 use Rattle.std.proofs.Common.{◌≡◌, ◌-◌, ◌++◌, ℕ, List, [], ◌∷◌, sym, ap, ◌∙◌, arith, is_some, None, subst, vec_capacity}
 use Rattle.std.proofs.Common.{vec_len}
 use Rattle.area_rows.specs.Areas.{AreApart}
+use Rattle.std.specs.Prelude.{IfSome}
 use Rattle.frame_memory.specs.Pool.{given, least_free}
 use Rattle.hwpt_device.specs.PageTables.{AllStand, PageTables, hwpt_at, root_frame, rows_of, with_hwpt}
 use Rattle.iofd_words.specs.TablePlaces.{live_pages}
@@ -110,3 +111,15 @@ returns-in_default-clause-added g c =
     → AllStand c.insert.new.pool (frames ++ root_frame (hwpt_at c.args.object c.args.width frame) ∷ []) leads
     c.insert.new.self.tables) (least_free holds) f some.1 c.insert.ensures.stand)
     areas c.in_default.ensures
+
+pub insert-requires-clause-room : goal.insert-requires-clause-room
+insert-requires-clause-room g c = c.requires.room
+
+pub returns-in-Some-clause-tables : goal.returns-in-Some-clause-tables
+returns-in-Some-clause-tables g c =
+    subst (λ (p : PageTables). IfSome (least_free c.args.pool.now.holds) (λ frame.
+    p.tables ≡ with_hwpt (hwpt_at c.args.object c.args.width frame) c.args.page_tables.now.tables))
+    (sym c.fill.ensures.same) c.insert.ensures.tables
+
+pub returns-in_default-clause-tables : goal.returns-in_default-clause-tables
+returns-in_default-clause-tables g c = c.insert.ensures.tables

@@ -60,6 +60,12 @@ pin_space-requires-clause-may g c = λ none.
     (ap (λ (settings : Settings). user_of settings c.args.file) same ∙ sym c.user_of.ensures.value ∙ c.in-Some.is)
     (ap (λ (settings : Settings). is_user settings c.in-Some.user) same ∙ c.in-Some.ensures.known) refl none
 
+pub returns-in_err-reserve-clause-err : goal.returns-in_err-reserve-clause-err
+returns-in_err-reserve-clause-err g c =
+    on_err_same c.from_residual.result _
+    (λ w shows. reserved_unseen w c.args.state.now c.reserve.new.state c.reserve.ensures.rows c.reserve.ensures.files
+    c.reserve.ensures.tables c.reserve.ensures.others shows)
+
 pub returns-in_err-pin_space-clause-err : goal.returns-in_err-pin_space-clause-err
 returns-in_err-pin_space-clause-err g c =
     on_err_same c.from_residual-in_err-pin_space.result _
@@ -180,3 +186,21 @@ returns-clause-ok g c =
       made_shown at w s tidy shows c.args.file c.args.ioas id c.args.width c.args.automatic roomy fresh after pool more
           c.add.new.page_tables c.add.new.pool taken some.0 tables_now filled c.len.ensures.bytes table objects,
     )
+
+pub returns-in_err-reserve-clause-attachments : goal.returns-in_err-reserve-clause-attachments
+returns-in_err-reserve-clause-attachments g c = ap (λ (st : State _). st.attachments) c.reserve.ensures.others
+
+pub returns-in_err-reserve-clause-config : goal.returns-in_err-reserve-clause-config
+returns-in_err-reserve-clause-config g c = ap (λ (st : State _). st.config) c.reserve.ensures.others
+
+pub returns-in_err-pin_space-clause-attachments : goal.returns-in_err-pin_space-clause-attachments
+returns-in_err-pin_space-clause-attachments g c = ap (λ (st : State _). st.attachments) c.reserve.ensures.others
+
+pub returns-in_err-pin_space-clause-config : goal.returns-in_err-pin_space-clause-config
+returns-in_err-pin_space-clause-config g c = ap (λ (st : State _). st.config) c.reserve.ensures.others
+
+pub returns-clause-attachments : goal.returns-clause-attachments
+returns-clause-attachments g c = ap (λ (st : State _). st.attachments) c.reserve.ensures.others
+
+pub returns-clause-config : goal.returns-clause-config
+returns-clause-config g c = ap (λ (st : State _). st.config) c.reserve.ensures.others

@@ -1,5 +1,6 @@
 use Rattle.std.proofs.Common.{◌≡◌, ◌+◌, ◌≤◌, ℕ, true, List, sym, ◌∙◌, ap, subst}
 use Rattle.std.specs.List.{list_any}
+use Rattle.std.proofs.Math.Path.{fun_ext}
 use Rattle.std.proofs.lemmas.List.Folds.{fold-map}
 use Rattle.iofd_words.specs.declared.rows.Area.{Area}
 use Rattle.memory_objects.specs.Objects.{times_of}
@@ -9,6 +10,8 @@ use Rattle.server_state.specs.Mapping.{own_areas}
 use Rattle.user_memory.proofs.NewPages.{lacking_pages}
 use Rattle.user_memory.specs.Memory.{are_of, areas_over, has_room, lacks_page, newly_pinned, rows_at}
 use Rattle.user_memory.specs.Memory.{table_pins}
+use Rattle.server_state.proofs.Errors.{on_err_same}
+use Rattle.hwpt_events.proofs.PinnedNone.{pinned_empty, pinned_first, pinned_yet, stays_same, stays_told}
 use Rattle.hwpt_events.proofs.making.pin_space.Goals as goal
 
 -- a number stands in the list once for each area that is over its object
@@ -51,3 +54,31 @@ pin-requires-clause-areas g c = λ number.
 
 pub pin-requires-clause-backed : goal.pin-requires-clause-backed
 pin-requires-clause-backed g c = (c.requires.may (sym c.requires.translated ∙ c.if-translated.false)).backed
+
+pub returns-then-translated-clause-ok : goal.returns-then-translated-clause-ok
+returns-then-translated-clause-ok g c =
+    pinned_yet c.args.memory.now c.args.pool.now c.requires.known _ _
+    (sym (sym c.requires.translated ∙ c.if-translated.true))
+
+pub returns-in_default-clause-ok : goal.returns-in_default-clause-ok
+returns-in_default-clause-ok g c =
+    pinned_empty c.args.memory.now c.args.pool.now c.requires.known _ _ c.in_default.ensures
+
+pub returns-in_err-numbers-clause-err : goal.returns-in_err-numbers-clause-err
+returns-in_err-numbers-clause-err g c =
+    on_err_same c.from_residual.result _ (stays_same c.args.memory.now c.args.pool.now c.requires.known)
+
+pub returns-clause-ok : goal.returns-clause-ok
+returns-clause-ok g c =
+    let areas : List Area = own_areas c.args.table.now c.args.file c.args.ioas in
+    let are : c.deref.result.now ≡ numbers_of areas =
+    c.deref.ensures.value ∙ c.in_ok-numbers.ensures ∙ ap numbers_of (sym c.in-Some.ensures) in
+    pinned_first c.args.memory.now c.pin.new.self c.args.pool.now c.pin.new.pool c.pin.result _ areas _
+    (sym (sym c.requires.translated ∙ c.if-translated.false))
+    (fun_ext (λ (number : ℕ). ap (times_of number) are ∙ times_over number areas))
+    c.pin.ensures.pins c.pin.ensures.settles
+
+pub returns-clause-err : goal.returns-clause-err
+returns-clause-err g c =
+    stays_told c.args.memory.now c.pin.new.self c.args.pool.now c.pin.new.pool c.pin.result
+    c.pin.ensures.pages c.pin.ensures.limits c.pin.ensures.err c.pin.ensures.pool_err

@@ -37,3 +37,21 @@ returns-clause-most g c =
     ∙ c.loop-area.invariant.sum in
     let few = few_newly c.args.memory.now c.args.areas.now.areas c.objects_told.ensures in
     omega (arith, sum, few)
+
+pub returns-clause-value : goal.returns-clause-value
+returns-clause-value g c =
+    let pages : Area → ℕ = λ a. new_pages c.args.memory.now a.memory in
+    let sum : c.loop-area.count + sum_by pages [] ≡ sum_by pages c.args.areas.now.areas =
+    ap (λ (l : List Area). c.loop-area.count + sum_by pages l) (sym c.in-None.ensures.steps.0)
+    ∙ c.loop-area.invariant.sum in
+    omega (arith, sum)
+
+pub overflow_add-count : goal.overflow_add-count
+overflow_add-count g c =
+    let before = c.loop-area.invariant in
+    let counts = before.counts in
+    let many = c.iter-area-items.ensures.kept.few in
+    let most = before.most in
+    let few = c.new_pages.ensures.few in
+    let from = c.from-count.ensures in
+    omega (arith, counts, many, most, few, from)

@@ -1,5 +1,7 @@
-use Rattle.std.proofs.Common.{true, false, List, [], ◌∷◌, ◌++◌, length-append, sym, ◌∙◌, ap, arith}
+use Rattle.std.proofs.Common.{true, false, List, [], ◌∷◌, ◌++◌, append-nil, length, length-append, sym, ◌∙◌, ap, arith}
 use Rattle.iofd_words.specs.declared.rows.Area.{Area}
+use Rattle.memory_rows.specs.Moves.{numbers_of}
+use Rattle.user_memory.specs.Memory.{newly_pinned}
 use Rattle.hwpt_events.proofs.CountedOnce.{moved_on, newly_next, none_newly}
 use Rattle.hwpt_events.proofs.pins.new_pages_in_turn.Goals as goal
 
@@ -51,3 +53,22 @@ loop-area-preserved g c =
       most = omega (arith, most, long);
       pages = omega (arith, pages, next);
     }
+
+pub returns : goal.returns
+returns g c =
+    let before = c.loop-area.invariant in
+    before.pages
+    ∙ ap (λ (l : List Area). newly_pinned c.args.memory.now (numbers_of l)) (sym (append-nil before.done)
+    ∙ ap (λ (l : List Area). before.done ++ l) (sym c.in-None.ensures.steps.0) ∙ before.split)
+
+pub overflow_add-count : goal.overflow_add-count
+overflow_add-count g c =
+    let before = c.loop-area.invariant in
+    let rest : List Area = c.loop-area.area-iterator in
+    let all = ap (λ (l : List Area). length l) before.split in
+    let long = length-append before.done rest in
+    let many = c.iter-area-items.ensures.kept.few in
+    let most = before.most in
+    let few = c.new_pages.ensures.few in
+    let from = c.from-count.ensures in
+    omega (arith, all, long, many, most, few, from)

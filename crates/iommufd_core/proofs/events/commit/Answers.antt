@@ -1,7 +1,9 @@
-use Rattle.std.proofs.Common.{[], IsTrue, sym, subst}
+use Rattle.std.proofs.Common.{[], IsTrue, refl, sym, subst}
 use Rattle.iofd_words.specs.declared.event.Event.{Event}
-use Rattle.iommufd_core.proofs.Answering.{if_ok, none_chosen, none_moved, on_err}
+use Rattle.iommufd_core.proofs.Answering.{granted_as, granted_at, granted_known, granted_via, if_ok, none_chosen}
+use Rattle.iommufd_core.proofs.Answering.{none_moved, on_err, takes_as}
 use Rattle.iommufd_core.specs.Server.{takes_memory}
+use Rattle.server_state.proofs.Errors.{on_err_same}
 use Rattle.server_state.specs.Held.{objects_in}
 use Rattle.server_state.specs.Step.{MovingSteps}
 use Rattle.iommufd_core.proofs.events.commit.Goals as goal
@@ -196,3 +198,103 @@ returns-in-Close-clause-memory g c = on_err c.commit-in-Close.result _ _
     (λ has. subst (λ (e : Event _). IsTrue (takes_memory (objects_in c.args.state.now.objects) e))
     (sym c.in-Close.is) has)
     c.commit-in-Close.ensures.memory
+
+-- ---- each is granted, as the event that it is
+
+pub commit-requires-in-Map-clause-granted : goal.commit-requires-in-Map-clause-granted
+commit-requires-in-Map-clause-granted g c =
+    granted_at c.args.at _ _ c.args.act.now.via c.args.state.now c.in-Map.is c.requires.granted
+
+pub commit-requires-in-Copy-clause-granted : goal.commit-requires-in-Copy-clause-granted
+commit-requires-in-Copy-clause-granted g c =
+    granted_as c.args.at _ _ c.args.act.now.via c.args.state.now c.in-Copy.is c.requires.granted
+
+pub commit-requires-in-HwptAlloc-clause-granted : goal.commit-requires-in-HwptAlloc-clause-granted
+commit-requires-in-HwptAlloc-clause-granted g c =
+    granted_as c.args.at _ _ c.args.act.now.via c.args.state.now c.in-HwptAlloc.is c.requires.granted
+
+pub commit-requires-in-Destroy-clause-granted : goal.commit-requires-in-Destroy-clause-granted
+commit-requires-in-Destroy-clause-granted g c =
+    granted_as c.args.at _ _ c.args.act.now.via c.args.state.now c.in-Destroy.is c.requires.granted
+
+pub commit-requires-in-Close-clause-granted : goal.commit-requires-in-Close-clause-granted
+commit-requires-in-Close-clause-granted g c =
+    granted_as c.args.at _ _ c.args.act.now.via c.args.state.now c.in-Close.is c.requires.granted
+
+pub commit-requires-in-Attach-clause-granted : goal.commit-requires-in-Attach-clause-granted
+commit-requires-in-Attach-clause-granted g c =
+    granted_as c.args.at _ _ c.args.act.now.via c.args.state.now c.in-Attach.is c.requires.granted
+
+pub commit-requires-in-Detach-clause-granted : goal.commit-requires-in-Detach-clause-granted
+commit-requires-in-Detach-clause-granted g c =
+    granted_as c.args.at _ _ c.args.act.now.via c.args.state.now c.in-Detach.is c.requires.granted
+
+pub commit-requires-in-Unmap : goal.commit-requires-in-Unmap
+commit-requires-in-Unmap g c =
+    granted_as c.args.at _ _ c.args.act.now.via c.args.state.now c.in-Unmap.is c.requires.granted
+
+pub commit-requires-in-UserMap : goal.commit-requires-in-UserMap
+commit-requires-in-UserMap g c =
+    granted_as c.args.at _ _ c.args.act.now.via c.args.state.now c.in-UserMap.is c.requires.granted
+
+pub commit-requires-in-UserUnmap : goal.commit-requires-in-UserUnmap
+commit-requires-in-UserUnmap g c =
+    granted_as c.args.at _ _ c.args.act.now.via c.args.state.now c.in-UserUnmap.is c.requires.granted
+
+pub commit-requires-in-UserWrite : goal.commit-requires-in-UserWrite
+commit-requires-in-UserWrite g c =
+    granted_as c.args.at _ _ c.args.act.now.via c.args.state.now c.in-UserWrite.is c.requires.granted
+
+pub commit-requires-in-Unbind : goal.commit-requires-in-Unbind
+commit-requires-in-Unbind g c =
+    granted_as c.args.at _ _ c.args.act.now.via c.args.state.now c.in-Unbind.is c.requires.granted
+
+pub commit-requires-in-Flush : goal.commit-requires-in-Flush
+commit-requires-in-Flush g c =
+    granted_known c.args.at _ _ c.args.act.now.via c.args.state.now c.in-Flush.is c.requires.granted
+
+pub commit-requires-in-DeviceWrite : goal.commit-requires-in-DeviceWrite
+commit-requires-in-DeviceWrite g c =
+    granted_via c.args.at _ _ c.args.act.now.via c.args.state.now c.in-DeviceWrite.is c.requires.granted
+
+-- ---- want of memory, by which something comes
+
+pub returns-in-IoasAlloc-clause-memory : goal.returns-in-IoasAlloc-clause-memory
+returns-in-IoasAlloc-clause-memory g c =
+    on_err_same c.commit.result _ (takes_as (objects_in c.args.state.now.objects) _ _ c.in-IoasAlloc.is refl)
+
+pub returns-in-Map-clause-memory : goal.returns-in-Map-clause-memory
+returns-in-Map-clause-memory g c =
+    on_err_same c.commit-in-Map.result _ (takes_as (objects_in c.args.state.now.objects) _ _ c.in-Map.is refl)
+
+pub returns-in-Copy-clause-memory : goal.returns-in-Copy-clause-memory
+returns-in-Copy-clause-memory g c =
+    on_err_same c.commit-in-Copy.result _ (takes_as (objects_in c.args.state.now.objects) _ _ c.in-Copy.is refl)
+
+pub returns-in-HwptAlloc-clause-memory : goal.returns-in-HwptAlloc-clause-memory
+returns-in-HwptAlloc-clause-memory g c =
+    on_err_same c.commit-in-HwptAlloc.result _
+    (takes_as (objects_in c.args.state.now.objects) _ _ c.in-HwptAlloc.is refl)
+
+pub returns-in-UserMap-clause-memory : goal.returns-in-UserMap-clause-memory
+returns-in-UserMap-clause-memory g c =
+    on_err_same c.commit-in-UserMap.result _ (takes_as (objects_in c.args.state.now.objects) _ _ c.in-UserMap.is refl)
+
+pub returns-in-Bind-clause-memory : goal.returns-in-Bind-clause-memory
+returns-in-Bind-clause-memory g c =
+    on_err_same c.commit-in-Bind.result _ (takes_as (objects_in c.args.state.now.objects) _ _ c.in-Bind.is refl)
+
+pub returns-in-Attach-clause-memory : goal.returns-in-Attach-clause-memory
+returns-in-Attach-clause-memory g c =
+    on_err_same c.commit-in-Attach.result _ (takes_as (objects_in c.args.state.now.objects) _ _ c.in-Attach.is refl)
+
+pub returns-in-Detach-clause-memory : goal.returns-in-Detach-clause-memory
+returns-in-Detach-clause-memory g c =
+    on_err_same c.commit-in-Detach.result _ (takes_as (objects_in c.args.state.now.objects) _ _ c.in-Detach.is refl)
+
+pub returns-in-AllowIovas-clause-memory : goal.returns-in-AllowIovas-clause-memory
+returns-in-AllowIovas-clause-memory g c = on_err c.commit-in-AllowIovas.result _ _
+    (takes_as (objects_in c.args.state.now.objects) _ _ c.in-AllowIovas.is) c.commit-in-AllowIovas.ensures.memory
+
+pub returns-in-Map-clause-err : goal.returns-in-Map-clause-err
+returns-in-Map-clause-err g c = c.commit-in-Map.ensures.err

@@ -1,9 +1,18 @@
-use Rattle.std.proofs.Common.{◌≡◌, ℕ, [], ◌∷◌, sym, ◌∙◌, ap, arith}
+use Rattle.std.proofs.Common.{◌≡◌, ℕ, [], ◌∷◌, sym, ◌∙◌, ap, subst, arith}
 use Rattle.iofd_words.specs.View.{View}
 use Rattle.iofd_words.specs.declared.query.Answer.TheVariants as answer
+use Rattle.iofd_words.specs.declared.query.Query.{Query}
 use Rattle.server_state.specs.Choice.{IsLooked}
 use Rattle.server_state.proofs.ViewShown.{same_count, same_view}
+use Rattle.server_state.specs.Step.{IsAsked}
 use Rattle.iommufd_core.proofs.look.answer.Goals as goal
+
+pub read-requires : goal.read-requires
+read-requires g c = subst (λ (query : Query). IsAsked query c.args.state.now) c.in-DeviceRead.is c.requires
+
+pub read-requires-in-UserRead : goal.read-requires-in-UserRead
+read-requires-in-UserRead g c =
+    subst (λ (query : Query). IsAsked query c.args.state.now) c.in-UserRead.is c.requires
 
 pub returns-in-DeviceRead : goal.returns-in-DeviceRead
 returns-in-DeviceRead g c = rw c.in-DeviceRead.is c.read.ensures

@@ -17,21 +17,21 @@ returns-clause-shows g c =
         counted = λ file id. rw c.in_ok-new.ensures refl;
       };
       devices = record {
-        bindings = λ device. rw c.new-3.ensures.items refl;
-        rising = rw c.new-3.ensures.items refl;
-        attached = sym c.new-5.ensures.items;
+        bindings = λ device. rw c.new-5.ensures.items refl;
+        rising = rw c.new-5.ensures.items refl;
+        attached = sym c.new-7.ensures.items;
       };
       limits = c.in_ok-new-2.ensures.limits ∙ c.users.ensures;
-      allowed = λ file ioas. rw c.new-2.ensures refl;
+      allowed = λ file ioas. rw c.new-4.ensures refl;
       users = rw c.in_ok-new-2.ensures.pages (record { pages = λ user page. refl; counts = λ test. refl });
       pins = pins_opened c.in_ok-new-2.field-0 c.in_ok-new-2.ensures.objects;
       frames = rw (c.in_ok-new-3.ensures, c.pool-pool.ensures.value)
           (frames_opened c.args.config.now.pool c.in_ok-new-2.field-0 c.in_ok-new-2.ensures.pages
           c.in_ok-new-2.ensures.objects);
       tables = record {
-        tables = rw c.new-4.ensures refl;
-        widths = rw c.new-4.ensures refl;
-        stand = rw c.new-4.ensures (record {
+        tables = rw c.new-6.ensures refl;
+        widths = rw c.new-6.ensures refl;
+        stand = rw c.new-6.ensures (record {
           own = refl;
           each = λ h within. absurd within;
           held = λ frame. omega arith;
@@ -47,10 +47,10 @@ pool_between s within = by_test (is_between 1 4096 s.pool) refl within
     by_test true is within = (search (is, arith, nat_tests), search (is, arith, nat_tests))
     by_test false is within = let first = rw is at within in cc
 
-pub new-requires-7-clause-some : goal.new-requires-7-clause-some
-new-requires-7-clause-some g c = rw c.pool-pool.ensures.value
+pub new-requires-3-clause-some : goal.new-requires-3-clause-some
+new-requires-3-clause-some g c = rw c.pool-pool.ensures.value
     (pool_between c.args.config.now c.pool-pool.ensures.within).0
 
-pub new-requires-7-clause-few : goal.new-requires-7-clause-few
-new-requires-7-clause-few g c = rw c.pool-pool.ensures.value
+pub new-requires-3-clause-few : goal.new-requires-3-clause-few
+new-requires-3-clause-few g c = rw c.pool-pool.ensures.value
     (pool_between c.args.config.now c.pool-pool.ensures.within).1

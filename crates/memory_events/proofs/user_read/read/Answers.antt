@@ -1,8 +1,9 @@
-use Rattle.std.proofs.Common.{◌≡◌, ◌%◌, Some, [], ◌∷◌, sym, ◌∙◌, ap, arith}
+use Rattle.std.proofs.Common.{◌≡◌, ◌%◌, false, Option, Some, None, is_none, [], ◌∷◌, sym, ◌∙◌, ap, arith}
 use Rattle.iofd_runs.proofs.NotRefused.{user_access_passed}
 use Rattle.iofd_words.specs.Frames.{bytes_at, frame_at}
 use Rattle.iofd_words.specs.Pages.{page_of}
 use Rattle.iofd_words.specs.View.{view}
+use Rattle.iofd_words.specs.declared.numbers.FrameNo.{FrameNo}
 use Rattle.iofd_words.specs.declared.query.Answer.TheVariants as answer
 use Rattle.memory_rows.proofs.UserAccess.{page_in_pool, short}
 use Rattle.server_state.specs.Choice.{IsLooked}
@@ -20,6 +21,26 @@ read-requires-clause-frame g c =
     let within = page_in_pool w known.tidy.fit.user_frames c.args.user (page_of c.args.va) c.in-Some.frame found in
     let size = known.shows.frames.size in
     omega (arith, within, size)
+
+pub read-requires-clause-within : goal.read-requires-clause-within
+read-requires-clause-within g c =
+    let known = c.requires.known in
+    let passed =
+    user_access_passed (view known.world) c.args.user c.args.va c.args.len c.requires.none in
+    let within = (short c.args.va c.args.len passed.short).within in
+    let from = c.from.ensures in
+    omega (arith, within, from)
+
+-- the page is there
+missing : {X : Type 0} (o : Option FrameNo) → is_none o ≡ false → o ≡ None → X
+missing None is none = absurd cc
+missing (Some frame) is none = absurd cc
+
+pub returns-in_default : goal.returns-in_default
+returns-in_default g c = λ at w records tidy shows none.
+    missing (frame_at w.user_pages c.args.user (page_of c.args.va))
+    (user_access_passed (view w) c.args.user c.args.va c.args.len none).mapped
+    (shows.users.pages c.args.user (page_of c.args.va) ∙ (sym c.frame_at.ensures ∙ c.in_default.is))
 
 pub returns-in-Some-new : goal.returns-in-Some-new
 returns-in-Some-new g c = λ at w records tidy shows none.

@@ -1,8 +1,9 @@
-use Rattle.std.proofs.Common.{◌≡◌, IsTrue, length, inr, refl, ◌∙◌, ap, subst, sym}
+use Rattle.std.proofs.Common.{◌≡◌, IsTrue, length, inl, inr, refl, ◌∙◌, ap, subst, sym, arith, vec_capacity, vec_len}
 use Rattle.iofd_words.specs.Run.{world_of}
 use Rattle.iommufd_core.proofs.Applied.{may_use, unchanged_config, unchanged_kept, applied_chosen, applied_config}
 use Rattle.iommufd_core.proofs.Applied.{applied_frames, applied_kept}
 use Rattle.iommufd_core.proofs.Histories.{tidy_run}
+use Rattle.iommufd_core.proofs.Roomless.{no_room, of_success}
 use Rattle.server_state.specs.Choice.{MayUse}
 use Rattle.iommufd_core.specs.History.{HasOneMore}
 use Rattle.server_state.specs.Step.{recorded}
@@ -138,3 +139,44 @@ answer-requires-clause-none_taken g c = c.new-taken.ensures.items
 
 pub answer-requires-clause-none_given : goal.answer-requires-clause-none_given
 answer-requires-clause-none_given g c = c.new-given.ensures.items
+
+-- ---- where there is no place for the record, or for its list
+
+pub invariant_of-self : goal.invariant_of-self
+invariant_of-self g c = rw c.reserve.ensures.items c.self.invariant
+
+pub returns-then-is_err-clause-run : goal.returns-then-is_err-clause-run
+returns-then-is_err-clause-run g c = (invariant_of-self g c).run
+
+pub returns-then-is_err-clause-memory : goal.returns-then-is_err-clause-memory
+returns-then-is_err-clause-memory g c =
+    let records = c.self.inside.records in
+    rw (← c.self.view_is) (inl (inl (no_room c.reserve.result (vec_len records) (vec_capacity records)
+    c.reserve.ensures.succeeds (sym c.is_err.ensures.value ∙ c.if-is_err.true))))
+
+pub returns-then-is_err-clause-unchanged : goal.returns-then-is_err-clause-unchanged
+returns-then-is_err-clause-unchanged g c = rw c.reserve.ensures.items (ap (λ (s : Server _). s.history) c.self.view_is)
+
+pub invariant_of-self-in_default : goal.invariant_of-self-in_default
+invariant_of-self-in_default g c = rw c.reserve.ensures.items c.self.invariant
+
+pub returns-in_default-clause-run : goal.returns-in_default-clause-run
+returns-in_default-clause-run g c = (invariant_of-self-in_default g c).run
+
+pub returns-in_default-clause-memory : goal.returns-in_default-clause-memory
+returns-in_default-clause-memory g c = inl (inr c.in_default.ensures.memory)
+
+pub returns-in_default-clause-unchanged : goal.returns-in_default-clause-unchanged
+returns-in_default-clause-unchanged g c = rw c.reserve.ensures.items (ap (λ (s : Server _). s.history) c.self.view_is)
+
+-- ---- where there is
+
+pub push_reserved-requires : goal.push_reserved-requires
+push_reserved-requires g c =
+    let roomy = of_success c.reserve.result _ c.reserve.ensures.ok (sym c.is_err.ensures.value ∙ c.if-is_err.false) in
+    omega (arith, roomy)
+
+pub returns-clause-at : goal.returns-clause-at
+returns-clause-at g c =
+    let at : c.len-at.result ≡ length c.self.inside.records.items = c.len-at.ensures ∙ c.self.inside.records.ok.0 in
+    at ∙ ap (λ (s : Server _). length s.history.records) c.self.view_is
