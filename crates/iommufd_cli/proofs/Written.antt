@@ -1,5 +1,5 @@
 -- What is written in turn.
-use Rattle.std.proofs.Common.{◌≡◌, ℕ, zero, suc, ◌<◌, Option, Some, None, List, [], ◌∷◌, ◌++◌, length, take, Result, Ok}
+use Rattle.std.proofs.Common.{◌≡◌, ℕ, zero, suc, ◌<◌, ◌≤◌, Option, Some, None, List, [], ◌∷◌, ◌++◌, length, take, Result, Ok}
 use Rattle.std.proofs.Common.{Err, IfOk, OnErr, inl, inr, refl, sym, ◌∙◌, ap, subst, arith}
 use Rattle.std.proofs.lemmas.List.{append_assoc, append-nil}
 use Rattle.std.specs.Io.KnownBytes.{Appends}
@@ -78,8 +78,8 @@ module _ {A : Type 0} where
     | inr front ↦ inr (inr front)
   ]
 
--- what is written for a head and steps is a text of the script that says them
 module _ {A : Type 0} where
+  -- what is written for a head and steps is a text of the script that says them
   pub read_text : (input out : List ℕ) (status : ℕ) (settings : Settings) (steps : List Step)
       → script_of input ≡ Ok (settings, steps) → IsRunText A settings steps out status
       → IsReadText A input out status
@@ -93,6 +93,17 @@ module _ {A : Type 0} where
     }))
     | inr without ↦ inr (inr (without, (settings, steps), good))
   ]
+
+  -- the lines of the steps, from a server on that was just opened, are what is written for a head and steps
+  pub run_text : (settings : Settings) (steps : List Step) (s : Server A) (out : List ℕ) (status : ℕ)
+      → s.history ≡ record { settings = settings; records = [] } → StepsText s steps out × (status ≡ 0)
+      → IsRunText A settings steps out status
+  run_text settings steps s out status opened text = inl ((s, opened, text.0), text.1)
+
+  pub begins_run_text : (settings : Settings) (steps : List Step) (s : Server A) (out : List ℕ)
+      → s.history ≡ record { settings = settings; records = [] } → BeginsLines s steps out
+      → BeginsRunText A settings steps out
+  begins_run_text settings steps s out opened begun = inl (s, opened, begun)
 
 pub if_ok_weaker : {T E : Type 0} (r : Result T E) (P Q : T → Type 0) → ((x : T) → P x → Q x) → IfOk r P → IfOk r Q
 if_ok_weaker (Ok x) P Q more p = more x p
@@ -113,3 +124,17 @@ all_read None limit before items none read short = tt
 all_read (Some xs) limit before items none read short =
     let is : items ≡ take limit xs = read ∙ ap (λ l. l ++ take limit xs) none in
     is ∙ take_short limit xs (rw is at short)
+
+take_fewer : (limit : ℕ) (xs : List ℕ) → length (take limit xs) ≤ length xs
+take_fewer zero xs = omega arith
+take_fewer (suc limit) [] = omega arith
+take_fewer (suc limit) (x ∷ xs) = omega (arith, take_fewer limit xs)
+
+-- and where more bytes were read than a script may have, there were more
+pub long_read : (known : Option (List ℕ)) (limit most : ℕ) (before items : List ℕ) → before ≡ []
+    → IfSome (option_map (take limit) known) (λ xs. items ≡ before ++ xs) → most < length items
+    → IfSome known (λ input. most < length input)
+long_read None limit most before items none read long = tt
+long_read (Some xs) limit most before items none read long =
+    let is : items ≡ take limit xs = read ∙ ap (λ l. l ++ take limit xs) none in
+    omega (arith, take_fewer limit xs, ap length is, long)

@@ -11,7 +11,7 @@ use std::marker::Model;
 
 /// A line of at most 192 bytes, of which a contract sees those written so far. The longest reply line,
 /// that of a read of 64 bytes, has 132.
-#[derive(Debug, Drop)]
+#[derive(Drop)]
 pub struct Line {
     // The bytes, and behind them any others.
     bytes: [u8; Line::MAX],

@@ -1,6 +1,6 @@
 //! A session: from a script's bytes to the lines of its replies.
 
-ghost use Rattle.std.specs.Prelude.{◌≡◌, ◌≤◌, ◌^◌, IfErr, IfOk, IfSome, OnErr, OnOk, length};
+ghost use Rattle.std.specs.Prelude.{◌≡◌, ◌≤◌, ◌^◌, IfErr, IfOk, IfSome, OnErr, length};
 ghost use Rattle.std.specs.Io.KnownBytes.{Appends};
 ghost use Rattle.iommufd_cli.specs.Failures.{BeginsLines, BeginsRunText, BeginsText, IsReadFault, IsWithin, Leaves};
 ghost use Rattle.iommufd_cli.specs.Output.{IsFinal, IsFront, Writes};
@@ -72,10 +72,8 @@ fn run_script<W: Write, A: Allocator + Copy>(
     ensures retried { IfErr result IsFinal }
 {
     match Core::new(alloc, config) {
-        Ok(mut core) => {
-            run_steps(alloc, &mut core, steps, writer)?;
-            Ok(0)
-        }
+        // One call, with one end: each end lets the server go.
+        Ok(mut core) => run_steps(alloc, &mut core, steps, writer),
         Err(_) => told(writer, &no_memory_line()),
     }
 }
@@ -108,14 +106,15 @@ fn told<W: Write>(writer: &mut W, line: &Line) -> io::Result<u8>
     Ok(1)
 }
 
-// Carries out the steps in turn, and writes the line of each.
+// Carries out the steps in turn, and writes the line of each. Status 0.
 fn run_steps<W: Write, A: Allocator + Copy>(
     alloc: A,
     core: &mut Core<A>,
     steps: &mut Steps<'_, A>,
     writer: &mut W,
-) -> io::Result<()>
-    ensures text { OnOk result (Writes (StepsText core.old steps.old) (W.contents writer.old) (W.contents writer.new)) }
+) -> io::Result<u8>
+    ensures text { IfOk result (λ status. Writes (λ out. StepsText core.old steps.old out × (status ≡ 0))
+        (W.contents writer.old) (W.contents writer.new)) }
     ensures begun { OnErr result (Writes (BeginsLines core.old steps.old) (W.contents writer.old)
         (W.contents writer.new)) }
     ensures retried { IfErr result IsFinal }
@@ -125,7 +124,7 @@ fn run_steps<W: Write, A: Allocator + Copy>(
         let long = answer_step(alloc, core, &step, &mut line);
         put(writer, answered(&long, &line))?;
     }
-    Ok(())
+    Ok(0)
 }
 
 // The bytes that a step is answered with: the long line where there is one, and else the one in place.

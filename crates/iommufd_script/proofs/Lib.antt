@@ -9,3 +9,4 @@ pub mod Bools
 pub mod Spans
 pub mod Ascii
 pub mod Whole
+pub mod Words

@@ -8,7 +8,7 @@ use iofd_words::Burst;
 use std::marker::Model;
 
 /// The bytes of one access, 1 to 64, as the digits that the script has for them: a step with them stays small.
-#[derive(Debug, Drop)]
+#[derive(Drop)]
 pub struct AccessBytes<'a> {
     bytes: HexBytes<'a>,
 }

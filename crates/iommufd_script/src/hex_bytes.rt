@@ -13,7 +13,7 @@ use std::marker::Model;
 use std::simd::prelude::*;
 
 /// Bytes, as the digits that the script has for them. They take no memory.
-#[derive(Debug, Drop)]
+#[derive(Drop)]
 pub struct HexBytes<'a> {
     // Two lower-case digits for each byte, the high four bits first.
     digits: &'a [u8],
@@ -92,7 +92,6 @@ impl<'a> HexBytes<'a> {
     }
 
     /// How many they are.
-    #[tactic(auto, using(crate::proofs::Pairs::length_pairs))]
     pub fn len(&self) -> usize
         ensures { result ≡ length self.now }
     {

@@ -5,7 +5,7 @@ ghost use Rattle.std.specs.Str.{bytes_eq};
 ghost use Rattle.iommufd_script.specs.Grammar.{head_keyword, step_keyword};
 
 /// The words of the head.
-#[derive(Clone, Copy, PartialEq, Eq, Debug)]
+#[derive(Clone, Copy)]
 pub enum HeadKeyword {
     Pool,
     User,
@@ -15,7 +15,7 @@ pub enum HeadKeyword {
 }
 
 /// The words of the steps.
-#[derive(Clone, Copy, PartialEq, Eq, Debug)]
+#[derive(Clone, Copy)]
 pub enum StepKeyword {
     Ioctl,
     Close,

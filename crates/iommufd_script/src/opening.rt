@@ -1,9 +1,11 @@
 //! What a script opens a server with.
 
 ghost use Rattle.std.specs.Prelude.{◌≡◌, None, IfOk, OnOk};
+ghost use Rattle.std.specs.List.{fold};
 ghost use Rattle.iofd_words.specs.Limits.{first_outside};
+ghost use Rattle.iommufd_script.specs.Lines.{lines};
 ghost use Rattle.iommufd_script.specs.Script.{first_bad_line};
-ghost use Rattle.iommufd_script.specs.Opening.{nothing_set, set_by, settings_of, script_of, Answers};
+ghost use Rattle.iommufd_script.specs.Opening.{headings, nothing_set, set_by, settings_of, script_of, Answers};
 
 use crate::error::ScriptError;
 use crate::line::{HeadLine, Line};
@@ -69,23 +71,30 @@ impl<A: Allocator + Copy> Head<A> {
     }
 }
 
+// Adds what the lines up to `begin` say. The head is the caller's, so that no early end has to drop it.
+fn add_lines<A: Allocator + Copy>(head: &mut Head<A>, alloc: A, text: &[u8]) -> Result<(), NoMemory>
+    ensures { OnOk result (head.new ≡ fold set_by head.old (headings (lines text.now))) }
+{
+    let mut rest = text;
+    while !rest.is_empty() {
+        let (line, others) = split_line(rest);
+        rest = others;
+        match parse_line(line) {
+            Some(Line::Head(HeadLine::Begin)) => return Ok(()),
+            Some(Line::Head(heading)) => head.add(alloc, heading)?,
+            _ => {}
+        }
+    }
+    Ok(())
+}
+
 // What the lines up to `begin` say.
 #[tactic(auto, unfolding(crate::specs::Opening::settings_of))]
 fn read_head<A: Allocator + Copy>(alloc: A, text: &[u8]) -> Result<Head<A>, NoMemory>
     ensures { IfOk result (λ head. head ≡ settings_of text.now) }
 {
     let mut head = Head::new(alloc);
-    let mut rest = text;
-    while !rest.is_empty() {
-        let (line, others) = split_line(rest);
-        rest = others;
-        if let Some(Line::Head(heading)) = parse_line(line) {
-            if matches!(heading, HeadLine::Begin) {
-                return Ok(head);
-            }
-            head.add(alloc, heading)?;
-        }
-    }
+    add_lines(&mut head, alloc, text)?;
     Ok(head)
 }
 

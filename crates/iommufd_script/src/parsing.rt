@@ -1,12 +1,12 @@
 //! From the text of a line to what it says.
 #![tactic(auto, unfolding(crate::specs::Grammar::head_of, crate::specs::Grammar::step_at))]
 
-ghost use Rattle.std.specs.Prelude.{◌≡◌};
+ghost use Rattle.std.specs.Prelude.{◌≡◌, Some, None};
 ghost use Rattle.std.specs.Char.{is_ascii};
 ghost use Rattle.std.specs.List.{list_all};
 ghost use Rattle.iommufd_script.specs.Fields.{fields};
-ghost use Rattle.iommufd_script.specs.Grammar.{head_of, step_at};
-ghost use Rattle.iommufd_script.specs.Lines.{is_skipped, line_of, worded};
+ghost use Rattle.iommufd_script.specs.Grammar.{head_keyword, head_of, step_at, step_keyword};
+ghost use Rattle.iommufd_script.specs.Lines.{head_or_step, is_skipped, line_of, step_line, worded};
 ghost use Rattle.iommufd_script.specs.declared.keyword.HeadKeyword.TheVariants as head;
 ghost use Rattle.iommufd_script.specs.declared.keyword.StepKeyword.TheVariants as step;
 
@@ -228,15 +228,31 @@ fn is_skipped(text: &[u8]) -> bool
     text.is_empty() || text[0] == b'#'
 }
 
+// The line of a step, by its word and the fields behind it.
+fn step_line(keyword: StepKeyword, fields: Fields<'_>) -> Option<Line<'_>>
+    ensures { result ≡ step_line (Some keyword) fields.entry }
+{
+    Some(Line::Step(step(keyword, fields)?))
+}
+
+// A line of the head, if its first word is one of the head's, by the fields behind it. It's no step's.
+fn heading_line<'a>(word: &[u8], fields: Fields<'a>) -> Option<Line<'a>>
+    requires { step_keyword word.now ≡ None }
+    ensures { result ≡ head_or_step word.now (head_keyword word.now) fields.entry }
+{
+    Some(Line::Head(head_line(head_keyword(word)?, fields)?))
+}
+
 // What a line says by its first word and the fields behind it.
+#[tactic(auto, using(crate::proofs::Words::step_is_worded))]
 fn worded_line(text: &[u8]) -> Option<Line<'_>>
     ensures { result ≡ worded (fields text.now) }
 {
     let (word, fields) = Fields::of(text).split()?;
-    if let Some(keyword) = step_keyword(word) {
-        return Some(Line::Step(step(keyword, fields)?));
+    match step_keyword(word) {
+        Some(keyword) => step_line(keyword, fields),
+        None => heading_line(word, fields),
     }
-    Some(Line::Head(head_line(head_keyword(word)?, fields)?))
 }
 
 /// What a line says, given without its line feed; None where it isn't of the grammar. It takes no

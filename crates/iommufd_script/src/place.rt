@@ -7,7 +7,7 @@ use crate::line::{HeadLine, Line};
 
 /// How far a script has come: whether its pool was given, how many users, files and devices were, and
 /// whether the steps have begun.
-#[derive(Clone, Copy, PartialEq, Eq, Debug)]
+#[derive(Clone, Copy)]
 pub struct Place {
     pub pool: bool,
     pub users: u16,

@@ -17,7 +17,7 @@ use std::marker::Model;
 const MOST_SPANS: usize = 16;
 
 /// Spans, as the fields that the script has for them. They take no memory.
-#[derive(Debug, Drop)]
+#[derive(Drop)]
 pub struct SpanTexts<'a> {
     // The fields, each of which is a span.
     rest: Option<&'a [u8]>,

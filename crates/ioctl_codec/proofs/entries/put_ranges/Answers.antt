@@ -1,5 +1,7 @@
-use Rattle.std.proofs.Common.{ap}
+use Rattle.std.proofs.Common.{◌≤◌, length, ap, subst, arith}
+use Rattle.std.proofs.lemmas.List.{take_all}
 use Rattle.iofd_words.specs.Bounds.{Bounds}
+use Rattle.ioctl_codec.specs.Entries.{AreAddresses}
 use Rattle.ioctl_codec.proofs.EntriesBytes.{is_next, written_more, AreAddresses_more}
 use Rattle.ioctl_codec.proofs.entries.put_ranges.Goals as goal
 
@@ -18,3 +20,9 @@ loop-range-preserved g c =
       fits = AreAddresses_more i ranges range.start range.last c.loop-range-test.true next
           c.loop-range.invariant.fits put.start put.last;
     }
+
+pub returns-clause-fits : goal.returns-clause-fits
+returns-clause-fits g c =
+    let ranges = c.args.ranges.now in
+    let end : length ranges ≤ c.loop-range.range-index = omega (arith, c.loop-range-test.false) in
+    subst AreAddresses (take_all c.loop-range.range-index ranges end) c.loop-range.invariant.fits

@@ -40,7 +40,7 @@ loop-step-preserved-in_ok-put g c =
 pub returns-clause-text : goal.returns-clause-text
 returns-clause-text g c =
     let (first, out, split, written, leads) = c.loop-step.invariant in
-    (out, whole_text _ _ _ first _ out leads split c.in_default.ensures.0, written)
+    (out, (whole_text _ _ _ first _ out leads split c.in_default.ensures.0, refl), written)
 
 pub returns-in_err-put-clause-begun : goal.returns-in_err-put-clause-begun
 returns-in_err-put-clause-begun g c =
