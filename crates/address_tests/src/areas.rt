@@ -177,6 +177,7 @@ const FOUR: &[Row] = &[
     (0, TOP, Call::ListInSmallHeap, Is(true)),
 ];
 
+// Areas are found and counted, met, cut and covered.
 const FOUND: &[Row] = &[
     (0xfff, 0xfff, Call::At, Nothing),
     (0x1000, 0x1000, Call::At, Gives(11)),
@@ -194,6 +195,7 @@ const FOUND: &[Row] = &[
     (0x1000, 0x3000, Call::Look, Looks(true, false, false)),
 ];
 
+// An area that meets another is refused.
 const REFUSED: &[Row] = &[
     // an area that is leaving is in the way, too
     (0x5000, 0x7fff, Call::Leave(&[]), Done),
@@ -205,6 +207,7 @@ const REFUSED: &[Row] = &[
     (0x4fff, 0x4fff, Call::At, Gives(15)),
 ];
 
+// Leaving areas owe until all have paid.
 const LEAVING: &[Row] = &[
     (0x1000, 0x2fff, Call::Leave(&[1, 256]), Done),
     // a second leaving changes nothing
@@ -239,6 +242,7 @@ const ENDS: &[Row] = &[
     (0, TOP, Call::List(&[]), Is(true)),
 ];
 
+// So many addresses are free before, between and behind areas, or nowhere.
 const FREE: &[Row] = &[
     (0, 0, Call::Free(0x1000), Gives(0)),
     (0, 0, Call::Free(0x1001), Gives(0x3000)),
@@ -255,30 +259,18 @@ const FREE: &[Row] = &[
     (TOP, TOP, Call::Free(2), Nothing),
 ];
 
-static TABLES: [(&str, &[Row]); 5] = [
-    ("areas are found and counted, met, cut and covered", FOUND),
-    ("an area that meets another is refused", REFUSED),
-    ("leaving areas owe until all have paid", LEAVING),
-    ("areas lie at the ends of all addresses", ENDS),
-    (
-        "so many addresses are free before, between and behind areas, or nowhere",
-        FREE,
-    ),
-];
+static TABLES: [&[Row]; 5] = [FOUND, REFUSED, LEAVING, ENDS, FREE];
 
-// The first row that isn't answered so once the four areas are there, or their first one.
-fn wrong_row(alloc: Global, rows: &[Row]) -> Option<usize> {
+// Whether each row is answered so, once the four areas are there.
+fn are_right(alloc: Global, rows: &[Row]) -> bool {
     let mut areas = Areas::new(alloc);
-    match first_wrong(&mut areas, alloc, FOUR) {
-        Some(place) => Some(place),
-        None => first_wrong(&mut areas, alloc, rows),
-    }
+    first_wrong(&mut areas, alloc, FOUR).is_none() && first_wrong(&mut areas, alloc, rows).is_none()
 }
 
 // Whether each row of the table at this place is answered so.
 fn is_right(alloc: Global, place: usize) -> bool {
     match TABLES.get(place) {
-        Some((_, rows)) => wrong_row(alloc, *rows).is_none(),
+        Some(rows) => are_right(alloc, *rows),
         None => false,
     }
 }

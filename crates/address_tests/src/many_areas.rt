@@ -109,9 +109,6 @@ static ROUNDS: [(usize, usize, usize); 3] = [
 #[test]
 fn areas_come_and_go_in_any_order(rt: HostRuntime) {
     for (order, other, gone) in &ROUNDS {
-        assert!(rt;
-            come_and_go(rt.alloc(), *order, *other, *gone),
-            "{gone} go one by one"
-        );
+        assert!(rt; come_and_go(rt.alloc(), *order, *other, *gone), "{gone} go");
     }
 }

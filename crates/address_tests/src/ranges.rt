@@ -153,6 +153,7 @@ const BOTH: Answer = Both(true, true);
 
 const THREE: Ends = &[(0x2000, 0x2fff), (0x4000, 0x4fff), (TOP - 0xfff, TOP)];
 
+// Spans that meet or adjoin become one, and numbers are taken away.
 const ADDED: &[Row] = &[
     (0, 0, Are(&[]), YES),
     (0x2000, 0x2fff, Add, YES),
@@ -181,6 +182,7 @@ const LOW: Ends = &[(0x1000, 0x3000), (0x2000, 0x2fff)];
 
 const MOST: Ends = &[(0x3fff, 0x3fff), (0x5000, 0x6fff)];
 
+// The least fit is found.
 const FITS: &[Row] = &[
     (0x2001, 0x6fff, Add, YES),
     (TOP - 0xfff, TOP, Add, YES),
@@ -204,6 +206,7 @@ const FITS: &[Row] = &[
 
 const ONE: Ends = &[(0x8000, 0x8fff)];
 
+// The last ranges bound addresses.
 const BOUNDED: &[Row] = &[
     (0, 0, Keeps(&[], &[(0, TOP)]), BOTH),
     (0, TOP, Allows, YES),
@@ -219,7 +222,7 @@ const BOUNDED: &[Row] = &[
 
 const HIGH: (u64, u64) = (0xfef0_0000, 0x7f_ffff_ffff);
 
-// Two devices reserve spans. They share a page.
+// Spans are reserved while their device is there: two devices share a page.
 const KEPT: &[Row] = &[
     (0, TOP, Meets, Both(false, false)),
     (0x4000, 0x4fff, Reserve(1), YES),
@@ -245,15 +248,7 @@ const KEPT: &[Row] = &[
     (0, 0, Leaves(0, &[(0, 0x7f_ffff_ffff)]), BOTH),
 ];
 
-static TABLES: [(&str, &[Row]); 4] = [
-    (
-        "spans that meet or adjoin become one, and numbers are taken away",
-        ADDED,
-    ),
-    ("the least fit is found", FITS),
-    ("the last ranges bound addresses", BOUNDED),
-    ("spans are reserved while their device is there", KEPT),
-];
+static TABLES: [&[Row]; 4] = [ADDED, FITS, BOUNDED, KEPT];
 
 // The first row that isn't answered so, beginning with nothing.
 fn wrong_row(alloc: Global, rows: &[Row]) -> Option<usize> {
@@ -268,7 +263,7 @@ fn wrong_row(alloc: Global, rows: &[Row]) -> Option<usize> {
 // Whether each row of the table at this place is answered so.
 fn is_right(alloc: Global, place: usize) -> bool {
     match TABLES.get(place) {
-        Some((_, rows)) => wrong_row(alloc, *rows).is_none(),
+        Some(rows) => wrong_row(alloc, *rows).is_none(),
         None => false,
     }
 }
