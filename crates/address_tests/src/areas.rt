@@ -1,12 +1,12 @@
 //! Calls one after the other with what each answers, and what no clause says: that there is memory.
 
 use self::Answer::{Counts, Done, Gives, Is, Looks, Nothing};
-use crate::spans::{Ends, TOP, are, block};
+use crate::heaps::block;
+use crate::spans::{Ends, TOP, are};
 use area_map::Areas;
 use iofd_words::{Area, CallError, Cause, DeviceNo, DeviceSet, FileNo, ObjId, Phase, Rights, Span};
 use linked_list_allocator::LocalHeap;
 use std::alloc::{Allocator, Global};
-use std::test::Fail;
 
 /// A call on areas, for a span of addresses.
 #[derive(Clone, Copy)]
@@ -40,7 +40,7 @@ enum Call {
 
 /// What a call answers.
 #[derive(Clone, Copy, PartialEq, Eq)]
-pub(crate) enum Answer {
+enum Answer {
     Done,
     Is(bool),
     Gives(u64),
@@ -54,7 +54,7 @@ pub(crate) enum Answer {
 const OVERLAP: Answer = Answer::Refused(Cause::Overlap);
 
 // Adds an area of the span, with this memory object.
-pub(crate) fn added<A: Allocator + Copy>(areas: &mut Areas<A>, span: Span, memory: u64) -> Answer {
+fn added<A: Allocator + Copy>(areas: &mut Areas<A>, span: Span, memory: u64) -> Answer {
     let area = Area {
         file: FileNo(1),
         ioas: ObjId(1),
@@ -283,7 +283,7 @@ fn each_call_answers_as_its_row_says(rt: HostRuntime) {
 }
 
 // Adds every second page until memory is refused: at which page.
-fn page_refused(areas: &mut Areas<&LocalHeap>) -> Option<Span> {
+fn page_refused<A: Allocator + Copy>(areas: &mut Areas<A>) -> Option<Span> {
     for number in 0..1000u64 {
         let page = Span::of_length(0x2000 * number, 0x1000)?;
         if added(areas, page, 1) == Answer::NoMemory {
@@ -293,54 +293,45 @@ fn page_refused(areas: &mut Areas<&LocalHeap>) -> Option<Span> {
     None
 }
 
-// The same while a block takes some of the heap.
-fn page_refused_beside(
-    areas: &mut Areas<&LocalHeap>,
+// The same while a block leaves so much of the heap.
+fn page_refused_beside<A: Allocator + Copy>(
+    areas: &mut Areas<A>,
     heap: &LocalHeap,
-    size: usize,
+    left: usize,
 ) -> Option<Span> {
-    match block(heap, size) {
+    match block(heap, left) {
         Ok(_block) => page_refused(areas),
         Err(_) => None,
     }
 }
 
 // Whether the refused page changed nothing, and is added once there is memory.
-fn is_added_later(areas: &mut Areas<&LocalHeap>, page: Span) -> bool {
+fn is_added_later<A: Allocator + Copy>(areas: &mut Areas<A>, page: Span) -> bool {
     areas.len() as u64 == page.first() / 0x2000
         && areas.reserve().is_ok()
         && added(areas, page, 1) == Done
 }
 
-// Whether memory is refused beside a block of this size, and then nothing has changed.
-fn keep(areas: &mut Areas<&LocalHeap>, heap: &LocalHeap, size: usize) -> bool {
-    match page_refused_beside(areas, heap, size) {
+// Whether memory is refused where a block leaves so much, and then nothing has changed.
+fn keep<A: Allocator + Copy>(areas: &mut Areas<A>, heap: &LocalHeap, left: usize) -> bool {
+    match page_refused_beside(areas, heap, left) {
         Some(page) => is_added_later(areas, page),
         None => false,
     }
 }
 
 // The same of no areas.
-fn keeps_its_areas(heap: &LocalHeap, size: usize) -> bool {
-    let mut areas: Areas<&LocalHeap> = Areas::new(heap);
-    keep(&mut areas, heap, size)
+fn keeps_its_areas<A: Allocator + Copy>(heap: &LocalHeap, in_heap: A, left: usize) -> bool {
+    let mut areas = Areas::new(in_heap);
+    keep(&mut areas, heap, left)
 }
 
-// The first size of a block, from small to large, beside which that doesn't hold.
-fn wrong_size(heap: &LocalHeap) -> Option<usize> {
+// Whether that holds beside larger and larger blocks: so the map is refused each of its growths in turn.
+pub(crate) fn keep_beside_blocks(heap: &LocalHeap) -> bool {
     for part in 0..127usize {
-        let size = 5_000 + 216 * part;
-        if !keeps_its_areas(heap, size) {
-            return Some(size);
+        if !keeps_its_areas(heap, heap, 27_768 - 216 * part) {
+            return false;
         }
     }
-    None
-}
-
-// Beside larger and larger blocks the heap refuses the map each of its growths in turn.
-#[test]
-fn a_refused_growth_changes_nothing(rt: HostRuntime) -> Result<(), Fail> {
-    let heap = LocalHeap::new(rt.alloc(), 1 << 15)?;
-    assert!(rt; wrong_size(&heap).is_none());
-    Ok(())
+    true
 }

@@ -313,9 +313,14 @@ fn fit_beside_all(set: &mut RangeSet, areas: &mut Vec<Span>) -> bool {
         && fit(set, 0x2002, areas) == Nothing
 }
 
+// The same of a new set and a new list.
+fn are_fits_found(alloc: Global) -> bool {
+    let mut set = RangeSet::new(alloc);
+    let mut areas = Vec::new(alloc);
+    fit_beside_all(&mut set, &mut areas)
+}
+
 #[test]
 fn a_fit_is_found_beside_as_many_areas_as_may_be(rt: HostRuntime) {
-    let mut set = RangeSet::new(rt.alloc());
-    let mut areas = Vec::new(rt.alloc());
-    assert!(rt; fit_beside_all(&mut set, &mut areas));
+    assert!(rt; are_fits_found(rt.alloc()));
 }

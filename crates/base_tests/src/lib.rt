@@ -1,9 +1,8 @@
-//! Tests of what stands lowest, through public calls: of `iofd_words` (`words`), `object_table` (`objects`),
-//! `frame_memory` (`frames`) and `mem_account` (`accounts`), and of want of memory in these (`heaps`).
+//! Tests of what stands lowest, through public calls: of `iofd_words` (`words`), `object_table` (`objects`) and
+//! `frame_memory` (`frames`), and of want of memory in these (`heaps`). Objects and pages that come and go, and accounts,
+//! are shown by scripts.
 #![tactic(auto)]
 
-#[cfg(test)]
-mod accounts;
 #[cfg(test)]
 mod frames;
 #[cfg(test)]

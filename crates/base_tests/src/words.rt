@@ -1,10 +1,10 @@
-//! Values that the standards and the table of refusals give, a case of each definition, and a configuration.
+//! Values that the standards and the table of refusals give, a case of each definition, and a configuration's limits.
 
 use iofd_words::{
-    AccessKind, Burst, Cause, Config, ConfigError, DeviceConfig, DeviceNo, DeviceSet, FaultReason,
-    FileNo, FrameList, FrameNo, MapFlags, Rights, SourceId, Span, SpanList, UserNo, Width,
+    AccessKind, Burst, Cause, Config, ConfigError, DeviceNo, DeviceSet, FaultReason, FrameList,
+    FrameNo, MapFlags, Rights, Span, SpanList, UserNo, Width,
 };
-use std::alloc::{AllocError, Global};
+use std::alloc::Global;
 
 // The first and the last number of a span of this length.
 fn ends(first: u64, length: u64) -> Option<(u64, u64)> {
@@ -138,72 +138,6 @@ fn a_set_has_the_devices_put_in_and_not_taken_away(rt: HostRuntime) {
     assert!(rt; has_outermost(&outermost()));
 }
 
-// A reserved page.
-fn reserved(alloc: Global) -> Result<Vec<Span>, AllocError> {
-    match Span::new(0x4000, 0x4fff) {
-        Some(page) => [page].to_vec(alloc),
-        None => Ok(Vec::new(alloc)),
-    }
-}
-
-// One device with a reserved page.
-fn one_device(alloc: Global) -> Option<Vec<DeviceConfig>> {
-    let reserved = SpanList::new(reserved(alloc).ok()?);
-    vec![in alloc; DeviceConfig::new(SourceId(0x18), Width::Bits39, true, reserved)].ok()
-}
-
-// The configuration of this pool, one user with a file of this one, one device and so many passes.
-fn configured(
-    alloc: Global,
-    (pool, user, passes): (u32, u16, u16),
-) -> Option<Result<Config, ConfigError>> {
-    let users = [4].to_vec(alloc).ok()?;
-    let files = [UserNo(user)].to_vec(alloc).ok()?;
-    let devices = one_device(alloc)?;
-    Some(Config::new(pool, users, files, devices, passes))
-}
-
-// Whether it is the device above.
-fn is_device(device: Option<&DeviceConfig>) -> bool {
-    match device {
-        Some(device) => device.source() == SourceId(0x18) && device.reserved().len() == 1,
-        None => false,
-    }
-}
-
-// Whether the one user, the file of that user and the device are found by their number 1, and no others.
-fn answers_by_number(config: &Config) -> bool {
-    config.has_user(UserNo(1))
-        && !config.has_user(UserNo(0))
-        && !config.has_user(UserNo(2))
-        && config.user_of(FileNo(1)) == Some(UserNo(1))
-        && config.user_of(FileNo(0)).is_none()
-        && config.has_device(DeviceNo(1))
-        && !config.has_device(DeviceNo(2))
-        && is_device(config.device(DeviceNo(1)))
-}
-
-// Whether a copy of the configuration answers so.
-fn copy_answers(alloc: Global, config: &Config) -> bool {
-    match config.copied(alloc) {
-        Ok(copy) => answers_by_number(&copy),
-        Err(_) => false,
-    }
-}
-
-// The same of a new one.
-fn is_copied(alloc: Global) -> bool {
-    match configured(alloc, (8, 1, 1)) {
-        Some(Ok(config)) => copy_answers(alloc, &config),
-        _ => false,
-    }
-}
-
-#[test]
-fn a_copy_has_what_the_configuration_was_given(rt: HostRuntime) {
-    assert!(rt; is_copied(rt.alloc()));
-}
-
 static OUTSIDE: [((u32, u16, u16), ConfigError); 4] = [
     ((0, 1, 1), ConfigError::Pool),
     ((4097, 2, 1025), ConfigError::Pool),
@@ -211,10 +145,11 @@ static OUTSIDE: [((u32, u16, u16), ConfigError); 4] = [
     ((4096, 1, 1025), ConfigError::Passes),
 ];
 
-// The part that is outside its limits.
-fn outside(alloc: Global, given: (u32, u16, u16)) -> Option<ConfigError> {
-    match configured(alloc, given) {
-        Some(Err(error)) => Some(error),
+// The part that is outside its limits, of a configuration of this pool, one user with a file of this one, no device and
+// so many passes.
+fn outside(alloc: Global, (pool, user, passes): (u32, u16, u16)) -> Option<ConfigError> {
+    match ([4].to_vec(alloc), [UserNo(user)].to_vec(alloc)) {
+        (Ok(users), Ok(files)) => Config::new(pool, users, files, Vec::new(alloc), passes).err(),
         _ => None,
     }
 }
@@ -222,7 +157,7 @@ fn outside(alloc: Global, given: (u32, u16, u16)) -> Option<ConfigError> {
 #[test]
 fn a_field_outside_its_limits_is_told(rt: HostRuntime) {
     for (given, error) in &OUTSIDE {
-        assert!(rt; outside(rt.alloc(), *given) == Some(*error), "{error:?}");
+        assert!(rt; outside(rt.alloc(), *given) == Some(*error));
     }
 }
 

@@ -1,31 +1,25 @@
-//! Calls one after the other with what each answers, of spans too, and a whole pool of tables.
+//! Calls on one page table, one after the other, with what each answers.
 
 ghost use Rattle.std.specs.Prelude.{IsTrue};
 ghost use Rattle.table_words.specs.Mapped.{IsBelow, IsTable};
 
-use crate::spans::{END, OF_48, OVER_2_MIB, cleared_span, mapped_span, needed_by_span};
 use frame_memory::Pool;
 use iofd_words::{Cause, FrameNo, NoMemory, PAGE_SIZE, Rights, Span, Width};
 use page_table::{Table, Walk};
 use std::alloc::Global;
 
-pub(crate) const READ: u8 = 1;
+const READ: u8 = 1;
 
 const WRITE: u8 = 2;
 
-pub(crate) const BOTH: u8 = 3;
+const BOTH: u8 = 3;
 
 /// A call on a page table.
 #[derive(Clone, Copy)]
-pub(crate) enum Call {
+enum Call {
     /// With the page's number, its frame and its rights.
     Map(u64, u32, u8),
     Clear(u64),
-    /// With the first page, the pages' frames and their rights.
-    MapSpan(u64, &'static [FrameNo], u8),
-    /// With the first page and the number of pages.
-    ClearSpan(u64, u64),
-    NeedsSpan(u64, u64),
     Walk(u64),
     /// With the first and the last page of two spans.
     Needs(u64, u64, u64, u64),
@@ -41,7 +35,7 @@ pub(crate) enum Call {
 
 /// What a call answers.
 #[derive(Clone, Copy, PartialEq, Eq)]
-pub(crate) enum Answer {
+enum Answer {
     Done,
     Gives(u64),
     /// The frame and the rights.
@@ -172,11 +166,6 @@ fn asked(pool: &mut Pool, table: &mut Table, out: &mut Vec<FrameNo>, call: Call)
     match call {
         Call::Map(page, frame, rights) => mapped(pool, table, out, page, frame, rights),
         Call::Clear(page) => cleared(pool, table, page),
-        Call::MapSpan(first, frames, rights) => {
-            mapped_span(pool, table, out, first, frames, rights)
-        }
-        Call::ClearSpan(first, count) => cleared_span(pool, table, first, count),
-        Call::NeedsSpan(first, count) => needed_by_span(pool, table, first, count),
         Call::Walk(iova) => walked(table.walk(pool, iova)),
         Call::Needs(a, b, c, d) => needed_by_pages(pool, table, (a, b, c, d)),
         Call::Prune(first, last) => pruned(pool, table, out, first, last),
@@ -308,6 +297,7 @@ const AGAIN: &[(Call, Answer)] = &[
     (Call::Map(5, 0xffff_ffff, READ), Answer::Done),
     (Call::Map(6, 3, WRITE), Answer::Done),
     (Call::Walk(0x5123), Answer::Hit(0xffff_ffff, READ)),
+    (Call::Word(2, 5), Answer::Gives(0xfff_ffff_f001)),
     (Call::Walk(0x6000), Answer::Hit(3, WRITE)),
     (Call::Frames, Answer::Gives(3)),
 ];
@@ -374,7 +364,7 @@ const SHORT: &[(Call, Answer)] = &[
     (Call::Map(513, 9, READ), Answer::Done),
 ];
 
-static RUNS: [Run; 11] = [
+static RUNS: [Run; 8] = [
     (2, Width::Bits39, EXAMPLE),
     (0, Width::Bits39, ENDS_OF_39),
     (0, Width::Bits48, ENDS_OF_48),
@@ -383,9 +373,6 @@ static RUNS: [Run; 11] = [
     (0, Width::Bits39, PRUNED),
     (0, Width::Bits48, PRUNED_IN_ORDER),
     (12, Width::Bits39, SHORT),
-    (0, Width::Bits39, OVER_2_MIB),
-    (0, Width::Bits39, END),
-    (0, Width::Bits48, OF_48),
 ];
 
 /// The same in a pool of 16 frames.
@@ -408,42 +395,4 @@ fn first_wrong_run(alloc: Global) -> Result<Option<(usize, usize)>, NoMemory> {
 #[test]
 fn each_call_answers_as_its_row_says(rt: HostRuntime) {
     assert!(rt; matches!(first_wrong_run(rt.alloc()), Ok(None)));
-}
-
-/// Maps the first page of each last table, as long as a frame is free for each table that it lacks. How many.
-fn maps_apart(pool: &mut Pool, table: &mut Table, out: &mut Vec<FrameNo>) -> u64
-    requires { IsTable pool.old table.old }
-    ensures { IsTable pool.new table.new }
-{
-    for count in 0..4096u64 {
-        out.clear();
-        if mapped(pool, table, out, 512 * count, 7, BOTH) != Answer::Done {
-            return count;
-        }
-    }
-    4096
-}
-
-/// Whether a pool of 4096 frames is used up by a root, 8 tables below it and 4087 of the last level, and all come back.
-fn fills(pool: &mut Pool, out: &mut Vec<FrameNo>) -> bool {
-    if out.capacity() - out.len() < 1 {
-        return false;
-    }
-    let Ok(mut table) = Table::new(pool, Width::Bits39, out) else {
-        return false;
-    };
-    let count = maps_apart(pool, &mut table, out);
-    count == 4087 && releases_all(pool, table, out) && pool.free_count() == 4096
-}
-
-/// Whether it does so in the largest pool.
-fn fills_the_pool(alloc: Global) -> Result<bool, NoMemory> {
-    let mut pool = Pool::new(alloc, 4096)?;
-    let mut out = Vec::with_capacity(alloc, 4096)?;
-    Ok(fills(&mut pool, &mut out))
-}
-
-#[test]
-fn a_whole_pool_of_tables_comes_back(rt: HostRuntime) {
-    assert!(rt; matches!(fills_the_pool(rt.alloc()), Ok(true)));
 }

@@ -1,10 +1,10 @@
-//! Tests of what takes frames of a pool, through public calls: of users' memory (`memory_calls`) and of the page tables
-//! of all files (`table_calls`, `table_runs`), each call with what it answers.
+//! Want of memory in what takes frames of a pool, through public calls: of users' memory (`memory_calls`) and of the
+//! page tables of all files (`table_calls`), in one heap (`heaps`). What their calls answer is shown by scripts.
 #![tactic(auto)]
 
+#[cfg(test)]
+mod heaps;
 #[cfg(test)]
 mod memory_calls;
 #[cfg(test)]
 mod table_calls;
-#[cfg(test)]
-mod table_runs;

@@ -1,26 +1,25 @@
 //! Readers and writers of the tests, which fail where they are told to.
 
-use std::alloc::Global;
 use std::io::{self, ErrorKind, Read, Write};
 
-// Gives at most `most` bytes a call. The call `bad`, counted from 0, fails with this kind of error.
-#[derive(Drop)]
+/// Where an end fails: it gives or takes at most so many bytes a call, and the call of this number, counted from 0,
+/// fails with this kind of error.
+pub(crate) type Faults = (usize, usize, ErrorKind);
+
+// Gives the bytes of a text.
+#[derive(Clone, Copy)]
 pub(crate) struct Input<'a> {
     rest: &'a [u8],
-    most: usize,
     calls: usize,
-    bad: usize,
-    kind: ErrorKind,
+    faults: Faults,
 }
 
 impl<'a> Input<'a> {
-    pub(crate) fn new(text: &'a str, most: usize, bad: usize, kind: ErrorKind) -> Input<'a> {
+    pub(crate) fn new(text: &'a str, faults: Faults) -> Input<'a> {
         Input {
             rest: text.as_bytes(),
-            most,
             calls: 0,
-            bad,
-            kind,
+            faults,
         }
     }
 }
@@ -28,48 +27,60 @@ impl<'a> Input<'a> {
 impl<'a> Read for Input<'a> {
     fn read(&mut self, buf: &mut [u8]) -> io::Result<usize> {
         let call = self.calls;
+        let (most, bad, kind) = self.faults;
         self.calls = call.saturating_add(1);
-        if call == self.bad {
-            return Err(self.kind.into());
+        if call == bad {
+            return Err(kind.into());
         }
-        let count = buf.len().min(self.most).min(self.rest.len());
+        let count = buf.len().min(most).min(self.rest.len());
         buf[..count].copy_from_slice(&self.rest[..count]);
         self.rest = &self.rest[count..];
         Ok(count)
     }
 }
 
-// Takes at most `most` bytes a call. The call `bad`, counted from 0, fails with this kind of error.
-#[derive(Drop)]
-pub(crate) struct Output {
-    pub(crate) taken: Vec<u8>,
-    most: usize,
-    pub(crate) calls: usize,
-    bad: usize,
-    kind: ErrorKind,
+// Compares the bytes that it is given with those that are wanted.
+#[derive(Clone, Copy)]
+pub(crate) struct Output<'a> {
+    rest: &'a [u8],
+    agrees: bool,
+    calls: usize,
+    faults: Faults,
 }
 
-impl Output {
-    pub(crate) fn new(alloc: Global, most: usize, bad: usize, kind: ErrorKind) -> Output {
+impl<'a> Output<'a> {
+    pub(crate) fn new(wanted: &'a [u8], faults: Faults) -> Output<'a> {
         Output {
-            taken: Vec::new(alloc),
-            most,
+            rest: wanted,
+            agrees: true,
             calls: 0,
-            bad,
-            kind,
+            faults,
+        }
+    }
+
+    // How often it was called, if it was given all that is wanted and nothing else.
+    pub(crate) fn calls(&self) -> Option<usize> {
+        if self.agrees && self.rest.is_empty() {
+            Some(self.calls)
+        } else {
+            None
         }
     }
 }
 
-impl Write for Output {
+impl<'a> Write for Output<'a> {
     fn write(&mut self, buf: &[u8]) -> io::Result<usize> {
         let call = self.calls;
+        let (most, bad, kind) = self.faults;
         self.calls = call.saturating_add(1);
-        if call == self.bad {
-            return Err(self.kind.into());
+        if call == bad {
+            return Err(kind.into());
         }
-        let count = buf.len().min(self.most);
-        self.taken.extend_from_slice(&buf[..count])?;
+        let count = buf.len().min(most);
+        match self.rest.strip_prefix(&buf[..count]) {
+            Some(rest) => self.rest = rest,
+            None => self.agrees = false,
+        }
         Ok(count)
     }
 

@@ -1,10 +1,9 @@
 //! Whole sessions, over readers and writers that fail at each of their calls.
 
-use crate::fakes::{Input, Output};
+use crate::fakes::{Faults, Input, Output};
 use iommufd_cli::{CliFault, InputFault, session};
 use std::alloc::Global;
 use std::io::ErrorKind;
-use std::process::Abort;
 
 // A step for each kind of line: what is written back, the ranges that are, whose text takes memory, and short ones.
 const SCRIPT: &str = "pool 8
@@ -39,100 +38,110 @@ fn first_lines(count: usize) -> &'static str {
     LINES.strip_suffix(rest).unwrap_or(LINES)
 }
 
-// It is so at each call, and else the first at which it isn't is named.
-fn at_each(rt: &impl Abort, outcome: Result<(), usize>) {
-    assert!(rt; outcome.is_ok(), "at call {outcome:?}");
+// How a session ends.
+#[derive(Clone, Copy, PartialEq, Eq)]
+enum End {
+    // By this status.
+    Status(u8),
+    // By a read or a write that failed, or one that took nothing.
+    BadRead,
+    BadWrite,
+    FullWriter,
+    TooLong,
+}
+
+fn end_by_write(kind: ErrorKind) -> End {
+    match kind {
+        ErrorKind::WriteZero => End::FullWriter,
+        _ => End::BadWrite,
+    }
+}
+
+// How a session over these ends.
+fn end_of(alloc: Global, reader: &mut Input<'_>, writer: &mut Output<'_>) -> End {
+    match session(alloc, reader, writer) {
+        Ok(status) => End::Status(status),
+        Err(CliFault::Input(InputFault::TooLong)) => End::TooLong,
+        Err(CliFault::Input(InputFault::Read(_))) => End::BadRead,
+        Err(CliFault::Output(error)) => end_by_write(error.kind()),
+    }
+}
+
+// An end that doesn't fail.
+const GOOD: Faults = (usize::MAX, usize::MAX, ErrorKind::Other);
+
+// How a session of the script ends where reads fail so and writes so, and by how many writes this text was written,
+// if it was and nothing else.
+fn ended(
+    alloc: Global,
+    script: &str,
+    (reads, writes): (Faults, Faults),
+    text: &[u8],
+) -> (End, Option<usize>) {
+    let mut reader = Input::new(script, reads);
+    let mut writer = Output::new(text, writes);
+    let end = end_of(alloc, &mut reader, &mut writer);
+    (end, writer.calls())
 }
 
 // Whether a read that fails at this call ends the session, and nothing is written.
 fn ends_at_read(alloc: Global, bad: usize) -> bool {
-    let mut reader = Input::new(SCRIPT, 32, bad, ErrorKind::BrokenPipe);
-    let mut written = Vec::new(alloc);
-    let answer = session(alloc, &mut reader, &mut written);
-    matches!(answer, Err(CliFault::Input(InputFault::Read(_)))) && written.is_empty()
+    let reads = (32, bad, ErrorKind::BrokenPipe);
+    ended(alloc, SCRIPT, (reads, GOOD), b"") == (End::BadRead, Some(0))
 }
 
-// Whether a read that is interrupted at this call is tried again, and all is written.
-fn reads_again(alloc: Global, bad: usize) -> bool {
-    let mut reader = Input::new(SCRIPT, 32, bad, ErrorKind::Interrupted);
-    let mut written = Vec::new(alloc);
-    let status = session(alloc, &mut reader, &mut written);
-    matches!(status, Ok(0)) && written.as_slice() == LINES.as_bytes()
-}
-
-// Whether both are so at each call; else the first at which one isn't.
-fn reads_at_each_call(alloc: Global) -> Result<(), usize> {
-    for bad in 0..SCRIPT.len() / 32 + 2 {
-        if !ends_at_read(alloc, bad) || !reads_again(alloc, bad) {
-            return Err(bad);
-        }
-    }
-    Ok(())
+// Whether a call that is interrupted is tried again, and all is written.
+fn is_tried_again(alloc: Global, faults: (Faults, Faults)) -> bool {
+    let (end, calls) = ended(alloc, SCRIPT, faults, LINES.as_bytes());
+    end == End::Status(0) && calls.is_some()
 }
 
 #[test]
 fn failed_reads(rt: HostRuntime) {
-    at_each(&rt, reads_at_each_call(rt.alloc()));
-}
-
-// Whether a write that fails at this call, each of at most so many bytes, ends the session there, and this is written.
-fn ends_at_write(alloc: Global, most: usize, bad: usize, text: &[u8]) -> bool {
-    let mut reader = SCRIPT.as_bytes();
-    let mut writer = Output::new(alloc, most, bad, ErrorKind::BrokenPipe);
-    let answer = session(alloc, &mut reader, &mut writer);
-    matches!(answer, Err(CliFault::Output(_)))
-        && writer.taken.as_slice() == text
-        && writer.calls.checked_sub(1) == Some(bad)
-}
-
-// Whether all is written by writes of at most so many bytes, where the one of this call is interrupted.
-fn writes_again(alloc: Global, most: usize, bad: usize) -> bool {
-    let mut reader = SCRIPT.as_bytes();
-    let mut writer = Output::new(alloc, most, bad, ErrorKind::Interrupted);
-    let status = session(alloc, &mut reader, &mut writer);
-    matches!(status, Ok(0)) && writer.taken.as_slice() == LINES.as_bytes()
-}
-
-// Whether the write of each whole line may fail, and be interrupted; else the first that may not.
-fn writes_at_each_line(alloc: Global) -> Result<(), usize> {
-    for bad in 0..LINES.lines().count() {
-        let lines = first_lines(bad).as_bytes();
-        if !ends_at_write(alloc, 192, bad, lines) || !writes_again(alloc, 192, bad) {
-            return Err(bad);
-        }
+    for bad in 0..SCRIPT.len() / 32 + 2 {
+        let reads = (32, bad, ErrorKind::Interrupted);
+        let is_so = ends_at_read(rt.alloc(), bad) && is_tried_again(rt.alloc(), (reads, GOOD));
+        assert!(rt; is_so, "at call {bad}");
     }
-    Ok(())
+}
+
+// Whether a write that fails at this call, each of at most so many bytes, ends the session there, and this is written;
+// and one that is interrupted is tried again.
+fn may_fail_at_write(alloc: Global, most: usize, bad: usize, text: &[u8]) -> bool {
+    let (fails, is_late) = (
+        (most, bad, ErrorKind::BrokenPipe),
+        (most, bad, ErrorKind::Interrupted),
+    );
+    ended(alloc, SCRIPT, (GOOD, fails), text) == (End::BadWrite, Some(bad.saturating_add(1)))
+        && is_tried_again(alloc, (GOOD, is_late))
 }
 
 #[test]
 fn failed_writes(rt: HostRuntime) {
-    at_each(&rt, writes_at_each_line(rt.alloc()));
-}
-
-// Whether the write of each single byte may fail, and be interrupted; else the first that may not.
-fn writes_at_each_byte(alloc: Global) -> Result<(), usize> {
-    let all = LINES.as_bytes();
-    for bad in 0..all.len() {
-        if !ends_at_write(alloc, 1, bad, &all[..bad]) || !writes_again(alloc, 1, bad) {
-            return Err(bad);
-        }
+    for bad in 0..LINES.lines().count() {
+        let lines = first_lines(bad).as_bytes();
+        assert!(rt;
+            may_fail_at_write(rt.alloc(), 192, bad, lines),
+            "at line {bad}"
+        );
     }
-    Ok(())
 }
 
 #[test]
 fn bytes_written_one_by_one(rt: HostRuntime) {
-    at_each(&rt, writes_at_each_byte(rt.alloc()));
+    let all = LINES.as_bytes();
+    for bad in 0..all.len() {
+        assert!(rt;
+            may_fail_at_write(rt.alloc(), 1, bad, &all[..bad]),
+            "at byte {bad}"
+        );
+    }
 }
 
 // Whether the first call of a writer that takes no byte ends the session.
 fn ends_at_full_writer(alloc: Global, script: &str) -> bool {
-    let mut reader = script.as_bytes();
-    let mut writer = Output::new(alloc, 0, 9, ErrorKind::Other);
-    match session(alloc, &mut reader, &mut writer) {
-        Err(CliFault::Output(error)) => error.kind() == ErrorKind::WriteZero && writer.calls == 1,
-        _ => false,
-    }
+    let writes = (0, 9, ErrorKind::Other);
+    ended(alloc, script, (GOOD, writes), b"") == (End::FullWriter, Some(1))
 }
 
 #[test]

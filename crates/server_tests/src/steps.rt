@@ -1,11 +1,11 @@
 //! Steps of the tests, and what a core answers to them.
 
 use iofd_words::{
-    Act, Burst, Cause, Config, CopyRequest, DeviceConfig, DeviceNo, Errno, Event, FileNo,
-    HwptRequest, Iova, IovaRange, MapFlags, MapRequest, NoMemory, ObjId, PassNo, Query, RangeList,
-    Refusal, Reply, SourceId, SpanList, UnmapRequest, UserNo, Width,
+    AccessKind, Act, Answer, Burst, Cause, Config, CopyRequest, DeviceConfig, DeviceNo, Errno,
+    Event, FileNo, FrameNo, HwptRequest, Iova, IovaRange, MapFlags, MapRequest, ObjId, PassNo,
+    Query, RangeList, Refusal, Reply, SourceId, SpanList, UnmapRequest, UserNo, Width,
 };
-use iommufd_core::{Core, Stamp};
+use iommufd_core::Core;
 use std::alloc::{Allocator, Global};
 
 /// A device of width 39.
@@ -18,19 +18,24 @@ pub(crate) const FIRST: FileNo = FileNo(1);
 
 pub(crate) const SECOND: FileNo = FileNo(2);
 
-/// A device with no reserved span.
-fn device(alloc: Global, source: u16, width: Width) -> DeviceConfig {
-    let reserved = SpanList::new(Vec::new(alloc));
-    DeviceConfig::new(SourceId(source), width, false, reserved)
+/// Both devices, without a reserved span.
+fn devices(alloc: Global) -> Option<Vec<DeviceConfig>> {
+    let mut devices = Vec::new(alloc);
+    for (source, width) in [(0x18, Width::Bits39), (0x100, Width::Bits48)] {
+        let reserved = SpanList::new(Vec::new(alloc));
+        let device = DeviceConfig::new(SourceId(source), width, false, reserved);
+        devices.push(device).ok()?;
+    }
+    Some(devices)
 }
 
 /// A pool of so many frames, a user with two files, and both devices.
 pub(crate) fn config(alloc: Global, pool: u32) -> Option<Config> {
-    let users = vec![in alloc; 4].ok()?;
-    let files = vec![in alloc; UserNo(1), UserNo(1)].ok()?;
-    let narrow = device(alloc, 0x18, Width::Bits39);
-    let devices = vec![in alloc; narrow, device(alloc, 0x100, Width::Bits48)].ok()?;
-    Config::new(pool, users, files, devices, 1).ok()
+    let devices = devices(alloc)?;
+    match ([4].to_vec(alloc), [UserNo(1), UserNo(1)].to_vec(alloc)) {
+        (Ok(users), Ok(files)) => Config::new(pool, users, files, devices, 1).ok(),
+        _ => None,
+    }
 }
 
 /// An event, with what stands in all of them left out. Address space 1 of the first file is meant where none is named.
@@ -56,12 +61,16 @@ pub(crate) enum Step {
     Bind(DeviceNo),
     /// The device is attached to the object of this id.
     Attach(DeviceNo, u32),
-    /// The narrow device writes the last two bytes of the page at 0x1000.
-    Write,
+    /// The device writes two bytes at this address.
+    Write(DeviceNo, u64),
     Flush(DeviceNo),
     Detach(DeviceNo),
     Destroy(FileNo, u32),
     Close(FileNo),
+    /// The narrow device writes two bytes of the page at 0x1000 by this frame, which it has cached.
+    Cached(u32),
+    /// The question for ranges, answered by the last address of the only one.
+    Ranges,
 }
 
 fn map(iova: u64) -> MapRequest {
@@ -111,15 +120,23 @@ const ALLOWED: [IovaRange; 2] = [
     },
 ];
 
-/// The event of a step, its list in memory of this allocator.
-pub(crate) fn event<A: Allocator>(alloc: A, step: Step) -> Result<Event<A>, NoMemory> {
-    let bytes = Burst::new(&[0xbe, 0xef]).ok_or(NoMemory)?;
-    Ok(match step {
+/// The two bytes that are written.
+fn bytes() -> Option<Burst> {
+    Burst::new(&[0xbe, 0xef])
+}
+
+/// The event of `Allow`, if there is memory for its list.
+fn allowed<A: Allocator + Copy>(alloc: A) -> Option<Event<A>> {
+    let ranges = RangeList::new(Vec::from_slice(alloc, &ALLOWED).ok()?);
+    Some(Event::AllowIovas(FIRST, ObjId(1), ranges))
+}
+
+/// The event of a step, its list in memory of this allocator; None of the last two steps, and where there is no memory.
+pub(crate) fn event<A: Allocator + Copy>(alloc: A, step: Step) -> Option<Event<A>> {
+    let bytes = bytes()?;
+    Some(match step {
         Step::Alloc(file) => Event::IoasAlloc(file),
-        Step::Allow => {
-            let ranges = RangeList::new(Vec::from_slice(alloc, &ALLOWED)?);
-            Event::AllowIovas(FIRST, ObjId(1), ranges)
-        }
+        Step::Allow => return allowed(alloc),
         Step::Page(va) => Event::UserMap(UserNo(1), va),
         Step::GiveUp(va) => Event::UserUnmap(UserNo(1), va),
         Step::UserWrite => Event::UserWrite(UserNo(1), 0x10ffe, bytes),
@@ -129,11 +146,12 @@ pub(crate) fn event<A: Allocator>(alloc: A, step: Step) -> Result<Event<A>, NoMe
         Step::Table(device) => Event::HwptAlloc(FIRST, table(device)),
         Step::Bind(device) => Event::Bind(FIRST, device),
         Step::Attach(device, id) => Event::Attach(device, ObjId(id)),
-        Step::Write => Event::DeviceWrite(NARROW, Iova(0x1ffe), bytes),
+        Step::Write(device, iova) => Event::DeviceWrite(device, Iova(iova), bytes),
         Step::Flush(device) => Event::Flush(device),
         Step::Detach(device) => Event::Detach(device),
         Step::Destroy(file, id) => Event::Destroy(file, ObjId(id)),
         Step::Close(file) => Event::Close(file),
+        Step::Cached(_) | Step::Ranges => return None,
     })
 }
 
@@ -150,6 +168,11 @@ pub(crate) const NO_FRAME: Reply = Reply::Refused(Refusal {
 /// The UNMAP is to be called again.
 pub(crate) const AGAIN: Reply = Reply::Pending(Errno::EAGAIN);
 
+/// The cached frame may not be used, so it wasn't asked for: a refusal that no step has.
+pub(crate) const BARRED: Reply = Reply::Refused(Refusal {
+    cause: Cause::NotHeld,
+});
+
 /// What a read of the narrow device asks.
 pub(crate) fn read(iova: u64, len: u8) -> Query {
     Query::DeviceRead {
@@ -159,9 +182,61 @@ pub(crate) fn read(iova: u64, len: u8) -> Query {
     }
 }
 
-pub(crate) fn apply<A: Allocator + Copy>(
+/// What an event is answered; None where it wants for memory.
+fn applied<A: Allocator + Copy>(core: &mut Core<A>, event: Event<A>) -> Option<Reply> {
+    match core.apply(PassNo(0), &Act { event, via: None }) {
+        Ok(stamp) => Some(stamp.reply),
+        Err(_) => None,
+    }
+}
+
+/// The same of the device's write by this cached frame, where reads and writes may pass at it; the page's other address
+/// has to read the bytes then.
+fn written<A: Allocator + Copy>(core: &mut Core<A>, frame: FrameNo) -> Option<Reply> {
+    let (bytes, iova) = (bytes()?, Iova(0x1000));
+    let len = bytes.as_slice().len() as u8;
+    if !core.may_pass(NARROW, iova, len, AccessKind::Read, frame)
+        || !core.may_pass(NARROW, iova, len, AccessKind::Write, frame)
+    {
+        return Some(BARRED);
+    }
+    let act = Act {
+        event: Event::DeviceWrite(NARROW, iova, bytes),
+        via: Some(frame),
+    };
+    match core.apply(PassNo(0), &act) {
+        Ok(stamp) if core.look(&read(0x5000, len)) == Answer::Read(bytes) => Some(stamp.reply),
+        Ok(_) => Some(BARRED),
+        Err(_) => None,
+    }
+}
+
+/// The last address of the only range, if it begins at 0; None where the question wants for memory.
+fn ranged<A: Allocator + Copy>(core: &Core<A>) -> Option<Reply> {
+    let set = core.ranges(FIRST, ObjId(1)).ok()?;
+    match set.spans() {
+        [span] if span.first() == 0 => Some(Reply::Iova(Iova(span.last()))),
+        _ => Some(BARRED),
+    }
+}
+
+/// What one of the last two steps is answered; None where it wants for memory.
+fn questioned<A: Allocator + Copy>(core: &mut Core<A>, step: Step) -> Option<Reply> {
+    match step {
+        Step::Cached(frame) => written(core, FrameNo(frame)),
+        Step::Ranges => ranged(core),
+        _ => None,
+    }
+}
+
+/// The same of any step, which is asked by this event if it has one.
+pub(crate) fn answered<A: Allocator + Copy>(
     core: &mut Core<A>,
-    event: Event<A>,
-) -> Result<Stamp, NoMemory> {
-    core.apply(PassNo(0), &Act { event, via: None })
+    step: Step,
+    event: Option<Event<A>>,
+) -> Option<Reply> {
+    match event {
+        Some(event) => applied(core, event),
+        None => questioned(core, step),
+    }
 }

@@ -1,0 +1,24 @@
+//! A heap, of which a block takes all while a call is refused.
+
+use crate::memory_calls::gives_pages;
+use crate::table_calls::gives_room;
+use linked_list_allocator::LocalHeap;
+use std::alloc::{AllocError, Global};
+
+/// All that the heap has left, which comes back when the block is dropped.
+pub(crate) fn block(heap: &LocalHeap) -> Result<Vec<u8, &LocalHeap>, AllocError> {
+    Vec::with_capacity(heap, heap.free())
+}
+
+/// Whether a page table and a user's page each find memory once a full heap has refused them.
+fn are_refused_first(alloc: Global) -> bool {
+    match LocalHeap::new(alloc, 1 << 12) {
+        Ok(heap) => gives_room(&heap, &heap) && gives_pages(alloc, &heap),
+        Err(_) => false,
+    }
+}
+
+#[test]
+fn page_tables_and_pages_take_memory(rt: HostRuntime) {
+    assert!(rt; are_refused_first(rt.alloc()));
+}
