@@ -1,5 +1,7 @@
 //! How many threads read at once.
 
+ghost use Rattle.std.specs.Prelude.{◌≤◌};
+
 #[derive(Clone, Copy)]
 pub enum Crowd {
     One,
@@ -13,6 +15,18 @@ impl Crowd {
             Crowd::One => "1 thread",
             Crowd::Two => "2 threads",
             Crowd::Four => "4 threads",
+        }
+    }
+
+    // How many passes it takes, where those of its threads are so far apart.
+    pub fn passes(self, apart: u16) -> u16
+        requires { (1 ≤ apart) × (apart ≤ 256) }
+        ensures { (1 ≤ result) × (result ≤ 1024) }
+    {
+        match self {
+            Crowd::One => apart,
+            Crowd::Two => 2 * apart,
+            Crowd::Four => 4 * apart,
         }
     }
 }

@@ -12,6 +12,7 @@ mod plain;
 
 use crate::crowd::Crowd;
 use std::alloc::Global;
+use std::env::Env;
 use std::process::ExitCode;
 use std::sync::Wait;
 use std::thread::Threads;
@@ -61,7 +62,8 @@ const MANY: u64 = 1_000_000;
 
 const TRIES: u32 = 5;
 
-// How many reads a crowd made, each thread so many; none where memory is wanting.
+// How many reads a crowd made, each thread so many; none where memory is wanting. Passes are 8 apart or more, whatever
+// their lanes: pass p reads on lane `p mod lanes`.
 fn reads<R: Threads + Wait + Sync>(
     rt: &R,
     alloc: Global,
@@ -71,8 +73,8 @@ fn reads<R: Threads + Wait + Sync>(
 ) -> Option<u64> {
     match way {
         Way::LanesApart => lanes::reads(rt, alloc, 32, 8, crowd, count),
-        Way::LanesBeside => lanes::reads(rt, alloc, 4, 1, crowd, count),
-        Way::OneLane => lanes::reads(rt, alloc, 1, 1, crowd, count),
+        Way::LanesBeside => lanes::reads(rt, alloc, 4, 9, crowd, count),
+        Way::OneLane => lanes::reads(rt, alloc, 1, 8, crowd, count),
         Way::Plain => plain::reads(rt, alloc, crowd, count),
     }
 }
@@ -93,20 +95,37 @@ fn least_time<R: Threads + Wait + Sync + Clock>(
     Ok(least)
 }
 
+// Whether one of the words that the program is given is `times`.
+fn asks_for_times<R: Env + AllocGlobal>(rt: &R) -> io::Result<bool> {
+    let mut words = env::args(rt)?;
+    Ok(words.any(|word| word.as_str() == "times"))
+}
+
+// How many nanoseconds a read took, or else how many reads there were; none where memory is wanting.
+fn measured<R: Threads + Wait + Sync + Clock>(
+    rt: &R,
+    alloc: Global,
+    timed: bool,
+    way: Way,
+    crowd: Crowd,
+) -> io::Result<Option<u128>> {
+    if timed {
+        let nanos = least_time(rt, alloc, way, crowd)?.as_nanos();
+        Ok(Some(nanos / u128::from(MANY)))
+    } else {
+        Ok(reads(rt, alloc, way, crowd, FEW).map(u128::from))
+    }
+}
+
 fn main(rt: HostRuntime) -> io::Result<ExitCode> {
     let alloc = rt.alloc();
-    let words: Vec<String> = env::args(&rt)?.collect(alloc)?;
-    let timed = words.iter().any(|word| word.as_str() == "times");
+    let timed = asks_for_times(&rt)?;
+    let unit = if timed { "ns a read" } else { "reads" };
     for &(way, crowd) in &CASES {
-        if timed {
-            let nanos = least_time(&rt, alloc, way, crowd)?.as_nanos() / u128::from(MANY);
-            println!(rt; "{}; {}: {nanos} ns a read", way.name(), crowd.name())?;
-        } else {
-            match reads(&rt, alloc, way, crowd, FEW) {
-                Some(found) => println!(rt; "{}; {}: {found} reads", way.name(), crowd.name())?,
-                None => return Ok(ExitCode::FAILURE),
-            }
-        }
+        let Some(number) = measured(&rt, alloc, timed, way, crowd)? else {
+            return Ok(ExitCode::FAILURE);
+        };
+        println!(rt; "{}; {}: {number} {unit}", way.name(), crowd.name())?;
     }
     Ok(ExitCode::SUCCESS)
 }

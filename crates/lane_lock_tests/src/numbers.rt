@@ -5,7 +5,7 @@ use iofd_words::{NoMemory, PassNo};
 use lane_lock::Kept;
 use std::alloc::{AllocError, Global};
 
-#[derive(Clone, Copy, Debug, PartialEq, Eq)]
+#[derive(Clone, Copy)]
 pub struct Entry {
     pub pass: PassNo,
     pub number: u64,
@@ -26,18 +26,12 @@ impl Numbers {
         })
     }
 
-    // Whether these are the numbers of the pass, in their order.
-    pub fn has_of(&self, pass: PassNo, wanted: &[u64]) -> bool {
-        let mut next = 0;
-        for entry in &self.entries {
-            if entry.pass == pass {
-                if next >= wanted.len() || wanted[next] != entry.number {
-                    return false;
-                }
-                next += 1;
-            }
+    // Whether this is the only number, and the pass added it.
+    pub fn is_only(&self, pass: PassNo, number: u64) -> bool {
+        match self.entries.as_slice() {
+            [entry] => entry.pass == pass && entry.number == number,
+            _ => false,
         }
-        next == wanted.len()
     }
 
     // Whether the numbers of the pass are 0, 1, 2 and so on, `count` of them.
@@ -71,7 +65,8 @@ impl Kept for Numbers {
     ghost may = { λ _ _. Unit {0} };
 
     ghost gives = { λ before pass number stamp after. (stamp ≡ length before.entries.items)
-        × (after.entries.items ≡ before.entries.items ++ record { pass = record { 0 = pass }; number = number } ∷ []) };
+        × (after.entries.items
+        ≡ before.entries.items ++ record { pass = record { 0 = pass }; number = number } ∷ []) };
 
     fn apply(&mut self, pass: PassNo, number: &u64) -> Result<u64, NoMemory> {
         let at = self.entries.len() as u64;

@@ -1,6 +1,6 @@
 //! One thread, several passes.
 
-ghost use Rattle.std.specs.Prelude.{◌≡◌, ◌≤◌, [], IfSome};
+ghost use Rattle.std.specs.Prelude.{◌≡◌, ◌≤◌, [], length, IfSome};
 ghost use Rattle.lane_lock.specs.Passes.{Owns, OwnsAll};
 
 use crate::numbers::Numbers;
@@ -16,33 +16,11 @@ pub fn new_lock(
     passes: u16,
 ) -> Option<(LaneLock<Numbers>, Vec<Pass<Numbers>>)>
     requires { (1 ≤ lanes) × (lanes ≤ 64) × (1 ≤ passes) × (passes ≤ 1024) }
-    ensures { IfSome result (λ r. OwnsAll r.0 r.1.items) }
+    ensures owned { IfSome result (λ r. OwnsAll r.0 r.1.items) }
+    ensures count { IfSome result (λ r. length r.1.items ≡ passes) }
 {
     let numbers = Numbers::new(alloc, room).ok()?;
     LaneLock::new(alloc, numbers, lanes, passes).ok()
-}
-
-// The last of the passes.
-pub fn last_pass(lock: &LaneLock<Numbers>, passes: &mut Vec<Pass<Numbers>>) -> Option<Pass<Numbers>>
-    requires { OwnsAll lock.now passes.old.items }
-    ensures taken { IfSome result (Owns lock.now) }
-    ensures left { OwnsAll lock.now passes.new.items }
-{
-    let _ = lock;
-    passes.pop()
-}
-
-// A lock of two lanes over no numbers, and its two passes.
-fn lock_of_two(
-    alloc: Global,
-    room: usize,
-) -> Option<(LaneLock<Numbers>, Pass<Numbers>, Pass<Numbers>)>
-    ensures { IfSome result (λ r. Owns r.0 r.1 × Owns r.0 r.2) }
-{
-    let (lock, mut passes) = new_lock(alloc, room, 2, 2)?;
-    let p1 = last_pass(&lock, &mut passes)?;
-    let p0 = last_pass(&lock, &mut passes)?;
-    Some((lock, p0, p1))
 }
 
 // Adds a number, at once. The answer is its place.
@@ -60,7 +38,7 @@ fn add(
     }
 }
 
-// The number of entries that a reader is shown, at once.
+// The number of entries that a reader is shown, at once. Its guard is dropped.
 fn shown(lock: &LaneLock<Numbers>, pass: &mut Pass<Numbers>) -> Result<usize, NotNow>
     requires { Owns lock.now pass.old }
     ensures { Owns lock.now pass.new }
@@ -68,7 +46,7 @@ fn shown(lock: &LaneLock<Numbers>, pass: &mut Pass<Numbers>) -> Result<usize, No
     match pass.try_read(lock) {
         Ok(guard) => {
             let count = guard.get().entries.len();
-            guard.end();
+            drop(guard);
             Ok(count)
         }
         Err(refused) => Err(refused),
@@ -89,147 +67,17 @@ fn refusal_of_write(lock: &LaneLock<Numbers>, pass: &mut Pass<Numbers>) -> Optio
     }
 }
 
-fn busy(lane: u16, holder: u16) -> Busy {
-    Busy {
-        lane,
-        holder: PassNo(holder),
-    }
-}
-
-// Two readers on lanes of their own at once, and a writer that meets first the one and then the other.
-fn readers_refuse_a_writer(
-    lock: &LaneLock<Numbers>,
-    p0: &mut Pass<Numbers>,
-    p1: &mut Pass<Numbers>,
-    p2: &mut Pass<Numbers>,
-) -> bool
-    requires { Owns lock.now p0.old × Owns lock.now p1.old × Owns lock.now p2.old }
+// Takes all lanes to write, and drops the guard.
+fn drops_guard(lock: &LaneLock<Numbers>, pass: &mut Pass<Numbers>) -> bool
+    requires { Owns lock.now pass.old }
+    ensures { Owns lock.now pass.new }
 {
-    let Ok(g0) = lock.try_read(p0) else {
-        return false;
-    };
-    let Ok(g1) = lock.try_read(p1) else {
-        return false;
-    };
-    let first = refusal_of_write(lock, p2);
-    g0.end();
-    let second = refusal_of_write(lock, p2);
-    let again = shown(lock, p0);
-    g1.end();
-    first == Some(busy(0, 0)) && second == Some(busy(1, 1)) && again == Ok(0)
-}
-
-// A record is seen by its own pass, and by another once they have met. A lock closes with all its passes alone.
-fn passes_meet(
-    lock: LaneLock<Numbers>,
-    mut p0: Pass<Numbers>,
-    mut p1: Pass<Numbers>,
-    alloc: Global,
-) -> bool
-    requires { Owns lock p0 × Owns lock p1 }
-{
-    let added = add(&lock, &mut p0, 7) == Some(Ok(0));
-    let apart = p0.seen() == 1 && p1.seen() == 0;
-    lock.meet(&mut p0, &mut p1);
-    let together = p0.seen() == 1 && p1.seen() == 1;
-    let given_back = refusal_of_write(&lock, &mut p1).is_none();
-    added && apart && together && given_back && closes_with_both(lock, p0, p1, alloc)
-}
-
-// One pass alone can't close the lock; both can.
-fn closes_with_both(
-    lock: LaneLock<Numbers>,
-    p0: Pass<Numbers>,
-    p1: Pass<Numbers>,
-    alloc: Global,
-) -> bool
-    requires { Owns lock p0 × Owns lock p1 }
-{
-    let Ok(alone) = vec![in alloc; p0] else {
-        return false;
-    };
-    match lock.close(alone) {
-        Err(CloseError::NotAll { lock, passes }) => closes_with(lock, passes, p1),
-        _ => false,
-    }
-}
-
-// Whether the lock closes with this pass behind the others, over the one number.
-fn closes_with(lock: LaneLock<Numbers>, mut passes: Vec<Pass<Numbers>>, last: Pass<Numbers>) -> bool
-    requires { OwnsAll lock passes.items × Owns lock last }
-{
-    put_last(&lock, &mut passes, last) && has_seven(lock.close(passes))
-}
-
-// Whether a lock was closed over the number 7 of pass 0 alone.
-fn has_seven(closed: Result<Numbers, CloseError<Numbers>>) -> bool {
-    match closed {
-        Ok(numbers) => numbers.entries.len() == 1 && numbers.has_of(PassNo(0), &[7]),
+    match pass.try_write(lock) {
+        Ok(guard) => {
+            drop(guard);
+            true
+        }
         Err(_) => false,
-    }
-}
-
-// The second of two commits finds no room. A pass that never wrote is shown the one record.
-fn refused_growth(lock: &LaneLock<Numbers>, p0: &mut Pass<Numbers>, p1: &mut Pass<Numbers>) -> bool
-    requires { Owns lock.now p0.old × Owns lock.now p1.old }
-{
-    let first = add(lock, p0, 7) == Some(Ok(0));
-    let second = add(lock, p0, 8) == Some(Err(CommitError::Memory(NoMemory)));
-    let third = shown(lock, p1) == Ok(1);
-    first && second && third && p1.seen() == 1
-}
-
-// A guard that was dropped puts its lanes back and appends nothing.
-fn dropped_guards(lock: &LaneLock<Numbers>, p0: &mut Pass<Numbers>, p1: &mut Pass<Numbers>) -> bool
-    requires { Owns lock.now p0.old × Owns lock.now p1.old }
-{
-    let Ok(reading) = lock.try_read(p0) else {
-        return false;
-    };
-    drop(reading);
-    let read_again = shown(lock, p0) == Ok(0);
-    let written = refusal_of_write(lock, p1).is_none();
-    let Ok(writing) = lock.try_write(p1) else {
-        return false;
-    };
-    drop(writing);
-    let after = shown(lock, p0) == Ok(0) && refusal_of_write(lock, p1).is_none();
-    read_again && written && after && shown(lock, p1) == Ok(0)
-}
-
-// A forgotten guard keeps its lane, for its own pass too. The other lane serves.
-fn forgotten_guard(lock: &LaneLock<Numbers>, p0: &mut Pass<Numbers>, p1: &mut Pass<Numbers>) -> bool
-    requires { Owns lock.now p0.old × Owns lock.now p1.old }
-    ensures { Owns lock.now p0.new × Owns lock.now p1.new }
-{
-    let taken = forgets_guard(lock, p0);
-    let own = shown(lock, p0) == Err(NotNow::Busy(busy(0, 0)));
-    let written = refusal_of_write(lock, p1) == Some(busy(0, 0));
-    let read = shown(lock, p1) == Ok(0);
-    taken && own && written && read
-}
-
-// Whether the lock can't be closed with both of its passes.
-fn stays_open(lock: LaneLock<Numbers>, p0: Pass<Numbers>, p1: Pass<Numbers>, alloc: Global) -> bool
-    requires { Owns lock p0 × Owns lock p1 }
-{
-    match vec![in alloc; p0, p1] {
-        Ok(passes) => hands_back_both(lock.close(passes)),
-        Err(_) => false,
-    }
-}
-
-// Whether a lock was not closed, and two passes come back with it.
-fn hands_back_both(closed: Result<Numbers, CloseError<Numbers>>) -> bool {
-    match closed {
-        Ok(_numbers) => false,
-        Err(error) => match error {
-            CloseError::NotAll {
-                lock: _lock,
-                passes,
-            } => passes.len() == 2,
-            CloseError::Shared(_share) => false,
-        },
     }
 }
 
@@ -247,6 +95,13 @@ fn forgets_guard(lock: &LaneLock<Numbers>, pass: &mut Pass<Numbers>) -> bool
     }
 }
 
+fn busy(lane: u16, holder: u16) -> Busy {
+    Busy {
+        lane,
+        holder: PassNo(holder),
+    }
+}
+
 // Whether the passes have their numbers, and their lanes, of which there are two.
 fn are_numbered(p0: &Pass<Numbers>, p1: &Pass<Numbers>, p2: &Pass<Numbers>) -> bool {
     p0.number() == PassNo(0)
@@ -255,71 +110,129 @@ fn are_numbered(p0: &Pass<Numbers>, p1: &Pass<Numbers>, p2: &Pass<Numbers>) -> b
         && (p0.lane(), p1.lane(), p2.lane()) == (0, 1, 0)
 }
 
-// The three passes of a lock of two lanes, and what two of them do while the third writes.
-fn two_readers(lock: &LaneLock<Numbers>, mut passes: Vec<Pass<Numbers>>) -> Option<bool>
-    requires { OwnsAll lock.now passes.items }
+// The second of two commits finds no room. A pass that never wrote is shown the one record.
+fn refused_growth(lock: &LaneLock<Numbers>, p0: &mut Pass<Numbers>, p1: &mut Pass<Numbers>) -> bool
+    requires { Owns lock.now p0.old × Owns lock.now p1.old }
+    ensures { Owns lock.now p0.new × Owns lock.now p1.new }
 {
-    let mut p2 = last_pass(lock, &mut passes)?;
-    let mut p1 = last_pass(lock, &mut passes)?;
-    let mut p0 = last_pass(lock, &mut passes)?;
-    let are_all = passes.is_empty() && are_numbered(&p0, &p1, &p2);
-    Some(are_all && readers_refuse_a_writer(lock, &mut p0, &mut p1, &mut p2))
+    let first = add(lock, p0, 7) == Some(Ok(0));
+    let second = add(lock, p0, 8) == Some(Err(CommitError::Memory(NoMemory)));
+    let third = shown(lock, p1) == Ok(1);
+    first && second && third && p1.seen() == 1
 }
 
-// Whether the three passes of a new lock do so.
-fn refuse_a_writer(alloc: Global) -> Option<bool> {
-    let (lock, passes) = new_lock(alloc, 8, 2, 3)?;
-    two_readers(&lock, passes)
+// A guard that was dropped or given back puts its lanes back and appends nothing.
+fn dropped_guards(lock: &LaneLock<Numbers>, p0: &mut Pass<Numbers>, p1: &mut Pass<Numbers>) -> bool
+    requires { Owns lock.now p0.old × Owns lock.now p1.old }
+    ensures { Owns lock.now p0.new × Owns lock.now p1.new }
+{
+    let read = shown(lock, p0) == Ok(1) && shown(lock, p0) == Ok(1);
+    let given_back = refusal_of_write(lock, p1).is_none();
+    let dropped = drops_guard(lock, p1);
+    let after = shown(lock, p0) == Ok(1) && refusal_of_write(lock, p1).is_none();
+    read && given_back && dropped && after && shown(lock, p1) == Ok(1)
+}
+
+// What a writer and another reader meet while this reader has its lane.
+fn beside(
+    lock: &LaneLock<Numbers>,
+    reader: &mut Pass<Numbers>,
+    writer: &mut Pass<Numbers>,
+    other: &mut Pass<Numbers>,
+) -> Option<(Option<Busy>, Result<usize, NotNow>)>
+    requires { Owns lock.now reader.old × Owns lock.now writer.old × Owns lock.now other.old }
+    ensures { Owns lock.now reader.new × Owns lock.now writer.new × Owns lock.now other.new }
+{
+    match reader.try_read(lock) {
+        Ok(guard) => {
+            let refusal = refusal_of_write(lock, writer);
+            let read = shown(lock, other);
+            guard.end();
+            Some((refusal, read))
+        }
+        Err(_) => None,
+    }
+}
+
+// Readers on lanes of their own serve at once, and a writer meets the lower of the lanes that are held. A forgotten
+// guard keeps its lane, for its own pass too.
+fn readers_at_once(
+    lock: &LaneLock<Numbers>,
+    p0: &mut Pass<Numbers>,
+    p1: &mut Pass<Numbers>,
+    p2: &mut Pass<Numbers>,
+) -> bool
+    requires { Owns lock.now p0.old × Owns lock.now p1.old × Owns lock.now p2.old }
+    ensures { Owns lock.now p0.new × Owns lock.now p1.new × Owns lock.now p2.new }
+{
+    let upper = beside(lock, p1, p2, p0) == Some((Some(busy(1, 1)), Ok(1)));
+    let forgotten = forgets_guard(lock, p0);
+    let held = Err(NotNow::Busy(busy(0, 0)));
+    let both = beside(lock, p1, p2, p0) == Some((Some(busy(0, 0)), held));
+    let alone = refusal_of_write(lock, p1) == Some(busy(0, 0));
+    upper && forgotten && both && alone && shown(lock, p1) == Ok(1)
+}
+
+// What the three passes of a lock of two lanes with room for one number do, one after the other.
+fn three_passes(
+    lock: &LaneLock<Numbers>,
+    p0: &mut Pass<Numbers>,
+    p1: &mut Pass<Numbers>,
+    p2: &mut Pass<Numbers>,
+) -> bool
+    requires { Owns lock.now p0.old × Owns lock.now p1.old × Owns lock.now p2.old }
+    ensures { Owns lock.now p0.new × Owns lock.now p1.new × Owns lock.now p2.new }
+{
+    let numbered = are_numbered(p0, p1, p2);
+    let refused = refused_growth(lock, p0, p1);
+    let dropped = dropped_guards(lock, p0, p1);
+    let at_once = readers_at_once(lock, p0, p1, p2);
+    numbered && refused && dropped && at_once
+}
+
+// Lends three passes one by one.
+fn each_lent(lock: &LaneLock<Numbers>, passes: &mut [Pass<Numbers>]) -> bool
+    requires owned { OwnsAll lock.now passes.old }
+    requires count { length passes.old ≡ 3 }
+    ensures { OwnsAll lock.now passes.new }
+{
+    let (first, rest) = passes.split_at_mut(1);
+    let (second, third) = rest.split_at_mut(1);
+    three_passes(lock, &mut first[0], &mut second[0], &mut third[0])
+}
+
+// Whether a lock was not closed, and three passes come back with it.
+fn hands_back_three(closed: Result<Numbers, CloseError<Numbers>>) -> bool {
+    match closed {
+        Err(CloseError::NotAll { lock: _, passes }) => passes.len() == 3,
+        _ => false,
+    }
+}
+
+// Whether the passes of a new lock do so, and it can't be closed then, since a guard was forgotten.
+fn share_a_lock(alloc: Global) -> bool {
+    match new_lock(alloc, 1, 2, 3) {
+        Some((lock, mut passes)) => {
+            let shared = each_lent(&lock, &mut passes);
+            hands_back_three(lock.close(passes)) && shared
+        }
+        None => false,
+    }
 }
 
 #[test]
-fn two_readers_refuse_a_writer(rt: HostRuntime) {
-    assert!(rt; refuse_a_writer(rt.alloc()) == Some(true));
+fn three_passes_share_a_lock(rt: HostRuntime) {
+    assert!(rt; share_a_lock(rt.alloc()));
 }
 
-// Whether the two passes of a new lock do so.
-fn meet(alloc: Global) -> Option<bool> {
-    let (lock, p0, p1) = lock_of_two(alloc, 8)?;
-    Some(passes_meet(lock, p0, p1, alloc))
-}
-
-#[test]
-fn a_record_is_met(rt: HostRuntime) {
-    assert!(rt; meet(rt.alloc()) == Some(true));
-}
-
-// Whether those of a lock over numbers with room for one do so.
-fn refuse_growth(alloc: Global) -> Option<bool> {
-    let (lock, mut p0, mut p1) = lock_of_two(alloc, 1)?;
-    Some(refused_growth(&lock, &mut p0, &mut p1))
-}
-
-#[test]
-fn a_refused_growth_makes_no_record(rt: HostRuntime) {
-    assert!(rt; refuse_growth(rt.alloc()) == Some(true));
-}
-
-// Whether the two passes of a new lock do so.
-fn drop_guards(alloc: Global) -> Option<bool> {
-    let (lock, mut p0, mut p1) = lock_of_two(alloc, 8)?;
-    Some(dropped_guards(&lock, &mut p0, &mut p1))
-}
-
-#[test]
-fn dropped_guards_put_their_lanes_back(rt: HostRuntime) {
-    assert!(rt; drop_guards(rt.alloc()) == Some(true));
-}
-
-// Whether the two passes of a new lock do so, and it can't be closed then.
-fn forget_a_guard(alloc: Global) -> Option<bool> {
-    let (lock, mut p0, mut p1) = lock_of_two(alloc, 8)?;
-    let kept = forgotten_guard(&lock, &mut p0, &mut p1);
-    Some(stays_open(lock, p0, p1, alloc) && kept)
-}
-
-#[test]
-fn a_forgotten_guard_keeps_its_lane(rt: HostRuntime) {
-    assert!(rt; forget_a_guard(rt.alloc()) == Some(true));
+// The last of the passes.
+fn last_pass(lock: &LaneLock<Numbers>, passes: &mut Vec<Pass<Numbers>>) -> Option<Pass<Numbers>>
+    requires { OwnsAll lock.now passes.old.items }
+    ensures taken { IfSome result (Owns lock.now) }
+    ensures left { OwnsAll lock.now passes.new.items }
+{
+    let _ = lock;
+    passes.pop()
 }
 
 // Puts the pass behind the others, if there is memory.
@@ -331,25 +244,80 @@ fn put_last(lock: &LaneLock<Numbers>, passes: &mut Vec<Pass<Numbers>>, pass: Pas
     passes.push(pass).is_ok()
 }
 
-// One pass commits and reads, and all of them close the lock.
+// Whether a lock was closed over the number 7 of this pass alone.
+fn has_seven(closed: Result<Numbers, CloseError<Numbers>>, pass: PassNo) -> bool {
+    match closed {
+        Ok(numbers) => numbers.is_only(pass, 7),
+        Err(_) => false,
+    }
+}
+
+// Whether the lock closes with this pass behind the others, over its number.
+fn closes_with(lock: LaneLock<Numbers>, mut passes: Vec<Pass<Numbers>>, last: Pass<Numbers>) -> bool
+    requires { OwnsAll lock passes.items × Owns lock last }
+{
+    let number = last.number();
+    put_last(&lock, &mut passes, last) && has_seven(lock.close(passes), number)
+}
+
+// The lock doesn't close without this pass; with all it does.
+fn closes_with_all(lock: LaneLock<Numbers>, others: Vec<Pass<Numbers>>, last: Pass<Numbers>) -> bool
+    requires { OwnsAll lock others.items × Owns lock last }
+{
+    match lock.close(others) {
+        Err(CloseError::NotAll { lock, passes }) => closes_with(lock, passes, last),
+        _ => false,
+    }
+}
+
+// A record is seen by the pass that made it, and by another once they have met.
+fn passes_meet(
+    lock: &LaneLock<Numbers>,
+    pass: &mut Pass<Numbers>,
+    other: &mut Pass<Numbers>,
+) -> bool
+    requires { Owns lock.now pass.old × Owns lock.now other.old }
+    ensures { Owns lock.now pass.new × Owns lock.now other.new }
+{
+    let apart = pass.seen() == 1 && other.seen() == 0;
+    lock.meet(pass, other);
+    apart && pass.seen() == 1 && other.seen() == 1
+}
+
+// Whether the first of the others meets the pass so, if there is one.
+fn meets_first(
+    lock: &LaneLock<Numbers>,
+    pass: &mut Pass<Numbers>,
+    others: &mut [Pass<Numbers>],
+) -> bool
+    requires { Owns lock.now pass.old × OwnsAll lock.now others.old }
+    ensures { Owns lock.now pass.new × OwnsAll lock.now others.new }
+{
+    others.is_empty() || passes_meet(lock, pass, &mut others[0])
+}
+
+// The last pass commits and reads, and meets another. All of them close the lock.
+fn last_serves(lock: LaneLock<Numbers>, mut passes: Vec<Pass<Numbers>>) -> bool
+    requires { OwnsAll lock passes.items }
+{
+    match last_pass(&lock, &mut passes) {
+        Some(mut last) => {
+            let added = add(&lock, &mut last, 7) == Some(Ok(0));
+            let read = shown(&lock, &mut last) == Ok(1);
+            let met = meets_first(&lock, &mut last, &mut passes);
+            closes_with_all(lock, passes, last) && added && read && met
+        }
+        None => false,
+    }
+}
+
+// Whether a lock of this size does so.
 fn serves(alloc: Global, lanes: u16, passes: u16) -> bool
     requires { (1 ≤ lanes) × (lanes ≤ 64) × (1 ≤ passes) × (passes ≤ 1024) }
 {
-    let Some((lock, mut all)) = new_lock(alloc, 4, lanes, passes) else {
-        return false;
-    };
-    let Some(mut pass) = last_pass(&lock, &mut all) else {
-        return false;
-    };
-    let number = pass.number();
-    let added = add(&lock, &mut pass, 7) == Some(Ok(0));
-    let read = shown(&lock, &mut pass) == Ok(1);
-    if !put_last(&lock, &mut all, pass) {
-        return false;
-    }
-    match lock.close(all) {
-        Ok(numbers) => added && read && numbers.has_of(number, &[7]),
-        Err(_) => false,
+    match new_lock(alloc, 4, lanes, passes) {
+        Some((lock, passes)) => last_serves(lock, passes),
+        None => false,
     }
 }
 

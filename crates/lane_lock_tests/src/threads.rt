@@ -1,131 +1,80 @@
 //! Four threads at once.
 
 ghost use Rattle.std.specs.Prelude.{◌≡◌, []};
-ghost use Rattle.lane_lock.specs.Passes.{Owns};
+ghost use Rattle.lane_lock.specs.Passes.{Owns, OwnsAll};
 
 use crate::numbers::Numbers;
-use crate::one_thread::{last_pass, new_lock};
+use crate::one_thread::new_lock;
 use iofd_words::PassNo;
 use lane_lock::{CloseError, LaneLock, Pass};
 use std::alloc::Global;
 use std::sync::Wait;
-use std::thread::{Threads, join};
+use std::thread::{Threads, for_each_mut};
 
 const ROUNDS: u64 = 10_000;
 
 // Adds the numbers 0, 1, 2 and so on, and reads after each.
-fn work<R: Wait>(rt: &R, lock: &LaneLock<Numbers>, mut pass: Pass<Numbers>) -> Pass<Numbers>
-    requires { Owns lock.now pass }
-    ensures { Owns lock.now result }
+fn work<R: Wait>(rt: &R, lock: &LaneLock<Numbers>, pass: &mut Pass<Numbers>)
+    requires { Owns lock.now pass.old }
+    ensures { Owns lock.now pass.new }
 {
     let mut next = 0;
     for _ in rt.forever() {
         if next >= ROUNDS {
             break;
         }
-        if lock.write(rt, &mut pass).commit(&next).is_ok() {
+        if lock.write(rt, pass).commit(&next).is_ok() {
             next += 1;
         }
-        lock.read(rt, &mut pass).end();
+        lock.read(rt, pass).end();
     }
-    pass
 }
 
-// Two workers at once.
-fn pair<R: Threads + Wait + Sync>(
+// The passes work at once, in four threads.
+fn four_work<R: Threads + Wait + Sync>(
     rt: &R,
     lock: &LaneLock<Numbers>,
-    one: Pass<Numbers>,
-    other: Pass<Numbers>,
-) -> (Pass<Numbers>, Pass<Numbers>)
-    requires { Owns lock.now one × Owns lock.now other }
-    ensures { Owns lock.now result.0 × Owns lock.now result.1 }
-{
-    join(
-        rt,
-        move || -> Pass<Numbers>
-            requires { Owns lock.now one }
-            ensures { Owns lock.entry.now result }
-        { work(rt, lock, one) },
-        move || -> Pass<Numbers>
-            requires { Owns lock.now other }
-            ensures { Owns lock.entry.now result }
-        { work(rt, lock, other) },
-    )
-}
-
-// Two pairs at once.
-fn four<R: Threads + Wait + Sync>(
-    rt: &R,
-    lock: &LaneLock<Numbers>,
-    p0: Pass<Numbers>,
-    p1: Pass<Numbers>,
-    p2: Pass<Numbers>,
-    p3: Pass<Numbers>,
-) -> (
-    (Pass<Numbers>, Pass<Numbers>),
-    (Pass<Numbers>, Pass<Numbers>),
+    passes: &mut [Pass<Numbers>],
 )
-    requires { Owns lock.now p0 × Owns lock.now p1 × Owns lock.now p2 × Owns lock.now p3 }
-    ensures { Owns lock.now result.0.0 × Owns lock.now result.0.1
-        × Owns lock.now result.1.0 × Owns lock.now result.1.1 }
+    requires { OwnsAll lock.now passes.old }
+    ensures { OwnsAll lock.now passes.new }
 {
-    join(
+    for_each_mut(
         rt,
-        move || -> (Pass<Numbers>, Pass<Numbers>)
-            requires { Owns lock.now p0 × Owns lock.now p1 }
-            ensures { Owns lock.entry.now result.0 × Owns lock.entry.now result.1 }
-        { pair(rt, lock, p0, p1) },
-        move || -> (Pass<Numbers>, Pass<Numbers>)
-            requires { Owns lock.now p2 × Owns lock.now p3 }
-            ensures { Owns lock.entry.now result.0 × Owns lock.entry.now result.1 }
-        { pair(rt, lock, p2, p3) },
-    )
+        passes,
+        4,
+        &|_, pass: &mut Pass<Numbers>|
+            requires { Owns lock.now pass.now }
+            ensures { Owns lock.entry.now pass.exit.now }
+        { work(rt, lock, pass) },
+    );
 }
 
-// Closes the lock with four passes, and compares what each of them added.
-fn closes_in_order(
-    lock: LaneLock<Numbers>,
-    done: (
-        (Pass<Numbers>, Pass<Numbers>),
-        (Pass<Numbers>, Pass<Numbers>),
-    ),
-    alloc: Global,
-) -> bool
-    requires { Owns lock done.0.0 × Owns lock done.0.1 × Owns lock done.1.0 × Owns lock done.1.1 }
-{
-    let ((p0, p1), (p2, p3)) = done;
-    match vec![in alloc; p0, p1, p2, p3] {
-        Ok(passes) => count_up(lock.close(passes)),
-        Err(_) => false,
-    }
+// Whether each of the four passes added the numbers in order.
+fn all_count_up(numbers: &Numbers) -> bool {
+    (0..4).all(|pass| numbers.counts_up(PassNo(pass), ROUNDS))
 }
 
-// Whether a lock was closed, and each of the four passes added the numbers in order.
+// Whether a lock was closed over such numbers.
 fn count_up(closed: Result<Numbers, CloseError<Numbers>>) -> bool {
     match closed {
-        Ok(numbers) => (0..4).all(|pass| numbers.counts_up(PassNo(pass), ROUNDS)),
+        Ok(numbers) => all_count_up(&numbers),
         Err(_) => false,
+    }
+}
+
+// Whether the four passes of a new lock do so.
+fn each_record_once<R: Threads + Wait + Sync>(rt: &R, alloc: Global) -> bool {
+    match new_lock(alloc, 40_000, 4, 4) {
+        Some((lock, mut passes)) => {
+            four_work(rt, &lock, &mut passes);
+            count_up(lock.close(passes))
+        }
+        None => false,
     }
 }
 
 #[test]
 fn four_threads_make_each_record_once(rt: HostRuntime) {
-    let Some((lock, mut passes)) = new_lock(rt.alloc(), 40_000, 4, 4) else {
-        panic!(rt; "no memory");
-    };
-    let Some(p3) = last_pass(&lock, &mut passes) else {
-        panic!(rt; "no pass");
-    };
-    let Some(p2) = last_pass(&lock, &mut passes) else {
-        panic!(rt; "no pass");
-    };
-    let Some(p1) = last_pass(&lock, &mut passes) else {
-        panic!(rt; "no pass");
-    };
-    let Some(p0) = last_pass(&lock, &mut passes) else {
-        panic!(rt; "no pass");
-    };
-    let done = four(&rt, &lock, p0, p1, p2, p3);
-    assert!(rt; closes_in_order(lock, done, rt.alloc()));
+    assert!(rt; each_record_once(&rt, rt.alloc()));
 }
