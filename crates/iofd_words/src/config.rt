@@ -9,7 +9,7 @@ ghost use Rattle.iofd_words.specs.Settings.{is_between, is_device_in_limits, is_
 ghost use Rattle.iofd_words.specs.Span.{holds, meets};
 ghost use Rattle.iofd_words.specs.Usable.{interrupt_range, reserved_by};
 
-use crate::lists::SpanList;
+use crate::lists::{SpanList, copied};
 use crate::numbers::{DeviceNo, FileNo, SourceId, UserNo};
 use crate::refusal::NoMemory;
 use crate::span::{INTERRUPT_RANGE, Span};
@@ -318,13 +318,6 @@ fn is_between(least: usize, most: usize, number: usize) -> bool
     ensures { result ≡ is_between least most number }
 {
     least <= number && number <= most
-}
-
-// The same values in new memory.
-fn copied<T: Copy, B: Allocator>(alloc: B, values: &[T]) -> Result<Vec<T, B>, NoMemory>
-    ensures { IfOk result (λ copies. copies.items ≡ values.now) }
-{
-    Ok(Vec::from_slice(alloc, values)?)
 }
 
 // The same devices in new memory.

@@ -81,9 +81,9 @@ impl<A: Allocator> SpanList<A> {
         ensures ok { IfOk result (λ spans. spans ≡ self.now) }
         ensures memory { OnErr result (0 < length self.now) }
     {
-        let mut spans = Vec::with_capacity(alloc, self.spans.len())?;
-        spans.extend_from_slice(&self.spans)?;
-        Ok(SpanList { spans })
+        Ok(SpanList {
+            spans: copied(alloc, &self.spans)?,
+        })
     }
 
     /// The spans as they were handed in. It takes no memory.
@@ -92,4 +92,15 @@ impl<A: Allocator> SpanList<A> {
     {
         self.spans
     }
+}
+
+// The same values in new memory. It fails only where memory does; no values need none. Each list is copied by it, so
+// that what an early end lets go is proved once.
+pub(crate) fn copied<T: Copy, B: Allocator>(alloc: B, values: &[T]) -> Result<Vec<T, B>, NoMemory>
+    ensures ok { IfOk result (λ copies. copies.items ≡ values.now) }
+    ensures memory { OnErr result (0 < length values.now) }
+{
+    let mut copies = Vec::with_capacity(alloc, values.len())?;
+    copies.extend_from_slice(values)?;
+    Ok(copies)
 }

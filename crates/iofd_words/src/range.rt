@@ -2,6 +2,7 @@
 
 ghost use Rattle.std.specs.Prelude.{◌≡◌, ◌<◌, IfOk, OnErr, length};
 
+use crate::lists::copied;
 use crate::refusal::NoMemory;
 use std::alloc::{Allocator, Global};
 use std::marker::Model;
@@ -59,9 +60,9 @@ impl<A: Allocator> RangeList<A> {
         ensures ok { IfOk result (λ ranges. ranges ≡ self.now) }
         ensures memory { OnErr result (0 < length self.now) }
     {
-        let mut ranges = Vec::with_capacity(alloc, self.ranges.len())?;
-        ranges.extend_from_slice(&self.ranges)?;
-        Ok(RangeList { ranges })
+        Ok(RangeList {
+            ranges: copied(alloc, &self.ranges)?,
+        })
     }
 
     /// The ranges as they were handed in. It takes no memory.

@@ -1,6 +1,7 @@
 //! Spans of numbers.
 
-ghost use Rattle.std.specs.Prelude.{◌≡◌, ◌↔◌, ◌≤◌, ◌<◌, ◌-◌, ◌+◌, ◌^◌, IsSome, IfSome};
+ghost use Rattle.std.specs.Prelude.{◌≡◌, ◌↔◌, ◌≤◌, ◌<◌, ◌-◌, ◌+◌};
+ghost use Rattle.std.specs.Prelude.{◌^◌, IsSome, IfSome};
 ghost use Rattle.iofd_words.specs.Span.{meets, lies_in, holds, is_whole_pages};
 
 use crate::numbers::PAGE_SIZE;

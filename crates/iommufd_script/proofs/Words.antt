@@ -1,15 +1,13 @@
 -- A word of a step is none of the head.
-use Rattle.std.proofs.Common.{◌≡◌, ℕ, Bool, true, false, cond, List, ◌∷◌, codes, option_map, Option, Some, None, refl}
+use Rattle.std.proofs.Common.{◌≡◌, ℕ, Bool, true, false, cond, List, ◌∷◌, codes, Option, Some, None, refl}
 use Rattle.std.proofs.Common.{sym, ap, ◌∙◌}
 use Rattle.std.proofs.lemmas.Slice.Eq.{bytes_eq-Decides}
 use Rattle.std.specs.Str.{bytes_eq}
-use Rattle.iommufd_script.specs.Grammar.{head_keyword, step_keyword, step_at}
+use Rattle.iommufd_script.specs.Grammar.{head_keyword, step_keyword}
 use Rattle.iommufd_script.specs.Lines.{head_or_step, step_line, worded}
 use Rattle.iommufd_script.specs.declared.keyword.HeadKeyword.{HeadKeyword}
 use Rattle.iommufd_script.specs.declared.keyword.HeadKeyword.TheVariants as head
 use Rattle.iommufd_script.specs.declared.keyword.StepKeyword.{StepKeyword}
-use Rattle.iommufd_script.specs.declared.line.Line.{Line}
-use Rattle.iommufd_script.specs.declared.line.Line.TheVariants as line
 
 -- a word that isn't this one leaves the others
 passed : (same : Bool) (x : HeadKeyword) (others : Option HeadKeyword) (o : Option StepKeyword) (k : StepKeyword)

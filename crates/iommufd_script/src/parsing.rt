@@ -244,7 +244,7 @@ fn heading_line<'a>(word: &[u8], fields: Fields<'a>) -> Option<Line<'a>>
 }
 
 // What a line says by its first word and the fields behind it.
-#[tactic(auto, using(crate::proofs::Words::step_is_worded))]
+#[tactic(auto)]
 fn worded_line(text: &[u8]) -> Option<Line<'_>>
     ensures { result ≡ worded (fields text.now) }
 {
@@ -257,7 +257,7 @@ fn worded_line(text: &[u8]) -> Option<Line<'_>>
 
 /// What a line says, given without its line feed; None where it isn't of the grammar. It takes no
 /// memory, and takes time by the line's length alone.
-#[tactic(auto, using(crate::proofs::Ascii::line_is_worded), unfolding(crate::specs::Lines::line_of))]
+#[tactic(auto, unfolding(crate::specs::Lines::line_of))]
 pub fn parse_line(text: &[u8]) -> Option<Line<'_>>
     ensures { result ≡ line_of text.now }
 {

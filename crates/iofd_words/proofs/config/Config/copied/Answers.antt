@@ -25,8 +25,8 @@ invariant_of-result g c = let own = c.self.inside in
       devices = own.devices.items;
       passes = own.passes;
     } c.in_ok-copied.field-0.items c.in_ok-copied-2.field-0.items
-    c.in_ok-copied_devices.field-0.items (c.in_ok-copied.ensures ∙ c.deref.ensures.value)
-    (c.in_ok-copied-2.ensures ∙ c.deref-2.ensures.value)
+    c.in_ok-copied_devices.field-0.items (c.in_ok-copied.ensures.ok ∙ c.deref.ensures.value)
+    (c.in_ok-copied-2.ensures.ok ∙ c.deref-2.ensures.value)
     (c.in_ok-copied_devices.ensures ∙ c.deref-3.ensures.value)) ∙ c.self.invariant
 
 pub returns : goal.returns
@@ -38,6 +38,6 @@ returns g c = let own = c.self.inside in
       devices = own.devices.items;
       passes = own.passes;
     } c.in_ok-copied.field-0.items c.in_ok-copied-2.field-0.items
-    c.in_ok-copied_devices.field-0.items (c.in_ok-copied.ensures ∙ c.deref.ensures.value)
-    (c.in_ok-copied-2.ensures ∙ c.deref-2.ensures.value)
+    c.in_ok-copied_devices.field-0.items (c.in_ok-copied.ensures.ok ∙ c.deref.ensures.value)
+    (c.in_ok-copied-2.ensures.ok ∙ c.deref-2.ensures.value)
     (c.in_ok-copied_devices.ensures ∙ c.deref-3.ensures.value) ∙ c.self.view_is
