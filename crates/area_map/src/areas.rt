@@ -1,6 +1,7 @@
 //! The map of areas.
 
-ghost use Rattle.std.specs.Prelude.{◌≡◌, ◌==◌, ◌↔◌, ◌+◌, ◌<◌, ◌≤◌, [], find, length, map, nat_le, is_ok, IsOk, IfOk};
+ghost use Rattle.std.specs.Prelude.{◌≡◌, ◌==◌, ◌↔◌, ◌+◌, ◌<◌, ◌≤◌, [], find, length};
+ghost use Rattle.std.specs.Prelude.{map, nat_le, is_ok, IsOk, IfOk};
 ghost use Rattle.std.specs.Prelude.{MatchOption, IfErr, IfSome, IfNone, OnOk, OnErr, IsOkUnless};
 ghost use Rattle.std.specs.Option.{option_copied};
 ghost use Rattle.area_rows.specs.Areas.{AreKept, with_area, area_of, is_covered, IsCovered, HasGap, marked};

@@ -2,7 +2,8 @@
 //! gap between two of them passes, so that a search passes over a block as it does over a row. A bound that is wider
 //! than the widest gap makes a search look into the block, and no more.
 
-ghost use Rattle.std.specs.Prelude.{◌≡◌, ◌+◌, ◌*◌, ◌/◌, ◌%◌, ◌<◌, ◌≤◌, ◌^◌, ◌++◌, ◌∷◌, [], IsTrue, List, OnErr, OnOk};
+ghost use Rattle.std.specs.Prelude.{◌≡◌, ◌+◌, ◌*◌, ◌/◌, ◌%◌, ◌<◌, ◌≤◌, ◌^◌};
+ghost use Rattle.std.specs.Prelude.{◌++◌, ◌∷◌, [], IsTrue, List, OnErr, OnOk};
 ghost use Rattle.std.specs.Prelude.{length, max, min};
 ghost use Rattle.area_rows.specs.Rows.{in_rows, AreRows, end_of, first_of, widest_behind, widest_of};
 ghost use Rattle.area_map.specs.Blocks.{AreBlocks, AreBlocksBut, IsBlockOf, IsSameBut, block_of};

@@ -1,6 +1,7 @@
 //! Adding an area.
 
-ghost use Rattle.std.specs.Prelude.{◌≡◌, ◌+◌, ◌-◌, ◌*◌, ◌<◌, ◌≤◌, [], ◌∷◌, true, false, IsSome, None, OnOk, OnErr};
+ghost use Rattle.std.specs.Prelude.{◌≡◌, ◌+◌, ◌-◌, ◌*◌, ◌<◌, ◌≤◌, [], ◌∷◌, true};
+ghost use Rattle.std.specs.Prelude.{false, IsSome, None, OnOk, OnErr};
 ghost use Rattle.std.specs.Prelude.{drop, get_or, length, min, nat_le, nat_lt, set, take, vec_len, vec_capacity};
 ghost use Rattle.std.specs.List.{prefix_len};
 ghost use Rattle.area_rows.specs.Areas.{AreApart, with_area};

@@ -1,6 +1,7 @@
 //! Rows of few areas become one, so that rows take little more memory than their areas.
 
-ghost use Rattle.std.specs.Prelude.{◌≡◌, ◌+◌, ◌-◌, ◌<◌, ◌≤◌, ◌++◌, [], IsTrue, false, get_or, length, set};
+ghost use Rattle.std.specs.Prelude.{◌≡◌, ◌+◌, ◌-◌, ◌<◌, ◌≤◌, ◌++◌, [], IsTrue, false};
+ghost use Rattle.std.specs.Prelude.{get_or, length, set};
 ghost use Rattle.std.specs.Prelude.{take, vec_len, vec_capacity};
 ghost use Rattle.area_rows.specs.Rows.{in_rows, AreRows};
 

@@ -1,6 +1,7 @@
 //! Taking areas away.
 
-ghost use Rattle.std.specs.Prelude.{◌≡◌, ◌==◌, ◌+◌, ◌≤◌, false, length, map, not, vec_len, vec_capacity};
+ghost use Rattle.std.specs.Prelude.{◌≡◌, ◌==◌, ◌+◌, ◌≤◌, false, length, map};
+ghost use Rattle.std.specs.Prelude.{not, vec_len, vec_capacity};
 ghost use Rattle.std.specs.List.{list_any, filter};
 ghost use Rattle.area_rows.specs.Areas.{AreKept, areas_outside};
 ghost use Rattle.area_rows.specs.Rows.{in_rows, AreRows};

@@ -1,6 +1,8 @@
 -- Lists of areas: which areas a span names, and what a step makes of them.
-use Rattle.std.specs.Prelude.{ℕ, ◌+◌, ◌^◌, ◌<◌, ◌≤◌, ◌≡◌, Bool, true, false, ◌==◌, ◌&&◌, not, nat_lt, nat_le, Option}
-use Rattle.std.specs.Prelude.{Some, None, List, [], ◌∷◌, length, filter, sum_by, fold, max, find, if◌then◌else◌}
+use Rattle.std.specs.Prelude.{ℕ, ◌+◌, ◌^◌, ◌<◌, ◌≤◌, ◌≡◌, Bool, true, false, ◌==◌}
+use Rattle.std.specs.Prelude.{◌&&◌, not, nat_lt, nat_le, Option}
+use Rattle.std.specs.Prelude.{Some, None, List, [], ◌∷◌, length, filter, sum_by, fold}
+use Rattle.std.specs.Prelude.{max, find, if◌then◌else◌}
 use Rattle.std.specs.List.{list_any}
 use Rattle.iofd_words.specs.Areas.{area_at, areas_meet, leaving, most_areas, paid}
 use Rattle.iofd_words.specs.Bounds.{Bounds}
@@ -48,7 +50,8 @@ area_of span areas = find (λ area. is_same area.span span) areas
 
 -- each number of the span lies in some area
 abbrev pub IsCovered : Bounds → List Area → Type 0
-IsCovered span areas = (n : ℕ) → span.first ≤ n → n ≤ span.last → list_any (λ area. holds area.span n) areas ≡ true
+IsCovered span areas =
+    (n : ℕ) → span.first ≤ n → n ≤ span.last → list_any (λ area. holds area.span n) areas ≡ true
 
 -- some number of the span lies in no area
 pub record HasGap (span : Bounds) (areas : List Area) : Type 0 where

@@ -1,6 +1,7 @@
 //! Look-ups in areas by rising start, by binary search for the row and then in it.
 
-ghost use Rattle.std.specs.Prelude.{◌≡◌, ◌+◌, ◌≤◌, drop, filter, find, min, nat_lt, nat_le, length, MatchBool, Some};
+ghost use Rattle.std.specs.Prelude.{◌≡◌, ◌+◌, ◌≤◌, drop, filter, find, min, nat_lt, nat_le, length};
+ghost use Rattle.std.specs.Prelude.{MatchBool, Some};
 ghost use Rattle.std.specs.List.{prefix_len};
 ghost use Rattle.std.specs.Option.{option_copied};
 ghost use Rattle.area_rows.specs.Areas.{AreApart, area_of, ends_after, runs_on, areas_within, is_covered, IsCovered};

@@ -102,7 +102,8 @@ pub(crate) fn given<A: Allocator>(
     cached: Option<FrameNo>,
 ) -> Result<FrameNo, FaultReason>
     requires { IsKnown state.now }
-    ensures { outcome_told result ≡ given_outcome cached (policy.access_outcomes (seen state.now) device address kind) }
+    ensures { outcome_told result
+        ≡ given_outcome cached (policy.access_outcomes (seen state.now) device address kind) }
 {
     if let Some(frame) = cached {
         return Ok(frame);

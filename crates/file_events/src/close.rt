@@ -1,6 +1,7 @@
 //! Close: a file goes, with all that it has.
 
-ghost use Rattle.std.specs.Prelude.{◌≡◌, ◌≤◌, ◌-◌, ℕ, not, ◌==◌, filter, length, Option, None, [], IfOk, OnErr, OnOk};
+ghost use Rattle.std.specs.Prelude.{◌≡◌, ◌≤◌, ◌-◌, ℕ, not, ◌==◌, filter, length, Option, None};
+ghost use Rattle.std.specs.Prelude.{[], IfOk, OnErr, OnOk};
 ghost use Rattle.std.specs.Prelude.{IsTrue, vec_capacity, vec_len};
 ghost use Rattle.std.specs.List.{list_any};
 ghost use Rattle.iofd_words.specs.Checks.{close_checks};

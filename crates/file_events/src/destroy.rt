@@ -118,7 +118,8 @@ pub(crate) fn remove<A: Allocator>(
     kind: Kind,
     id: ObjId,
 )
-    ensures rows { destroy_refusal table.old file kind id ≡ None → table.new.rows ≡ removed file id table.old.rows }
+    ensures rows { destroy_refusal table.old file kind id ≡ None →
+        table.new.rows ≡ removed file id table.old.rows }
     ensures files { table.new.files ≡ table.old.files }
 {
     match table.destroy(file, kind, id) {

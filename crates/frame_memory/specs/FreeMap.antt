@@ -1,5 +1,6 @@
 -- Which frames are free, as words of 64 bits each.
-use Rattle.std.specs.Prelude.{ℕ, ◌≡◌, ◌<◌, ◌/◌, ◌%◌, Bool, true, false, not, ◌==◌, List, length, slice_index}
+use Rattle.std.specs.Prelude.{ℕ, ◌≡◌, ◌<◌, ◌/◌, ◌%◌, Bool, true, false, not, ◌==◌, List}
+use Rattle.std.specs.Prelude.{length, slice_index}
 use Rattle.std.specs.Int.{bit_at}
 
 -- frame f has bit f % 64 of word f / 64

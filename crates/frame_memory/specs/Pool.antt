@@ -1,5 +1,6 @@
 -- What is seen of a pool of frames, and what each call makes of it.
-use Rattle.std.specs.Prelude.{ℕ, ◌≢◌, ◌≤◌, ◌⊎◌, ◌+◌, ◌*◌, ◌^◌, Bool, ◌==◌, ◌&&◌, nat_lt, Option, List, [], length}
+use Rattle.std.specs.Prelude.{ℕ, ◌≢◌, ◌≤◌, ◌⊎◌, ◌+◌, ◌*◌, ◌^◌, Bool, ◌==◌}
+use Rattle.std.specs.Prelude.{◌&&◌, nat_lt, Option, List, [], length}
 use Rattle.std.specs.Prelude.{replicate, slice_index, slice_index_or, slice_range, slice_set}
 use Rattle.std.specs.List.{count_by, list_all, position, splice}
 use Rattle.std.specs.Int.{w64, from_le_bytes, to_le_bytes}

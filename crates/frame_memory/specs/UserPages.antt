@@ -1,5 +1,6 @@
 -- The pages of the users' memory, and what each call makes of them.
-use Rattle.std.specs.Prelude.{ℕ, ◌≡◌, ◌+◌, Bool, true, ◌==◌, ◌&&◌, ◌||◌, not, Option, Some, None, is_some, is_none}
+use Rattle.std.specs.Prelude.{ℕ, ◌≡◌, ◌+◌, Bool, true, ◌==◌, ◌&&◌, ◌||◌, not, Option, Some}
+use Rattle.std.specs.Prelude.{None, is_some, is_none}
 use Rattle.std.specs.Prelude.{List, [], ◌∷◌, filter, length, nat_lt, if◌then◌else◌}
 use Rattle.std.specs.List.{count_by, insert, list_all, prefix_len}
 use Rattle.iofd_words.specs.FirstTrue.{first_true}

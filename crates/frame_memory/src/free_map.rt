@@ -1,6 +1,7 @@
 //! Which frames are free, as bits.
 
-ghost use Rattle.std.specs.Prelude.{◌≡◌, ◌≢◌, ◌<◌, ◌≤◌, ◌/◌, ◌%◌, ℕ, true, false, nat_lt, IfSome, IfNone, IsTrue};
+ghost use Rattle.std.specs.Prelude.{◌≡◌, ◌≢◌, ◌<◌, ◌≤◌, ◌/◌, ◌%◌, ℕ, true, false};
+ghost use Rattle.std.specs.Prelude.{nat_lt, IfSome, IfNone, IsTrue};
 ghost use Rattle.frame_memory.specs.FreeMap.{has_frame, IsLeast};
 
 use std::marker::Model;

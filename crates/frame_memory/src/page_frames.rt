@@ -1,6 +1,7 @@
 //! Users' pages by hash: the frame of each is found at once, and one more or one less moves at most one other.
 
-ghost use Rattle.std.specs.Prelude.{◌≡◌, ◌<◌, ◌≤◌, ◌+◌, [], None, length, IsSome, IsTrue, IfSome, OnOk, OnErr};
+ghost use Rattle.std.specs.Prelude.{◌≡◌, ◌<◌, ◌≤◌, ◌+◌, [], None, length, IsSome, IsTrue, IfSome};
+ghost use Rattle.std.specs.Prelude.{OnOk, OnErr};
 ghost use Rattle.iofd_words.specs.Frames.{frame_at};
 ghost use Rattle.frame_memory.specs.UserPages.{are_rising, user_page, with_page, without_page, HasOneMore};
 

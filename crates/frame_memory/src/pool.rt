@@ -1,6 +1,7 @@
 //! The pool of frames.
 
-ghost use Rattle.std.specs.Prelude.{ℕ, ◌≡◌, ◌≢◌, ◌⊎◌, ◌<◌, ◌≤◌, ◌+◌, ◌-◌, ◌^◌, nat_lt, false, length, slice_index};
+ghost use Rattle.std.specs.Prelude.{ℕ, ◌≡◌, ◌≢◌, ◌⊎◌, ◌<◌, ◌≤◌, ◌+◌, ◌-◌};
+ghost use Rattle.std.specs.Prelude.{◌^◌, nat_lt, false, length, slice_index};
 ghost use Rattle.std.specs.Prelude.{◌++◌, replicate, vec_capacity, is_some, IfOk, IfSome, IfNone, OnErr};
 ghost use Rattle.frame_memory.specs.Pool.{fresh, is_free, least_free, free_count, with_holds, given};
 ghost use Rattle.frame_memory.specs.Pool.{bytes_at, bytes_of, written, word_at, with_word, zeros, AreApart};
@@ -115,7 +116,8 @@ impl<A: Allocator> Pool<A> {
         ensures refused { IfNone (least_free self.old.holds) (result ≡ Err (record { cause = Cause.Frames })) }
         ensures ok { IfOk result (λ frame. self.new ≡ given self.old frame.0) }
         ensures zero { IfOk result (λ frame. (i : ℕ) → i < 512 → word_at self.new frame.0 i ≡ 0) }
-        ensures others { (f i : ℕ) → is_free self.old.holds f ≡ false → word_at self.new f i ≡ word_at self.old f i }
+        ensures others { (f i : ℕ) → is_free self.old.holds f ≡ false →
+            word_at self.new f i ≡ word_at self.old f i }
         ensures err { OnErr result (self.new ≡ self.old) }
     {
         let Some(frame) = self.free.first() else {
@@ -209,7 +211,8 @@ impl<A: Allocator> Pool<A> {
         requires within { index < 512 }
         ensures new { self.new ≡ with_word self.old frame.0 index value }
         ensures word { word_at self.new frame.0 index ≡ value }
-        ensures others { (f i : ℕ) → (f ≢ frame.0) ⊎ (i ≢ index) → word_at self.new f i ≡ word_at self.old f i }
+        ensures others { (f i : ℕ) → (f ≢ frame.0) ⊎ (i ≢ index) →
+            word_at self.new f i ≡ word_at self.old f i }
     {
         self.write(frame, 8 * index, &value.to_le_bytes());
     }

@@ -1,6 +1,7 @@
 //! The pages of the users' memory.
 
-ghost use Rattle.std.specs.Prelude.{◌≡◌, ◌<◌, ◌≤◌, ◌+◌, ◌-◌, [], length, slice_index, IfOk, IfSome, IfNone, OnOk};
+ghost use Rattle.std.specs.Prelude.{◌≡◌, ◌<◌, ◌≤◌, ◌+◌, ◌-◌, [], length, slice_index, IfOk};
+ghost use Rattle.std.specs.Prelude.{IfSome, IfNone, OnOk};
 ghost use Rattle.std.specs.Prelude.{OnErr, IsOkUnless};
 ghost use Rattle.iofd_words.specs.Frames.{frame_at};
 ghost use Rattle.iofd_words.specs.Pages.{page_of};

@@ -1,5 +1,6 @@
 -- The tables of page tables, told by the words of the pool alone.
-use Rattle.std.specs.Prelude.{ℕ, ◌-◌, ◌/◌, zero, suc, Bool, true, false, ◌==◌, ◌&&◌, nat_le, nat_lt, Some, None, List}
+use Rattle.std.specs.Prelude.{ℕ, ◌-◌, ◌/◌, zero, suc, Bool, true, false, ◌==◌, ◌&&◌, nat_le, nat_lt}
+use Rattle.std.specs.Prelude.{Some, None, List}
 use Rattle.std.specs.Prelude.{if◌then◌else◌}
 use Rattle.iofd_words.specs.Levels.{first_address, index_at, levels_of, number_at}
 use Rattle.iofd_words.specs.Pages.{page_of}
@@ -33,4 +34,5 @@ keeps pool table place =
 
 -- the file's page table of this id does
 abbrev pub has_kept : FramePool → List Hwpt → FileNo → ObjId → TablePlace → Bool
-has_kept pool tables file id place = elim (hwpt_of tables file id) [ Some h ↦ keeps pool h.table place | None ↦ false ]
+has_kept pool tables file id place =
+    elim (hwpt_of tables file id) [ Some h ↦ keeps pool h.table place | None ↦ false ]

@@ -1,5 +1,6 @@
 -- Page tables over an address space, in which spans of pages are mapped or cleared.
-use Rattle.std.specs.Prelude.{ℕ, ◌≡◌, ◌≤◌, ◌<◌, ◌⊎◌, ◌+◌, ◌*◌, ◌^◌, Bool, true, false, ◌==◌, ◌&&◌, Option, Some, None}
+use Rattle.std.specs.Prelude.{ℕ, ◌≡◌, ◌≤◌, ◌<◌, ◌⊎◌, ◌+◌, ◌*◌, ◌^◌, Bool, true}
+use Rattle.std.specs.Prelude.{false, ◌==◌, ◌&&◌, Option, Some, None}
 use Rattle.std.specs.Prelude.{List, [], ◌++◌, filter, length, map, slice_index_or, sum_by}
 use Rattle.std.specs.List.{flat_map}
 use Rattle.iofd_rows.proofs.Each.{IsIn}
@@ -41,11 +42,13 @@ HaveSpan file ioas span tables =
 -- where it did
 pub record LeadsCleared (file : FileNo) (ioas : ObjId) (first count : ℕ)
     (old new : Object → ℕ → Option MappedPage) : Type 0 where
-  pub inside : (object : Object) (page : ℕ) → is_over file ioas object ≡ true → first ≤ page → page < first + count →
+  pub inside : (object : Object) (page : ℕ) → is_over file ioas object ≡ true → first ≤ page →
+      page < first + count →
       new object page ≡ None
   pub outside : (object : Object) (page : ℕ) → is_over file ioas object ≡ true →
       (page < first) ⊎ (first + count ≤ page) → new object page ≡ old object page
-  pub others : (object : Object) (page : ℕ) → is_over file ioas object ≡ false → new object page ≡ old object page
+  pub others : (object : Object) (page : ℕ) → is_over file ioas object ≡ false →
+      new object page ≡ old object page
 
 -- through each page table of these objects the pages from the first on lead to these frames, in turn, with these
 -- rights; every other page leads where it did
@@ -53,7 +56,8 @@ pub record LeadsMapped (is_one : Object → Bool) (first : ℕ) (frames : List F
     (old new : Object → ℕ → Option MappedPage) : Type 0 where
   pub inside : (object : Object) (k : ℕ) (d : FrameNo) → is_one object ≡ true → k < length frames →
       new object (first + k) ≡ Some (record { page = first + k; frame = slice_index_or frames k d; rights = rights })
-  pub outside : (object : Object) (page : ℕ) → is_one object ≡ true → (page < first) ⊎ (first + length frames ≤ page) →
+  pub outside : (object : Object) (page : ℕ) → is_one object ≡ true →
+      (page < first) ⊎ (first + length frames ≤ page) →
       new object page ≡ old object page
   pub others : (object : Object) (page : ℕ) → is_one object ≡ false → new object page ≡ old object page
 

@@ -1,6 +1,7 @@
 -- What is seen of the page tables of all files, and when they stand in a pool: each with its rows of the world's table
 -- frames, and each of its pages leading where it is said to lead.
-use Rattle.std.specs.Prelude.{ℕ, ◌≡◌, ◌≤◌, ◌^◌, ◌==◌, ◌&&◌, nat_le, nat_lt, Bool, true, Option, Some, None, List, []}
+use Rattle.std.specs.Prelude.{ℕ, ◌≡◌, ◌≤◌, ◌^◌, ◌==◌, ◌&&◌, nat_le, nat_lt, Bool, true}
+use Rattle.std.specs.Prelude.{Option, Some, None, List, []}
 use Rattle.std.specs.Prelude.{◌∷◌, map, filter, find, slice_index, if◌then◌else◌}
 use Rattle.std.specs.List.{count_by, list_all}
 use Rattle.iofd_rows.proofs.Each.{IsIn}
@@ -45,7 +46,8 @@ hwpt_of tables file id = find (λ h. is_object file id h.object) tables
 -- one more, by rising file and then by rising id
 abbrev pub with_hwpt : Hwpt → List Hwpt → List Hwpt
 with_hwpt hwpt [] = hwpt ∷ []
-with_hwpt hwpt (h ∷ tables) = if comes_before hwpt.object h.object then hwpt ∷ h ∷ tables else h ∷ with_hwpt hwpt tables
+with_hwpt hwpt (h ∷ tables) =
+    if comes_before hwpt.object h.object then hwpt ∷ h ∷ tables else h ∷ with_hwpt hwpt tables
 
 -- they stand by rising file
 abbrev pub are_by_file : List Hwpt → Bool
@@ -94,7 +96,8 @@ pub record AllStand (pool : FramePool) (frames : List TableFrame) (leads : Objec
 
 -- each frame that has none of these tables keeps its bytes
 abbrev pub KeepsOthers : List TableFrame → FramePool → FramePool → Type 0
-KeepsOthers frames old new = (frame : ℕ) → tables_in frames frame ≡ 0 → bytes_of new frame ≡ bytes_of old frame
+KeepsOthers frames old new =
+    (frame : ℕ) → tables_in frames frame ≡ 0 → bytes_of new frame ≡ bytes_of old frame
 
 -- ---- where an address leads
 
@@ -118,7 +121,8 @@ pub record Stand (pool : FramePool) (tables : List Hwpt) : Type 0 where
   pub stand : AllStand pool frames leads tables
 
 -- in whatever way they stand, this holds
-abbrev pub IfAllStand : FramePool → List Hwpt → (List TableFrame → (Object → ℕ → Option MappedPage) → Type 0) → Type 0
+abbrev pub IfAllStand : FramePool → List Hwpt →
+    (List TableFrame → (Object → ℕ → Option MappedPage) → Type 0) → Type 0
 IfAllStand pool tables P =
     (frames : List TableFrame) (leads : Object → ℕ → Option MappedPage) →
     AllStand pool frames leads tables → P frames leads

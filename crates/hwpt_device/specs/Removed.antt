@@ -1,5 +1,6 @@
 -- Page tables that go, and the frames that they give back.
-use Rattle.std.specs.Prelude.{ℕ, ◌≤◌, ◌==◌, not, Option, Some, None, List, [], ◌∷◌, filter, length, if◌then◌else◌}
+use Rattle.std.specs.Prelude.{ℕ, ◌≤◌, ◌==◌, not, Option, Some, None, List, [], ◌∷◌}
+use Rattle.std.specs.Prelude.{filter, length, if◌then◌else◌}
 use Rattle.std.specs.List.{flat_map}
 use Rattle.iofd_words.specs.Objects.{is_object}
 use Rattle.iofd_words.specs.TablePlaces.{is_table_of}

@@ -7,4 +7,5 @@ use Rattle.hwpt_device.specs.PageTables.{tables_in}
 -- in both pools each frame in which a table is has the same bytes, and as many holds
 pub record SameFrames (frames : List TableFrame) (old new : FramePool) : Type 0 where
   pub bytes : (frame : ℕ) → 0 < tables_in frames frame → bytes_of new frame ≡ bytes_of old frame
-  pub holds : (frame : ℕ) → 0 < tables_in frames frame → slice_index new.holds frame ≡ slice_index old.holds frame
+  pub holds : (frame : ℕ) → 0 < tables_in frames frame →
+      slice_index new.holds frame ≡ slice_index old.holds frame

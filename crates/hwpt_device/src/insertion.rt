@@ -1,6 +1,7 @@
 //! Where a page table stands among others, by rising file and id.
 
-ghost use Rattle.std.specs.Prelude.{◌≡◌, ◌<◌, ◌≤◌, length, position, IfSome, IsTrue, vec_len, vec_capacity};
+ghost use Rattle.std.specs.Prelude.{◌≡◌, ◌<◌, ◌≤◌, length, position, IfSome};
+ghost use Rattle.std.specs.Prelude.{IsTrue, vec_len, vec_capacity};
 ghost use Rattle.std.specs.List.{insert, position_or_len};
 ghost use Rattle.iofd_words.specs.Objects as objects;
 ghost use Rattle.hwpt_device.specs.PageTables.{Hwpt, are_by_file, with_hwpt};

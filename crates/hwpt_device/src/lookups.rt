@@ -1,7 +1,8 @@
 //! Look-ups in the rows of page tables: where there are many, the file's are found by binary search, and only they are
 //! looked at.
 
-ghost use Rattle.std.specs.Prelude.{◌≡◌, ◌<◌, ◌≤◌, ◌==◌, ◌&&◌, IfSome, IsTrue, filter, find, length, nat_le, nat_lt};
+ghost use Rattle.std.specs.Prelude.{◌≡◌, ◌<◌, ◌≤◌, ◌==◌, ◌&&◌, IfSome, IsTrue, filter, find};
+ghost use Rattle.std.specs.Prelude.{length, nat_le, nat_lt};
 ghost use Rattle.std.specs.Prelude.{position};
 ghost use Rattle.std.specs.List.{list_any, prefix_len};
 ghost use Rattle.std.specs.Option.{option_copied};
@@ -46,7 +47,8 @@ pub(crate) fn of_file(tables: &[Hwpt], file: FileNo) -> &[Hwpt]
 /// Whether one of them is over the file's address space of this id.
 pub(crate) fn has_over(tables: &[Hwpt], file: FileNo, ioas: ObjId) -> bool
     requires { IsTrue (are_by_file tables.now) }
-    ensures { result ≡ list_any (λ h. h.object.file.0 == file.0 && objects.is_hwpt_over ioas h.object.kind) tables.now }
+    ensures { result
+        ≡ list_any (λ h. h.object.file.0 == file.0 && objects.is_hwpt_over ioas h.object.kind) tables.now }
 {
     if tables.len() <= FEW {
         any_over(tables, file, ioas)
@@ -58,14 +60,16 @@ pub(crate) fn has_over(tables: &[Hwpt], file: FileNo, ioas: ObjId) -> bool
 /// The same, by search.
 fn own_over(tables: &[Hwpt], file: FileNo, ioas: ObjId) -> bool
     requires { IsTrue (are_by_file tables.now) }
-    ensures { result ≡ list_any (λ h. h.object.file.0 == file.0 && objects.is_hwpt_over ioas h.object.kind) tables.now }
+    ensures { result
+        ≡ list_any (λ h. h.object.file.0 == file.0 && objects.is_hwpt_over ioas h.object.kind) tables.now }
 {
     any_over(of_file(tables, file), file, ioas)
 }
 
 /// The same, each of them looked at.
 fn any_over(tables: &[Hwpt], file: FileNo, ioas: ObjId) -> bool
-    ensures { result ≡ list_any (λ h. h.object.file.0 == file.0 && objects.is_hwpt_over ioas h.object.kind) tables.now }
+    ensures { result
+        ≡ list_any (λ h. h.object.file.0 == file.0 && objects.is_hwpt_over ioas h.object.kind) tables.now }
 {
     tables.iter().any(|hwpt| is_over(hwpt, file, ioas))
 }

@@ -1,6 +1,7 @@
 //! Spans of pages that are mapped and cleared in page tables.
 
-ghost use Rattle.std.specs.Prelude.{ℕ, ◌≡◌, ◌≤◌, ◌<◌, ◌+◌, ◌-◌, ◌*◌, ◌/◌, ◌^◌, ◌++◌, Option, IfSome, length};
+ghost use Rattle.std.specs.Prelude.{ℕ, ◌≡◌, ◌≤◌, ◌<◌, ◌+◌, ◌-◌, ◌*◌, ◌/◌, ◌^◌};
+ghost use Rattle.std.specs.Prelude.{◌++◌, Option, IfSome, length};
 ghost use Rattle.std.specs.Prelude.{vec_capacity, vec_len};
 ghost use Rattle.iofd_words.specs.Objects.{is_object};
 ghost use Rattle.iofd_words.specs.Pages.{page_of};
@@ -55,7 +56,8 @@ impl<A: Allocator> PageTables<A> {
         requires some_right { 0 < rights.0 }
         requires no_other { rights.0 < 4 }
         ensures same { self.new ≡ self.old }
-        ensures stand { IfAllStand pool.old self.old.tables (λ rows leads. (others : Object → ℕ → Option MappedPage) →
+        ensures stand { IfAllStand pool.old self.old.tables (λ rows leads.
+            (others : Object → ℕ → Option MappedPage) →
             LeadsMapped (is_over file ioas) (page_of span.first) frames.now rights leads others →
             AllStand pool.new (with_missing rows (tables_missing rows file ioas span self.old.tables) pool.old.holds)
             others self.old.tables) }
@@ -103,7 +105,8 @@ impl<A: Allocator> PageTables<A> {
         requires some_right { 0 < rights.0 }
         requires no_other { rights.0 < 4 }
         ensures same { self.new ≡ self.old }
-        ensures stand { IfAllStand pool.old self.old.tables (λ rows leads. (others : Object → ℕ → Option MappedPage) →
+        ensures stand { IfAllStand pool.old self.old.tables (λ rows leads.
+            (others : Object → ℕ → Option MappedPage) →
             LeadsMapped (is_object file id) (page_of span.first) frames.now rights leads others →
             AllStand pool.new
             (with_missing rows (missing_found rows span (hwpt_of self.old.tables file id)) pool.old.holds)
@@ -143,7 +146,8 @@ impl<A: Allocator> PageTables<A> {
         requires below { AreBelow file ioas (first_page + count) self.old.tables }
         ensures same { self.new ≡ self.old }
         ensures holds { pool.new.holds ≡ pool.old.holds }
-        ensures stand { IfAllStand pool.old self.old.tables (λ rows leads. (others : Object → ℕ → Option MappedPage) →
+        ensures stand { IfAllStand pool.old self.old.tables (λ rows leads.
+            (others : Object → ℕ → Option MappedPage) →
             LeadsCleared file ioas first_page count leads others → AllStand pool.new rows others self.old.tables) }
         ensures others { IfAllStand pool.old self.old.tables (λ rows leads. KeepsOthers rows pool.old pool.new) }
     {

@@ -1,6 +1,7 @@
 //! Spans of pages in each page table over an address space.
 
-ghost use Rattle.std.specs.Prelude.{ℕ, ◌≡◌, ◌≤◌, ◌<◌, ◌+◌, ◌-◌, ◌*◌, ◌/◌, ◌^◌, ◌++◌, Option, length, vec_capacity};
+ghost use Rattle.std.specs.Prelude.{ℕ, ◌≡◌, ◌≤◌, ◌<◌, ◌+◌, ◌-◌, ◌*◌, ◌/◌, ◌^◌};
+ghost use Rattle.std.specs.Prelude.{◌++◌, Option, length, vec_capacity};
 ghost use Rattle.std.specs.Prelude.{vec_len};
 ghost use Rattle.iofd_words.specs.Pages.{page_of};
 ghost use Rattle.iofd_words.specs.Span.{size_of};
@@ -54,7 +55,8 @@ pub(crate) fn needs<A: Allocator>(
     requires stand { Stand pool.now tables.now }
     requires span { HaveSpan file ioas span tables.now }
     requires few { length (hwpts_over file ioas tables.now) ≤ 65535 }
-    ensures { IfAllStand pool.now tables.now (λ frames leads. result ≡ tables_needed frames file ioas span tables.now) }
+    ensures { IfAllStand pool.now tables.now (λ frames leads.
+        result ≡ tables_needed frames file ioas span tables.now) }
 {
     let mut total = 0;
     for hwpt in tables {

@@ -1,6 +1,7 @@
 //! The hardware page tables of all files.
 
-ghost use Rattle.std.specs.Prelude.{ℕ, ◌≡◌, ◌<◌, ◌-◌, length, Option, None, List, [], ◌∷◌, ◌++◌, IfSome, IsSome, OnErr};
+ghost use Rattle.std.specs.Prelude.{ℕ, ◌≡◌, ◌<◌, ◌-◌, length, Option, None, List, [], ◌∷◌};
+ghost use Rattle.std.specs.Prelude.{◌++◌, IfSome, IsSome, OnErr};
 ghost use Rattle.std.specs.Prelude.{OnOk};
 ghost use Rattle.std.specs.Prelude.{vec_capacity, vec_len};
 ghost use Rattle.iofd_words.specs.Objects as objects;

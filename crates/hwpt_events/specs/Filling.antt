@@ -1,5 +1,6 @@
 -- A page table that comes with what its address space maps: which tables it takes, and where its pages lead then.
-use Rattle.std.specs.Prelude.{ℕ, ◌≡◌, ◌≤◌, ◌<◌, ◌+◌, ◌*◌, true, false, ◌==◌, ◌&&◌, Option, Some, None, is_some}
+use Rattle.std.specs.Prelude.{ℕ, ◌≡◌, ◌≤◌, ◌<◌, ◌+◌, ◌*◌, true, false, ◌==◌, ◌&&◌}
+use Rattle.std.specs.Prelude.{Option, Some, None, is_some}
 use Rattle.std.specs.Prelude.{List, [], ◌++◌, find, length, map, if◌then◌else◌}
 use Rattle.area_rows.specs.Areas.{AreApart}
 use Rattle.frame_memory.specs.Pool.{FramePool, free_count}
@@ -69,7 +70,8 @@ pub record IsMappable (m : Memory) (width : Width) (area : Area) : Type 0 where
 
 -- each live area can
 abbrev pub AreMappable : Memory → Width → List Area → Type 0
-AreMappable m width areas = (area : Area) → IsIn areas area → is_live area.phase ≡ true → IsMappable m width area
+AreMappable m width areas =
+    (area : Area) → IsIn areas area → is_live area.phase ≡ true → IsMappable m width area
 
 -- they can in the file's page table of this id, for whose tables there are free frames, and room
 pub record CanFill (pool : FramePool) (tables : List Hwpt) (m : Memory) (file : FileNo) (id : ObjId) (areas : List Area)
@@ -117,13 +119,15 @@ abbrev pub Fills : FileNo → ObjId → Memory → List Area → List Hwpt → F
     → List FrameNo → List FrameNo → Type 0
 Fills file id m areas tables before after old new =
     (h : Hwpt) → hwpt_of tables file id ≡ Some h →
-    (frames : List TableFrame) (leads : Object → ℕ → Option MappedPage) → AllStand before frames leads tables →
+    (frames : List TableFrame) (leads : Object → ℕ → Option MappedPage) →
+    AllStand before frames leads tables →
     IsFilled h.object h.table.width m areas tables before after old new frames leads
 
 -- and in a new one of this object and width, whose root is in the first of the frames, where no row was its
 abbrev pub Adds : Object → Width → Memory → List Area → List Hwpt → List Hwpt → FramePool → FramePool
     → List FrameNo → List FrameNo → Type 0
 Adds object width m areas tables more before after old new =
-    (frames : List TableFrame) (leads : Object → ℕ → Option MappedPage) → AllStand before frames leads tables →
+    (frames : List TableFrame) (leads : Object → ℕ → Option MappedPage) →
+    AllStand before frames leads tables →
     rows_of frames object ≡ [] → ((page : ℕ) → leads object page ≡ None) →
     IsFilled object width m areas more before after old new frames leads

@@ -81,7 +81,8 @@ module _ {A : Type 0} where
 
   -- one of this width came under an unused id. Its tables are in the least free frames, one for each that is missing in
   -- the world with it, and that world is shown with them
-  abbrev pub IsMade : ℕ → FileNo → ObjId → Width → Bool → State A → ObjId → List FrameNo → State A → Type 0
+  abbrev pub IsMade : ℕ → FileNo → ObjId → Width → Bool → State A → ObjId → List FrameNo →
+      State A → Type 0
   IsMade at file ioas width automatic old id taken new =
       (w : World) → IsTidy at w → Shows w old → IsRoomy (view w) file ioas width
       → IsTrue (is_fresh w.objects file id)

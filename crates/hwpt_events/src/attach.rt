@@ -70,7 +70,8 @@ fn refusal_by_table<A: Allocator>(
     width: Width,
 ) -> Option<Cause>
     requires { IsKnown state.now }
-    ensures { (pt_id : ObjId) (automatic : Bool) → result ≡ first_true (target_checks (seen state.now) device pt_id file
+    ensures { (pt_id : ObjId) (automatic : Bool) →
+        result ≡ first_true (target_checks (seen state.now) device pt_id file
         (Some (ObjectKind.Hwpt ioas width automatic))) }
 {
     if has_other_width(&state.config, device, width) {

@@ -1,6 +1,7 @@
 //! The list of attachments, by rising device.
 
-ghost use Rattle.std.specs.Prelude.{◌≡◌, ◌<◌, ◌≤◌, nat_lt, length, position, IfSome, vec_len, vec_capacity};
+ghost use Rattle.std.specs.Prelude.{◌≡◌, ◌<◌, ◌≤◌, nat_lt, length, position};
+ghost use Rattle.std.specs.Prelude.{IfSome, vec_len, vec_capacity};
 ghost use Rattle.std.specs.List.{insert};
 ghost use Rattle.iofd_words.specs.Attachments as attachments;
 ghost use Rattle.iofd_words.specs.declared.rows.Attachment.{Attachment};

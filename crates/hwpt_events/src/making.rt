@@ -1,6 +1,7 @@
 //! A page table that comes: what it asks of its file and of the pages that it pins, and how it is made.
 
-ghost use Rattle.std.specs.Prelude.{◌≡◌, ◌<◌, ◌≤◌, ◌+◌, ℕ, false, [], length, IfOk, IsSome, OnErr, OnOk, nat_lt};
+ghost use Rattle.std.specs.Prelude.{◌≡◌, ◌<◌, ◌≤◌, ◌+◌, ℕ, false, [], length, IfOk, IsSome};
+ghost use Rattle.std.specs.Prelude.{OnErr, OnOk, nat_lt};
 ghost use Rattle.std.specs.Prelude.{vec_capacity, vec_len};
 ghost use Rattle.iofd_words.specs.Checks.{lacks_attached_page, passes_limit_attached};
 ghost use Rattle.iofd_words.specs.TablePlaces.{lacking, live_pages, places_of};
@@ -125,7 +126,8 @@ fn reserve<A: Allocator + Copy>(
     ensures rows { state.new.objects.rows ≡ state.old.objects.rows }
     ensures files { state.new.objects.files ≡ state.old.objects.files }
     ensures tables { state.new.page_tables.tables ≡ state.old.page_tables.tables }
-    ensures others { state.new ≡ record state.old { objects = state.new.objects; page_tables = state.new.page_tables } }
+    ensures others { state.new
+        ≡ record state.old { objects = state.new.objects; page_tables = state.new.page_tables } }
     ensures numbers { taken.new.items ≡ taken.old.items }
     ensures table_room { OnOk result (0 < state.new.page_tables.room) }
     ensures frame_room { OnOk result (vec_len taken.old + length (lacking (λ place. false) (places_of width

@@ -1,8 +1,10 @@
 -- How a structure of the interface lies in memory. Every structure begins with `__u32 size`, the number of its
 -- bytes as the caller knows it. Its other fields follow at once, little-endian, in their order: the offset of a
 -- field is the sum of the widths before it, and is written nowhere.
-use Rattle.std.specs.Prelude.{◌≡◌, ℕ, ◌+◌, ◌-◌, ◌*◌, ◌^◌, ◌<◌, ◌≤◌, Bool, true, false, ◌&&◌, ◌==◌, IsTrue, List, []}
-use Rattle.std.specs.Prelude.{◌∷◌, ◌++◌, take, drop, replicate, slice_index, Option, unwrap_or, if◌then◌else◌}
+use Rattle.std.specs.Prelude.{◌≡◌, ℕ, ◌+◌, ◌-◌, ◌*◌, ◌^◌, ◌<◌, ◌≤◌, Bool, true}
+use Rattle.std.specs.Prelude.{false, ◌&&◌, ◌==◌, IsTrue, List, []}
+use Rattle.std.specs.Prelude.{◌∷◌, ◌++◌, take, drop, replicate, slice_index}
+use Rattle.std.specs.Prelude.{Option, unwrap_or, if◌then◌else◌}
 use Rattle.std.specs.Int.{Width, w32, w64, byte_len, from_le_bytes, to_le_bytes}
 use Rattle.std.specs.Int.RustNames.{bit_and}
 

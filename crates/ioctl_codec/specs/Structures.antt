@@ -1,5 +1,6 @@
 -- The structures served, as `include/uapi/linux/iommufd.h` of Linux 6.6 has them.
-use Rattle.std.specs.Prelude.{ℕ, ◌==◌, ◌^◌, Bool, true, false, ◌&&◌, ◌||◌, nat_lt, List, [], ◌∷◌, length, find, Option}
+use Rattle.std.specs.Prelude.{ℕ, ◌==◌, ◌^◌, Bool, true, false, ◌&&◌, ◌||◌, nat_lt, List, []}
+use Rattle.std.specs.Prelude.{◌∷◌, length, find, Option}
 use Rattle.std.specs.Int.RustNames.{bit_and}
 use Rattle.iofd_words.specs.Bounds.{Bounds}
 use Rattle.iofd_words.specs.Rights.{is_fixed}
@@ -23,7 +24,8 @@ ioas_alloc = record { number = 0x3B81; fields = u32 Reserved ∷ u32 Output ∷ 
 
 -- ioas_id, num_iovas, reserved, allowed_iovas (the caller's address of the entries, which here follow the structure)
 abbrev pub ioas_allow_iovas : Structure
-ioas_allow_iovas = record { number = 0x3B82; fields = u32 Argument ∷ u32 Count ∷ u32 Reserved ∷ u64 Ignored ∷ [] }
+ioas_allow_iovas =
+    record { number = 0x3B82; fields = u32 Argument ∷ u32 Count ∷ u32 Reserved ∷ u64 Ignored ∷ [] }
 
 -- the address at which is mapped: the caller's where the flags fix it, and else one that the server chooses
 abbrev pub iova_role : Bool → Role
@@ -41,7 +43,10 @@ ioas_copy fixed = record {
 -- ioas_id, num_iovas (for how many ranges the caller has places), reserved, allowed_iovas, out_iova_alignment
 abbrev pub ioas_iova_ranges : Structure
 ioas_iova_ranges =
-    record { number = 0x3B84; fields = u32 Argument ∷ u32 Argument ∷ u32 Reserved ∷ u64 Ignored ∷ u64 Output ∷ [] }
+    record {
+      number = 0x3B84;
+      fields = u32 Argument ∷ u32 Argument ∷ u32 Reserved ∷ u64 Ignored ∷ u64 Output ∷ [];
+    }
 
 -- flags, ioas_id, reserved, user_va, length, iova, for flags that fix the address or leave it open
 abbrev pub ioas_map : Bool → Structure
@@ -58,7 +63,10 @@ ioas_unmap = record { number = 0x3B86; fields = u32 Argument ∷ u64 Argument �
 -- flags (none is known), dev_id, pt_id (an address space), out_hwpt_id, reserved
 abbrev pub hwpt_alloc : Structure
 hwpt_alloc =
-    record { number = 0x3B89; fields = u32 Reserved ∷ u32 Argument ∷ u32 Argument ∷ u32 Output ∷ u32 Reserved ∷ [] }
+    record {
+      number = 0x3B89;
+      fields = u32 Reserved ∷ u32 Argument ∷ u32 Argument ∷ u32 Output ∷ u32 Reserved ∷ [];
+    }
 
 abbrev pub structures : List Structure
 structures = destroy ∷ ioas_alloc ∷ ioas_allow_iovas ∷ ioas_copy true ∷ ioas_iova_ranges ∷ ioas_map true

@@ -1,6 +1,7 @@
 //! Commands, and why bytes are none.
 
-ghost use Rattle.std.specs.Prelude.{◌≡◌, ◌==◌, ◌&&◌, ◌||◌, if◌then◌else◌, nat_lt, ◌^◌, length, is_some, IfSome};
+ghost use Rattle.std.specs.Prelude.{◌≡◌, ◌==◌, ◌&&◌, ◌||◌, if◌then◌else◌, nat_lt, ◌^◌};
+ghost use Rattle.std.specs.Prelude.{length, is_some, IfSome};
 ghost use Rattle.std.specs.Int.RustNames.{bit_and};
 ghost use Rattle.iofd_words.specs.Rights.{is_fixed};
 

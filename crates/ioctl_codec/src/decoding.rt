@@ -1,7 +1,8 @@
 //! From bytes to commands.
 #![tactic(auto, unfolding(crate::specs::Refusals::read_numbers))]
 
-ghost use Rattle.std.specs.Prelude.{◌≡◌, ◌≢◌, ◌*◌, ◌<◌, ◌≤◌, ℕ, [], ◌∷◌, false, length, IfOk};
+ghost use Rattle.std.specs.Prelude.{◌≡◌, ◌≢◌, ◌*◌, ◌<◌, ◌≤◌, ℕ, [], ◌∷◌, false};
+ghost use Rattle.std.specs.Prelude.{length, IfOk};
 ghost use Rattle.iofd_words.specs.Rights.{is_fixed};
 ghost use Rattle.ioctl_codec.specs.Entries.{entries_at};
 ghost use Rattle.ioctl_codec.specs.Layout.{carried, length_of};

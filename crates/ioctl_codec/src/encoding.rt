@@ -1,6 +1,7 @@
 //! From commands, and replies to them, to bytes.
 
-ghost use Rattle.std.specs.Prelude.{◌≡◌, ◌^◌, ◌<◌, ◌≤◌, ◌++◌, length, drop, None, IsTrue, IfOk, OnOk, OnErr};
+ghost use Rattle.std.specs.Prelude.{◌≡◌, ◌^◌, ◌<◌, ◌≤◌, ◌++◌, length, drop, None, IsTrue};
+ghost use Rattle.std.specs.Prelude.{IfOk, OnOk, OnErr};
 ghost use Rattle.iofd_words.specs.Rights.{is_fixed};
 ghost use Rattle.ioctl_codec.specs.Entries.{AreAddresses, entries_bytes};
 ghost use Rattle.ioctl_codec.specs.Layout.{AreOfWidth, filled, structure_bytes};
@@ -147,7 +148,8 @@ pub fn encode<A: Allocator, B: Allocator>(
     requires { IsTrue (is_spellable command.now) }
     ensures canonical { IfOk result (λ spelling. spelling.items ≡ canonical command.now) }
     // Decoding what was written gives the command back.
-    ensures round_trip { IfOk result (λ spelling. Spells (structure_of command.now).number spelling.items command.now) }
+    ensures round_trip { IfOk result (λ spelling.
+        Spells (structure_of command.now).number spelling.items command.now) }
 {
     let mut buffer = [0; 64];
     let count = put_command(&mut buffer, command, None);

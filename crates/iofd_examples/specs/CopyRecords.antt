@@ -14,8 +14,16 @@ abbrev pub refusals : Refusals
 refusals =
     (copy_in 1 7 5 1 0x2000 0x20000 0x1000, [])
     -- file 4 isn't there
-    ∷ (copy_in 4 7 5 1 0x2000 0x20000 0x1000, cause.Id ∷ cause.Id ∷ cause.Id ∷ cause.Span ∷ cause.Rights ∷ [])
-    ∷ (copy_in 4 1 5 1 0x2000 0x20000 0x1000, cause.Id ∷ cause.NoRight ∷ cause.Id ∷ cause.Id ∷ cause.Span ∷ [])
+    ∷ (
+      copy_in 4 7 5 1 0x2000 0x20000 0x1000,
+      cause.Id ∷ cause.Id ∷ cause.Id ∷ cause.Span
+          ∷ cause.Rights ∷ [],
+    )
+    ∷ (
+      copy_in 4 1 5 1 0x2000 0x20000 0x1000,
+      cause.Id ∷ cause.NoRight ∷ cause.Id ∷ cause.Id
+          ∷ cause.Span ∷ [],
+    )
     -- fixed alone; to read, to write
     ∷ (copy_in 1 1 5 1 0x2000 0x20000 0x1000, cause.NoRight ∷ [])
     ∷ (copy_in 1 5 5 1 0x2000 0x20000 0x1000, [])

@@ -101,7 +101,8 @@ detaching = moving (detach 3) reply.Done [] (5 ∷ 6 ∷ 7 ∷ 8 ∷ []) ∷ []
 abbrev without_third : Phase → Phase → World
 without_third first second =
     record (with_phases first second) {
-      objects = ioas_row 1 1 ∷ device_row 1 2 1 ∷ device_row 1 3 2 ∷ device_row 1 4 3 ∷ hwpt_row 1 5 1 Bits39 true ∷ [];
+      objects = ioas_row 1 1 ∷ device_row 1 2 1 ∷ device_row 1 3 2 ∷ device_row 1 4 3
+          ∷ hwpt_row 1 5 1 Bits39 true ∷ [];
       attachments = attachment_row 1 1 5 ∷ attachment_row 2 1 5 ∷ [];
       table_frames = table_row 1 5 3 0 2 ∷ table_row 1 5 2 0 3 ∷ table_row 1 5 1 0 4 ∷ [];
     }
@@ -170,7 +171,8 @@ looks_in_joined =
     ∷ []
 
 abbrev pub writes_in_joined : Writes
-writes_in_joined = (2, 0x3000, passed 1 ∷ []) ∷ (3, 0x3fff, passed 1 ∷ []) ∷ (3, 0x2000, denied_write 0x18 2 ∷ []) ∷ []
+writes_in_joined =
+    (2, 0x3000, passed 1 ∷ []) ∷ (3, 0x3fff, passed 1 ∷ []) ∷ (3, 0x2000, denied_write 0x18 2 ∷ []) ∷ []
 
 -- the third device isn't attached
 abbrev pub looks_in_leaving : Questions

@@ -69,4 +69,5 @@ copies_at_limit =
     ∷ []
 
 abbrev pub areas_below_limit : Refusals
-areas_below_limit = (map_in 1 7 1 0x10000 0x1000 0x4000, []) ∷ (copy_in 1 7 1 5 0x1000 0x4000 0x80_0000_0000, []) ∷ []
+areas_below_limit =
+    (map_in 1 7 1 0x10000 0x1000 0x4000, []) ∷ (copy_in 1 7 1 5 0x1000 0x4000 0x80_0000_0000, []) ∷ []

@@ -66,7 +66,8 @@ AreErrnos rows = map (λ row. errno_number row.0) rows ≡ map (λ row. row.1) r
 -- VT-d's numbers of fault reasons
 abbrev pub reasons : List (FaultReason × ℕ)
 reasons =
-    (NoContext, 2) ∷ (BeyondWidth, 4) ∷ (WriteDenied, 5) ∷ (ReadDenied, 6) ∷ (denied_by Write, 5) ∷ (denied_by Read, 6)
+    (NoContext, 2) ∷ (BeyondWidth, 4) ∷ (WriteDenied, 5) ∷ (ReadDenied, 6) ∷ (denied_by Write, 5)
+    ∷ (denied_by Read, 6)
     ∷ []
 
 abbrev pub AreReasons : List (FaultReason × ℕ) → Type 0

@@ -77,8 +77,9 @@ pages_and_objects =
 
 abbrev objects_of_1 : List Object
 objects_of_1 =
-    ioas_row 1 1 ∷ device_row 1 2 1 ∷ device_row 1 3 2 ∷ device_row 1 4 3 ∷ ioas_row 1 5 ∷ ioas_row 1 6 ∷ ioas_row 1 7
-    ∷ ioas_row 1 8 ∷ ioas_row 1 9 ∷ ioas_row 1 10 ∷ ioas_row 1 11 ∷ ioas_row 1 12 ∷ ioas_row 1 13 ∷ ioas_row 1 14
+    ioas_row 1 1 ∷ device_row 1 2 1 ∷ device_row 1 3 2 ∷ device_row 1 4 3 ∷ ioas_row 1 5 ∷ ioas_row 1 6
+    ∷ ioas_row 1 7 ∷ ioas_row 1 8 ∷ ioas_row 1 9 ∷ ioas_row 1 10 ∷ ioas_row 1 11 ∷ ioas_row 1 12
+    ∷ ioas_row 1 13 ∷ ioas_row 1 14
     ∷ []
 
 abbrev pub with_objects : World
@@ -149,7 +150,8 @@ ready =
       objects =
           objects_of_1
           ++ ioas_row 2 1 ∷ device_row 2 2 5 ∷ device_row 2 3 6 ∷ hwpt_row 2 4 1 Bits39 false ∷ device_row 2 5 7
-          ∷ device_row 2 6 8 ∷ device_row 2 7 9 ∷ ioas_row 2 8 ∷ device_row 2 9 10 ∷ hwpt_row 2 10 8 Bits39 true
+          ∷ device_row 2 6 8 ∷ device_row 2 7 9 ∷ ioas_row 2 8 ∷ device_row 2 9 10
+          ∷ hwpt_row 2 10 8 Bits39 true
           ∷ [];
       memory =
           memory_row 18 1 0x10000 1 true ∷ memory_row 19 1 0x10000 1 true ∷ memory_row 20 1 0x10000 1 true
@@ -165,7 +167,8 @@ ready =
           ∷ [];
       pins = pin_row 33 0 3 ∷ [];
       attachments = attachment_row 5 2 4 ∷ attachment_row 10 2 10 ∷ [];
-      table_frames = table_row 2 4 3 0 4 ∷ table_row 2 4 2 0 5 ∷ table_row 2 4 1 0 6 ∷ table_row 2 10 3 0 7 ∷ [];
+      table_frames =
+          table_row 2 4 3 0 4 ∷ table_row 2 4 2 0 5 ∷ table_row 2 4 1 0 6 ∷ table_row 2 10 3 0 7 ∷ [];
     }
 
 -- a first page table over an address space pins the pages of its areas
@@ -178,8 +181,9 @@ allocated =
       objects =
           objects_of_1
           ++ hwpt_row 1 15 1 Bits39 false
-          ∷ ioas_row 2 1 ∷ device_row 2 2 5 ∷ device_row 2 3 6 ∷ hwpt_row 2 4 1 Bits39 false ∷ device_row 2 5 7
-          ∷ device_row 2 6 8 ∷ device_row 2 7 9 ∷ ioas_row 2 8 ∷ device_row 2 9 10 ∷ hwpt_row 2 10 8 Bits39 true
+          ∷ ioas_row 2 1 ∷ device_row 2 2 5 ∷ device_row 2 3 6 ∷ hwpt_row 2 4 1 Bits39 false
+          ∷ device_row 2 5 7 ∷ device_row 2 6 8 ∷ device_row 2 7 9 ∷ ioas_row 2 8 ∷ device_row 2 9 10
+          ∷ hwpt_row 2 10 8 Bits39 true
           ∷ [];
       pins = pin_row 33 0 3 ∷ pin_row 18 0 0 ∷ [];
       table_frames =
@@ -203,8 +207,9 @@ with_pinned =
       objects =
           objects_of_1
           ++ hwpt_row 1 15 9 Bits39 false
-          ∷ ioas_row 2 1 ∷ device_row 2 2 5 ∷ device_row 2 3 6 ∷ hwpt_row 2 4 1 Bits39 false ∷ device_row 2 5 7
-          ∷ device_row 2 6 8 ∷ device_row 2 7 9 ∷ ioas_row 2 8 ∷ device_row 2 9 10 ∷ hwpt_row 2 10 8 Bits39 true
+          ∷ ioas_row 2 1 ∷ device_row 2 2 5 ∷ device_row 2 3 6 ∷ hwpt_row 2 4 1 Bits39 false
+          ∷ device_row 2 5 7 ∷ device_row 2 6 8 ∷ device_row 2 7 9 ∷ ioas_row 2 8 ∷ device_row 2 9 10
+          ∷ hwpt_row 2 10 8 Bits39 true
           ∷ [];
       areas =
           area_row 1 1 0x1000 0x1fff 18 3 Live ∷ area_row 1 9 0x1000 0x2fff 25 3 Live

@@ -159,4 +159,5 @@ in_unbound = (device_read 1 0x1000 1, refused_look cause.Id) ∷ (held 1, count 
 
 abbrev pub in_parted : Questions
 in_parted =
-    (user_read 2 0x40000 1, bytes (0 ∷ [])) ∷ (FreeFrames, count 11) ∷ (held 1, count 0) ∷ (held 2, count 0) ∷ []
+    (user_read 2 0x40000 1, bytes (0 ∷ [])) ∷ (FreeFrames, count 11) ∷ (held 1, count 0)
+    ∷ (held 2, count 0) ∷ []

@@ -29,7 +29,12 @@ settings =
       files = record { 0 = 1 } ∷ record { 0 = 2 } ∷ record { 0 = 1 } ∷ [];
       devices =
           record { source = record { 0 = 0x10 }; width = Bits39; x86 = true; reserved = [] }
-          ∷ record { source = record { 0 = 0x100 }; width = Bits48; x86 = false; reserved = from_to 0x8000 0x8fff ∷ [] }
+          ∷ record {
+            source = record { 0 = 0x100 };
+            width = Bits48;
+            x86 = false;
+            reserved = from_to 0x8000 0x8fff ∷ [];
+          }
           ∷ [];
       passes = 1;
     }
@@ -162,7 +167,8 @@ abbrev pub shared : World
 shared =
     record renewed {
       objects =
-          ioas_row 1 1 ∷ device_row 1 2 1 ∷ hwpt_row 1 3 1 Bits39 true ∷ hwpt_row 1 4 1 Bits39 false ∷ ioas_row 1 5
+          ioas_row 1 1 ∷ device_row 1 2 1 ∷ hwpt_row 1 3 1 Bits39 true ∷ hwpt_row 1 4 1 Bits39 false
+          ∷ ioas_row 1 5
           ∷ ioas_row 2 1 ∷ device_row 2 2 2 ∷ hwpt_row 2 3 1 Bits48 true
           ∷ ioas_row 3 1
           ∷ [];
@@ -258,7 +264,8 @@ ended =
           ∷ area_row 1 5 0xd000 0xefff 26 1 Live ∷ area_row 1 5 0x10000 0x11fff 27 1 Live
           ∷ [];
       user_pages =
-          page_row 1 0x11 1 ∷ page_row 2 0x10 2 ∷ page_row 2 0x20 3 ∷ page_row 1 0x10 11 ∷ page_row 2 0x30 0 ∷ [];
+          page_row 1 0x11 1 ∷ page_row 2 0x10 2 ∷ page_row 2 0x20 3 ∷ page_row 1 0x10 11
+          ∷ page_row 2 0x30 0 ∷ [];
       pins = pin_row 11 0 2 ∷ [];
       attachments = attachment_row 1 1 4 ∷ attachment_row 2 2 3 ∷ [];
       table_frames =
@@ -327,9 +334,11 @@ destroying = moving (destroy 1 4) reply.Done [] (12 ∷ 13 ∷ 14 ∷ []) ∷ []
 abbrev pub destroyed : World
 destroyed =
     record unbound {
-      objects = ioas_row 1 1 ∷ ioas_row 2 1 ∷ device_row 2 2 2 ∷ hwpt_row 2 3 1 Bits48 true ∷ ioas_row 3 1 ∷ [];
+      objects = ioas_row 1 1 ∷ ioas_row 2 1 ∷ device_row 2 2 2 ∷ hwpt_row 2 3 1 Bits48 true
+          ∷ ioas_row 3 1 ∷ [];
       pins = pin_row 11 0 2 ∷ [];
-      table_frames = table_row 2 3 4 0 7 ∷ table_row 2 3 3 0 8 ∷ table_row 2 3 2 0 9 ∷ table_row 2 3 1 0 10 ∷ [];
+      table_frames =
+          table_row 2 3 4 0 7 ∷ table_row 2 3 3 0 8 ∷ table_row 2 3 2 0 9 ∷ table_row 2 3 1 0 10 ∷ [];
     }
 
 abbrev pub parting : List (Record Global)

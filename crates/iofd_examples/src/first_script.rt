@@ -26,7 +26,8 @@ pub fn owed_flush_leaves_both_answers()
 /// What the device is answered in that script, by the worlds that its records leave.
 pub fn worked_script_reads()
     ensures bytes { answers_to script.settings script.beginning (script.read 0x1ffe 2) ≡ script.bytes_read ∷ [] }
-    ensures crossing { answers_to script.settings script.beginning (script.read 0x1fff 2) ≡ script.refused_read ∷ [] }
+    ensures crossing { answers_to script.settings script.beginning (script.read 0x1fff 2)
+        ≡ script.refused_read ∷ [] }
     ensures beyond { answers_to script.settings script.beginning (script.read 0x80_0000_0000 1) ≡ script.beyond_width
         ∷ [] }
     // no attachment comes before the width

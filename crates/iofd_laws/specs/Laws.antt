@@ -1,5 +1,6 @@
 -- What is true of every run, in the subject's words.
-use Rattle.std.specs.Prelude.{◌≡◌, ◌≢◌, ◌<◌, ◌≤◌, ℕ, Contains, IsTrue, Bool, true, false, nat_le, nat_lt, ◌||◌, ◌==◌}
+use Rattle.std.specs.Prelude.{◌≡◌, ◌≢◌, ◌<◌, ◌≤◌, ℕ, Contains, IsTrue, Bool, true, false}
+use Rattle.std.specs.Prelude.{nat_le, nat_lt, ◌||◌, ◌==◌}
 use Rattle.std.specs.Prelude.{◌&&◌, not, Option, Some, None, List, [], ◌∷◌, filter, find}
 use Rattle.std.specs.List.{list_all, list_any}
 use Rattle.iofd_words.specs.Allowed.{AllowedRanges}
@@ -62,12 +63,14 @@ WasFree w frame = (frame.0 < w.settings.pool) × (is_reached w.user_pages w.pins
 -- no frame is that of a later table too
 abbrev pub tables_differ : List TableFrame → Bool
 tables_differ [] = true
-tables_differ (table ∷ tables) = not (list_any (λ other. other.frame.0 == table.frame.0) tables) && tables_differ tables
+tables_differ (table ∷ tables) =
+    not (list_any (λ other. other.frame.0 == table.frame.0) tables) && tables_differ tables
 
 -- the table's frame is neither a user's page nor a pin's
 abbrev pub is_alone : List UserPage → List Pin → TableFrame → Bool
 is_alone pages pins table =
-    not (list_any (λ p. p.frame.0 == table.frame.0) pages) && not (list_any (λ pin. pin.frame.0 == table.frame.0) pins)
+    not (list_any (λ p. p.frame.0 == table.frame.0) pages)
+    && not (list_any (λ pin. pin.frame.0 == table.frame.0) pins)
 
 pub record TablesAlone (w : World) : Type 0 where
   -- each table's frame is one of the pool
@@ -84,7 +87,8 @@ pub record TablesServe (w : World) : Type 0 where
   -- and on each level below it the table through which an address of a live area of its address space goes
   pub below : (file : FileNo) (id ioas : ObjId) (width : Width) (automatic : Bool) (area : Area) (address level : ℕ)
       → kind_of w.objects file id ≡ Some (kind.Hwpt ioas width automatic)
-      → Contains w.areas area → IsTrue (is_of file ioas area && is_live area.phase) → IsTrue (holds area.span address)
+      → Contains w.areas area → IsTrue (is_of file ioas area && is_live area.phase) →
+      IsTrue (holds area.span address)
       → 1 ≤ level → level < levels_of width
       → IsTrue (has_table w.table_frames file id (record {
         level = level;

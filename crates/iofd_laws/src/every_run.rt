@@ -1,6 +1,7 @@
 //! What is true of every run, each the contract of a function that does nothing.
 
-ghost use Rattle.std.specs.Prelude.{◌≡◌, ◌≢◌, ◌≤◌, ℕ, false, Some, None, List, [], ◌∷◌, ◌++◌, length, Contains, IsTrue};
+ghost use Rattle.std.specs.Prelude.{◌≡◌, ◌≢◌, ◌≤◌, ℕ, false, Some, None, List, [], ◌∷◌};
+ghost use Rattle.std.specs.Prelude.{◌++◌, length, Contains, IsTrue};
 ghost use Rattle.iofd_rows.specs.Debts.{DebtsAttached};
 ghost use Rattle.iofd_runs.specs.Apart.{are_apart};
 ghost use Rattle.iofd_runs.specs.Fits.{RowsFit};
@@ -62,7 +63,8 @@ pub fn user_pages_have_own_frames<A: Allocator>()
 pub fn only_free_frames_are_given_out<A: Allocator>()
     ensures to_users { (settings : Settings) (before : List (Record A)) (r : Record A) (later : List (Record A))
         (frame : FrameNo) →
-        IsRun settings (before ++ r ∷ later) → r.reply ≡ reply.Frame frame → WasFree (world_of settings before) frame }
+        IsRun settings (before ++ r ∷ later) → r.reply ≡ reply.Frame frame →
+        WasFree (world_of settings before) frame }
     ensures for_tables { (settings : Settings) (before : List (Record A)) (r : Record A) (later : List (Record A))
         (frame : FrameNo) →
         IsRun settings (before ++ r ∷ later) → Contains r.taken frame → WasFree (world_of settings before) frame }
@@ -175,16 +177,19 @@ pub fn areas_are_usable<A: Allocator>()
 
 /// In every run, no user has more pinned pages than its limit allows.
 pub fn limits_are_kept<A: Allocator>()
-    ensures { (settings : Settings) (records : List (Record A)) (user : UserNo) (limit : ℕ) → IsRun settings records →
+    ensures { (settings : Settings) (records : List (Record A)) (user : UserNo) (limit : ℕ) →
+        IsRun settings records →
         limit_of settings user ≡ Some limit → held_in (world_of settings records) user ≤ limit }
 {}
 
 /// A record changes no object, area or attachment of a file that its event isn't of, and doesn't close it: not by a
 /// command of another file, nor by an event of a device that is bound to another file.
 pub fn files_are_apart<A: Allocator>()
-    ensures { (settings : Settings) (before : List (Record A)) (r : Record A) (other : FileNo) → IsRun settings before →
+    ensures { (settings : Settings) (before : List (Record A)) (r : Record A) (other : FileNo) →
+        IsRun settings before →
         IsOfAnother (world_of settings before) r.event other →
-        rows_of other (after (length before) (world_of settings before) r) ≡ rows_of other (world_of settings before) }
+        rows_of other (after (length before) (world_of settings before) r)
+        ≡ rows_of other (world_of settings before) }
 {}
 
 /// In every run, a record changes no memory object under an area of a file that its event isn't of, and no pin of its

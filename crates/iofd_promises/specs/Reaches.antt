@@ -1,6 +1,7 @@
 -- How a device reaches a frame: by its attachment to a page table of its file, an area over the address, and the pin
 -- of the page there.
-use Rattle.std.specs.Prelude.{◌≡◌, ◌≢◌, ◌<◌, ◌≤◌, ℕ, ◌+◌, ◌-◌, ◌/◌, ◌==◌, ◌||◌, Bool, true, Some, Contains, slice_get}
+use Rattle.std.specs.Prelude.{◌≡◌, ◌≢◌, ◌<◌, ◌≤◌, ℕ, ◌+◌, ◌-◌, ◌/◌, ◌==◌}
+use Rattle.std.specs.Prelude.{◌||◌, Bool, true, Some, Contains, slice_get}
 use Rattle.iofd_words.specs.Settings.{DeviceSettings}
 use Rattle.iofd_words.specs.World.{World}
 use Rattle.iofd_words.specs.declared.fault.AccessKind.{AccessKind}

@@ -15,6 +15,8 @@ end_of Bits48 = 2 ^ 48
 -- interrupts
 pub record Avoids (area : Area) (device : DeviceSettings) : Type 0 where
   pub reserved : (span : Bounds) (address : ℕ) → Contains device.reserved span
-      → area.span.first ≤ address → address ≤ area.span.last → span.first ≤ address → address ≤ span.last → ⊥
+      → area.span.first ≤ address → address ≤ area.span.last → span.first ≤ address →
+      address ≤ span.last → ⊥
   pub interrupts : (address : ℕ) → device.x86 ≡ true
-      → area.span.first ≤ address → address ≤ area.span.last → 0xfee0_0000 ≤ address → address ≤ 0xfeef_ffff → ⊥
+      → area.span.first ≤ address → address ≤ area.span.last → 0xfee0_0000 ≤ address →
+      address ≤ 0xfeef_ffff → ⊥

@@ -1,5 +1,6 @@
 -- What an UNMAP takes away, what it waits for, and what a flush pays.
-use Rattle.std.specs.Prelude.{◌≡◌, ◌≢◌, ◌≤◌, ◌↔◌, ℕ, ◌+◌, ◌-◌, ◌^◌, ◌==◌, ◌&&◌, nat_le, Bool, true, false, List, []}
+use Rattle.std.specs.Prelude.{◌≡◌, ◌≢◌, ◌≤◌, ◌↔◌, ℕ, ◌+◌, ◌-◌, ◌^◌, ◌==◌}
+use Rattle.std.specs.Prelude.{◌&&◌, nat_le, Bool, true, false, List, []}
 use Rattle.std.specs.Prelude.{◌∷◌, Contains, if◌then◌else◌}
 use Rattle.iofd_words.specs.World.{World}
 use Rattle.iofd_words.specs.declared.event.UnmapRequest.{UnmapRequest}
@@ -54,7 +55,8 @@ pub record TakesAway (old new : World) (file : FileNo) (request : UnmapRequest) 
       → Owes old area device area.phase → ⊥
   pub count_is : count ≡ bytes_named file request old.areas
   pub gone : (area : Area) → Contains new.areas area → is_named file request area ≡ false
-  pub others : (area : Area) → is_named file request area ≡ false → Contains old.areas area ↔ Contains new.areas area
+  pub others : (area : Area) → is_named file request area ≡ false →
+      Contains old.areas area ↔ Contains new.areas area
 
 -- it leaves now, and those owe it a flush that owed it one
 abbrev pub LeavesBy : World → Area → Phase → Phase → Type 0

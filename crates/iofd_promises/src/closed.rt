@@ -32,7 +32,8 @@ pub fn closed_files_stay_closed<A: Allocator>()
 /// nothing.
 pub fn commands_of_gone_files_are_refused<A: Allocator>()
     ensures { (settings : Settings) (before : List (Record A)) (r : Record A) (file : FileNo) →
-        IsRun settings (before ++ r ∷ []) → file_named r.event ≡ Some file → IsGone (world_of settings before) file →
+        IsRun settings (before ++ r ∷ []) → file_named r.event ≡ Some file →
+        IsGone (world_of settings before) file →
         (r.reply ≡ reply.Refused (record { cause = cause.Id }))
         × (world_of settings (before ++ r ∷ []) ≡ world_of settings before) }
 {}

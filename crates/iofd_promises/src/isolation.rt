@@ -1,6 +1,7 @@
 //! Whose memory is reached, each the contract of a function that does nothing.
 
-ghost use Rattle.std.specs.Prelude.{◌≡◌, ◌+◌, ◌⊎◌, ℕ, Bool, Some, List, [], ◌∷◌, ◌++◌, Contains, slice_get};
+ghost use Rattle.std.specs.Prelude.{◌≡◌, ◌+◌, ◌⊎◌, ℕ, Bool, Some, List, [], ◌∷◌, ◌++◌};
+ghost use Rattle.std.specs.Prelude.{Contains, slice_get};
 ghost use Rattle.iofd_promises.specs.Owners.{HasPlace, IsNobodys, IsUsersPage};
 ghost use Rattle.iofd_words.specs.Run.{IsRun, world_of};
 ghost use Rattle.iofd_words.specs.Settings.{DeviceSettings, Settings};
@@ -30,11 +31,13 @@ pub fn new_pins_are_their_users_pages<A: Allocator>()
 /// No record takes a frame twice.
 pub fn given_frames_were_nobodys<A: Allocator>()
     ensures to_users { (settings : Settings) (before : List (Record A)) (r : Record A) (frame : FrameNo) →
-        IsRun settings (before ++ r ∷ []) → r.reply ≡ reply.Frame frame → IsNobodys (world_of settings before) frame }
+        IsRun settings (before ++ r ∷ []) → r.reply ≡ reply.Frame frame →
+        IsNobodys (world_of settings before) frame }
     ensures for_tables { (settings : Settings) (before : List (Record A)) (r : Record A) (frame : FrameNo) →
         IsRun settings (before ++ r ∷ []) → Contains r.taken frame → IsNobodys (world_of settings before) frame }
     ensures once { (settings : Settings) (before : List (Record A)) (r : Record A) (frame : FrameNo) (i j : ℕ) →
-        IsRun settings (before ++ r ∷ []) → slice_get r.taken i ≡ Some frame → slice_get r.taken j ≡ Some frame →
+        IsRun settings (before ++ r ∷ []) → slice_get r.taken i ≡ Some frame →
+        slice_get r.taken j ≡ Some frame →
         i ≡ j }
 {}
 
@@ -46,7 +49,8 @@ pub fn user_pages_have_a_row_each<A: Allocator>()
         page.user.0 ≡ other.user.0 → page.page ≡ other.page → i ≡ j }
     ensures frames { (settings : Settings) (records : List (Record A)) (i j : ℕ) (page other : UserPage) →
         IsRun settings records → slice_get (world_of settings records).user_pages i ≡ Some page →
-        slice_get (world_of settings records).user_pages j ≡ Some other → page.frame.0 ≡ other.frame.0 → i ≡ j }
+        slice_get (world_of settings records).user_pages j ≡ Some other →
+        page.frame.0 ≡ other.frame.0 → i ≡ j }
 {}
 
 /// In every run, a device translates by a page table of its own width, as the settings have it. Devices are numbered

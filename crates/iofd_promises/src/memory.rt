@@ -1,6 +1,7 @@
 //! What stands in memory, each the contract of a function that does nothing.
 
-ghost use Rattle.std.specs.Prelude.{◌≡◌, ◌≢◌, ◌/◌, ◌%◌, ℕ, false, List, [], ◌∷◌, ◌++◌, Contains};
+ghost use Rattle.std.specs.Prelude.{◌≡◌, ◌≢◌, ◌/◌, ◌%◌, ℕ, false, List, [], ◌∷◌};
+ghost use Rattle.std.specs.Prelude.{◌++◌, Contains};
 ghost use Rattle.iofd_promises.specs.Bytes.{AreBytesOf, ChangesJust, changes_bytes, reads};
 ghost use Rattle.iofd_words.specs.Look.{answers_to};
 ghost use Rattle.iofd_words.specs.Run.{IsRun, world_of};

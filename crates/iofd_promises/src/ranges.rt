@@ -1,6 +1,7 @@
 //! Where areas may lie while devices are attached, each the contract of a function that does nothing.
 
-ghost use Rattle.std.specs.Prelude.{◌≡◌, ◌<◌, ◌+◌, ℕ, Bool, true, Some, None, List, [], ◌∷◌, ◌++◌, Contains, slice_get};
+ghost use Rattle.std.specs.Prelude.{◌≡◌, ◌<◌, ◌+◌, ℕ, Bool, true, Some, None, List, [], ◌∷◌};
+ghost use Rattle.std.specs.Prelude.{◌++◌, Contains, slice_get};
 ghost use Rattle.iofd_promises.specs.Reaches.{TranslatesBy};
 ghost use Rattle.iofd_promises.specs.Reserved.{Avoids, end_of};
 ghost use Rattle.iofd_words.specs.Checks.{refusal};
@@ -29,7 +30,8 @@ pub fn areas_lie_below_their_tables_width<A: Allocator>()
     ensures { (settings : Settings) (records : List (Record A)) (area : Area) (table : Object) (width : Width)
         (automatic : Bool) → IsRun settings records →
         Contains (world_of settings records).areas area → Contains (world_of settings records).objects table →
-        table.file ≡ area.file → table.kind ≡ kind.Hwpt area.ioas width automatic → area.span.last < end_of width }
+        table.file ≡ area.file → table.kind ≡ kind.Hwpt area.ioas width automatic →
+        area.span.last < end_of width }
 {}
 
 /// In every run, an area has no address that a device which translates by its address space keeps for itself. Devices

@@ -20,7 +20,8 @@ use std::alloc::Allocator;
 pub fn bytes_are_answered_where_nobody_owes<A: Allocator>()
     ensures { (settings : Settings) (before : List (Record A)) (r : Record A) (file : FileNo) (request : UnmapRequest)
         (count : ℕ) →
-        IsRun settings (before ++ r ∷ []) → r.event ≡ event.Unmap file request → r.reply ≡ reply.Bytes count →
+        IsRun settings (before ++ r ∷ []) → r.event ≡ event.Unmap file request →
+        r.reply ≡ reply.Bytes count →
         TakesAway (world_of settings before) (world_of settings (before ++ r ∷ [])) file request count }
 {}
 
@@ -30,12 +31,14 @@ pub fn an_unmap_waits_for_who_owes<A: Allocator>()
     ensures waits { (settings : Settings) (before : List (Record A)) (r : Record A) (file : FileNo)
         (request : UnmapRequest)
         (errno : Errno) →
-        IsRun settings (before ++ r ∷ []) → r.event ≡ event.Unmap file request → r.reply ≡ reply.Pending errno →
+        IsRun settings (before ++ r ∷ []) → r.event ≡ event.Unmap file request →
+        r.reply ≡ reply.Pending errno →
         (errno ≡ EAGAIN) × Waits (world_of settings before) (world_of settings (before ++ r ∷ [])) file request }
     ensures others { (settings : Settings) (before : List (Record A)) (r : Record A) (file : FileNo)
         (request : UnmapRequest)
         (errno : Errno) →
-        IsRun settings (before ++ r ∷ []) → r.event ≡ event.Unmap file request → r.reply ≡ reply.Pending errno →
+        IsRun settings (before ++ r ∷ []) → r.event ≡ event.Unmap file request →
+        r.reply ≡ reply.Pending errno →
         SameOthers (world_of settings before) (world_of settings (before ++ r ∷ [])) }
 {}
 

@@ -1,5 +1,6 @@
 -- Who owes an area a flush is attached to that area's address space.
-use Rattle.std.specs.Prelude.{◌≡◌, ℕ, Bool, true, false, ◌==◌, ◌&&◌, not, Some, None, List, [], ◌∷◌}
+use Rattle.std.specs.Prelude.{◌≡◌, ℕ, Bool, true, false, ◌==◌, ◌&&◌, not, Some, None}
+use Rattle.std.specs.Prelude.{List, [], ◌∷◌}
 use Rattle.std.specs.List.{list_any, list_all}
 use Rattle.iofd_words.specs.Attachments.{attachment_of, ioas_of, ioas_of_attachment, is_attached_to}
 use Rattle.iofd_words.specs.Objects.{has_ioas}
@@ -26,7 +27,8 @@ is_attached objects attachments file ioas device =
 
 -- the attachment is by a page table over an address space, both of the attachment's file
 abbrev pub is_by_table : List Object → Attachment → Bool
-is_by_table objects a = elim (ioas_of_attachment objects a) [ Some ioas ↦ has_ioas objects a.file ioas | None ↦ false ]
+is_by_table objects a =
+    elim (ioas_of_attachment objects a) [ Some ioas ↦ has_ioas objects a.file ioas | None ↦ false ]
 
 -- the object is over an address space of its file, if it is a page table
 abbrev pub is_over_space : List Object → Object → Bool

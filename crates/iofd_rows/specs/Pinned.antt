@@ -1,5 +1,6 @@
 -- Every page that is to be pinned has one pin, and no other page has any; each area has a memory object of its size.
-use Rattle.std.specs.Prelude.{◌≡◌, ℕ, ◌*◌, Bool, true, ◌==◌, ◌&&◌, ◌||◌, not, nat_lt, is_some, List, [], ◌∷◌, map}
+use Rattle.std.specs.Prelude.{◌≡◌, ℕ, ◌*◌, Bool, true, ◌==◌, ◌&&◌, ◌||◌, not, nat_lt, is_some}
+use Rattle.std.specs.Prelude.{List, [], ◌∷◌, map}
 use Rattle.std.specs.List.{list_any, list_all}
 use Rattle.iofd_words.specs.Pins.{ObjectPage, is_page, page_of_pin, pinned_pages, pinned_frame}
 use Rattle.iofd_words.specs.Span.{size_of}

@@ -1,5 +1,6 @@
 -- The world after an event that nothing refused, by the answer that the record has.
-use Rattle.std.specs.Prelude.{ℕ, ◌/◌, Bool, true, false, ◌==◌, ◌&&◌, not, Option, Some, None, List, [], ◌∷◌, ◌++◌}
+use Rattle.std.specs.Prelude.{ℕ, ◌/◌, Bool, true, false, ◌==◌, ◌&&◌, not, Option, Some, None, List, []}
+use Rattle.std.specs.Prelude.{◌∷◌, ◌++◌}
 use Rattle.std.specs.Prelude.{filter}
 use Rattle.std.specs.List.{list_any}
 use Rattle.iofd_words.specs.Allowed.{with_allowed, without_allowed}
@@ -142,7 +143,8 @@ joined w device id bound =
     }
 
 -- a device is attached to what its file has under the id: an address space, or a page table
-abbrev pub target_changes : World → DeviceNo → ObjId → ObjId → Object → DeviceSettings → Option ObjectKind → World
+abbrev pub target_changes : World → DeviceNo → ObjId → ObjId → Object → DeviceSettings →
+    Option ObjectKind → World
 target_changes w device pt_id id bound settings (Some kind.Ioas) = settle w (attached w device pt_id id bound settings)
 target_changes w device pt_id id bound settings (Some (kind.Hwpt ioas width automatic)) = joined w device id bound
 target_changes w device pt_id id bound settings (Some (kind.Device other)) = w

@@ -1,5 +1,6 @@
 -- The ranges to which the addresses that the server chooses are bounded (uapi header, IOMMU_IOAS_ALLOW_IOVAS).
-use Rattle.std.specs.Prelude.{Bool, true, ◌==◌, ◌&&◌, not, nat_lt, Some, None, List, [], ◌∷◌, filter, find}
+use Rattle.std.specs.Prelude.{Bool, true, ◌==◌, ◌&&◌, not, nat_lt, Some, None, List, []}
+use Rattle.std.specs.Prelude.{◌∷◌, filter, find}
 use Rattle.iofd_words.specs.Bounds.{Bounds}
 use Rattle.iofd_words.specs.Ranges.{meets_some}
 use Rattle.iofd_words.specs.declared.event.Event.{Event}
@@ -27,7 +28,8 @@ without_allowed file ioas rows = filter (λ ranges. not (is_allowed_in file ioas
 
 -- an address space allows these now, in place of those before
 abbrev pub with_allowed : FileNo → ObjId → List Bounds → List AllowedRanges → List AllowedRanges
-with_allowed file ioas spans rows = record { file = file; ioas = ioas; spans = spans } ∷ without_allowed file ioas rows
+with_allowed file ioas spans rows =
+    record { file = file; ioas = ioas; spans = spans } ∷ without_allowed file ioas rows
 
 -- each range begins below its last address, and no two have an address in common
 abbrev pub are_ranges : List Bounds → Bool

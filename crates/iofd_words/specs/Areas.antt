@@ -1,5 +1,6 @@
 -- The areas of address spaces: live, or leaving until the devices that may have cached them have flushed.
-use Rattle.std.specs.Prelude.{ℕ, Bool, ◌==◌, ◌&&◌, not, nat_le, nat_lt, Option, List, [], ◌∷◌, length, map, filter}
+use Rattle.std.specs.Prelude.{ℕ, Bool, ◌==◌, ◌&&◌, not, nat_le, nat_lt, Option, List, [], ◌∷◌, length}
+use Rattle.std.specs.Prelude.{map, filter}
 use Rattle.std.specs.Prelude.{find, sum_by, if◌then◌else◌}
 use Rattle.std.specs.List.{list_any}
 use Rattle.iofd_words.specs.Bounds.{Bounds}

@@ -1,5 +1,6 @@
 -- Devices that translate by a hardware page table.
-use Rattle.std.specs.Prelude.{ℕ, Bool, false, ◌==◌, ◌&&◌, not, nat_lt, Option, Some, None, List, [], ◌∷◌, map, filter}
+use Rattle.std.specs.Prelude.{ℕ, Bool, false, ◌==◌, ◌&&◌, not, nat_lt, Option, Some, None, List, []}
+use Rattle.std.specs.Prelude.{◌∷◌, map, filter}
 use Rattle.std.specs.Prelude.{find, if◌then◌else◌}
 use Rattle.std.specs.List.{list_any}
 use Rattle.iofd_words.specs.declared.numbers.FileNo.{FileNo}
@@ -34,13 +35,15 @@ is_attached_to objects file ioas a =
 
 -- the devices attached to it, by rising number
 abbrev pub devices_of : List Object → List Attachment → FileNo → ObjId → List ℕ
-devices_of objects attachments file ioas = map (λ a. a.device.0) (filter (is_attached_to objects file ioas) attachments)
+devices_of objects attachments file ioas =
+    map (λ a. a.device.0) (filter (is_attached_to objects file ioas) attachments)
 
 -- one more attachment, by rising device
 abbrev pub with_attachment : Attachment → List Attachment → List Attachment
 with_attachment attachment [] = attachment ∷ []
 with_attachment attachment (a ∷ others) =
-    if nat_lt attachment.device.0 a.device.0 then attachment ∷ a ∷ others else a ∷ with_attachment attachment others
+    if nat_lt attachment.device.0 a.device.0 then attachment ∷ a ∷ others
+    else a ∷ with_attachment attachment others
 
 abbrev pub without_attachment : DeviceNo → List Attachment → List Attachment
 without_attachment device attachments = filter (λ a. not (a.device.0 == device.0)) attachments

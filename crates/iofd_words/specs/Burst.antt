@@ -19,5 +19,6 @@ pub record IsBurst (fields : Inside) : Type 0 where
 -- the fields are those of the bytes that they show
 pub fields_of-bytes_of : (fields : Inside) → IsBurst fields → fields_of (bytes_of fields) ≡ fields
 fields_of-bytes_of fields h =
-    let shown : length (take fields.len fields.bytes) ≡ fields.len = simp length-take (omega (arith, h.room, h.few)) in
+    let shown : length (take fields.len fields.bytes) ≡ fields.len =
+    simp length-take (omega (arith, h.room, h.few)) in
     rw (shown, ← h.zeros, take-append-drop) refl

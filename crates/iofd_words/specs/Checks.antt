@@ -1,7 +1,9 @@
 -- The refusals of each event, in their order, by what they read of a world: the first test that is true gives the
 -- cause. A closed or unknown file comes before all.
-use Rattle.std.specs.Prelude.{ℕ, ◌+◌, ◌/◌, ◌^◌, Bool, true, false, ◌==◌, ◌&&◌, ◌||◌, not, nat_le, nat_lt, Option, Some}
-use Rattle.std.specs.Prelude.{None, is_some, is_none, List, [], ◌∷◌, ◌++◌, filter, length, map, sum_by, if◌then◌else◌}
+use Rattle.std.specs.Prelude.{ℕ, ◌+◌, ◌/◌, ◌^◌, Bool, true, false, ◌==◌, ◌&&◌, ◌||◌, not}
+use Rattle.std.specs.Prelude.{nat_le, nat_lt, Option, Some}
+use Rattle.std.specs.Prelude.{None, is_some, is_none, List, [], ◌∷◌, ◌++◌, filter, length}
+use Rattle.std.specs.Prelude.{map, sum_by, if◌then◌else◌}
 use Rattle.std.specs.List.{list_any, list_all, range_with_len}
 use Rattle.iofd_words.specs.Allowed.{are_ranges}
 use Rattle.iofd_words.specs.Areas.{areas_meet, has_no_room, is_cut, is_everything, unmapped_span}
@@ -173,7 +175,8 @@ tables_to_map v file ioas span =
 -- where a MAP's area comes to lie: at the fixed address, or at the least that may be chosen
 abbrev pub least : List ℕ → Option ℕ
 least [] = None
-least (n ∷ numbers) = elim (least numbers) [ Some other ↦ Some (if nat_lt other n then other else n) | None ↦ Some n ]
+least (n ∷ numbers) =
+    elim (least numbers) [ Some other ↦ Some (if nat_lt other n then other else n) | None ↦ Some n ]
 
 abbrev pub mapped_start : View → FileNo → MapRequest → Option ℕ
 mapped_start v file request =
@@ -193,7 +196,8 @@ lacks_mapped_frames v file request =
 abbrev pub lacks_new_tables : View → FileNo → ObjId → Option DeviceSettings → Bool
 lacks_new_tables v file ioas None = false
 lacks_new_tables v file ioas (Some device) =
-    nat_lt v.free_count (length (lacking (λ place. false) (places_of device.width (live_pages (v.areas_of file ioas)))))
+    nat_lt v.free_count
+    (length (lacking (λ place. false) (places_of device.width (live_pages (v.areas_of file ioas)))))
 
 -- or than the page table has that an attachment would make
 abbrev pub lacks_attached_frames : View → FileNo → ObjId → Option DeviceSettings → Bool

@@ -1,5 +1,6 @@
 -- A set of devices, which contracts see as its members by rising number, and which is kept as 256 bits.
-use Rattle.std.specs.Prelude.{ℕ, ◌-◌, ◌/◌, ◌%◌, Bool, ◌==◌, nat_lt, not, List, [], ◌∷◌, filter, slice_index}
+use Rattle.std.specs.Prelude.{ℕ, ◌-◌, ◌/◌, ◌%◌, Bool, ◌==◌, nat_lt, not, List, [], ◌∷◌}
+use Rattle.std.specs.Prelude.{filter, slice_index}
 use Rattle.std.specs.Prelude.{if◌then◌else◌}
 use Rattle.std.specs.List.{list_any, range_with_len}
 use Rattle.std.specs.Int.{bit_at}

@@ -1,5 +1,6 @@
 -- The answers to questions, which change nothing.
-use Rattle.std.specs.Prelude.{ℕ, ◌≡◌, ◌^◌, Bool, ◌&&◌, not, nat_lt, Option, Some, None, List, [], ◌∷◌, map}
+use Rattle.std.specs.Prelude.{ℕ, ◌≡◌, ◌^◌, Bool, ◌&&◌, not, nat_lt, Option, Some, None, List, []}
+use Rattle.std.specs.Prelude.{◌∷◌, map}
 use Rattle.iofd_words.specs.Bounds.{Bounds}
 use Rattle.iofd_words.specs.Checks.{access_checks, unusable_in, user_access_checks}
 use Rattle.iofd_words.specs.FirstTrue.{first_true}
@@ -62,7 +63,8 @@ abbrev pub lawful_answers : {A : Type 0} → World → List (Record A) → Query
 lawful_answers w records (DeviceRead device iova len) =
     map (read_answer w device iova.0 len) (outcomes w device iova.0 Read)
 lawful_answers w records (UserRead user va len) = user_bytes w va len (frame_at w.user_pages user (page_of va))
-lawful_answers w records FreeFrames = answer.Count (free_count w.settings.pool w.user_pages w.pins w.table_frames) ∷ []
+lawful_answers w records FreeFrames =
+    answer.Count (free_count w.settings.pool w.user_pages w.pins w.table_frames) ∷ []
 lawful_answers w records (Held user) = answer.Count (held_by (pinned_frame w.pins) w.memory user) ∷ []
 
 -- all lawful answers, in this world and after these records

@@ -1,5 +1,6 @@
 -- The objects of a file (iommufd.rst, "User Objects").
-use Rattle.std.specs.Prelude.{◌-◌, ◌^◌, Bool, true, false, ◌==◌, ◌&&◌, ◌||◌, not, nat_le, nat_lt, Option, Some, None}
+use Rattle.std.specs.Prelude.{◌-◌, ◌^◌, Bool, true, false, ◌==◌, ◌&&◌, ◌||◌, not, nat_le, nat_lt}
+use Rattle.std.specs.Prelude.{Option, Some, None}
 use Rattle.std.specs.Prelude.{is_some, List, [], ◌∷◌, length, filter, find, if◌then◌else◌}
 use Rattle.std.specs.List.{list_any}
 use Rattle.iofd_words.specs.Files.{device_of}

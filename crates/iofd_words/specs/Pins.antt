@@ -1,7 +1,8 @@
 -- Pinned pages: those of memory objects that an area in an address space with a hardware page table translates, or that
 -- an access object has pinned (iommufd.rst, "User Objects", on struct iopt_pages). A page keeps the frame that it had
 -- when it was pinned, whatever its user does, for as long as it stays pinned.
-use Rattle.std.specs.Prelude.{ℕ, ◌+◌, ◌*◌, ◌/◌, Bool, false, ◌==◌, ◌&&◌, ◌||◌, not, Option, Some, None, is_some}
+use Rattle.std.specs.Prelude.{ℕ, ◌+◌, ◌*◌, ◌/◌, Bool, false, ◌==◌, ◌&&◌, ◌||◌, not, Option}
+use Rattle.std.specs.Prelude.{Some, None, is_some}
 use Rattle.std.specs.Prelude.{is_none, List, ◌++◌, map, filter, find}
 use Rattle.std.specs.List.{count_by, list_any, list_all, flat_map, filter_map, range_with_len}
 use Rattle.iofd_words.specs.Bounds.{Bounds}
@@ -100,7 +101,8 @@ abbrev pub are_present : (ObjectPage → Option FrameNo) → List ObjectPage →
 are_present now pages = list_all (λ page. is_some (now page)) pages
 
 -- the pins of pages that are pinned still, and then those of pages that weren't pinned before
-abbrev pub settled : List ObjectPage → List ObjectPage → List MemoryObject → List UserPage → List Pin → List Pin
+abbrev pub settled : List ObjectPage → List ObjectPage → List MemoryObject → List UserPage →
+    List Pin → List Pin
 settled before after memory user_pages pins =
     filter (λ pin. list_any (is_page (page_of_pin pin)) after) pins
     ++ filter_map (pin_now memory user_pages) (filter (λ page. not (list_any (is_page page) before)) after)

@@ -7,7 +7,8 @@
 --   5. else it is denied for want of the right, a write or a read.
 -- `access_outcomes` is the whole, by what is read of a world, and `outcomes` the same of a world; the words before are
 -- its parts.
-use Rattle.std.specs.Prelude.{ℕ, ◌-◌, ◌/◌, ◌^◌, nat_le, Option, Some, None, List, [], ◌∷◌, ◌++◌, if◌then◌else◌}
+use Rattle.std.specs.Prelude.{ℕ, ◌-◌, ◌/◌, ◌^◌, nat_le, Option, Some, None, List, [], ◌∷◌}
+use Rattle.std.specs.Prelude.{◌++◌, if◌then◌else◌}
 use Rattle.iofd_words.specs.Areas.{area_at}
 use Rattle.iofd_words.specs.Attachments.{attachment_of, ioas_of_attachment}
 use Rattle.iofd_words.specs.DeviceSet.{has_device}
@@ -51,7 +52,8 @@ by_phase device Live pass deny = pass
 by_phase device (Leaving owed tries) pass deny = if has_device owed device.0 then pass ++ deny else deny
 
 -- what may come of it at the area that holds the address
-abbrev pub at_area : (ObjectPage → Option FrameNo) → DeviceNo → ℕ → AccessKind → Option Area → List Outcome
+abbrev pub at_area : (ObjectPage → Option FrameNo) → DeviceNo → ℕ → AccessKind →
+    Option Area → List Outcome
 at_area pinned_frame device address kind None = Denied (denied_by kind) ∷ []
 at_area pinned_frame device address kind (Some area) =
     if has_right area.rights kind

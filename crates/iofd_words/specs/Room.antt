@@ -1,5 +1,6 @@
 -- Whether a length of addresses fits, by computing. The lists may stand in any order, and their spans may overlap.
-use Rattle.std.specs.Prelude.{ℕ, ◌+◌, ◌%◌, ◌≤◌, Bool, ◌==◌, ◌&&◌, ◌||◌, not, nat_lt, List, [], ◌∷◌, ◌++◌, map}
+use Rattle.std.specs.Prelude.{ℕ, ◌+◌, ◌%◌, ◌≤◌, Bool, ◌==◌, ◌&&◌, ◌||◌, not, nat_lt, List}
+use Rattle.std.specs.Prelude.{[], ◌∷◌, ◌++◌, map}
 use Rattle.std.specs.List.{list_all, list_any}
 use Rattle.iofd_words.specs.Bounds.{Bounds}
 use Rattle.iofd_words.specs.Span.{holds, span_from}
@@ -27,7 +28,8 @@ fits length spans areas start =
 
 -- where a fit may have nothing before it: at the beginning of a span, or behind an area
 abbrev pub starts_to_try : List Bounds → List Bounds → List ℕ
-starts_to_try spans areas = map (λ span. whole_from span.first) spans ++ map (λ area. whole_from (area.last + 1)) areas
+starts_to_try spans areas =
+    map (λ span. whole_from span.first) spans ++ map (λ area. whole_from (area.last + 1)) areas
 
 -- this many addresses fit somewhere
 abbrev pub has_fit : ℕ → List Bounds → List Bounds → Bool

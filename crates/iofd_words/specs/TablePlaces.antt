@@ -1,6 +1,7 @@
 -- Which tables a page table needs (VT-d, "Second-Stage Translation"): its root, and each table below it through which a
 -- page that it maps goes. A table is known by its level and by the first address that goes through it.
-use Rattle.std.specs.Prelude.{ℕ, ◌-◌, ◌/◌, zero, suc, Bool, true, false, ◌==◌, ◌&&◌, ◌||◌, List, [], ◌∷◌, filter}
+use Rattle.std.specs.Prelude.{ℕ, ◌-◌, ◌/◌, zero, suc, Bool, true, false, ◌==◌, ◌&&◌, ◌||◌, List}
+use Rattle.std.specs.Prelude.{[], ◌∷◌, filter}
 use Rattle.std.specs.Prelude.{if◌then◌else◌}
 use Rattle.std.specs.List.{flat_map, list_any, range_with_len}
 use Rattle.iofd_words.specs.Bounds.{Bounds}

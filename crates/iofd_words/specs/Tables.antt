@@ -1,7 +1,8 @@
 -- Frames of the pool that hold the tables of page tables: which a step takes, and which it gives back. A step takes a
 -- frame for each table that is needed and has none; a table goes with its page table. An UNMAP that answers bytes may
 -- give back tables that no area needs any more.
-use Rattle.std.specs.Prelude.{◌≡◌, ◌+◌, ◌*◌, ◌^◌, Bool, true, false, ◌==◌, ◌&&◌, ◌||◌, not, nat_lt, Some, None, List}
+use Rattle.std.specs.Prelude.{◌≡◌, ◌+◌, ◌*◌, ◌^◌, Bool, true, false, ◌==◌, ◌&&◌, ◌||◌}
+use Rattle.std.specs.Prelude.{not, nat_lt, Some, None, List}
 use Rattle.std.specs.Prelude.{[], ◌∷◌, ◌++◌, filter, length, map}
 use Rattle.std.specs.List.{flat_map, list_all, list_any}
 use Rattle.iofd_words.specs.Areas.{areas_meet, areas_of}
@@ -81,7 +82,8 @@ are_rising (frame ∷ frames) = list_all (λ other. nat_lt frame.0 other.0) fram
 
 -- its page table isn't there any more
 abbrev pub is_orphan : List Object → TableFrame → Bool
-is_orphan objects table = elim (kind_of objects table.file table.hwpt) [ Some kind ↦ not (is_hwpt kind) | None ↦ true ]
+is_orphan objects table =
+    elim (kind_of objects table.file table.hwpt) [ Some kind ↦ not (is_hwpt kind) | None ↦ true ]
 
 -- the addresses that go through it
 abbrev pub span_of_table : TableFrame → Bounds
@@ -129,7 +131,8 @@ pub record MovesTables {A : Type 0} (w left : World) (e : Event A) (answer : Rep
   pub free : list_all (λ frame. is_free w.settings.pool w.user_pages w.pins w.table_frames frame.0) taken ≡ true
   pub different : are_different taken ≡ true
   -- the tables of page tables that are gone, and others that may go, by rising frame
-  pub gone : list_all (λ table. not (is_orphan left.objects table) || is_among given table.frame) w.table_frames ≡ true
+  pub gone :
+      list_all (λ table. not (is_orphan left.objects table) || is_among given table.frame) w.table_frames ≡ true
   pub may : list_all (λ frame. list_any
       (λ table. table.frame.0 == frame.0 && (is_orphan left.objects table || may_go left e answer table))
       w.table_frames) given ≡ true

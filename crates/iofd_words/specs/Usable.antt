@@ -1,6 +1,7 @@
 -- Which addresses of an address space may be used (uapi header, IOMMU_IOAS_IOVA_RANGES): those that each of its page
 -- tables translates and no device attached to it keeps for itself.
-use Rattle.std.specs.Prelude.{◌^◌, ◌==◌, ◌&&◌, Option, Some, None, List, [], ◌∷◌, ◌++◌, filter, map, if◌then◌else◌}
+use Rattle.std.specs.Prelude.{◌^◌, ◌==◌, ◌&&◌, Option, Some, None, List, [], ◌∷◌, ◌++◌, filter}
+use Rattle.std.specs.Prelude.{map, if◌then◌else◌}
 use Rattle.std.specs.List.{flat_map}
 use Rattle.iofd_words.specs.Attachments.{is_attached_to}
 use Rattle.iofd_words.specs.Bounds.{Bounds}

@@ -1,5 +1,6 @@
 -- The lines that a session answers to the steps of a script, in ASCII.
-use Rattle.std.specs.Prelude.{ℕ, false, nat_lt, Option, Some, None, List, length, ◌++◌, codes, decimal, if◌then◌else◌}
+use Rattle.std.specs.Prelude.{ℕ, false, nat_lt, Option, Some, None, List, length, ◌++◌}
+use Rattle.std.specs.Prelude.{codes, decimal, if◌then◌else◌}
 use Rattle.std.specs.Int.{w16, to_be_bytes}
 use Rattle.std.specs.Fmt.{digits}
 use Rattle.hex.specs.Hex.{encode_lower}

@@ -42,7 +42,8 @@ pub record IsWithoutMemory (out : List ℕ) (status : ℕ) : Type 0 where
 
 -- what is written for a head and steps: their lines and status 0, or that there is no memory to open a server
 abbrev pub IsRunText : Type 0 → Settings → List Step → List ℕ → ℕ → Type 0
-IsRunText A settings steps out status = (SessionText A settings steps out × (status ≡ 0)) ⊎ IsWithoutMemory out status
+IsRunText A settings steps out status =
+    (SessionText A settings steps out × (status ≡ 0)) ⊎ IsWithoutMemory out status
 
 -- a text of a script whose bytes are at hand, and the status: a bad one needs no memory
 abbrev pub IsReadText : Type 0 → List ℕ → List ℕ → ℕ → Type 0

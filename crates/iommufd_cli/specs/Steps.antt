@@ -54,7 +54,8 @@ module _ {A : Type 0} where
   -- an event: it is recorded, and the line tells its reply; or memory was wanting
   abbrev pub IsApplied : Server A → Event A → List ℕ → Server A → Type 0
   IsApplied s e text after =
-      ((reply : Reply) × IsRecorded s e reply after × (text ≡ line (event_text e reply))) ⊎ IsWanting s e text after
+      ((reply : Reply) × IsRecorded s e reply after × (text ≡ line (event_text e reply)))
+      ⊎ IsWanting s e text after
 
   -- the question for usable ranges: nothing changes. Where it isn't refused, the line tells them, or memory was wanting
   abbrev pub AreTold : Server A → FileNo → RangesRequest → List ℕ → Type 0

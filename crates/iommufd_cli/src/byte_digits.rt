@@ -1,6 +1,7 @@
 //! Digits of bytes in hex: two for each, the high four bits first.
 
-ghost use Rattle.std.specs.Prelude.{◌≡◌, ◌≤◌, ◌<◌, ◌+◌, ◌*◌, ◌++◌, length, map, slice_index};
+ghost use Rattle.std.specs.Prelude.{◌≡◌, ◌≤◌, ◌<◌, ◌+◌, ◌*◌, ◌++◌};
+ghost use Rattle.std.specs.Prelude.{length, map, slice_index};
 ghost use Rattle.std.specs.Simd.Lanes.{Each1, chunk, put_chunk};
 ghost use Rattle.hex.specs.Hex.{encode_lower, lower_digits};
 

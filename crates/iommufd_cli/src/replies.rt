@@ -1,6 +1,7 @@
 //! The lines that a session answers to the steps of a script.
 
-ghost use Rattle.std.specs.Prelude.{◌≡◌, ◌≤◌, ◌<◌, ◌^◌, ◌+◌, ◌*◌, ◌++◌, IfOk, codes, length, decimal};
+ghost use Rattle.std.specs.Prelude.{◌≡◌, ◌≤◌, ◌<◌, ◌^◌, ◌+◌, ◌*◌, ◌++◌, IfOk, codes};
+ghost use Rattle.std.specs.Prelude.{length, decimal};
 ghost use Rattle.hex.specs.Hex.{encode_lower};
 ghost use Rattle.iommufd_cli.specs.Replies.{line, refusal_text, pending_text, memory_text, no_memory_text};
 ghost use Rattle.iommufd_cli.specs.Replies.{bad_line_text, fault_text, reply_text, written_text, ioctl_text};

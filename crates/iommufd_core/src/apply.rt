@@ -115,7 +115,8 @@ impl<A: Allocator + Copy> Core<A> {
     /// for the answer. Want of memory is also answered where there are more than 2^32 - 1 ranges, the most that the
     /// command's structure counts.
     pub fn ranges(&self, file: FileNo, ioas: ObjId) -> Result<RangeSet<A>, CallError>
-        ensures refused { refused_ranges result ≡ first_true (ranges_checks (view (world self.now.history)) file ioas) }
+        ensures refused { refused_ranges result
+            ≡ first_true (ranges_checks (view (world self.now.history)) file ioas) }
         ensures ranges { IfOk result (λ set. AreUsableRanges (view (world self.now.history)) file ioas set.spans) }
         ensures few { IfOk result (λ set. length set.spans < 2 ^ 32) }
     {

@@ -1,5 +1,6 @@
 -- The lines of a script's text, and what each is.
-use Rattle.std.specs.Prelude.{ℕ, ◌==◌, Bool, true, if◌then◌else◌, List, [], ◌∷◌, Option, Some, None, option_map, not}
+use Rattle.std.specs.Prelude.{ℕ, ◌==◌, Bool, true, if◌then◌else◌, List, [], ◌∷◌, Option, Some, None}
+use Rattle.std.specs.Prelude.{option_map, not}
 use Rattle.std.specs.Char.{is_ascii}
 use Rattle.std.specs.List.{list_all, onto_first}
 use Rattle.iommufd_script.specs.Fields.{fields}

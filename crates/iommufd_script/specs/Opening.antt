@@ -62,7 +62,8 @@ bad_line_in (errors.BadLine n) = Some n
 bad_line_in errors.NoMemory = None
 
 -- what a call answered for the script, where memory was there
-abbrev pub Answers : {T : Type 0} → (T → Settings × List Step) → Result T ScriptError → Result (Settings × List Step) ℕ
+abbrev pub Answers : {T : Type 0} → (T → Settings × List Step) → Result T ScriptError →
+    Result (Settings × List Step) ℕ
     → Type 0
 Answers view (Ok x) script = script ≡ Ok (view x)
 Answers view (Err (errors.BadLine n)) script = script ≡ Err n

@@ -1,5 +1,6 @@
 -- A whole script: the order of its lines, its first bad line, and what a script with no bad line says.
-use Rattle.std.specs.Prelude.{ℕ, ◌+◌, ◌==◌, ◌&&◌, Bool, true, false, not, nat_lt, if◌then◌else◌, List, [], ◌∷◌, Option}
+use Rattle.std.specs.Prelude.{ℕ, ◌+◌, ◌==◌, ◌&&◌, Bool, true, false, not, nat_lt, if◌then◌else◌}
+use Rattle.std.specs.Prelude.{List, [], ◌∷◌, Option}
 use Rattle.std.specs.Prelude.{Some, None}
 use Rattle.iofd_words.specs.Settings.{is_between, is_device_in_limits}
 use Rattle.iommufd_script.specs.Lines.{lines, line_of}

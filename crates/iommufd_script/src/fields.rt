@@ -1,6 +1,7 @@
 //! The fields of a line, taken from its front.
 
-ghost use Rattle.std.specs.Prelude.{◌≡◌, ◌==◌, [], ◌∷◌, MatchOption, if◌then◌else◌, Some, None, length};
+ghost use Rattle.std.specs.Prelude.{◌≡◌, ◌==◌, [], ◌∷◌, MatchOption, if◌then◌else◌};
+ghost use Rattle.std.specs.Prelude.{Some, None, length};
 ghost use Rattle.iommufd_script.specs.Fields.{fields, fields_left, width_of, next, Decimal, Hex, Length, Source};
 ghost use Rattle.iommufd_script.specs.Fields.{AddressWidth, Bytes, Access, Mark, Spans};
 

@@ -11,7 +11,8 @@ ghost use Rattle.iommufd_script.specs.declared.line.Step.{Step};
 /// The good scripts are the texts whose lines say a head in its order and within the limits, and then
 /// the steps; and they are read as just these.
 pub fn good_scripts()
-    ensures only { (text : List ℕ) (settings : Settings) (steps : List Step) → script_of text ≡ Ok (settings, steps)
+    ensures only { (text : List ℕ) (settings : Settings) (steps : List Step) →
+        script_of text ≡ Ok (settings, steps)
         → IsScript (lines text) settings steps }
     ensures each { (text : List ℕ) (settings : Settings) (steps : List Step) → IsScript (lines text) settings steps
         → script_of text ≡ Ok (settings, steps) }

@@ -1,6 +1,7 @@
 //! A whole script: its first bad line, and its steps.
 
-ghost use Rattle.std.specs.Prelude.{◌≡◌, ◌<◌, [], ◌∷◌, ◌++◌, None, MatchOption, IfOk, IfErr, length};
+ghost use Rattle.std.specs.Prelude.{◌≡◌, ◌<◌, [], ◌∷◌, ◌++◌, None, MatchOption};
+ghost use Rattle.std.specs.Prelude.{IfOk, IfErr, length};
 ghost use Rattle.iommufd_script.specs.Opening.{bad_line_in};
 ghost use Rattle.iommufd_script.specs.Script.{first_bad_line, steps_of};
 
@@ -70,7 +71,8 @@ impl<'a, A: Allocator> Steps<'a, A> {
 
     /// Takes the next step; None where no step is left. It takes no memory.
     pub fn next_step(&mut self) -> Option<Step<'a>>
-        ensures { MatchOption result ((self.old ≡ []) × (self.new ≡ [])) (λ step. self.old ≡ step ∷ self.new) }
+        ensures { MatchOption result ((self.old ≡ []) × (self.new ≡ [])) (λ step.
+            self.old ≡ step ∷ self.new) }
     {
         self.steps.next()
     }

@@ -1,6 +1,7 @@
 //! The spans that a script reserves for a device.
 
-ghost use Rattle.std.specs.Prelude.{◌≡◌, ◌&&◌, [], ◌∷◌, ◌<◌, MatchOption, IfOk, OnErr, Some, None, true, length};
+ghost use Rattle.std.specs.Prelude.{◌≡◌, ◌&&◌, [], ◌∷◌, ◌<◌, MatchOption, IfOk, OnErr, Some};
+ghost use Rattle.std.specs.Prelude.{None, true, length};
 ghost use Rattle.std.specs.Prelude.{nat_le, if◌then◌else◌};
 ghost use Rattle.std.specs.List.{list_all};
 ghost use Rattle.iofd_words.specs.Settings.{is_reserved_span};
@@ -90,7 +91,8 @@ impl<'a> SpanTexts<'a> {
 
     // Takes the first one; None where no span is left.
     fn next_span(&mut self) -> Option<Span>
-        ensures { MatchOption result ((self.old ≡ []) × (self.new ≡ [])) (λ span. self.old ≡ span ∷ self.new) }
+        ensures { MatchOption result ((self.old ≡ []) × (self.new ≡ [])) (λ span.
+            self.old ≡ span ∷ self.new) }
     {
         let (field, others) = Fields::left(self.rest).split()?;
         self.rest = others.text();

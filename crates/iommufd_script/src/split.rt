@@ -1,6 +1,7 @@
 //! Text, split at single bytes.
 
-ghost use Rattle.std.specs.Prelude.{◌≡◌, ◌==◌, ◌≤◌, ◌<◌, ◌+◌, [], ◌∷◌, MatchOption, length, not};
+ghost use Rattle.std.specs.Prelude.{◌≡◌, ◌==◌, ◌≤◌, ◌<◌, ◌+◌, [], ◌∷◌, MatchOption};
+ghost use Rattle.std.specs.Prelude.{length, not};
 ghost use Rattle.std.specs.List.{position_or_len, prefix_len, slice_split};
 ghost use Rattle.std.specs.Simd.Lanes.{chunk};
 ghost use Rattle.iommufd_script.specs.Lines.{lines};
@@ -62,7 +63,8 @@ pub fn first_place(text: &[u8], byte: u8) -> usize
 // The part before the first such byte, and the text behind it; None where there is no such byte.
 pub fn split_at_byte(text: &[u8], byte: u8) -> Option<(&[u8], &[u8])>
     ensures { MatchOption result (slice_split (λ c. c == byte) text.now ≡ text.now ∷ [])
-        (λ parts. slice_split (λ c. c == byte) text.now ≡ parts.0.now ∷ slice_split (λ c. c == byte) parts.1.now) }
+        (λ parts. slice_split (λ c. c == byte) text.now ≡ parts.0.now
+        ∷ slice_split (λ c. c == byte) parts.1.now) }
 {
     let end = first_place(text, byte);
     if end == text.len() {

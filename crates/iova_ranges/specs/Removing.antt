@@ -1,5 +1,6 @@
 -- How the numbers of a span are taken out, which no public clause names: what it means is said of numbers.
-use Rattle.std.specs.Prelude.{ℕ, ◌+◌, ◌-◌, ◌<◌, ◌≤◌, Bool, true, false, nat_lt, length, slice_index_or, List, [], ◌∷◌}
+use Rattle.std.specs.Prelude.{ℕ, ◌+◌, ◌-◌, ◌<◌, ◌≤◌, Bool, true, false, nat_lt, length}
+use Rattle.std.specs.Prelude.{slice_index_or, List, [], ◌∷◌}
 use Rattle.std.specs.Prelude.{min, max, if◌then◌else◌}
 use Rattle.iofd_words.specs.Bounds.{Bounds}
 use Rattle.iofd_words.specs.Span.{lies_in}

@@ -1,5 +1,6 @@
 -- The steps of the search for a fit, which no public clause names.
-use Rattle.std.specs.Prelude.{ℕ, ◌+◌, max, nat_lt, nat_le, Option, Some, None, List, [], ◌∷◌, if◌then◌else◌}
+use Rattle.std.specs.Prelude.{ℕ, ◌+◌, max, nat_lt, nat_le, Option, Some, None, List}
+use Rattle.std.specs.Prelude.{[], ◌∷◌, if◌then◌else◌}
 use Rattle.iofd_words.specs.Bounds.{Bounds}
 use Rattle.iofd_words.specs.Fits.{whole_from}
 

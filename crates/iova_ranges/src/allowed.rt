@@ -1,6 +1,7 @@
 //! The ranges to which the addresses of an address space are bounded.
 
-ghost use Rattle.std.specs.Prelude.{◌≡◌, ◌==◌, ◌<◌, ◌↔◌, ℕ, [], length, not, IsTrue, IfOk, OnOk, OnErr};
+ghost use Rattle.std.specs.Prelude.{◌≡◌, ◌==◌, ◌<◌, ◌↔◌, ℕ, [], length, not, IsTrue, IfOk};
+ghost use Rattle.std.specs.Prelude.{OnOk, OnErr};
 ghost use Rattle.iova_ranges.specs.Allowed.{IsAllowed, is_allowed, is_allowed_number};
 ghost use Rattle.iofd_words.specs.Ranges.{AreMerged, in_spans};
 

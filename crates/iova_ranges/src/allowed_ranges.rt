@@ -1,7 +1,9 @@
 //! The ranges to which the addresses that the server chooses are bounded, by address space.
 
-ghost use Rattle.std.specs.Prelude.{ℕ, ◌≡◌, ◌<◌, [], MatchOption, IfOk, OnOk, OnErr, length, filter, find, not, ◌==◌};
-ghost use Rattle.std.specs.Prelude.{◌&&◌, ◌||◌, ◌++◌, ◌∷◌, ◌≤◌, if◌then◌else◌, vec_len, vec_capacity};
+ghost use Rattle.std.specs.Prelude.{ℕ, ◌≡◌, ◌<◌, [], MatchOption, IfOk, OnOk, OnErr, length, filter};
+ghost use Rattle.std.specs.Prelude.{find, not, ◌==◌};
+ghost use Rattle.std.specs.Prelude.{◌&&◌, ◌||◌, ◌++◌, ◌∷◌, ◌≤◌};
+ghost use Rattle.std.specs.Prelude.{if◌then◌else◌, vec_len, vec_capacity};
 ghost use Rattle.std.specs.Option.{option_copied};
 ghost use Rattle.iofd_words.specs.Allowed.{allowed_of, is_allowed_in, without_allowed};
 ghost use Rattle.iofd_words.specs.Ranges.{AreMerged, in_spans};
@@ -118,7 +120,8 @@ fn set_in_order<A: Allocator>(alloc: A, ranges: &[IovaRange]) -> Result<RangeSet
 
 // Adds the numbers of the range; one that begins above its last address has none.
 fn add_range<A: Allocator>(set: &mut RangeSet<A>, range: IovaRange) -> Result<(), NoMemory>
-    ensures numbers { OnOk result ((n : ℕ) → in_spans set.new.spans n ≡ (in_spans set.old.spans n || holds range n)) }
+    ensures numbers { OnOk result ((n : ℕ) →
+        in_spans set.new.spans n ≡ (in_spans set.old.spans n || holds range n)) }
     ensures merged { AreMerged set.old.spans → AreMerged set.new.spans }
 {
     match Span::new(range.start, range.last) {

@@ -1,6 +1,7 @@
 //! The least place where a length of addresses fits.
 
-ghost use Rattle.std.specs.Prelude.{◌≡◌, ◌↔◌, ℕ, ◌+◌, ◌≤◌, ◌^◌, drop, length, IsTrue, IfSome, IfNone};
+ghost use Rattle.std.specs.Prelude.{◌≡◌, ◌↔◌, ℕ, ◌+◌, ◌≤◌, ◌^◌, drop, length, IsTrue};
+ghost use Rattle.std.specs.Prelude.{IfSome, IfNone};
 ghost use Rattle.iofd_words.specs.Fits.{StartsRise, IsFit, whole_from};
 ghost use Rattle.iofd_words.specs.Ranges.{AreMerged};
 ghost use Rattle.iova_ranges.specs.Search.{first_below, room_in};
@@ -13,7 +14,8 @@ pub fn first_fit(spans: &[Span], count: u64, areas: &[Span]) -> Option<u64>
     requires merged { AreMerged spans.now }
     requires rise { StartsRise areas.now }
     ensures fit { IfSome result (λ start. IsFit count spans.now areas.now start) }
-    ensures least { IfSome result (λ start. (other : ℕ) → IsFit count spans.now areas.now other → start ≤ other) }
+    ensures least { IfSome result (λ start. (other : ℕ) → IsFit count spans.now areas.now other →
+        start ≤ other) }
     ensures none { IfNone result ((start : ℕ) → ¬ IsFit count spans.now areas.now start) }
 {
     if count == 0 {

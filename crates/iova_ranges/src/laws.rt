@@ -1,6 +1,7 @@
 //! Laws of the definitions, each the contract of a function that does nothing.
 
-ghost use Rattle.std.specs.Prelude.{◌≡◌, ◌↔◌, ℕ, ◌&&◌, true, false, not, nat_le, IsTrue, List, [], ◌∷◌};
+ghost use Rattle.std.specs.Prelude.{◌≡◌, ◌↔◌, ℕ, ◌&&◌, true, false, not, nat_le, IsTrue};
+ghost use Rattle.std.specs.Prelude.{List, [], ◌∷◌};
 ghost use Rattle.std.specs.List.{list_any};
 ghost use Rattle.iofd_words.specs.Bounds.{Bounds};
 ghost use Rattle.iofd_words.specs.Fits.{IsFit};
@@ -31,7 +32,8 @@ pub fn room_is_found()
 /// areas may stand in any order and overlap.
 pub fn few_starts_suffice()
     ensures { (count start : ℕ) (spans areas : List Bounds) → fits count spans areas start ≡ true
-        → list_any (λ tried. nat_le tried start && fits count spans areas tried) (starts_to_try spans areas) ≡ true }
+        → list_any (λ tried.
+        nat_le tried start && fits count spans areas tried) (starts_to_try spans areas) ≡ true }
 {}
 
 /// What fits hangs on the numbers that are in the set and in no area, and not on how they are told.

@@ -1,6 +1,7 @@
 //! The set of ranges.
 
-ghost use Rattle.std.specs.Prelude.{◌≡◌, ◌==◌, ◌↔◌, ◌||◌, ◌&&◌, not, ℕ, ◌+◌, ◌<◌, ◌≤◌, [], length, IsTrue, IfOk};
+ghost use Rattle.std.specs.Prelude.{◌≡◌, ◌==◌, ◌↔◌, ◌||◌, ◌&&◌, not, ℕ, ◌+◌, ◌<◌};
+ghost use Rattle.std.specs.Prelude.{◌≤◌, [], length, IsTrue, IfOk};
 ghost use Rattle.std.specs.Prelude.{IfSome, IfNone, MatchOption, OnOk, OnErr};
 ghost use Rattle.iofd_words.specs.Span.{holds};
 ghost use Rattle.iofd_words.specs.Fits.{StartsRise, IsFit};
@@ -105,7 +106,8 @@ impl<A: Allocator> RangeSet<A> {
     /// Adds the numbers of the span. Want of memory comes only where it touches no span of the set and there was no
     /// room for it, and leaves the set as it was.
     pub fn add(&mut self, span: Span) -> Result<(), NoMemory>
-        ensures set { OnOk result ((n : ℕ) → in_spans self.new.spans n ≡ (in_spans self.old.spans n || holds span n)) }
+        ensures set { OnOk result ((n : ℕ) →
+            in_spans self.new.spans n ≡ (in_spans self.old.spans n || holds span n)) }
         ensures merged { AreMerged self.new.spans }
         ensures some { OnOk result (0 < length self.new.spans) }
         ensures err { OnErr result (self.new.spans ≡ self.old.spans) }

@@ -1,6 +1,7 @@
 //! The spans that devices keep for themselves.
 
-ghost use Rattle.std.specs.Prelude.{◌≡◌, ℕ, ◌+◌, ◌<◌, ◌≤◌, ◌&&◌, ◌++◌, [], not, length, IfOk, OnOk, OnErr, vec_len};
+ghost use Rattle.std.specs.Prelude.{◌≡◌, ℕ, ◌+◌, ◌<◌, ◌≤◌, ◌&&◌, ◌++◌, [], not, length};
+ghost use Rattle.std.specs.Prelude.{IfOk, OnOk, OnErr, vec_len};
 ghost use Rattle.std.specs.Prelude.{vec_capacity};
 ghost use Rattle.iofd_words.specs.Ranges.{AreMerged, in_spans};
 ghost use Rattle.iova_ranges.specs.Reserved.{rows_of, without_owner, is_reserved, meets_reserved};
@@ -91,7 +92,8 @@ impl<A: Allocator> Reserved<A> {
     /// The numbers of the set that aren't reserved. It fails only where memory does, and then the set is gone.
     pub fn outside<B: Allocator>(&self, set: RangeSet<B>) -> Result<RangeSet<B>, NoMemory>
         ensures set { IfOk result
-            (λ rest. (n : ℕ) → in_spans rest.spans n ≡ (in_spans set.spans n && not (is_reserved self.now.rows n))) }
+            (λ rest. (n : ℕ) →
+            in_spans rest.spans n ≡ (in_spans set.spans n && not (is_reserved self.now.rows n))) }
         ensures merged { IfOk result (λ rest. AreMerged rest.spans) }
         ensures memory { OnErr result (0 < length self.now.rows) }
     {

@@ -1,5 +1,6 @@
 -- What a lock gives back at its end.
-use Rattle.std.specs.Prelude.{◌≡◌, ◌≢◌, ◌⊎◌, ℕ, ◌<◌, ◌≤◌, true, false, List, [], length, drop, slice_get, slice_index}
+use Rattle.std.specs.Prelude.{◌≡◌, ◌≢◌, ◌⊎◌, ℕ, ◌<◌, ◌≤◌, true, false, List, [], length}
+use Rattle.std.specs.Prelude.{drop, slice_get, slice_index}
 use Rattle.std.specs.Prelude.{Some, is_some}
 use mathlib.Core.Option.{some}
 use lib.ListN.{get_elem?}

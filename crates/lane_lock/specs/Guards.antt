@@ -1,5 +1,6 @@
 -- What a pass has under a guard.
-use Rattle.std.specs.Prelude.{◌≡◌, ◌≢◌, ℕ, ◌-◌, ◌<◌, true, List, [], ◌∷◌, slice_index, Option, None, is_some}
+use Rattle.std.specs.Prelude.{◌≡◌, ◌≢◌, ℕ, ◌-◌, ◌<◌, true, List, [], ◌∷◌, slice_index}
+use Rattle.std.specs.Prelude.{Option, None, is_some}
 use Rattle.std.specs.declared.sync.Arc.{Arc}
 use Rattle.lane_lock.specs.Hands.{Stack, Shows}
 use Rattle.lane_lock.specs.History.{StartsWith}

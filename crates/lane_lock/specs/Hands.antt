@@ -1,5 +1,6 @@
 -- The slots that a writer has taken.
-use Rattle.std.specs.Prelude.{◌≡◌, ◌⊎◌, ℕ, ◌<◌, ◌≤◌, List, [], ◌∷◌, ◌++◌, length, drop, slice_index, Option, Some, None}
+use Rattle.std.specs.Prelude.{◌≡◌, ◌⊎◌, ℕ, ◌<◌, ◌≤◌, List, [], ◌∷◌, ◌++◌, length}
+use Rattle.std.specs.Prelude.{drop, slice_index, Option, Some, None}
 use Rattle.std.specs.Prelude.{zero, suc}
 use Rattle.std.specs.Arc.{arc_value}
 use Rattle.std.specs.declared.sync.Arc.{Arc}
@@ -18,7 +19,8 @@ module _ {K Z : Type 0} where
 
   -- the lanes from n down to 1 were taken last, the highest in front, each with something in its slot of which P holds;
   -- below them lies the rest
-  abbrev pub Stack : (Option (Arc K Z) → Type 0) → ℕ → List (ℕ × Option (Arc K Z)) → List (ℕ × Option (Arc K Z))
+  abbrev pub Stack : (Option (Arc K Z) → Type 0) → ℕ → List (ℕ × Option (Arc K Z)) →
+      List (ℕ × Option (Arc K Z))
       → Type 0
   Stack P zero hand below = hand ≡ below
   Stack P (suc n) hand below =

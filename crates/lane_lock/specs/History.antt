@@ -1,5 +1,6 @@
 -- Histories: lists of records, each of which names the pass that made it.
-use Rattle.std.specs.Prelude.{◌≡◌, ℕ, ◌==◌, if◌then◌else◌, List, [], ◌∷◌, ◌++◌, length, drop, ltb}
+use Rattle.std.specs.Prelude.{◌≡◌, ℕ, ◌==◌, if◌then◌else◌, List, [], ◌∷◌, ◌++◌, length}
+use Rattle.std.specs.Prelude.{drop, ltb}
 
 -- the history begins with these records
 abbrev pub StartsWith : {E : Type 0} → List E → List E → Type 0

@@ -1,5 +1,6 @@
 -- What a call makes of what its pass knows: the view before, and the view after.
-use Rattle.std.specs.Prelude.{◌≡◌, ◌≢◌, ℕ, ◌+◌, ◌-◌, ◌<◌, List, [], ◌∷◌, ◌++◌, slice_index}
+use Rattle.std.specs.Prelude.{◌≡◌, ◌≢◌, ℕ, ◌+◌, ◌-◌, ◌<◌, List, []}
+use Rattle.std.specs.Prelude.{◌∷◌, ◌++◌, slice_index}
 use Rattle.lane_lock.specs.declared.table.View.{View}
 use Rattle.lane_lock.specs.declared.refusal.Busy.{Busy}
 use Rattle.lane_lock.specs.declared.refusal.NotNow.{NotNow}

@@ -1,6 +1,7 @@
 -- The rule of a lock: what its words, its slots and the views of its passes have to do with one history. Every step
 -- keeps it.
-use Rattle.std.specs.Prelude.{◌≡◌, ◌≢◌, ◌⊎◌, ℕ, ◌+◌, ◌-◌, ◌*◌, ◌<◌, ◌≤◌, true, List, [], ◌∷◌, length, drop, replicate}
+use Rattle.std.specs.Prelude.{◌≡◌, ◌≢◌, ◌⊎◌, ℕ, ◌+◌, ◌-◌, ◌*◌, ◌<◌, ◌≤◌}
+use Rattle.std.specs.Prelude.{true, List, [], ◌∷◌, length, drop, replicate}
 use Rattle.std.specs.Prelude.{slice_index, Option, Some, None, zero, suc}
 use mathlib.Core.Option.{some, none}
 use lib.ListN.{get_elem?}
@@ -25,16 +26,19 @@ module _ {E : Type 0} (by : E → ℕ) (lanes passes : ℕ) (opening : List E) (
     pub stands : v.stands ≡ true → (v.number < passes) × (seat v.number ≡ j)
         × ((v.opening ≡ opening) × (v.passes ≡ passes)) × (length v.held ≡ lanes)
         × Legal by (length opening) history v.number v.seen v.made
-    pub others : (i : ℕ) (o : Known E) → get_elem? v.others i ≡ some o → (o.number < passes) × (seat o.number ≡ j)
+    pub others : (i : ℕ) (o : Known E) → get_elem? v.others i ≡ some o →
+        (o.number < passes) × (seat o.number ≡ j)
         × Legal by (length opening) history o.number o.seen o.made
-    pub held : (k : ℕ) → slice_index v.held k ≢ 0 → (slice_index words k ≡ slice_index v.held k) × (v.stands ≡ true)
+    pub held : (k : ℕ) → slice_index v.held k ≢ 0 →
+        (slice_index words k ≡ slice_index v.held k) × (v.stands ≡ true)
         × Names v.number (slice_index v.held k)
     pub pin : v.pin ≢ 0 → (history ≡ v.seen) × (slice_index v.held (v.pin - 1) ≢ 0)
 
 -- the view of seat j stands for pass q, which holds lane k by the word w
 abbrev pub Has : {E : Type 0} → List (View E) → ℕ → ℕ → ℕ → ℕ → Type 0
 Has {E} views j q k w =
-    (v : View E) × (get_elem? views j ≡ some v) × (v.stands ≡ true) × (v.number ≡ q) × (slice_index v.held k ≡ w)
+    (v : View E) × (get_elem? views j ≡ some v) × (v.stands ≡ true) × (v.number ≡ q)
+    × (slice_index v.held k ≡ w)
 
 -- There is one history, which begins with the opening value's, and a seat for each pass. A lane with the word 0 is at
 -- home, and its slot has a share of a value with that history, or is empty, but lane 0's never is. A lane with another
@@ -51,9 +55,11 @@ pub record Ruled {K E Z : Type 0} (hist : K → List E) (by : E
   pub home : (k : ℕ) → k < key.lanes → slice_index s.words k ≡ 0
       → (x : Option (Arc K Z)) × (get_elem? s.homes k ≡ some (some x))
   pub out : (k : ℕ) → slice_index s.words k ≢ 0 → get_elem? s.homes k ≡ some none
-  pub shown : (k : ℕ) (a : Arc K Z) → get_elem? s.homes k ≡ some (some (Some a)) → hist (arc_value a) ≡ history
+  pub shown : (k : ℕ) (a : Arc K Z) → get_elem? s.homes k ≡ some (some (Some a)) →
+      hist (arc_value a) ≡ history
   pub filled : get_elem? s.homes 0 ≢ some (some None)
-  pub named : (k : ℕ) → slice_index s.words k ≢ 0 → (q : ℕ) × (q < key.passes) × Names q (slice_index s.words k)
+  pub named : (k : ℕ) → slice_index s.words k ≢ 0 →
+      (q : ℕ) × (q < key.passes) × Names q (slice_index s.words k)
       × Has s.views (seat q) q k (slice_index s.words k)
   pub each : (j : ℕ) (v : View E) → get_elem? s.views j ≡ some v
       → Knows by key.lanes key.passes (hist key.value.value) seat history s.words j v
@@ -93,5 +99,6 @@ pub record Opens {K E Z : Type 0} (hist : K
   pub few : (0 < key.lanes) × (key.passes ≤ 1024)
   pub some_pass : 0 < key.passes
   pub blank : (k : ℕ) → slice_index words k ≡ 0
-  pub shares : (k : ℕ) (a : Arc K Z) → get_elem? slots k ≡ some (Some a) → hist (arc_value a) ≡ hist key.value.value
+  pub shares : (k : ℕ) (a : Arc K Z) → get_elem? slots k ≡ some (Some a) →
+      hist (arc_value a) ≡ hist key.value.value
   pub first : get_elem? slots 0 ≢ some None

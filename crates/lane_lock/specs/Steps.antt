@@ -1,5 +1,6 @@
 -- What each step on the table asks, and what it tells the seat that makes it.
-use Rattle.std.specs.Prelude.{◌≡◌, ◌≢◌, ℕ, ◌-◌, ◌<◌, List, [], ◌∷◌, ◌++◌, slice_index, slice_set, Option, Some, None}
+use Rattle.std.specs.Prelude.{◌≡◌, ◌≢◌, ℕ, ◌-◌, ◌<◌, List, [], ◌∷◌, ◌++◌, slice_index}
+use Rattle.std.specs.Prelude.{slice_set, Option, Some, None}
 use Rattle.std.specs.Arc.{arc_value}
 use Rattle.std.specs.declared.sync.Arc.{Arc}
 use Rattle.atomic_table.specs.declared.shared.Seat.{Seat}
@@ -23,7 +24,8 @@ At K Z = Step (Option (Arc K Z))
 module _ {K E Z : Type 0} where
   -- A lane was taken whose slot has x. With a share its history is seen, which begins with the opening one and is legal
   -- for the pass; if a lane pins what it has seen, it has seen it all before.
-  abbrev pub Takes : (K → List E) → (E → ℕ) → View E → ℕ → ℕ → Option (Arc K Z) → View E → Type 0
+  abbrev pub Takes : (K → List E) → (E → ℕ) → View E → ℕ → ℕ → Option (Arc K Z) →
+      View E → Type 0
   Takes hist by v k w None v' = (v' ≡ holding v k w) × (k ≢ 0)
   Takes hist by v k w (Some a) v' =
       (v' ≡ seeing v k w (hist (arc_value a))) × StartsWith (hist (arc_value a)) v.seen × IsLegal by v'
@@ -33,7 +35,8 @@ module _ {K E Z : Type 0} where
   -- it was held, and the pass notes that. The word names a pass of the lock, and this pass only if it held the lane.
   abbrev pub took : (K → List E) → (E → ℕ) → At K Z → Mine K E Z → ℕ → Mine K E Z → Type 0
   took hist by st m r m' =
-      (r ≡ 0 → (x : Option (Arc K Z)) × (m'.1 ≡ (st.word, x) ∷ m.1) × Takes hist by m.0 st.word st.second x m'.0
+      (r ≡ 0 → (x : Option (Arc K Z)) × (m'.1 ≡ (st.word, x) ∷ m.1)
+      × Takes hist by m.0 st.word st.second x m'.0
       × (slice_index m.0.held st.word ≡ 0))
       × (r ≢ 0 → (m' ≡ (noted m.0 st.word r, m.1)) × ((q : ℕ) × (q < 1024) × Names q r)
       × (Names m.0.number r → slice_index m.0.held st.word ≡ r) × ((q : ℕ) → Names q r → q < m.0.passes))
@@ -75,5 +78,6 @@ module _ {K E Z : Type 0} where
   -- lane does.
   abbrev pub committed : (K → List E) → At K Z → Mine K E Z → ℕ → Mine K E Z → Type 0
   committed hist st m r m' =
-      (m' ≡ (written m.0 st.word (top_history hist m.1 m.0.seen) m'.0.pin, rest m.1)) × (1 < st.slots → m'.0.pin ≡ 2)
+      (m' ≡ (written m.0 st.word (top_history hist m.1 m.0.seen) m'.0.pin, rest m.1))
+      × (1 < st.slots → m'.0.pin ≡ 2)
       × (m'.0.pin ≢ 0 → slice_index (slice_set m.0.held 0 0) (m'.0.pin - 1) ≢ 0)

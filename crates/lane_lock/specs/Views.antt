@@ -1,5 +1,6 @@
 -- What a step makes of the view of the seat that makes it.
-use Rattle.std.specs.Prelude.{◌≡◌, ◌≢◌, ℕ, ◌+◌, true, false, List, [], ◌∷◌, ◌++◌, length, drop, replicate, slice_index}
+use Rattle.std.specs.Prelude.{◌≡◌, ◌≢◌, ℕ, ◌+◌, true, false, List, [], ◌∷◌, ◌++◌, length}
+use Rattle.std.specs.Prelude.{drop, replicate, slice_index}
 use Rattle.std.specs.Prelude.{slice_set, zero, suc}
 use mathlib.Core.Option.{some}
 use lib.ListN.{get_elem?}

@@ -1,6 +1,7 @@
 //! The end of a lock.
 
-ghost use Rattle.std.specs.Prelude.{◌≡◌, ℕ, ◌<◌, [], length, Some, slice_get, is_some, true, false, MatchBool};
+ghost use Rattle.std.specs.Prelude.{◌≡◌, ℕ, ◌<◌, [], length, Some, slice_get, is_some};
+ghost use Rattle.std.specs.Prelude.{true, false, MatchBool};
 ghost use Rattle.std.specs.Prelude.{MatchResult, IfOk, IfErr};
 ghost use Rattle.std.specs.Arc.{arc_value};
 ghost use Rattle.lane_lock.specs.Closing.{AllHere, Closes};
@@ -77,7 +78,8 @@ fn gather_all<K: Kept>(
     mut passes: Vec<Pass<K>>,
 ) -> PassSeat<K>
     requires table { (seat.table_id ≡ lanes.now.table_id) × (0 < lanes.now.table_id.words) }
-    requires owned { (i : ℕ) (p : _) → slice_get passes.items i ≡ Some p → p.seat.table_id ≡ lanes.now.table_id }
+    requires owned { (i : ℕ) (p : _) → slice_get passes.items i ≡ Some p →
+        p.seat.table_id ≡ lanes.now.table_id }
     requires idle { AllIdle passes.items }
     ensures same_seat { result.table_id ≡ seat.table_id }
     ensures gathered { Gathers seat.me.0 passes.items result.me.0 }

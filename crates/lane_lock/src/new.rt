@@ -1,6 +1,7 @@
 //! Making a lock and its passes.
 
-ghost use Rattle.std.specs.Prelude.{◌≡◌, ℕ, ◌<◌, ◌≤◌, [], length, slice_index, vec_capacity, IfOk, IfErr, IfSome};
+ghost use Rattle.std.specs.Prelude.{◌≡◌, ℕ, ◌<◌, ◌≤◌, [], length, slice_index, vec_capacity, IfOk};
+ghost use Rattle.std.specs.Prelude.{IfErr, IfSome};
 ghost use Rattle.lane_lock.specs.Opening.{AreShares, GivesBack};
 ghost use Rattle.lane_lock.specs.Passes.{opening_of, lanes_of, passes_of, IsNew, AllNew};
 ghost use Rattle.lane_lock.specs.Rule.{Opens, newcomer, starting};

@@ -1,6 +1,7 @@
 //! A pass of a lock.
 
-ghost use Rattle.std.specs.Prelude.{◌≡◌, ◌≢◌, ℕ, ◌-◌, ◌<◌, true, false, [], length, slice_index, is_some};
+ghost use Rattle.std.specs.Prelude.{◌≡◌, ◌≢◌, ℕ, ◌-◌, ◌<◌, true, false, [], length};
+ghost use Rattle.std.specs.Prelude.{slice_index, is_some};
 
 use crate::kept::Kept;
 use crate::table::{PassSeat, Share};
@@ -20,7 +21,8 @@ pub struct Pass<K: Kept> {
     ghost sized: { (lane < seat.table_id.words) × (seat.table_id.slots ≡ seat.table_id.words)
         × (length seat.me.0.held ≡ seat.table_id.words) },
     ghost has_seen: { seen ≡ length seat.me.0.seen },
-    ghost idle: { is_some share ≡ false → (seat.me.1 ≡ []) × ((k : ℕ) → slice_index seat.me.0.held k ≡ 0) },
+    ghost idle: { is_some share ≡ false →
+        (seat.me.1 ≡ []) × ((k : ℕ) → slice_index seat.me.0.held k ≡ 0) },
     ghost pinned: { seat.me.0.pin ≢ 0 → slice_index seat.me.0.held (seat.me.0.pin - 1) ≢ 0 },
     ghost guarded: { is_some share ≡ true → slice_index seat.me.0.held lane ≢ 0 },
 }

@@ -1,6 +1,7 @@
 //! The steps on the table, each by a pass's own seat. There are no others.
 
-ghost use Rattle.std.specs.Prelude.{◌≡◌, ◌≢◌, ℕ, ◌+◌, ◌-◌, ◌*◌, ◌<◌, ◌⊎◌, true, [], ◌∷◌, length, slice_index};
+ghost use Rattle.std.specs.Prelude.{◌≡◌, ◌≢◌, ℕ, ◌+◌, ◌-◌, ◌*◌, ◌<◌, ◌⊎◌, true};
+ghost use Rattle.std.specs.Prelude.{[], ◌∷◌, length, slice_index};
 ghost use mathlib.Core.Option.{none};
 ghost use Rattle.atomic_table.specs.Table.{step, rest};
 ghost use Rattle.lane_lock.specs.Steps.{SameSeat, took, Offers, IsShare, committed, Writes};

@@ -1,6 +1,7 @@
 //! The lanes above lane 0, which a writer takes upwards and puts back downwards.
 
-ghost use Rattle.std.specs.Prelude.{◌≡◌, ◌≢◌, ◌⊎◌, ℕ, ◌+◌, ◌-◌, ◌*◌, ◌<◌, ◌≤◌, true, [], ◌∷◌, None, length, drop};
+ghost use Rattle.std.specs.Prelude.{◌≡◌, ◌≢◌, ◌⊎◌, ℕ, ◌+◌, ◌-◌, ◌*◌, ◌<◌};
+ghost use Rattle.std.specs.Prelude.{◌≤◌, true, [], ◌∷◌, None, length, drop};
 ghost use Rattle.std.specs.Prelude.{slice_index, MatchOption};
 ghost use Rattle.std.specs.Arc.{arc_value};
 ghost use Rattle.lane_lock.specs.Hands.{Anything, Climbed, Dropped, Lowered, Shows, Stack};
@@ -24,7 +25,8 @@ pub(crate) fn take_upper<K: Kept>(
 ) -> Option<Busy>
     requires table { (seat.old.table_id ≡ lanes.now.table_id) × (0 < count) × (count ≡ lanes.now.table_id.words)
         × (lanes.now.key.lanes ≡ lanes.now.table_id.words) }
-    requires pass { (seat.old.me.0.stands ≡ true) × (length seat.old.me.0.held ≡ count) × (seat.old.me.0.pin ≢ 0)
+    requires pass { (seat.old.me.0.stands ≡ true) × (length seat.old.me.0.held ≡ count)
+        × (seat.old.me.0.pin ≢ 0)
         × (word ≡ 2 * seat.old.me.0.number + 2) }
     ensures same_seat { SameSeat seat.old seat.new }
     ensures told { MatchOption result (Climbed K.history seat.old.me word (count - 1) seat.new.me) (λ b.
@@ -46,7 +48,8 @@ pub(crate) fn take_upper<K: Kept>(
 pub(crate) fn put_back_upper<K: Kept>(lanes: &SharedLanes<K>, seat: &mut PassSeat<K>, count: u16)
     requires table { (seat.old.table_id ≡ lanes.now.table_id) × (0 < count) × (count ≤ lanes.now.table_id.words) }
     requires pass { (seat.old.me.0.stands ≡ true) × (seat.old.me.0.pin ≢ 0)
-        × ((k : ℕ) → 0 < k → k < count → (slice_index seat.old.me.0.held k ≢ 0) × (seat.old.me.0.pin ≢ k + 1)) }
+        × ((k : ℕ) → 0 < k → k < count →
+        (slice_index seat.old.me.0.held k ≢ 0) × (seat.old.me.0.pin ≢ k + 1)) }
     requires stack { Stack (Shows K.history seat.old.me.0.seen) (count - 1) seat.old.me.1
         (drop (count - 1) seat.old.me.1) }
     ensures same_seat { SameSeat seat.old seat.new }
@@ -78,7 +81,8 @@ pub(crate) fn refill<K: Kept>(
     low: u16,
     count: u16,
 )
-    requires table { (seat.old.table_id ≡ lanes.now.table_id) × (low < count) × (count ≤ lanes.now.table_id.words) }
+    requires table { (seat.old.table_id ≡ lanes.now.table_id) × (low < count)
+        × (count ≤ lanes.now.table_id.words) }
     requires pass { (seat.old.me.0.stands ≡ true) × (seat.old.me.0.pin ≡ low + 1)
         × ((k : ℕ) → low < k → k < count → slice_index seat.old.me.0.held k ≢ 0) }
     requires stack { Stack Anything (count - 1) seat.old.me.1 (drop (count - 1) seat.old.me.1) }

@@ -1,6 +1,7 @@
 //! Taking all lanes to write, and putting them back with one more record or without.
 
-ghost use Rattle.std.specs.Prelude.{◌≡◌, ◌≢◌, ℕ, ◌-◌, ◌<◌, ◌++◌, ◌∷◌, [], true, length, slice_index, None, IfOk, IfErr};
+ghost use Rattle.std.specs.Prelude.{◌≡◌, ◌≢◌, ℕ, ◌-◌, ◌<◌, ◌++◌, ◌∷◌, [], true};
+ghost use Rattle.std.specs.Prelude.{length, slice_index, None, IfOk, IfErr};
 ghost use Rattle.std.specs.Prelude.{OnOk, OnErr};
 ghost use Rattle.std.specs.Arc.{arc_value};
 ghost use Rattle.atomic_table.specs.Table.{rest};
@@ -29,7 +30,8 @@ fn apply_alone<K: Kept>(
 ) -> Result<K::Stamp, CommitError>
     requires { K.may (arc_value share.old) act.now }
     ensures record { IfOk result (λ _. (r : K.Record)
-        × (K.history (arc_value share.new) ≡ K.history (arc_value share.old) ++ r ∷ []) × (K.maker r ≡ pass.0)) }
+        × (K.history (arc_value share.new) ≡ K.history (arc_value share.old) ++ r ∷ [])
+        × (K.maker r ≡ pass.0)) }
     ensures gives { IfOk result (λ stamp.
         K.gives (arc_value share.old) pass.0 act.now stamp (arc_value share.new)) }
     ensures err { OnErr result (K.history (arc_value share.new) ≡ K.history (arc_value share.old)) }

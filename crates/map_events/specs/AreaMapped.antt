@@ -1,5 +1,6 @@
 -- Pages of an area that is mapped in the page tables over its address space.
-use Rattle.std.specs.Prelude.{ℕ, ◌≡◌, ◌<◌, ◌*◌, ◌==◌, ◌&&◌, ◌++◌, true, Option, Some, is_some, List, [], ◌∷◌, find}
+use Rattle.std.specs.Prelude.{ℕ, ◌≡◌, ◌<◌, ◌*◌, ◌==◌, ◌&&◌, ◌++◌, true, Option, Some}
+use Rattle.std.specs.Prelude.{is_some, List, [], ◌∷◌, find}
 use Rattle.std.specs.Prelude.{if◌then◌else◌}
 use Rattle.frame_memory.specs.Pool.{FramePool}
 use Rattle.hwpt_device.specs.OverSpans.{CanMap, HaveSpan, frames_for, is_over, tables_missing, with_missing}
@@ -19,7 +20,8 @@ use Rattle.user_memory.specs.Memory.{Memory, pinned_frame, rows_of, table_pins}
 
 -- through the page tables over the area's address space its pages lead to the frames at which they are pinned; every
 -- other page leads where it did
-abbrev pub area_leads : Memory → Area → (Object → ℕ → Option MappedPage) → Object → ℕ → Option MappedPage
+abbrev pub area_leads : Memory → Area → (Object → ℕ → Option MappedPage) → Object → ℕ →
+    Option MappedPage
 area_leads m area leads object page =
     if is_over area.file area.ioas object && is_some (live_area_at page (area ∷ []))
     then leads_in (pinned_frame m) (area ∷ []) page

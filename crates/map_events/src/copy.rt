@@ -1,6 +1,7 @@
 //! COPY: the memory of an area is mapped a second time, at a fixed address or at one that the server chooses.
 
-ghost use Rattle.std.specs.Prelude.{ℕ, ◌≡◌, ◌==◌, ◌&&◌, ◌||◌, not, true, false, IfOk, OnErr, Option, Some, [], ◌∷◌};
+ghost use Rattle.std.specs.Prelude.{ℕ, ◌≡◌, ◌==◌, ◌&&◌, ◌||◌, not, true, false, IfOk, OnErr};
+ghost use Rattle.std.specs.Prelude.{Option, Some, [], ◌∷◌};
 ghost use Rattle.std.specs.Option.{option_copied};
 ghost use Rattle.iofd_words.specs.Areas.{has_no_room};
 ghost use Rattle.iofd_words.specs.Checks.{copy_checks, is_outside_usable, is_source_writable, lacks_choice};

@@ -1,6 +1,7 @@
 //! MAP: pages of a user's memory at a fixed address, or at one that the server chooses.
 
-ghost use Rattle.std.specs.Prelude.{◌≡◌, ◌==◌, ◌&&◌, ◌||◌, not, true, false, IfOk, OnErr, Option, [], ◌∷◌};
+ghost use Rattle.std.specs.Prelude.{◌≡◌, ◌==◌, ◌&&◌, ◌||◌, not, true, false, IfOk, OnErr, Option};
+ghost use Rattle.std.specs.Prelude.{[], ◌∷◌};
 ghost use Rattle.iofd_words.specs.After.{memory_object};
 ghost use Rattle.iofd_words.specs.Areas.{areas_meet, has_no_room};
 ghost use Rattle.iofd_words.specs.Checks.{is_outside_usable, lacks_choice, lacks_mapped_frames, lacks_mapped_page};

@@ -1,6 +1,7 @@
 //! Where an area comes to lie: at a fixed address, or at one that the server chooses.
 
-ghost use Rattle.std.specs.Prelude.{◌≡◌, ◌==◌, ◌&&◌, ◌||◌, not, true, false, is_none, IfSome, MatchOption};
+ghost use Rattle.std.specs.Prelude.{◌≡◌, ◌==◌, ◌&&◌, ◌||◌, not, true, false};
+ghost use Rattle.std.specs.Prelude.{is_none, IfSome, MatchOption};
 ghost use Rattle.iofd_words.specs.After.{mapped_area};
 ghost use Rattle.iofd_words.specs.Areas.{areas_meet};
 ghost use Rattle.iofd_words.specs.Checks.{is_outside_usable, lacks_choice, lacks_mapped_frames, mapped_span};

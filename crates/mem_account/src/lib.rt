@@ -1,7 +1,8 @@
 //! How many pinned pages each user has, and may have (iommufd.rst, accounting of locked memory).
 #![tactic(auto)]
 
-ghost use Rattle.std.specs.Prelude.{◌≡◌, ◌↔◌, ◌+◌, ◌<◌, ◌≤◌, length, map, IsErr, IfErr, IfOk, IsTrue, OnOk, OnErr};
+ghost use Rattle.std.specs.Prelude.{◌≡◌, ◌↔◌, ◌+◌, ◌<◌, ◌≤◌, length, map, IsErr, IfErr};
+ghost use Rattle.std.specs.Prelude.{IfOk, IsTrue, OnOk, OnErr};
 ghost use Rattle.mem_account.specs.Accounts.{charged, fresh, has_room, held_by, is_user, limit_of, refunded};
 
 use iofd_words::{Cause, NoMemory, Refusal, UserNo};

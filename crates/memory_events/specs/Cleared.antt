@@ -1,5 +1,6 @@
 -- Pages of areas that are cleared in the page tables of their address space.
-use Rattle.std.specs.Prelude.{ℕ, ◌≡◌, Bool, true, false, ◌&&◌, Option, None, is_some, List, if◌then◌else◌}
+use Rattle.std.specs.Prelude.{ℕ, ◌≡◌, Bool, true, false, ◌&&◌, Option, None}
+use Rattle.std.specs.Prelude.{is_some, List, if◌then◌else◌}
 use Rattle.std.specs.List.{list_all, list_any}
 use Rattle.hwpt_device.specs.OverSpans.{is_over}
 use Rattle.hwpt_device.specs.PageTables.{Hwpt, Stand}
@@ -17,7 +18,8 @@ use Rattle.table_words.specs.Rows.{MappedPage}
 
 -- through the page tables over the address space the pages of the live ones of these areas lead nowhere; every other
 -- page leads where it did
-abbrev pub cleared : FileNo → ObjId → List Area → (Object → ℕ → Option MappedPage) → Object → ℕ → Option MappedPage
+abbrev pub cleared : FileNo → ObjId → List Area → (Object → ℕ → Option MappedPage) → Object → ℕ →
+    Option MappedPage
 cleared file ioas areas leads object page =
     if is_over file ioas object && is_some (live_area_at page areas) then None else leads object page
 
@@ -30,4 +32,5 @@ pub record CanClear (pool : FramePool) (tables : List Hwpt) (file : FileNo) (ioa
     (areas : List Area) : Type 0 where
   pub stand : Stand pool tables
   pub starts : list_all begins_at_page areas ≡ true
-  pub below : (h : Hwpt) → IsIn tables h → is_over file ioas h.object ≡ true → list_any (is_beyond h) areas ≡ false
+  pub below : (h : Hwpt) → IsIn tables h → is_over file ioas h.object ≡ true →
+      list_any (is_beyond h) areas ≡ false

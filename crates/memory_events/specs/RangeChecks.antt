@@ -13,4 +13,5 @@ use Rattle.iofd_words.specs.declared.refusal.Cause.TheVariants as cause
 
 abbrev pub range_checks : View → FileNo → ObjId → List Bounds → List (Cause × Bool)
 range_checks v file ioas ranges =
-    (cause.List, not (are_ranges ranges)) ∷ (cause.Narrow, list_any (meets_some (unusable_in v file ioas)) ranges) ∷ []
+    (cause.List, not (are_ranges ranges))
+    ∷ (cause.Narrow, list_any (meets_some (unusable_in v file ioas)) ranges) ∷ []

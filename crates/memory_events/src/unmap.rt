@@ -1,6 +1,7 @@
 //! UNMAP: areas go, or are on their way out until devices have flushed.
 
-ghost use Rattle.std.specs.Prelude.{◌≡◌, ◌<◌, ◌≤◌, ◌^◌, ◌&&◌, ◌∷◌, [], ℕ, false, length, not, IfSome, IsSome};
+ghost use Rattle.std.specs.Prelude.{◌≡◌, ◌<◌, ◌≤◌, ◌^◌, ◌&&◌, ◌∷◌, [], ℕ, false};
+ghost use Rattle.std.specs.Prelude.{length, not, IfSome, IsSome};
 ghost use Rattle.area_rows.specs.Areas.{bytes_of};
 ghost use Rattle.iofd_words.specs.Areas.{areas_meet, is_cut, is_everything, most_areas, unmapped_span};
 ghost use Rattle.iofd_words.specs.Checks.{unmap_checks};

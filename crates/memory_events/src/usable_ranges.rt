@@ -1,6 +1,7 @@
 //! The usable ranges of an address space: what IOMMU_IOAS_IOVA_RANGES tells (uapi header, `linux/iommufd.h`).
 
-ghost use Rattle.std.specs.Prelude.{ℕ, ◌≡◌, ◌==◌, ◌&&◌, ◌||◌, ◌^◌, not, nat_lt, false, IfOk, OnOk, MatchOption};
+ghost use Rattle.std.specs.Prelude.{ℕ, ◌≡◌, ◌==◌, ◌&&◌, ◌||◌, ◌^◌, not, nat_lt, false, IfOk};
+ghost use Rattle.std.specs.Prelude.{OnOk, MatchOption};
 ghost use Rattle.std.specs.List.{list_any};
 ghost use Rattle.iofd_rows.specs.Reached as reached;
 ghost use Rattle.iofd_words.specs.Files.{device_of};

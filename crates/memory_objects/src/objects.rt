@@ -1,6 +1,7 @@
 //! All memory objects, by number.
 
-ghost use Rattle.std.specs.Prelude.{ℕ, ◌≡◌, ◌==◌, ◌+◌, ◌<◌, ◌≤◌, ◌^◌, ◌&&◌, ◌++◌, ◌∷◌, [], false, None, find, length};
+ghost use Rattle.std.specs.Prelude.{ℕ, ◌≡◌, ◌==◌, ◌+◌, ◌<◌, ◌≤◌, ◌^◌, ◌&&◌};
+ghost use Rattle.std.specs.Prelude.{◌++◌, ◌∷◌, [], false, None, find, length};
 ghost use Rattle.std.specs.Prelude.{slice_get, if◌then◌else◌, IsTrue, IfSome, OnOk, OnErr};
 ghost use Rattle.std.specs.List.Sorted.{IsNonDecreasing};
 ghost use Rattle.std.specs.Option.{option_map};

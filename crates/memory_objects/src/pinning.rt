@@ -47,7 +47,8 @@ pub(crate) fn pin_all<A: Allocator, B: Allocator, C: Allocator, D: Allocator>(
 )
     requires rising { IsTrue (are_rising entries.old.items) }
     requires can { CanPin (standing entries.old.items) numbers.now users.now.pages pool.old.holds accounts.old }
-    ensures entries { standing entries.new.items ≡ all_pinned users.now.pages numbers.now (standing entries.old.items) }
+    ensures entries { standing entries.new.items
+        ≡ all_pinned users.now.pages numbers.now (standing entries.old.items) }
     ensures rising { IsTrue (are_rising entries.new.items) }
     ensures pool { HoldsMove (standing entries.old.items) (standing entries.new.items) pool.old pool.new }
     ensures accounts { AccountsMove (standing entries.old.items) (standing entries.new.items)

@@ -1,7 +1,8 @@
 //! Areas over memory objects, one more or one less. An object over which none is left is gone: its memory is given
 //! back at once, and its entry with many others, so that no removal goes over all objects.
 
-ghost use Rattle.std.specs.Prelude.{◌≡◌, ◌∷◌, ◌<◌, ◌≤◌, ◌+◌, ◌^◌, [], true, IsTrue, IfSome, if◌then◌else◌, length};
+ghost use Rattle.std.specs.Prelude.{◌≡◌, ◌∷◌, ◌<◌, ◌≤◌, ◌+◌, ◌^◌, [], true, IsTrue};
+ghost use Rattle.std.specs.Prelude.{IfSome, if◌then◌else◌, length};
 ghost use Rattle.std.specs.Prelude.{vec_len, vec_capacity};
 ghost use Rattle.memory_objects.specs.Objects.{are_below, are_rising, have_areas, object_at, standing, with_area};
 ghost use Rattle.memory_objects.specs.Objects.{without_areas};

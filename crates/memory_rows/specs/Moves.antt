@@ -1,5 +1,6 @@
 -- What areas ask of the memory objects that they are over, as they go, or are translated from now on or no longer.
-use Rattle.std.specs.Prelude.{ℕ, ◌≡◌, ◌≤◌, ◌+◌, Bool, true, false, None, is_none, List, map, if◌then◌else◌}
+use Rattle.std.specs.Prelude.{ℕ, ◌≡◌, ◌≤◌, ◌+◌, Bool, true, false, None, is_none}
+use Rattle.std.specs.Prelude.{List, map, if◌then◌else◌}
 use Rattle.std.specs.List.{list_any}
 use Rattle.frame_memory.specs.Pool.{FramePool}
 use Rattle.iofd_words.specs.Pins.{ObjectPage, unpinned_pages}

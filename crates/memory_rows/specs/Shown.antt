@@ -1,6 +1,7 @@
 -- When the users' memory and a pool show the rows of a world: users' pages, memory objects with their areas, pins, and
 -- the bytes of frames.
-use Rattle.std.specs.Prelude.{◌≡◌, ◌==◌, ◌&&◌, ◌<◌, ◌≤◌, ◌+◌, ℕ, Bool, nat_lt, List, length, slice_index}
+use Rattle.std.specs.Prelude.{◌≡◌, ◌==◌, ◌&&◌, ◌<◌, ◌≤◌, ◌+◌, ℕ, Bool, nat_lt, List}
+use Rattle.std.specs.Prelude.{length, slice_index}
 use Rattle.std.specs.List.{count_by, list_any}
 use Rattle.frame_memory.specs.Pool.{FramePool, bytes_of}
 use Rattle.iofd_words.specs.Frames.{FrameWrite, byte_at, frame_at}
@@ -23,7 +24,8 @@ abbrev pub over : List Area → ℕ → ℕ
 over areas number = count_by (λ area. area.memory == number) areas
 
 abbrev pub translated : List Object → List Area → ℕ → ℕ
-translated objects areas number = count_by (λ area. area.memory == number && has_hwpt objects area.file area.ioas) areas
+translated objects areas number =
+    count_by (λ area. area.memory == number && has_hwpt objects area.file area.ioas) areas
 
 -- which page is which frame; the same rows, in whatever order
 pub record UsersShown (user_pages kept : List UserPage) : Type 0 where

@@ -32,7 +32,8 @@ module _ (V A : RattleType) (alloc : Ghosts A.Denot) where
       (λ value. record t.now { rows = changed_at file id (with_value value) t.now.rows })
 
   -- the same where r is in an answer, and at an error the table stays as it was
-  abbrev pub lends_get : MutBor (Table V.Denot) → FileNo → ObjId → {E : Type 0} → Result (MutBor V.Denot) E → Fml
+  abbrev pub lends_get : MutBor (Table V.Denot) → FileNo → ObjId → {E : Type 0} →
+      Result (MutBor V.Denot) E → Fml
   lends_get t file id r =
       LendsIfOk (table_row.the_row V A alloc) V t r
       (λ value. record t.now { rows = changed_at file id (with_value value) t.now.rows })

@@ -1,5 +1,6 @@
 -- The objects of all files, as contracts see them.
-use Rattle.std.specs.Prelude.{◌≡◌, ◌≢◌, ℕ, ◌-◌, Bool, true, false, ◌&&◌, ◌||◌, not, ◌==◌, nat_lt, nat_le, if◌then◌else◌}
+use Rattle.std.specs.Prelude.{◌≡◌, ◌≢◌, ℕ, ◌-◌, Bool, true, false, ◌&&◌, ◌||◌, not}
+use Rattle.std.specs.Prelude.{◌==◌, nat_lt, nat_le, if◌then◌else◌}
 use Rattle.std.specs.Prelude.{Option, Some, None, is_none, List, [], ◌∷◌, length, map, filter, find, replicate}
 use Rattle.std.specs.Prelude.{slice_index_or, slice_set}
 use Rattle.std.specs.List.{list_any}
@@ -137,7 +138,8 @@ module _ {V : Type 0} where
 
   -- every file but this one keeps its reserved room
   abbrev pub OthersKeepRoom : FileNo → Table V → Table V → Type 0
-  OthersKeepRoom file old new = (other : FileNo) → other.0 ≢ file.0 → reserved_id new other ≡ reserved_id old other
+  OthersKeepRoom file old new =
+      (other : FileNo) → other.0 ≢ file.0 → reserved_id new other ≡ reserved_id old other
 
 -- want of memory comes only where nothing refuses
 abbrev pub IsWhy : Option Cause → CallError → Type 0

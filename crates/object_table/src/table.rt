@@ -1,6 +1,7 @@
 //! The table of all files, and what it answers.
 
-ghost use Rattle.std.specs.Prelude.{◌≡◌, ℕ, ◌≤◌, ◌<◌, ◌+◌, None, IsSome, Some, IfOk, IfErr, MatchOption, nat_le};
+ghost use Rattle.std.specs.Prelude.{◌≡◌, ℕ, ◌≤◌, ◌<◌, ◌+◌, None, IsSome, Some, IfOk, IfErr};
+ghost use Rattle.std.specs.Prelude.{MatchOption, nat_le};
 ghost use Rattle.std.specs.Prelude.{length, option_copied};
 ghost use Rattle.std.specs.List.{list_any};
 ghost use Rattle.std.specs.Option.{option_map};

@@ -1,6 +1,7 @@
 //! The entries of tables.
 
-ghost use Rattle.std.specs.Prelude.{ℕ, ◌≡◌, ◌≤◌, ◌<◌, ◌+◌, ◌*◌, ◌/◌, ◌%◌, ◌^◌, ◌==◌, not, length};
+ghost use Rattle.std.specs.Prelude.{ℕ, ◌≡◌, ◌≤◌, ◌<◌, ◌+◌, ◌*◌, ◌/◌, ◌%◌, ◌^◌};
+ghost use Rattle.std.specs.Prelude.{◌==◌, not, length};
 ghost use Rattle.table_words.specs.Entries.{WritesEntry, entry_at};
 ghost use Rattle.iofd_words.specs.Levels.{index_at};
 

@@ -1,6 +1,7 @@
 //! Tables that a page lacks.
 
-ghost use Rattle.std.specs.Prelude.{ℕ, ◌≡◌, ◌≤◌, ◌<◌, ◌+◌, ◌-◌, ◌++◌, List, slice_index, vec_len, vec_capacity};
+ghost use Rattle.std.specs.Prelude.{ℕ, ◌≡◌, ◌≤◌, ◌<◌, ◌+◌, ◌-◌, ◌++◌, List};
+ghost use Rattle.std.specs.Prelude.{slice_index, vec_len, vec_capacity};
 ghost use Rattle.iofd_words.specs.declared.numbers.FrameNo.{FrameNo};
 ghost use Rattle.frame_memory.specs.Pool.{free_count};
 ghost use Rattle.table_words.specs.Extended.{AddsTable, Extends};

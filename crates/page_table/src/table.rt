@@ -1,6 +1,7 @@
 //! A hardware page table.
 
-ghost use Rattle.std.specs.Prelude.{ℕ, ◌≡◌, ◌≤◌, ◌<◌, ◌+◌, ◌-◌, ◌*◌, ◌^◌, [], ◌∷◌, ◌++◌, List, IfOk, IfSome, IfNone};
+ghost use Rattle.std.specs.Prelude.{ℕ, ◌≡◌, ◌≤◌, ◌<◌, ◌+◌, ◌-◌, ◌*◌, ◌^◌, []};
+ghost use Rattle.std.specs.Prelude.{◌∷◌, ◌++◌, List, IfOk, IfSome, IfNone};
 ghost use Rattle.std.specs.Prelude.{OnOk, OnErr, length, vec_len, vec_capacity};
 ghost use Rattle.std.specs.List.{count_by, range_with_len};
 ghost use Rattle.iofd_words.specs.Width.{bits_of};

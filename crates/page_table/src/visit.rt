@@ -1,6 +1,7 @@
 //! All tables below a table.
 
-ghost use Rattle.std.specs.Prelude.{ℕ, ◌≡◌, ◌≢◌, ◌≤◌, ◌<◌, ◌+◌, ◌-◌, ◌%◌, ◌^◌, ◌++◌, IsTrue, length, vec_len};
+ghost use Rattle.std.specs.Prelude.{ℕ, ◌≡◌, ◌≢◌, ◌≤◌, ◌<◌, ◌+◌, ◌-◌, ◌%◌};
+ghost use Rattle.std.specs.Prelude.{◌^◌, ◌++◌, IsTrue, length, vec_len};
 ghost use Rattle.std.specs.Prelude.{vec_capacity};
 ghost use Rattle.table_words.specs.Entries.{entry_at};
 ghost use Rattle.table_words.specs.Under.{HoldsTable, frames_under};

@@ -1,6 +1,7 @@
 //! The frames of a user's pages, and their holds.
 
-ghost use Rattle.std.specs.Prelude.{◌≡◌, ◌≤◌, ◌<◌, ◌+◌, ◌*◌, ◌^◌, ◌++◌, IsTrue, vec_capacity, vec_len};
+ghost use Rattle.std.specs.Prelude.{◌≡◌, ◌≤◌, ◌<◌, ◌+◌, ◌*◌, ◌^◌, ◌++◌, IsTrue};
+ghost use Rattle.std.specs.Prelude.{vec_capacity, vec_len};
 ghost use Rattle.iofd_words.specs.Checks.{has_pages};
 ghost use Rattle.iofd_words.specs.Frames.{frame_at};
 ghost use Rattle.iofd_words.specs.Pages.{page_of};

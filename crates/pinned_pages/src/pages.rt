@@ -1,6 +1,7 @@
 //! A memory object and its pins.
 
-ghost use Rattle.std.specs.Prelude.{ℕ, ◌≡◌, ◌≤◌, ◌<◌, ◌+◌, ◌*◌, ◌^◌, ◌&&◌, [], IsTrue, IfSome, IfNone, OnOk, OnErr};
+ghost use Rattle.std.specs.Prelude.{ℕ, ◌≡◌, ◌≤◌, ◌<◌, ◌+◌, ◌*◌, ◌^◌, ◌&&◌, []};
+ghost use Rattle.std.specs.Prelude.{IsTrue, IfSome, IfNone, OnOk, OnErr};
 ghost use Rattle.std.specs.Prelude.{IsOkUnless, is_some, length, nat_lt, None, true};
 ghost use Rattle.iofd_words.specs.Pages.{is_whole};
 ghost use Rattle.mem_account.specs.Accounts.{held_by, is_user};

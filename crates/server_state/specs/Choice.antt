@@ -1,6 +1,7 @@
 -- Which of the lawful answers is given: where a flush is owed the fault, to a user's new page and to each new table the
 -- least free frame, and to a MAP without a fixed address the least that may be chosen.
-use Rattle.std.specs.Prelude.{◌≡◌, ℕ, ◌≤◌, ◌==◌, Bool, true, false, Option, Some, None, List, [], ◌∷◌, ◌&&◌, filter}
+use Rattle.std.specs.Prelude.{◌≡◌, ℕ, ◌≤◌, ◌==◌, Bool, true, false, Option, Some, None, List, []}
+use Rattle.std.specs.Prelude.{◌∷◌, ◌&&◌, filter}
 use Rattle.std.specs.Prelude.{find, length, map, take, Contains}
 use Rattle.std.specs.List.{list_all, list_any, range_with_len}
 use Rattle.std.specs.Option.{option_map}
@@ -68,7 +69,8 @@ WriteChosen uncached (Some frame) told answer = answer ≡ told (Passes frame)
 -- of the addresses that may be chosen for a MAP the least is; a fixed one is no choice
 abbrev pub IsLeastMapped : World → FileNo → MapRequest → Bool → Reply → Type 0
 IsLeastMapped w file request true answer = Unit {0}
-IsLeastMapped w file request false (reply.Iova iova) = (x : ℕ) → may_choose (view w) file request x ≡ true → iova.0 ≤ x
+IsLeastMapped w file request false (reply.Iova iova) =
+    (x : ℕ) → may_choose (view w) file request x ≡ true → iova.0 ≤ x
 IsLeastMapped w file request false answer = ⊥
 
 -- a user's new page gets the least frame that nobody reaches; which id an object gets is the server's

@@ -114,7 +114,8 @@ module _ {A : Type 0} where
       → Answers w event reply × IsChosen w event via reply × Shows (changed at w event reply) new
 
   -- the same of one that takes and gives back these frames, which are those that are chosen
-  abbrev pub MovingSteps : ℕ → Event A → Option FrameNo → State A → Reply → List FrameNo → List FrameNo → State A
+  abbrev pub MovingSteps : ℕ → Event A → Option FrameNo → State A → Reply → List FrameNo →
+      List FrameNo → State A
       → Type 0
   MovingSteps at event via old reply taken given new =
       (w : World) → IsTidy at w → Shows w old → refusal w event ≡ None → MayUse w event via
@@ -125,9 +126,11 @@ module _ {A : Type 0} where
 
   -- whatever the event: its record is one that may be made, its reply and its frames are those that are chosen, and the
   -- world after it is shown
-  abbrev pub Answered : ℕ → Event A → Option FrameNo → State A → Reply → List FrameNo → List FrameNo → State A → Type 0
+  abbrev pub Answered : ℕ → Event A → Option FrameNo → State A → Reply → List FrameNo → List FrameNo →
+      State A → Type 0
   Answered at event via old reply taken given new =
       (pass : PassNo) (w : World) → IsTidy at w → Shows w old → (refusal w event ≡ None → MayUse w event via)
       → Lawful at w (recorded {A = A} pass event reply taken given)
-      × (refusal w event ≡ None → IsChosen w event via reply × AreFramesChosen w (changed at w event reply) taken given)
+      × (refusal w event ≡ None →
+      IsChosen w event via reply × AreFramesChosen w (changed at w event reply) taken given)
       × Shows (after at w (recorded {A = A} pass event reply taken given)) new

@@ -1,6 +1,7 @@
 //! Changes of one address space's areas: one comes, or some go.
 
-ghost use Rattle.std.specs.Prelude.{◌≡◌, ◌<◌, ◌==◌, not, true, None, [], length, map, OnErr, OnOk, MatchOption};
+ghost use Rattle.std.specs.Prelude.{◌≡◌, ◌<◌, ◌==◌, not, true, None, [], length, map};
+ghost use Rattle.std.specs.Prelude.{OnErr, OnOk, MatchOption};
 ghost use Rattle.std.specs.List.{list_any};
 ghost use Rattle.area_rows.specs.Areas.{AreKept, areas_outside, areas_within, marked, with_area};
 ghost use Rattle.area_map.specs.Insertion.{insert_refusal};

@@ -1,6 +1,7 @@
 //! Bindings and attachments stand by rising device, and are found by search.
 
-ghost use Rattle.std.specs.Prelude.{◌≡◌, ◌<◌, ◌≤◌, IfSome, IsTrue, length, nat_lt, position, vec_capacity, vec_len};
+ghost use Rattle.std.specs.Prelude.{◌≡◌, ◌<◌, ◌≤◌, IfSome, IsTrue, length, nat_lt, position};
+ghost use Rattle.std.specs.Prelude.{vec_capacity, vec_len};
 ghost use Rattle.std.specs.List.{insert, prefix_len};
 ghost use Rattle.std.specs.Option.{option_copied};
 ghost use Rattle.iofd_runs.specs.Fits.{devices_rise};

@@ -26,7 +26,8 @@ impl<A: Allocator> State<A> {
         requires known { IsKnown self.now }
         requires pages { is_whole_pages span ≡ true }
         requires usable { meets_some
-            (unusable self.now.config (objects_in self.now.objects) self.now.attachments.items file ioas) span ≡ false }
+            (unusable self.now.config (objects_in self.now.objects) self.now.attachments.items file ioas) span
+            ≡ false }
         ensures { result ≡ tables_to_map (seen self.now) file ioas span }
     {
         // Its clause says that the configuration is within its limits: so there are few page tables.

@@ -14,7 +14,8 @@ ghost use Rattle.table_words.specs.Taken.{missing, with_tables};
 /// pages can be mapped where as many frames are free as they need.
 pub fn mapping_takes_what_is_needed()
     ensures { (pool : FramePool) (table : TableRoot) (rows : List TableRow) (pages : List MappedPage) (page : ℕ)
-        (spans : List Bounds) → TableStands pool table rows pages → IsBelow table.width page → HasPage spans page →
+        (spans : List Bounds) → TableStands pool table rows pages → IsBelow table.width page →
+        HasPage spans page →
         missing rows (levels_of table.width) page ≤ free_count pool.holds →
         needed (with_tables rows (levels_of table.width) page pool.holds) (levels_of table.width) spans
         + missing rows (levels_of table.width) page

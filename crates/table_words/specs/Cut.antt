@@ -1,5 +1,6 @@
 -- What a page table is once the tables are cut off that go below one of its tables.
-use Rattle.std.specs.Prelude.{ℕ, ◌≡◌, ◌≤◌, Bool, ◌==◌, ◌&&◌, not, nat_lt, false, Some, List, ◌++◌, filter, map}
+use Rattle.std.specs.Prelude.{ℕ, ◌≡◌, ◌≤◌, Bool, ◌==◌, ◌&&◌, not, nat_lt, false, Some, List}
+use Rattle.std.specs.Prelude.{◌++◌, filter, map}
 use Rattle.std.specs.List.{count_by}
 use Rattle.std.specs.List.Sorted.{IsPermutation}
 use Rattle.iofd_words.specs.Bounds.{Bounds}

@@ -1,5 +1,6 @@
 -- What a page table is once tables are made that a page lacks.
-use Rattle.std.specs.Prelude.{ℕ, ◌≡◌, ◌≢◌, ◌⊎◌, ◌<◌, ◌+◌, ◌-◌, ◌*◌, ◌^◌, ◌++◌, false, Some, List, slice_set}
+use Rattle.std.specs.Prelude.{ℕ, ◌≡◌, ◌≢◌, ◌⊎◌, ◌<◌, ◌+◌, ◌-◌, ◌*◌, ◌^◌}
+use Rattle.std.specs.Prelude.{◌++◌, false, Some, List, slice_set}
 use Rattle.iofd_words.specs.declared.numbers.FrameNo.{FrameNo}
 use Rattle.frame_memory.specs.Pool.{FramePool, bytes_of, is_free, least_free}
 use Rattle.table_words.specs.Entries.{entry_at}

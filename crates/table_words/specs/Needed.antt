@@ -1,5 +1,6 @@
 -- How many tables spans of addresses need that aren't there.
-use Rattle.std.specs.Prelude.{ℕ, ◌≡◌, ◌<◌, ◌+◌, ◌-◌, ◌*◌, ◌^◌, Bool, ◌&&◌, nat_le, true, is_none, List, length}
+use Rattle.std.specs.Prelude.{ℕ, ◌≡◌, ◌<◌, ◌+◌, ◌-◌, ◌*◌, ◌^◌, Bool, ◌&&◌, nat_le}
+use Rattle.std.specs.Prelude.{true, is_none, List, length}
 use Rattle.std.specs.Prelude.{slice_index_or}
 use Rattle.std.specs.List.{All, count_by, list_any, range_with_len, sum_by}
 use Rattle.iofd_words.specs.Bounds.{Bounds}
@@ -40,4 +41,5 @@ needed rows levels spans = sum_by (λ level. needed_at rows levels level spans) 
 
 -- one of the spans has the page
 abbrev pub HasPage : List Bounds → ℕ → Type 0
-HasPage spans page = list_any (λ span. nat_le (page_of span.first) page && nat_le page (page_of span.last)) spans ≡ true
+HasPage spans page =
+    list_any (λ span. nat_le (page_of span.first) page && nat_le page (page_of span.last)) spans ≡ true

@@ -1,5 +1,6 @@
 -- Which tables go where a page table is pruned, and what is left of it.
-use Rattle.std.specs.Prelude.{ℕ, ◌≡◌, ◌≤◌, Bool, ◌==◌, ◌&&◌, ◌||◌, not, nat_lt, true, false, List, filter, length}
+use Rattle.std.specs.Prelude.{ℕ, ◌≡◌, ◌≤◌, Bool, ◌==◌, ◌&&◌, ◌||◌, not, nat_lt, true, false}
+use Rattle.std.specs.Prelude.{List, filter, length}
 use Rattle.std.specs.Prelude.{slice_index}
 use Rattle.std.specs.List.{list_any}
 use Rattle.iofd_words.specs.Bounds.{Bounds}
@@ -46,6 +47,7 @@ pub record CanPrune (pool : FramePool) (table : TableRoot) (kept : List Bounds) 
 -- frame but those of the tables that stay
 pub record Prunes (gone left : List TableRow) (old new : FramePool) : Type 0 where
   pub free : (frame : ℕ) → names gone frame ≡ true → slice_index new.holds frame ≡ 0
-  pub others : (frame : ℕ) → names gone frame ≡ false → slice_index new.holds frame ≡ slice_index old.holds frame
+  pub others : (frame : ℕ) → names gone frame ≡ false →
+      slice_index new.holds frame ≡ slice_index old.holds frame
   pub bytes : (frame : ℕ) → names left frame ≡ false → bytes_of new frame ≡ bytes_of old frame
   pub count : length new.holds ≡ length old.holds

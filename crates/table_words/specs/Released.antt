@@ -1,5 +1,6 @@
 -- What is left where a page table is given back.
-use Rattle.std.specs.Prelude.{ℕ, ◌≡◌, ◌≤◌, ◌+◌, ◌==◌, true, false, List, ◌++◌, length, map, slice_index}
+use Rattle.std.specs.Prelude.{ℕ, ◌≡◌, ◌≤◌, ◌+◌, ◌==◌, true, false, List, ◌++◌}
+use Rattle.std.specs.Prelude.{length, map, slice_index}
 use Rattle.std.specs.List.{count_by}
 use Rattle.std.specs.List.Sorted.{IsNonDecreasingBy, IsPermutation}
 use Rattle.iofd_words.specs.declared.numbers.FrameNo.{FrameNo}
@@ -35,6 +36,7 @@ pub record GivesBack (rows : List TableRow) (old new : List FrameNo) : Type 0 wh
 -- no hold is left on the frames of these tables; every other hold and every byte is as it was
 pub record Releases (rows : List TableRow) (old new : FramePool) : Type 0 where
   pub free : (frame : ℕ) → names rows frame ≡ true → slice_index new.holds frame ≡ 0
-  pub others : (frame : ℕ) → names rows frame ≡ false → slice_index new.holds frame ≡ slice_index old.holds frame
+  pub others : (frame : ℕ) → names rows frame ≡ false →
+      slice_index new.holds frame ≡ slice_index old.holds frame
   pub bytes : new.bytes ≡ old.bytes
   pub count : length new.holds ≡ length old.holds

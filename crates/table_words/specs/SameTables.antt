@@ -7,4 +7,5 @@ use Rattle.table_words.specs.Taken.{names}
 -- in both pools each table's frame has the same words, and as many holds
 pub record SameTables (rows : List TableRow) (old new : FramePool) : Type 0 where
   pub words : (frame i : ℕ) → names rows frame ≡ true → i < 512 → word_at new frame i ≡ word_at old frame i
-  pub holds : (frame : ℕ) → names rows frame ≡ true → slice_index new.holds frame ≡ slice_index old.holds frame
+  pub holds : (frame : ℕ) → names rows frame ≡ true →
+      slice_index new.holds frame ≡ slice_index old.holds frame

@@ -1,5 +1,6 @@
 -- What ties a hardware page table to the words of the pool.
-use Rattle.std.specs.Prelude.{ℕ, ◌≡◌, ◌≤◌, ◌<◌, ◌+◌, ◌-◌, ◌^◌, true, is_some, ◌==◌, Some, List, slice_index}
+use Rattle.std.specs.Prelude.{ℕ, ◌≡◌, ◌≤◌, ◌<◌, ◌+◌, ◌-◌, ◌^◌, true, is_some, ◌==◌}
+use Rattle.std.specs.Prelude.{Some, List, slice_index}
 use Rattle.std.specs.List.{count_by, list_all}
 use Rattle.iofd_words.specs.Pages.{page_of}
 use Rattle.iofd_words.specs.declared.numbers.FrameNo.{FrameNo}
@@ -40,7 +41,8 @@ pub record Stands (pool : FramePool) (levels : ℕ) (root : FrameNo) (rows : Lis
   pub leaves : (page : ℕ) (frame : FrameNo) → table_at rows 1 page ≡ Some frame →
       entry_at pool frame.0 (index_at 1 page) ≡ page_entry (page_at pages page)
   -- each mapped page goes through a table of the last level, leads to a frame, and has a right
-  pub mapped : (page : ℕ) (to : MappedPage) → page_at pages page ≡ Some to → is_some (table_at rows 1 page) ≡ true
+  pub mapped : (page : ℕ) (to : MappedPage) → page_at pages page ≡ Some to →
+      is_some (table_at rows 1 page) ≡ true
   pub rights : (page : ℕ) (to : MappedPage) → page_at pages page ≡ Some to →
       (0 < to.rights.0) × (to.rights.0 < 4) × (to.frame.0 < 2 ^ 32)
 

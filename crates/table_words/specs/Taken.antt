@@ -1,5 +1,6 @@
 -- Which frames tables take, and what a call leaves of the pool.
-use Rattle.std.specs.Prelude.{ℕ, ◌≡◌, ◌+◌, ◌-◌, zero, suc, Bool, false, ◌==◌, is_none, List, [], ◌∷◌, ◌++◌, length}
+use Rattle.std.specs.Prelude.{ℕ, ◌≡◌, ◌+◌, ◌-◌, zero, suc, Bool, false, ◌==◌, is_none, List, []}
+use Rattle.std.specs.Prelude.{◌∷◌, ◌++◌, length}
 use Rattle.std.specs.Prelude.{slice_index, slice_set}
 use Rattle.std.specs.List.{count_by, list_any, range_with_len}
 use Rattle.std.specs.Option.{option_map_or}
@@ -12,7 +13,8 @@ use Rattle.table_words.specs.Rows.{TableRow, table_at}
 unfoldable pub least_frames : List ℕ → ℕ → List FrameNo
 least_frames holds zero = []
 least_frames holds (suc count) =
-    option_map_or (λ frame. record { 0 = frame } ∷ least_frames (slice_set holds frame 1) count) (least_free holds) []
+    option_map_or (λ frame. record { 0 = frame }
+    ∷ least_frames (slice_set holds frame 1) count) (least_free holds) []
 
 -- how many tables a page lacks, of so many levels
 abbrev pub missing : List TableRow → ℕ → ℕ → ℕ
@@ -36,6 +38,7 @@ names rows frame = list_any (λ row. row.frame.0 == frame) rows
 
 -- each frame that isn't one of these tables' has as many holds as before, and the same bytes
 pub record LeavesOthers (rows : List TableRow) (old new : FramePool) : Type 0 where
-  pub holds : (frame : ℕ) → names rows frame ≡ false → slice_index new.holds frame ≡ slice_index old.holds frame
+  pub holds : (frame : ℕ) → names rows frame ≡ false →
+      slice_index new.holds frame ≡ slice_index old.holds frame
   pub bytes : (frame : ℕ) → names rows frame ≡ false → bytes_of new frame ≡ bytes_of old frame
   pub count : length new.holds ≡ length old.holds

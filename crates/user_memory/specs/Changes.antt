@@ -1,5 +1,6 @@
 -- What the calls make of the users' memory.
-use Rattle.std.specs.Prelude.{ℕ, ◌≡◌, ◌+◌, ◌==◌, not, None, ◌∷◌, [], ◌++◌, filter, length, slice_index, if◌then◌else◌}
+use Rattle.std.specs.Prelude.{ℕ, ◌≡◌, ◌+◌, ◌==◌, not, None, ◌∷◌, [], ◌++◌, filter, length}
+use Rattle.std.specs.Prelude.{slice_index, if◌then◌else◌}
 use Rattle.iofd_words.specs.Pins.{ObjectPage}
 use Rattle.iofd_words.specs.declared.rows.MemoryObject.{MemoryObject}
 use Rattle.frame_memory.specs.Pool.{FramePool}
@@ -40,8 +41,10 @@ pub record Settles (old new : Memory) (before after : FramePool) : Type 0 where
 -- a memory object comes, with one area over it and so many pins
 pub record HasObject (count : ℕ) (row : MemoryObject) (old new : Memory) : Type 0 where
   pub rows : rows_of new ≡ rows_of old ++ row ∷ []
-  pub areas : (number : ℕ) → areas_over new number ≡ areas_over old number + (if row.number == number then 1 else 0)
-  pub pins : (number : ℕ) → table_pins new number ≡ table_pins old number + (if row.number == number then count else 0)
+  pub areas : (number : ℕ) →
+      areas_over new number ≡ areas_over old number + (if row.number == number then 1 else 0)
+  pub pins : (number : ℕ) →
+      table_pins new number ≡ table_pins old number + (if row.number == number then count else 0)
 
 -- one area more lies over the memory object of this number, with so many pins
 pub record HasShare (count number : ℕ) (old new : Memory) : Type 0 where

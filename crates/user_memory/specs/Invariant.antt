@@ -1,5 +1,6 @@
 -- What holds of the users' memory at any time.
-use Rattle.std.specs.Prelude.{ℕ, ◌≡◌, ◌^◌, ◌==◌, ◌&&◌, nat_le, Bool, true, List, if◌then◌else◌}
+use Rattle.std.specs.Prelude.{ℕ, ◌≡◌, ◌^◌, ◌==◌, ◌&&◌, nat_le, Bool}
+use Rattle.std.specs.Prelude.{true, List, if◌then◌else◌}
 use Rattle.std.specs.List.{list_all}
 use Rattle.mem_account.specs.Accounts.{held_by, is_user}
 use Rattle.mem_account.specs.declared.Account.{Account}

@@ -1,5 +1,6 @@
 -- What is seen of the users' memory: their pages, their limits and the memory objects, and what is asked of it.
-use Rattle.std.specs.Prelude.{ℕ, ◌≤◌, ◌+◌, ◌^◌, Bool, true, false, ◌==◌, ◌&&◌, not, nat_le, nat_lt, Option, Some, None}
+use Rattle.std.specs.Prelude.{ℕ, ◌≤◌, ◌+◌, ◌^◌, Bool, true, false, ◌==◌, ◌&&◌, not, nat_le}
+use Rattle.std.specs.Prelude.{nat_lt, Option, Some, None}
 use Rattle.std.specs.Prelude.{List, [], ◌∷◌, filter, length, slice_index}
 use Rattle.std.specs.List.{count_by, list_all, list_any}
 use Rattle.iofd_words.specs.Files.{numbered}

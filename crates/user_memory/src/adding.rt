@@ -1,6 +1,7 @@
 //! The pages of a memory object that comes.
 
-ghost use Rattle.std.specs.Prelude.{◌≡◌, ◌≤◌, ◌+◌, ◌*◌, ◌^◌, [], true, if◌then◌else◌, IfOk, OnOk, OnErr};
+ghost use Rattle.std.specs.Prelude.{◌≡◌, ◌≤◌, ◌+◌, ◌*◌, ◌^◌, [], true, if◌then◌else◌};
+ghost use Rattle.std.specs.Prelude.{IfOk, OnOk, OnErr};
 ghost use Rattle.iofd_words.specs.Pages.{is_whole};
 ghost use Rattle.pinned_pages.specs.Holds.{HasMoreHolds};
 ghost use Rattle.user_memory.specs.Adding.{MayPin, charged_for, frames_of, pages_for};

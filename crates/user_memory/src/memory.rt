@@ -1,7 +1,9 @@
 //! The users' memory.
 
-ghost use Rattle.std.specs.Prelude.{ℕ, ◌≡◌, ◌==◌, ◌&&◌, ◌<◌, ◌≤◌, ◌+◌, ◌*◌, ◌^◌, [], ◌∷◌, false, true, None, find};
-ghost use Rattle.std.specs.Prelude.{length, nat_lt, slice_get, is_some, if◌then◌else◌, IsTrue, IsSome, IfOk, IfSome};
+ghost use Rattle.std.specs.Prelude.{ℕ, ◌≡◌, ◌==◌, ◌&&◌, ◌<◌, ◌≤◌, ◌+◌, ◌*◌};
+ghost use Rattle.std.specs.Prelude.{◌^◌, [], ◌∷◌, false, true, None, find};
+ghost use Rattle.std.specs.Prelude.{length, nat_lt, slice_get, is_some, if◌then◌else◌, IsTrue};
+ghost use Rattle.std.specs.Prelude.{IsSome, IfOk, IfSome};
 ghost use Rattle.std.specs.Prelude.{OnOk, OnErr};
 ghost use Rattle.std.specs.List.{list_all, list_any};
 ghost use Rattle.std.specs.List.Sorted.{IsNonDecreasing};
@@ -155,7 +157,8 @@ impl<A: Allocator> UserMemory<A> {
     pub fn frames(&self, number: u64) -> &[FrameNo]
         ensures each { (index : ℕ) → slice_get result.now index
             ≡ pinned_frame self.now (record { memory = number; index = index }) }
-        ensures count { 0 < table_pins self.now number → IfSome (find (λ row. row.number == number) (rows_of self.now))
+        ensures count { 0 < table_pins self.now number →
+            IfSome (find (λ row. row.number == number) (rows_of self.now))
             (λ row. length result.now ≡ row.count) }
         ensures none { table_pins self.now number ≡ 0 → result.now ≡ [] }
     {
