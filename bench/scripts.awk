@@ -75,10 +75,10 @@ function refused_alloc(    i) {
     for (i = 0; i < count; i++) alloc(9)
 }
 
-# All frames are given to the user and mapped; then in turn a umap of a page that the user has, which is refused, and a
-# read of 64 bytes of it, which passes. One page after the other.
+# Pages are given to the user and mapped, and three tables lead to them; then in turn a umap of a page that the user has,
+# which is refused, and a read of 64 bytes of it, which passes. One page after the other.
 function umap_and_dread(    i, page) {
-    head(size)
+    head(size + 3)
     alloc(1)
     give_all(size)
     map(size, 0)
@@ -122,9 +122,9 @@ function falling() {
     maps_falling(count)
 }
 
-# The same by rising addresses where a page table translates them.
+# The same by rising addresses where a page table translates them. It takes a frame for each 512 of them, and two more.
 function attached() {
-    head(8)
+    head(256)
     alloc(1)
     give(1)
     bind_and_attach()
@@ -134,7 +134,7 @@ function attached() {
 
 # One attach, with so many areas.
 function attach() {
-    head(8)
+    head(256)
     alloc(1)
     give(1)
     maps_rising(size)
