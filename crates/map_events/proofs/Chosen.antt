@@ -224,13 +224,16 @@ module _ (v : View) (file : FileNo) (request : MapRequest) where
   pub begins : IsSearched 0
   begins = record { below = λ x under. absurd (omega (arith, under)); whole = refl }
 
-  pub found : (start : ℕ) → 0 < request.length → start + request.length ≤ 18446744073709551616 → IsSearched start
+  pub may_at : (start : ℕ) → 0 < request.length → start + request.length ≤ 18446744073709551616 → start % 4096 ≡ 0
       → IsClear v file request (span_from start request.length) → may_choose v file request start ≡ true
-  found start some high searched clear =
+  may_at start some high whole clear =
       let inside = clear.inside in
       let free = clear.free in
-      let whole = searched.whole in
       grind (arith, nat_tests)
+
+  pub found : (start : ℕ) → 0 < request.length → start + request.length ≤ 18446744073709551616 → IsSearched start
+      → IsClear v file request (span_from start request.length) → may_choose v file request start ≡ true
+  found start some high searched clear = may_at start some high searched.whole clear
 
   pub is_least : (start : ℕ) → IsSearched start → (x : ℕ) → may_choose v file request x ≡ true → start ≤ x
   is_least start searched x may =

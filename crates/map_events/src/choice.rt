@@ -1,10 +1,11 @@
 //! The address that the server chooses for a MAP that doesn't fix one.
 
-ghost use Rattle.std.specs.Prelude.{◌≡◌, ◌==◌, ◌+◌, ◌≤◌, ◌^◌, ℕ, false, MatchOption};
+ghost use Rattle.std.specs.Prelude.{◌≡◌, ◌==◌, ◌+◌, ◌≤◌, ◌^◌, ℕ, true, false, MatchOption};
 ghost use Rattle.area_rows.specs.Areas.{AreKept, HasNoneFree};
 ghost use Rattle.iofd_words.specs.Allowed.{allowed_of};
-ghost use Rattle.iofd_words.specs.Checks.{may_choose};
+ghost use Rattle.iofd_words.specs.Checks.{has_choice, may_choose};
 ghost use Rattle.iofd_words.specs.Fits.{whole_from};
+ghost use Rattle.iofd_words.specs.Pages.{is_whole};
 ghost use Rattle.iofd_words.specs.Span.{span_from};
 ghost use Rattle.iofd_words.specs.Usable.{allowed_spans};
 ghost use Rattle.iova_ranges.specs.Gaps.{IsGap};
@@ -46,6 +47,30 @@ pub(crate) fn least_span<A: Allocator>(
         start = next;
     }
     None
+}
+
+/// Whether the span that ends at the last address of all may be chosen, which asks for no search. Where nothing bounds
+/// the addresses, it nearly always may.
+pub(crate) fn may_end_last<A: Allocator>(
+    state: &State<A>,
+    file: FileNo,
+    request: MapRequest,
+    areas: &Areas<A>,
+) -> bool
+    requires known { IsKnown state.now }
+    requires some { (request.length == 0) ≡ false }
+    requires whole { is_whole request.length ≡ true }
+    requires here { areas_at state.now.objects.rows file request.ioas ≡ areas.now.areas }
+    ensures { result ≡ true → has_choice (seen state.now) file request ≡ true }
+{
+    let first = u64::MAX - (request.length - 1);
+    let Some(span) = Span::of_length(first, request.length) else {
+        return false;
+    };
+    if areas.meets(span) {
+        return false;
+    }
+    closed_meeting(state, file, request, span).is_none()
 }
 
 /// So many addresses from the least one on, from the start on, from which they meet no area; None where they meet one

@@ -244,16 +244,16 @@ fn refusal_by_areas<A: Allocator>(
     if areas.is_full() {
         return Some(Cause::Full);
     }
-    let Some(span) = placing::place_among(state, file, placed, areas) else {
+    if placing::lacks_choice(state, file, placed, areas) {
         return Some(Cause::Full);
-    };
+    }
     if lacks_page(state, file, request, number) {
         return Some(Cause::Absent);
     }
     if passes_limit(state, file, request, number) {
         return Some(Cause::Account);
     }
-    if placing::lacks_frames(state, file, placed, span) {
+    if placing::lacks_frames(state, file, placed, areas) {
         return Some(Cause::Frames);
     }
     None

@@ -148,16 +148,16 @@ fn refusal_by_areas<A: Allocator>(
     if areas.is_full() {
         return Some(Cause::Full);
     }
-    let Some(span) = placing::place_among(state, file, request, areas) else {
+    if placing::lacks_choice(state, file, request, areas) {
         return Some(Cause::Full);
-    };
+    }
     if lacks_page(state, file, request) {
         return Some(Cause::Absent);
     }
     if passes_limit(state, file, request) {
         return Some(Cause::Account);
     }
-    if placing::lacks_frames(state, file, request, span) {
+    if placing::lacks_frames(state, file, request, areas) {
         return Some(Cause::Frames);
     }
     None

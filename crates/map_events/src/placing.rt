@@ -135,9 +135,32 @@ pub(crate) fn overlaps<A: Allocator>(request: MapRequest, areas: &Areas<A>) -> b
     }
 }
 
+/// Whether an address is to be chosen in the address space with these areas, and there is none that may be. The highest
+/// addresses are asked about first, and all are searched only where these may not be chosen.
+pub(crate) fn lacks_choice<A: Allocator>(
+    state: &State<A>,
+    file: FileNo,
+    request: MapRequest,
+    areas: &Areas<A>,
+) -> bool
+    requires known { IsKnown state.now }
+    requires some { (request.length == 0) ≡ false }
+    requires whole { is_whole request.length ≡ true }
+    requires here { areas_at state.now.objects.rows file request.ioas ≡ areas.now.areas }
+    ensures { result ≡ lacks_choice (seen state.now) file request }
+{
+    if request.flags.is_fixed() {
+        return false;
+    }
+    if choice::may_end_last(state, file, request, areas) {
+        return false;
+    }
+    choice::least_span(state, file, request, areas).is_none()
+}
+
 /// Where it comes to lie in the address space with these areas; None where an address is to be chosen, and there is
 /// none that may be.
-pub(crate) fn place_among<A: Allocator>(
+fn place_among<A: Allocator>(
     state: &State<A>,
     file: FileNo,
     request: MapRequest,
@@ -162,7 +185,7 @@ pub(crate) fn lacks_frames<A: Allocator>(
     state: &State<A>,
     file: FileNo,
     request: MapRequest,
-    span: Span,
+    areas: &Areas<A>,
 ) -> bool
     requires known { IsKnown state.now }
     requires some { (request.length == 0) ≡ false }
@@ -171,11 +194,18 @@ pub(crate) fn lacks_frames<A: Allocator>(
     requires starts { (is_fixed request.flags && not (is_whole request.iova.0)) ≡ false }
     requires space { has_ioas (objects_in state.now.objects) file request.ioas ≡ true }
     requires usable { is_outside_usable (seen state.now) file request ≡ false }
-    requires place { IsPlace (seen state.now) file request span }
+    requires here { areas_at state.now.objects.rows file request.ioas ≡ areas.now.areas }
+    requires somewhere { lacks_choice (seen state.now) file request ≡ false }
     ensures { result ≡ lacks_mapped_frames (seen state.now) file request }
 {
     if !state.has_hwpt(file, request.ioas) {
         return false;
     }
-    state.tables_to_map(file, request.ioas, span) > u64::from(state.pool.free_count())
+    match place_among(state, file, request, areas) {
+        Some(span) => {
+            state.tables_to_map(file, request.ioas, span) > u64::from(state.pool.free_count())
+        }
+        // There is a place.
+        None => false,
+    }
 }

@@ -1,5 +1,4 @@
-use Rattle.std.proofs.Common.{◌≡◌, true, false, ◌&&◌, not, eqb, Option, is_none, refl, sym, ◌∙◌, ap, subst}
-use Rattle.iofd_words.specs.Bounds.{Bounds}
+use Rattle.std.proofs.Common.{◌≡◌, true, false, ◌&&◌, not, eqb, refl, sym, ◌∙◌, subst}
 use Rattle.iofd_words.specs.Checks.{is_source_writable, lacks_copied_page, passes_limit_copied}
 use Rattle.iofd_words.specs.Copies.{placed_as}
 use Rattle.iofd_words.specs.Objects.{has_ioas}
@@ -11,10 +10,6 @@ use Rattle.map_events.proofs.AreaRows.{nowhere_row, overlap_row, reserved_row}
 use Rattle.server_state.specs.Held.{areas_at, objects_in}
 use Rattle.server_state.specs.Seen.{seen}
 use Rattle.map_events.proofs.copy.refusal_by_areas.Goals as goal
-
--- whether there is a span
-some : {a b : Option Bounds} → a ≡ b → is_none a ≡ is_none b
-some same = ap (λ (o : Option Bounds). is_none o) same
 
 pub lacks_right-requires : goal.lacks_right-requires
 lacks_right-requires g c = c.requires.source
@@ -40,20 +35,19 @@ overlaps-requires-clause-sum g c =
     subst (λ (placed : MapRequest). (is_fixed placed.flags && is_above_sum placed.iova.0 placed.length) ≡ false)
     (sym c.placed_as-placed.ensures) c.requires.sum
 
-pub place_among-requires-clause-known : goal.place_among-requires-clause-known
-place_among-requires-clause-known g c = c.requires.known
+pub lacks_choice-requires-clause-known : goal.lacks_choice-requires-clause-known
+lacks_choice-requires-clause-known g c = c.requires.known
 
-pub place_among-requires-clause-some : goal.place_among-requires-clause-some
-place_among-requires-clause-some g c =
+pub lacks_choice-requires-clause-some : goal.lacks_choice-requires-clause-some
+lacks_choice-requires-clause-some g c =
     subst (λ (placed : MapRequest). eqb placed.length 0 ≡ false) (sym c.placed_as-placed.ensures) c.requires.some
 
-pub place_among-requires-clause-sum : goal.place_among-requires-clause-sum
-place_among-requires-clause-sum g c =
-    subst (λ (placed : MapRequest). (is_fixed placed.flags && is_above_sum placed.iova.0 placed.length) ≡ false)
-    (sym c.placed_as-placed.ensures) c.requires.sum
+pub lacks_choice-requires-clause-whole : goal.lacks_choice-requires-clause-whole
+lacks_choice-requires-clause-whole g c =
+    subst (λ (placed : MapRequest). is_whole placed.length ≡ true) (sym c.placed_as-placed.ensures) c.requires.whole
 
-pub place_among-requires-clause-here : goal.place_among-requires-clause-here
-place_among-requires-clause-here g c =
+pub lacks_choice-requires-clause-here : goal.lacks_choice-requires-clause-here
+lacks_choice-requires-clause-here g c =
     subst (λ (placed : MapRequest). areas_at c.args.state.now.objects.rows c.args.file placed.ioas
     ≡ c.args.areas.now.areas) (sym c.placed_as-placed.ensures) c.requires.here
 
@@ -98,8 +92,13 @@ lacks_frames-requires-clause-space g c =
 pub lacks_frames-requires-clause-usable : goal.lacks_frames-requires-clause-usable
 lacks_frames-requires-clause-usable g c = sym c.is_outside_usable.ensures ∙ c.if-is_outside_usable.false
 
-pub lacks_frames-requires-clause-place : goal.lacks_frames-requires-clause-place
-lacks_frames-requires-clause-place g c = rw c.in-Some.is at c.place_among.ensures.place
+pub lacks_frames-requires-clause-here : goal.lacks_frames-requires-clause-here
+lacks_frames-requires-clause-here g c =
+    subst (λ (placed : MapRequest). areas_at c.args.state.now.objects.rows c.args.file placed.ioas
+    ≡ c.args.areas.now.areas) (sym c.placed_as-placed.ensures) c.requires.here
+
+pub lacks_frames-requires-clause-somewhere : goal.lacks_frames-requires-clause-somewhere
+lacks_frames-requires-clause-somewhere g c = sym c.lacks_choice.ensures ∙ c.if-lacks_choice.false
 
 pub returns-then-lacks_right : goal.returns-then-lacks_right
 returns-then-lacks_right g c = rw (sym c.lacks_right.ensures ∙ c.if-lacks_right.true) refl
@@ -149,8 +148,8 @@ returns-then-is_full g c =
     (sym c.overlaps.ensures ∙ c.if-overlaps.false)
     (sym c.is_full.ensures ∙ c.if-is_full.true))
 
-pub returns-in_default : goal.returns-in_default
-returns-in_default g c =
+pub returns-then-lacks_choice : goal.returns-then-lacks_choice
+returns-then-lacks_choice g c =
     let s = c.args.state.now in
     let v = seen s in
     let absent = lacks_copied_page v c.args.file c.args.request in
@@ -164,7 +163,7 @@ returns-in_default g c =
     (sym c.is_outside_usable.ensures ∙ c.if-is_outside_usable.false)
     (sym c.overlaps.ensures ∙ c.if-overlaps.false)
     (sym c.is_full.ensures ∙ c.if-is_full.false)
-    (sym c.place_among.ensures.lacks ∙ some c.in_default.is))
+    (sym c.lacks_choice.ensures ∙ c.if-lacks_choice.true))
 
 pub returns-then-lacks_page : goal.returns-then-lacks_page
 returns-then-lacks_page g c =
@@ -181,7 +180,7 @@ returns-then-lacks_page g c =
     (sym c.is_outside_usable.ensures ∙ c.if-is_outside_usable.false)
     (sym c.overlaps.ensures ∙ c.if-overlaps.false)
     (sym c.is_full.ensures ∙ c.if-is_full.false)
-    (sym c.place_among.ensures.lacks ∙ some c.in-Some.is)
+    (sym c.lacks_choice.ensures ∙ c.if-lacks_choice.false)
     (sym c.lacks_page.ensures ∙ c.if-lacks_page.true))
 
 pub returns-then-passes_limit : goal.returns-then-passes_limit
@@ -199,7 +198,7 @@ returns-then-passes_limit g c =
     (sym c.is_outside_usable.ensures ∙ c.if-is_outside_usable.false)
     (sym c.overlaps.ensures ∙ c.if-overlaps.false)
     (sym c.is_full.ensures ∙ c.if-is_full.false)
-    (sym c.place_among.ensures.lacks ∙ some c.in-Some.is)
+    (sym c.lacks_choice.ensures ∙ c.if-lacks_choice.false)
     (sym c.lacks_page.ensures ∙ c.if-lacks_page.false)
     (sym c.passes_limit.ensures ∙ c.if-passes_limit.true))
 
@@ -218,7 +217,7 @@ returns-then-lacks_frames g c =
     (sym c.is_outside_usable.ensures ∙ c.if-is_outside_usable.false)
     (sym c.overlaps.ensures ∙ c.if-overlaps.false)
     (sym c.is_full.ensures ∙ c.if-is_full.false)
-    (sym c.place_among.ensures.lacks ∙ some c.in-Some.is)
+    (sym c.lacks_choice.ensures ∙ c.if-lacks_choice.false)
     (sym c.lacks_page.ensures ∙ c.if-lacks_page.false)
     (sym c.passes_limit.ensures ∙ c.if-passes_limit.false)
     (sym c.lacks_frames.ensures ∙ c.if-lacks_frames.true))
@@ -238,7 +237,7 @@ returns g c =
     (sym c.is_outside_usable.ensures ∙ c.if-is_outside_usable.false)
     (sym c.overlaps.ensures ∙ c.if-overlaps.false)
     (sym c.is_full.ensures ∙ c.if-is_full.false)
-    (sym c.place_among.ensures.lacks ∙ some c.in-Some.is)
+    (sym c.lacks_choice.ensures ∙ c.if-lacks_choice.false)
     (sym c.lacks_page.ensures ∙ c.if-lacks_page.false)
     (sym c.passes_limit.ensures ∙ c.if-passes_limit.false)
     (sym c.lacks_frames.ensures ∙ c.if-lacks_frames.false))

@@ -1,14 +1,9 @@
-use Rattle.std.proofs.Common.{◌≡◌, Option, is_none, sym, ◌∙◌, ap}
-use Rattle.iofd_words.specs.Bounds.{Bounds}
+use Rattle.std.proofs.Common.{sym, ◌∙◌}
 use Rattle.iofd_words.specs.Checks.{lacks_mapped_page, passes_limit_mapped}
 use Rattle.map_events.proofs.AreaRows.{absent_row, account_row, crowded_row, frames_row, no_row, nowhere_row}
 use Rattle.map_events.proofs.AreaRows.{overlap_row, reserved_row}
 use Rattle.server_state.specs.Seen.{seen}
 use Rattle.map_events.proofs.map.refusal_by_areas.Goals as goal
-
--- whether there is a span
-some : {a b : Option Bounds} → a ≡ b → is_none a ≡ is_none b
-some same = ap (λ (o : Option Bounds). is_none o) same
 
 pub returns-then-is_outside_usable : goal.returns-then-is_outside_usable
 returns-then-is_outside_usable g c =
@@ -34,15 +29,15 @@ returns-then-is_full g c =
     (sym c.overlaps.ensures ∙ c.if-overlaps.false)
     (sym c.is_full.ensures ∙ c.if-is_full.true)
 
-pub returns-in_default : goal.returns-in_default
-returns-in_default g c =
+pub returns-then-lacks_choice : goal.returns-then-lacks_choice
+returns-then-lacks_choice g c =
     let v = seen c.args.state.now in
     nowhere_row v c.args.file (lacks_mapped_page v c.args.file c.args.request)
     (passes_limit_mapped v c.args.file c.args.request) c.args.request c.args.areas.now.areas
     (sym c.is_outside_usable.ensures ∙ c.if-is_outside_usable.false)
     (sym c.overlaps.ensures ∙ c.if-overlaps.false)
     (sym c.is_full.ensures ∙ c.if-is_full.false)
-    (sym c.place_among.ensures.lacks ∙ some c.in_default.is)
+    (sym c.lacks_choice.ensures ∙ c.if-lacks_choice.true)
 
 pub returns-then-lacks_page : goal.returns-then-lacks_page
 returns-then-lacks_page g c =
@@ -52,7 +47,7 @@ returns-then-lacks_page g c =
     (sym c.is_outside_usable.ensures ∙ c.if-is_outside_usable.false)
     (sym c.overlaps.ensures ∙ c.if-overlaps.false)
     (sym c.is_full.ensures ∙ c.if-is_full.false)
-    (sym c.place_among.ensures.lacks ∙ some c.in-Some.is)
+    (sym c.lacks_choice.ensures ∙ c.if-lacks_choice.false)
     (sym c.lacks_page.ensures ∙ c.if-lacks_page.true)
 
 pub returns-then-passes_limit : goal.returns-then-passes_limit
@@ -63,7 +58,7 @@ returns-then-passes_limit g c =
     (sym c.is_outside_usable.ensures ∙ c.if-is_outside_usable.false)
     (sym c.overlaps.ensures ∙ c.if-overlaps.false)
     (sym c.is_full.ensures ∙ c.if-is_full.false)
-    (sym c.place_among.ensures.lacks ∙ some c.in-Some.is)
+    (sym c.lacks_choice.ensures ∙ c.if-lacks_choice.false)
     (sym c.lacks_page.ensures ∙ c.if-lacks_page.false)
     (sym c.passes_limit.ensures ∙ c.if-passes_limit.true)
 
@@ -75,7 +70,7 @@ returns-then-lacks_frames g c =
     (sym c.is_outside_usable.ensures ∙ c.if-is_outside_usable.false)
     (sym c.overlaps.ensures ∙ c.if-overlaps.false)
     (sym c.is_full.ensures ∙ c.if-is_full.false)
-    (sym c.place_among.ensures.lacks ∙ some c.in-Some.is)
+    (sym c.lacks_choice.ensures ∙ c.if-lacks_choice.false)
     (sym c.lacks_page.ensures ∙ c.if-lacks_page.false)
     (sym c.passes_limit.ensures ∙ c.if-passes_limit.false)
     (sym c.lacks_frames.ensures ∙ c.if-lacks_frames.true)
@@ -88,7 +83,7 @@ returns g c =
     (sym c.is_outside_usable.ensures ∙ c.if-is_outside_usable.false)
     (sym c.overlaps.ensures ∙ c.if-overlaps.false)
     (sym c.is_full.ensures ∙ c.if-is_full.false)
-    (sym c.place_among.ensures.lacks ∙ some c.in-Some.is)
+    (sym c.lacks_choice.ensures ∙ c.if-lacks_choice.false)
     (sym c.lacks_page.ensures ∙ c.if-lacks_page.false)
     (sym c.passes_limit.ensures ∙ c.if-passes_limit.false)
     (sym c.lacks_frames.ensures ∙ c.if-lacks_frames.false)
@@ -108,17 +103,17 @@ overlaps-requires-clause-some g c = c.requires.some
 pub overlaps-requires-clause-sum : goal.overlaps-requires-clause-sum
 overlaps-requires-clause-sum g c = c.requires.sum
 
-pub place_among-requires-clause-known : goal.place_among-requires-clause-known
-place_among-requires-clause-known g c = c.requires.known
+pub lacks_choice-requires-clause-known : goal.lacks_choice-requires-clause-known
+lacks_choice-requires-clause-known g c = c.requires.known
 
-pub place_among-requires-clause-some : goal.place_among-requires-clause-some
-place_among-requires-clause-some g c = c.requires.some
+pub lacks_choice-requires-clause-some : goal.lacks_choice-requires-clause-some
+lacks_choice-requires-clause-some g c = c.requires.some
 
-pub place_among-requires-clause-sum : goal.place_among-requires-clause-sum
-place_among-requires-clause-sum g c = c.requires.sum
+pub lacks_choice-requires-clause-whole : goal.lacks_choice-requires-clause-whole
+lacks_choice-requires-clause-whole g c = c.requires.whole
 
-pub place_among-requires-clause-here : goal.place_among-requires-clause-here
-place_among-requires-clause-here g c = c.requires.here
+pub lacks_choice-requires-clause-here : goal.lacks_choice-requires-clause-here
+lacks_choice-requires-clause-here g c = c.requires.here
 
 pub lacks_frames-requires-clause-known : goal.lacks_frames-requires-clause-known
 lacks_frames-requires-clause-known g c = c.requires.known
@@ -147,5 +142,8 @@ passes_limit-requires g c = c.requires.known
 pub lacks_frames-requires-clause-usable : goal.lacks_frames-requires-clause-usable
 lacks_frames-requires-clause-usable g c = sym c.is_outside_usable.ensures ∙ c.if-is_outside_usable.false
 
-pub lacks_frames-requires-clause-place : goal.lacks_frames-requires-clause-place
-lacks_frames-requires-clause-place g c = rw c.in-Some.is at c.place_among.ensures.place
+pub lacks_frames-requires-clause-here : goal.lacks_frames-requires-clause-here
+lacks_frames-requires-clause-here g c = c.requires.here
+
+pub lacks_frames-requires-clause-somewhere : goal.lacks_frames-requires-clause-somewhere
+lacks_frames-requires-clause-somewhere g c = sym c.lacks_choice.ensures ∙ c.if-lacks_choice.false
