@@ -7,7 +7,7 @@ use Rattle.std.proofs.lemmas.List.{append_assoc}
 use Rattle.frame_memory.specs.Pool.{FramePool}
 use Rattle.hwpt_device.proofs.Staying.{all_told}
 use Rattle.hwpt_device.specs.OverSpans.{LeadsCleared, is_over}
-use Rattle.hwpt_device.specs.PageTables.{AllStand, Hwpt, IfAllStand, KeepsOthers, PageTables}
+use Rattle.hwpt_device.specs.PageTables.{AllStand, Hwpt, PageTables}
 use Rattle.iofd_rows.proofs.Bools.{both_true}
 use Rattle.iofd_rows.proofs.Each.{IsIn, of_each}
 use Rattle.iofd_rows.proofs.Unusable.{each_not}
@@ -21,7 +21,7 @@ use Rattle.iofd_words.specs.declared.rows.Area.{Area}
 use Rattle.iofd_words.specs.declared.rows.Object.{Object}
 use Rattle.iofd_words.specs.declared.rows.TableFrame.{TableFrame}
 use Rattle.server_state.proofs.TablesUnreached.{in_list}
-use Rattle.memory_events.specs.Cleared.{CanClear, cleared, is_beyond}
+use Rattle.memory_events.specs.Cleared.{CanClear, Clears, cleared, is_beyond}
 use Rattle.server_state.specs.Leads.{live_area_at}
 use Rattle.table_words.specs.Rows.{MappedPage}
 
@@ -111,10 +111,7 @@ module _ (file : FileNo) (ioas : ObjId) where
     pub done : List Area
     pub parts : done ++ left ≡ all
     pub same : now ≡ kept
-    pub holds : pool.holds ≡ before.holds
-    pub stand : IfAllStand before kept.tables
-        (λ rows leads. AllStand pool rows (cleared file ioas done leads) kept.tables)
-    pub others : IfAllStand before kept.tables (λ rows leads. KeepsOthers rows before pool)
+    pub cleared : Clears file ioas done kept.tables before pool
 
   pub clearing_first : (all : List Area) (kept : PageTables) (pool : FramePool)
       → AreClearing all all kept kept pool pool
@@ -122,10 +119,12 @@ module _ (file : FileNo) (ioas : ObjId) where
     done = [];
     parts = refl;
     same = refl;
-    holds = refl;
-    stand = λ rows leads stand. all_told pool rows leads (cleared file ioas [] leads) kept.tables stand
-        (λ h within page. fails_both (is_over file ioas h.object) None (leads h.object page));
-    others = λ rows leads stand frame none. refl;
+    cleared = record {
+      holds = refl;
+      stand = λ rows leads stand. all_told pool rows leads (cleared file ioas [] leads) kept.tables stand
+          (λ h within page. fails_both (is_over file ioas h.object) None (leads h.object page));
+      others = λ rows leads stand frame none. refl;
+    };
   }
 
   in_parts : (done : List Area) (a : Area) (rest : List Area) → IsIn (done ++ a ∷ rest) a
@@ -147,7 +146,7 @@ module _ (file : FileNo) (ioas : ObjId) where
           stand = record {
             frames = can.stand.frames;
             leads = cleared file ioas clearing.done can.stand.leads;
-            stand = clearing.stand can.stand.frames can.stand.leads can.stand.stand;
+            stand = clearing.cleared.stand can.stand.frames can.stand.leads can.stand.stand;
           };
           starts = both_true _ _ starts refl;
           below = λ h there over. let apart : is_beyond h a ≡ false =
@@ -155,39 +154,34 @@ module _ (file : FileNo) (ioas : ObjId) where
         })
 
     -- and is
-    pub clearing_further : (next : PageTables) (after : FramePool) → next ≡ now → after.holds ≡ pool.holds
-        → IfAllStand pool now.tables (λ rows leads. AllStand after rows (cleared file ioas (a ∷ []) leads) now.tables)
-        → IfAllStand pool now.tables (λ rows leads. KeepsOthers rows pool after)
-        → AreClearing all rest kept next before after
-    clearing_further next after same same_holds stand others =
-        let here : IfAllStand pool kept.tables (λ rows leads. AllStand after rows
-        (cleared file ioas (a ∷ []) leads) kept.tables) =
-        subst (λ (t : PageTables). IfAllStand pool t.tables
-        (λ rows leads. AllStand after rows (cleared file ioas (a ∷ []) leads) t.tables)) clearing.same stand in
-        let kept_here : IfAllStand pool kept.tables (λ rows leads. KeepsOthers rows pool after) =
-        subst (λ (t : PageTables). IfAllStand pool t.tables (λ rows leads. KeepsOthers rows pool after)) clearing.same
-        others in
+    pub clearing_further : (next : PageTables) (after : FramePool) → next ≡ now
+        → Clears file ioas (a ∷ []) now.tables pool after → AreClearing all rest kept next before after
+    clearing_further next after same clears =
+        let were = clearing.cleared in
+        let here : Clears file ioas (a ∷ []) kept.tables pool after =
+        subst (λ (t : PageTables). Clears file ioas (a ∷ []) t.tables pool after) clearing.same clears in
         record {
           done = clearing.done ++ a ∷ [];
           parts = append_assoc clearing.done (a ∷ []) rest ∙ ap (λ (l : List Area). clearing.done ++ l) (sym is)
               ∙ clearing.parts;
           same = same ∙ clearing.same;
-          holds = same_holds ∙ clearing.holds;
-          stand = λ rows leads all_stand.
-              all_told after rows (cleared file ioas (a ∷ []) (cleared file ioas clearing.done leads))
-              (cleared file ioas (clearing.done ++ a ∷ []) leads) kept.tables
-              (here rows (cleared file ioas clearing.done leads) (clearing.stand rows leads all_stand))
-              (λ h there page. cleared_further clearing.done a leads h.object page);
-          others = λ rows leads all_stand frame none. kept_here rows (cleared file ioas clearing.done leads)
-              (clearing.stand rows leads all_stand) frame none ∙ clearing.others rows leads all_stand frame none;
+          cleared = record {
+            holds = here.holds ∙ were.holds;
+            stand = λ rows leads all_stand.
+                all_told after rows (cleared file ioas (a ∷ []) (cleared file ioas clearing.done leads))
+                (cleared file ioas (clearing.done ++ a ∷ []) leads) kept.tables
+                (here.stand rows (cleared file ioas clearing.done leads) (were.stand rows leads all_stand))
+                (λ h there page. cleared_further clearing.done a leads h.object page);
+            others = λ rows leads all_stand frame none. here.others rows (cleared file ioas clearing.done leads)
+                (were.stand rows leads all_stand) frame none ∙ were.others rows leads all_stand frame none;
+          };
         }
 
   -- none is left
   pub clearing_last : (all left : List Area) (kept now : PageTables) (before pool : FramePool) → left ≡ []
       → AreClearing all left kept now before pool
-      → IfAllStand before kept.tables (λ rows leads. AllStand pool rows (cleared file ioas all leads) kept.tables)
+      → Clears file ioas all kept.tables before pool
   clearing_last all left kept now before pool none clearing =
       let whole : clearing.done ≡ all =
       sym (append-nil clearing.done) ∙ ap (λ (l : List Area). clearing.done ++ l) (sym none) ∙ clearing.parts in
-      subst (λ (l : List Area). IfAllStand before kept.tables
-      (λ rows leads. AllStand pool rows (cleared file ioas l leads) kept.tables)) whole clearing.stand
+      subst (λ (l : List Area). Clears file ioas l kept.tables before pool) whole clearing.cleared

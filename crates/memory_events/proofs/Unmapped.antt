@@ -44,7 +44,7 @@ use Rattle.iofd_words.specs.declared.rows.Object.{Object}
 use Rattle.server_state.proofs.Orderly.{orderly}
 use Rattle.server_state.proofs.AreasBecome.{areas_become, own_at}
 use Rattle.server_state.proofs.MemoryReleased.{AreFewer, AreShown, may_release, pins_changed, shown_after}
-use Rattle.hwpt_device.specs.PageTables.{AllStand, IfAllStand, KeepsOthers, PageTables}
+use Rattle.hwpt_device.specs.PageTables.{AllStand, PageTables}
 use Rattle.memory_events.proofs.LeavingAreas.{leads_marked, leads_outside}
 use Rattle.memory_events.proofs.PinsLeft.{leads_left, released_over}
 use Rattle.memory_events.proofs.SpacesCleared.{left_space, space_left, spaces_cleared}
@@ -52,7 +52,7 @@ use Rattle.server_state.proofs.TablesUnreached.{frames_cleared}
 use Rattle.memory_events.proofs.Touched.{AreAlike, alike, leaving_other, leaving_own, left_other, left_own, met_marked}
 use Rattle.memory_events.proofs.Touched.{met_within, touched_own, unmet_outside, waits_filtered}
 use Rattle.server_state.specs.Held.{areas_at, objects_in}
-use Rattle.memory_events.specs.Cleared.{cleared}
+use Rattle.memory_events.specs.Cleared.{Clears, cleared}
 use Rattle.server_state.proofs.TablesFollow.{tables_follow}
 use Rattle.server_state.specs.Leads.{leads_in, leads_of, space_leads}
 use Rattle.server_state.specs.Shows.{Shows, TablesShown}
@@ -161,20 +161,18 @@ module _ {A : Type 0} where
 
       -- the touched areas are on their way out
       module _ (span : Bounds) (is_span : span ≡ unmapped_span request) (clears : FramePool)
-          (holds : clears.holds ≡ s.pool.holds) (bytes : length clears.bytes ≡ length clears.holds)
-          (stand : IfAllStand s.pool s.page_tables.tables
-          (λ rows leads. AllStand clears rows (cleared file request.ioas
-          (areas_within span (own_areas s.objects file request.ioas)) leads) s.page_tables.tables))
-          (others : IfAllStand s.pool s.page_tables.tables (λ rows leads. KeepsOthers rows s.pool clears)) where
+          (bytes : length clears.bytes ≡ length clears.holds)
+          (told : Clears file request.ioas (areas_within span (own_areas s.objects file request.ioas))
+          s.page_tables.tables s.pool clears) where
         -- the frames once the pages are cleared
         cleared_shown : FramesShown w.settings.pool w.writes w.table_frames s.memory clears
-        cleared_shown = frames_cleared w s shows tidy.tabled.owned clears holds bytes
-            (others w.table_frames (leads_of w) shows.tables.stand)
+        cleared_shown = frames_cleared w s shows tidy.tabled.owned clears told.holds bytes
+            (told.others w.table_frames (leads_of w) shows.tables.stand)
 
         cleared_stand : AllStand clears w.table_frames
             (cleared file request.ioas (areas_within span (own_areas s.objects file request.ioas)) (leads_of w))
             s.page_tables.tables
-        cleared_stand = stand w.table_frames (leads_of w) shows.tables.stand
+        cleared_stand = told.stand w.table_frames (leads_of w) shows.tables.stand
 
         pub shows_pending : (attached : List ℕ) (t : Table (Held A)) (kept_tables : PageTables)
             → attached ≡ devices_of w.objects w.attachments file request.ioas
@@ -281,12 +279,9 @@ module _ {A : Type 0} where
         may_remove holds same = rw same (may_release at w s tidy shows (over going)
             (if_translated is_translated going) w.objects stay fewer)
 
-        module _ (clears : FramePool) (holds : clears.holds ≡ s.pool.holds)
+        module _ (clears : FramePool)
             (bytes : length clears.bytes ≡ length clears.holds)
-            (stand : IfAllStand s.pool s.page_tables.tables
-            (λ rows leads. AllStand clears rows (cleared file request.ioas
-            (areas_within span (own_areas s.objects file request.ioas)) leads) s.page_tables.tables))
-            (others : IfAllStand s.pool s.page_tables.tables (λ rows leads. KeepsOthers rows s.pool clears))
+            (told : Clears file request.ioas going s.page_tables.tables s.pool clears)
             (memory : Memory) (pool : FramePool) (next : ArePinned (at + 1)
             (settle w (without_areas (is_touched file request) w)))
             (released : IsReleased (over going) (if_translated is_translated going) s.memory memory clears pool) where
@@ -297,7 +292,7 @@ module _ {A : Type 0} where
           over_kept : IsReleased (over going) (if_translated is_translated going) s.memory memory s.pool
               (record pool { bytes = s.pool.bytes })
           over_kept = released_over (over going) (if_translated is_translated going) s.memory memory s.pool
-              clears pool holds released
+              clears pool told.holds released
 
           named : (f : ℕ) → 0 < reached memory f → 0 < reached s.memory f
           named f some = settles_named s.memory memory clears pool released.settles f some
@@ -314,7 +309,7 @@ module _ {A : Type 0} where
           frames_left : FramesShown w.settings.pool w.writes w.table_frames memory pool
           frames_left =
               frames_follow w.settings.pool w.writes w.table_frames s.memory memory clears pool
-              (cleared_shown span is_span clears holds bytes stand others)
+              (cleared_shown span is_span clears bytes told)
               released.settles.holds released.settles.bytes named
 
           -- the page tables stand, and the pages that are left lead where they did
@@ -330,8 +325,8 @@ module _ {A : Type 0} where
               ∙ leads_gone span is_span f i page)
               (tables_follow w.settings.pool w.writes w.writes w.table_frames
               (cleared file request.ioas gone (leads_of w)) s.page_tables.tables s.memory memory clears pool
-              (cleared_stand span is_span clears holds bytes stand others)
-              (cleared_shown span is_span clears holds bytes stand others) frames_left
+              (cleared_stand span is_span clears bytes told)
+              (cleared_shown span is_span clears bytes told) frames_left
               (λ f held some. named f some)
               (λ f held none. ap (λ (all : List (List ℕ)). get_or all f []) released.settles.bytes))
 

@@ -3,7 +3,7 @@ use Rattle.std.specs.Prelude.{ℕ, ◌≡◌, Bool, true, false, ◌&&◌, Optio
 use Rattle.std.specs.Prelude.{is_some, List, if◌then◌else◌}
 use Rattle.std.specs.List.{list_all, list_any}
 use Rattle.hwpt_device.specs.OverSpans.{is_over}
-use Rattle.hwpt_device.specs.PageTables.{Hwpt, Stand}
+use Rattle.hwpt_device.specs.PageTables.{AllStand, Hwpt, IfAllStand, KeepsOthers, Stand}
 use Rattle.frame_memory.specs.Pool.{FramePool}
 use Rattle.iofd_rows.proofs.Each.{IsIn}
 use Rattle.iofd_runs.specs.Fits.{begins_at_page}
@@ -34,3 +34,11 @@ pub record CanClear (pool : FramePool) (tables : List Hwpt) (file : FileNo) (ioa
   pub starts : list_all begins_at_page areas ≡ true
   pub below : (h : Hwpt) → IsIn tables h → is_over file ioas h.object ≡ true →
       list_any (is_beyond h) areas ≡ false
+
+-- the pages of the live ones of these areas are cleared in each page table over the address space: every other page
+-- leads where it did, and each frame in which no table is has its bytes
+pub record Clears (file : FileNo) (ioas : ObjId) (areas : List Area) (tables : List Hwpt)
+    (before after : FramePool) : Type 0 where
+  pub holds : after.holds ≡ before.holds
+  pub stand : IfAllStand before tables (λ rows leads. AllStand after rows (cleared file ioas areas leads) tables)
+  pub others : IfAllStand before tables (λ rows leads. KeepsOthers rows before after)

@@ -1,9 +1,8 @@
 //! Pages of areas that go, or that begin to leave, are cleared in the page tables.
 
 ghost use Rattle.std.specs.Prelude.{◌≡◌, ◌∷◌, [], length};
-ghost use Rattle.hwpt_device.specs.PageTables.{AllStand, IfAllStand, KeepsOthers};
 ghost use Rattle.iofd_words.specs.TablePlaces as places;
-ghost use Rattle.memory_events.specs.Cleared.{CanClear, cleared};
+ghost use Rattle.memory_events.specs.Cleared.{CanClear, Clears};
 
 use area_map::Iter;
 use frame_memory::Pool;
@@ -22,10 +21,7 @@ pub(crate) fn clear<A: Allocator>(
 )
     requires { CanClear pool.old page_tables.old.tables file ioas areas }
     ensures same { page_tables.new ≡ page_tables.old }
-    ensures holds { pool.new.holds ≡ pool.old.holds }
-    ensures stand { IfAllStand pool.old page_tables.old.tables (λ rows leads.
-        AllStand pool.new rows (cleared file ioas areas.entry leads) page_tables.old.tables) }
-    ensures others { IfAllStand pool.old page_tables.old.tables (λ rows leads. KeepsOthers rows pool.old pool.new) }
+    ensures cleared { Clears file ioas areas.entry page_tables.old.tables pool.old pool.new }
     ensures bytes { length pool.new.bytes ≡ length pool.new.holds }
 {
     clear_own(areas, file, ioas, page_tables, pool);
@@ -43,10 +39,7 @@ fn clear_own<A: Allocator>(
 )
     requires { CanClear pool.old page_tables.old.tables file ioas areas }
     ensures same { page_tables.new ≡ page_tables.old }
-    ensures holds { pool.new.holds ≡ pool.old.holds }
-    ensures stand { IfAllStand pool.old page_tables.old.tables (λ rows leads.
-        AllStand pool.new rows (cleared file ioas areas.entry leads) page_tables.old.tables) }
-    ensures others { IfAllStand pool.old page_tables.old.tables (λ rows leads. KeepsOthers rows pool.old pool.new) }
+    ensures cleared { Clears file ioas areas.entry page_tables.old.tables pool.old pool.new }
 {
     if !page_tables.has_over(file, ioas) {
         return;
@@ -64,10 +57,7 @@ fn clear_areas<A: Allocator>(
 )
     requires { CanClear pool.old page_tables.old.tables file ioas areas }
     ensures same { page_tables.new ≡ page_tables.old }
-    ensures holds { pool.new.holds ≡ pool.old.holds }
-    ensures stand { IfAllStand pool.old page_tables.old.tables (λ rows leads.
-        AllStand pool.new rows (cleared file ioas areas.entry leads) page_tables.old.tables) }
-    ensures others { IfAllStand pool.old page_tables.old.tables (λ rows leads. KeepsOthers rows pool.old pool.new) }
+    ensures cleared { Clears file ioas areas.entry page_tables.old.tables pool.old pool.new }
 {
     for area in areas {
         clear_area(area, file, ioas, page_tables, pool);
@@ -84,10 +74,7 @@ fn clear_area<A: Allocator>(
 )
     requires { CanClear pool.old page_tables.old.tables file ioas (area.now ∷ []) }
     ensures same { page_tables.new ≡ page_tables.old }
-    ensures holds { pool.new.holds ≡ pool.old.holds }
-    ensures stand { IfAllStand pool.old page_tables.old.tables (λ rows leads.
-        AllStand pool.new rows (cleared file ioas (area.now ∷ []) leads) page_tables.old.tables) }
-    ensures others { IfAllStand pool.old page_tables.old.tables (λ rows leads. KeepsOthers rows pool.old pool.new) }
+    ensures cleared { Clears file ioas (area.now ∷ []) page_tables.old.tables pool.old pool.new }
 {
     if !is_live(&area.phase) {
         return;

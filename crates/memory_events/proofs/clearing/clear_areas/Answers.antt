@@ -21,12 +21,9 @@ loop-area-preserved g c =
     clearing_further c.args.file c.args.ioas c.args.areas c.loop-area.area-iterator c.next.new.self c.in-Some.area.now
     c.args.page_tables.now c.loop-area.page_tables c.args.pool.now c.loop-area.pool
     c.in-Some.ensures.steps c.loop-area.invariant c.clear_area.new.page_tables c.clear_area.new.pool
-    c.clear_area.ensures.same c.clear_area.ensures.holds c.clear_area.ensures.stand c.clear_area.ensures.others
+    c.clear_area.ensures.same c.clear_area.ensures.cleared
 
-pub returns-clause-stand : goal.returns-clause-stand
-returns-clause-stand g c =
+pub returns-clause-cleared : goal.returns-clause-cleared
+returns-clause-cleared g c =
     clearing_last c.args.file c.args.ioas c.args.areas c.loop-area.area-iterator c.args.page_tables.now
     c.loop-area.page_tables c.args.pool.now c.loop-area.pool c.in-None.ensures.steps.0 c.loop-area.invariant
-
-pub returns-clause-others : goal.returns-clause-others
-returns-clause-others g c = c.loop-area.invariant.others

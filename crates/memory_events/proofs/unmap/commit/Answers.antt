@@ -37,11 +37,11 @@ returns-then-some_waits g c = λ at w tidy shows none.
     let waits = waits_shown at w c.args.state.now c.args.file c.args.request tidy shows none own.kept c.in-Some.span
     c.in-Some-attached_to.attached c.in-Some.ensures.value devices in
     let told = rw (c.again-2.ensures, c.areas_within-areas.ensures.areas) at c.some_waits.ensures in
-    let stand = rw (c.again.ensures, c.areas_within-areas.ensures.areas) at c.clear.ensures.stand in (
+    let clears = rw (c.again.ensures, c.areas_within-areas.ensures.areas) at c.clear.ensures.cleared in (
       (waits ∙ sym told ∙ c.if-some_waits.true, refl),
       shows_pending at w c.args.state.now c.args.file c.args.request tidy shows none own.kept
           c.in-Some.span c.in-Some.ensures.value
-          c.clear.new.pool c.clear.ensures.holds c.clear.ensures.bytes stand c.clear.ensures.others
+          c.clear.new.pool c.clear.ensures.bytes clears
           c.in-Some-attached_to.attached c.mark_leaving.new.table c.clear.new.page_tables devices
           c.mark_leaving.ensures c.clear.ensures.same,
     )
@@ -67,7 +67,7 @@ remove-requires g c =
     (may_remove c.requires.at known.world c.args.state.now c.args.file c.args.request known.tidy known.shows known.none
     c.areas_within-areas.ensures.kept c.in-Some.span c.has_hwpt-translated.result c.in-Some.ensures.value
     c.has_hwpt-translated.ensures
-    c.clear.new.pool.holds c.clear.ensures.holds)
+    c.clear.new.pool.holds c.clear.ensures.cleared.holds)
 
 pub returns : goal.returns
 unfolding changed Answers
@@ -78,7 +78,7 @@ returns g c = λ at w tidy shows none.
     let waits = waits_shown at w c.args.state.now c.args.file c.args.request tidy shows none own.kept c.in-Some.span
     c.in-Some-attached_to.attached c.in-Some.ensures.value devices in
     let told = rw (c.again-2.ensures, c.areas_within-areas.ensures.areas) at c.some_waits.ensures in
-    let stand = rw (c.again.ensures, c.areas_within-areas.ensures.areas) at c.clear.ensures.stand in
+    let clears = rw (c.again.ensures, c.areas_within-areas.ensures.areas) at c.clear.ensures.cleared in
     let bytes = rw (c.again-3.ensures, c.areas_within-areas.ensures.areas) at c.bytes_of-bytes.ensures in
     let answers : UnmapAnswers w c.args.file c.args.request (reply.Bytes c.bytes_of-bytes.result) = (
       not_false _ (waits ∙ sym told ∙ c.if-some_waits.false),
@@ -88,7 +88,7 @@ returns g c = λ at w tidy shows none.
       answers,
       shows_removed at w c.args.state.now c.args.file c.args.request tidy shows none own.kept c.in-Some.span
           c.has_hwpt-translated.result c.in-Some.ensures.value c.has_hwpt-translated.ensures
-          c.clear.new.pool c.clear.ensures.holds c.clear.ensures.bytes stand c.clear.ensures.others
+          c.clear.new.pool c.clear.ensures.bytes clears
           c.remove.new.memory c.remove.new.pool
           (unmapped_pins at w c.args.file c.args.request c.bytes_of-bytes.result none answers tidy.pins)
           (rw c.areas_within-areas.ensures.areas at c.remove.ensures)
