@@ -1,5 +1,5 @@
 -- The objects by which devices are bound, after objects came or went.
-use Rattle.std.proofs.Common.{◌≡◌, Bool, true, false, eqb, is_some, Option, Some, None, List}
+use Rattle.std.proofs.Common.{◌≡◌, Bool, true, false, cond, eqb, ltb, is_some, Option, Some, None, List, [], ◌∷◌}
 use Rattle.std.proofs.Common.{subst, refl, sym, ◌∙◌, ap}
 use Rattle.std.specs.List.{find, list_any}
 use Rattle.std.proofs.lemmas.Bool.{eqb-true}
@@ -14,8 +14,8 @@ use Rattle.iofd_rows.proofs.Found.{find-with_object}
 use Rattle.iofd_runs.proofs.OwnIds.{any_found}
 use Rattle.std.proofs.Common.{Vec}
 use Rattle.iofd_words.specs.World.{World}
-use Rattle.server_state.proofs.Bindings.{are_with, found_with, others_with}
-use Rattle.server_state.specs.Devices.{are_bindings, with_binding}
+use Rattle.server_state.proofs.Bindings.{are_with}
+use Rattle.server_state.specs.Devices.{are_bindings, bound_number, with_binding}
 use Rattle.server_state.specs.Shows.{Shows}
 use Rattle.server_state.specs.declared.held.Held.{Held}
 use Rattle.server_state.specs.declared.held.Held.TheVariants as held
@@ -34,6 +34,32 @@ none_any p xs none = by_found (find p xs) refl none
     by_found : (o : Option Object) → find p xs ≡ o → is_some o ≡ false → (find p xs ≡ None) × (list_any p xs ≡ false)
     by_found None is none = (is, any_found p xs ∙ ap (λ (o : Option Object). is_some o) is)
     by_found (Some x) is none = cc
+
+-- what is found among them once one came
+found_with : (p : Object → Bool) (b : Object) (bindings : List Object) → p b ≡ true → find p bindings ≡ None
+    → find p (with_binding b bindings) ≡ Some b
+found_with p b [] here none = rw here refl
+found_with p b (c ∷ bindings) here none =
+    by_tests (ltb (bound_number b.kind) (bound_number c.kind)) (p c) refl none
+    (λ later. found_with p b bindings here later)
+  where
+    by_tests : (above passes : Bool) → p c ≡ passes → cond passes (Some c) (find p bindings) ≡ None
+        → (find p bindings ≡ None → find p (with_binding b bindings) ≡ Some b)
+        → find p (cond above (b ∷ c ∷ bindings) (c ∷ with_binding b bindings)) ≡ Some b
+    by_tests true passes is none rest = rw here refl
+    by_tests false true is none rest = cc
+    by_tests false false is none rest = rw is (rest none)
+
+others_with : (p : Object → Bool) (b : Object) (bindings : List Object) → p b ≡ false
+    → find p (with_binding b bindings) ≡ find p bindings
+others_with p b [] fails = rw fails refl
+others_with p b (c ∷ bindings) fails =
+    by_order (ltb (bound_number b.kind) (bound_number c.kind)) (others_with p b bindings fails)
+  where
+    by_order : (above : Bool) → find p (with_binding b bindings) ≡ find p bindings
+        → find p (cond above (b ∷ c ∷ bindings) (c ∷ with_binding b bindings)) ≡ cond (p c) (Some c) (find p bindings)
+    by_order true rest = rw fails refl
+    by_order false rest = ap (cond (p c) (Some c)) rest
 
 -- a device that wasn't bound is bound by the object that came
 pub bound_by : (objects bindings : List Object) (file : FileNo) (id : ObjId) (device : DeviceNo)

@@ -1,6 +1,6 @@
 -- What is kept after an attachment ended shows the world after it.
-use Rattle.std.proofs.Common.{◌≡◌, ℕ, Bool, true, false, not, eqb, Option, Some, None, List, [], map, refl, sym, ◌∙◌}
-use Rattle.std.proofs.Common.{◌&&◌, ltb, ap, subst, ◌+◌, ◌-◌, ◌<◌, arith, Vec, IfSome}
+use Rattle.std.proofs.Common.{◌≡◌, ℕ, Bool, true, false, cond, not, eqb, Option, Some, None, List, [], map, refl, sym}
+use Rattle.std.proofs.Common.{◌∙◌, ◌&&◌, ltb, ap, subst, ◌+◌, ◌-◌, ◌<◌, arith, Vec, IfSome}
 use Rattle.iofd_rows.specs.Ids.{have_own_ids}
 use Rattle.iofd_words.specs.Checks.{detach_checks}
 use Rattle.iofd_words.specs.FirstTrue.{first_true}
@@ -18,7 +18,7 @@ use Rattle.memory_rows.specs.Shown.{FramesShown, over, tables_in, translated}
 use Rattle.user_memory.specs.Changes.{never}
 use Rattle.user_memory.specs.Memory.{Memory}
 use Rattle.std.specs.Prelude.{is_none}
-use Rattle.std.specs.List.{filter, find, list_all}
+use Rattle.std.specs.List.{filter, list_all}
 use Rattle.std.specs.List.Sorted.{IsNonDecreasingBy, IsPermutation}
 use Rattle.iofd_words.specs.After.{changed, detach_changes, detached, goes_with, settle}
 use Rattle.iofd_words.specs.Areas.{all_paid, areas_of, paid, with_phase}
@@ -36,26 +36,23 @@ use Rattle.iofd_words.specs.declared.rows.Attachment.{Attachment}
 use Rattle.iofd_words.specs.declared.rows.Object.{Object}
 use Rattle.iofd_words.specs.declared.rows.ObjectKind.{ObjectKind}
 use Rattle.iofd_words.specs.declared.rows.ObjectKind.TheVariants as kind
-use Rattle.iofd_rows.proofs.Found.{all_filter}
 use Rattle.iofd_rows.proofs.Owed.{table_of}
 use Rattle.iofd_rows.proofs.Paid.{paid_areas_of}
-use Rattle.server_state.specs.Held.{areas_at, is_proper, object_of, objects_in, space_of}
-use Rattle.server_state.specs.Mapping.{own_areas}
+use Rattle.server_state.specs.Held.{areas_at, objects_in, space_of}
+use Rattle.server_state.specs.Mapping.{own_areas, untranslated_pins}
 use Rattle.device_events.specs.Attaching.{has_no_user, is_automatic_at, is_idle}
 use Rattle.server_state.specs.Choice.{AreFramesChosen, IsChosen}
 use Rattle.server_state.specs.Leads.{leads_of}
 use Rattle.server_state.specs.Shows.{ObjectsShown, Shows, TablesShown}
 use Rattle.server_state.specs.Spaces.{HasAreas, IsOrderly}
 use Rattle.server_state.specs.Step.{IsTidy}
+use Rattle.server_state.specs.TableGone.{HasLostTable, IsTableGone}
 use Rattle.server_state.specs.Tables.{has_own_width, page_tables_among}
 use Rattle.server_state.specs.declared.held.Held.{Held}
 use Rattle.server_state.specs.declared.state.State.{State}
 use Rattle.server_state.proofs.AreasBecome.{own_at}
-use Rattle.server_state.proofs.Counted.{own_row}
-use Rattle.server_state.proofs.Counted.{areas-counted, objects-counted, over_spaces, proper-counted, some_over}
-use Rattle.server_state.proofs.Counted.{space_row, space_under, still_none, table_goes, users-removed, users_of_row}
-use Rattle.server_state.proofs.Counted.{where_found}
-use Rattle.server_state.specs.Users.{AreCounted, devices_on, tables_over, users_at}
+use Rattle.server_state.proofs.Counted.{over_spaces, own_row, users_of_row}
+use Rattle.server_state.specs.Users.{devices_on, tables_over}
 use Rattle.server_state.proofs.CountsShown.{device_leaves}
 use Rattle.server_state.proofs.DevicesOn.{has_devices, none_on}
 use Rattle.iofd_words.specs.Attachments.{has_device_on}
@@ -63,12 +60,11 @@ use Rattle.iofd_rows.proofs.Bools.{and_true, not_true}
 use Rattle.std.proofs.lemmas.Bool.Decides.{nat_tests}
 use Rattle.device_events.proofs.Detached.{all_stay, bindings_stay, left_of, none_goes, none_of, one_goes, others_stay}
 use Rattle.device_events.proofs.PaidLeads.{paid_leads}
-use Rattle.device_events.proofs.ReleasedAfter.{may_release_after, shown_after_it, tables_stand_after}
 use Rattle.device_events.proofs.TableGone.{given_rows, named_rows, orphan_rows, tables_kept, tests_kept}
 use Rattle.server_state.proofs.TablesUnreached.{unreached}
 use Rattle.device_events.proofs.Walked.{found_hwpt}
-use Rattle.hwpt_device.specs.PageTables.{AllStand, Hwpt, IfAllStand, PageTables, hwpt_of, objects_of}
-use Rattle.hwpt_device.specs.Removed.{rows_found, without_hwpt, without_tables}
+use Rattle.hwpt_device.specs.PageTables.{Hwpt, IfAllStand, PageTables, hwpt_of, objects_of}
+use Rattle.hwpt_device.specs.Removed.{rows_found, without_tables}
 use Rattle.iofd_rows.proofs.Each.{IsIn, in_found}
 use Rattle.iofd_rows.proofs.Moves.{device_is}
 use Rattle.iofd_runs.proofs.StillTabled.{leaves_table, none_after}
@@ -80,15 +76,14 @@ use Rattle.server_state.proofs.GivenBack.{times_in}
 use Rattle.server_state.proofs.GivenMoves.{gives, tables_left as tables_beside}
 use Rattle.server_state.proofs.GivenShown.{given_shown}
 use Rattle.server_state.proofs.Still.{still}
-use Rattle.table_words.specs.Released.{GivesBack, Releases}
+use Rattle.table_words.specs.Released.{GivesBack}
 use Rattle.table_words.specs.Rows.{TableRow}
 use Rattle.server_state.proofs.Objects.{has_table}
 use Rattle.device_events.proofs.Flushed.{attached_to, shows_paid, unattached}
-use Rattle.server_state.proofs.MemoryReleased.{AreFewer, nothing_released, over_map, translated_map}
-use Rattle.server_state.proofs.ObjectsGone.{objects-removed}
+use Rattle.server_state.proofs.MemoryReleased.{AreFewer, may_release, may_release_over, over_map, shown_over}
+use Rattle.server_state.proofs.MemoryReleased.{tables_lead, tables_stand, translated_map}
 use Rattle.server_state.proofs.PageTables.{has_hwpt_kept}
-use Rattle.server_state.proofs.TableRows.{areas_removed, destroyable}
-use Rattle.object_table.specs.Table.{Row, Table, changed_at, destroy_refusal, is_at, is_own, own, removed, with_users}
+use Rattle.object_table.specs.Table.{Row, Table, changed_at, own, with_users}
 use Rattle.object_table.specs.declared.kind.Kind.TheVariants as of_kind
 
 -- what isn't attached was refused
@@ -286,7 +281,7 @@ module _ {A : Type 0} where
           let next = next_pins at w device a tidy none end.found in
           let has = all_have (all_paid device w.areas) w.memory next.used in
           let after =
-          shown_after_it at w s tidy shows areas_gone pins_gone left (all_paid device w.areas) fewer rows before frames
+          shown_over at w s tidy shows rows before frames areas_gone pins_gone left (all_paid device w.areas) fewer
           (at + 1) (settle w (detached w device a)) memory pool next refl refl has refl refl released in
           record {
             settings = shows.settings;
@@ -306,10 +301,12 @@ module _ {A : Type 0} where
               tables = tables.tables;
               widths = tables.widths;
               stand =
-                  tables_stand_after at w s tidy shows areas_gone pins_gone left (all_paid device w.areas) fewer rows
-                  before frames (at + 1) (settle w (detached w device a)) memory pool next refl
-                  refl has refl refl released
-                  kept.tables tables.tables (λ f i page. paid_leads w.pins device w.areas f i page) tables.stand;
+                  tables_lead at w s tidy shows rows before frames areas_gone pins_gone left (all_paid device w.areas)
+                  fewer (at + 1) (settle w (detached w device a)) memory pool next refl refl has refl refl released
+                  pool rows kept.tables tables.tables (λ f i page some. paid_leads w.pins device w.areas f i page)
+                  (tables_stand at w s tidy shows rows before frames areas_gone pins_gone left
+                  (all_paid device w.areas) fewer (at + 1) (settle w (detached w device a)) memory pool next refl refl
+                  has refl refl released kept.tables tables.stand);
             };
           }
 
@@ -341,7 +338,8 @@ module _ {A : Type 0} where
           widths = shows.tables.widths;
           stand = shows.tables.stand;
         })
-        (nothing_released at w s tidy shows left (all_paid device w.areas) fewer)
+        (released_none never never s.memory s.pool
+        (may_release at w s tidy shows never never left (all_paid device w.areas) fewer))
         in
         let of : a.device ≡ device = device_is a.device device
         (in_found (λ (b : Attachment). eqb b.device.0 device.0) w.attachments a end.found).1 in
@@ -363,21 +361,10 @@ module _ {A : Type 0} where
 
     -- ---- the page table goes with the attachment
 
-    module _ (base new : Table (Held A))
+    module _ (new : Table (Held A)) (kept : PageTables) (before : FramePool)
         (idle : (is_automatic_at (objects_in less) a.file a.hwpt && has_no_user less a.file a.hwpt) ≡ true)
-        (counts : IfSome (own less a.file of_kind.Ioas ioas) (λ row. 0 < row.users
-        → base.rows ≡ changed_at a.file ioas (with_users (row.users - 1)) less.rows))
-        (others_same : base ≡ record less { rows = base.rows })
-        (dropped : destroy_refusal base a.file of_kind.Hwpt a.hwpt ≡ None
-        → new.rows ≡ removed a.file a.hwpt base.rows)
-        (files : new.files ≡ base.files)
-        (kept : PageTables) (before : FramePool)
-        (is_kept : kept.tables ≡ without_hwpt a.file a.hwpt s.page_tables.tables)
-        (stand : IfAllStand s.pool s.page_tables.tables
-        (λ frames leads. AllStand before (without_tables a.file a.hwpt frames) leads kept.tables))
-        (releases : IfAllStand s.pool s.page_tables.tables
-        (λ frames leads. Releases (rows_found frames (hwpt_of s.page_tables.tables a.file a.hwpt)) s.pool
-        before)) where
+        (gone : IsTableGone a.file a.hwpt ioas (record s { objects = less; attachments = attachments }) new kept
+        before) where
       idle_w : is_idle w.objects (without_attachment device w.attachments) a.file a.hwpt ≡ true
       idle_w = sym table_tells ∙ idle
 
@@ -385,98 +372,19 @@ module _ {A : Type 0} where
       one_left = one_goes w.objects (without_attachment device w.attachments) a tidy.ids
           idle_w
 
-      -- its address space has one user fewer
-      space_is : has_ioas (objects_in less) a.file ioas ≡ true
-      space_is =
-          let (width, automatic, kind_w) = of_world in
-          ap (λ (l : List Object). has_ioas l a.file ioas) (sym less_shown.rows)
-          ∙ space_under w.objects a.file a.hwpt ioas width automatic tidy.debts.spaces kind_w
-
-      its_space : (row : Row (Held A)) × (find (is_own a.file of_kind.Ioas ioas) less.rows ≡ Some row)
-          × (find (is_at a.file ioas) less.rows ≡ Some row)
-      its_space = space_row less.rows a.file ioas less_shown.proper space_is
-
-      abbrev fewer_rows : List (Row (Held A))
-      fewer_rows = changed_at a.file ioas (with_users (its_space.0.users - 1)) less.rows
-
-      base_rows : base.rows ≡ fewer_rows
-      base_rows =
-          let (width, automatic, kind_w) = of_world in
-          let many = users_of_row w.objects (without_attachment device w.attachments) less.rows less_shown.counted
-          a.file ioas its_space.0 its_space.2 in
-          let some = some_over w.objects a.file a.hwpt ioas width automatic tidy.ids kind_w in
-          where_found (λ (r : Row (Held A)). 0 < r.users
-          → base.rows ≡ changed_at a.file ioas (with_users (r.users - 1)) less.rows)
-          (own less a.file of_kind.Ioas ioas) its_space.0 its_space.1 counts (omega (arith, many, some))
-
-      objects_base : objects_in base ≡ objects_in less
-      objects_base = ap (map object_of) base_rows
-          ∙ objects-counted less.rows a.file ioas (its_space.0.users - 1)
-
-      proper_base : list_all is_proper base.rows ≡ true
-      proper_base = ap (list_all is_proper) base_rows
-          ∙ proper-counted less.rows a.file ioas (its_space.0.users - 1) ∙ less_shown.proper
-
-      -- nobody uses the page table
-      none_base : users_at base.rows a.file a.hwpt ≡ 0
-      none_base =
-          let here = less_shown.counted a.file a.hwpt in
-          let over = none_over_it in
-          let on = none_on (without_attachment device w.attachments) a.file a.hwpt (not_true _
+      no_device : devices_on (without_attachment device w.attachments) a.file a.hwpt ≡ 0
+      no_device = none_on (without_attachment device w.attachments) a.file a.hwpt (not_true _
           (and_true (is_automatic_at w.objects a.file a.hwpt)
-          (not (has_device_on (without_attachment device w.attachments) a.file a.hwpt)) idle_w).1) in
-          ap (λ (l : List (Row (Held A))). users_at l a.file a.hwpt) base_rows
-          ∙ still_none less.rows a.file a.hwpt ioas its_space.0 its_space.2 (omega (arith, here, over, on))
-
-      kind_base : (width : Width) (automatic : Bool)
-          → kind_of w.objects a.file a.hwpt ≡ Some (kind.Hwpt ioas width automatic)
-          → kind_of (objects_in base) a.file a.hwpt ≡ Some (kind.Hwpt ioas width automatic)
-      kind_base width automatic kind_w =
-          ap (λ (l : List Object). kind_of l a.file a.hwpt) objects_base ∙ kind_less width automatic kind_w
-
-      rows : new.rows ≡ removed a.file a.hwpt base.rows
-      rows = let (width, automatic, kind_w) = of_world in dropped
-          (destroyable base a.file a.hwpt ioas width automatic proper_base
-          (kind_base width automatic kind_w) none_base)
-
-      objects : left ≡ map object_of new.rows
-      objects = one_left ∙ ap (without_object a.file a.hwpt) (less_shown.rows ∙ sym objects_base)
-          ∙ sym (objects-removed base.rows a.file a.hwpt) ∙ ap (map object_of) (sym rows)
-
-      areas : (f : FileNo) (i : ObjId) → areas_of (all_paid device w.areas) f i ≡ areas_at new.rows f i
-      areas f i =
-          let (width, automatic, kind_w) = of_world in
-          less_shown.spaces f i
-          ∙ sym (areas_removed base.rows a.file a.hwpt ioas width automatic (kind_base width automatic kind_w) f i
-          ∙ ap (λ (l : List (Row (Held A))). areas_at l f i) base_rows
-          ∙ areas-counted less.rows a.file ioas (its_space.0.users - 1) f i)
-          ∙ ap (λ rows. areas_at rows f i) (sym rows)
-
-      proper : list_all is_proper new.rows ≡ true
-      proper = ap (list_all is_proper) rows ∙ all_filter is_proper (λ row. not (is_at a.file a.hwpt row)) base.rows
-          proper_base
-
-      counted : AreCounted left (without_attachment device w.attachments) new.rows
-      counted f i =
-          let (width, automatic, kind_w) = of_world in
-          ap (λ (l : List (Row (Held A))). users_at l f i) rows
-          ∙ users-removed base.rows a.file a.hwpt none_base f i
-          ∙ ap (λ (l : List (Row (Held A))). users_at l f i) base_rows
-          ∙ table_goes w.objects (without_attachment device w.attachments) less.rows less_shown.counted a.file ioas
-          a.hwpt width automatic its_space.0 tidy.ids kind_w its_space.2 f i
-          ∙ ap (λ (l : List Object). tables_over l f i + devices_on (without_attachment device w.attachments) f i)
-          (sym one_left)
+          (not (has_device_on (without_attachment device w.attachments) a.file a.hwpt)) idle_w).1)
 
       objects_shown : ObjectsShown w.settings w.closed left (without_attachment device w.attachments)
           (all_paid device w.areas) new
-      objects_shown = record {
-        rows = objects;
-        proper = proper;
-        spaces = areas;
-        files = λ number.
-            rw (files, ap (λ (t : Table (Held A)). t.files) others_same) (less_shown.files number);
-        counted = counted;
-      }
+      objects_shown =
+          let (width, automatic, kind_w) = of_world in
+          subst (λ (l : List Object). ObjectsShown w.settings w.closed l (without_attachment device w.attachments)
+          (all_paid device w.areas) new) (sym one_left)
+          (gone.objects at w (without_attachment device w.attachments) (all_paid device w.areas) width automatic tidy
+          less_shown kind_w no_device)
 
       had : has_hwpt w.objects a.file ioas ≡ true
       had = let (width, automatic, kind_w) = of_world in has_table w.objects a.file a.hwpt ioas width automatic kind_w
@@ -485,10 +393,10 @@ module _ {A : Type 0} where
       own_left : own_areas new a.file ioas ≡ all_paid device (areas_of w.areas a.file ioas)
       own_left =
           own_at new a.file ioas (record {
-            proper = proper;
-            ids = ap have_own_ids (sym objects) ∙ own_ids-filter _ w.objects tidy.ids;
+            proper = objects_shown.proper;
+            ids = ap have_own_ids (sym objects_shown.rows) ∙ own_ids-filter _ w.objects tidy.ids;
           })
-          ∙ sym (areas a.file ioas) ∙ paid_areas_of device w.areas a.file ioas
+          ∙ sym (objects_shown.spaces a.file ioas) ∙ paid_areas_of device w.areas a.file ioas
 
       -- ---- its tables
 
@@ -511,18 +419,18 @@ module _ {A : Type 0} where
           s.pool before shows.frames
           (unreached w s shows tidy.tabled.owned)
           (named_rows w.table_frames s.page_tables.tables a.file a.hwpt h is)
-          (releases w.table_frames (leads_of w) shows.tables.stand)
+          (gone.released w.table_frames (leads_of w) shows.tables.stand)
 
       tables_left : TablesShown (record w { objects = left; table_frames = others_rows }) kept before
       tables_left = record {
         tables =
-            ap (map (λ (h : Hwpt). h.object)) is_kept
+            ap (map (λ (h : Hwpt). h.object)) gone.kept
             ∙ tables_kept w.objects s.page_tables.tables shows.tables.tables shows.tables.stand.own a.file a.hwpt
             ∙ ap page_tables_among (sym one_left);
-        widths = ap (list_all has_own_width) is_kept
+        widths = ap (list_all has_own_width) gone.kept
             ∙ tests_kept w.objects s.page_tables.tables shows.tables.tables shows.tables.stand.own a.file a.hwpt
             has_own_width shows.tables.widths;
-        stand = stand w.table_frames (leads_of w) shows.tables.stand;
+        stand = gone.stand w.table_frames (leads_of w) shows.tables.stand;
       }
 
       -- whether others translate the address space is known of those that are kept
@@ -608,47 +516,39 @@ module _ {A : Type 0} where
               let (moves, chosen, after) = subst Left (sym ends) here in
               (tt, tt, moves, chosen, after)
 
-          -- and another one over the address space stays
-          pub shows_dropped : (via : Option FrameNo) → has_hwpt (objects_of kept) a.file ioas ≡ true
-              → IsStep at w device via given (record s {
-                objects = new;
-                page_tables = kept;
-                attachments = attachments;
-                pool = before;
-              })
-          shows_dropped via more =
-              let fewer = fewer_none w device left (all_stay w (without_attachment device w.attachments) a ioas tidy.ids
-              end.over had (same_left ∙ more)) in
-              step via s.memory before
-              (shows_ended never never others_rows kept before new s.memory before objects_shown
-              fewer frames_left tables_left
-              (released_none never never s.memory before
-              (may_release_after at w s tidy shows never never left (all_paid device w.areas) fewer
-              others_rows before frames_left)))
+      -- the pins that go with it
+      abbrev pins_gone : ℕ → ℕ
+      pins_gone = untranslated_pins kept new a.file ioas
 
-      -- it was the last one
-      fewer_last : has_hwpt (objects_of kept) a.file ioas ≡ false
-          → AreFewer never (over (own_areas new a.file ioas)) w left (all_paid device w.areas)
-      fewer_last last = record {
-        over_left = λ n. let is = over_paid device w.areas n in omega (arith, is);
-        translated_left =
-            λ n. ap (λ k. translated left (all_paid device w.areas) n + k) (ap (λ l. over l n) own_left
-            ∙ over_paid device (areas_of w.areas a.file ioas) n)
-            ∙ ap (λ k. k + over (areas_of w.areas a.file ioas) n) (translated_paid left device w.areas n)
-            ∙ table_lost w.objects left w.areas a.file ioas had (same_left ∙ last)
-            (others_stay w (without_attachment device w.attachments) a ioas tidy.ids end.over) n;
-      }
+      fewer_pins : AreFewer never pins_gone w left (all_paid device w.areas)
+      fewer_pins = by_table (has_hwpt (objects_of kept) a.file ioas) refl
+        where
+          by_table : (b : Bool) → has_hwpt (objects_of kept) a.file ioas ≡ b
+              → AreFewer never (cond b never (over (own_areas new a.file ioas))) w left (all_paid device w.areas)
+          -- another one over the address space stays
+          by_table true more =
+              fewer_none w device left (all_stay w (without_attachment device w.attachments) a ioas tidy.ids
+              end.over had (same_left ∙ more))
+          -- it was the last one
+          by_table false last = record {
+            over_left = λ n. let is = over_paid device w.areas n in omega (arith, is);
+            translated_left =
+                λ n. ap (λ k. translated left (all_paid device w.areas) n + k) (ap (λ l. over l n) own_left
+                ∙ over_paid device (areas_of w.areas a.file ioas) n)
+                ∙ ap (λ k. k + over (areas_of w.areas a.file ioas) n) (translated_paid left device w.areas n)
+                ∙ table_lost w.objects left w.areas a.file ioas had (same_left ∙ last)
+                (others_stay w (without_attachment device w.attachments) a ioas tidy.ids end.over) n;
+          }
 
-      pub may_unpin : has_hwpt (objects_of kept) a.file ioas ≡ false
-          → MayRelease never (over (own_areas new a.file ioas)) s.memory before.holds
-      may_unpin last = may_release_after at w s tidy shows never (over (own_areas new a.file ioas)) left
-          (all_paid device w.areas) (fewer_last last) others_rows before frames_left
+      pub may_unpin : MayRelease never pins_gone s.memory before.holds
+      may_unpin = may_release_over at w s tidy shows others_rows before frames_left never pins_gone left
+          (all_paid device w.areas) fewer_pins
 
-      pub shows_last : (listed given : List FrameNo) → listed ≡ []
+      shows_dropped : (listed given : List FrameNo) → listed ≡ []
           → IfAllStand s.pool s.page_tables.tables
           (λ frames leads. GivesBack (rows_found frames (hwpt_of s.page_tables.tables a.file a.hwpt)) listed given)
-          → (via : Option FrameNo) (memory : Memory) (pool : FramePool) → has_hwpt (objects_of kept) a.file ioas ≡ false
-          → IsReleased never (over (own_areas new a.file ioas)) s.memory memory before pool
+          → (via : Option FrameNo) (memory : Memory) (pool : FramePool)
+          → IsReleased never pins_gone s.memory memory before pool
           → IsStep at w device via given (record s {
             objects = new;
             page_tables = kept;
@@ -656,7 +556,19 @@ module _ {A : Type 0} where
             memory = memory;
             pool = pool;
           })
-      shows_last listed given nothing gives_back via memory pool last released =
+      shows_dropped listed given nothing gives_back via memory pool released =
           step listed given nothing gives_back via memory pool
-          (shows_ended never (over (own_areas new a.file ioas)) others_rows kept before new memory pool objects_shown
-          (fewer_last last) frames_left tables_left released)
+          (shows_ended never pins_gone others_rows kept before new memory pool objects_shown fewer_pins frames_left
+          tables_left released)
+
+    pub shows_lost : (to : State A)
+        → (is_automatic_at (objects_in less) a.file a.hwpt && has_no_user less a.file a.hwpt) ≡ true
+        → HasLostTable a.file a.hwpt ioas (record s { objects = less; attachments = attachments }) to
+        → (listed given : List FrameNo) → listed ≡ []
+        → IfAllStand s.pool s.page_tables.tables
+        (λ frames leads. GivesBack (rows_found frames (hwpt_of s.page_tables.tables a.file a.hwpt)) listed given)
+        → (via : Option FrameNo) → IsStep at w device via given to
+    shows_lost to idle lost listed given nothing gives_back via =
+        subst (IsStep at w device via given) (sym lost.others)
+        (shows_dropped to.objects to.page_tables lost.between idle lost.gone listed given nothing gives_back via
+        to.memory to.pool lost.pins)

@@ -8,6 +8,5 @@ pub mod Flushed
 pub mod NeverRefused
 pub mod NoUser
 pub mod PaidLeads
-pub mod ReleasedAfter
 pub mod TableGone
 pub mod Walked

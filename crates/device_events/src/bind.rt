@@ -13,7 +13,7 @@ use server_state::{Held, State, devices};
 use std::alloc::Allocator;
 
 /// Why it is refused, by the first row of the definitions that holds. None where nothing refuses it.
-#[tactic(auto, using(server_state::proofs::ObjectsMoved::is_full_rows), unfolding(iofd_words::specs::Checks::bind_checks))]
+#[tactic(auto, using(server_state::proofs::Objects::fullness), unfolding(iofd_words::specs::Checks::bind_checks))]
 pub fn refusal<A: Allocator>(state: &State<A>, file: FileNo, device: DeviceNo) -> Option<Cause>
     requires { IsKnown state.now }
     ensures { result ≡ first_true (bind_checks (seen state.now) file device) }

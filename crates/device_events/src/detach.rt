@@ -9,15 +9,13 @@ ghost use Rattle.server_state.specs.Held.{objects_in};
 ghost use Rattle.device_events.specs.Attaching.{has_no_user, is_automatic_at};
 ghost use Rattle.server_state.specs.Seen.{seen};
 ghost use Rattle.server_state.specs.Step.{IsGranted, IsKnown, MovingSteps, ShowsSame};
-ghost use Rattle.object_table.specs.Table.{destroy_refusal, removed};
-ghost use Rattle.object_table.specs.declared.kind.Kind.TheVariants as of_kind;
 
-use crate::{attachments, spaces};
+use crate::attachments;
 use iofd_words::{
     Attachment, Cause, DeviceNo, FileNo, FrameNo, NoMemory, ObjId, ObjectKind, Reply,
 };
 use object_table::{Kind, ObjectTable};
-use server_state::{Held, State, counts, lookups, release};
+use server_state::{Held, State, area_changes, counts, lookups, release};
 use std::alloc::Allocator;
 
 /// Why it is refused, by the first row of the definitions that holds. None where nothing refuses it.
@@ -59,22 +57,11 @@ pub fn commit<A: Allocator>(
         return Ok(Reply::Done);
     };
     state.reserve_given(file, hwpt, given)?;
-    spaces::pay(&mut state.objects, file, ioas, device);
+    area_changes::pay(&mut state.objects, file, ioas, device);
     attachments::remove(&mut state.attachments, device);
     counts::one_fewer(&mut state.objects, file, Kind::Hwpt, hwpt);
     if is_idle(&state.objects, file, hwpt) {
-        counts::one_fewer(&mut state.objects, file, Kind::Ioas, ioas);
-        drop_table(&mut state.objects, file, hwpt);
-        state.page_tables.remove(&mut state.pool, file, hwpt, given);
-        if !state.page_tables.has_over(file, ioas) {
-            release::unpin_space(
-                &state.objects,
-                file,
-                ioas,
-                &mut state.memory,
-                &mut state.pool,
-            );
-        }
+        release::remove_page_table(state, file, hwpt, ioas, given);
     }
     Ok(Reply::Done)
 }
@@ -104,13 +91,4 @@ fn is_automatic<A: Allocator>(table: &ObjectTable<Held<A>, A>, file: FileNo, id:
         Some(ObjectKind::Hwpt { automatic, .. }) => automatic,
         _ => false,
     }
-}
-
-/// The page table goes. All other objects and all areas stay.
-fn drop_table<A: Allocator>(table: &mut ObjectTable<Held<A>, A>, file: FileNo, hwpt: ObjId)
-    ensures rows { destroy_refusal table.old file of_kind.Hwpt hwpt ≡ None
-        → table.new.rows ≡ removed file hwpt table.old.rows }
-    ensures files { table.new.files ≡ table.old.files }
-{
-    let _ = table.destroy(file, Kind::Hwpt, hwpt);
 }

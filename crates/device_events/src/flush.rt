@@ -7,9 +7,8 @@ ghost use Rattle.iofd_words.specs.declared.event.Event.TheVariants as event;
 ghost use Rattle.server_state.specs.Seen.{seen};
 ghost use Rattle.server_state.specs.Step.{IsKnown, Steps};
 
-use crate::spaces;
 use iofd_words::{Cause, DeviceNo, Reply};
-use server_state::State;
+use server_state::{State, area_changes};
 use std::alloc::Allocator;
 
 /// Why it is refused, by the first row of the definitions that holds. None where nothing refuses it.
@@ -30,7 +29,7 @@ pub fn commit<A: Allocator>(state: &mut State<A>, device: DeviceNo) -> Reply
     ensures { (at : ℕ) → Steps at (event.Flush device) state.old result state.new }
 {
     if let Some((file, ioas)) = state.space_of(device) {
-        spaces::pay(&mut state.objects, file, ioas, device);
+        area_changes::pay(&mut state.objects, file, ioas, device);
     }
     Reply::Done
 }

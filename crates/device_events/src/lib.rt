@@ -8,4 +8,3 @@ pub mod detach;
 pub mod device_read;
 pub mod device_write;
 pub mod flush;
-mod spaces;

@@ -1,6 +1,6 @@
 -- An object that was destroyed: an address space with its areas, or a page table with pins.
 use Rattle.std.proofs.Common.{◌≡◌, ℕ, Bool, true, false, cond, ◌&&◌, ltb, not, eqb, is_none, Option, Some, None, List}
-use Rattle.std.proofs.Common.{[], map, refl, sym, ◌∙◌, ap, subst, arith, ◌+◌, ◌-◌, ◌<◌, IfSome}
+use Rattle.std.proofs.Common.{[], map, refl, sym, ◌∙◌, ap, subst, arith, ◌+◌}
 use Rattle.iofd_words.specs.Allowed.{AllowedRanges, allowed_of, without_allowed}
 use Rattle.iofd_words.specs.Answers.{Answers}
 use Rattle.iofd_runs.proofs.KeepsPins.{keeps_pins}
@@ -8,14 +8,14 @@ use Rattle.iofd_runs.proofs.NotRefused.{destroy_passed}
 use Rattle.iofd_runs.proofs.OwnIds.{own_ids-filter}
 use Rattle.frame_memory.specs.Pool.{FramePool}
 use Rattle.memory_rows.proofs.FramesFollow.{translated_same}
-use Rattle.memory_rows.proofs.Gone.{objects_left, over_parts, released_none, table_lost, translated_parts}
+use Rattle.memory_rows.proofs.Gone.{objects_left, over_parts, table_lost, translated_parts}
 use Rattle.memory_rows.proofs.Gone.{translated_space}
 use Rattle.memory_rows.specs.Moves.{IsReleased, MayRelease, if_translated}
 use Rattle.memory_rows.specs.Shown.{over, tables_in, translated}
 use Rattle.user_memory.specs.Changes.{never}
 use Rattle.user_memory.specs.Memory.{Memory}
 use Rattle.iofd_rows.specs.Pinned.{ArePinned}
-use Rattle.std.specs.List.{filter, find, list_all}
+use Rattle.std.specs.List.{filter, list_all}
 use Rattle.std.proofs.lemmas.Bool.Decides.{nat_tests}
 use Rattle.iofd_words.specs.After.{settle, without_areas, changed}
 use Rattle.iofd_words.specs.Areas.{areas_of, is_of}
@@ -23,7 +23,8 @@ use Rattle.iofd_words.specs.Checks.{destroy_checks, is_device_object, is_used}
 use Rattle.iofd_rows.specs.Ids.{have_own_ids}
 use Rattle.iofd_words.specs.FirstTrue.{first_true}
 use Rattle.iofd_words.specs.Objects.{has_hwpt, is_bound_as, is_bound_device, is_hwpt, is_hwpt_over, is_object, kind_of}
-use Rattle.iofd_words.specs.Objects.{has_ioas, is_ioas, without_object}
+use Rattle.iofd_words.specs.Objects.{without_object}
+use Rattle.iofd_words.specs.Pins.{pinned_frame}
 use Rattle.iofd_words.specs.View.{view}
 use Rattle.iofd_words.specs.World.{World}
 use Rattle.iofd_words.specs.declared.event.Event.TheVariants as event
@@ -45,46 +46,46 @@ use Rattle.iofd_rows.proofs.Named.{file_is, id_is, kind_only}
 use Rattle.iofd_rows.proofs.PageTables.{hwpt_alike}
 use Rattle.server_state.proofs.AreasBecome.{own_at}
 use Rattle.server_state.proofs.DevicesOn.{none_on, on_tables}
-use Rattle.server_state.proofs.Counted.{areas-counted, none_over, objects-counted, other_goes, over_spaces}
-use Rattle.server_state.proofs.Counted.{proper-counted, some_over, space_row, space_under, still_none, table_goes}
-use Rattle.server_state.proofs.Counted.{users-removed, users_of_row, where_found}
+use Rattle.server_state.proofs.Counted.{none_over}
 use Rattle.server_state.proofs.Objects.{has_table}
 use Rattle.server_state.proofs.Orderly.{orderly}
-use Rattle.server_state.proofs.MemoryReleased.{AreFewer}
+use Rattle.server_state.proofs.MemoryReleased.{AreFewer, may_release, may_release_over, shown_over, tables_lead}
+use Rattle.server_state.proofs.MemoryReleased.{tables_stand}
 use Rattle.server_state.proofs.Objects.{areas_at_rows, areas_of_held, kind_at, kind_of_rows, value_at}
 use Rattle.file_events.proofs.SpacesGone.{any_without, areas-removed, areas_elsewhere, areas_stay, found_without}
+use Rattle.file_events.proofs.SpacesGone.{other_goes}
 use Rattle.server_state.proofs.ObjectsGone.{may_go, objects-removed}
 use Rattle.server_state.specs.Held.{is_proper, areas_at, object_of, objects_in}
-use Rattle.server_state.specs.Mapping.{own_areas}
+use Rattle.server_state.specs.Mapping.{own_areas, untranslated_pins}
 use Rattle.server_state.specs.Shows.{ObjectsShown, Shows}
 use Rattle.server_state.specs.Users.{AreCounted, devices_on, tables_over, users_at}
 use Rattle.server_state.specs.Step.{IsTidy}
+use Rattle.server_state.specs.TableGone.{HasLostTable, IsTableGone}
 use Rattle.server_state.specs.Tables.{has_own_width, page_tables_among}
 use Rattle.server_state.specs.Choice.{AreFramesChosen, IsChosen}
-use Rattle.server_state.specs.Leads.{leads_of}
+use Rattle.server_state.specs.Leads.{leads_in, leads_of}
 use Rattle.server_state.proofs.GivenShown.{given_shown}
 use Rattle.server_state.proofs.PageTables.{has_hwpt_kept}
 use Rattle.server_state.proofs.Still.{still}
-use Rattle.file_events.proofs.FreedOver.{freed, may_free, tables_freed, tables_lead}
 use Rattle.file_events.proofs.GivesBackMoves.{gives_back}
 use Rattle.file_events.proofs.TablesGone.{of_one, one_counted, orphans_are, rows_named}
 use Rattle.server_state.proofs.TablesUnreached.{none_reach}
 use Rattle.file_events.proofs.TablesLeft.{among_left, one_left, one_widths}
 use Rattle.hwpt_device.proofs.Counted.{rows_in_frame}
 use Rattle.hwpt_device.specs.PageTables.{AllStand, Hwpt, IfAllStand, PageTables, hwpt_of, objects_of}
-use Rattle.hwpt_device.specs.Removed.{rows_found, without_hwpt, without_tables}
+use Rattle.hwpt_device.specs.Removed.{rows_found, without_tables}
 use Rattle.iofd_words.specs.TablePlaces.{is_table_of}
 use Rattle.iofd_words.specs.Tables.{MovesTables, with_tables}
 use Rattle.iofd_words.specs.declared.numbers.FrameNo.{FrameNo}
 use Rattle.iofd_words.specs.declared.rows.TableFrame.{TableFrame}
 use Rattle.memory_rows.specs.Shown.{FramesShown}
 use Rattle.server_state.specs.Spaces.{is_space}
-use Rattle.table_words.specs.Released.{GivesBack, Releases}
+use Rattle.table_words.specs.Released.{GivesBack}
 use Rattle.table_words.specs.Rows.{TableRow}
 use Rattle.server_state.specs.declared.held.Held.{Held}
 use Rattle.server_state.specs.declared.held.Held.TheVariants as held
 use Rattle.server_state.specs.declared.state.State.{State}
-use Rattle.object_table.specs.Table.{Row, Table, changed_at, destroy_refusal, is_at, is_own, own, removed, with_users}
+use Rattle.object_table.specs.Table.{Row, Table, destroy_refusal, is_at, own, removed}
 use Rattle.object_table.specs.declared.kind.Kind.TheVariants as tablekind
 
 -- ---- what goes of the counts
@@ -148,20 +149,17 @@ module _ (w : World) (file : FileNo) (id : ObjId) (ids : have_own_ids w.objects 
     had : has_hwpt w.objects file ioas ≡ true
     had = has_table w.objects file id ioas width automatic is_kind
 
-    -- the last one over its address space
-    last_fewer : (own : List Area) → own ≡ areas_of w.areas file ioas → has_hwpt left file ioas ≡ false
-        → AreFewer never (over own) w left stay
-    last_fewer own own_is last = record {
+    -- the pins of its address space's areas go where no other is over it; else its areas stay translated
+    table_fewer : (own : List Area) → own ≡ areas_of w.areas file ioas → (more : Bool) → has_hwpt left file ioas ≡ more
+        → AreFewer never (cond more never (over own)) w left stay
+    table_fewer own own_is false last = record {
       over_left = λ n. let same = ap (λ (l : List Area). over l n) all_stay in omega (arith, same);
       translated_left =
           λ n. ap (λ (l : List Area). translated left l n + over own n) all_stay
           ∙ ap (λ (l : List Area). translated left w.areas n + over l n) own_is
           ∙ table_lost w.objects left w.areas file ioas had last other_table n;
     }
-
-    -- where another is over it, its areas stay translated
-    other_fewer : has_hwpt left file ioas ≡ true → AreFewer never never w left stay
-    other_fewer more = record {
+    table_fewer own own_is true more = record {
       over_left = λ n. let same = ap (λ (l : List Area). over l n) all_stay in omega (arith, same);
       translated_left = λ n. let same = ap (λ (l : List Area). translated left l n) all_stay
           ∙ translated_same w.objects left w.areas tables n in omega (arith, same);
@@ -236,19 +234,18 @@ module _ {A : Type 0} where
       ∙ no_areas_in (value_at s.objects.rows file id) ioas width automatic (sym (kind_of_rows s.objects.rows file id)
       ∙ ap (λ (l : List Object). kind_of l file id) (sym shows.objects.rows) ∙ is_kind)
 
-  -- the object's row goes, of rows that have these objects and areas
-  objects_gone : (w : World) (s : State A) (file : FileNo) (id : ObjId) (base table : Table (Held A)) → Shows w s
-      → w.objects ≡ map object_of base.rows → list_all is_proper base.rows ≡ true
-      → ((f : FileNo) (i : ObjId) → areas_of w.areas f i ≡ areas_at base.rows f i)
-      → table.rows ≡ removed file id base.rows → table.files ≡ s.objects.files
+  -- the object's row goes
+  objects_gone : (w : World) (s : State A) (file : FileNo) (id : ObjId) (table : Table (Held A)) → Shows w s
+      → table.rows ≡ removed file id s.objects.rows → table.files ≡ s.objects.files
       → AreCounted (without_object file id w.objects) w.attachments table.rows
       → ObjectsShown w.settings w.closed (without_object file id w.objects) w.attachments
       (filter (λ (area : Area). not (is_of file id area)) w.areas) table
-  objects_gone w s file id base table shows objects proper areas rows files counted = record {
-    rows = ap (without_object file id) objects ∙ sym (objects-removed base.rows file id)
+  objects_gone w s file id table shows rows files counted = record {
+    rows = ap (without_object file id) shows.objects.rows ∙ sym (objects-removed s.objects.rows file id)
         ∙ ap (map object_of) (sym rows);
-    proper = rw rows (all_filter is_proper (λ row. not (is_at file id row)) base.rows proper);
-    spaces = λ f i. areas-removed w.areas base.rows file id areas f i ∙ ap (λ l. areas_at l f i) (sym rows);
+    proper = rw rows (all_filter is_proper (λ row. not (is_at file id row)) s.objects.rows shows.objects.proper);
+    spaces = λ f i. areas-removed w.areas s.objects.rows file id shows.objects.spaces f i
+        ∙ ap (λ l. areas_at l f i) (sym rows);
     files = λ number. rw files (shows.objects.files number);
     counted = counted;
   }
@@ -281,7 +278,7 @@ module _ {A : Type 0} where
       no_device objects shown stand are widths stay fewer released forgets =
       let next : ArePinned (at + 1) (gone w file id) =
       keeps_pins {A = A} at w (event.Destroy file id) reply.Done none tt tidy.pins in
-      let after = freed at w s tidy shows kept tables.tables before shown stand areas pins
+      let after = shown_over at w s tidy shows kept before shown areas pins
       (without_object file id w.objects) (filter (λ (area : Area). not (is_of file id area)) w.areas) fewer (at + 1)
       (gone w file id) memory pool next refl refl
       (objects_left (is_of file id) w.areas w.memory) refl refl released in
@@ -306,15 +303,16 @@ module _ {A : Type 0} where
           tables = are;
           widths = widths;
           stand =
-              tables_lead at w s tidy shows kept tables.tables before shown stand areas pins
+              tables_lead at w s tidy shows kept before shown areas pins
               (without_object file id w.objects) (filter (λ (area : Area). not (is_of file id area)) w.areas) fewer
               (at + 1) (gone w file id) memory pool next refl refl
               (objects_left (is_of file id) w.areas w.memory) refl refl released
-              pool kept tables.tables are stay
-              (tables_freed at w s tidy shows kept tables.tables before shown stand areas pins
+              pool kept tables.tables are
+              (λ f i page has. ap (λ (l : List Area). leads_in (pinned_frame w.pins) l page) (stay f i has))
+              (tables_stand at w s tidy shows kept before shown areas pins
               (without_object file id w.objects) (filter (λ (area : Area). not (is_of file id area)) w.areas)
               fewer (at + 1) (gone w file id) memory pool next refl refl
-              (objects_left (is_of file id) w.areas w.memory) refl refl released);
+              (objects_left (is_of file id) w.areas w.memory) refl refl released tables.tables stand);
         };
       }
     where
@@ -355,7 +353,7 @@ module _ {A : Type 0} where
 
     pub space_may : MayRelease (over (own_areas s.objects file id)) never s.memory s.pool.holds
     space_may =
-        may_free at w s tidy shows w.table_frames s.page_tables.tables s.pool shows.frames shows.tables.stand
+        may_release at w s tidy shows
         (over (own_areas s.objects file id)) never (without_object file id w.objects)
         (filter (λ (area : Area). not (is_of file id area)) w.areas) goes
 
@@ -381,8 +379,7 @@ module _ {A : Type 0} where
     space_destroyed table memory pool allowed rows files released forgets =
         shows_destroyed at w s file id kind.Ioas table (over (own_areas s.objects file id)) never memory s.pool pool
         allowed w.table_frames s.page_tables tidy shows none space_kind refl
-        (objects_gone w s file id s.objects table shows shows.objects.rows shows.objects.proper shows.objects.spaces
-        row_gone files
+        (objects_gone w s file id table shows row_gone files
         (λ f i. ap (λ (l : List (Row (Held A))). users_at l f i) row_gone
         ∙ other_goes w.objects w.attachments s.objects.rows shows.objects.counted file id kind.Ioas tidy.ids space_kind
         refl nothing_over nothing_on f i))
@@ -410,115 +407,43 @@ module _ {A : Type 0} where
 
   -- a page table
   module _ (at : ℕ) (w : World) (s : State A) (file : FileNo) (id ioas : ObjId) (width : Width) (automatic : Bool)
-      (table : Table (Held A)) (tidy : IsTidy at w) (shows : Shows w s)
+      (allowed : List AllowedRanges) (tidy : IsTidy at w) (shows : Shows w s)
       (none : first_true (destroy_checks (view w) file id) ≡ None)
-      (is_kind : kind_of (objects_in s.objects) file id ≡ Some (kind.Hwpt ioas width automatic))
-      (base : Table (Held A))
-      (counts : IfSome (own s.objects file tablekind.Ioas ioas) (λ row. 0 < row.users
-      → base.rows ≡ changed_at file ioas (with_users (row.users - 1)) s.objects.rows))
-      (others_same : base ≡ record s.objects { rows = base.rows })
-      (may : destroy_refusal base file tablekind.Hwpt id ≡ None
-      → table.rows ≡ removed file id base.rows) (files : table.files ≡ base.files)
-      (tables : PageTables) (between : FramePool) (kept : tables.tables ≡ without_hwpt file id s.page_tables.tables)
-      (stands : IfAllStand s.pool s.page_tables.tables
-      (λ frames leads. AllStand between (without_tables file id frames) leads tables.tables))
-      (releases : IfAllStand s.pool s.page_tables.tables
-      (λ frames leads. Releases (rows_found frames (hwpt_of s.page_tables.tables file id)) s.pool between))
-    where
-      of_world : kind_of w.objects file id ≡ Some (kind.Hwpt ioas width automatic)
-      of_world = kind_shown w s file id (kind.Hwpt ioas width automatic) shows is_kind
+      (is_kind : kind_of (objects_in s.objects) file id ≡ Some (kind.Hwpt ioas width automatic)) where
+    of_world : kind_of w.objects file id ≡ Some (kind.Hwpt ioas width automatic)
+    of_world = kind_shown w s file id (kind.Hwpt ioas width automatic) shows is_kind
 
-      empty : areas_of w.areas file id ≡ []
-      empty = no_areas w s file id ioas width automatic shows of_world
+    empty : areas_of w.areas file id ≡ []
+    empty = no_areas w s file id ioas width automatic shows of_world
 
-      -- its address space has one user fewer
-      space_is : has_ioas (objects_in s.objects) file ioas ≡ true
-      space_is = ap (λ (l : List Object). has_ioas l file ioas) (sym shows.objects.rows)
-          ∙ space_under w.objects file id ioas width automatic tidy.debts.spaces of_world
-
-      its_space : (row : Row (Held A)) × (find (is_own file tablekind.Ioas ioas) s.objects.rows ≡ Some row)
-          × (find (is_at file ioas) s.objects.rows ≡ Some row)
-      its_space = space_row s.objects.rows file ioas shows.objects.proper space_is
-
-      base_rows : base.rows ≡ changed_at file ioas (with_users (its_space.0.users - 1)) s.objects.rows
-      base_rows =
-          let many = users_of_row w.objects w.attachments s.objects.rows shows.objects.counted file ioas its_space.0
-          its_space.2 in
-          let some = some_over w.objects file id ioas width automatic tidy.ids of_world in
-          where_found (λ (r : Row (Held A)). 0 < r.users
-          → base.rows ≡ changed_at file ioas (with_users (r.users - 1)) s.objects.rows)
-          (own s.objects file tablekind.Ioas ioas) its_space.0 its_space.1 counts (omega (arith, many, some))
-
-      objects_base : objects_in base ≡ objects_in s.objects
-      objects_base = ap (map object_of) base_rows
-          ∙ objects-counted s.objects.rows file ioas (its_space.0.users - 1)
-
-      proper_base : list_all is_proper base.rows ≡ true
-      proper_base = ap (list_all is_proper) base_rows
-          ∙ proper-counted s.objects.rows file ioas (its_space.0.users - 1) ∙ shows.objects.proper
-
-      areas_base : (f : FileNo) (i : ObjId) → areas_of w.areas f i ≡ areas_at base.rows f i
-      areas_base f i = shows.objects.spaces f i
-          ∙ sym (ap (λ (l : List (Row (Held A))). areas_at l f i) base_rows
-          ∙ areas-counted s.objects.rows file ioas (its_space.0.users - 1) f i)
-
-      -- nobody uses the page table
-      none_base : users_at base.rows file id ≡ 0
-      none_base =
-          let no_space : has_ioas w.objects file id ≡ false =
-          ap (λ (o : Option ObjectKind). elim o [ Some k ↦ is_ioas k | None ↦ false ]) of_world in
-          ap (λ (l : List (Row (Held A))). users_at l file id) base_rows
-          ∙ still_none s.objects.rows file id ioas its_space.0 its_space.2
-          (let here = shows.objects.counted file id in
-          let over = over_spaces w.objects file id tidy.debts.spaces no_space in
-          let on = none_on w.attachments file id
-          (unused w file id (kind.Hwpt ioas width automatic) none of_world) in
-          omega (arith, here, over, on))
-
-      rows : table.rows ≡ removed file id base.rows
-      rows = may (may_go base file id (kind.Hwpt ioas width automatic) proper_base
-          (ap (λ (l : List Object). kind_of l file id) objects_base ∙ is_kind) none_base)
-
-      objects_kept : objects_in table ≡ without_object file id w.objects
-      objects_kept = ap (map object_of) rows ∙ objects-removed base.rows file id
-          ∙ ap (without_object file id) (objects_base ∙ sym shows.objects.rows)
-
-      proper_kept : list_all is_proper table.rows ≡ true
-      proper_kept = ap (list_all is_proper) rows
-          ∙ all_filter is_proper (λ row. not (is_at file id row)) base.rows proper_base
-
-      counted_kept : AreCounted (without_object file id w.objects) w.attachments table.rows
-      counted_kept f i =
-          ap (λ (l : List (Row (Held A))). users_at l f i) rows
-          ∙ users-removed base.rows file id none_base f i
-          ∙ ap (λ (l : List (Row (Held A))). users_at l f i) base_rows
-          ∙ table_goes w.objects w.attachments s.objects.rows shows.objects.counted file ioas id width automatic
-          its_space.0 tidy.ids of_world its_space.2 f i
+    module _ (table : Table (Held A)) (tables : PageTables) (between : FramePool)
+        (is_gone : IsTableGone file id ioas (record s { allowed = allowed }) table tables between) where
+      -- the objects without it, and its address space with one user fewer
+      leaves : ObjectsShown w.settings w.closed (without_object file id w.objects) w.attachments w.areas table
+      leaves = is_gone.objects at w w.attachments w.areas width automatic tidy shows.objects of_world
+          (none_on w.attachments file id (unused w file id (kind.Hwpt ioas width automatic) none of_world))
 
       objects_shown : ObjectsShown w.settings w.closed (without_object file id w.objects) w.attachments
           (filter (λ (area : Area). not (is_of file id area)) w.areas) table
-      objects_shown = objects_gone w s file id base table shows (shows.objects.rows ∙ sym objects_base) proper_base
-          areas_base rows (files ∙ ap (λ (t : Table (Held A)). t.files) others_same) counted_kept
+      objects_shown = subst (λ (l : List Area). ObjectsShown w.settings w.closed (without_object file id w.objects)
+          w.attachments l table) (sym (all_stay w file id tidy.ids ioas width automatic of_world empty)) leaves
 
       -- the areas of its address space
       own_kept : own_areas table file ioas ≡ areas_of w.areas file ioas
       own_kept =
           own_at table file ioas (record {
-            proper = proper_kept;
-            ids = ap have_own_ids objects_kept ∙ own_ids-filter _ w.objects tidy.ids;
+            proper = leaves.proper;
+            ids = ap have_own_ids (sym leaves.rows) ∙ own_ids-filter _ w.objects tidy.ids;
           })
-          ∙ ap (λ l. areas_at l file ioas) rows
-          ∙ sym (areas-removed w.areas base.rows file id areas_base file ioas)
-          ∙ ap (λ (l : List Area). areas_of l file ioas)
-          (all_stay w file id tidy.ids ioas width automatic of_world empty)
+          ∙ sym (leaves.spaces file ioas)
 
       tables_here : objects_of tables ≡ page_tables_among (without_object file id w.objects)
-      tables_here = ap (map (λ (h : Hwpt). h.object)) kept
+      tables_here = ap (map (λ (h : Hwpt). h.object)) is_gone.kept
           ∙ one_left w.objects s.page_tables.tables shows.tables.tables shows.tables.widths file
           id shows.tables.stand.own
 
       widths_here : list_all has_own_width tables.tables ≡ true
-      widths_here = ap (list_all has_own_width) kept
+      widths_here = ap (list_all has_own_width) is_gone.kept
           ∙ one_widths w.objects s.page_tables.tables shows.tables.tables shows.tables.widths file
           id shows.tables.stand.own
 
@@ -543,10 +468,10 @@ module _ {A : Type 0} where
           s.page_tables.tables s.memory s.pool
           shows.tables.tables tidy.tabled.owned shows.frames shows.tables.stand)
           (λ f. rows_named table_rows f ∙ ap (ltb 0) (counted f))
-          (releases w.table_frames (leads_of w) shows.tables.stand)
+          (is_gone.released w.table_frames (leads_of w) shows.tables.stand)
 
       stand_between : AllStand between (without_tables file id w.table_frames) (leads_of w) tables.tables
-      stand_between = stands w.table_frames (leads_of w) shows.tables.stand
+      stand_between = is_gone.stand w.table_frames (leads_of w) shows.tables.stand
 
       areas_kept : (f : FileNo) (i : ObjId) → has_hwpt (without_object file id w.objects) f i ≡ true
           → areas_of (filter (λ (area : Area). not (is_of file id area)) w.areas) f i ≡ areas_of w.areas f i
@@ -555,57 +480,31 @@ module _ {A : Type 0} where
 
       -- ---- the pins of its address space
 
-      loses : has_hwpt (objects_of tables) file ioas ≡ false
-          → AreFewer never (over (own_areas table file ioas)) w (without_object file id w.objects)
-          (filter (λ (area : Area). not (is_of file id area)) w.areas)
-      loses last = last_fewer w file id tidy.ids ioas width automatic of_world empty (own_areas table file ioas)
-          own_kept (same_left ∙ last)
+      abbrev pins_gone : ℕ → ℕ
+      pins_gone = untranslated_pins tables table file ioas
 
-      pub last_may : has_hwpt (objects_of tables) file ioas ≡ false
-          → MayRelease never (over (own_areas table file ioas)) s.memory between.holds
-      last_may last =
-          may_free at w s tidy shows (without_tables file id w.table_frames) tables.tables between
-          frames_between stand_between
-          never (over (own_areas table file ioas)) (without_object file id w.objects)
-          (filter (λ (area : Area). not (is_of file id area)) w.areas) (loses last)
-
-      shown_kept : (areas pins : ℕ → ℕ) (memory : Memory) (pool : FramePool) (allowed : List AllowedRanges)
-          → AreFewer areas pins w (without_object file id w.objects)
+      fewer_pins : AreFewer never pins_gone w (without_object file id w.objects)
           (filter (λ (area : Area). not (is_of file id area)) w.areas)
-          → IsReleased areas pins s.memory memory between pool → allowed ≡ without_allowed file id s.allowed
+      fewer_pins = table_fewer w file id tidy.ids ioas width automatic of_world empty (own_areas table file ioas)
+          own_kept (has_hwpt (objects_of tables) file ioas) same_left
+
+      pub may_unpin : MayRelease never pins_gone s.memory between.holds
+      may_unpin =
+          may_release_over at w s tidy shows (without_tables file id w.table_frames) between frames_between
+          never pins_gone (without_object file id w.objects)
+          (filter (λ (area : Area). not (is_of file id area)) w.areas) fewer_pins
+
+      table_destroyed : (memory : Memory) (pool : FramePool)
+          → IsReleased never pins_gone s.memory memory between pool → allowed ≡ without_allowed file id s.allowed
           → Shows (record (gone w file id) { table_frames = without_tables file id w.table_frames })
           (record s { objects = table; allowed = allowed; page_tables = tables; memory = memory; pool = pool })
-      shown_kept areas pins memory pool allowed fewer released forgets =
-          shows_destroyed at w s file id (kind.Hwpt ioas width automatic) table areas pins memory between pool allowed
-          (without_tables file id w.table_frames) tables tidy shows none of_world refl objects_shown
-          frames_between stand_between tables_here widths_here areas_kept fewer released forgets
-
-      -- the pins of the space's areas went with its last page table
-      pub last_destroyed : (memory : Memory) (pool : FramePool) (allowed : List AllowedRanges)
-          → has_hwpt (objects_of tables) file ioas ≡ false
-          → IsReleased never (over (own_areas table file ioas)) s.memory memory between pool
-          → allowed ≡ without_allowed file id s.allowed
-          → Shows (record (gone w file id) { table_frames = without_tables file id w.table_frames })
-          (record s { objects = table; allowed = allowed; page_tables = tables; memory = memory; pool = pool })
-      last_destroyed memory pool allowed last released forgets =
-          shown_kept never (over (own_areas table file ioas)) memory pool allowed (loses last) released forgets
-
-      pub other_destroyed : (allowed : List AllowedRanges) → has_hwpt (objects_of tables) file ioas ≡ true
-          → allowed ≡ without_allowed file id s.allowed
-          → Shows (record (gone w file id) { table_frames = without_tables file id w.table_frames })
-          (record s { objects = table; allowed = allowed; page_tables = tables; pool = between })
-      other_destroyed allowed more forgets =
-          let fewer = other_fewer w file id tidy.ids ioas width automatic of_world empty (same_left ∙ more) in
-          shown_kept never never s.memory between allowed fewer
-          (released_none never never s.memory between
-          (may_free at w s tidy shows (without_tables file id w.table_frames) tables.tables between
-          frames_between stand_between
-          never never (without_object file id w.objects)
-          (filter (λ (area : Area). not (is_of file id area)) w.areas) fewer))
-          forgets
+      table_destroyed memory pool released forgets =
+          shows_destroyed at w s file id (kind.Hwpt ioas width automatic) table never pins_gone memory between pool
+          allowed (without_tables file id w.table_frames) tables tidy shows none of_world refl objects_shown
+          frames_between stand_between tables_here widths_here areas_kept fewer_pins released forgets
 
       -- and the record gives the frames back
-      pub table_moves : (via : Option FrameNo) (out given : List FrameNo) (new : State A) → out ≡ []
+      table_moves : (via : Option FrameNo) (out given : List FrameNo) (new : State A) → out ≡ []
           → IfAllStand s.pool s.page_tables.tables
           (λ frames leads. GivesBack (rows_found frames (hwpt_of s.page_tables.tables file id)) out given)
           → Shows (record (gone w file id) { table_frames = without_tables file id w.table_frames }) new
@@ -619,6 +518,16 @@ module _ {A : Type 0} where
           (subst (λ (l : List FrameNo). GivesBack table_rows l given) none_out
           (gives w.table_frames (leads_of w) shows.tables.stand)) counted
           tt after
+
+    pub shows_lost : (to : State A) → HasLostTable file id ioas (record s { allowed = allowed }) to
+        → allowed ≡ without_allowed file id s.allowed → (via : Option FrameNo) (out given : List FrameNo) → out ≡ []
+        → IfAllStand s.pool s.page_tables.tables
+        (λ frames leads. GivesBack (rows_found frames (hwpt_of s.page_tables.tables file id)) out given)
+        → Moves at w file id via given to
+    shows_lost to lost forgets via out given none_out gives =
+        subst (Moves at w file id via given) (sym lost.others)
+        (table_moves to.objects to.page_tables lost.between lost.gone via out given _ none_out gives
+        (table_destroyed to.objects to.page_tables lost.between lost.gone to.memory to.pool lost.pins forgets))
 
   -- ---- what was refused
 

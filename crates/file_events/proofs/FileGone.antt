@@ -11,8 +11,8 @@ use Rattle.memory_rows.specs.Moves.{IsReleased, MayRelease}
 use Rattle.memory_rows.specs.Shown.{over, tables_in, translated}
 use Rattle.user_memory.specs.Memory.{Memory}
 use Rattle.server_state.proofs.Orderly.{orderly}
-use Rattle.server_state.proofs.MemoryReleased.{AreFewer}
-use Rattle.file_events.proofs.FreedOver.{freed, may_free, tables_freed, tables_lead}
+use Rattle.server_state.proofs.MemoryReleased.{AreFewer, may_release, shown_after, tables_lead, tables_stand}
+use Rattle.file_events.proofs.CountsClosed.{file_goes}
 use Rattle.file_events.proofs.GivesBackMoves.{gives_back}
 use Rattle.file_events.proofs.TablesGone.{file_counted, of_file, orphans_are, rows_named}
 use Rattle.server_state.proofs.TablesUnreached.{none_reach}
@@ -27,7 +27,7 @@ use Rattle.iofd_words.specs.declared.numbers.FrameNo.{FrameNo}
 use Rattle.iofd_words.specs.declared.rows.TableFrame.{TableFrame}
 use Rattle.server_state.proofs.GivenShown.{given_shown}
 use Rattle.server_state.specs.Choice.{AreFramesChosen, IsChosen}
-use Rattle.server_state.specs.Leads.{leads_of}
+use Rattle.server_state.specs.Leads.{leads_in, leads_of}
 use Rattle.table_words.specs.Released.{GivesBack, Releases}
 use Rattle.table_words.specs.Rows.{TableRow}
 use Rattle.file_events.proofs.RowsCounted.{file_over, file_translated}
@@ -44,6 +44,7 @@ use Rattle.iofd_words.specs.Checks.{close_checks}
 use Rattle.iofd_words.specs.Files as files
 use Rattle.iofd_words.specs.FirstTrue.{first_true}
 use Rattle.iofd_words.specs.Objects.{has_hwpt, is_bound_as, is_bound_device, objects_of}
+use Rattle.iofd_words.specs.Pins.{pinned_frame}
 use Rattle.iofd_words.specs.View.{view}
 use Rattle.iofd_words.specs.declared.event.Event.TheVariants as event
 use Rattle.iofd_words.specs.declared.reply.Reply.TheVariants as reply
@@ -60,7 +61,6 @@ use Rattle.iofd_rows.proofs.Bools.{and_true, both_true, clash}
 use Rattle.iofd_rows.proofs.Found.{all_filter, find-filter}
 use Rattle.iofd_rows.proofs.ListTests.{any-filter, none_stronger}
 use Rattle.file_events.proofs.SpacesGone.{device_rows}
-use Rattle.server_state.proofs.Counted.{file_goes}
 use Rattle.server_state.specs.Held.{is_proper, areas_at, kind_in, object_of, objects_in, table_kind}
 use Rattle.server_state.specs.Users.{users_at}
 use Rattle.server_state.specs.Shows.{Shows}
@@ -296,7 +296,7 @@ module _ {A : Type 0} where
     pub areas_may : MayRelease (over (areas_of_rows (rows_of s.objects file)))
         (over (translated_of (objects_in s.objects) (rows_of s.objects file))) s.memory s.pool.holds
     areas_may =
-        may_free at w s tidy shows w.table_frames s.page_tables.tables s.pool shows.frames shows.tables.stand
+        may_release at w s tidy shows
         (over (areas_of_rows (rows_of s.objects file)))
         (over (translated_of (objects_in s.objects) (rows_of s.objects file))) left stay fewer
 
@@ -325,11 +325,11 @@ module _ {A : Type 0} where
       stand_between : AllStand between w.table_frames (leads_of w) s.page_tables.tables
       unfolding changed settle without_areas
       stand_between =
-          tables_freed at w s tidy shows w.table_frames s.page_tables.tables s.pool shows.frames shows.tables.stand
+          tables_stand at w s tidy shows w.table_frames s.pool shows.frames
           (over (areas_of_rows (rows_of s.objects file)))
           (over (translated_of (objects_in s.objects) (rows_of s.objects file))) left stay fewer
           (at + 1) (changed {A = A} at w (event.Close file) reply.Done) memory between next refl refl
-          (objects_left is_in w.areas w.memory) refl refl released
+          (objects_left is_in w.areas w.memory) refl refl released s.page_tables.tables shows.tables.stand
 
       -- and there is room for the frames of the file's page tables still
       pub can_remove : (room : ℕ) → IfAllStand s.pool s.page_tables.tables
@@ -376,7 +376,7 @@ module _ {A : Type 0} where
         shows_closed table attachments allowed closes detached forgets =
             let is = closes may_close in
             let after =
-            freed at w s tidy shows w.table_frames s.page_tables.tables s.pool shows.frames shows.tables.stand
+            shown_after at w s tidy shows
             (over (areas_of_rows (rows_of s.objects file)))
             (over (translated_of (objects_in s.objects) (rows_of s.objects file))) left stay fewer
             (at + 1) (changed {A = A} at w (event.Close file) reply.Done) memory between next refl refl
@@ -420,13 +420,14 @@ module _ {A : Type 0} where
                 widths = ap (list_all has_own_width) kept
                     ∙ file_widths w.objects s.page_tables.tables shows.tables.tables shows.tables.widths file;
                 stand =
-                    tables_lead at w s tidy shows w.table_frames s.page_tables.tables s.pool
-                    shows.frames shows.tables.stand
+                    tables_lead at w s tidy shows w.table_frames s.pool shows.frames
                     (over (areas_of_rows (rows_of s.objects file)))
                     (over (translated_of (objects_in s.objects) (rows_of s.objects file))) left stay fewer
                     (at + 1) (changed {A = A} at w (event.Close file) reply.Done) memory between next refl refl
                     (objects_left is_in w.areas w.memory) refl refl released
-                    pool (without_tables_of file w.table_frames) tables.tables are areas_kept
+                    pool (without_tables_of file w.table_frames) tables.tables are
+                    (λ f i page has. ap (λ (l : List Area). leads_in (pinned_frame w.pins) l page)
+                    (areas_kept f i has))
                     (stands w.table_frames (leads_of w) stand_between);
               };
             }

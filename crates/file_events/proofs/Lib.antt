@@ -1,10 +1,9 @@
 pub mod Allocated
+pub mod CountsClosed
 pub mod Destroyed
 pub mod FileGone
 pub mod FramesCounted
-pub mod FreedOver
 pub mod GivesBackMoves
-pub mod PinsLeft
 pub mod RowsCounted
 pub mod SpacesGone
 pub mod TablesGone

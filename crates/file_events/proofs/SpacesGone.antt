@@ -1,14 +1,15 @@
 -- What an object that goes leaves of a world, and its areas of what is kept.
-use Rattle.std.proofs.Common.{◌≡◌, Bool, true, false, cond, ◌&&◌, ◌||◌, not, eqb, is_some, Option, Some, None, List, []}
-use Rattle.std.proofs.Common.{◌∷◌, map, refl, sym, ◌∙◌, ap, arith}
+use Rattle.std.proofs.Common.{◌≡◌, Bool, true, false, cond, ◌&&◌, ◌||◌, not, eqb, is_some, Option, Some, None, List}
+use Rattle.std.proofs.Common.{[], ◌∷◌, map, refl, sym, ◌∙◌, ap, arith}
 use Rattle.std.specs.List.{find, filter, list_all, list_any}
 use Rattle.std.proofs.lemmas.Bool.Decides.{nat_tests}
 use Rattle.iofd_words.specs.Areas.{areas_of, is_of}
 use Rattle.iofd_rows.specs.Ids.{have_own_ids}
-use Rattle.iofd_words.specs.Objects.{is_bound_device, is_object, kind_of, objects_of, without_object}
+use Rattle.iofd_words.specs.Objects.{is_bound_device, is_hwpt, is_object, kind_of, objects_of, without_object}
 use Rattle.iofd_words.specs.declared.numbers.FileNo.{FileNo}
 use Rattle.iofd_words.specs.declared.numbers.ObjId.{ObjId}
 use Rattle.iofd_words.specs.declared.rows.Area.{Area}
+use Rattle.iofd_words.specs.declared.rows.Attachment.{Attachment}
 use Rattle.iofd_words.specs.declared.rows.Object.{Object}
 use Rattle.iofd_words.specs.declared.rows.ObjectKind.{ObjectKind}
 use Rattle.iofd_rows.proofs.Bools.{and_true}
@@ -18,7 +19,9 @@ use Rattle.iofd_rows.proofs.ListTests.{false_else, filter_all}
 use Rattle.iofd_rows.proofs.Named.{file_is, id_is, kind_only}
 use Rattle.iofd_runs.proofs.OwnIds.{any_found}
 use Rattle.server_state.specs.Held.{areas_at, kind_in, object_of}
+use Rattle.server_state.proofs.Counted.{other_over, over-without, users-removed}
 use Rattle.server_state.specs.Spaces.{is_space}
+use Rattle.server_state.specs.Users.{AreCounted, devices_on, tables_over, users_at}
 use Rattle.server_state.specs.declared.held.Held.{Held}
 use Rattle.object_table.specs.Table.{Row, is_of_file, removed}
 
@@ -145,3 +148,18 @@ module _ {A : Type 0} where
           let names = and_true (eqb f.0 file.0) (eqb i.0 id.0) is in
           rw (file_is f file names.0, id_is i id names.1) (areas_here areas file id ∙ sym (rows_here rows file id))
       by_space false is = areas_elsewhere areas file id f i is ∙ same f i ∙ sym (rows_elsewhere rows file id f i is)
+
+  -- its counts go with an object on which no page table stands, and by which no device translates
+  pub other_goes : (objects : List Object) (attachments : List Attachment) (rows : List (Row (Held A)))
+      → AreCounted objects attachments rows → (file : FileNo) (id : ObjId) (k : ObjectKind)
+      → have_own_ids objects ≡ true → kind_of objects file id ≡ Some k → is_hwpt k ≡ false
+      → tables_over objects file id ≡ 0 → devices_on attachments file id ≡ 0
+      → AreCounted (without_object file id objects) attachments (removed file id rows)
+  other_goes objects attachments rows counted file id k ids is_kind other none no_device f i =
+      let unused : users_at rows file id ≡ 0 =
+      let here = counted file id in omega (arith, here, none, no_device) in
+      let same = users-removed rows file id unused f i in
+      let all = over-without objects file id k f i ids is_kind in
+      let not_over = other_over file k f i other in
+      let was = counted f i in
+      omega (arith, same, all, not_over, was)

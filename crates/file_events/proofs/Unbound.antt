@@ -1,7 +1,8 @@
 -- A device that is bound no more: its object goes, and by which object it is bound.
 use Rattle.std.proofs.Common.{◌≡◌, ℕ, Bool, true, false, cond, ◌&&◌, ◌||◌, not, eqb, Option, Some, None, List, [], ◌∷◌}
-use Rattle.std.proofs.Common.{◌+◌, map, refl, sym, ◌∙◌, ap, Vec, arith}
-use Rattle.std.specs.List.{filter, find}
+use Rattle.std.proofs.Common.{◌+◌, leb, map, refl, sym, ◌∙◌, ap, Vec, arith}
+use Rattle.std.specs.List.{filter, find, list_all}
+use Rattle.std.proofs.lemmas.Bool.{and_parts}
 use Rattle.std.proofs.lemmas.Bool.Decides.{nat_tests}
 use Rattle.iofd_words.specs.Areas.{areas_of}
 use Rattle.iofd_words.specs.Checks.{is_device_object, unbind_checks}
@@ -27,22 +28,54 @@ use Rattle.iofd_rows.proofs.PageTables.{hwpt-unbound}
 use Rattle.iofd_rows.specs.Ids.{AreBoundOnce, have_own_ids}
 use Rattle.iofd_runs.proofs.NotRefused.{unbind_passed}
 use Rattle.memory_rows.proofs.FramesFollow.{pins_moved, translated_same}
-use Rattle.file_events.proofs.SpacesGone.{areas-removed, areas_stay, found_without}
+use Rattle.file_events.proofs.SpacesGone.{areas-removed, areas_stay, found_without, other_goes}
 use Rattle.object_table.specs.Table.{Row, Table, destroy_refusal, is_at, removed}
 use Rattle.object_table.specs.declared.kind.Kind.TheVariants as of_kind
-use Rattle.server_state.proofs.Bindings.{are_left}
+use Rattle.server_state.proofs.Bindings.{are_parts}
 use Rattle.server_state.proofs.ObjectsGone.{may_go, objects-removed}
 use Rattle.file_events.proofs.TablesLeft.{among_stay}
-use Rattle.server_state.proofs.Counted.{other_goes, over_spaces}
+use Rattle.server_state.proofs.Counted.{over_spaces}
 use Rattle.server_state.proofs.DevicesOn.{on_tables}
 use Rattle.server_state.proofs.TableRows.{areas_of_other}
-use Rattle.server_state.specs.Devices.{are_bindings}
+use Rattle.server_state.specs.Devices.{are_bindings, bound_number}
 use Rattle.server_state.specs.Held.{areas_at, is_proper, object_of, objects_in}
 use Rattle.server_state.specs.Shows.{Shows}
 use Rattle.server_state.specs.Step.{IsTidy}
 use Rattle.server_state.specs.Users.{devices_on, tables_over, users_at}
 use Rattle.server_state.specs.declared.held.Held.{Held}
 use Rattle.server_state.specs.declared.state.State.{State}
+
+-- ---- the objects by which devices are bound
+
+all_left : (q keeps : Object → Bool) (bindings : List Object) → list_all q bindings ≡ true
+    → list_all q (filter keeps bindings) ≡ true
+all_left q keeps [] all = refl
+all_left q keeps (c ∷ bindings) all =
+    let both = and_parts (q c) (list_all q bindings) all in
+    by_test (keeps c) both.0 (all_left q keeps bindings both.1)
+  where
+    by_test : (b : Bool) → q c ≡ true → list_all q (filter keeps bindings) ≡ true
+        → list_all q (cond b (c ∷ filter keeps bindings) (filter keeps bindings)) ≡ true
+    by_test true here rest = rw (here, rest) refl
+    by_test false here rest = rest
+
+are_left : (keeps : Object → Bool) (bindings : List Object) → are_bindings bindings ≡ true
+    → are_bindings (filter keeps bindings) ≡ true
+are_left keeps [] are = refl
+are_left keeps (c ∷ bindings) are =
+    let parts = are_parts c bindings are in
+    by_test (keeps c) parts (are_left keeps bindings parts.2)
+  where
+    by_test : (b : Bool)
+        → (is_bound_device c.kind ≡ true)
+        × (list_all (λ d. leb (bound_number c.kind) (bound_number d.kind)) bindings ≡ true)
+        × (are_bindings bindings ≡ true)
+        → are_bindings (filter keeps bindings) ≡ true
+        → are_bindings (cond b (c ∷ filter keeps bindings) (filter keeps bindings)) ≡ true
+    by_test true parts rest =
+        rw (parts.0, all_left (λ d. leb (bound_number c.kind) (bound_number d.kind)) keeps bindings parts.1, rest)
+        refl
+    by_test false parts rest = rest
 
 -- ---- the objects
 

@@ -13,7 +13,7 @@ ghost use Rattle.server_state.specs.Tables.{has_page_table};
 
 use iofd_words::{Cause, FileNo, FrameNo, NoMemory, ObjId, ObjectKind, Reply};
 use object_table::{Kind, ObjectTable};
-use server_state::{Held, State, counts, lookups, release};
+use server_state::{Held, State, lookups, release};
 use std::alloc::Allocator;
 
 /// Why it is refused, by the first row of the definitions that holds. None where nothing refuses it.
@@ -91,18 +91,7 @@ pub fn commit<A: Allocator>(
             remove(&mut state.objects, file, Kind::Ioas, id);
         }
         Some(ObjectKind::Hwpt { ioas, .. }) => {
-            counts::one_fewer(&mut state.objects, file, Kind::Ioas, ioas);
-            remove(&mut state.objects, file, Kind::Hwpt, id);
-            state.page_tables.remove(&mut state.pool, file, id, given);
-            if !state.page_tables.has_over(file, ioas) {
-                release::unpin_space(
-                    &state.objects,
-                    file,
-                    ioas,
-                    &mut state.memory,
-                    &mut state.pool,
-                );
-            }
+            release::remove_page_table(state, file, id, ioas, given);
         }
         // It was refused.
         Some(ObjectKind::Device(_)) => (),

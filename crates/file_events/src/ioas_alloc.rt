@@ -14,7 +14,7 @@ use server_state::{Held, State};
 use std::alloc::Allocator;
 
 /// Why it is refused, by the first row of the definitions that holds. None where nothing refuses it.
-#[tactic(auto, using(server_state::proofs::ObjectsMoved::is_full_rows), unfolding(iofd_words::specs::Checks::ioas_alloc_checks))]
+#[tactic(auto, using(server_state::proofs::Objects::fullness), unfolding(iofd_words::specs::Checks::ioas_alloc_checks))]
 pub fn refusal<A: Allocator>(state: &State<A>, file: FileNo) -> Option<Cause>
     ensures { result ≡ first_true (ioas_alloc_checks (seen state.now) file) }
 {

@@ -1,7 +1,7 @@
--- The objects by which devices are bound, by rising device: one comes, some go, and one is found.
+-- The objects by which devices are bound, by rising device: one comes, and one is found.
 use Rattle.std.proofs.Common.{◌≡◌, ℕ, suc, ◌+◌, ◌≤◌, Bool, true, false, cond, ◌&&◌, eqb, ltb, leb, not, Option, Some}
 use Rattle.std.proofs.Common.{None, List, [], ◌∷◌, length, refl, ap, sym, ◌∙◌, arith}
-use Rattle.std.specs.List.{filter, find, insert, list_all, position, position_or_len, prefix_len, slice_get}
+use Rattle.std.specs.List.{insert, list_all, position, position_or_len, prefix_len, slice_get}
 use Rattle.std.proofs.lemmas.Bool.{and_parts}
 use Rattle.std.proofs.lemmas.Bool.Decides.{nat_tests}
 use Rattle.std.proofs.lemmas.List.Sums.{prefix_len-le-length}
@@ -89,9 +89,9 @@ placed_last object list none =
     (prefix_len-le-length (λ (c : Object). not (is_above object c)) list) none in
     ap (λ n. insert list n object) (sym at) ∙ placed object list
 
--- ---- what one that comes leaves, and what is left where some go
+-- ---- what one that comes leaves
 
-are_parts : (b : Object) (bindings : List Object) → are_bindings (b ∷ bindings) ≡ true
+pub are_parts : (b : Object) (bindings : List Object) → are_bindings (b ∷ bindings) ≡ true
     → (is_device b ≡ true) × (list_all (λ c. leb (number b) (number c)) bindings ≡ true)
     × (are_bindings bindings ≡ true)
 are_parts b bindings are =
@@ -141,58 +141,6 @@ are_with b (c ∷ bindings) device are =
     by_order false is parts rest =
         let here : leb (number c) (number b) ≡ true = grind (arith, nat_tests) in
         rw (parts.0, all_with (λ d. leb (number c) (number d)) b bindings here parts.1, rest) refl
-
-all_left : (q keeps : Object → Bool) (bindings : List Object) → list_all q bindings ≡ true
-    → list_all q (filter keeps bindings) ≡ true
-all_left q keeps [] all = refl
-all_left q keeps (c ∷ bindings) all =
-    let both = and_parts (q c) (list_all q bindings) all in
-    by_test (keeps c) both.0 (all_left q keeps bindings both.1)
-  where
-    by_test : (b : Bool) → q c ≡ true → list_all q (filter keeps bindings) ≡ true
-        → list_all q (cond b (c ∷ filter keeps bindings) (filter keeps bindings)) ≡ true
-    by_test true here rest = rw (here, rest) refl
-    by_test false here rest = rest
-
-pub are_left : (keeps : Object → Bool) (bindings : List Object) → are_bindings bindings ≡ true
-    → are_bindings (filter keeps bindings) ≡ true
-are_left keeps [] are = refl
-are_left keeps (c ∷ bindings) are =
-    let parts = are_parts c bindings are in
-    by_test (keeps c) parts (are_left keeps bindings parts.2)
-  where
-    by_test : (b : Bool)
-        → (is_device c ≡ true) × (list_all (λ d. leb (number c) (number d)) bindings ≡ true)
-        × (are_bindings bindings ≡ true)
-        → are_bindings (filter keeps bindings) ≡ true
-        → are_bindings (cond b (c ∷ filter keeps bindings) (filter keeps bindings)) ≡ true
-    by_test true parts rest =
-        rw (parts.0, all_left (λ d. leb (number c) (number d)) keeps bindings parts.1, rest) refl
-    by_test false parts rest = rest
-
--- what is found among them once one came
-pub found_with : (p : Object → Bool) (b : Object) (bindings : List Object) → p b ≡ true → find p bindings ≡ None
-    → find p (with_binding b bindings) ≡ Some b
-found_with p b [] here none = rw here refl
-found_with p b (c ∷ bindings) here none =
-    by_tests (ltb (number b) (number c)) (p c) refl none (λ later. found_with p b bindings here later)
-  where
-    by_tests : (above passes : Bool) → p c ≡ passes → cond passes (Some c) (find p bindings) ≡ None
-        → (find p bindings ≡ None → find p (with_binding b bindings) ≡ Some b)
-        → find p (cond above (b ∷ c ∷ bindings) (c ∷ with_binding b bindings)) ≡ Some b
-    by_tests true passes is none rest = rw here refl
-    by_tests false true is none rest = cc
-    by_tests false false is none rest = rw is (rest none)
-
-pub others_with : (p : Object → Bool) (b : Object) (bindings : List Object) → p b ≡ false
-    → find p (with_binding b bindings) ≡ find p bindings
-others_with p b [] fails = rw fails refl
-others_with p b (c ∷ bindings) fails = by_order (ltb (number b) (number c)) (others_with p b bindings fails)
-  where
-    by_order : (above : Bool) → find p (with_binding b bindings) ≡ find p bindings
-        → find p (cond above (b ∷ c ∷ bindings) (c ∷ with_binding b bindings)) ≡ cond (p c) (Some c) (find p bindings)
-    by_order true rest = rw fails refl
-    by_order false rest = ap (cond (p c) (Some c)) rest
 
 -- so the object by which a device is bound is found where those of lower devices end
 pub binding_there : (bindings : List Object) (device : DeviceNo) → are_bindings bindings ≡ true → (o : Option Object)

@@ -2,8 +2,8 @@
 -- attachments come and go.
 use Rattle.std.proofs.Common.{◌≡◌, ℕ, ◌+◌, ◌-◌, ◌<◌, ◌≤◌, Bool, true, false, cond, ◌&&◌, not, eqb, leb, ltb, Option}
 use Rattle.std.proofs.Common.{Some, None, List, [], ◌∷◌, length, map, refl, sym, ◌∙◌, ap, subst, arith}
-use Rattle.std.proofs.Common.{IfSome, IsSomeAnd}
-use Rattle.std.specs.Option.{ForSome, option_map}
+use Rattle.std.proofs.Common.{IfSome}
+use Rattle.std.specs.Option.{option_map}
 use Rattle.std.specs.List.{count_by, filter, find, list_all, list_any}
 use Rattle.std.proofs.lemmas.Bool.Decides.{nat_tests}
 use Rattle.iofd_rows.proofs.Bools.{and_true, not_true}
@@ -23,14 +23,13 @@ use Rattle.iofd_words.specs.declared.rows.ObjectKind.{ObjectKind}
 use Rattle.iofd_words.specs.declared.rows.ObjectKind.TheVariants as kind
 use Rattle.iofd_words.specs.declared.width.Width.{Width}
 use Rattle.memory_rows.proofs.PinsFollow.{any_count, count-cons}
-use Rattle.object_table.specs.Table.{Row, Table, changed_at, inserted, is_at, is_of_file, is_own, is_same_kind, removed}
+use Rattle.object_table.specs.Table.{Row, changed_at, inserted, is_at, is_own, is_same_kind, removed}
 use Rattle.object_table.specs.Table.{with_users}
 use Rattle.object_table.specs.declared.kind.Kind.{Kind}
 use Rattle.object_table.specs.declared.kind.Kind.TheVariants as of_kind
 use Rattle.server_state.proofs.AreasHeld.{found_first}
 use Rattle.server_state.proofs.Objects.{kind_at, kind_of_rows}
-use Rattle.server_state.proofs.CountsClosed.{count-closed}
-use Rattle.server_state.proofs.DevicesOn.{devices-closed, devices-with, devices-without, on_by}
+use Rattle.server_state.proofs.DevicesOn.{devices-with, devices-without, on_by}
 use Rattle.server_state.specs.Held.{areas_at, is_proper, kind_in, object_of, table_kind}
 use Rattle.server_state.specs.Spaces.{is_space}
 use Rattle.server_state.specs.Users.{AreCounted, devices_on, tables_over, users_at}
@@ -42,29 +41,6 @@ turned a b c d = grind (arith, nat_tests)
 -- what holds where something is found
 pub where_found : {X : Type 0} (P : X → Type 0) (o : Option X) (x : X) → o ≡ Some x → IfSome o P → P x
 where_found {X = X} P o x is holds = let Holds = λ (o : Option X). IfSome o P in subst Holds is holds
-
--- ---- what the table says of a count
-
-module _ {V : Type 0} (counts : ℕ → ℕ) (file : FileNo) (id : ObjId) (old new : Table V) where
-  abbrev Changed : Row V → List (Row V)
-  Changed row = changed_at file id (with_users (counts row.users)) old.rows
-
-  pub rows_counted : (May : Row V → Type 0) (o : Option (Row V))
-      → IsSomeAnd o (λ row. new ≡ record old { rows = Changed row })
-      → IfSome o (λ row. May row → new.rows ≡ Changed row)
-  rows_counted May None counted = tt
-  rows_counted May (Some row) counted = λ may. ap (λ (t : Table V). t.rows) counted
-
-  pub others_counted : (o : Option (Row V)) → IsSomeAnd o (λ row. new ≡ record old { rows = Changed row })
-      → new ≡ record old { rows = new.rows }
-  others_counted None counted = absurd counted
-  others_counted (Some row) counted =
-      let same = ap (λ (t : Table V). t.rows) counted in
-      counted ∙ ap (λ (rows : List (Row V)). let t : Table V = record old { rows = rows } in t) (sym same)
-
--- where there is no such object nothing is said
-pub none_counted : {V : Type 0} (P : Row V → Type 0) (o : Option (Row V)) → o ≡ None → IfSome o P
-none_counted {V = V} P o is = let Holds = λ (o : Option (Row V)). IfSome o P in subst Holds (sym is) tt
 
 -- ---- how many page tables stand over an address space
 
@@ -162,7 +138,7 @@ no_one : (b : Bool) → ◌≡◌ {A = ℕ} (cond (b && false) 1 0) 0
 no_one true = refl
 no_one false = refl
 
-other_over : (file : FileNo) (k : ObjectKind) (f : FileNo) (i : ObjId) → is_hwpt k ≡ false → over_by file k f i ≡ 0
+pub other_over : (file : FileNo) (k : ObjectKind) (f : FileNo) (i : ObjId) → is_hwpt k ≡ false → over_by file k f i ≡ 0
 other_over file kind.Ioas f i is = no_one (eqb file.0 f.0)
 other_over file (kind.Hwpt ioas width automatic) f i is = cc
 other_over file (kind.Device device) f i is = no_one (eqb file.0 f.0)
@@ -257,13 +233,6 @@ few_over objects file i room =
         by_tests true true rest = omega (arith, rest)
         by_tests true false rest = omega (arith, rest)
         by_tests false c rest = omega (arith, rest)
-
--- the file goes
-pub over-closed : (objects : List Object) (file f : FileNo) (i : ObjId)
-    → tables_over (filter (λ (o : Object). not (eqb o.file.0 file.0)) objects) f i
-    ≡ cond (eqb f.0 file.0) 0 (tables_over objects f i)
-over-closed objects file f i =
-    count-closed (λ (o : Object). o.file) (λ (o : Object). is_hwpt_over i o.kind) objects file f
 
 -- ---- how many are counted
 
@@ -373,15 +342,6 @@ module _ {A : Type 0} where
           let names = and_true (eqb f.0 file.0) (eqb i.0 id.0) is in
           rw (file_is f file names.0, id_is i id names.1) (none_left rows file id ∙ sym none)
       by_name false is = users_left rows file id f i is
-
-  pub users-closed : (rows : List (Row (Held A))) (file f : FileNo) (i : ObjId)
-      → users_at (filter (λ row. not (is_of_file file row)) rows) f i ≡ cond (eqb f.0 file.0) 0 (users_at rows f i)
-  users-closed [] file f i = by_file (eqb f.0 file.0)
-    where
-      by_file : (b : Bool) → ◌≡◌ {A = ℕ} 0 (cond b 0 0)
-      by_file true = refl
-      by_file false = refl
-  users-closed (row ∷ rows) file f i = let rest = users-closed rows file f i in grind (arith, nat_tests)
 
   -- ---- the row of an object
 
@@ -566,37 +526,6 @@ module _ {A : Type 0} where
         let all = devices-without attachments device a f i once is in
         let one : on_by a f i ≡ cond (is_space a.file a.hwpt f i) 1 0 = turned a.file.0 f.0 a.hwpt.0 i.0 in
         omega (arith, all, one))
-
-    -- another object goes, on which no page table stands and by which no device translates
-    pub other_goes : (file : FileNo) (id : ObjId) (k : ObjectKind) → have_own_ids objects ≡ true
-        → kind_of objects file id ≡ Some k → is_hwpt k ≡ false → tables_over objects file id ≡ 0
-        → devices_on attachments file id ≡ 0
-        → AreCounted (without_object file id objects) attachments (removed file id rows)
-    other_goes file id k ids is_kind other none no_device f i =
-        let unused : users_at rows file id ≡ 0 =
-        let here = counted file id in omega (arith, here, none, no_device) in
-        let same = users-removed rows file id unused f i in
-        let all = over-without objects file id k f i ids is_kind in
-        let not_over = other_over file k f i other in
-        let was = counted f i in
-        omega (arith, same, all, not_over, was)
-
-    -- all of a file go
-    pub file_goes : (file : FileNo) → AreCounted (filter (λ (o : Object). not (eqb o.file.0 file.0)) objects)
-        (filter (λ (a : Attachment). not (eqb a.file.0 file.0)) attachments)
-        (filter (λ row. not (is_of_file file row)) rows)
-    file_goes file f i = users-closed rows file f i ∙ ap (cond (eqb f.0 file.0) 0) (counted f i)
-        ∙ both (eqb f.0 file.0) (over-closed objects file f i) (devices-closed attachments file f i)
-      where
-        both : (b : Bool) → tables_over (filter (λ (o : Object). not (eqb o.file.0 file.0)) objects) f i
-            ≡ cond b 0 (tables_over objects f i)
-            → devices_on (filter (λ (a : Attachment). not (eqb a.file.0 file.0)) attachments) f i
-            ≡ cond b 0 (devices_on attachments f i)
-            → cond b 0 (tables_over objects f i + devices_on attachments f i)
-            ≡ tables_over (filter (λ (o : Object). not (eqb o.file.0 file.0)) objects) f i
-            + devices_on (filter (λ (a : Attachment). not (eqb a.file.0 file.0)) attachments) f i
-        both true over on = omega (arith, over, on)
-        both false over on = omega (arith, over, on)
 
   -- a count that goes down where nobody was counted stays
   pub still_none : (rows : List (Row (Held A))) (file : FileNo) (id ioas : ObjId) (row : Row (Held A))

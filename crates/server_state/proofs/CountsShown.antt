@@ -1,11 +1,14 @@
--- A count changes as a device comes to its page table or leaves it: all else of the objects is shown as before.
-use Rattle.std.proofs.Common.{◌≡◌, ℕ, ◌+◌, ◌-◌, ◌<◌, Bool, true, eqb, Some, List, map, IfSome, refl, sym}
-use Rattle.std.proofs.Common.{◌∙◌, ap, arith}
-use Rattle.std.specs.List.{list_all}
+-- A count changes as a device comes to its page table or leaves it, or as a page table goes: all else of the objects is
+-- shown as before.
+use Rattle.std.proofs.Common.{◌≡◌, ℕ, ◌+◌, ◌-◌, ◌<◌, Bool, true, false, not, eqb, Option, Some, None, List, map, IfSome}
+use Rattle.std.proofs.Common.{refl, sym, ◌∙◌, ap, arith}
+use Rattle.std.specs.List.{find, list_all}
 use Rattle.std.proofs.lemmas.Bool.Decides.{nat_tests}
-use Rattle.iofd_rows.specs.Debts.{attach_once}
+use Rattle.iofd_rows.proofs.Found.{all_filter}
+use Rattle.iofd_rows.specs.Debts.{attach_once, is_over_space}
+use Rattle.iofd_rows.specs.Ids.{have_own_ids}
 use Rattle.iofd_words.specs.Attachments.{attachment_of, with_attachment, without_attachment}
-use Rattle.iofd_words.specs.Objects.{kind_of}
+use Rattle.iofd_words.specs.Objects.{has_ioas, is_ioas, kind_of, without_object}
 use Rattle.iofd_words.specs.Settings.{Settings}
 use Rattle.iofd_words.specs.declared.numbers.DeviceNo.{DeviceNo}
 use Rattle.iofd_words.specs.declared.numbers.FileNo.{FileNo}
@@ -13,14 +16,18 @@ use Rattle.iofd_words.specs.declared.numbers.ObjId.{ObjId}
 use Rattle.iofd_words.specs.declared.rows.Area.{Area}
 use Rattle.iofd_words.specs.declared.rows.Attachment.{Attachment}
 use Rattle.iofd_words.specs.declared.rows.Object.{Object}
+use Rattle.iofd_words.specs.declared.rows.ObjectKind.{ObjectKind}
 use Rattle.iofd_words.specs.declared.rows.ObjectKind.TheVariants as kind
 use Rattle.iofd_words.specs.declared.width.Width.{Width}
-use Rattle.object_table.specs.Table.{Row, Table, changed_at, own, with_users}
+use Rattle.object_table.specs.Table.{Row, Table, changed_at, destroy_refusal, is_at, is_own, own, removed, with_users}
 use Rattle.object_table.specs.declared.kind.Kind.TheVariants as of_kind
-use Rattle.server_state.proofs.Counted.{areas-counted, device_comes, device_goes, objects-counted, own_row}
-use Rattle.server_state.proofs.Counted.{proper-counted, users_of_row, where_found}
+use Rattle.server_state.proofs.Counted.{areas-counted, device_comes, device_goes, objects-counted, over_spaces, own_row}
+use Rattle.server_state.proofs.Counted.{proper-counted, some_over, space_row, space_under, still_none, table_goes}
+use Rattle.server_state.proofs.Counted.{users-removed, users_of_row, where_found}
 use Rattle.server_state.proofs.DevicesOn.{devices-without, on_by}
-use Rattle.server_state.specs.Held.{areas_at, is_proper, object_of}
+use Rattle.server_state.proofs.ObjectsGone.{may_go, objects-removed}
+use Rattle.server_state.proofs.TableRows.{areas_removed}
+use Rattle.server_state.specs.Held.{areas_at, is_proper, object_of, objects_in}
 use Rattle.server_state.specs.Shows.{ObjectsShown}
 use Rattle.server_state.specs.Users.{AreCounted, devices_on, tables_over, users_at}
 use Rattle.server_state.specs.declared.held.Held.{Held}
@@ -88,3 +95,69 @@ module _ {A : Type 0} (settings : Settings) (closed : List FileNo) (objects : Li
         (ap (λ (t : Table (Held A)). t.files) others_same)
         (λ f i. ap (λ (l : List (Row (Held A))). users_at l f i) rows
         ∙ device_goes objects attachments table.rows shown.counted device a row once is there f i)
+
+  -- a page table goes by which no device translates, and its address space has one user fewer
+  module _ (file : FileNo) (id ioas : ObjId) (width : Width) (automatic : Bool) (base : Table (Held A))
+      (ids : have_own_ids objects ≡ true) (over : list_all (is_over_space objects) objects ≡ true)
+      (is_kind : kind_of objects file id ≡ Some (kind.Hwpt ioas width automatic))
+      (unused : devices_on attachments file id ≡ 0)
+      (counts : IfSome (own table file of_kind.Ioas ioas) (λ row. 0 < row.users
+      → base.rows ≡ changed_at file ioas (with_users (row.users - 1)) table.rows))
+      (others_same : base ≡ record table { rows = base.rows })
+      (goes : destroy_refusal base file of_kind.Hwpt id ≡ None → new.rows ≡ removed file id base.rows)
+      (files : new.files ≡ base.files) where
+    its_space : (row : Row (Held A)) × (find (is_own file of_kind.Ioas ioas) table.rows ≡ Some row)
+        × (find (is_at file ioas) table.rows ≡ Some row)
+    its_space = space_row table.rows file ioas shown.proper
+        (ap (λ (l : List Object). has_ioas l file ioas) (sym shown.rows)
+        ∙ space_under objects file id ioas width automatic over is_kind)
+
+    base_rows : base.rows ≡ changed_at file ioas (with_users (its_space.0.users - 1)) table.rows
+    base_rows =
+        let many = users_of_row objects attachments table.rows shown.counted file ioas its_space.0 its_space.2 in
+        let some = some_over objects file id ioas width automatic ids is_kind in
+        where_found (λ (r : Row (Held A)). 0 < r.users
+        → base.rows ≡ changed_at file ioas (with_users (r.users - 1)) table.rows)
+        (own table file of_kind.Ioas ioas) its_space.0 its_space.1 counts (omega (arith, many, some))
+
+    objects_base : objects ≡ objects_in base
+    objects_base = shown.rows ∙ sym (ap (map object_of) base_rows
+        ∙ objects-counted table.rows file ioas (its_space.0.users - 1))
+
+    proper_base : list_all is_proper base.rows ≡ true
+    proper_base = ap (list_all is_proper) base_rows
+        ∙ proper-counted table.rows file ioas (its_space.0.users - 1) ∙ shown.proper
+
+    kind_base : kind_of (objects_in base) file id ≡ Some (kind.Hwpt ioas width automatic)
+    kind_base = ap (λ (l : List Object). kind_of l file id) (sym objects_base) ∙ is_kind
+
+    -- nobody uses the page table
+    none_base : users_at base.rows file id ≡ 0
+    none_base =
+        let here = shown.counted file id in
+        let above = over_spaces objects file id over
+        (ap (λ (o : Option ObjectKind). elim o [ Some k ↦ is_ioas k | None ↦ false ]) is_kind) in
+        ap (λ (l : List (Row (Held A))). users_at l file id) base_rows
+        ∙ still_none table.rows file id ioas its_space.0 its_space.2 (omega (arith, here, above, unused))
+
+    rows : new.rows ≡ removed file id base.rows
+    rows = goes (may_go base file id (kind.Hwpt ioas width automatic) proper_base kind_base none_base)
+
+    pub table_leaves : ObjectsShown settings closed (without_object file id objects) attachments areas new
+    table_leaves = record {
+      rows = ap (without_object file id) objects_base ∙ sym (objects-removed base.rows file id)
+          ∙ ap (map object_of) (sym rows);
+      proper = ap (list_all is_proper) rows ∙ all_filter is_proper (λ row. not (is_at file id row)) base.rows
+          proper_base;
+      spaces = λ f i. shown.spaces f i
+          ∙ sym (ap (λ (l : List (Row (Held A))). areas_at l f i) rows
+          ∙ areas_removed base.rows file id ioas width automatic kind_base f i
+          ∙ ap (λ (l : List (Row (Held A))). areas_at l f i) base_rows
+          ∙ areas-counted table.rows file ioas (its_space.0.users - 1) f i);
+      files = λ number. rw (files, ap (λ (t : Table (Held A)). t.files) others_same) (shown.files number);
+      counted = λ f i. ap (λ (l : List (Row (Held A))). users_at l f i) rows
+          ∙ users-removed base.rows file id none_base f i
+          ∙ ap (λ (l : List (Row (Held A))). users_at l f i) base_rows
+          ∙ table_goes objects attachments table.rows shown.counted file ioas id width automatic its_space.0 ids is_kind
+          its_space.2 f i;
+    }

@@ -1,7 +1,7 @@
 -- How many devices translate by a page table, as attachments come and go.
 use Rattle.std.proofs.Common.{◌≡◌, ℕ, zero, suc, ◌+◌, ◌<◌, ◌≤◌, Bool, true, false, cond, ◌&&◌, not, eqb, leb, ltb}
 use Rattle.std.proofs.Common.{Option, Some, None, is_some, List, [], ◌∷◌, length, refl, sym, ◌∙◌, ap, arith}
-use Rattle.std.specs.List.{filter, list_all, list_any, slice_get}
+use Rattle.std.specs.List.{list_all, list_any, slice_get}
 use Rattle.std.proofs.lemmas.Bool.Decides.{nat_tests}
 use Rattle.iofd_rows.proofs.Bools.{and_true, not_true}
 use Rattle.iofd_rows.proofs.Moves.{device_is}
@@ -25,7 +25,6 @@ use Rattle.iofd_words.specs.declared.rows.Object.{Object}
 use Rattle.iofd_words.specs.declared.rows.ObjectKind.{ObjectKind}
 use Rattle.iofd_words.specs.declared.rows.ObjectKind.TheVariants as kind
 use Rattle.memory_rows.proofs.PinsFollow.{any_count, count-cons}
-use Rattle.server_state.proofs.CountsClosed.{count-closed}
 use Rattle.server_state.specs.Users.{devices_on}
 
 -- the attachment is to this page table
@@ -103,13 +102,6 @@ devices-without (b ∷ attachments) device a f i once is =
         let all = count-cons (is_on f i) b attachments in
         let left = count-cons (is_on f i) b (without_attachment device attachments) in
         omega (arith, rest, all, left)
-
--- those of a file go
-pub devices-closed : (attachments : List Attachment) (file f : FileNo) (i : ObjId)
-    → devices_on (filter (λ (a : Attachment). not (eqb a.file.0 file.0)) attachments) f i
-    ≡ cond (eqb f.0 file.0) 0 (devices_on attachments f i)
-devices-closed attachments file f i =
-    count-closed (λ (a : Attachment). a.file) (λ (a : Attachment). eqb a.hwpt.0 i.0) attachments file f
 
 -- ---- by what devices translate
 

@@ -6,7 +6,7 @@ use Rattle.std.specs.List.Sorted.{IsNonDecreasingBy}
 use Rattle.std.proofs.lemmas.Bool.Decides.{nat_tests}
 use Rattle.std.proofs.lemmas.List.Sorted.{IsNonDecreasingBy-drop}
 use Rattle.iofd_rows.proofs.Bools.{both_true}
-use Rattle.iofd_rows.proofs.Each.{IsIn, of_all, of_any}
+use Rattle.iofd_rows.proofs.Each.{IsIn, of_any}
 use Rattle.iofd_words.specs.Tables.{are_rising, is_among, kept_tables}
 use Rattle.iofd_words.specs.declared.numbers.FrameNo.{FrameNo}
 use Rattle.iofd_words.specs.declared.rows.TableFrame.{TableFrame}

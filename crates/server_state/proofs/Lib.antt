@@ -2,7 +2,6 @@ pub mod AreasBecome
 pub mod AreasHeld
 pub mod Bindings
 pub mod Counted
-pub mod CountsClosed
 pub mod CountsShown
 pub mod DevicesOn
 pub mod Errors

@@ -1,13 +1,19 @@
 -- Areas that go, or page tables: what they may let go of, and the memory objects, pins and frames that are shown
 -- afterwards.
-use Rattle.std.proofs.Common.{◌≡◌, ℕ, ◌+◌, ◌≤◌, ◌&&◌, eqb, ltb, List, [], get_or, map, sym, ◌∙◌, ap, arith}
+use Rattle.std.proofs.Common.{◌≡◌, ℕ, ◌+◌, ◌<◌, Bool, true, ◌&&◌, not, eqb, ltb, Some, List, [], get_or, map, sym, ◌∙◌}
+use Rattle.std.proofs.Common.{ap, arith}
 use Rattle.std.specs.List.{count_by, filter}
+use Rattle.std.proofs.lemmas.Bool.Decides.{nat_tests}
 use Rattle.frame_memory.specs.Pool.{FramePool}
+use Rattle.iofd_rows.proofs.Bools.{and_true}
+use Rattle.iofd_rows.proofs.ListTests.{alike, any-filter, any_weaker}
 use Rattle.iofd_rows.specs.Pinned.{ArePinned}
+use Rattle.iofd_words.specs.Areas.{areas_of}
 use Rattle.iofd_words.specs.Frames.{FrameWrite, frame_at}
 use Rattle.iofd_words.specs.Settings.{Settings}
 use Rattle.iofd_words.specs.Objects.{has_hwpt}
-use Rattle.iofd_words.specs.Pins.{pinned_pages, settled}
+use Rattle.iofd_words.specs.Pins as pin
+use Rattle.iofd_words.specs.Pins.{ObjectPage, pinned_pages, settled}
 use Rattle.iofd_words.specs.World.{World}
 use Rattle.iofd_words.specs.declared.numbers.FileNo.{FileNo}
 use Rattle.iofd_words.specs.declared.numbers.ObjId.{ObjId}
@@ -20,18 +26,20 @@ use Rattle.iofd_words.specs.declared.rows.TableFrame.{TableFrame}
 use Rattle.iofd_words.specs.declared.rows.UserPage.{UserPage}
 use Rattle.memory_rows.proofs.Counts.{count_map}
 use Rattle.memory_rows.proofs.FramesFollow as frames
-use Rattle.memory_rows.proofs.Gone.{few_translated, released_none, rows_left}
-use Rattle.hwpt_device.specs.PageTables.{AllStand}
+use Rattle.memory_rows.proofs.Gone.{few_translated, rows_left}
+use Rattle.hwpt_device.specs.PageTables.{AllStand, Hwpt}
 use Rattle.memory_rows.proofs.Named.{settles_named}
 use Rattle.memory_rows.proofs.PinsFollow.{only_kept, pins_follow}
 use Rattle.memory_rows.specs.Moves.{IsReleased, MayRelease}
 use Rattle.memory_rows.specs.Shown.{FramesShown, PinsShown, UsersShown, over, translated}
-use Rattle.user_memory.specs.Changes.{never}
+use Rattle.user_memory.specs.Changes.{HasLess}
 use Rattle.user_memory.specs.Memory.{Memory, areas_over, rows_of, table_pins}
+use Rattle.server_state.proofs.LeadsStay.{has_page, is_translated, lead_alike, pin_stays, spaces_alike}
 use Rattle.server_state.proofs.TablesFollow.{tables_follow}
-use Rattle.server_state.specs.Leads.{leads_of}
+use Rattle.server_state.specs.Leads.{leads_of, live_area_at, object_page, space_leads}
 use Rattle.server_state.specs.Shows.{Shows}
 use Rattle.server_state.specs.Step.{IsTidy}
+use Rattle.server_state.specs.Tables.{page_tables_among}
 use Rattle.server_state.specs.declared.state.State.{State}
 
 -- so many areas less lie over each memory object, and of so many less page tables translate it
@@ -47,100 +55,160 @@ pub record AreShown (new : World) (writes : List FrameWrite) (tables : List Tabl
   pub pins : PinsShown new.objects new.areas new.memory new.pins after
   pub frames : FramesShown settings.pool writes tables after pool
 
+-- a memory object over which an area is left has the pages that it had
+page_left : (areas pins : ℕ → ℕ) (old after : Memory) → HasLess areas pins old after → (page : ObjectPage)
+    → 0 < areas_over after page.memory → has_page (rows_of after) page ≡ has_page (rows_of old) page
+page_left areas pins old after less page some =
+    ap (λ (rows : List MemoryObject). has_page rows page) less.rows
+    ∙ any-filter test (λ (row : MemoryObject). not (eqb (areas_over after row.number) 0)) (rows_of old)
+    ∙ alike _ _
+    (λ any. any_weaker (λ (row : MemoryObject). not (eqb (areas_over after row.number) 0) && test row) test
+    (rows_of old) (λ row both. (and_true _ _ both).1) any)
+    (λ any. any_weaker test (λ (row : MemoryObject). not (eqb (areas_over after row.number) 0) && test row)
+    (rows_of old) stays any)
+  where
+    test : MemoryObject → Bool
+    test = λ (row : MemoryObject). eqb page.memory row.number && ltb page.index row.count
+
+    stays : (row : MemoryObject) → (eqb page.memory row.number && ltb page.index row.count) ≡ true
+        → (not (eqb (areas_over after row.number) 0) && (eqb page.memory row.number && ltb page.index row.count)) ≡ true
+    stays row is =
+        let named = (and_true (eqb page.memory row.number) (ltb page.index row.count) is).0 in
+        let same : page.memory ≡ row.number = grind (arith, nat_tests) in
+        let here : 0 < areas_over after row.number = rw same at some in
+        let kept : not (eqb (areas_over after row.number) 0) ≡ true = search (here, arith, nat_tests) in
+        rw kept is
+
 module _ {A : Type 0} (at : ℕ) (w : World) (s : State A) (tidy : IsTidy at w) (shows : Shows w s) where
+  -- where page tables have these rows, and the frames of others were given back before
+  module _ (rows : List TableFrame) (before : FramePool)
+      (shown : FramesShown w.settings.pool w.writes rows s.memory before) (areas pins : ℕ
+      → ℕ) (objects : List Object) (left : List Area) (fewer : AreFewer areas pins w objects left) where
+    -- they may let go
+    pub may_release_over : MayRelease areas pins s.memory before.holds
+    may_release_over = record {
+      pins = λ n. let sum = fewer.translated_left n in let same = shows.pins.tables n in omega (arith, sum, same);
+      areas = λ n. let first = fewer.over_left n in
+          let second = fewer.translated_left n in
+          let same_pins = shows.pins.tables n in
+          let same_areas = shows.pins.areas n in
+          let few = few_translated objects left n in
+          omega (arith, first, second, same_pins, same_areas, few);
+      backed = frames.is_backed w.settings.pool w.writes rows s.memory before shown;
+      invariant = shows.pins.invariant;
+      only = only_kept at w s.memory tidy.pins shows.pins;
+    }
+
+    -- they have
+    module _ (next : ℕ) (new : World) (after : Memory) (pool : FramePool) (pinned : ArePinned next new)
+        (same_objects : new.objects ≡ objects) (same_areas : new.areas ≡ left)
+        (memory : new.memory ≡ filter (λ (m : MemoryObject). ltb 0 (over left m.number)) w.memory)
+        (same_pages : new.user_pages ≡ w.user_pages)
+        (is_settled : new.pins ≡ settled (pinned_pages w.objects w.areas w.memory w.access_pins)
+        (pinned_pages new.objects new.areas new.memory new.access_pins) new.memory new.user_pages w.pins)
+        (released : IsReleased areas pins s.memory after before pool) where
+      counts : (n : ℕ) → areas_over after n ≡ over left n
+      counts n = let less = released.less.areas n in
+          let was = shows.pins.areas n in
+          let few = fewer.over_left n in
+          omega (arith, less, was, few)
+
+      tables : (n : ℕ) → table_pins after n ≡ translated objects left n
+      tables n = let less = released.less.pins n in
+          let was = shows.pins.tables n in
+          let few = fewer.translated_left n in
+          omega (arith, less, was, few)
+
+      pages_after : (user : UserNo) (page : ℕ) → frame_at w.user_pages user page ≡ frame_at after.pages user page
+      pages_after user page =
+          shows.users.pages user page ∙ ap (λ l. frame_at l user page) (sym released.settles.pages)
+
+      pins_after : PinsShown new.objects new.areas new.memory new.pins after
+      pins_after =
+          pins_follow at next w new s.memory after before pool tidy.pins pinned shows.pins is_settled
+          (λ user page. ap (λ l. frame_at l user page) same_pages ∙ pages_after user page)
+          (memory ∙ rows_left after w.memory (rows_of s.memory) (over left) shows.pins.rows counts
+          ∙ sym released.less.rows)
+          (λ n. counts n ∙ ap (λ l. over l n) (sym same_areas))
+          (λ n. tables n ∙ ap (λ l. translated l left n) (sym same_objects)
+          ∙ ap (λ l. translated new.objects l n) (sym same_areas))
+          released.settles
+
+      frames_after : FramesShown w.settings.pool w.writes rows after pool
+      frames_after =
+          frames.frames_follow w.settings.pool w.writes rows s.memory after before pool shown
+          released.settles.holds released.settles.bytes
+          (λ f named. settles_named s.memory after before pool released.settles f named)
+
+      pub shown_over : AreShown new w.writes rows w.user_pages w.settings after pool
+      shown_over = record {
+        limits = released.settles.limits ∙ shows.limits;
+        users = record {
+          pages = pages_after;
+          counts = λ test. shows.users.counts test
+              ∙ ap (count_by test) (sym released.settles.pages);
+        };
+        pins = pins_after;
+        frames = frames_after;
+      }
+
+      -- a page of a live area that a page table translates still is pinned where it was
+      leads_left : (file : FileNo) (ioas : ObjId) (page : ℕ) → has_hwpt objects file ioas ≡ true
+          → space_leads new.pins left file ioas page ≡ space_leads w.pins left file ioas page
+      leads_left file ioas page has = lead_alike (pin.pinned_frame w.pins) (pin.pinned_frame new.pins) page
+          (live_area_at page (areas_of left file ioas)) each
+        where
+          each : (a : Area) → live_area_at page (areas_of left file ioas) ≡ Some a
+              → pin.pinned_frame new.pins (object_page page a) ≡ pin.pinned_frame w.pins (object_page page a)
+          each a found =
+              let some : 0 < translated objects left a.memory = is_translated objects left file ioas page a has found in
+              let few = few_translated objects left a.memory in
+              let more = fewer.translated_left a.memory in
+              let pins_old = shows.pins.tables a.memory in
+              let pins_new = tables a.memory in
+              let areas_new = counts a.memory in
+              pin_stays at w new s.memory after before pool tidy.pins shows.pins pins_after
+              released.settles (object_page page a)
+              (page_left areas pins s.memory after released.less (object_page page a)
+              (omega (arith, areas_new, few, some)))
+              (omega (arith, pins_old, more, some)) (omega (arith, pins_new, some))
+
+      -- the page tables that are left stand, by where pages led
+      pub tables_stand : (kept : List Hwpt) → AllStand before rows (leads_of w) kept
+          → AllStand pool rows (leads_of w) kept
+      tables_stand kept stand =
+          tables_follow w.settings.pool w.writes w.writes rows (leads_of w) kept s.memory after before pool
+          stand shown frames_after
+          (λ f held named. settles_named s.memory after before pool released.settles f named)
+          (λ f held none. ap (λ (all : List (List ℕ)). get_or all f []) released.settles.bytes)
+
+      -- and by where they lead now, where the areas that are left lead as all did
+      pub tables_lead : (some : FramePool) (others : List TableFrame) (kept : List Hwpt)
+          → map (λ (h : Hwpt). h.object) kept ≡ page_tables_among objects
+          → ((file : FileNo) (ioas : ObjId) (page : ℕ) → has_hwpt objects file ioas ≡ true
+          → space_leads w.pins left file ioas page ≡ space_leads w.pins w.areas file ioas page)
+          → AllStand some others (leads_of w) kept → AllStand some others (leads_of new) kept
+      tables_lead some others kept are led stand =
+          spaces_alike w new objects kept some others are
+          (λ file ioas page has. ap (λ (l : List Area). space_leads new.pins l file ioas page) same_areas
+          ∙ leads_left file ioas page has ∙ led file ioas page has)
+          stand
+
+  -- where all page tables stay
   module _ (areas pins : ℕ → ℕ) (objects : List Object) (left : List Area) (fewer : AreFewer areas pins w objects left)
     where
-      -- they may let go
       pub may_release : MayRelease areas pins s.memory s.pool.holds
-      may_release = record {
-        pins =
-            λ n. few_pins (pins n) (translated objects left n) (translated w.objects w.areas n) (table_pins s.memory n)
-            (fewer.translated_left n) (shows.pins.tables n);
-        areas = λ n. few_areas (areas n) (pins n) (translated objects left n) (over left n)
-            (translated w.objects w.areas n) (over w.areas n) (table_pins s.memory n) (areas_over s.memory n)
-            (fewer.over_left n) (fewer.translated_left n) (shows.pins.tables n) (shows.pins.areas n)
-            (few_translated objects left n);
-        backed = frames.is_backed w.settings.pool w.writes w.table_frames s.memory s.pool shows.frames;
-        invariant = shows.pins.invariant;
-        only = only_kept at w s.memory tidy.pins shows.pins;
-      }
-        where
-          few_pins : (p l t k : ℕ) → l + p ≡ t → k ≡ t → p ≤ k
-          few_pins p l t k sum same = omega (arith, sum, same)
+      may_release = may_release_over w.table_frames s.pool shows.frames areas pins objects left fewer
 
-          few_areas : (a p l o t v k m : ℕ) → o + a ≡ v → l + p ≡ t → k ≡ t → m ≡ v → l ≤ o → k + a ≤ m + p
-          few_areas a p l o t v k m first second same_pins same_areas few =
-              omega (arith, first, second, same_pins, same_areas, few)
-
-      -- they have
-      module _ (next : ℕ) (new : World) (after : Memory) (pool : FramePool) (pinned : ArePinned next new)
-          (same_objects : new.objects ≡ objects) (same_areas : new.areas ≡ left)
-          (memory : new.memory ≡ filter (λ (m : MemoryObject). ltb 0 (over left m.number)) w.memory)
-          (same_pages : new.user_pages ≡ w.user_pages)
-          (is_settled : new.pins ≡ settled (pinned_pages w.objects w.areas w.memory w.access_pins)
-          (pinned_pages new.objects new.areas new.memory new.access_pins) new.memory new.user_pages w.pins)
-          (released : IsReleased areas pins s.memory after s.pool pool) where
-        counts : (n : ℕ) → areas_over after n ≡ over left n
-        counts n = same (areas_over after n) (areas n) (areas_over s.memory n) (over w.areas n) (over left n)
-            (released.less.areas n) (shows.pins.areas n) (fewer.over_left n)
-          where
-            same : (x a y v o : ℕ) → x + a ≡ y → y ≡ v → o + a ≡ v → x ≡ o
-            same x a y v o first second third = omega (arith, first, second, third)
-
-        tables : (n : ℕ) → table_pins after n ≡ translated objects left n
-        tables n = same (table_pins after n) (pins n) (table_pins s.memory n) (translated w.objects w.areas n)
-            (translated objects left n) (released.less.pins n) (shows.pins.tables n) (fewer.translated_left n)
-          where
-            same : (x a y v o : ℕ) → x + a ≡ y → y ≡ v → o + a ≡ v → x ≡ o
-            same x a y v o first second third = omega (arith, first, second, third)
-
-        pages_after : (user : UserNo) (page : ℕ) → frame_at w.user_pages user page ≡ frame_at after.pages user page
-        pages_after user page =
-            shows.users.pages user page ∙ ap (λ l. frame_at l user page) (sym released.settles.pages)
-
-        pins_after : PinsShown new.objects new.areas new.memory new.pins after
-        pins_after =
-            pins_follow at next w new s.memory after s.pool pool tidy.pins pinned shows.pins is_settled
-            (λ user page. ap (λ l. frame_at l user page) same_pages ∙ pages_after user page)
-            (memory ∙ rows_left after w.memory (rows_of s.memory) (over left) shows.pins.rows counts
-            ∙ sym released.less.rows)
-            (λ n. counts n ∙ ap (λ l. over l n) (sym same_areas))
-            (λ n. tables n ∙ ap (λ l. translated l left n) (sym same_objects)
-            ∙ ap (λ l. translated new.objects l n) (sym same_areas))
-            released.settles
-
-        frames_after : FramesShown w.settings.pool w.writes w.table_frames after pool
-        frames_after =
-            frames.frames_follow w.settings.pool w.writes w.table_frames s.memory after s.pool pool shows.frames
-            released.settles.holds released.settles.bytes
-            (λ f named. settles_named s.memory after s.pool pool released.settles f named)
-
-        -- and all page tables stand
-        pub tables_stand : AllStand pool w.table_frames (leads_of w) s.page_tables.tables
-        tables_stand =
-            tables_follow w.settings.pool w.writes w.writes w.table_frames (leads_of w) s.page_tables.tables
-            s.memory after s.pool pool
-            shows.tables.stand shows.frames frames_after
-            (λ f held named. settles_named s.memory after s.pool pool released.settles f named)
-            (λ f held none. ap (λ (all : List (List ℕ)). get_or all f []) released.settles.bytes)
-
-        pub shown_after : AreShown new w.writes w.table_frames w.user_pages w.settings after pool
-        shown_after = record {
-          limits = released.settles.limits ∙ shows.limits;
-          users = record {
-            pages = pages_after;
-            counts = λ test. shows.users.counts test
-                ∙ ap (count_by test) (sym released.settles.pages);
-          };
-          pins = pins_after;
-          frames = frames_after;
-        }
-
-  -- nothing is let go of
-  pub nothing_released : (objects : List Object) (left : List Area) → AreFewer never never w objects left
-      → IsReleased never never s.memory s.memory s.pool s.pool
-  nothing_released objects left fewer =
-      released_none never never s.memory s.pool (may_release never never objects left fewer)
+      pub shown_after : (next : ℕ) (new : World) (after : Memory) (pool : FramePool) → ArePinned next new
+          → new.objects ≡ objects → new.areas ≡ left
+          → new.memory ≡ filter (λ (m : MemoryObject). ltb 0 (over left m.number)) w.memory
+          → new.user_pages ≡ w.user_pages
+          → new.pins ≡ settled (pinned_pages w.objects w.areas w.memory w.access_pins)
+          (pinned_pages new.objects new.areas new.memory new.access_pins) new.memory new.user_pages w.pins
+          → IsReleased areas pins s.memory after s.pool pool
+          → AreShown new w.writes w.table_frames w.user_pages w.settings after pool
+      shown_after = shown_over w.table_frames s.pool shows.frames areas pins objects left fewer
 
 -- ---- areas that change keep their memory objects and address spaces
 

@@ -9,7 +9,7 @@ use Rattle.iofd_words.specs.declared.refusal.Refusal.{Refusal}
 use Rattle.iofd_words.specs.declared.rows.Object.{Object}
 use Rattle.server_state.specs.Shows.{Shows}
 use Rattle.server_state.specs.declared.state.State.{State}
-use Rattle.server_state.proofs.ObjectsMoved.{is_full_rows}
+use Rattle.server_state.proofs.Objects.{fullness}
 use Rattle.object_table.specs.Table.{IsWhy, insert_refusal, is_of_file, is_open}
 use Rattle.iofd_words.specs.declared.call_error.CallError.{CallError}
 use Rattle.iofd_words.specs.declared.call_error.CallError.TheVariants.{Refused}
@@ -22,7 +22,7 @@ module _ {A : Type 0} where
   takes_object w s file error r shows still roomy refused why =
       let open_s : is_open s.objects file ≡ true = shows.objects.files file ∙ still in
       let roomy_s : leb 65535 (length (filter (is_of_file file) s.objects.rows)) ≡ false =
-      sym (is_full_rows s.objects.rows file) ∙ ap (λ (objects : List Object). is_full objects file)
+      sym (fullness s.objects.rows file) ∙ ap (λ (objects : List Object). is_full objects file)
       (sym shows.objects.rows) ∙ roomy in
       let none : insert_refusal s.objects file ≡ None = rw (open_s, roomy_s) refl in
       let some : insert_refusal s.objects file ≡ Some r.cause = rw refused at why in

@@ -1,6 +1,6 @@
 -- The objects of the world that a table has.
 use Rattle.std.proofs.Common.{◌≡◌, ℕ, Bool, true, false, cond, ◌&&◌, ◌||◌, eqb, ap, Option, Some, None, List, [], ◌∷◌}
-use Rattle.std.proofs.Common.{map, find, refl, sym, ◌∙◌, arith}
+use Rattle.std.proofs.Common.{map, find, leb, length, refl, sym, ◌∙◌, arith}
 use Rattle.std.specs.List.{filter, list_any}
 use Rattle.std.specs.Option.{option_map}
 use Rattle.std.proofs.lemmas.Bool.Decides.{nat_tests}
@@ -9,7 +9,7 @@ use Rattle.iofd_words.specs.Bounds.{Bounds}
 use Rattle.iofd_words.specs.Ranges.{meets_some}
 use Rattle.iofd_words.specs.Usable.{beyond_table}
 use Rattle.iofd_words.specs.Objects.{is_ioas, is_object, is_hwpt_over, is_automatic_over, kind_of, has_ioas, has_hwpt}
-use Rattle.iofd_words.specs.Objects.{automatic_hwpt}
+use Rattle.iofd_words.specs.Objects.{automatic_hwpt, is_full, objects_of}
 use Rattle.iofd_words.specs.declared.numbers.FileNo.{FileNo}
 use Rattle.iofd_words.specs.declared.numbers.ObjId.{ObjId}
 use Rattle.iofd_words.specs.declared.rows.Area.{Area}
@@ -94,6 +94,17 @@ module _ {A : Type 0} where
       by_held (Some (held.Ioas areas)) is = cc
       by_held (Some (held.Hwpt ioas width automatic)) is = refl
       by_held (Some (held.Device device)) is = refl
+
+  -- ---- how many there are
+
+  same_count : (rows : List (Row (Held A))) (file : FileNo)
+      → length (objects_of (map object_of rows) file) ≡ length (filter (is_of_file file) rows)
+  same_count [] file = refl
+  same_count (row ∷ rows) file = let rest = same_count rows file in grind (arith, nat_tests)
+
+  pub fullness : (rows : List (Row (Held A))) (file : FileNo)
+      → is_full (map object_of rows) file ≡ leb 65535 (length (filter (is_of_file file) rows))
+  fullness rows file = ap (leb 65535) (same_count rows file)
 
 -- ---- of a world
 

@@ -1,12 +1,12 @@
 -- What objects that come or go leave of what is kept.
 use Rattle.std.proofs.Common.{ℕ, ◌+◌}
 use Rattle.std.proofs.Common.{◌≡◌, ◌<◌, ◌^◌, is_some, Vec, Bool, true, false, cond, leb, Option, Some, None, List, []}
-use Rattle.std.proofs.Common.{◌∷◌, length, map, refl, sym, ◌∙◌, ap, arith}
-use Rattle.std.specs.List.{find, filter, list_all}
+use Rattle.std.proofs.Common.{◌∷◌, map, refl, sym, ◌∙◌, ap, arith}
+use Rattle.std.specs.List.{find, list_all}
 use Rattle.std.specs.Option.{option_map}
 use Rattle.std.proofs.lemmas.Bool.Decides.{nat_tests}
-use Rattle.iofd_words.specs.Objects.{binding_of, comes_before, is_bound_as, is_fresh, is_full, is_hwpt, kind_of}
-use Rattle.iofd_words.specs.Objects.{objects_of, with_object}
+use Rattle.iofd_words.specs.Objects.{binding_of, comes_before, is_bound_as, is_fresh, is_hwpt, kind_of}
+use Rattle.iofd_words.specs.Objects.{with_object}
 use Rattle.iofd_words.specs.World.{World}
 use Rattle.iofd_words.specs.declared.numbers.DeviceNo.{DeviceNo}
 use Rattle.iofd_words.specs.declared.numbers.FileNo.{FileNo}
@@ -26,7 +26,7 @@ use Rattle.server_state.specs.Tables.{page_tables_among}
 use Rattle.server_state.specs.Users.{devices_on, users_at}
 use Rattle.server_state.specs.declared.held.Held.{Held}
 use Rattle.server_state.specs.declared.state.State.{State}
-use Rattle.object_table.specs.Table.{Row, Table, inserted, is_at, is_of_file, stands_before}
+use Rattle.object_table.specs.Table.{Row, Table, inserted, is_at, stands_before}
 
 -- an object that is no page table comes among page tables
 pub tables_beside : (object : Object) (objects : List Object) → is_hwpt object.kind ≡ false
@@ -41,17 +41,6 @@ tables_beside object (o ∷ objects) other = by_order (comes_before object o) (t
     by_order false rest = ap (λ (l : List Object). cond (is_hwpt o.kind) (o ∷ l) l) rest
 
 module _ {A : Type 0} where
-  -- ---- how many there are
-
-  same_count : (rows : List (Row (Held A))) (file : FileNo)
-      → length (objects_of (map object_of rows) file) ≡ length (filter (is_of_file file) rows)
-  same_count [] file = refl
-  same_count (row ∷ rows) file = let rest = same_count rows file in grind (arith, nat_tests)
-
-  pub is_full_rows : (rows : List (Row (Held A))) (file : FileNo)
-      → is_full (map object_of rows) file ≡ leb 65535 (length (filter (is_of_file file) rows))
-  is_full_rows rows file = ap (leb 65535) (same_count rows file)
-
   -- ---- an object comes
 
   pub objects-inserted : (row : Row (Held A)) (rows : List (Row (Held A)))

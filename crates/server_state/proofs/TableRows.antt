@@ -1,7 +1,7 @@
 -- The rows of the table, after a page table came or went.
 use Rattle.std.proofs.Common.{◌≡◌, ℕ, Bool, true, false, cond, ◌&&◌, not, eqb, Option, Some, None, List, [], ◌∷◌, map}
 use Rattle.std.proofs.Common.{refl, sym, ◌∙◌, ap, arith}
-use Rattle.std.specs.List.{find, list_all}
+use Rattle.std.specs.List.{find}
 use Rattle.std.proofs.lemmas.Bool.Decides.{nat_tests}
 use Rattle.iofd_words.specs.Objects.{has_ioas, is_ioas, kind_of}
 use Rattle.iofd_words.specs.declared.numbers.FileNo.{FileNo}
@@ -13,14 +13,11 @@ use Rattle.iofd_words.specs.declared.width.Width.{Width}
 use Rattle.iofd_rows.proofs.Bools.{and_true}
 use Rattle.iofd_rows.proofs.Found.{find-filter, none_both}
 use Rattle.iofd_rows.proofs.Named.{file_is, id_is}
-use Rattle.server_state.specs.Held.{areas_at, areas_in, is_proper, object_of, objects_in}
-use Rattle.server_state.specs.Users.{users_at}
+use Rattle.server_state.specs.Held.{areas_at, areas_in, object_of}
 use Rattle.server_state.specs.declared.held.Held.{Held}
 use Rattle.server_state.specs.declared.held.Held.TheVariants as held
 use Rattle.server_state.proofs.Objects.{areas_at_rows, areas_of_held, has_ioas_rows, is_space, value_at}
-use Rattle.server_state.proofs.ObjectsGone.{may_go}
-use Rattle.object_table.specs.Table.{Row, Table, destroy_refusal, is_at, removed}
-use Rattle.object_table.specs.declared.kind.Kind.TheVariants as of_kind
+use Rattle.object_table.specs.Table.{Row, is_at, removed}
 
 module _ {A : Type 0} where
   no_space : (o : Option (Held A)) → is_space o ≡ false → areas_of_held o ≡ []
@@ -72,11 +69,3 @@ module _ {A : Type 0} where
           apart : (r f g s i j : ℕ) → (eqb r f && eqb s i) ≡ true → (eqb f g && eqb i j) ≡ false
               → not (eqb r g && eqb s j) ≡ true
           apart r f g s i j at fails = grind (arith, nat_tests)
-
-  -- a page table may be destroyed
-  pub destroyable : (table : Table (Held A)) (file : FileNo) (id ioas : ObjId) (width : Width) (automatic : Bool)
-      → list_all is_proper table.rows ≡ true → kind_of (objects_in table) file id ≡ Some
-      (kind.Hwpt ioas width automatic) → users_at table.rows file id ≡ 0
-      → destroy_refusal table file of_kind.Hwpt id ≡ None
-  destroyable table file id ioas width automatic proper is none =
-      may_go table file id (kind.Hwpt ioas width automatic) proper is none

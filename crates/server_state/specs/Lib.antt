@@ -9,5 +9,6 @@ pub mod Seen
 pub mod Shows
 pub mod Spaces
 pub mod Step
+pub mod TableGone
 pub mod Tables
 pub mod Users

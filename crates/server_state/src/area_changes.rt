@@ -1,11 +1,11 @@
-//! Changes of one address space's areas: one comes, or some go.
+//! Changes of one address space's areas: one comes, some leave or go, or a device pays what it owes them.
 
 ghost use Rattle.std.specs.Prelude.{◌≡◌, ◌<◌, ◌==◌, not, true, None, [], length, map};
 ghost use Rattle.std.specs.Prelude.{OnErr, OnOk, MatchOption};
 ghost use Rattle.std.specs.List.{list_any};
 ghost use Rattle.area_rows.specs.Areas.{AreKept, areas_outside, areas_within, marked, with_area};
 ghost use Rattle.area_map.specs.Insertion.{insert_refusal};
-ghost use Rattle.iofd_words.specs.Areas.{owed_by};
+ghost use Rattle.iofd_words.specs.Areas.{all_paid, owed_by};
 ghost use Rattle.iofd_words.specs.Objects.{has_ioas, is_ioas};
 ghost use Rattle.server_state.specs.Held.{areas_at, areas_in, kind_in, objects_in, room_at, room_in};
 ghost use Rattle.server_state.specs.Spaces.{IsOrderly, IsWith, HasAreas};
@@ -13,7 +13,7 @@ ghost use Rattle.server_state.specs.Mapping.{own_areas};
 
 use crate::held::Held;
 use area_map::{Areas, Iter};
-use iofd_words::{Area, DeviceSet, FileNo, NoMemory, ObjId, Phase, Span};
+use iofd_words::{Area, DeviceNo, DeviceSet, FileNo, NoMemory, ObjId, Phase, Span};
 use object_table::{Kind, ObjectTable};
 use std::alloc::Allocator;
 
@@ -50,7 +50,6 @@ fn reserve_held<A: Allocator + Copy>(held: &mut Held<A>) -> Result<(), NoMemory>
 
 /// Adds the area to those of this address space, which has room for it (`reserve`), where it meets no other and there
 /// may be one more. Elsewhere, or where there is no such address space, it changes nothing.
-#[tactic(auto, using(crate::proofs::AreasHeld::rewritten, crate::proofs::AreasHeld::unwritten, crate::proofs::AreasHeld::areas_absent))]
 pub fn insert<A: Allocator + Copy>(
     table: &mut ObjectTable<Held<A>, A>,
     file: FileNo,
@@ -175,5 +174,30 @@ fn remove_held<A: Allocator>(held: &mut Held<A>, span: Span)
 {
     if let Held::Ioas(areas) = held {
         areas.remove(span);
+    }
+}
+
+/// The device owes the areas of this address space no flush any more.
+#[tactic(auto, using(crate::proofs::AreasHeld::unwritten, crate::proofs::AreasHeld::areas_absent))]
+pub fn pay<A: Allocator>(
+    table: &mut ObjectTable<Held<A>, A>,
+    file: FileNo,
+    ioas: ObjId,
+    device: DeviceNo,
+)
+    ensures { IsOrderly table.old
+        → HasAreas file ioas (all_paid device (areas_at table.old.rows file ioas)) table.old table.new }
+{
+    match table.get_mut(file, Kind::Ioas, ioas) {
+        Ok(held) => pay_held(held, device),
+        Err(_) => (),
+    }
+}
+
+fn pay_held<A: Allocator>(held: &mut Held<A>, device: DeviceNo)
+    ensures { IsWith (all_paid device (areas_in held.old)) held.old held.new }
+{
+    if let Held::Ioas(areas) = held {
+        areas.pay(device);
     }
 }

@@ -1,18 +1,26 @@
-//! Areas that go, or that no page table translates any more, let go of their memory objects.
+//! Areas that go, or that no page table translates any more, let go of their memory objects; and a page table goes.
 
-ghost use Rattle.std.specs.Prelude.{if◌then◌else◌};
+ghost use Rattle.std.specs.Prelude.{◌≡◌, ◌-◌, None, if◌then◌else◌, vec_capacity, vec_len};
 ghost use Rattle.area_rows.specs.Areas.{areas_within};
-ghost use Rattle.server_state.specs.Mapping.{own_areas};
+ghost use Rattle.hwpt_device.specs.PageTables.{IfAllStand, hwpt_of};
+ghost use Rattle.hwpt_device.specs.Removed.{CanRemove, rows_found};
+ghost use Rattle.object_table.specs.Table.{destroy_refusal, removed};
+ghost use Rattle.object_table.specs.declared.kind.Kind.TheVariants as of_kind;
+ghost use Rattle.server_state.specs.Mapping.{own_areas, untranslated_pins};
+ghost use Rattle.server_state.specs.TableGone.{HasLostTable, MayLoseTable};
 ghost use Rattle.memory_rows.specs.Moves.{IsReleased, MayRelease, if_translated};
 ghost use Rattle.memory_rows.specs.Shown.{over};
+ghost use Rattle.table_words.specs.Released.{GivesBack};
 ghost use Rattle.user_memory.specs.Changes.{never, once};
 
-use crate::area_changes;
 use crate::held::Held;
+use crate::state::State;
+use crate::{area_changes, counts};
 use area_map::Iter;
 use frame_memory::Pool;
-use iofd_words::{FileNo, ObjId, Span};
-use object_table::ObjectTable;
+use hwpt_device::PageTables;
+use iofd_words::{FileNo, FrameNo, ObjId, Span};
+use object_table::{Kind, ObjectTable};
 use std::alloc::Allocator;
 use user_memory::UserMemory;
 
@@ -84,7 +92,7 @@ pub fn remove_space<A: Allocator>(
 }
 
 /// No page table translates the areas of the address space any more.
-pub fn unpin_space<A: Allocator>(
+fn unpin_space<A: Allocator>(
     table: &ObjectTable<Held<A>, A>,
     file: FileNo,
     ioas: ObjId,
@@ -97,4 +105,63 @@ pub fn unpin_space<A: Allocator>(
     if let Some(areas) = area_changes::own_areas(table, file, ioas) {
         unpin(areas.iter(), memory, pool);
     }
+}
+
+/// Where none of the page tables is over the address space any more, a pin of each of its areas goes. It takes no
+/// memory.
+fn unpin_untranslated<A: Allocator>(
+    table: &ObjectTable<Held<A>, A>,
+    page_tables: &PageTables<A>,
+    file: FileNo,
+    ioas: ObjId,
+    memory: &mut UserMemory<A>,
+    pool: &mut Pool<A>,
+)
+    requires { MayRelease never (untranslated_pins page_tables.now table.now file ioas) memory.old pool.old.holds }
+    ensures { IsReleased never (untranslated_pins page_tables.now table.now file ioas)
+        memory.old memory.new pool.old pool.new }
+{
+    if !page_tables.has_over(file, ioas) {
+        unpin_space(table, file, ioas, memory, pool);
+    }
+}
+
+/// The file's page table of this id goes, by which no device translates; it is over this address space. The frames of
+/// its tables are appended to `given` by rising number, where there is room. With the last page table over the address
+/// space a pin of each of its areas goes. It takes no memory.
+pub fn remove_page_table<A: Allocator>(
+    state: &mut State<A>,
+    file: FileNo,
+    hwpt: ObjId,
+    ioas: ObjId,
+    given: &mut Vec<FrameNo, A>,
+)
+    requires room { CanRemove state.old.pool state.old.page_tables.tables file hwpt
+        (vec_capacity given.old - vec_len given.old) }
+    requires pins { MayLoseTable file hwpt ioas state.old }
+    ensures state { HasLostTable file hwpt ioas state.old state.new }
+    ensures given { IfAllStand state.old.pool state.old.page_tables.tables (λ frames leads.
+        GivesBack (rows_found frames (hwpt_of state.old.page_tables.tables file hwpt))
+        given.old.items given.new.items) }
+{
+    counts::one_fewer(&mut state.objects, file, Kind::Ioas, ioas);
+    remove_row(&mut state.objects, file, hwpt);
+    state.page_tables.remove(&mut state.pool, file, hwpt, given);
+    unpin_untranslated(
+        &state.objects,
+        &state.page_tables,
+        file,
+        ioas,
+        &mut state.memory,
+        &mut state.pool,
+    );
+}
+
+/// The page table's row goes. All other objects and all areas stay.
+fn remove_row<A: Allocator>(table: &mut ObjectTable<Held<A>, A>, file: FileNo, hwpt: ObjId)
+    ensures rows { destroy_refusal table.old file of_kind.Hwpt hwpt ≡ None
+        → table.new.rows ≡ removed file hwpt table.old.rows }
+    ensures files { table.new.files ≡ table.old.files }
+{
+    let _ = table.destroy(file, Kind::Hwpt, hwpt);
 }

@@ -1,6 +1,6 @@
 use Rattle.std.proofs.Common.{Some, sym, ◌∙◌, ap}
-use Rattle.file_events.proofs.Destroyed.{last_destroyed, last_may, never_device, never_none, other_destroyed}
-use Rattle.file_events.proofs.Destroyed.{space_destroyed, space_may, space_moves, table_moves}
+use Rattle.file_events.proofs.Destroyed.{may_unpin, never_device, never_none, shows_lost, space_destroyed, space_may}
+use Rattle.file_events.proofs.Destroyed.{space_moves}
 use Rattle.file_events.proofs.destroy.commit.Goals as goal
 
 pub reserve_given-requires : goal.reserve_given-requires
@@ -23,57 +23,21 @@ returns-in-Some-Ioas-clause-ok g c = λ at via w tidy shows none may.
     c.remove-in-Some-Ioas.new.table c.remove_space.new.memory c.remove_space.new.pool c.remove.new.self
     c.remove-in-Some-Ioas.ensures.rows c.remove-in-Some-Ioas.ensures.files c.remove_space.ensures c.remove.ensures)
 
-pub unpin_space-requires : goal.unpin_space-requires
-unpin_space-requires g c =
+pub remove_page_table-requires-clause-pins : goal.remove_page_table-requires-clause-pins
+remove_page_table-requires-clause-pins g c = λ table tables pool gone.
     let known = c.requires.granted.granted in
-    last_may c.requires.granted.at known.world c.args.state.now c.args.file c.args.id c.in-Some-Hwpt.ioas
-    c.in-Some-Hwpt.field-0-1 c.in-Some-Hwpt.field-0-2 c.remove-in-Some-Hwpt.new.table
-    known.tidy known.shows known.none
-    (sym c.in-Some-Hwpt.ensures ∙ ap Some c.in-Some-Hwpt.field-0-is) c.one_fewer.new.table c.one_fewer.ensures.rows
-    c.one_fewer.ensures.others c.remove-in-Some-Hwpt.ensures.rows
-    c.remove-in-Some-Hwpt.ensures.files
-    c.remove-in-Some-Hwpt-2.new.self c.remove-in-Some-Hwpt-2.new.pool c.remove-in-Some-Hwpt-2.ensures.tables
-    c.remove-in-Some-Hwpt-2.ensures.stand c.remove-in-Some-Hwpt-2.ensures.pool
-    (sym c.has_over.ensures ∙ c.if-not-has_over.true)
+    may_unpin c.requires.granted.at known.world c.args.state.now c.args.file c.args.id c.in-Some-Hwpt.ioas
+    c.in-Some-Hwpt.field-0-1 c.in-Some-Hwpt.field-0-2 c.remove.new.self known.tidy known.shows known.none
+    (sym c.in-Some-Hwpt.ensures ∙ ap Some c.in-Some-Hwpt.field-0-is) table tables pool gone
 
-pub returns-then-not-has_over-clause-ok : goal.returns-then-not-has_over-clause-ok
-returns-then-not-has_over-clause-ok g c = λ at via w tidy shows none may.
-    let is_kind = sym c.in-Some-Hwpt.ensures ∙ ap Some c.in-Some-Hwpt.field-0-is in
-    table_moves at w c.args.state.now c.args.file c.args.id c.in-Some-Hwpt.ioas c.in-Some-Hwpt.field-0-1
-    c.in-Some-Hwpt.field-0-2 c.remove-in-Some-Hwpt.new.table tidy shows none is_kind
-    c.one_fewer.new.table c.one_fewer.ensures.rows c.one_fewer.ensures.others
-    c.remove-in-Some-Hwpt.ensures.rows c.remove-in-Some-Hwpt.ensures.files
-    c.remove-in-Some-Hwpt-2.new.self c.remove-in-Some-Hwpt-2.new.pool c.remove-in-Some-Hwpt-2.ensures.tables
-    c.remove-in-Some-Hwpt-2.ensures.stand c.remove-in-Some-Hwpt-2.ensures.pool
-    via c.reserve_given.new.given.items c.remove-in-Some-Hwpt-2.new.out.items _ (c.reserve_given.ensures.same
-    ∙ c.requires.none) c.remove-in-Some-Hwpt-2.ensures.out
-    (last_destroyed at w c.args.state.now c.args.file c.args.id c.in-Some-Hwpt.ioas c.in-Some-Hwpt.field-0-1
-    c.in-Some-Hwpt.field-0-2 c.remove-in-Some-Hwpt.new.table tidy shows none is_kind
-    c.one_fewer.new.table c.one_fewer.ensures.rows c.one_fewer.ensures.others
-    c.remove-in-Some-Hwpt.ensures.rows c.remove-in-Some-Hwpt.ensures.files
-    c.remove-in-Some-Hwpt-2.new.self c.remove-in-Some-Hwpt-2.new.pool c.remove-in-Some-Hwpt-2.ensures.tables
-    c.remove-in-Some-Hwpt-2.ensures.stand c.remove-in-Some-Hwpt-2.ensures.pool
-    c.unpin_space.new.memory c.unpin_space.new.pool c.remove.new.self (sym c.has_over.ensures ∙ c.if-not-has_over.true)
-    c.unpin_space.ensures c.remove.ensures)
-
-pub returns-else-not-has_over-clause-ok : goal.returns-else-not-has_over-clause-ok
-returns-else-not-has_over-clause-ok g c = λ at via w tidy shows none may.
-    let is_kind = sym c.in-Some-Hwpt.ensures ∙ ap Some c.in-Some-Hwpt.field-0-is in
-    table_moves at w c.args.state.now c.args.file c.args.id c.in-Some-Hwpt.ioas c.in-Some-Hwpt.field-0-1
-    c.in-Some-Hwpt.field-0-2 c.remove-in-Some-Hwpt.new.table tidy shows none is_kind
-    c.one_fewer.new.table c.one_fewer.ensures.rows c.one_fewer.ensures.others
-    c.remove-in-Some-Hwpt.ensures.rows c.remove-in-Some-Hwpt.ensures.files
-    c.remove-in-Some-Hwpt-2.new.self c.remove-in-Some-Hwpt-2.new.pool c.remove-in-Some-Hwpt-2.ensures.tables
-    c.remove-in-Some-Hwpt-2.ensures.stand c.remove-in-Some-Hwpt-2.ensures.pool
-    via c.reserve_given.new.given.items c.remove-in-Some-Hwpt-2.new.out.items _ (c.reserve_given.ensures.same
-    ∙ c.requires.none) c.remove-in-Some-Hwpt-2.ensures.out
-    (other_destroyed at w c.args.state.now c.args.file c.args.id c.in-Some-Hwpt.ioas c.in-Some-Hwpt.field-0-1
-    c.in-Some-Hwpt.field-0-2 c.remove-in-Some-Hwpt.new.table tidy shows none is_kind
-    c.one_fewer.new.table c.one_fewer.ensures.rows c.one_fewer.ensures.others
-    c.remove-in-Some-Hwpt.ensures.rows c.remove-in-Some-Hwpt.ensures.files
-    c.remove-in-Some-Hwpt-2.new.self c.remove-in-Some-Hwpt-2.new.pool c.remove-in-Some-Hwpt-2.ensures.tables
-    c.remove-in-Some-Hwpt-2.ensures.stand c.remove-in-Some-Hwpt-2.ensures.pool
-    c.remove.new.self (sym c.has_over.ensures ∙ c.if-not-has_over.false) c.remove.ensures)
+pub returns-in-Some-Hwpt-clause-ok : goal.returns-in-Some-Hwpt-clause-ok
+returns-in-Some-Hwpt-clause-ok g c = λ at via w tidy shows none may.
+    shows_lost at w c.args.state.now c.args.file c.args.id c.in-Some-Hwpt.ioas c.in-Some-Hwpt.field-0-1
+    c.in-Some-Hwpt.field-0-2 c.remove.new.self tidy shows none
+    (sym c.in-Some-Hwpt.ensures ∙ ap Some c.in-Some-Hwpt.field-0-is) c.remove_page_table.new.state
+    c.remove_page_table.ensures.state c.remove.ensures via c.reserve_given.new.given.items
+    c.remove_page_table.new.given.items
+    (c.reserve_given.ensures.same ∙ c.requires.none) c.remove_page_table.ensures.given
 
 pub returns-in-Some-Device-clause-ok : goal.returns-in-Some-Device-clause-ok
 returns-in-Some-Device-clause-ok g c = λ at via w tidy shows none may. absurd
