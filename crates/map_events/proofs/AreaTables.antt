@@ -8,7 +8,7 @@ use Rattle.std.proofs.lemmas.Bool.Decides.{nat_tests}
 use Rattle.frame_memory.specs.Pool.{FramePool, free_count}
 use Rattle.hwpt_device.proofs.Missing.{least_are_free, missing_counted}
 use Rattle.hwpt_device.specs.OverSpans.{tables_needed, with_missing}
-use Rattle.hwpt_device.specs.PageTables.{AllStand, Hwpt, IfAllStand, KeepsOthers, PageTables}
+use Rattle.hwpt_device.specs.PageTables.{AllStand, Hwpt, IfAllStand, KeepsOthers}
 use Rattle.iofd_rows.proofs.Bools.{and_true, both_true}
 use Rattle.iofd_rows.proofs.Each.{IsIn, in_filter, of_any, of_each}
 use Rattle.iofd_runs.proofs.StillTabled.{none_given}
@@ -118,7 +118,7 @@ module _ {A : Type 0} (at : ℕ) (w : World) (s : State A) (tidy : IsTidy at w) 
 
   -- ---- once it is mapped
 
-  module _ (kept : PageTables) (made : FramePool) (taken : List FrameNo) (kept_is : kept ≡ s.page_tables)
+  module _ (made : FramePool) (taken : List FrameNo)
       (is : IfAllStand pool tables (IsAreaMapped after new_area tables pool made [] taken))
       (bytes : length made.bytes ≡ length made.holds)
       (apart : areas_meet new_area.span (areas_of w.areas file request.ioas) ≡ false) where
@@ -233,21 +233,10 @@ module _ {A : Type 0} (at : ℕ) (w : World) (s : State A) (tidy : IsTidy at w) 
 
     pub mapped_shows : (table : Table (Held A))
         → ObjectsShown w.settings w.closed w.objects w.attachments (world.with_area new_area w.areas) table
-        → Shows (with_tables taken [] left) (record s {
-          objects = table;
-          page_tables = kept;
-          memory = after;
-          pool = made;
-        })
+        → Shows (with_tables taken [] left) (record s { objects = table; memory = after; pool = made })
     unfolding settle with_tables
     mapped_shows table shown =
-        subst (λ (k : PageTables). Shows (with_tables taken [] left) (record s {
-          objects = table;
-          page_tables = k;
-          memory = after;
-          pool = made;
-        })) (sym kept_is)
-        (subst (λ (rows : List TableFrame). Shows (record left { table_frames = rows }) (record s {
+        subst (λ (rows : List TableFrame). Shows (record left { table_frames = rows }) (record s {
           objects = table;
           memory = after;
           pool = made;
@@ -265,4 +254,4 @@ module _ {A : Type 0} (at : ℕ) (w : World) (s : State A) (tidy : IsTidy at w) 
           pins = comes.pins;
           frames = frames_taken;
           tables = record { tables = shows.tables.tables; widths = shows.tables.widths; stand = stand_taken };
-        }))
+        })

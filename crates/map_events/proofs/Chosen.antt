@@ -1,6 +1,6 @@
 -- The search for the least address that may be chosen: it starts at 0, and goes behind what is in the way.
-use Rattle.std.proofs.Common.{◌≡◌, ℕ, ◌+◌, ◌-◌, ◌%◌, ◌<◌, ◌≤◌, Bool, true, false, ◌&&◌, ◌||◌, not, leb, Option, Some}
-use Rattle.std.proofs.Common.{None, is_none, is_some, List, [], ◌∷◌, map, MatchOption, refl, ap, sym, ◌∙◌, ⊎_elim}
+use Rattle.std.proofs.Common.{◌≡◌, ℕ, ◌+◌, ◌-◌, ◌%◌, ◌<◌, ◌≤◌, Bool, true, false, ◌&&◌, ◌||◌, leb, Option, Some}
+use Rattle.std.proofs.Common.{None, is_some, List, [], ◌∷◌, map, MatchOption, refl, ap, sym, ◌∙◌, ⊎_elim}
 use Rattle.std.proofs.Common.{◌^◌, arith}
 use Rattle.std.specs.List.{list_all, list_any}
 use Rattle.std.proofs.lemmas.Bool.Decides.{nat_tests}
@@ -294,21 +294,14 @@ fewer_left start next high above below = omega (arith, above, below)
 -- what the search tells
 pub choice_told : (v : View) (file : FileNo) (request : MapRequest) (o : Option Bounds)
     → MatchOption o ((x : ℕ) → may_choose v file request x ≡ false) (IsLeastSpan v file request)
-    → is_none o ≡ not (has_choice v file request)
+    → is_some o ≡ has_choice v file request
 choice_told v file request None fails = sym
-    (ap not (none_of (may_choose v file request) (starts_to_try (choices v file request) (taken_spans v file request))
-    fails))
+    (none_of (may_choose v file request) (starts_to_try (choices v file request) (taken_spans v file request)) fails)
   where
     none_of : (p : ℕ → Bool) (starts : List ℕ) → ((x : ℕ) → p x ≡ false) → list_any p starts ≡ false
     none_of p [] fails = refl
     none_of p (x ∷ starts) fails = both_false _ _ (fails x) (none_of p starts fails)
-choice_told v file request (Some span) is = sym (ap not is.there)
-
-pub none_told : {X : Type 0} (o : Option X) (b : Bool) → is_some o ≡ not b → b ≡ is_none o
-none_told None true is = refl
-none_told None false is = cc
-none_told (Some x) true is = cc
-none_told (Some x) false is = refl
+choice_told v file request (Some span) is = sym is.there
 
 -- a place is a span of the length
 pub is_spanned : (v : View) (file : FileNo) (request : MapRequest) (span : Bounds) → IsPlace v file request span

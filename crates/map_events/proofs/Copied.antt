@@ -4,7 +4,7 @@ use Rattle.std.proofs.Common.{◌∙◌, ap, subst}
 use Rattle.std.specs.Prelude.{if◌then◌else◌}
 use Rattle.area_rows.specs.Areas as own
 use Rattle.frame_memory.specs.Pool.{FramePool, free_count}
-use Rattle.hwpt_device.specs.PageTables.{IfAllStand, PageTables}
+use Rattle.hwpt_device.specs.PageTables.{IfAllStand}
 use Rattle.iofd_runs.proofs.CopySource.{IsSource, copy_source, source_area}
 use Rattle.iofd_runs.proofs.KeepsOwnMemory.{OwnPins, copied_own}
 use Rattle.iofd_runs.proofs.MappedAt.{copy_lies_at}
@@ -109,22 +109,16 @@ module _ {A : Type 0} where
         shared settles translated)
         found.object found.found found.size rights)
 
-    pub shows_copied : (table : Table (Held A)) (kept : PageTables) (made : FramePool) (taken : List FrameNo)
-        → kept ≡ s.page_tables
+    pub shows_copied : (table : Table (Held A)) (made : FramePool) (taken : List FrameNo)
         → IfAllStand pool s.page_tables.tables (IsAreaMapped after (mapped_area number file (placed_as request) iova)
         s.page_tables.tables pool made [] taken)
         → length made.bytes ≡ length made.holds
         → (IsOrderly s.objects → HasAreas file request.dst_ioas
         (own.with_area (mapped_area number file (placed_as request) iova)
         (areas_at s.objects.rows file request.dst_ioas)) s.objects table)
-        → IsCopiedAs at w file request iova taken (record s {
-          objects = table;
-          page_tables = kept;
-          memory = after;
-          pool = made;
-        })
+        → IsCopiedAs at w file request iova taken (record s { objects = table; memory = after; pool = made })
     unfolding changed
-    shows_copied table kept made taken kept_is mapped bytes inserted =
+    shows_copied table made taken mapped bytes inserted =
         let coming =
         copy_comes at w s tidy shows file request iova source after pool pinned next pinned_is shared settles in
         let apart = (copy_lies_at w file request iova none place).apart in
@@ -136,21 +130,17 @@ module _ {A : Type 0} where
         → HasAreas file request.dst_ioas (own.with_area (mapped_area n file (placed_as request) iova)
         (areas_at s.objects.rows file request.dst_ioas)) s.objects table) back inserted in
         let moves = moves_mapped at w s tidy shows source.memory file (placed_as request) iova w.memory after pool
-        coming enough kept made taken kept_is is bytes apart {E = A} (event.Copy file request)
+        coming enough made taken is bytes apart {E = A} (event.Copy file request)
         (reply.Iova iova) tidy.tabled.owned in
         let P = λ (o : Option Area).
         MovesTables {A = A} w (copy_changes w file request iova o) (event.Copy file request) (reply.Iova iova) taken []
         × AreFramesChosen w (copy_changes w file request iova o) taken []
-        × Shows (with_tables taken [] (copy_changes w file request iova o)) (record s {
-          objects = table;
-          page_tables = kept;
-          memory = after;
-          pool = made;
-        }) in
+        × Shows (with_tables taken [] (copy_changes w file request iova o))
+        (record s { objects = table; memory = after; pool = made }) in
         subst P (sym over.found) (
           moves.0,
           moves.1,
           mapped_shows at w s tidy shows source.memory file (placed_as request) iova w.memory after pool coming enough
-              kept made taken kept_is is bytes apart table
+              made taken is bytes apart table
               (objects_mapped w s new_area table (orderly at w s tidy shows) shows added),
         )

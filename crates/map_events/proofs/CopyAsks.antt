@@ -1,11 +1,9 @@
 -- What a COPY asks of the memory object under its source.
 use Rattle.std.proofs.Common.{◌≡◌, ℕ, Bool, true, false, ◌&&◌, ◌||◌, not, eqb, is_none, Option, Some, None, List, []}
-use Rattle.std.proofs.Common.{◌∷◌, length, refl, sym, ◌∙◌, ap}
+use Rattle.std.proofs.Common.{◌∷◌, ◌++◌, length, refl, sym, ◌∙◌, ap}
 use Rattle.std.specs.List.{filter, list_any}
-use Rattle.iofd_words.specs.Areas.{has_no_room}
-use Rattle.iofd_words.specs.Checks.{copy_checks, is_outside_usable, is_source_writable, lacks_choice, lacks_copied_page}
-use Rattle.iofd_words.specs.Checks.{lacks_mapped_frames, newly_copied, overlaps, passes_limit, passes_limit_copied}
-use Rattle.iofd_words.specs.Checks.{source_of}
+use Rattle.iofd_words.specs.Checks.{copy_checks, is_source_writable, lacks_copied_page, lacks_mapped_frames}
+use Rattle.iofd_words.specs.Checks.{newly_copied, passes_limit, passes_limit_copied, source_of}
 use Rattle.iofd_words.specs.Copies.{is_writable, placed_as}
 use Rattle.iofd_words.specs.Files.{user_of}
 use Rattle.iofd_words.specs.FirstTrue.{first_true}
@@ -18,6 +16,7 @@ use Rattle.iofd_words.specs.declared.event.CopyRequest.{CopyRequest}
 use Rattle.iofd_words.specs.declared.numbers.FileNo.{FileNo}
 use Rattle.iofd_words.specs.declared.refusal.Cause.TheVariants as cause
 use Rattle.iofd_words.specs.declared.rows.Area.{Area}
+use Rattle.map_events.specs.Place.{place_checks}
 use Rattle.map_events.specs.Sources.{number_of}
 use Rattle.memory_rows.proofs.ObjectOf.{lacks_one, pages_of_one}
 use Rattle.server_state.specs.Seen.{seen}
@@ -141,14 +140,8 @@ module _ (v : View) (file : FileNo) (request : CopyRequest) where
                     pub rows_behind : is_none (source_of v file request) ≡ false
                         → first_true (copy_checks v file request) ≡ first_true (
                         (cause.Rights, is_writeable request.flags && not (is_source_writable v file request))
-                        ∷ (cause.Reserved, is_outside_usable v file (placed_as request))
-                        ∷ (cause.Overlap, overlaps v file (placed_as request))
-                        ∷ (
-                          cause.Full,
-                          has_no_room (v.areas_of file request.dst_ioas)
-                              || lacks_choice v file (placed_as request),
-                        )
-                        ∷ (cause.Absent, lacks_copied_page v file request)
+                        ∷ place_checks v file (placed_as request)
+                        ++ (cause.Absent, lacks_copied_page v file request)
                         ∷ (cause.Account, passes_limit_copied v file request)
                         ∷ (cause.Frames, lacks_mapped_frames v file (placed_as request))
                         ∷ [])

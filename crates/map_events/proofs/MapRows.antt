@@ -1,9 +1,7 @@
 -- The rows of a MAP's refusals.
-use Rattle.std.proofs.Common.{◌≡◌, ◌≢◌, ℕ, true, false, ◌&&◌, ◌||◌, not, eqb, Some, List, [], ◌∷◌, refl, subst, arith}
+use Rattle.std.proofs.Common.{◌≡◌, ◌≢◌, ℕ, true, false, ◌&&◌, ◌||◌, not, eqb, Some, [], ◌∷◌, ◌++◌, refl, arith}
 use Rattle.std.proofs.lemmas.Bool.Decides.{nat_tests}
-use Rattle.iofd_words.specs.Areas.{areas_meet, has_no_room}
-use Rattle.iofd_words.specs.Checks.{is_outside_usable, lacks_choice, lacks_mapped_frames, lacks_mapped_page, map_checks}
-use Rattle.iofd_words.specs.Checks.{mapped_span, passes_limit_mapped}
+use Rattle.iofd_words.specs.Checks.{lacks_mapped_frames, lacks_mapped_page, map_checks, passes_limit_mapped}
 use Rattle.iofd_words.specs.FirstTrue.{first_true}
 use Rattle.iofd_words.specs.Objects.{has_ioas}
 use Rattle.iofd_words.specs.Pages.{is_above_sum, is_above_user, is_whole}
@@ -12,7 +10,7 @@ use Rattle.iofd_words.specs.View.{View}
 use Rattle.iofd_words.specs.declared.event.MapRequest.{MapRequest}
 use Rattle.iofd_words.specs.declared.numbers.FileNo.{FileNo}
 use Rattle.iofd_words.specs.declared.refusal.Cause.TheVariants as cause
-use Rattle.iofd_words.specs.declared.rows.Area.{Area}
+use Rattle.map_events.specs.Place.{place_checks}
 
 -- as a row asks for it
 pub some_length : (length : ℕ) → length ≢ 0 → eqb length 0 ≡ false
@@ -71,24 +69,12 @@ module _ (v : View) (file : FileNo) (request : MapRequest) where
                   unfolding map_checks
                   space_row absent = rw (opened, right, user_sum, sum, some, whole, starts, in_user, absent) refl
 
-                  module _ (there : has_ioas v.objects file request.ioas ≡ true) where
-                    pub rows_behind : (areas : List Area) → v.areas_of file request.ioas ≡ areas
-                        → first_true (map_checks v file request) ≡ first_true (
-                        (cause.Reserved, is_outside_usable v file request)
-                        ∷ (cause.Overlap, is_fixed request.flags && areas_meet (mapped_span request) areas)
-                        ∷ (cause.Full, has_no_room areas || lacks_choice v file request)
-                        ∷ (cause.Absent, lacks_mapped_page v file request)
-                        ∷ (cause.Account, passes_limit_mapped v file request)
-                        ∷ (cause.Frames, lacks_mapped_frames v file request)
-                        ∷ [])
-                    unfolding map_checks
-                    rows_behind areas here =
-                        subst (λ (those : List Area). first_true (map_checks v file request) ≡ first_true (
-                        (cause.Reserved, is_outside_usable v file request)
-                        ∷ (cause.Overlap, is_fixed request.flags && areas_meet (mapped_span request) those)
-                        ∷ (cause.Full, has_no_room those || lacks_choice v file request)
-                        ∷ (cause.Absent, lacks_mapped_page v file request)
-                        ∷ (cause.Account, passes_limit_mapped v file request)
-                        ∷ (cause.Frames, lacks_mapped_frames v file request)
-                        ∷ [])) here
-                        (rw (opened, right, user_sum, sum, some, whole, starts, in_user, there) refl)
+                  pub rows_behind : has_ioas v.objects file request.ioas ≡ true
+                      → first_true (map_checks v file request) ≡ first_true (
+                      place_checks v file request
+                      ++ (cause.Absent, lacks_mapped_page v file request)
+                      ∷ (cause.Account, passes_limit_mapped v file request)
+                      ∷ (cause.Frames, lacks_mapped_frames v file request)
+                      ∷ [])
+                  unfolding map_checks
+                  rows_behind there = rw (opened, right, user_sum, sum, some, whole, starts, in_user, there) refl

@@ -10,7 +10,7 @@ use Rattle.iofd_words.specs.Files.{user_of}
 use Rattle.iofd_words.specs.Rights.{is_fixed}
 use Rattle.iofd_words.specs.FirstTrue.{first_true}
 use Rattle.frame_memory.specs.Pool.{FramePool, free_count}
-use Rattle.hwpt_device.specs.PageTables.{IfAllStand, PageTables}
+use Rattle.hwpt_device.specs.PageTables.{IfAllStand}
 use Rattle.iofd_words.specs.Tables.{MovesTables, with_tables}
 use Rattle.iofd_words.specs.declared.numbers.FrameNo.{FrameNo}
 use Rattle.user_memory.specs.Changes.{HasObject, Settles}
@@ -74,40 +74,31 @@ module _ {A : Type 0} where
     pub known : user_of w.settings file ≡ Some user
     known = rw shows.settings is_user
 
-    pub shows_mapped : (kept : PageTables) (made : FramePool) (taken : List FrameNo) → kept ≡ s.page_tables
+    pub shows_mapped : (made : FramePool) (taken : List FrameNo)
         → IfAllStand pool s.page_tables.tables (IsAreaMapped after (area at w file request iova user)
         s.page_tables.tables pool made [] taken)
         → length made.bytes ≡ length made.holds
         → (IsOrderly s.objects → HasAreas file request.ioas
         (own.with_area (area at w file request iova user) (areas_at s.objects.rows file request.ioas)) s.objects
         table)
-        → IsMappedAs at w file request iova taken (record s {
-          objects = table;
-          page_tables = kept;
-          memory = after;
-          pool = made;
-        })
+        → IsMappedAs at w file request iova taken (record s { objects = table; memory = after; pool = made })
     unfolding changed
-    shows_mapped kept made taken kept_is is bytes inserted =
+    shows_mapped made taken is bytes inserted =
         let next = own_next at w file request iova user tidy none place known in
         let apart = (lies_at w file request iova none place).apart in
         let coming = map_comes at w s tidy shows file request iova user after pool pinned next pinned_is has settles in
         let objects = w.memory ++ object at w file request iova user ∷ [] in
-        let moves = moves_mapped at w s tidy shows at file request iova objects after pool coming enough kept made taken
-        kept_is is bytes apart {E = A} (event.Map file request) (reply.Iova iova) tidy.tabled.owned in
+        let moves = moves_mapped at w s tidy shows at file request iova objects after pool coming enough made taken
+        is bytes apart {E = A} (event.Map file request) (reply.Iova iova) tidy.tabled.owned in
         let P = λ (o : Option UserNo).
         MovesTables {A = A} w (map_changes at w file request iova o) (event.Map file request) (reply.Iova iova) taken []
         × AreFramesChosen w (map_changes at w file request iova o) taken []
-        × Shows (with_tables taken [] (map_changes at w file request iova o)) (record s {
-          objects = table;
-          page_tables = kept;
-          memory = after;
-          pool = made;
-        }) in
+        × Shows (with_tables taken [] (map_changes at w file request iova o))
+        (record s { objects = table; memory = after; pool = made }) in
         subst P (sym known) (
           moves.0,
           moves.1,
-          mapped_shows at w s tidy shows at file request iova objects after pool coming enough kept made taken
-              kept_is is bytes apart table
+          mapped_shows at w s tidy shows at file request iova objects after pool coming enough made taken is bytes
+              apart table
               (objects_mapped w s (area at w file request iova user) table (orderly at w s tidy shows) shows inserted),
         )

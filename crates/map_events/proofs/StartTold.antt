@@ -1,7 +1,7 @@
 -- Where a MAP's area comes to lie, as its refusals tell it: where the span begins that is found. It can be used, and is
 -- of whole pages.
 use Rattle.std.proofs.Common.{◌≡◌, ℕ, ◌≤◌, ◌+◌, ◌-◌, ◌%◌, ◌<◌, Bool, true, false, cond, ◌&&◌, ◌||◌, eqb, ltb, leb, not}
-use Rattle.std.proofs.Common.{Option, Some, None, List, [], ◌∷◌, MatchOption, refl, ap, sym, ◌∙◌, arith}
+use Rattle.std.proofs.Common.{Option, Some, None, List, [], ◌∷◌, MatchOption, refl, ap, sym, subst, ◌∙◌, arith}
 use Rattle.std.specs.List.{filter, list_any, sum_by}
 use Rattle.std.proofs.lemmas.Bool.{not-false}
 use Rattle.std.proofs.lemmas.Bool.Decides.{nat_tests}
@@ -22,7 +22,7 @@ use Rattle.iofd_words.specs.declared.event.MapRequest.{MapRequest}
 use Rattle.iofd_words.specs.declared.numbers.FileNo.{FileNo}
 use Rattle.iofd_words.specs.declared.rows.Object.{Object}
 use Rattle.map_events.proofs.Chosen.{is_spanned, parts, tried_below}
-use Rattle.map_events.specs.Place.{HasNoPlace, HasNoPlaceBy, IsPlace, IsPlaceBy}
+use Rattle.map_events.specs.Place.{HasNoPlace, HasNoPlaceBy, IsLeastSpan, IsPlace, IsPlaceBy}
 
 -- ---- the least of those that pass
 
@@ -88,6 +88,26 @@ abbrev pub start_of : Option Bounds → Option ℕ
 start_of o = elim o [ Some span ↦ Some span.first | None ↦ None ]
 
 module _ (v : View) (file : FileNo) (request : MapRequest) where
+  -- by the fixed address, and by the search
+  pub fixed_place : (o : Option Bounds) → is_fixed request.flags ≡ true
+      → MatchOption o (HasNoPlaceBy v file request true) (IsPlaceBy v file request true)
+      → MatchOption o (HasNoPlace v file request) (IsPlace v file request)
+  fixed_place o fixed place =
+      subst (λ (b : Bool). MatchOption o (HasNoPlaceBy v file request b) (IsPlaceBy v file request b)) (sym fixed) place
+
+  pub chosen_place : (o : Option Bounds) → is_fixed request.flags ≡ false
+      → MatchOption o ((x : ℕ) → may_choose v file request x ≡ false) (IsLeastSpan v file request)
+      → MatchOption o (HasNoPlace v file request) (IsPlace v file request)
+  chosen_place o chosen place =
+      subst (λ (b : Bool). MatchOption o (HasNoPlaceBy v file request b) (IsPlaceBy v file request b)) (sym chosen)
+      (by_result o place)
+    where
+      by_result : (o : Option Bounds)
+          → MatchOption o ((x : ℕ) → may_choose v file request x ≡ false) (IsLeastSpan v file request)
+          → MatchOption o (HasNoPlaceBy v file request false) (IsPlaceBy v file request false)
+      by_result None none = λ there. none
+      by_result (Some span) least = least
+
   pub start_told : (o : Option Bounds) → (is_fixed request.flags && is_above_sum request.iova.0 request.length) ≡ false
       → has_ioas v.objects file request.ioas ≡ true
       → MatchOption o (HasNoPlace v file request) (IsPlace v file request) → mapped_start v file request ≡ start_of o
@@ -106,6 +126,13 @@ module _ (v : View) (file : FileNo) (request : MapRequest) where
           least_is (may_choose v file request) span.first
           (starts_to_try (choices v file request) (taken_spans v file request)) chosen.least
           (tried_below v file request span.first chosen.may)
+
+  pub lacks_nowhere : mapped_start v file request ≡ None → lacks_mapped_frames v file request ≡ false
+  lacks_nowhere none =
+      ap (λ (o : Option ℕ). elim o as (λ _. Bool) [
+        | Some s ↦ ltb v.free_count (tables_to_map v file request.ioas (span_from s request.length))
+        | None ↦ false
+      ]) none
 
   module _ (span : Bounds) (place : IsPlace v file request span) where
     pub lacks_there : mapped_start v file request ≡ Some span.first

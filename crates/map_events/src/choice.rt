@@ -5,12 +5,11 @@ ghost use Rattle.area_rows.specs.Areas.{AreKept, HasNoneFree};
 ghost use Rattle.iofd_words.specs.Allowed.{allowed_of};
 ghost use Rattle.iofd_words.specs.Checks.{has_choice, may_choose};
 ghost use Rattle.iofd_words.specs.Fits.{whole_from};
-ghost use Rattle.iofd_words.specs.Pages.{is_whole};
 ghost use Rattle.iofd_words.specs.Span.{span_from};
 ghost use Rattle.iofd_words.specs.Usable.{allowed_spans};
 ghost use Rattle.iova_ranges.specs.Gaps.{IsGap};
 ghost use Rattle.iova_ranges.specs.Ranges.{AllIn};
-ghost use Rattle.map_events.specs.Place.{IsFreeSpan, IsInTheWay, IsLeastSpan, IsOpen};
+ghost use Rattle.map_events.specs.Place.{IsFreeSpan, IsInTheWay, IsLeastSpan, IsOpen, SeeksPlace};
 ghost use Rattle.server_state.specs.Held.{areas_at};
 ghost use Rattle.server_state.specs.Seen.{seen};
 ghost use Rattle.server_state.specs.Step.{IsKnown};
@@ -57,10 +56,7 @@ pub(crate) fn may_end_last<A: Allocator>(
     request: MapRequest,
     areas: &Areas<A>,
 ) -> bool
-    requires known { IsKnown state.now }
-    requires some { (request.length == 0) ≡ false }
-    requires whole { is_whole request.length ≡ true }
-    requires here { areas_at state.now.objects.rows file request.ioas ≡ areas.now.areas }
+    requires { SeeksPlace state.now file request areas.now.areas }
     ensures { result ≡ true → has_choice (seen state.now) file request ≡ true }
 {
     let first = u64::MAX - (request.length - 1);

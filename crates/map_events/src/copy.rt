@@ -1,20 +1,19 @@
 //! COPY: the memory of an area is mapped a second time, at a fixed address or at one that the server chooses.
 
-ghost use Rattle.std.specs.Prelude.{ℕ, ◌≡◌, ◌==◌, ◌&&◌, ◌||◌, not, true, false, IfOk, OnErr};
-ghost use Rattle.std.specs.Prelude.{Option, Some, [], ◌∷◌};
+ghost use Rattle.std.specs.Prelude.{ℕ, ◌≡◌, ◌==◌, ◌&&◌, not, true, false, IfOk, OnErr, Option, Some};
+ghost use Rattle.std.specs.Prelude.{[], ◌∷◌, ◌++◌};
 ghost use Rattle.std.specs.Option.{option_copied};
-ghost use Rattle.iofd_words.specs.Areas.{has_no_room};
-ghost use Rattle.iofd_words.specs.Checks.{copy_checks, is_outside_usable, is_source_writable, lacks_choice};
-ghost use Rattle.iofd_words.specs.Checks.{lacks_copied_page, lacks_mapped_frames, overlaps, passes_limit_copied};
-ghost use Rattle.iofd_words.specs.Checks.{source_of};
+ghost use Rattle.iofd_words.specs.Checks.{copy_checks, is_source_writable, lacks_copied_page, lacks_mapped_frames};
+ghost use Rattle.iofd_words.specs.Checks.{passes_limit_copied, source_of};
 ghost use Rattle.iofd_words.specs.Copies.{placed_as, source_in};
 ghost use Rattle.iofd_words.specs.FirstTrue.{first_true};
 ghost use Rattle.iofd_words.specs.Objects.{has_ioas};
 ghost use Rattle.iofd_words.specs.Pages.{is_above_sum, is_whole};
-ghost use Rattle.iofd_words.specs.Rights.{is_fixed, is_writeable};
+ghost use Rattle.iofd_words.specs.Rights.{is_writeable};
 ghost use Rattle.iofd_words.specs.TablePlaces.{is_live};
 ghost use Rattle.iofd_words.specs.declared.event.Event.TheVariants as event;
 ghost use Rattle.iofd_words.specs.declared.numbers.FrameNo.{FrameNo};
+ghost use Rattle.map_events.specs.Place.{SeeksPlace, place_checks};
 ghost use Rattle.map_events.specs.Sources.{number_of};
 ghost use Rattle.server_state.specs.Held.{areas_at, objects_in};
 ghost use Rattle.server_state.specs.Seen.{seen};
@@ -43,13 +42,15 @@ pub fn refusal<A: Allocator>(state: &State<A>, file: FileNo, request: CopyReques
     if !placing::gives_right(request.flags) {
         return Some(Cause::NoRight);
     }
-    if is_above_sum(request.src_iova.0, request.length) || has_fixed_sum_above(request) {
+    if is_above_sum(request.src_iova.0, request.length)
+        || placing::has_fixed_sum_above(request.flags, request.dst_iova, request.length)
+    {
         return Some(Cause::Sum);
     }
     if request.length == 0 || !are_pages_of_source(request) {
         return Some(Cause::Align);
     }
-    if is_fixed_in_page(request) {
+    if placing::is_fixed_in_page(request.flags, request.dst_iova) {
         return Some(Cause::Align);
     }
     let Some(areas) = lookups::areas_of(&state.objects, file, request.dst_ioas) else {
@@ -105,14 +106,7 @@ pub fn commit<A: Allocator + Copy>(
     area_changes::reserve(&mut state.objects, file, request.dst_ioas)?;
     state.memory.objects_told();
     state.memory.share(&mut state.pool, user, number, pinned)?;
-    mapping::map_area(
-        &area,
-        pinned,
-        &state.memory,
-        &mut state.page_tables,
-        &mut state.pool,
-        taken,
-    );
+    mapping::map_area(state, &area, pinned, taken);
     area_changes::insert(&mut state.objects, file, request.dst_ioas, area);
     // Its clause says that the pool has bytes for each frame.
     let _ = state.pool.len();
@@ -130,20 +124,6 @@ fn placed_as(request: CopyRequest) -> MapRequest
         length: request.length,
         iova: request.dst_iova,
     }
-}
-
-/// Whether the target's address is fixed, and with the length above 2^64.
-fn has_fixed_sum_above(request: CopyRequest) -> bool
-    ensures { result ≡ (is_fixed request.flags && is_above_sum request.dst_iova.0 request.length) }
-{
-    placing::has_fixed_sum_above(placed_as(request))
-}
-
-/// Whether the target's address is fixed, and isn't the first of a page.
-fn is_fixed_in_page(request: CopyRequest) -> bool
-    ensures { result ≡ (is_fixed request.flags && not (is_whole request.dst_iova.0)) }
-{
-    placing::is_fixed_in_page(placed_as(request))
 }
 
 /// Whether the length and the source's address are of whole pages.
@@ -209,24 +189,12 @@ fn refusal_by_areas<A: Allocator>(
     areas: &Areas<A>,
     number: u64,
 ) -> Option<Cause>
-    requires known { IsKnown state.now }
-    requires some { (request.length == 0) ≡ false }
-    requires sum { (is_fixed request.flags && is_above_sum request.dst_iova.0 request.length) ≡ false }
-    requires whole { is_whole request.length ≡ true }
-    requires starts { (is_fixed request.flags && not (is_whole request.dst_iova.0)) ≡ false }
-    requires space { has_ioas (objects_in state.now.objects) file request.dst_ioas ≡ true }
-    requires here { areas_at state.now.objects.rows file request.dst_ioas ≡ areas.now.areas }
+    requires seeks { SeeksPlace state.now file (placed_as request) areas.now.areas }
     requires source { number_of (source_of (seen state.now) file request) ≡ Some number }
     ensures { result ≡ first_true (
         (Cause.Rights, is_writeable request.flags && not (is_source_writable (seen state.now) file request))
-        ∷ (Cause.Reserved, is_outside_usable (seen state.now) file (placed_as request))
-        ∷ (Cause.Overlap, overlaps (seen state.now) file (placed_as request))
-        ∷ (
-          Cause.Full,
-          has_no_room (areas_at state.now.objects.rows file request.dst_ioas)
-              || lacks_choice (seen state.now) file (placed_as request),
-        )
-        ∷ (Cause.Absent, lacks_copied_page (seen state.now) file request)
+        ∷ place_checks (seen state.now) file (placed_as request)
+        ++ (Cause.Absent, lacks_copied_page (seen state.now) file request)
         ∷ (Cause.Account, passes_limit_copied (seen state.now) file request)
         ∷ (Cause.Frames, lacks_mapped_frames (seen state.now) file (placed_as request))
         ∷ []) }
@@ -235,17 +203,8 @@ fn refusal_by_areas<A: Allocator>(
     if lacks_right(state, file, request, number) {
         return Some(Cause::Rights);
     }
-    if placing::is_outside_usable(state, file, placed) {
-        return Some(Cause::Reserved);
-    }
-    if placing::overlaps(placed, areas) {
-        return Some(Cause::Overlap);
-    }
-    if areas.is_full() {
-        return Some(Cause::Full);
-    }
-    if placing::lacks_choice(state, file, placed, areas) {
-        return Some(Cause::Full);
+    if let Some(cause) = placing::refusal(state, file, placed, areas) {
+        return Some(cause);
     }
     if lacks_page(state, file, request, number) {
         return Some(Cause::Absent);

@@ -1,18 +1,13 @@
 //! MAP: pages of a user's memory at a fixed address, or at one that the server chooses.
 
-ghost use Rattle.std.specs.Prelude.{◌≡◌, ◌==◌, ◌&&◌, ◌||◌, not, true, false, IfOk, OnErr, Option};
-ghost use Rattle.std.specs.Prelude.{[], ◌∷◌};
+ghost use Rattle.std.specs.Prelude.{◌≡◌, ◌&&◌, IfOk, OnErr, Option, [], ◌∷◌, ◌++◌};
 ghost use Rattle.iofd_words.specs.After.{memory_object};
-ghost use Rattle.iofd_words.specs.Areas.{areas_meet, has_no_room};
-ghost use Rattle.iofd_words.specs.Checks.{is_outside_usable, lacks_choice, lacks_mapped_frames, lacks_mapped_page};
-ghost use Rattle.iofd_words.specs.Checks.{map_checks, mapped_span, passes_limit_mapped};
+ghost use Rattle.iofd_words.specs.Checks.{lacks_mapped_frames, lacks_mapped_page, map_checks, passes_limit_mapped};
 ghost use Rattle.iofd_words.specs.FirstTrue.{first_true};
-ghost use Rattle.iofd_words.specs.Objects.{has_ioas};
-ghost use Rattle.iofd_words.specs.Pages.{is_above_sum, is_above_user, is_whole};
-ghost use Rattle.iofd_words.specs.Rights.{is_fixed};
+ghost use Rattle.iofd_words.specs.Pages.{is_above_user, is_whole};
 ghost use Rattle.iofd_words.specs.declared.event.Event.TheVariants as event;
 ghost use Rattle.iofd_words.specs.declared.numbers.FrameNo.{FrameNo};
-ghost use Rattle.server_state.specs.Held.{areas_at, objects_in};
+ghost use Rattle.map_events.specs.Place.{SeeksPlace, place_checks};
 ghost use Rattle.server_state.specs.Seen.{seen};
 ghost use Rattle.server_state.specs.Step.{IsGrantedAt, IsKnown, MovingSteps, TidyShowsSame};
 
@@ -38,13 +33,15 @@ pub fn refusal<A: Allocator>(state: &State<A>, file: FileNo, request: MapRequest
     if !placing::gives_right(request.flags) {
         return Some(Cause::NoRight);
     }
-    if is_above_sum(request.user_va, request.length) || placing::has_fixed_sum_above(request) {
+    if is_above_sum(request.user_va, request.length)
+        || placing::has_fixed_sum_above(request.flags, request.iova, request.length)
+    {
         return Some(Cause::Sum);
     }
     if request.length == 0 || !are_pages_of_user(request) {
         return Some(Cause::Align);
     }
-    if placing::is_fixed_in_page(request) {
+    if placing::is_fixed_in_page(request.flags, request.iova) {
         return Some(Cause::Align);
     }
     if is_above_user(request.user_va, request.length) {
@@ -90,14 +87,7 @@ pub fn commit<A: Allocator + Copy>(
     taken.reserve(count as usize)?;
     area_changes::reserve(&mut state.objects, file, request.ioas)?;
     state.memory.add(&mut state.pool, object, pinned)?;
-    mapping::map_area(
-        &area,
-        pinned,
-        &state.memory,
-        &mut state.page_tables,
-        &mut state.pool,
-        taken,
-    );
+    mapping::map_area(state, &area, pinned, taken);
     area_changes::insert(&mut state.objects, file, request.ioas, area);
     // Its clause says that the pool has bytes for each frame.
     let _ = state.pool.len();
@@ -123,33 +113,16 @@ fn refusal_by_areas<A: Allocator>(
     request: MapRequest,
     areas: &Areas<A>,
 ) -> Option<Cause>
-    requires known { IsKnown state.now }
-    requires some { (request.length == 0) ≡ false }
-    requires sum { (is_fixed request.flags && is_above_sum request.iova.0 request.length) ≡ false }
-    requires whole { is_whole request.length ≡ true }
-    requires starts { (is_fixed request.flags && not (is_whole request.iova.0)) ≡ false }
-    requires space { has_ioas (objects_in state.now.objects) file request.ioas ≡ true }
-    requires here { areas_at state.now.objects.rows file request.ioas ≡ areas.now.areas }
+    requires { SeeksPlace state.now file request areas.now.areas }
     ensures { result ≡ first_true (
-        (Cause.Reserved, is_outside_usable (seen state.now) file request)
-        ∷ (Cause.Overlap, is_fixed request.flags && areas_meet (mapped_span request) areas.now.areas)
-        ∷ (Cause.Full, has_no_room areas.now.areas || lacks_choice (seen state.now) file request)
-        ∷ (Cause.Absent, lacks_mapped_page (seen state.now) file request)
+        place_checks (seen state.now) file request
+        ++ (Cause.Absent, lacks_mapped_page (seen state.now) file request)
         ∷ (Cause.Account, passes_limit_mapped (seen state.now) file request)
         ∷ (Cause.Frames, lacks_mapped_frames (seen state.now) file request)
         ∷ []) }
 {
-    if placing::is_outside_usable(state, file, request) {
-        return Some(Cause::Reserved);
-    }
-    if placing::overlaps(request, areas) {
-        return Some(Cause::Overlap);
-    }
-    if areas.is_full() {
-        return Some(Cause::Full);
-    }
-    if placing::lacks_choice(state, file, request, areas) {
-        return Some(Cause::Full);
+    if let Some(cause) = placing::refusal(state, file, request, areas) {
+        return Some(cause);
     }
     if lacks_page(state, file, request) {
         return Some(Cause::Absent);

@@ -5,40 +5,36 @@ ghost use Rattle.hwpt_device.specs.OverSpans.{hwpts_over};
 ghost use Rattle.hwpt_device.specs.PageTables.{IfAllStand};
 ghost use Rattle.map_events.specs.AreaMapped.{CanMapArea, IsAreaMapped};
 
-use frame_memory::Pool;
-use hwpt_device::PageTables;
 use iofd_words::{Area, FrameNo};
+use server_state::State;
 use std::alloc::Allocator;
-use user_memory::UserMemory;
 
 /// Maps the pages of a live area in each page table over its address space: each leads to the frame at which it is
 /// pinned. The tables that these lack are in the least free frames, which are appended to `taken`, where there is room.
 /// Where no page table is over the address space nothing changes. Every other page stays, and each frame in which no
 /// table is. It takes no memory.
 pub(crate) fn map_area<A: Allocator>(
+    state: &mut State<A>,
     area: &Area,
     translated: bool,
-    memory: &UserMemory<A>,
-    page_tables: &mut PageTables<A>,
-    pool: &mut Pool<A>,
     taken: &mut Vec<FrameNo, A>,
 )
-    requires can { translated ≡ true → CanMapArea pool.old page_tables.old.tables memory.now area.now
+    requires can { translated ≡ true → CanMapArea state.old.pool state.old.page_tables.tables state.old.memory area.now
         (vec_capacity taken.old - vec_len taken.old) }
-    requires none { translated ≡ false → hwpts_over area.now.file area.now.ioas page_tables.old.tables ≡ [] }
-    ensures same { page_tables.new ≡ page_tables.old }
-    ensures mapped { IfAllStand pool.old page_tables.old.tables (IsAreaMapped memory.now area.now
-        page_tables.old.tables pool.old pool.new taken.old.items taken.new.items) }
+    requires none { translated ≡ false → hwpts_over area.now.file area.now.ioas state.old.page_tables.tables ≡ [] }
+    ensures same { state.new ≡ record state.old { pool = state.new.pool } }
+    ensures mapped { IfAllStand state.old.pool state.old.page_tables.tables (IsAreaMapped state.old.memory area.now
+        state.old.page_tables.tables state.old.pool state.new.pool taken.old.items taken.new.items) }
 {
     if translated {
         // Its last address is one of 64 bits.
         let _ = area.span.last();
-        page_tables.map(
-            pool,
+        state.page_tables.map(
+            &mut state.pool,
             area.file,
             area.ioas,
             area.span,
-            memory.frames(area.memory),
+            state.memory.frames(area.memory),
             area.rights,
             taken,
         );

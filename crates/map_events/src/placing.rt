@@ -1,24 +1,20 @@
 //! Where an area comes to lie: at a fixed address, or at one that the server chooses.
 
-ghost use Rattle.std.specs.Prelude.{◌≡◌, ◌==◌, ◌&&◌, ◌||◌, not, true, false};
-ghost use Rattle.std.specs.Prelude.{is_none, IfSome, MatchOption};
+ghost use Rattle.std.specs.Prelude.{◌≡◌, ◌==◌, ◌&&◌, ◌||◌, not, true, false, None, MatchOption};
 ghost use Rattle.iofd_words.specs.After.{mapped_area};
-ghost use Rattle.iofd_words.specs.Areas.{areas_meet};
-ghost use Rattle.iofd_words.specs.Checks.{is_outside_usable, lacks_choice, lacks_mapped_frames, mapped_span};
-ghost use Rattle.iofd_words.specs.Checks.{unusable_in};
-ghost use Rattle.iofd_words.specs.Objects.{has_ioas};
+ghost use Rattle.iofd_words.specs.Checks.{has_choice, lacks_mapped_frames, unusable_in};
+ghost use Rattle.iofd_words.specs.FirstTrue.{first_true};
 ghost use Rattle.iofd_words.specs.Pages.{is_above_sum, is_whole};
 ghost use Rattle.iofd_words.specs.Ranges.{meets_some};
 ghost use Rattle.iofd_words.specs.Rights.{is_fixed, is_readable, is_writeable};
 ghost use Rattle.iofd_words.specs.Span.{span_from};
-ghost use Rattle.map_events.specs.Place.{HasNoPlace, IsPlace};
-ghost use Rattle.server_state.specs.Held.{areas_at, objects_in};
+ghost use Rattle.map_events.specs.Place.{HasNoPlace, IsPlace, SeeksPlace, place_checks};
 ghost use Rattle.server_state.specs.Seen.{seen};
 ghost use Rattle.server_state.specs.Step.{IsKnown};
 
 use crate::choice;
 use area_map::Areas;
-use iofd_words::{Area, FileNo, MapFlags, MapRequest, PAGE_SIZE, Phase, Span};
+use iofd_words::{Area, Cause, FileNo, Iova, MapFlags, MapRequest, PAGE_SIZE, Phase, Span};
 use server_state::addresses::is_above_sum;
 use server_state::{State, lookups};
 use std::alloc::Allocator;
@@ -73,38 +69,49 @@ pub(crate) fn gives_right(flags: MapFlags) -> bool
     flags.is_readable() || flags.is_writeable()
 }
 
-/// Whether the address is fixed, and with the length above 2^64.
-pub(crate) fn has_fixed_sum_above(request: MapRequest) -> bool
-    ensures { result ≡ (is_fixed request.flags && is_above_sum request.iova.0 request.length) }
+/// Whether the flags fix the address, and with the length it is above 2^64.
+pub(crate) fn has_fixed_sum_above(flags: MapFlags, iova: Iova, length: u64) -> bool
+    ensures { result ≡ (is_fixed flags && is_above_sum iova.0 length) }
 {
-    request.flags.is_fixed() && is_above_sum(request.iova.0, request.length)
+    flags.is_fixed() && is_above_sum(iova.0, length)
 }
 
-/// Whether the address is fixed, and isn't the first of a page.
-pub(crate) fn is_fixed_in_page(request: MapRequest) -> bool
-    ensures { result ≡ (is_fixed request.flags && not (is_whole request.iova.0)) }
+/// Whether the flags fix the address, and it isn't the first of a page.
+pub(crate) fn is_fixed_in_page(flags: MapFlags, iova: Iova) -> bool
+    ensures { result ≡ (is_fixed flags && not (is_whole iova.0)) }
 {
-    request.flags.is_fixed() && request.iova.0 % PAGE_SIZE != 0
+    flags.is_fixed() && iova.0 % PAGE_SIZE != 0
 }
 
-/// Whether the address is fixed, and some of the span can't be used.
-pub(crate) fn is_outside_usable<A: Allocator>(
+/// Why there is no place for it in the address space with these areas, by the first row that holds. None where there is
+/// one.
+pub(crate) fn refusal<A: Allocator>(
     state: &State<A>,
     file: FileNo,
     request: MapRequest,
-) -> bool
-    requires known { IsKnown state.now }
-    requires some { (request.length == 0) ≡ false }
-    requires sum { (is_fixed request.flags && is_above_sum request.iova.0 request.length) ≡ false }
-    ensures { result ≡ is_outside_usable (seen state.now) file request }
+    areas: &Areas<A>,
+) -> Option<Cause>
+    requires { SeeksPlace state.now file request areas.now.areas }
+    ensures { result ≡ first_true (place_checks (seen state.now) file request) }
 {
     if !request.flags.is_fixed() {
-        return false;
+        if areas.is_full() || !has_choice(state, file, request, areas) {
+            return Some(Cause::Full);
+        }
+        return None;
     }
-    match fixed_span(request) {
-        Some(span) => is_unusable(state, file, request, span),
-        None => false,
+    // There is one: with the length the address isn't above 2^64.
+    let span = fixed_span(request)?;
+    if is_unusable(state, file, request, span) {
+        return Some(Cause::Reserved);
     }
+    if areas.meets(span) {
+        return Some(Cause::Overlap);
+    }
+    if areas.is_full() {
+        return Some(Cause::Full);
+    }
+    None
 }
 
 /// Whether some of the span can't be used.
@@ -120,58 +127,30 @@ fn is_unusable<A: Allocator>(
     state.unusable_meeting(file, request.ioas, span).is_some()
 }
 
-/// Whether the address is fixed, and the span meets an area.
-pub(crate) fn overlaps<A: Allocator>(request: MapRequest, areas: &Areas<A>) -> bool
-    requires some { (request.length == 0) ≡ false }
-    requires sum { (is_fixed request.flags && is_above_sum request.iova.0 request.length) ≡ false }
-    ensures { result ≡ (is_fixed request.flags && areas_meet (mapped_span request) areas.now.areas) }
-{
-    if !request.flags.is_fixed() {
-        return false;
-    }
-    match fixed_span(request) {
-        Some(span) => areas.meets(span),
-        None => false,
-    }
-}
-
-/// Whether an address is to be chosen in the address space with these areas, and there is none that may be. The highest
-/// addresses are asked about first, and all are searched only where these may not be chosen.
-pub(crate) fn lacks_choice<A: Allocator>(
+/// Whether some address may be chosen in the address space with these areas. The highest addresses are asked about
+/// first, and all are searched only where these may not be chosen.
+fn has_choice<A: Allocator>(
     state: &State<A>,
     file: FileNo,
     request: MapRequest,
     areas: &Areas<A>,
 ) -> bool
-    requires known { IsKnown state.now }
-    requires some { (request.length == 0) ≡ false }
-    requires whole { is_whole request.length ≡ true }
-    requires here { areas_at state.now.objects.rows file request.ioas ≡ areas.now.areas }
-    ensures { result ≡ lacks_choice (seen state.now) file request }
+    requires { SeeksPlace state.now file request areas.now.areas }
+    ensures { result ≡ has_choice (seen state.now) file request }
 {
-    if request.flags.is_fixed() {
-        return false;
-    }
-    if choice::may_end_last(state, file, request, areas) {
-        return false;
-    }
-    choice::least_span(state, file, request, areas).is_none()
+    choice::may_end_last(state, file, request, areas)
+        || choice::least_span(state, file, request, areas).is_some()
 }
 
-/// Where it comes to lie in the address space with these areas; None where an address is to be chosen, and there is
-/// none that may be.
+/// Where it comes to lie in the address space with these areas. None where there is no place.
 fn place_among<A: Allocator>(
     state: &State<A>,
     file: FileNo,
     request: MapRequest,
     areas: &Areas<A>,
 ) -> Option<Span>
-    requires known { IsKnown state.now }
-    requires some { (request.length == 0) ≡ false }
-    requires sum { (is_fixed request.flags && is_above_sum request.iova.0 request.length) ≡ false }
-    requires here { areas_at state.now.objects.rows file request.ioas ≡ areas.now.areas }
-    ensures lacks { is_none result ≡ lacks_choice (seen state.now) file request }
-    ensures place { IfSome result (IsPlace (seen state.now) file request) }
+    requires { SeeksPlace state.now file request areas.now.areas }
+    ensures { MatchOption result (HasNoPlace (seen state.now) file request) (IsPlace (seen state.now) file request) }
 {
     if request.flags.is_fixed() {
         return fixed_span(request);
@@ -187,15 +166,8 @@ pub(crate) fn lacks_frames<A: Allocator>(
     request: MapRequest,
     areas: &Areas<A>,
 ) -> bool
-    requires known { IsKnown state.now }
-    requires some { (request.length == 0) ≡ false }
-    requires sum { (is_fixed request.flags && is_above_sum request.iova.0 request.length) ≡ false }
-    requires whole { is_whole request.length ≡ true }
-    requires starts { (is_fixed request.flags && not (is_whole request.iova.0)) ≡ false }
-    requires space { has_ioas (objects_in state.now.objects) file request.ioas ≡ true }
-    requires usable { is_outside_usable (seen state.now) file request ≡ false }
-    requires here { areas_at state.now.objects.rows file request.ioas ≡ areas.now.areas }
-    requires somewhere { lacks_choice (seen state.now) file request ≡ false }
+    requires seeks { SeeksPlace state.now file request areas.now.areas }
+    requires passed { first_true (place_checks (seen state.now) file request) ≡ None }
     ensures { result ≡ lacks_mapped_frames (seen state.now) file request }
 {
     if !state.has_hwpt(file, request.ioas) {

@@ -1,5 +1,5 @@
-use Rattle.std.proofs.Common.{◌≡◌, ◌-◌, ℕ, true, false, List, Some, None, [], sym, ◌∙◌, ap, subst, arith}
-use Rattle.std.proofs.Common.{vec_capacity, vec_len}
+use Rattle.std.proofs.Common.{◌≡◌, ◌-◌, ℕ, true, false, List, Some, None, [], sym, ◌∙◌, ap}
+use Rattle.std.proofs.Common.{subst, arith, vec_capacity, vec_len}
 use Rattle.iofd_runs.proofs.CopySource.{copy_source}
 use Rattle.iofd_runs.proofs.NotRefused.{copy_place}
 use Rattle.iofd_words.specs.After.{mapped_area}
@@ -29,6 +29,7 @@ use Rattle.server_state.proofs.ViewShown.{same_view}
 use Rattle.server_state.specs.Choice.{IsLeastMapped}
 use Rattle.server_state.specs.Seen.{seen}
 use Rattle.server_state.specs.Step.{IsKnown}
+use Rattle.server_state.specs.declared.state.State.{State}
 use Rattle.map_events.proofs.copy.commit.Goals as goal
 
 pub returns-in_default-clause-ok : goal.returns-in_default-clause-ok
@@ -168,6 +169,7 @@ returns-clause-ok g c = λ at via w tidy shows none may.
     let span = c.in-Some-place_of.span in
     let number = c.in-Some-source_number.number in
     let taken = c.map_area.new.taken.items in
+    let state = c.map_area.new.state in
     let new_area : Area = mapped_area number file (placed_as request) (record { 0 = span.first }) in
     let area_is = rw c.placed_as-placed.ensures at c.mapped_area-area.ensures in
     let place : IsPlace (seen s) file (placed_as request) span =
@@ -178,10 +180,10 @@ returns-clause-ok g c = λ at via w tidy shows none may.
     let first : span.first ≡ c.first.result = sym c.first.ensures.value in
     let mapped =
     subst (λ (old : List FrameNo). IfAllStand c.share.new.pool s.page_tables.tables
-    (IsAreaMapped c.share.new.self new_area s.page_tables.tables c.share.new.pool c.map_area.new.pool old
+    (IsAreaMapped c.share.new.self new_area s.page_tables.tables c.share.new.pool state.pool old
     taken)) (c.reserve.ensures.items ∙ c.requires.empty)
     (subst (λ (a : Area). IfAllStand c.share.new.pool s.page_tables.tables
-    (IsAreaMapped c.share.new.self a s.page_tables.tables c.share.new.pool c.map_area.new.pool
+    (IsAreaMapped c.share.new.self a s.page_tables.tables c.share.new.pool state.pool
     c.reserve.new.self.items taken)) area_is c.map_area.ensures.mapped) in
     let over = is_over w file request number none
     (ap (λ (areas : List Area). number_of (source_in areas request)) (shows.objects.spaces file request.src_ioas)
@@ -191,19 +193,16 @@ returns-clause-ok g c = λ at via w tidy shows none may.
     c.has_hwpt-pinned.result none at_place over
     c.has_hwpt-pinned.ensures c.in_ok-share.ensures.share c.in_ok-share.ensures.settles
     (enough_there c.requires.granted.at s file request c.requires.granted.granted span place number)
-    c.insert.new.table c.map_area.new.page_tables c.map_area.new.pool taken c.map_area.ensures.same
-    mapped c.len.ensures.bytes
+    c.insert.new.table state.pool taken mapped c.len.ensures.bytes
     (λ orderly. area_taken w s file (placed_as request) tidy.tabled shows rows number
     (record { 0 = span.first }) at_place (λ space free.
     area_comes s.objects c.reserve-2.new.table c.insert.new.table file request.dst_ioas new_area orderly space free
-    c.reserve-2.ensures.areas c.in_ok-reserve-2.ensures.ok (rw area_is at c.insert.ensures))) in
+    c.reserve-2.ensures.areas c.in_ok-reserve-2.ensures.ok
+    (rw (area_is, ap (λ (t : State _). t.objects) c.map_area.ensures.same) at c.insert.ensures))) in
     let moved = subst (λ (n : ℕ). IsCopiedAs at w file request (record { 0 = n }) taken
-    (record s {
-      objects = c.insert.new.table;
-      page_tables = c.map_area.new.page_tables;
-      memory = c.share.new.self;
-      pool = c.map_area.new.pool;
-    })) first shown in (
+    (record state { objects = c.insert.new.table })) first
+    (subst (λ (t : State _). IsCopiedAs at w file request (record { 0 = span.first }) taken
+    (record t { objects = c.insert.new.table })) (sym c.map_area.ensures.same) shown) in (
       subst (λ (n : ℕ). IsMappedAt w file (placed_as request) (is_fixed request.flags) (record { 0 = n })) first
           at_place,
       subst (λ (n : ℕ). IsLeastMapped w file (placed_as request) (is_fixed request.flags)

@@ -123,28 +123,17 @@ source_in-requires-clause-some g c = some c.args.request.length c.if-request-eq0
 pub source_in-requires-clause-sum : goal.source_in-requires-clause-sum
 source_in-requires-clause-sum g c = sym c.is_above_sum.ensures ∙ c.if-is_above_sum.false
 
-pub refusal_by_areas-requires-clause-known : goal.refusal_by_areas-requires-clause-known
-refusal_by_areas-requires-clause-known g c = c.requires
-
-pub refusal_by_areas-requires-clause-some : goal.refusal_by_areas-requires-clause-some
-refusal_by_areas-requires-clause-some g c = some c.args.request.length c.if-request-eq0.false
-
-pub refusal_by_areas-requires-clause-sum : goal.refusal_by_areas-requires-clause-sum
-refusal_by_areas-requires-clause-sum g c = sym c.has_fixed_sum_above.ensures ∙ c.if-has_fixed_sum_above.false
-
-pub refusal_by_areas-requires-clause-whole : goal.refusal_by_areas-requires-clause-whole
-refusal_by_areas-requires-clause-whole g c =
-    (and_true (is_whole c.args.request.length) (is_whole c.args.request.src_iova.0)
-    (sym c.are_pages_of_source.ensures ∙ c.if-not-are_pages_of_source.false)).0
-
-pub refusal_by_areas-requires-clause-starts : goal.refusal_by_areas-requires-clause-starts
-refusal_by_areas-requires-clause-starts g c = sym c.is_fixed_in_page.ensures ∙ c.if-is_fixed_in_page.false
-
-pub refusal_by_areas-requires-clause-space : goal.refusal_by_areas-requires-clause-space
-refusal_by_areas-requires-clause-space g c = c.in-Some.ensures.0
-
-pub refusal_by_areas-requires-clause-here : goal.refusal_by_areas-requires-clause-here
-refusal_by_areas-requires-clause-here g c = c.in-Some.ensures.1
+pub refusal_by_areas-requires-clause-seeks : goal.refusal_by_areas-requires-clause-seeks
+refusal_by_areas-requires-clause-seeks g c = record {
+  known = c.requires;
+  some = some c.args.request.length c.if-request-eq0.false;
+  sum = sym c.has_fixed_sum_above.ensures ∙ c.if-has_fixed_sum_above.false;
+  whole = (and_true (is_whole c.args.request.length) (is_whole c.args.request.src_iova.0)
+      (sym c.are_pages_of_source.ensures ∙ c.if-not-are_pages_of_source.false)).0;
+  starts = sym c.is_fixed_in_page.ensures ∙ c.if-is_fixed_in_page.false;
+  space = c.in-Some.ensures.0;
+  here = c.in-Some.ensures.1;
+}
 
 pub refusal_by_areas-requires-clause-source : goal.refusal_by_areas-requires-clause-source
 refusal_by_areas-requires-clause-source g c =

@@ -1,4 +1,5 @@
-use Rattle.std.proofs.Common.{◌≡◌, ◌-◌, ℕ, true, false, None, List, [], subst, sym, ◌∙◌, arith, vec_capacity, vec_len}
+use Rattle.std.proofs.Common.{◌≡◌, ◌-◌, ℕ, true, false, None, List, [], ap, subst, sym, ◌∙◌}
+use Rattle.std.proofs.Common.{arith, vec_capacity, vec_len}
 use Rattle.iofd_words.specs.Checks.{has_pages}
 use Rattle.iofd_words.specs.Frames.{frame_at}
 use Rattle.iofd_words.specs.Pages.{page_of}
@@ -32,6 +33,7 @@ use Rattle.map_events.proofs.AreaPlaced.{shows_unmapped}
 use Rattle.map_events.proofs.MapAsks.{limit_kept, pages_there, placed, rising, some_length, whole_va, within_user}
 use Rattle.map_events.proofs.Mapped.{IsMappedAs, shows_mapped}
 use Rattle.map_events.proofs.PlaceAsks.{span_usable, span_whole}
+use Rattle.server_state.specs.declared.state.State.{State}
 use Rattle.map_events.proofs.map.commit.Goals as goal
 
 pub returns-in_default-clause-ok : goal.returns-in_default-clause-ok
@@ -167,6 +169,7 @@ returns-clause-ok g c = λ via w tidy shows none may.
     let span = c.in-Some-place_of.span in
     let user = c.in-Some.user in
     let taken = c.map_area.new.taken.items in
+    let state = c.map_area.new.state in
     let new_area : Area = mapped_area c.args.at file request (record { 0 = span.first }) in
     let is_user = sym c.user_of.ensures.value ∙ c.in-Some.is in
     let place : IsPlace (seen s) file request span = rw c.in-Some-place_of.is at c.place_of.ensures in
@@ -175,10 +178,10 @@ returns-clause-ok g c = λ via w tidy shows none may.
     let first : span.first ≡ c.first.result = sym c.first.ensures.value in
     let mapped =
     subst (λ (old : List FrameNo). IfAllStand c.add.new.pool s.page_tables.tables
-    (IsAreaMapped c.add.new.self new_area s.page_tables.tables c.add.new.pool c.map_area.new.pool old taken))
+    (IsAreaMapped c.add.new.self new_area s.page_tables.tables c.add.new.pool state.pool old taken))
     (c.reserve.ensures.items ∙ c.requires.empty)
     (subst (λ (a : Area). IfAllStand c.add.new.pool s.page_tables.tables
-    (IsAreaMapped c.add.new.self a s.page_tables.tables c.add.new.pool c.map_area.new.pool
+    (IsAreaMapped c.add.new.self a s.page_tables.tables c.add.new.pool state.pool
     c.reserve.new.self.items taken)) c.mapped_area-area.ensures c.map_area.ensures.mapped) in
     let shown =
     shows_mapped c.args.at w s tidy shows file request (record { 0 = span.first }) user c.insert.new.table
@@ -186,18 +189,17 @@ returns-clause-ok g c = λ via w tidy shows none may.
     c.has_hwpt-pinned.ensures (rw c.memory_object-object.ensures at c.in_ok-add.ensures.object)
     c.in_ok-add.ensures.settles
     (enough_there c.args.at s file request user c.requires.granted is_user span place)
-    c.map_area.new.page_tables c.map_area.new.pool taken c.map_area.ensures.same mapped c.len.ensures.bytes
+    state.pool taken mapped c.len.ensures.bytes
     (λ orderly. area_taken w s file request tidy.tabled shows (map_place (view w) file request none) c.args.at
     (record { 0 = span.first }) at_place (λ space free.
     area_comes s.objects c.reserve-2.new.table c.insert.new.table file request.ioas new_area orderly space free
-    c.reserve-2.ensures.areas c.in_ok-reserve-2.ensures.ok (rw c.mapped_area-area.ensures at c.insert.ensures))) in
+    c.reserve-2.ensures.areas c.in_ok-reserve-2.ensures.ok
+    (rw (c.mapped_area-area.ensures, ap (λ (t : State _). t.objects) c.map_area.ensures.same)
+    at c.insert.ensures))) in
     let moved = subst (λ (n : ℕ). IsMappedAs c.args.at w file request (record { 0 = n }) taken
-    (record s {
-      objects = c.insert.new.table;
-      page_tables = c.map_area.new.page_tables;
-      memory = c.add.new.self;
-      pool = c.map_area.new.pool;
-    })) first shown in (
+    (record state { objects = c.insert.new.table })) first
+    (subst (λ (t : State _). IsMappedAs c.args.at w file request (record { 0 = span.first }) taken
+    (record t { objects = c.insert.new.table })) (sym c.map_area.ensures.same) shown) in (
       subst (λ (n : ℕ). IsMappedAt w file request (is_fixed request.flags) (record { 0 = n })) first at_place,
       subst (λ (n : ℕ). IsLeastMapped w file request (is_fixed request.flags) (reply.Iova (record { 0 = n }))) first
           least_place,

@@ -91,28 +91,17 @@ returns-in_default g c =
     (sym c.is_above_user.ensures ∙ c.if-is_above_user.false)
     c.in_default.ensures
 
-pub refusal_by_areas-requires-clause-known : goal.refusal_by_areas-requires-clause-known
-refusal_by_areas-requires-clause-known g c = c.requires
-
-pub refusal_by_areas-requires-clause-some : goal.refusal_by_areas-requires-clause-some
-refusal_by_areas-requires-clause-some g c = some_length c.args.request.length c.if-request-eq0.false
-
-pub refusal_by_areas-requires-clause-sum : goal.refusal_by_areas-requires-clause-sum
-refusal_by_areas-requires-clause-sum g c = sym c.has_fixed_sum_above.ensures ∙ c.if-has_fixed_sum_above.false
-
-pub refusal_by_areas-requires-clause-whole : goal.refusal_by_areas-requires-clause-whole
-refusal_by_areas-requires-clause-whole g c =
-    (and_true (is_whole c.args.request.length) (is_whole c.args.request.user_va)
-    (sym c.are_pages_of_user.ensures ∙ c.if-not-are_pages_of_user.false)).0
-
-pub refusal_by_areas-requires-clause-starts : goal.refusal_by_areas-requires-clause-starts
-refusal_by_areas-requires-clause-starts g c = sym c.is_fixed_in_page.ensures ∙ c.if-is_fixed_in_page.false
-
-pub refusal_by_areas-requires-clause-space : goal.refusal_by_areas-requires-clause-space
-refusal_by_areas-requires-clause-space g c = c.in-Some.ensures.0
-
-pub refusal_by_areas-requires-clause-here : goal.refusal_by_areas-requires-clause-here
-refusal_by_areas-requires-clause-here g c = c.in-Some.ensures.1
+pub refusal_by_areas-requires : goal.refusal_by_areas-requires
+refusal_by_areas-requires g c = record {
+  known = c.requires;
+  some = some_length c.args.request.length c.if-request-eq0.false;
+  sum = sym c.has_fixed_sum_above.ensures ∙ c.if-has_fixed_sum_above.false;
+  whole = (and_true (is_whole c.args.request.length) (is_whole c.args.request.user_va)
+      (sym c.are_pages_of_user.ensures ∙ c.if-not-are_pages_of_user.false)).0;
+  starts = sym c.is_fixed_in_page.ensures ∙ c.if-is_fixed_in_page.false;
+  space = c.in-Some.ensures.0;
+  here = c.in-Some.ensures.1;
+}
 
 pub returns : goal.returns
 returns g c =
@@ -126,5 +115,4 @@ returns g c =
     (sym c.are_pages_of_user.ensures ∙ c.if-not-are_pages_of_user.false)
     (sym c.is_fixed_in_page.ensures ∙ c.if-is_fixed_in_page.false)
     (sym c.is_above_user.ensures ∙ c.if-is_above_user.false)
-    c.in-Some.ensures.0
-    c.in-Some.areas.now.areas c.in-Some.ensures.1)
+    c.in-Some.ensures.0)

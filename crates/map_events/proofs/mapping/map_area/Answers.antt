@@ -8,12 +8,12 @@ returns-then-translated-clause-mapped g c = λ frames leads all.
     let can = c.requires.can c.if-translated.true in
     let area = c.args.area.now in
     let ordered : area.span.first ≤ area.span.last = omega (arith, c.last.ensures.value, c.last.ensures.ordered) in
-    let long = as_long c.args.memory.now area c.frames.result.now ordered can.whole can.object can.found can.size
+    let long = as_long c.args.state.now.memory area c.frames.result.now ordered can.whole can.object can.found can.size
     (c.frames.ensures.count can.pins) in
-    let told = area_mapped c.args.memory.now area c.frames.result.now can.live ordered can.whole
+    let told = area_mapped c.args.state.now.memory area c.frames.result.now can.live ordered can.whole
     c.frames.ensures.each long leads in
     record {
-      stand = c.map.ensures.stand frames leads all (area_leads c.args.memory.now area leads) told;
+      stand = c.map.ensures.stand frames leads all (area_leads c.args.state.now.memory area leads) told;
       others = c.map.ensures.others frames leads all;
       holds = c.map.ensures.holds frames leads all;
       out = c.map.ensures.out frames leads all;
@@ -21,5 +21,6 @@ returns-then-translated-clause-mapped g c = λ frames leads all.
 
 pub returns-else-translated-clause-mapped : goal.returns-else-translated-clause-mapped
 returns-else-translated-clause-mapped g c =
-    none_mapped c.args.memory.now c.args.area.now c.args.page_tables.now.tables c.args.pool.now c.args.taken.now.items
+    let s = c.args.state.now in
+    none_mapped s.memory c.args.area.now s.page_tables.tables s.pool c.args.taken.now.items
     (c.requires.none c.if-translated.false)
