@@ -41,77 +41,35 @@ pub fn answer_step<A: Allocator + Copy>(
         Step::Close(file) => Event::Close(*file),
         Step::UserMap(user, va) => Event::UserMap(*user, *va),
         Step::UserUnmap(user, va) => Event::UserUnmap(*user, *va),
-        Step::UserRead(user, va, len) => return answer_user_read(core, *user, *va, *len, out),
-        Step::UserWrite(user, va, bytes) => {
-            return answer_user_write(core, *user, *va, bytes, out);
+        Step::UserRead(user, va, len) => {
+            let query = Query::UserRead {
+                user: *user,
+                va: *va,
+                len: *len,
+            };
+            return answer_query(core, &query, out);
         }
+        Step::UserWrite(user, va, bytes) => Event::UserWrite(*user, *va, bytes.burst()),
         Step::Bind(file, device) => Event::Bind(*file, *device),
         Step::Unbind(file, id) => Event::Unbind(*file, *id),
         Step::Attach(device, pt_id) => Event::Attach(*device, *pt_id),
         Step::Detach(device) => Event::Detach(*device),
         Step::Flush(device) => Event::Flush(*device),
         Step::DeviceRead(device, iova, len) => {
-            return answer_device_read(core, *device, *iova, *len, out);
+            let query = Query::DeviceRead {
+                device: *device,
+                iova: *iova,
+                len: *len,
+            };
+            return answer_query(core, &query, out);
         }
         Step::DeviceWrite(device, iova, bytes) => {
-            return answer_device_write(core, *device, *iova, bytes, out);
+            Event::DeviceWrite(*device, *iova, bytes.burst())
         }
         Step::FreeFrames => return answer_query(core, &Query::FreeFrames, out),
         Step::Held(user) => return answer_query(core, &Query::Held(*user), out),
     };
     answer_event(core, event, out)
-}
-
-// The line for a user's read. Each kind of access has a function of its own, so that no other step pays for its values.
-fn answer_user_read<A: Allocator>(
-    core: &Core<A>,
-    user: UserNo,
-    va: u64,
-    len: u8,
-    out: &mut Line,
-) -> Option<Vec<u8, A>>
-    ensures { IsAsked core.now (query.UserRead user va len) (text_of result out.new) core.now }
-{
-    answer_query(core, &Query::UserRead { user, va, len }, out)
-}
-
-// The line for a user's write.
-fn answer_user_write<A: Allocator + Copy>(
-    core: &mut Core<A>,
-    user: UserNo,
-    va: u64,
-    bytes: &AccessBytes<'_>,
-    out: &mut Line,
-) -> Option<Vec<u8, A>>
-    ensures { IsApplied core.old (event.UserWrite user va bytes.now) (text_of result out.new) core.new }
-{
-    answer_event(core, Event::UserWrite(user, va, bytes.burst()), out)
-}
-
-// The line for a device's read.
-fn answer_device_read<A: Allocator>(
-    core: &Core<A>,
-    device: DeviceNo,
-    iova: Iova,
-    len: u8,
-    out: &mut Line,
-) -> Option<Vec<u8, A>>
-    ensures { IsAsked core.now (query.DeviceRead device iova len) (text_of result out.new) core.now }
-{
-    answer_query(core, &Query::DeviceRead { device, iova, len }, out)
-}
-
-// The line for a device's write.
-fn answer_device_write<A: Allocator + Copy>(
-    core: &mut Core<A>,
-    device: DeviceNo,
-    iova: Iova,
-    bytes: &AccessBytes<'_>,
-    out: &mut Line,
-) -> Option<Vec<u8, A>>
-    ensures { IsApplied core.old (event.DeviceWrite device iova bytes.now) (text_of result out.new) core.new }
-{
-    answer_event(core, Event::DeviceWrite(device, iova, bytes.burst()), out)
 }
 
 // The line for an event: always a short one.

@@ -1,24 +1,18 @@
 use Rattle.iommufd_cli.proofs.steps.answer_step.Goals as goal
-use Rattle.iommufd_cli.proofs.steps.answer_step.Goals.{in-Close, in-UserMap, in-UserUnmap, in-Bind, in-Unbind}
-use Rattle.iommufd_cli.proofs.steps.answer_step.Goals.{in-Attach, in-Detach, in-Flush}
+use Rattle.iommufd_cli.proofs.steps.answer_step.Goals.{in-Close, in-UserMap, in-UserUnmap, in-UserWrite, in-Bind}
+use Rattle.iommufd_cli.proofs.steps.answer_step.Goals.{in-Unbind, in-Attach, in-Detach, in-Flush, in-DeviceWrite}
 
 pub returns-in-Ioctl : goal.returns-in-Ioctl
 returns-in-Ioctl g c = rw c.in-Ioctl.is c.answer_ioctl.ensures
 
 pub returns-in-UserRead : goal.returns-in-UserRead
-returns-in-UserRead g c = rw c.in-UserRead.is c.answer_user_read.ensures
-
-pub returns-in-UserWrite : goal.returns-in-UserWrite
-returns-in-UserWrite g c = rw c.in-UserWrite.is c.answer_user_write.ensures
+returns-in-UserRead g c = rw c.in-UserRead.is c.answer_query.ensures
 
 pub returns-in-DeviceRead : goal.returns-in-DeviceRead
-returns-in-DeviceRead g c = rw c.in-DeviceRead.is c.answer_device_read.ensures
-
-pub returns-in-DeviceWrite : goal.returns-in-DeviceWrite
-returns-in-DeviceWrite g c = rw c.in-DeviceWrite.is c.answer_device_write.ensures
+returns-in-DeviceRead g c = rw c.in-DeviceRead.is c.answer_query-in-DeviceRead.ensures
 
 pub returns-in-FreeFrames : goal.returns-in-FreeFrames
-returns-in-FreeFrames g c = rw c.in-FreeFrames.is c.answer_query.ensures
+returns-in-FreeFrames g c = rw c.in-FreeFrames.is c.answer_query-in-FreeFrames.ensures
 
 pub returns-in-Held : goal.returns-in-Held
 returns-in-Held g c = rw c.in-Held.is c.answer_query-in-Held.ensures
@@ -28,9 +22,12 @@ returns g c = elim c.match-step.branch [
   | in-Close w ↦ rw w.in-Close.is (rw w.event-is at c.answer_event.ensures)
   | in-UserMap w ↦ rw w.in-UserMap.is (rw w.event-is at c.answer_event.ensures)
   | in-UserUnmap w ↦ rw w.in-UserUnmap.is (rw w.event-is at c.answer_event.ensures)
+  | in-UserWrite w ↦ rw w.in-UserWrite.is (rw (w.event-is, w.burst.ensures) at c.answer_event.ensures)
   | in-Bind w ↦ rw w.in-Bind.is (rw w.event-is at c.answer_event.ensures)
   | in-Unbind w ↦ rw w.in-Unbind.is (rw w.event-is at c.answer_event.ensures)
   | in-Attach w ↦ rw w.in-Attach.is (rw w.event-is at c.answer_event.ensures)
   | in-Detach w ↦ rw w.in-Detach.is (rw w.event-is at c.answer_event.ensures)
   | in-Flush w ↦ rw w.in-Flush.is (rw w.event-is at c.answer_event.ensures)
+  | in-DeviceWrite w ↦ rw w.in-DeviceWrite.is
+      (rw (w.event-is, w.burst-in-DeviceWrite.ensures) at c.answer_event.ensures)
 ]
