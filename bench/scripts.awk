@@ -75,8 +75,8 @@ function refused_alloc(    i) {
     for (i = 0; i < count; i++) alloc(9)
 }
 
-# Pages are given to the user and mapped, and three tables lead to them; then in turn a umap of a page that the user has,
-# which is refused, and a read of 64 bytes of it, which passes. One page after the other.
+# Pages are given to the user and mapped, and three tables lead to them; then in turn a umap of a page that the user
+# has, which is refused, and a read of 64 bytes of it, which passes. One page after the other.
 function umap_and_dread(    i, page) {
     head(size + 3)
     alloc(1)

@@ -1,5 +1,5 @@
-//! Tests of `area_map` (`areas`) and `iova_ranges` (`ranges`, `ranges_memory`) through public calls, and of want of memory
-//! in both (`heaps`). As many areas as may be come and go in a script.
+//! Tests of `area_map` (`areas`) and `iova_ranges` (`ranges`, `ranges_memory`) through public calls, and of want of
+//! memory in both (`heaps`). As many areas as may be come and go in a script.
 #![tactic(auto)]
 
 #[cfg(test)]

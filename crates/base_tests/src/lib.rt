@@ -1,6 +1,6 @@
 //! Tests of what stands lowest, through public calls: of `iofd_words` (`words`), `object_table` (`objects`) and
-//! `frame_memory` (`frames`), and of want of memory in these (`heaps`). Objects and pages that come and go, and accounts,
-//! are shown by scripts.
+//! `frame_memory` (`frames`), and of want of memory in these (`heaps`). Scripts show objects and pages that come and
+//! go, and accounts.
 #![tactic(auto)]
 
 #[cfg(test)]

@@ -19,8 +19,8 @@ const DESTROY: &[u8] = b"\x08\0\0\0\x01\0\0\0";
 
 const ALLOC: &[u8] = b"\x0c\0\0\0\0\0\0\0\0\0\0\0";
 
-const ALLOW: &[u8] =
-    b"\x18\0\0\0\x01\0\0\0\x02\0\0\0\0\0\0\0\0\0\0\0\0\0\0\0\0\x10\0\0\0\0\0\0\xff\xff\xff\xff\xff\xff\xff\xff\x01\x02\x03\x04\x05\x06\x07\x08\x02\0\0\0\0\0\0\0";
+const ALLOW: &[u8] = b"\x18\0\0\0\x01\0\0\0\x02\0\0\0\0\0\0\0\0\0\0\0\0\0\0\0\
+      \0\x10\0\0\0\0\0\0\xff\xff\xff\xff\xff\xff\xff\xff\x01\x02\x03\x04\x05\x06\x07\x08\x02\0\0\0\0\0\0\0";
 
 const ALLOW_ALL: &[u8] = b"\x18\0\0\0\x05\0\0\0\0\0\0\0\0\0\0\0\0\0\0\0\0\0\0\0";
 
@@ -220,8 +220,8 @@ fn replies_are_written_back(rt: HostRuntime) {
     }
 }
 
-const WRITTEN_RANGES: &[u8] =
-    b"\x20\0\0\0\x01\0\0\0\x02\0\0\0\0\0\0\0\0\0\0\0\0\0\0\0\0\x10\0\0\0\0\0\0\0\0\0\0\0\0\0\0\xff\xff\xdf\xfe\0\0\0\0\0\0\xf0\xfe\0\0\0\0\xff\xff\xff\xff\x7f\0\0\0";
+const WRITTEN_RANGES: &[u8] = b"\x20\0\0\0\x01\0\0\0\x02\0\0\0\0\0\0\0\0\0\0\0\0\0\0\0\
+      \0\x10\0\0\0\0\0\0\0\0\0\0\0\0\0\0\xff\xff\xdf\xfe\0\0\0\0\0\0\xf0\xfe\0\0\0\0\xff\xff\xff\xff\x7f\0\0\0";
 
 // Whether so many bytes are written for two ranges, where there are so many places.
 fn are_ranges_written(alloc: Global, places: u32, count: usize) -> bool {

@@ -1,6 +1,6 @@
-//! Tests of hardware page tables (`tables`), and of how many the largest area needs (`counts`), through public calls. What
-//! other spans of pages take is shown by scripts. They stand here, since the gate proves a crate that has tests once more
-//! for them.
+//! Tests of hardware page tables (`tables`), and of how many the largest area needs (`counts`), through public calls.
+//! Scripts show what other spans of pages take. The tests stand here, since the gate proves a crate that has tests once
+//! more for them.
 #![tactic(auto)]
 
 #[cfg(test)]

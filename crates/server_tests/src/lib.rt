@@ -1,5 +1,5 @@
-//! Tests of the server through public calls: of the core, whose growths are refused in turn (`growth`, by the scripts of
-//! `scripts`), and of sessions over readers and writers that fail (`session`, `lines`).
+//! Tests of the server through public calls: of the core, whose growths are refused in turn (`growth`, by the scripts
+//! of `scripts`), and of sessions over readers and writers that fail (`session`, `lines`).
 #![tactic(auto)]
 
 #[cfg(test)]

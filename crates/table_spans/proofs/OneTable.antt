@@ -121,7 +121,8 @@ one_table level first (area ∷ areas) apart whole is live none =
     let head = All-head (λ (a : Area). is_whole_pages a.span ≡ true) area areas whole in
     let page = page_of area.span.first in
     let lives : is_live area.phase ≡ true = ap (λ (a : Area). is_live a.phase) same ∙ live in
-    let none_behind = ap (λ (a : Area). find (ends_from ((number_at level (page_of a.span.first) + 1) * 2 ^ (9 * level) * 4096))
+    let none_behind = ap (λ (a : Area). find
+    (ends_from ((number_at level (page_of a.span.first) + 1) * 2 ^ (9 * level) * 4096))
     (area ∷ areas)) same ∙ none in
     let others = range_with_len (page + 1) (further area.span) ++ live_pages areas in
     let pages : live_pages (area ∷ areas) ≡ page ∷ others =

@@ -29,7 +29,8 @@ returns c =
     let next : (c.number.result + 1) * 2 ^ (9 * level + 12) ≡ (number_at level page + 1) * size * 4096 =
     ap (λ (n : ℕ). (n + 1) * 2 ^ (9 * level + 12)) is ∙ ap (λ (n : ℕ). (number_at level page + 1) * n) whole
     ∙ apart (number_at level page + 1) size in
-    let more : (number_at level page + 1) * size ≡ number_at level page * size + size = parted (number_at level page) size in
+    let more : (number_at level page + 1) * size ≡ number_at level page * size + size =
+    parted (number_at level page) size in
     let low = c.requires.low in
     ap (λ (n : ℕ). n % 18446744073709551616) next
     ∙ mod-eq_of_lt (omega (arith, more, front, most, low))
