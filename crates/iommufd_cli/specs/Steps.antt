@@ -45,9 +45,9 @@ module _ {A : Type 0} where
     pub same : after.history ≡ s.history
     pub text_is : text ≡ line memory_text
 
-  -- memory was wanting for the bytes of an ioctl: nothing changes
+  -- memory was wanting for the bytes of an ioctl, more than are decoded in place: nothing changes
   pub record IsUnread (s : Server A) (bytes text : List ℕ) (after : Server A) : Type 0 where
-    pub some : 0 < length bytes
+    pub long : 64 < length bytes
     pub same : after ≡ s
     pub text_is : text ≡ line memory_text
 

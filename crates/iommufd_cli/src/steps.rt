@@ -151,6 +151,7 @@ fn answer_long_ioctl<A: Allocator + Copy>(
     bytes: &HexBytes<'_>,
     out: &mut Line,
 ) -> Option<Vec<u8, A>>
+    requires { 64 < length bytes.now }
     ensures { IsIoctl core.old file number bytes.now (text_of result out.new) core.new }
 {
     match bytes.to_vec(alloc) {
