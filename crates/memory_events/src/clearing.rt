@@ -11,7 +11,8 @@ use iofd_words::{Area, FileNo, ObjId, PAGE_SIZE, Phase};
 use std::alloc::Allocator;
 
 /// The pages of those of these areas that are live are cleared in each page table over the address space. A leaving
-/// area's pages already are. Every other page stays, and each frame in which no table is. It takes no memory.
+/// area's pages already are. Every other page stays, and each frame in which no table is. It takes no memory, and looks
+/// at no area where no page table is over the address space.
 pub(crate) fn clear<A: Allocator>(
     areas: Iter<'_, A>,
     file: FileNo,
@@ -24,27 +25,11 @@ pub(crate) fn clear<A: Allocator>(
     ensures cleared { Clears file ioas areas.entry page_tables.old.tables pool.old pool.new }
     ensures bytes { length pool.new.bytes ≡ length pool.new.holds }
 {
-    clear_own(areas, file, ioas, page_tables, pool);
+    if page_tables.has_over(file, ioas) {
+        clear_areas(areas, file, ioas, page_tables, pool);
+    }
     // A pool has the bytes of each of its frames.
     let _ = pool.len();
-}
-
-/// The same, but for what any pool has. Where no page table is over the address space the areas aren't looked at.
-fn clear_own<A: Allocator>(
-    areas: Iter<'_, A>,
-    file: FileNo,
-    ioas: ObjId,
-    page_tables: &mut PageTables<A>,
-    pool: &mut Pool<A>,
-)
-    requires { CanClear pool.old page_tables.old.tables file ioas areas }
-    ensures same { page_tables.new ≡ page_tables.old }
-    ensures cleared { Clears file ioas areas.entry page_tables.old.tables pool.old pool.new }
-{
-    if !page_tables.has_over(file, ioas) {
-        return;
-    }
-    clear_areas(areas, file, ioas, page_tables, pool);
 }
 
 /// The pages of these areas are cleared.
