@@ -223,12 +223,6 @@ module _ (pool : FramePool) (tables : List Hwpt) (file : FileNo) (id : ObjId) (n
           rising = λ i j d below within. absurd (omega (arith, within));
         })
 
-    pub releases_none : IfAllStand pool tables
-        (λ frames leads. Releases (rows_found frames (hwpt_of tables file id)) pool pool)
-    releases_none = λ frames leads stand.
-        subst (λ (rows : List TableRow). Releases rows pool pool) (sym (no_rows frames))
-        (record { free = λ frame named. cc; others = λ frame other. refl; bytes = refl; count = refl })
-
     pub stand_none : (after : List Hwpt) → after ≡ without_hwpt file id tables
         → IfAllStand pool tables (λ frames leads. AllStand pool (without_tables file id frames) leads after)
     stand_none after is = λ frames leads stand.

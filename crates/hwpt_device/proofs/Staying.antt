@@ -1,19 +1,18 @@
 -- What is done to other frames leaves all page tables as they were.
 use Rattle.std.proofs.Common.{◌≡◌, ◌≢◌, ℕ, ◌+◌, ◌<◌, ◌≤◌, Bool, true, false, cond, eqb, Option, List, [], ◌∷◌, map}
-use Rattle.std.proofs.Common.{length, ⊎_elim, refl, ap, sym, ◌∙◌, arith}
+use Rattle.std.proofs.Common.{⊎_elim, refl, ap, sym, ◌∙◌, arith}
 use Rattle.std.specs.List.{filter}
 use Rattle.std.specs.Int.{from_le_bytes, w64}
 use Rattle.std.proofs.lemmas.Bool.{cases_lt}
 use Rattle.std.proofs.lemmas.List.Sums.{sum_by-cons}
 use Rattle.std.proofs.lemmas.List.{get_or-set_other}
-use Rattle.std.specs.List.{splice}
 use Rattle.std.specs.Prelude.{◌*◌, slice_index, slice_range}
 use Rattle.iofd_rows.proofs.Each.{IsIn}
 use Rattle.iofd_words.specs.Levels.{levels_of}
 use Rattle.iofd_words.specs.TablePlaces.{is_table_of}
 use Rattle.iofd_words.specs.declared.rows.Object.{Object}
 use Rattle.iofd_words.specs.declared.rows.TableFrame.{TableFrame}
-use Rattle.frame_memory.specs.Pool.{FramePool, bytes_of, given, with_holds, written, zeros}
+use Rattle.frame_memory.specs.Pool.{FramePool, bytes_of, with_holds}
 use Rattle.table_words.proofs.Releasing.{named_held}
 use Rattle.table_words.proofs.Tables.{stands_still}
 use Rattle.table_words.specs.SameTables.{SameTables}

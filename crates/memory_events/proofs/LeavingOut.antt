@@ -1,5 +1,5 @@
 -- Sets of addresses from which the objects of a list take some away, one after the other.
-use Rattle.std.proofs.Common.{◌≡◌, ℕ, Bool, true, false, ◌&&◌, ◌||◌, not, List, [], ◌∷◌, refl, sym, ◌∙◌, ap, subst}
+use Rattle.std.proofs.Common.{◌≡◌, ℕ, Bool, true, false, ◌&&◌, ◌||◌, not, List, [], refl, sym, ◌∙◌, ap, subst}
 use Rattle.std.specs.List.{list_any}
 use Rattle.std.specs.Prelude.{◌^◌, nat_lt}
 use Rattle.iofd_rows.proofs.Unusable.{by_rows}
@@ -20,19 +20,6 @@ pub record IsLeaving {X : Type 0} (test : ℕ → X → Bool) (all left : List X
   pub merged : AreMerged before → AreMerged now
 
 module _ {X : Type 0} (test : ℕ → X → Bool) (all : List X) (before : List Bounds) where
-  step : (b now : Bool) (one left : Bool) → now ≡ (b && not one) → (now && not left) ≡ (b && not (one || left))
-  step true now true left is = rw is refl
-  step true now false left is = rw is refl
-  step false now one left is = rw is refl
-
-  pub one_more_out : (x : X) (left : List X) (now next : List Bounds) → IsLeaving test all (x ∷ left) before now
-      → LeavesOut (λ n. test n x) now next → IsLeaving test all left before next
-  one_more_out x left now next leaving out = record {
-    numbers = λ n. step (in_spans now n) (in_spans next n) (test n x) (list_any (test n) left) (out.numbers n)
-        ∙ leaving.numbers n;
-    merged = λ merged. out.merged (leaving.merged merged);
-  }
-
   pub all_left_out : (now : List Bounds) → IsLeaving test all [] before now
       → LeavesOut (λ n. list_any (test n) all) before now
   all_left_out now leaving = record {

@@ -1,9 +1,9 @@
 -- A visit of all tables below one.
-use Rattle.std.proofs.Common.{◌≡◌, ◌≢◌, ℕ, zero, suc, ◌+◌, ◌-◌, ◌*◌, ◌/◌, ◌%◌, ◌^◌, ◌<◌, ◌≤◌, true, false, not, eqb}
+use Rattle.std.proofs.Common.{◌≡◌, ◌≢◌, ℕ, zero, suc, ◌+◌, ◌-◌, ◌*◌, ◌/◌, ◌%◌, ◌^◌, ◌<◌, ◌≤◌, true, not, eqb}
 use Rattle.std.proofs.Common.{List, [], ◌∷◌, ◌++◌, length, sym, ◌∙◌, ap, arith}
 use Rattle.std.specs.List.{flat_map, range_with_len}
 use Rattle.std.proofs.lemmas.Bool.Decides.{nat_tests}
-use Rattle.std.proofs.lemmas.List.{append-nil, append_assoc, length-append}
+use Rattle.std.proofs.lemmas.List.{append_assoc, length-append}
 use Rattle.std.proofs.lemmas.Nat.{pow-add}
 use Rattle.std.proofs.Math.Nat.{pow-suc}
 use Rattle.iofd_words.specs.declared.numbers.FrameNo.{FrameNo}
@@ -12,7 +12,7 @@ use Rattle.table_words.specs.Entries.{entry_at, table_entry}
 use Rattle.table_words.specs.Rows.{table_at}
 use Rattle.table_words.specs.Under.{HoldsTable, frames_of_entry, frames_under}
 use Rattle.table_words.proofs.Decoded.{table_present, table_small}
-use Rattle.table_words.proofs.FramesUnder.{child_entry, entries-is, entries_more, entry_absent, entry_names, under_last}
+use Rattle.table_words.proofs.FramesUnder.{child_entry, entries-is, entries_more, entry_names, under_last}
 use Rattle.table_words.proofs.FramesUnder.{under_more}
 use Rattle.table_words.proofs.RowsUnder.{child_page}
 use Rattle.table_words.proofs.Tables.{table_within}
@@ -89,11 +89,6 @@ module _ (f : ℕ → List FrameNo) where
       ap (λ (fs : List FrameNo). fs ++ named) before ∙ append_assoc old (table ∷ flat_map f (range_with_len 0 n)) named
       ∙ ap (λ (fs : List FrameNo). old ++ table ∷ (flat_map f (range_with_len 0 n) ++ fs)) is
       ∙ ap (λ (fs : List FrameNo). old ++ table ∷ fs) (sym (entries_more f n))
-
-  pub items_same : (old items : List FrameNo) (table : FrameNo) (n : ℕ)
-      → items ≡ old ++ table ∷ flat_map f (range_with_len 0 n) → f n ≡ []
-      → items ≡ old ++ table ∷ flat_map f (range_with_len 0 (n + 1))
-  items_same old items table n before is = sym (append-nil items) ∙ items_more old items [] table n before (sym is)
 
 pub all_entries : (pool : FramePool) (level : ℕ) (table : FrameNo) → 1 < level
     → frames_under pool (level - 1) table ≡ table
