@@ -1,8 +1,7 @@
 //! What is done to the rows that a span meets. The others aren't looked at.
 
-ghost use Rattle.std.specs.Prelude.{◌≡◌, ◌==◌, ◌+◌, ◌≤◌, length, map, min};
-ghost use Rattle.std.specs.Prelude.{nat_lt, vec_len, vec_capacity};
-ghost use Rattle.std.specs.List.{list_any, prefix_len};
+ghost use Rattle.std.specs.Prelude.{◌≡◌, ◌+◌, ◌≤◌, length, map, min, nat_lt};
+ghost use Rattle.std.specs.List.{prefix_len};
 ghost use Rattle.area_rows.specs.Areas.{AreApart, changed};
 ghost use Rattle.area_rows.specs.Rows.{in_rows, AreRows, ChangesIn, end_of};
 

@@ -1,6 +1,6 @@
 //! A row of areas: so many as one insertion or removal moves at most.
 
-ghost use Rattle.std.specs.Prelude.{◌≡◌, ◌==◌, ◌+◌, ◌<◌, ◌≤◌, ◌^◌, ◌++◌, false, []};
+ghost use Rattle.std.specs.Prelude.{◌≡◌, ◌+◌, ◌<◌, ◌≤◌, ◌^◌, ◌++◌, false, []};
 ghost use Rattle.std.specs.Prelude.{IfOk, length, map, take, drop};
 ghost use Rattle.std.specs.Prelude.{vec_capacity};
 ghost use Rattle.area_rows.specs.Areas.{AreApart, with_area, changed, areas_outside};

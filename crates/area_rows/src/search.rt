@@ -1,7 +1,7 @@
 //! The search for a row by where rows end. Three rows are looked at in a step, at once, and no jump depends on what is
 //! found there: a processor can't foretell it, and a wrong guess costs more than two rows that weren't needed.
 
-ghost use Rattle.std.specs.Prelude.{◌≡◌, ◌+◌, ◌*◌, ◌<◌, ◌≤◌, length, nat_lt};
+ghost use Rattle.std.specs.Prelude.{◌+◌, ◌*◌, ◌<◌, ◌≤◌, length, nat_lt};
 ghost use Rattle.std.specs.List.{prefix_len};
 ghost use Rattle.area_rows.specs.Areas.{AreApart};
 ghost use Rattle.area_rows.specs.Rows.{in_rows, AreRows, end_of};

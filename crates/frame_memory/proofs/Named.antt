@@ -1,17 +1,13 @@
 -- The frames that users' pages name, told by how many pages name each.
-use Rattle.std.proofs.Common.{◌≡◌, ℕ, ◌+◌, ◌<◌, ◌≤◌, Bool, true, false, cond, eqb, ltb, Some, List, [], ◌∷◌, length}
-use Rattle.std.proofs.Common.{get_or, refl, sym, ◌∙◌, subst, arith, ⊎_elim}
-use Rattle.std.specs.List.{count_by, find}
-use Rattle.std.proofs.lemmas.Bool.{cases_Bool, cases_lt}
+use Rattle.std.proofs.Common.{◌≡◌, ℕ, ◌+◌, ◌<◌, ◌≤◌, Bool, true, false, cond, eqb, ltb, List, [], ◌∷◌, length}
+use Rattle.std.proofs.Common.{get_or, refl, ◌∙◌, arith, ⊎_elim}
+use Rattle.std.specs.List.{count_by}
+use Rattle.std.proofs.lemmas.Bool.{cases_lt}
 use Rattle.std.proofs.lemmas.Bool.Decides.{nat_tests}
 use Rattle.std.proofs.lemmas.List.{get_or_past}
 use Rattle.std.proofs.lemmas.List.Sums.{sum_by-cons}
-use Rattle.iofd_words.specs.Frames.{frame_at}
-use Rattle.iofd_words.specs.declared.numbers.FrameNo.{FrameNo}
-use Rattle.iofd_words.specs.declared.numbers.UserNo.{UserNo}
 use Rattle.iofd_words.specs.declared.rows.UserPage.{UserPage}
-use Rattle.frame_memory.specs.UserPages.{are_within, is_page}
-use Rattle.frame_memory.proofs.Rising.{frame_at-find, frame_found}
+use Rattle.frame_memory.specs.UserPages.{are_within}
 
 -- how many pages name the frame
 abbrev pub pages_on : List UserPage → ℕ → ℕ

@@ -5,7 +5,6 @@ ghost use Rattle.std.specs.Prelude.{OnOk, OnErr};
 ghost use Rattle.iofd_words.specs.Frames.{frame_at};
 ghost use Rattle.frame_memory.specs.UserPages.{are_rising, user_page, with_page, without_page, HasOneMore};
 
-use crate::pool::Pool;
 use iofd_words::{FrameNo, NoMemory, UserNo};
 use std::alloc::{Allocator, Global};
 use std::collections::HashMap;

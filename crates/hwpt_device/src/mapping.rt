@@ -1,6 +1,6 @@
 //! Spans of pages that are mapped and cleared in page tables.
 
-ghost use Rattle.std.specs.Prelude.{ℕ, ◌≡◌, ◌≤◌, ◌<◌, ◌+◌, ◌-◌, ◌*◌, ◌/◌, ◌^◌};
+ghost use Rattle.std.specs.Prelude.{ℕ, ◌≡◌, ◌≤◌, ◌<◌, ◌+◌, ◌-◌, ◌/◌};
 ghost use Rattle.std.specs.Prelude.{◌++◌, Option, IfSome, length};
 ghost use Rattle.std.specs.Prelude.{vec_capacity, vec_len};
 ghost use Rattle.iofd_words.specs.Objects.{is_object};

@@ -31,7 +31,7 @@ use Rattle.server_state.specs.Leads.{lead_by, leads_in, object_page}
 use Rattle.table_spans.specs.Spans.{IsOfPages, held_once}
 use Rattle.table_words.specs.Rows.{MappedPage}
 use Rattle.user_memory.specs.Memory as memory
-use Rattle.user_memory.specs.Memory.{Memory, pinned_frame, table_pins}
+use Rattle.user_memory.specs.Memory.{Memory, pinned_frame}
 use Rattle.hwpt_events.proofs.Filled.{none_filled}
 use Rattle.hwpt_events.proofs.FilledInTurn.{Leads}
 use Rattle.hwpt_events.specs.Filling.{Fills, filled, tables_for}

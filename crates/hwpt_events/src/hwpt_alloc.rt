@@ -1,7 +1,6 @@
 //! HwptAlloc: a file gets a page table of a device's width over one of its address spaces.
 
 ghost use Rattle.std.specs.Prelude.{◌≡◌, ℕ, Option, false, [], IfOk, OnErr};
-ghost use Rattle.std.specs.Option.{option_map};
 ghost use Rattle.iofd_words.specs.Checks.{hwpt_alloc_checks, lacks_new_tables, narrows_by_width};
 ghost use Rattle.iofd_words.specs.Files.{device_of};
 ghost use Rattle.iofd_words.specs.FirstTrue.{first_true};

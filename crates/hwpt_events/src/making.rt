@@ -1,7 +1,7 @@
 //! A page table that comes: what it asks of its file and of the pages that it pins, and how it is made.
 
 ghost use Rattle.std.specs.Prelude.{◌≡◌, ◌<◌, ◌≤◌, ◌+◌, ℕ, false, [], length, IfOk, IsSome};
-ghost use Rattle.std.specs.Prelude.{OnErr, OnOk, nat_lt};
+ghost use Rattle.std.specs.Prelude.{OnErr, OnOk};
 ghost use Rattle.std.specs.Prelude.{vec_capacity, vec_len};
 ghost use Rattle.iofd_words.specs.Checks.{lacks_attached_page, passes_limit_attached};
 ghost use Rattle.iofd_words.specs.TablePlaces.{lacking, live_pages, places_of};

@@ -1,7 +1,7 @@
 //! From bytes to commands.
 #![tactic(auto, unfolding(crate::specs::Refusals::read_numbers))]
 
-ghost use Rattle.std.specs.Prelude.{◌≡◌, ◌≢◌, ◌*◌, ◌<◌, ◌≤◌, ℕ, [], ◌∷◌, false};
+ghost use Rattle.std.specs.Prelude.{◌≡◌, ◌≢◌, ◌*◌, ◌<◌, ◌≤◌, [], ◌∷◌, false};
 ghost use Rattle.std.specs.Prelude.{length, IfOk};
 ghost use Rattle.iofd_words.specs.Rights.{is_fixed};
 ghost use Rattle.ioctl_codec.specs.Entries.{entries_at};

@@ -1,6 +1,6 @@
 //! How many rows there are, and within which numbers they lie, each the contract of a function that does nothing.
 
-ghost use Rattle.std.specs.Prelude.{◌≡◌, ◌≤◌, ◌<◌, ◌^◌, ◌-◌, ◌==◌, ◌&&◌};
+ghost use Rattle.std.specs.Prelude.{◌≤◌, ◌<◌, ◌^◌, ◌-◌, ◌==◌, ◌&&◌};
 ghost use Rattle.std.specs.Prelude.{ℕ, List, Contains};
 ghost use Rattle.iofd_promises.specs.Bounded.{LiesWell, how_many};
 ghost use Rattle.iofd_words.specs.Run.{IsRun, world_of};

@@ -1,10 +1,9 @@
 -- Which address spaces have a page table, after objects came or went.
 use Rattle.std.proofs.Common.{◌≡◌, Bool, true, false, cond, ◌&&◌, ◌||◌, not, eqb, List, [], ◌∷◌, refl, ap, sym, ◌∙◌}
-use Rattle.std.specs.List.{filter, list_all, list_any}
+use Rattle.std.specs.List.{filter, list_any}
 use Rattle.std.proofs.lemmas.Bool.{eqb-true}
 use Rattle.iofd_words.specs.Objects.{comes_before, has_hwpt, is_bound_device, is_hwpt_over, is_object, with_object}
 use Rattle.iofd_words.specs.Objects.{without_device_object}
-use Rattle.iofd_words.specs.Pins.{is_page, area_pages}
 use Rattle.iofd_words.specs.declared.numbers.FileNo.{FileNo}
 use Rattle.iofd_words.specs.declared.numbers.ObjId.{ObjId}
 use Rattle.iofd_words.specs.declared.rows.Area.{Area}
@@ -13,7 +12,7 @@ use Rattle.iofd_words.specs.declared.rows.ObjectKind.{ObjectKind}
 use Rattle.iofd_words.specs.declared.rows.ObjectKind.TheVariants as kind
 use Rattle.iofd_rows.proofs.Bools.{and_true, both_true, swapped}
 use Rattle.iofd_rows.proofs.ListTests.{alike, any-filter, any_weaker}
-use Rattle.iofd_rows.proofs.PageLists.{all_pages, any-pinned, pins_page, pages_by_area}
+use Rattle.iofd_rows.proofs.PageLists.{pages_by_area}
 
 any-with_object : (p : Object → Bool) (x : Object) (objects : List Object)
     → list_any p (with_object x objects) ≡ (p x || list_any p objects)

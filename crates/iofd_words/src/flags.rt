@@ -1,6 +1,6 @@
 //! The flags of MAP and COPY, and the rights of an area.
 
-ghost use Rattle.std.specs.Prelude.{⊤, ◌≡◌, ◌==◌, [], ◌∷◌, codes};
+ghost use Rattle.std.specs.Prelude.{⊤, ◌≡◌, [], ◌∷◌, codes};
 ghost use Rattle.iofd_words.specs.Rights.{is_fixed, is_readable, is_writeable, rights_of, has_right};
 
 use crate::fault::AccessKind;

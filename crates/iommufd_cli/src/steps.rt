@@ -1,6 +1,6 @@
 //! One step of a session: carried out, and answered with a line.
 
-ghost use Rattle.std.specs.Prelude.{◌≡◌, ◌⊎◌, ◌<◌, ◌^◌, ℕ, List, length};
+ghost use Rattle.std.specs.Prelude.{◌≡◌, ◌⊎◌, ◌<◌, ◌^◌, length};
 ghost use Rattle.iommufd_cli.specs.Replies.{command_of, event_text, line, memory_text, ranges_text};
 ghost use Rattle.iommufd_cli.specs.Steps.{IsAnswered, IsApplied, IsAsked, IsCommanded, IsDecoded, IsIoctl, IsRanges};
 ghost use Rattle.iommufd_cli.specs.Steps.{text_of};
@@ -10,11 +10,9 @@ ghost use Rattle.iofd_words.specs.declared.query.Query.TheVariants as query;
 use crate::line::Line;
 use crate::replies::ranges_line;
 use ioctl_codec::{Command, DecodeError, RangesRequest, decode};
-use iofd_words::{
-    Act, CallError, DeviceNo, Event, FileNo, Iova, PassNo, Query, Reply, Span, UserNo,
-};
+use iofd_words::{Act, CallError, Event, FileNo, PassNo, Query, Reply, Span};
 use iommufd_core::Core;
-use iommufd_script::{AccessBytes, HexBytes, Step};
+use iommufd_script::{HexBytes, Step};
 use std::alloc::Allocator;
 
 /// The caller that a session's records have.

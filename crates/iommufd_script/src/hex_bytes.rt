@@ -1,8 +1,8 @@
 //! Bytes that a script spells in hexadecimal.
 
-ghost use Rattle.std.specs.Prelude.{◌≡◌, ◌==◌, ◌%◌, ◌/◌, ◌&&◌, ◌≤◌, Some, IfOk, OnErr};
-ghost use Rattle.std.specs.Prelude.{length, nat_lt, slice_index};
-ghost use Rattle.std.specs.Prelude.{if◌then◌else◌, None, true, ◌<◌, ◌+◌, ◌*◌, map, take};
+ghost use Rattle.std.specs.Prelude.{◌≡◌, ◌==◌, ◌%◌, ◌/◌, ◌≤◌, Some, IfOk, OnErr};
+ghost use Rattle.std.specs.Prelude.{length, slice_index};
+ghost use Rattle.std.specs.Prelude.{None, true, ◌<◌, ◌+◌, ◌*◌, map, take};
 ghost use Rattle.std.specs.Char.{digit_value};
 ghost use Rattle.std.specs.List.{list_all};
 ghost use Rattle.std.specs.Simd.Lanes.{chunk};

@@ -3,7 +3,7 @@
 ghost use Rattle.std.specs.Prelude.{ℕ, ◌≡◌, ◌<◌, [], MatchOption, IfOk, OnOk, OnErr, length, filter};
 ghost use Rattle.std.specs.Prelude.{find, not, ◌==◌};
 ghost use Rattle.std.specs.Prelude.{◌&&◌, ◌||◌, ◌++◌, ◌∷◌, ◌≤◌};
-ghost use Rattle.std.specs.Prelude.{if◌then◌else◌, vec_len, vec_capacity};
+ghost use Rattle.std.specs.Prelude.{vec_len, vec_capacity};
 ghost use Rattle.std.specs.Option.{option_copied};
 ghost use Rattle.iofd_words.specs.Allowed.{allowed_of, is_allowed_in, without_allowed};
 ghost use Rattle.iofd_words.specs.Ranges.{AreMerged, in_spans};

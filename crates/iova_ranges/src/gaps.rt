@@ -1,6 +1,6 @@
 //! Numbers that are left out of merged spans.
 
-ghost use Rattle.std.specs.Prelude.{◌≡◌, ◌≤◌, ℕ, find, nat_le, Some, MatchOption};
+ghost use Rattle.std.specs.Prelude.{◌≡◌, find, nat_le, Some, MatchOption};
 ghost use Rattle.iofd_words.specs.Bounds.{Bounds};
 ghost use Rattle.iofd_words.specs.Ranges.{AreMerged};
 ghost use Rattle.iova_ranges.specs.Gaps.{IsGap};

@@ -1,7 +1,7 @@
 //! Taking the numbers of a span out of merged spans.
 
-ghost use Rattle.std.specs.Prelude.{◌≡◌, ℕ, ◌&&◌, ◌+◌, ◌-◌, ◌<◌, ◌≤◌, ◌++◌, []};
-ghost use Rattle.std.specs.Prelude.{◌∷◌, not, map, filter, take, drop};
+ghost use Rattle.std.specs.Prelude.{◌≡◌, ℕ, ◌&&◌, ◌+◌, ◌-◌, ◌<◌, ◌≤◌, ◌++◌};
+ghost use Rattle.std.specs.Prelude.{not, map, take, drop};
 ghost use Rattle.std.specs.Prelude.{slice_index_or, IsTrue, OnOk, OnErr, vec_len, vec_capacity};
 ghost use Rattle.iofd_words.specs.Span.{holds, lies_in};
 ghost use Rattle.iofd_words.specs.Ranges.{AreMerged, in_spans};

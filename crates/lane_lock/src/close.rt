@@ -1,6 +1,6 @@
 //! The end of a lock.
 
-ghost use Rattle.std.specs.Prelude.{◌≡◌, ℕ, ◌<◌, [], length, Some, slice_get, is_some};
+ghost use Rattle.std.specs.Prelude.{◌≡◌, ℕ, ◌<◌, [], Some, slice_get, is_some};
 ghost use Rattle.std.specs.Prelude.{true, false, MatchBool};
 ghost use Rattle.std.specs.Prelude.{MatchResult, IfOk, IfErr};
 ghost use Rattle.std.specs.Arc.{arc_value};

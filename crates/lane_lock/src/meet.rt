@@ -1,6 +1,5 @@
 //! Two passes meet.
 
-ghost use Rattle.std.specs.Prelude.{◌≡◌, length};
 ghost use Rattle.lane_lock.specs.History.{longer};
 ghost use Rattle.lane_lock.specs.Outcomes.{Learns};
 ghost use Rattle.lane_lock.specs.Passes.{Owns, SamePass, view_of};

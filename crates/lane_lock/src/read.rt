@@ -1,6 +1,6 @@
 //! Taking a lane to read, and putting it back.
 
-ghost use Rattle.std.specs.Prelude.{◌≡◌, ℕ, ◌<◌, IfErr, OnOk};
+ghost use Rattle.std.specs.Prelude.{ℕ, ◌<◌, IfErr, OnOk};
 ghost use Rattle.lane_lock.specs.Outcomes.{OnlySees, KeepsHistory, RefusesRead};
 ghost use Rattle.lane_lock.specs.Passes.{Owns, SamePass, IsReading, view_of};
 ghost use Rattle.lane_lock.specs.Rule.{Names};

@@ -1,9 +1,8 @@
 //! The lanes above lane 0, which a writer takes upwards and puts back downwards.
 
-ghost use Rattle.std.specs.Prelude.{◌≡◌, ◌≢◌, ◌⊎◌, ℕ, ◌+◌, ◌-◌, ◌*◌, ◌<◌};
+ghost use Rattle.std.specs.Prelude.{◌≡◌, ◌≢◌, ℕ, ◌+◌, ◌-◌, ◌*◌, ◌<◌};
 ghost use Rattle.std.specs.Prelude.{◌≤◌, true, [], ◌∷◌, None, length, drop};
 ghost use Rattle.std.specs.Prelude.{slice_index, MatchOption};
-ghost use Rattle.std.specs.Arc.{arc_value};
 ghost use Rattle.lane_lock.specs.Hands.{Anything, Climbed, Dropped, Lowered, Shows, Stack};
 ghost use Rattle.lane_lock.specs.Outcomes.{Stops};
 ghost use Rattle.lane_lock.specs.Steps.{SameSeat};

@@ -25,8 +25,6 @@ impl Kept for Entries {
 
     type Record = PassNo;
 
-    ghost use Rattle.std.specs.Prelude.{◌≡◌};
-
     ghost history = { λ it. it.entries.items };
 
     ghost maker = { λ pass. pass.0 };

@@ -1,6 +1,6 @@
 //! One thread, several passes.
 
-ghost use Rattle.std.specs.Prelude.{◌≡◌, ◌≤◌, [], length, IfSome};
+ghost use Rattle.std.specs.Prelude.{◌≡◌, ◌≤◌, length, IfSome};
 ghost use Rattle.lane_lock.specs.Passes.{Owns, OwnsAll};
 
 use crate::numbers::Numbers;

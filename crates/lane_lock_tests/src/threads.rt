@@ -1,6 +1,5 @@
 //! Four threads at once.
 
-ghost use Rattle.std.specs.Prelude.{◌≡◌, []};
 ghost use Rattle.lane_lock.specs.Passes.{Owns, OwnsAll};
 
 use crate::numbers::Numbers;

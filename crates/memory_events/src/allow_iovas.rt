@@ -1,6 +1,6 @@
 //! AllowIovas: the ranges to which the addresses that the server chooses in an address space are bounded.
 
-ghost use Rattle.std.specs.Prelude.{◌≡◌, ◌<◌, ◌==◌, true, false, ℕ, IfOk, IsTrue};
+ghost use Rattle.std.specs.Prelude.{◌≡◌, ◌<◌, true, false, ℕ, IfOk, IsTrue};
 ghost use Rattle.std.specs.Prelude.{OnErr, length, nat_lt};
 ghost use Rattle.std.specs.List.Sorted.{IsNonDecreasingBy};
 ghost use Rattle.iofd_words.specs.Allowed.{are_ranges};

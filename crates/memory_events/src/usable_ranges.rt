@@ -1,6 +1,6 @@
 //! The usable ranges of an address space: what IOMMU_IOAS_IOVA_RANGES tells (uapi header, `linux/iommufd.h`).
 
-ghost use Rattle.std.specs.Prelude.{ℕ, ◌≡◌, ◌==◌, ◌&&◌, ◌||◌, ◌^◌, not, nat_lt, false, IfOk};
+ghost use Rattle.std.specs.Prelude.{ℕ, ◌≡◌, ◌==◌, ◌||◌, ◌^◌, not, nat_lt, false, IfOk};
 ghost use Rattle.std.specs.Prelude.{OnOk, MatchOption};
 ghost use Rattle.std.specs.List.{list_any};
 ghost use Rattle.iofd_rows.specs.Reached as reached;
@@ -9,7 +9,7 @@ ghost use Rattle.iofd_words.specs.FirstTrue.{first_true};
 ghost use Rattle.iofd_words.specs.Look.{AreUsableRanges, ranges_checks};
 ghost use Rattle.iofd_words.specs.Ranges.{AreMerged, in_spans};
 ghost use Rattle.iofd_words.specs.Span.{holds};
-ghost use Rattle.iofd_words.specs.Usable.{interrupt_range, reserved_by, reserved_of};
+ghost use Rattle.iofd_words.specs.Usable.{reserved_of};
 ghost use Rattle.memory_events.specs.LeftOut.{LeavesOut, only};
 ghost use Rattle.server_state.specs.Held.{kind_in, objects_in};
 ghost use Rattle.server_state.specs.Seen.{seen};

@@ -9,7 +9,7 @@ use Rattle.std.proofs.lemmas.Bool.Decides.{nat_tests}
 use Rattle.memory_objects.specs.Objects.{MemoryEntry, MemoryGrows, all_pass, are_rising, has_memory, object_at, passes}
 use Rattle.memory_objects.specs.Objects.{with_capacity}
 use Rattle.pinned_pages.specs.Pages.{MemoryPages, needed}
-use Rattle.memory_objects.proofs.OneObject.{all_changed, changed_at, rising_changed, set_by_number}
+use Rattle.memory_objects.proofs.OneObject.{all_changed, changed_at, set_by_number}
 use Rattle.memory_objects.proofs.PinAll.{map_after, map_itself}
 use Rattle.memory_objects.proofs.PinOne.{found_number}
 

@@ -4,7 +4,7 @@
 ghost use Rattle.std.specs.Prelude.{◌≡◌, ◌∷◌, ◌<◌, ◌≤◌, ◌+◌, ◌^◌, [], true, IsTrue};
 ghost use Rattle.std.specs.Prelude.{IfSome, if◌then◌else◌, length};
 ghost use Rattle.std.specs.Prelude.{vec_len, vec_capacity};
-ghost use Rattle.memory_objects.specs.Objects.{are_below, are_rising, have_areas, object_at, standing, with_area};
+ghost use Rattle.memory_objects.specs.Objects.{are_below, are_rising, object_at, standing, with_area};
 ghost use Rattle.memory_objects.specs.Objects.{without_areas};
 
 use crate::entry::Entry;

@@ -2,15 +2,13 @@
 use Rattle.std.proofs.Common.{◌≡◌, ℕ, ◌+◌, ◌<◌, ◌≤◌, Bool, true, false, cond, ◌&&◌, eqb, ltb, Some, None, List, [], ◌∷◌}
 use Rattle.std.proofs.Common.{length, refl, ap, sym, ◌∙◌, arith}
 use Rattle.std.specs.List.{count_by, list_all, list_any}
-use Rattle.std.proofs.lemmas.Bool.{ne_eqb}
-use Rattle.std.proofs.lemmas.List.Folds.{list_any-append}
 use Rattle.std.proofs.lemmas.Bool.Decides.{nat_tests}
 use Rattle.std.proofs.lemmas.List.Sums.{count_by-le-length}
 use Rattle.frame_memory.specs.Pool.{FramePool}
 use Rattle.iofd_words.specs.After.{copy_changes, mapped_area, settle}
 use Rattle.iofd_words.specs.Areas.{with_area}
 use Rattle.iofd_words.specs.Copies.{placed_as}
-use Rattle.iofd_words.specs.Frames.{FrameWrite, frame_at}
+use Rattle.iofd_words.specs.Frames.{frame_at}
 use Rattle.iofd_words.specs.Objects.{has_hwpt}
 use Rattle.iofd_words.specs.Pins.{ObjectPage, pinned_pages, settled}
 use Rattle.iofd_words.specs.World.{World}
@@ -21,21 +19,18 @@ use Rattle.iofd_words.specs.declared.numbers.UserNo.{UserNo}
 use Rattle.iofd_words.specs.declared.rows.Area.{Area}
 use Rattle.iofd_words.specs.declared.rows.MemoryObject.{MemoryObject}
 use Rattle.iofd_words.specs.declared.rows.Object.{Object}
-use Rattle.iofd_words.specs.declared.rows.TableFrame.{TableFrame}
 use Rattle.iofd_words.specs.declared.rows.UserPage.{UserPage}
-use Rattle.iofd_rows.proofs.Bools.{and_true, both_true, or_none}
+use Rattle.iofd_rows.proofs.Bools.{and_true, both_true}
 use Rattle.iofd_rows.proofs.Each.{IsIn, of_any}
 use Rattle.iofd_rows.specs.Pinned.{ArePinned}
 use Rattle.memory_rows.proofs.Counts.{count_with_area}
-use Rattle.memory_rows.proofs.FramesFollow.{frames_follow}
-use Rattle.memory_rows.proofs.Named.{settles_named}
 use Rattle.memory_rows.proofs.PinsFollow.{any_count, pins_follow}
-use Rattle.memory_rows.specs.Shown.{FramesShown, PinsShown, UsersShown, over, translated}
+use Rattle.memory_rows.specs.Shown.{PinsShown, over, translated}
 use Rattle.memory_objects.specs.Invariant.{MemoryInvariant}
 use Rattle.memory_objects.specs.Objects as objects
 use Rattle.memory_objects.specs.Objects.{MemoryEntry, object_at}
 use Rattle.user_memory.proofs.Shared.{pins_few}
-use Rattle.user_memory.specs.Changes.{HasObject, HasShare, Settles}
+use Rattle.user_memory.specs.Changes.{HasShare, Settles}
 use Rattle.user_memory.specs.Memory.{Memory, areas_in, areas_over, is_pinned, rows_of, table_pins}
 
 -- ---- areas over a memory object

@@ -12,7 +12,7 @@ use Rattle.iofd_words.specs.declared.rows.MemoryObject.{MemoryObject}
 use Rattle.memory_rows.specs.Moves.{IsReleased, MayRelease}
 use Rattle.memory_objects.specs.Invariant.{MemoryInvariant}
 use Rattle.memory_objects.specs.Objects as objects
-use Rattle.memory_objects.specs.Objects.{MemoryEntry, are_rising, object_at, row_of}
+use Rattle.memory_objects.specs.Objects.{MemoryEntry, are_rising, object_at}
 use Rattle.user_memory.specs.Changes.{HasLess, HoldsFollow, Settles, never}
 use Rattle.user_memory.specs.Memory.{Memory, areas_in, areas_over, frame_now, is_pinned, pinned_frame, rows_of}
 use Rattle.user_memory.specs.Memory.{table_pins}

@@ -1,10 +1,9 @@
 //! A hardware page table.
 
-ghost use Rattle.std.specs.Prelude.{ℕ, ◌≡◌, ◌≤◌, ◌<◌, ◌+◌, ◌-◌, ◌*◌, ◌^◌, []};
-ghost use Rattle.std.specs.Prelude.{◌∷◌, ◌++◌, List, IfOk, IfSome, IfNone};
+ghost use Rattle.std.specs.Prelude.{◌≡◌, ◌≤◌, ◌<◌, ◌+◌, ◌-◌, ◌*◌, ◌^◌, []};
+ghost use Rattle.std.specs.Prelude.{◌∷◌, ◌++◌, IfOk, IfSome, IfNone};
 ghost use Rattle.std.specs.Prelude.{OnOk, OnErr, length, vec_len, vec_capacity};
 ghost use Rattle.std.specs.List.{count_by, range_with_len};
-ghost use Rattle.iofd_words.specs.Width.{bits_of};
 ghost use Rattle.frame_memory.specs.Pool.{free_count, given, least_free};
 ghost use Rattle.iofd_words.specs.Levels.{levels_of};
 ghost use Rattle.table_words.specs.Mapped.{Becomes, HasRoom, IsBelow, IsTable, root_row};

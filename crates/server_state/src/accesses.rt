@@ -1,6 +1,6 @@
 //! The bytes of an access.
 
-ghost use Rattle.std.specs.Prelude.{◌≡◌, ◌∷◌, []};
+ghost use Rattle.std.specs.Prelude.{◌≡◌};
 ghost use Rattle.iofd_words.specs.Pages.{crosses};
 
 use iofd_words::PAGE_SIZE;

@@ -1,13 +1,13 @@
 //! Look-ups in what is kept.
 
-ghost use Rattle.std.specs.Prelude.{◌≡◌, false, true, find, map, MatchOption};
+ghost use Rattle.std.specs.Prelude.{◌≡◌, false, true, find, MatchOption};
 ghost use Rattle.std.specs.Option.{option_copied, option_map};
 ghost use Rattle.iofd_words.specs.Attachments as attachments;
 ghost use Rattle.iofd_words.specs.Objects as objects;
 ghost use Rattle.object_table.specs.Rows.{row_shown};
 ghost use Rattle.object_table.specs.Table.{rows_of};
 ghost use Rattle.server_state.specs.Mapping.{is_over};
-ghost use Rattle.server_state.specs.Held.{areas_at, object_of, kind_in, objects_in, space_of};
+ghost use Rattle.server_state.specs.Held.{areas_at, kind_in, objects_in, space_of};
 ghost use Rattle.server_state.specs.Step.{IsKnown};
 
 use crate::devices;

@@ -1,7 +1,6 @@
 //! Areas that go, or that no page table translates any more, let go of their memory objects; and a page table goes.
 
 ghost use Rattle.std.specs.Prelude.{◌≡◌, ◌-◌, None, if◌then◌else◌, vec_capacity, vec_len};
-ghost use Rattle.area_rows.specs.Areas.{areas_within};
 ghost use Rattle.hwpt_device.specs.PageTables.{IfAllStand, hwpt_of};
 ghost use Rattle.hwpt_device.specs.Removed.{CanRemove, rows_found};
 ghost use Rattle.object_table.specs.Table.{destroy_refusal, removed};
@@ -19,7 +18,7 @@ use crate::{area_changes, counts};
 use area_map::Iter;
 use frame_memory::Pool;
 use hwpt_device::PageTables;
-use iofd_words::{FileNo, FrameNo, ObjId, Span};
+use iofd_words::{FileNo, FrameNo, ObjId};
 use object_table::{Kind, ObjectTable};
 use std::alloc::Allocator;
 use user_memory::UserMemory;

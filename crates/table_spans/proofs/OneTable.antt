@@ -11,7 +11,7 @@ use Rattle.std.proofs.Math.Nat.{div-mul-le_self}
 use Rattle.iofd_words.specs.Levels.{first_address, number_at}
 use Rattle.iofd_words.specs.Pages.{page_of}
 use Rattle.iofd_words.specs.Span.{is_whole_pages}
-use Rattle.iofd_words.specs.TablePlaces.{TablePlace, is_live, lacking, live_pages, pages_in}
+use Rattle.iofd_words.specs.TablePlaces.{TablePlace, is_live, lacking, live_pages}
 use Rattle.iofd_words.specs.declared.rows.Area.{Area}
 use Rattle.area_rows.specs.Areas.{AreApart, AreApartFrom}
 use Rattle.table_words.proofs.Lookups.{both_some, none_or_some}

@@ -12,7 +12,7 @@ use Rattle.iofd_words.specs.Pins.{ObjectPage, pages_from, pages_of}
 use Rattle.iofd_words.specs.declared.numbers.FrameNo.{FrameNo}
 use Rattle.iofd_words.specs.declared.numbers.UserNo.{UserNo}
 use Rattle.iofd_words.specs.declared.rows.MemoryObject.{MemoryObject}
-use Rattle.memory_objects.specs.Objects.{MemoryEntry, are_rising, frame_in, object_at, pinned_by, row_of, rows_of}
+use Rattle.memory_objects.specs.Objects.{MemoryEntry, frame_in, object_at, pinned_by, row_of, rows_of}
 use Rattle.memory_objects.specs.Objects as objects
 use Rattle.pinned_pages.specs.Pages.{new_count, pinned_count}
 use Rattle.user_memory.specs.Invariant.{ObjectsTell, is_kept}

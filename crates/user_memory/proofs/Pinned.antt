@@ -22,7 +22,7 @@ use Rattle.memory_objects.proofs.PinOne.{found_number}
 use Rattle.user_memory.specs.Changes.{HasPins, SameObjects, Settles}
 use Rattle.user_memory.specs.Invariant.{AccountsTell, ObjectsTell, is_kept}
 use Rattle.user_memory.specs.Memory as memory
-use Rattle.user_memory.specs.Memory.{IsBacked, Memory, are_of, areas_in, areas_over, lacks_page, newly_pinned, pins_in}
+use Rattle.user_memory.specs.Memory.{IsBacked, are_of, areas_in, lacks_page, newly_pinned, pins_in}
 use Rattle.user_memory.specs.Memory.{rows_at, table_pins}
 use Rattle.user_memory.proofs.Counts.{newly_told}
 use Rattle.user_memory.proofs.Follow.{few_new, pages_within, room_for_pins}

@@ -2,7 +2,7 @@
 
 ghost use Rattle.std.specs.Prelude.{ℕ, ◌≡◌, ◌==◌, ◌&&◌, ◌<◌, ◌≤◌, ◌+◌, ◌*◌};
 ghost use Rattle.std.specs.Prelude.{◌^◌, [], ◌∷◌, false, true, None, find};
-ghost use Rattle.std.specs.Prelude.{length, nat_lt, slice_get, is_some, if◌then◌else◌, IsTrue};
+ghost use Rattle.std.specs.Prelude.{length, nat_lt, slice_get, if◌then◌else◌};
 ghost use Rattle.std.specs.Prelude.{IsSome, IfOk, IfSome};
 ghost use Rattle.std.specs.Prelude.{OnOk, OnErr};
 ghost use Rattle.std.specs.List.{list_all, list_any};

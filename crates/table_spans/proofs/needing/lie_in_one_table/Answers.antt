@@ -1,4 +1,4 @@
-use Rattle.std.proofs.Common.{◌≡◌, ℕ, find, not, None, sym, ap, ◌∙◌}
+use Rattle.std.proofs.Common.{ℕ, find, not, sym, ap, ◌∙◌}
 use Rattle.std.specs.Option.{option_copied}
 use Rattle.table_spans.proofs.OneTable.{ends_from, no_some, one_table}
 use Rattle.table_spans.proofs.needing.lie_in_one_table.Goals as goal
