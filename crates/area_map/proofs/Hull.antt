@@ -11,8 +11,8 @@ use Rattle.iofd_words.specs.declared.rows.Area.{Area}
 use Rattle.iofd_words.specs.declared.rows.Phase.{Phase}
 use Rattle.iofd_words.specs.declared.rows.Phase.TheVariants.{Live, Leaving}
 use Rattle.iofd_words.specs.Areas.{paid}
-use Rattle.area_rows.specs.Areas.{areas_outside, areas_within, marked, without_debt, tried, tried_phase, with_area}
-use Rattle.area_rows.specs.Rows.{is_leaving, LeavesIn, LeaveIn}
+use Rattle.area_map_rows.specs.Areas.{areas_outside, areas_within, marked, without_debt, tried, tried_phase, with_area}
+use Rattle.area_map_rows.specs.Rows.{is_leaving, LeavesIn, LeaveIn}
 use Rattle.area_map.specs.Kept.{joined}
 
 -- a span that holds another has what lies in that

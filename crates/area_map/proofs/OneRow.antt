@@ -4,9 +4,9 @@ use Rattle.std.proofs.Common.{length, get_or, take, drop, refl, sym, ap, append-
 use Rattle.std.proofs.lemmas.Bool.{cases_lt}
 use Rattle.std.proofs.lemmas.List.{take-append-drop, take-take, take_all, drop-drop, drop-take, length-append}
 use Rattle.iofd_words.specs.declared.rows.Area.{Area}
-use Rattle.area_rows.specs.Rows.{in_rows, AreRows, end_of, first_of, widest_behind, widest_of}
+use Rattle.area_map_rows.specs.Rows.{in_rows, AreRows, end_of, first_of, widest_behind, widest_of}
 use Rattle.area_map.specs.Blocks.{IsSameBut, gap_before, rows_of, widest_around}
-use Rattle.area_rows.proofs.Rows.{in_rows-append}
+use Rattle.area_map_rows.proofs.Rows.{in_rows-append}
 use Rattle.area_map.proofs.RowsInBlocks.{same_before, same_behind, widest_of-append}
 
 -- ---- the gap before a row

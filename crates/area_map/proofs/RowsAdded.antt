@@ -11,10 +11,11 @@ use Rattle.iofd_words.specs.Bounds.{Bounds}
 use Rattle.iofd_words.specs.Span.{meets}
 use Rattle.iofd_words.specs.declared.rows.Area.{Area}
 use Rattle.iofd_words.specs.Areas.{areas_meet}
-use Rattle.area_rows.specs.Areas.{AreApartFrom, with_area}
-use Rattle.area_rows.specs.Rows.{in_rows, AreRows, end_of}
-use Rattle.area_rows.proofs.Added.{length-with_area}
-use Rattle.area_rows.proofs.Rows.{row-few, apart_left, apart_right, end-above, AreRows-take, AreRows-drop, written_back}
+use Rattle.area_map_rows.specs.Areas.{AreApartFrom, with_area}
+use Rattle.area_map_rows.specs.Rows.{in_rows, AreRows, end_of}
+use Rattle.area_map_rows.proofs.Added.{length-with_area}
+use Rattle.area_map_rows.proofs.Rows.{row-few, apart_left, apart_right, end-above, AreRows-take, AreRows-drop}
+use Rattle.area_map_rows.proofs.Rows.{written_back}
 
 pub meet_left : (span : Bounds) (xs ys : List Area) → areas_meet span (xs ++ ys) ≡ false → areas_meet span xs ≡ false
 meet_left span xs ys alone =

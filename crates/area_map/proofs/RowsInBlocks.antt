@@ -10,12 +10,13 @@ use Rattle.std.proofs.lemmas.List.{drop_more, length-append, length-set}
 use Rattle.std.proofs.lemmas.List.{get_or-set_same, get_or-set_other}
 use Rattle.iofd_words.specs.declared.rows.Area.{Area}
 use Rattle.area_map.specs.declared.blocks.Block.{Block}
-use Rattle.area_rows.specs.Areas.{AreApartFrom, AreApart}
-use Rattle.area_rows.specs.Rows.{in_rows, AreRows, end_of, first_free, first_of, starts_from, widest_behind, widest_of}
+use Rattle.area_map_rows.specs.Areas.{AreApartFrom, AreApart}
+use Rattle.area_map_rows.specs.Rows.{in_rows, AreRows, end_of, first_free, first_of, starts_from, widest_behind}
+use Rattle.area_map_rows.specs.Rows.{widest_of}
 use Rattle.area_map.specs.Blocks.{AreBlocks, AreBlocksBut, IsBlockOf, IsSameBut, block_of, rows_of}
-use Rattle.area_rows.proofs.FirstFree.{free-append, free-behind, free-rows}
-use Rattle.area_rows.proofs.Kept.{end-map, first-map, widest-map}
-use Rattle.area_rows.proofs.Rows.{AreRows-drop, apart_left, apart-drop, in_rows-append, in_rows-map_map}
+use Rattle.area_map_rows.proofs.FirstFree.{free-append, free-behind, free-rows}
+use Rattle.area_map_rows.proofs.Kept.{end-map, first-map, widest-map}
+use Rattle.area_map_rows.proofs.Rows.{AreRows-drop, apart_left, apart-drop, in_rows-append, in_rows-map_map}
 
 -- ---- some areas, and others behind them
 

@@ -7,13 +7,13 @@ use Rattle.iofd_words.specs.Span.{lies_in}
 use Rattle.iofd_words.specs.declared.numbers.DeviceNo.{DeviceNo}
 use Rattle.iofd_words.specs.declared.rows.Area.{Area}
 use Rattle.iofd_words.specs.Areas.{areas_meet}
-use Rattle.area_rows.specs.Areas.{areas_outside, with_area, without_debt}
-use Rattle.area_rows.specs.Rows.{in_rows, AreRows, LeavesIn, LeaveIn}
+use Rattle.area_map_rows.specs.Areas.{areas_outside, with_area, without_debt}
+use Rattle.area_map_rows.specs.Rows.{in_rows, AreRows, LeavesIn, LeaveIn}
 use Rattle.area_map.specs.Kept.{AreInRows, IsSpare}
-use Rattle.area_rows.proofs.Added.{with_area-apart, length-with_area}
-use Rattle.area_rows.proofs.Kept.{kept-map, kept-filter}
-use Rattle.area_rows.proofs.Rows.{in_rows-map_map, written_back}
-use Rattle.area_rows.proofs.RowsChanged.{live_paid}
+use Rattle.area_map_rows.proofs.Added.{with_area-apart, length-with_area}
+use Rattle.area_map_rows.proofs.Kept.{kept-map, kept-filter}
+use Rattle.area_map_rows.proofs.Rows.{in_rows-map_map, written_back}
+use Rattle.area_map_rows.proofs.RowsChanged.{live_paid}
 use Rattle.area_map.proofs.Hull.{leave-with}
 
 AreRows-map : (f : Area → Area) (rows : List (List Area)) → AreRows rows → AreRows (map (map f) rows)

@@ -9,12 +9,13 @@ use borrow.Rule.Slice.PartMut.{put_mid}
 use Rattle.iofd_words.specs.Bounds.{Bounds}
 use Rattle.iofd_words.specs.Span.{lies_in}
 use Rattle.iofd_words.specs.declared.rows.Area.{Area}
-use Rattle.area_rows.specs.Areas.{AreKept, areas_outside}
-use Rattle.area_rows.specs.Rows.{in_rows, AreRows}
-use Rattle.area_rows.proofs.Kept.{length-filter-le}
+use Rattle.area_map_rows.specs.Areas.{AreKept, areas_outside}
+use Rattle.area_map_rows.specs.Rows.{in_rows, AreRows}
+use Rattle.area_map_rows.proofs.Kept.{length-filter-le}
 use Rattle.std.proofs.lemmas.List.Elements.{filter-append}
-use Rattle.area_rows.proofs.Rows.{in_rows-append, in_rows-map, AreRows-take, AreRows-drop, AreRows-append, apart_left}
-use Rattle.area_rows.proofs.Rows.{apart-drop}
+use Rattle.area_map_rows.proofs.Rows.{in_rows-append, in_rows-map, AreRows-take, AreRows-drop, AreRows-append}
+use Rattle.area_map_rows.proofs.Rows.{apart_left}
+use Rattle.area_map_rows.proofs.Rows.{apart-drop}
 
 pub outside_in_rows : (span : Bounds) (rows : List (List Area))
     → in_rows (map (areas_outside span) rows) ≡ areas_outside span (in_rows rows)

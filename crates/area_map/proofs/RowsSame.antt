@@ -8,7 +8,7 @@ use Rattle.std.proofs.lemmas.List.{take-set, take-take}
 use Rattle.std.proofs.lemmas.Slice.{take-put_mid_below, drop-put_mid}
 use borrow.Rule.Slice.PartMut.{put_mid}
 use Rattle.iofd_words.specs.declared.rows.Area.{Area}
-use Rattle.area_rows.specs.Rows.{AreRows}
+use Rattle.area_map_rows.specs.Rows.{AreRows}
 use Rattle.area_map.specs.Blocks.{IsSameBut}
 
 pub same_less : (m n : ℕ) (xs ys : List (List Area)) → m ≤ n → take n xs ≡ take n ys → take m xs ≡ take m ys

@@ -2,7 +2,7 @@
 use Rattle.std.specs.Prelude.{ℕ, suc, zero, ◌-◌, ◌*◌, ◌<◌, ◌≤◌, ◌≡◌, get_or, max, Vec}
 use Rattle.std.specs.Prelude.{Option, Some, None, List, [], ◌∷◌, length, take, drop}
 use Rattle.iofd_words.specs.declared.rows.Area.{Area}
-use Rattle.area_rows.specs.Rows.{in_rows, end_of, first_of, widest_of}
+use Rattle.area_map_rows.specs.Rows.{in_rows, end_of, first_of, widest_of}
 use Rattle.area_map.specs.declared.blocks.Block.{Block}
 
 -- how many free addresses lie between the row before this place and the one at it; 0 where one of them is none

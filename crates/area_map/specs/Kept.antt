@@ -3,8 +3,8 @@ use Rattle.std.specs.Prelude.{ℕ, ◌<◌, ◌≡◌, Bool, ◌||◌, get_or, n
 use Rattle.std.specs.Prelude.{Option, Some, None, IfSome, List, [], length}
 use Rattle.iofd_words.specs.Bounds.{Bounds}
 use Rattle.iofd_words.specs.declared.rows.Area.{Area}
-use Rattle.area_rows.specs.Areas.{AreKept}
-use Rattle.area_rows.specs.Rows.{in_rows, AreRows, LeaveIn}
+use Rattle.area_map_rows.specs.Areas.{AreKept}
+use Rattle.area_map_rows.specs.Rows.{in_rows, AreRows, LeaveIn}
 
 -- for how many more areas there is memory, whichever row they go to
 abbrev pub room_of : Option (List Area) → ℕ

@@ -4,17 +4,17 @@ ghost use Rattle.std.specs.Prelude.{◌≡◌, ◌==◌, ◌↔◌, ◌+◌, ◌
 ghost use Rattle.std.specs.Prelude.{map, nat_le, is_ok, IsOk, IfOk};
 ghost use Rattle.std.specs.Prelude.{MatchOption, IfErr, IfSome, IfNone, OnOk, OnErr, IsOkUnless};
 ghost use Rattle.std.specs.Option.{option_copied};
-ghost use Rattle.area_rows.specs.Areas.{AreKept, with_area, area_of, is_covered, IsCovered, HasGap, marked};
-ghost use Rattle.area_rows.specs.Areas.{HasNoneFree, IsFirstFree};
-ghost use Rattle.area_rows.specs.Areas.{without_debt, areas_within, areas_outside, most_tries};
-ghost use Rattle.area_rows.specs.Areas.{tried};
+ghost use Rattle.area_map_rows.specs.Areas.{AreKept, with_area, area_of, is_covered, IsCovered, HasGap, marked};
+ghost use Rattle.area_map_rows.specs.Areas.{HasNoneFree, IsFirstFree};
+ghost use Rattle.area_map_rows.specs.Areas.{without_debt, areas_within, areas_outside, most_tries};
+ghost use Rattle.area_map_rows.specs.Areas.{tried};
 ghost use Rattle.iofd_words.specs.Areas.{areas_meet, has_no_room, is_cut, area_at};
 ghost use Rattle.area_map.specs.Insertion.{insert_refusal};
 
 use crate::blocks::Blocks;
 use crate::insertion::MOST_AREAS;
 use crate::{gaps, insertion, leaving, removal};
-use area_rows::{Change, Iter, Row, changes, lookups, totals};
+use area_map_rows::{Change, Iter, Row, changes, lookups, totals};
 use iofd_words::{Area, CallError, Cause, DeviceNo, DeviceSet, NoMemory, Refusal, Span};
 use std::alloc::{Allocator, Global};
 use std::marker::Model;
@@ -40,7 +40,7 @@ impl<A: Allocator> Model for Areas<A> {
     ghost use Rattle.std.specs.Prelude.{◌+◌, ◌*◌, ◌≤◌, length};
     ghost use Rattle.std.specs.Vec.{vec_len, vec_capacity};
     ghost use Rattle.area_map.specs.AreaTable.{AreaTable};
-    ghost use Rattle.area_rows.specs.Rows.{in_rows};
+    ghost use Rattle.area_map_rows.specs.Rows.{in_rows};
     ghost use Rattle.area_map.specs.Kept.{room_of, AreInRows, IsSpare};
     ghost use Rattle.area_map.specs.Blocks.{AreBlocks};
 

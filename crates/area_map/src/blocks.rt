@@ -5,12 +5,12 @@
 ghost use Rattle.std.specs.Prelude.{◌≡◌, ◌+◌, ◌*◌, ◌/◌, ◌%◌, ◌<◌, ◌≤◌, ◌^◌};
 ghost use Rattle.std.specs.Prelude.{◌++◌, ◌∷◌, [], IsTrue, List, OnErr, OnOk};
 ghost use Rattle.std.specs.Prelude.{length, max, min};
-ghost use Rattle.area_rows.specs.Rows.{in_rows, AreRows, end_of, first_of, widest_behind, widest_of};
+ghost use Rattle.area_map_rows.specs.Rows.{in_rows, AreRows, end_of, first_of, widest_behind, widest_of};
 ghost use Rattle.area_map.specs.Blocks.{AreBlocks, AreBlocksBut, IsBlockOf, IsSameBut, block_of};
 ghost use Rattle.area_map.specs.Blocks.{gap_before, listed, rows_of, widest_around};
 ghost use Rattle.iofd_words.specs.declared.rows.Area.{Area};
 
-use area_rows::Row;
+use area_map_rows::Row;
 use iofd_words::NoMemory;
 use std::alloc::{Allocator, Global};
 use std::marker::Model;

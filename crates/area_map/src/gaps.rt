@@ -2,11 +2,11 @@
 
 ghost use Rattle.std.specs.Prelude.{◌≡◌, ◌+◌, ◌*◌, ◌<◌, ◌≤◌, ◌^◌, MatchOption, drop};
 ghost use Rattle.area_map.specs.Blocks.{AreBlocks, IsBlockOf, rows_of};
-ghost use Rattle.area_rows.specs.Areas.{AreApart, HasNoneFree, IsFirstFree};
-ghost use Rattle.area_rows.specs.Rows.{in_rows, AreRows, first_free};
+ghost use Rattle.area_map_rows.specs.Areas.{AreApart, HasNoneFree, IsFirstFree};
+ghost use Rattle.area_map_rows.specs.Rows.{in_rows, AreRows, first_free};
 
 use crate::blocks::{self, Block};
-use area_rows::{Row, gaps, lookups};
+use area_map_rows::{Row, gaps, lookups};
 use std::alloc::Allocator;
 
 /// The least address from `start` on from which so many addresses meet no area.

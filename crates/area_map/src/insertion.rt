@@ -4,14 +4,14 @@ ghost use Rattle.std.specs.Prelude.{◌≡◌, ◌+◌, ◌-◌, ◌*◌, ◌<�
 ghost use Rattle.std.specs.Prelude.{false, IsSome, None, OnOk, OnErr};
 ghost use Rattle.std.specs.Prelude.{drop, get_or, length, min, nat_le, nat_lt, set, take, vec_len, vec_capacity};
 ghost use Rattle.std.specs.List.{prefix_len};
-ghost use Rattle.area_rows.specs.Areas.{AreApart, with_area};
-ghost use Rattle.area_rows.specs.Rows.{in_rows, AreRows, end_of};
+ghost use Rattle.area_map_rows.specs.Areas.{AreApart, with_area};
+ghost use Rattle.area_map_rows.specs.Rows.{in_rows, AreRows, end_of};
 ghost use Rattle.area_map.specs.Blocks.{AreBlocks, IsSameBut};
 ghost use Rattle.area_map.specs.Kept.{IsSpare, room_of, takes_row};
 ghost use Rattle.iofd_words.specs.Areas.{areas_meet};
 
 use crate::blocks::{self, Blocks};
-use area_rows::{ROW, Row};
+use area_map_rows::{ROW, Row};
 use iofd_words::{Area, NoMemory};
 use std::alloc::Allocator;
 

@@ -3,9 +3,9 @@
 ghost use Rattle.std.specs.Prelude.{◌≡◌, ◌+◌, ◌-◌, ◌<◌, ◌≤◌, ◌++◌, [], IsTrue, false};
 ghost use Rattle.std.specs.Prelude.{get_or, length, set};
 ghost use Rattle.std.specs.Prelude.{take, vec_len, vec_capacity};
-ghost use Rattle.area_rows.specs.Rows.{in_rows, AreRows};
+ghost use Rattle.area_map_rows.specs.Rows.{in_rows, AreRows};
 
-use area_rows::{ROW, Row};
+use area_map_rows::{ROW, Row};
 use std::alloc::Allocator;
 
 /// Joins the row at this place with those beside it where they have few areas, and so the row behind it with the next.

@@ -1,12 +1,12 @@
 //! Where the leaving areas lie, so that a flush looks at no others.
 
 ghost use Rattle.std.specs.Prelude.{◌≡◌, List, Option};
-ghost use Rattle.area_rows.specs.Areas.{AreApart, areas_outside};
-ghost use Rattle.area_rows.specs.Rows.{in_rows, AreRows, LeavesIn, LeaveIn};
+ghost use Rattle.area_map_rows.specs.Areas.{AreApart, areas_outside};
+ghost use Rattle.area_map_rows.specs.Rows.{in_rows, AreRows, LeavesIn, LeaveIn};
 ghost use Rattle.area_map.specs.Kept.{joined};
 ghost use Rattle.iofd_words.specs.declared.rows.Area.{Area};
 
-use area_rows::{Iter, Row, lookups};
+use area_map_rows::{Iter, Row, lookups};
 use iofd_words::{Area, Phase, Span};
 use std::alloc::Allocator;
 

@@ -10,6 +10,6 @@ mod joining;
 mod leaving;
 mod removal;
 
-pub use area_rows::Iter;
+pub use area_map_rows::Iter;
 pub use areas::Areas;
 pub use insertion::MOST_AREAS;

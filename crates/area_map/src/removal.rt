@@ -3,13 +3,13 @@
 ghost use Rattle.std.specs.Prelude.{◌≡◌, ◌==◌, ◌+◌, ◌≤◌, false, length, map};
 ghost use Rattle.std.specs.Prelude.{not, vec_len, vec_capacity};
 ghost use Rattle.std.specs.List.{list_any, filter};
-ghost use Rattle.area_rows.specs.Areas.{AreKept, areas_outside};
-ghost use Rattle.area_rows.specs.Rows.{in_rows, AreRows};
+ghost use Rattle.area_map_rows.specs.Areas.{AreKept, areas_outside};
+ghost use Rattle.area_map_rows.specs.Rows.{in_rows, AreRows};
 ghost use Rattle.area_map.specs.Blocks.{AreBlocks, IsSameBut};
 
 use crate::blocks::Blocks;
 use crate::joining;
-use area_rows::{Row, changes};
+use area_map_rows::{Row, changes};
 use iofd_words::Span;
 use std::alloc::Allocator;
 

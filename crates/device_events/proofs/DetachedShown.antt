@@ -11,10 +11,10 @@ use Rattle.iofd_runs.proofs.NotRefused.{detach_passed}
 use Rattle.iofd_runs.proofs.OwnIds.{own_ids-filter}
 use Rattle.frame_memory.specs.Pool.{FramePool}
 use Rattle.iofd_rows.specs.Pinned.{ArePinned}
-use Rattle.memory_rows.proofs.FramesFollow.{translated_same}
-use Rattle.memory_rows.proofs.Gone.{all_have, released_none, table_lost}
-use Rattle.memory_rows.specs.Moves.{IsReleased, MayRelease}
-use Rattle.memory_rows.specs.Shown.{FramesShown, over, tables_in, translated}
+use Rattle.user_memory_rows.proofs.FramesFollow.{translated_same}
+use Rattle.user_memory_rows.proofs.Gone.{all_have, released_none, table_lost}
+use Rattle.user_memory_rows.specs.Moves.{IsReleased, MayRelease}
+use Rattle.user_memory_rows.specs.Shown.{FramesShown, over, tables_in, translated}
 use Rattle.user_memory.specs.Changes.{never}
 use Rattle.user_memory.specs.Memory.{Memory}
 use Rattle.std.specs.Prelude.{is_none}
@@ -63,8 +63,8 @@ use Rattle.device_events.proofs.PaidLeads.{paid_leads}
 use Rattle.device_events.proofs.TableGone.{given_rows, named_rows, orphan_rows, tables_kept, tests_kept}
 use Rattle.server_state.proofs.TablesUnreached.{unreached}
 use Rattle.device_events.proofs.Walked.{found_hwpt}
-use Rattle.hwpt_device.specs.PageTables.{Hwpt, IfAllStand, PageTables, hwpt_of, objects_of}
-use Rattle.hwpt_device.specs.Removed.{rows_found, without_tables}
+use Rattle.page_table_set.specs.PageTables.{Hwpt, IfAllStand, PageTables, hwpt_of, objects_of}
+use Rattle.page_table_set.specs.Removed.{rows_found, without_tables}
 use Rattle.iofd_rows.proofs.Each.{IsIn, in_found}
 use Rattle.iofd_rows.proofs.Moves.{device_is}
 use Rattle.iofd_runs.proofs.StillTabled.{leaves_table, none_after}
@@ -76,8 +76,8 @@ use Rattle.server_state.proofs.GivenBack.{times_in}
 use Rattle.server_state.proofs.GivenMoves.{gives, tables_left as tables_beside}
 use Rattle.server_state.proofs.GivenShown.{given_shown}
 use Rattle.server_state.proofs.Still.{still}
-use Rattle.table_words.specs.Released.{GivesBack}
-use Rattle.table_words.specs.Rows.{TableRow}
+use Rattle.page_table_words.specs.Released.{GivesBack}
+use Rattle.page_table_words.specs.Rows.{TableRow}
 use Rattle.server_state.proofs.Objects.{has_table}
 use Rattle.device_events.proofs.Flushed.{attached_to, shows_paid, unattached}
 use Rattle.server_state.proofs.MemoryReleased.{AreFewer, may_release, may_release_over, over_map, shown_over}

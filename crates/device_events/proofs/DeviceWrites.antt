@@ -9,7 +9,7 @@ use Rattle.std.proofs.lemmas.List.{get_or-set_other}
 use Rattle.std.proofs.lemmas.List.Folds.{list_all-append}
 use Rattle.std.proofs.lemmas.Bool.Decides.{nat_tests}
 use Rattle.frame_memory.specs.Pool.{FramePool, bytes_of, written}
-use Rattle.hwpt_device.specs.PageTables.{AllStand, Hwpt}
+use Rattle.page_table_set.specs.PageTables.{AllStand, Hwpt}
 use Rattle.iofd_rows.proofs.Bools.{and_true, both_true}
 use Rattle.iofd_words.specs.Answers.{write_reply}
 use Rattle.iofd_words.specs.Areas.{area_at, areas_of}
@@ -41,11 +41,11 @@ use Rattle.iofd_words.specs.declared.rows.Phase.TheVariants.{Live, Leaving}
 use Rattle.iofd_words.specs.declared.rows.Pin.{Pin}
 use Rattle.iofd_words.specs.declared.rows.TableFrame.{TableFrame}
 use Rattle.memory_objects.specs.Objects.{pins_on}
-use Rattle.memory_rows.specs.Shown.{FramesShown}
+use Rattle.user_memory_rows.specs.Shown.{FramesShown}
 use Rattle.server_state.proofs.TablesFollow.{tables_follow}
 use Rattle.server_state.specs.Shows.{Shows}
 use Rattle.server_state.specs.declared.state.State.{State}
-use Rattle.table_words.specs.Rows.{MappedPage}
+use Rattle.page_table_words.specs.Rows.{MappedPage}
 use Rattle.user_memory.specs.Memory.{Memory, reached}
 use Rattle.iofd_runs.proofs.PinnedAccess.{some_outcome}
 use Rattle.iofd_rows.proofs.Found.{found_passes as found_holds}

@@ -5,10 +5,10 @@ use Rattle.std.specs.List.{filter, list_all, list_any}
 use Rattle.std.specs.List.Sorted.{IsPermutation}
 use Rattle.std.proofs.lemmas.Bool.Decides.{nat_tests}
 use Rattle.std.proofs.lemmas.List.Sorted.{sum_by-IsPermutation}
-use Rattle.hwpt_device.proofs.Gone.{found_file, found_id}
-use Rattle.hwpt_device.proofs.OwnIds.{first_alone, own_parts}
-use Rattle.hwpt_device.specs.PageTables.{Hwpt, hwpt_of, row_of}
-use Rattle.hwpt_device.specs.Removed.{rows_found, without_hwpt}
+use Rattle.page_table_set.proofs.Gone.{found_file, found_id}
+use Rattle.page_table_set.proofs.OwnIds.{first_alone, own_parts}
+use Rattle.page_table_set.specs.PageTables.{Hwpt, hwpt_of, row_of}
+use Rattle.page_table_set.specs.Removed.{rows_found, without_hwpt}
 use Rattle.iofd_rows.proofs.Bools.{and_true, clash, not_true, not_false}
 use Rattle.iofd_rows.proofs.Each.{IsIn, of_all, of_each}
 use Rattle.iofd_rows.proofs.Found.{all_filter, find-filter, none_both}
@@ -24,12 +24,12 @@ use Rattle.iofd_words.specs.declared.numbers.ObjId.{ObjId}
 use Rattle.iofd_words.specs.declared.rows.Object.{Object}
 use Rattle.iofd_words.specs.declared.rows.ObjectKind.{ObjectKind}
 use Rattle.iofd_words.specs.declared.rows.TableFrame.{TableFrame}
-use Rattle.memory_rows.proofs.PinsFollow.{any_count, count-cons}
-use Rattle.memory_rows.specs.Shown.{tables_in}
+use Rattle.user_memory_rows.proofs.PinsFollow.{any_count, count-cons}
+use Rattle.user_memory_rows.specs.Shown.{tables_in}
 use Rattle.server_state.proofs.GivenBack.{times_in}
 use Rattle.server_state.specs.Tables.{page_tables_among}
-use Rattle.table_words.specs.Rows.{TableRow}
-use Rattle.table_words.specs.Taken.{names}
+use Rattle.page_table_words.specs.Rows.{TableRow}
+use Rattle.page_table_words.specs.Taken.{names}
 
 -- ---- its rows
 

@@ -6,8 +6,8 @@ use Rattle.std.specs.Option.{option_map, option_map_or}
 use Rattle.std.proofs.lemmas.Bool.Decides.{nat_tests}
 use Rattle.device_events.proofs.ByWalk.{has_pages, leaving_found, live_found, none_live, page_of_object}
 use Rattle.device_events.specs.Outcomes.{given_outcome}
-use Rattle.hwpt_device.specs.OverSpans.{is_over}
-use Rattle.hwpt_device.specs.PageTables.{Hwpt, hwpt_of, walk_in, walk_through}
+use Rattle.page_table_set.specs.OverSpans.{is_over}
+use Rattle.page_table_set.specs.PageTables.{Hwpt, hwpt_of, walk_in, walk_through}
 use Rattle.iofd_rows.proofs.Bools.{and_true, both_true, clash, not_true}
 use Rattle.iofd_rows.proofs.Each.{found_kept, in_filter, in_found, of_each}
 use Rattle.iofd_rows.proofs.Found.{all_filter}
@@ -64,7 +64,7 @@ use Rattle.server_state.specs.Held.{objects_in}
 use Rattle.server_state.specs.Step.{IsKnown, IsTidy}
 use Rattle.server_state.specs.Tables.{page_tables_among}
 use Rattle.server_state.specs.declared.state.State.{State}
-use Rattle.table_words.specs.Rows.{MappedPage}
+use Rattle.page_table_words.specs.Rows.{MappedPage}
 
 -- what comes of it by the walk
 abbrev pub of_walk : AccessKind → Walk → Outcome

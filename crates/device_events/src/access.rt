@@ -11,7 +11,7 @@ ghost use Rattle.iofd_words.specs.Pages.{crosses};
 ghost use Rattle.iofd_words.specs.Policy as policy;
 ghost use Rattle.iofd_words.specs.Width.{bits_of};
 ghost use Rattle.server_state.specs.Held.{areas_at};
-ghost use Rattle.server_state.specs.Choice.{is_pass_at};
+ghost use Rattle.iofd_words.specs.Policy.{is_pass_at};
 ghost use Rattle.device_events.specs.Outcomes.{given_outcome, outcome_told, outcomes_of, passes_at};
 ghost use Rattle.server_state.specs.Seen.{seen};
 ghost use Rattle.server_state.specs.Step.{IsKnown};

@@ -7,7 +7,7 @@ use Rattle.iofd_words.specs.declared.numbers.FileNo.{FileNo}
 use Rattle.iofd_words.specs.declared.numbers.ObjId.{ObjId}
 use Rattle.iofd_words.specs.declared.rows.Attachment.{Attachment}
 use Rattle.iofd_words.specs.declared.rows.Object.{Object}
-use Rattle.memory_rows.proofs.PinsFollow.{count-cons}
+use Rattle.user_memory_rows.proofs.PinsFollow.{count-cons}
 use Rattle.object_table.specs.Table.{Row, is_of_file}
 use Rattle.server_state.specs.Users.{AreCounted, devices_on, tables_over, users_at}
 use Rattle.server_state.specs.declared.held.Held.{Held}

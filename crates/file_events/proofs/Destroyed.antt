@@ -7,11 +7,11 @@ use Rattle.iofd_runs.proofs.KeepsPins.{keeps_pins}
 use Rattle.iofd_runs.proofs.NotRefused.{destroy_passed}
 use Rattle.iofd_runs.proofs.OwnIds.{own_ids-filter}
 use Rattle.frame_memory.specs.Pool.{FramePool}
-use Rattle.memory_rows.proofs.FramesFollow.{translated_same}
-use Rattle.memory_rows.proofs.Gone.{objects_left, over_parts, table_lost, translated_parts}
-use Rattle.memory_rows.proofs.Gone.{translated_space}
-use Rattle.memory_rows.specs.Moves.{IsReleased, MayRelease, if_translated}
-use Rattle.memory_rows.specs.Shown.{over, tables_in, translated}
+use Rattle.user_memory_rows.proofs.FramesFollow.{translated_same}
+use Rattle.user_memory_rows.proofs.Gone.{objects_left, over_parts, table_lost, translated_parts}
+use Rattle.user_memory_rows.proofs.Gone.{translated_space}
+use Rattle.user_memory_rows.specs.Moves.{IsReleased, MayRelease, if_translated}
+use Rattle.user_memory_rows.specs.Shown.{over, tables_in, translated}
 use Rattle.user_memory.specs.Changes.{never}
 use Rattle.user_memory.specs.Memory.{Memory}
 use Rattle.iofd_rows.specs.Pinned.{ArePinned}
@@ -71,17 +71,17 @@ use Rattle.file_events.proofs.GivesBackMoves.{gives_back}
 use Rattle.file_events.proofs.TablesGone.{of_one, one_counted, orphans_are, rows_named}
 use Rattle.server_state.proofs.TablesUnreached.{none_reach}
 use Rattle.file_events.proofs.TablesLeft.{among_left, one_left, one_widths}
-use Rattle.hwpt_device.proofs.Counted.{rows_in_frame}
-use Rattle.hwpt_device.specs.PageTables.{AllStand, Hwpt, IfAllStand, PageTables, hwpt_of, objects_of}
-use Rattle.hwpt_device.specs.Removed.{rows_found, without_tables}
+use Rattle.page_table_set.proofs.Counted.{rows_in_frame}
+use Rattle.page_table_set.specs.PageTables.{AllStand, Hwpt, IfAllStand, PageTables, hwpt_of, objects_of}
+use Rattle.page_table_set.specs.Removed.{rows_found, without_tables}
 use Rattle.iofd_words.specs.TablePlaces.{is_table_of}
 use Rattle.iofd_words.specs.Tables.{MovesTables, with_tables}
 use Rattle.iofd_words.specs.declared.numbers.FrameNo.{FrameNo}
 use Rattle.iofd_words.specs.declared.rows.TableFrame.{TableFrame}
-use Rattle.memory_rows.specs.Shown.{FramesShown}
+use Rattle.user_memory_rows.specs.Shown.{FramesShown}
 use Rattle.server_state.specs.Spaces.{is_space}
-use Rattle.table_words.specs.Released.{GivesBack}
-use Rattle.table_words.specs.Rows.{TableRow}
+use Rattle.page_table_words.specs.Released.{GivesBack}
+use Rattle.page_table_words.specs.Rows.{TableRow}
 use Rattle.server_state.specs.declared.held.Held.{Held}
 use Rattle.server_state.specs.declared.held.Held.TheVariants as held
 use Rattle.server_state.specs.declared.state.State.{State}

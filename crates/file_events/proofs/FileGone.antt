@@ -5,10 +5,10 @@ use Rattle.std.proofs.Common.{arith, get_or-set_other, ◌+◌, ◌≤◌, lengt
 use Rattle.iofd_runs.proofs.KeepsPins.{keeps_pins}
 use Rattle.iofd_runs.proofs.NotRefused.{close_passed}
 use Rattle.frame_memory.specs.Pool.{FramePool}
-use Rattle.memory_rows.proofs.Counts.{count_alike, count_within}
-use Rattle.memory_rows.proofs.Gone.{objects_left, over_parts, translated_parts}
-use Rattle.memory_rows.specs.Moves.{IsReleased, MayRelease}
-use Rattle.memory_rows.specs.Shown.{over, tables_in, translated}
+use Rattle.user_memory_rows.proofs.Counts.{count_alike, count_within}
+use Rattle.user_memory_rows.proofs.Gone.{objects_left, over_parts, translated_parts}
+use Rattle.user_memory_rows.specs.Moves.{IsReleased, MayRelease}
+use Rattle.user_memory_rows.specs.Shown.{over, tables_in, translated}
 use Rattle.user_memory.specs.Memory.{Memory}
 use Rattle.server_state.proofs.Orderly.{orderly}
 use Rattle.server_state.proofs.MemoryReleased.{AreFewer, may_release, shown_after, tables_lead, tables_stand}
@@ -17,9 +17,9 @@ use Rattle.file_events.proofs.GivesBackMoves.{gives_back}
 use Rattle.file_events.proofs.TablesGone.{file_counted, of_file, orphans_are, rows_named}
 use Rattle.server_state.proofs.TablesUnreached.{none_reach}
 use Rattle.file_events.proofs.TablesLeft.{file_left, file_widths}
-use Rattle.hwpt_device.proofs.Counted.{rows_in_frame}
-use Rattle.hwpt_device.specs.PageTables.{AllStand, Hwpt, IfAllStand, PageTables, objects_of as objects_kept}
-use Rattle.hwpt_device.specs.Removed.{CanRemoveFile, rows_of_file, without_file, without_tables_of}
+use Rattle.page_table_set.proofs.Counted.{rows_in_frame}
+use Rattle.page_table_set.specs.PageTables.{AllStand, Hwpt, IfAllStand, PageTables, objects_of as objects_kept}
+use Rattle.page_table_set.specs.Removed.{CanRemoveFile, rows_of_file, without_file, without_tables_of}
 use Rattle.iofd_rows.specs.Pinned.{ArePinned}
 use Rattle.iofd_words.specs.Tables.{MovesTables, with_tables}
 use Rattle.iofd_words.specs.World.{World}
@@ -28,8 +28,8 @@ use Rattle.iofd_words.specs.declared.rows.TableFrame.{TableFrame}
 use Rattle.server_state.proofs.GivenShown.{given_shown}
 use Rattle.server_state.specs.Choice.{AreFramesChosen, IsChosen}
 use Rattle.server_state.specs.Leads.{leads_in, leads_of}
-use Rattle.table_words.specs.Released.{GivesBack, Releases}
-use Rattle.table_words.specs.Rows.{TableRow}
+use Rattle.page_table_words.specs.Released.{GivesBack, Releases}
+use Rattle.page_table_words.specs.Rows.{TableRow}
 use Rattle.file_events.proofs.RowsCounted.{file_over, file_translated}
 use Rattle.file_events.specs.FileAreas.{areas_of_rows, translated_of}
 use Rattle.iofd_words.specs.Allowed.{AllowedRanges, allowed_of}

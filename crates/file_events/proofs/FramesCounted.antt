@@ -9,11 +9,11 @@ use Rattle.std.proofs.lemmas.List.{get_or_past, take-append-drop}
 use Rattle.std.proofs.lemmas.List.Concat.{flat_map-cons}
 use Rattle.std.proofs.lemmas.List.Elements.{filter-append}
 use Rattle.file_events.proofs.TablesGone.{file_counted, rows_few}
-use Rattle.hwpt_device.proofs.Counted.{fewer_tables, rows_in_frame}
-use Rattle.hwpt_device.proofs.OwnIds.{is_object-same, the_only}
-use Rattle.hwpt_device.proofs.Partly.{at_in}
-use Rattle.hwpt_device.specs.PageTables.{Hwpt, hwpt_of, rows_of}
-use Rattle.hwpt_device.specs.Removed.{rows_found, rows_of_file}
+use Rattle.page_table_set.proofs.Counted.{fewer_tables, rows_in_frame}
+use Rattle.page_table_set.proofs.OwnIds.{is_object-same, the_only}
+use Rattle.page_table_set.proofs.Partly.{at_in}
+use Rattle.page_table_set.specs.PageTables.{Hwpt, hwpt_of, rows_of}
+use Rattle.page_table_set.specs.Removed.{rows_found, rows_of_file}
 use Rattle.iofd_rows.proofs.Bools.{clash}
 use Rattle.iofd_rows.proofs.Each.{IsIn, in_found, of_any}
 use Rattle.iofd_rows.proofs.Named.{file_is}
@@ -23,11 +23,11 @@ use Rattle.iofd_words.specs.Objects.{is_object}
 use Rattle.iofd_words.specs.World.{World}
 use Rattle.iofd_words.specs.declared.numbers.FileNo.{FileNo}
 use Rattle.iofd_words.specs.declared.rows.TableFrame.{TableFrame}
-use Rattle.memory_rows.specs.Shown.{tables_in}
+use Rattle.user_memory_rows.specs.Shown.{tables_in}
 use Rattle.server_state.specs.Shows.{Shows}
 use Rattle.server_state.specs.Step.{IsTidy}
 use Rattle.server_state.specs.declared.state.State.{State}
-use Rattle.table_words.specs.Rows.{TableRow}
+use Rattle.page_table_words.specs.Rows.{TableRow}
 
 -- a page table is the one of its id
 found_itself : (tables : List Hwpt) (h : Hwpt) → have_own_ids (map (λ (h : Hwpt). h.object) tables) ≡ true

@@ -2,7 +2,7 @@
 use Rattle.std.proofs.Common.{◌≡◌, ℕ, Bool, not, Option, None, List, [], ap, sym, subst, ◌∙◌}
 use Rattle.std.specs.List.{filter}
 use Rattle.file_events.proofs.TablesGone.{given_rises, given_times}
-use Rattle.hwpt_device.proofs.Counted.{rows_in_frame}
+use Rattle.page_table_set.proofs.Counted.{rows_in_frame}
 use Rattle.iofd_rows.proofs.Each.{IsIn}
 use Rattle.iofd_runs.proofs.OwnIds.{keeps_own_ids}
 use Rattle.iofd_runs.proofs.SameTables.{same_tables}
@@ -16,14 +16,14 @@ use Rattle.iofd_words.specs.declared.event.Event.{Event}
 use Rattle.iofd_words.specs.declared.numbers.FrameNo.{FrameNo}
 use Rattle.iofd_words.specs.declared.reply.Reply.{Reply}
 use Rattle.iofd_words.specs.declared.rows.TableFrame.{TableFrame}
-use Rattle.memory_rows.specs.Shown.{tables_in}
+use Rattle.user_memory_rows.specs.Shown.{tables_in}
 use Rattle.server_state.proofs.GivenMoves.{gives, tables_left}
 use Rattle.server_state.specs.Choice.{AreFramesChosen, IsChosen}
 use Rattle.server_state.specs.Shows.{Shows}
 use Rattle.server_state.specs.Step.{IsTidy}
 use Rattle.server_state.specs.declared.state.State.{State}
-use Rattle.table_words.specs.Released.{GivesBack}
-use Rattle.table_words.specs.Rows.{TableRow}
+use Rattle.page_table_words.specs.Released.{GivesBack}
+use Rattle.page_table_words.specs.Rows.{TableRow}
 
 with_given : (v : World) (given : List FrameNo) (left : List TableFrame) → tables_after [] given v ≡ left
     → with_tables [] given v ≡ record v { table_frames = left }

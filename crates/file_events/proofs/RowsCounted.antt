@@ -20,10 +20,10 @@ use Rattle.file_events.specs.FileAreas.{areas_of_rows, translated_of}
 use Rattle.server_state.specs.Spaces.{is_space}
 use Rattle.server_state.specs.declared.held.Held.{Held}
 use Rattle.server_state.specs.declared.held.Held.TheVariants as held
-use Rattle.memory_rows.proofs.Counts.{count_alike, count_parts, count_within}
-use Rattle.memory_rows.proofs.Gone.{AreLeaving, count_space, leaving_further, may_some, over_append}
-use Rattle.memory_rows.specs.Moves.{IsReleased, MayRelease, if_translated}
-use Rattle.memory_rows.specs.Shown.{over, translated}
+use Rattle.user_memory_rows.proofs.Counts.{count_alike, count_parts, count_within}
+use Rattle.user_memory_rows.proofs.Gone.{AreLeaving, count_space, leaving_further, may_some, over_append}
+use Rattle.user_memory_rows.specs.Moves.{IsReleased, MayRelease, if_translated}
+use Rattle.user_memory_rows.specs.Shown.{over, translated}
 use Rattle.object_table.specs.Table.{Row, is_at, is_of_file}
 use Rattle.user_memory.specs.Changes.{never}
 use Rattle.user_memory.specs.Memory.{Memory}

@@ -7,11 +7,11 @@ use Rattle.std.specs.Option.{option_map}
 use Rattle.std.proofs.lemmas.Bool.Decides.{nat_tests}
 use Rattle.std.proofs.lemmas.List.Concat.{flat_map-cons}
 use Rattle.std.proofs.lemmas.List.Sorted.{sum_by-IsPermutation}
-use Rattle.hwpt_device.proofs.Counted.{one_more, one_row_more, rows_in_append, rows_in_frame}
-use Rattle.hwpt_device.proofs.Gone.{found_file, found_id}
-use Rattle.hwpt_device.proofs.OwnIds.{first_alone, own_parts}
-use Rattle.hwpt_device.specs.PageTables.{Hwpt, hwpt_of, row_of, rows_of}
-use Rattle.hwpt_device.specs.Removed.{rows_found, rows_of_file}
+use Rattle.page_table_set.proofs.Counted.{one_more, one_row_more, rows_in_append, rows_in_frame}
+use Rattle.page_table_set.proofs.Gone.{found_file, found_id}
+use Rattle.page_table_set.proofs.OwnIds.{first_alone, own_parts}
+use Rattle.page_table_set.specs.PageTables.{Hwpt, hwpt_of, row_of, rows_of}
+use Rattle.page_table_set.specs.Removed.{rows_found, rows_of_file}
 use Rattle.iofd_rows.proofs.Bools.{and_true, clash}
 use Rattle.iofd_rows.proofs.Each.{IsIn, found_kept, of_any, of_each}
 use Rattle.iofd_rows.proofs.Found.{find-filter, none_both}
@@ -27,16 +27,16 @@ use Rattle.iofd_words.specs.declared.numbers.ObjId.{ObjId}
 use Rattle.iofd_words.specs.declared.rows.Object.{Object}
 use Rattle.iofd_words.specs.declared.rows.ObjectKind.{ObjectKind}
 use Rattle.iofd_words.specs.declared.rows.TableFrame.{TableFrame}
-use Rattle.memory_rows.proofs.Counts.{count_alike, count_within}
-use Rattle.memory_rows.proofs.PinsFollow.{any_count, count-cons}
-use Rattle.memory_rows.specs.Shown.{tables_in}
+use Rattle.user_memory_rows.proofs.Counts.{count_alike, count_within}
+use Rattle.user_memory_rows.proofs.PinsFollow.{any_count, count-cons}
+use Rattle.user_memory_rows.specs.Shown.{tables_in}
 use Rattle.server_state.proofs.GivenBack.{times_in}
 use Rattle.server_state.proofs.PageTables.{found_among}
 use Rattle.server_state.proofs.TablesUnreached.{its_table}
 use Rattle.server_state.specs.Tables.{page_tables_among}
-use Rattle.table_words.specs.Released.{GivesBack}
-use Rattle.table_words.specs.Rows.{TableRow}
-use Rattle.table_words.specs.Taken.{names}
+use Rattle.page_table_words.specs.Released.{GivesBack}
+use Rattle.page_table_words.specs.Rows.{TableRow}
+use Rattle.page_table_words.specs.Taken.{names}
 
 -- ---- lists
 

@@ -2,9 +2,9 @@
 use Rattle.std.proofs.Common.{◌≡◌, Bool, true, false, cond, not, eqb, List, [], ◌∷◌, map, refl, ap, sym, ◌∙◌, arith}
 use Rattle.std.specs.List.{filter, list_all}
 use Rattle.std.proofs.lemmas.Bool.Decides.{nat_tests}
-use Rattle.hwpt_device.proofs.OwnIds.{first_alone, own_parts}
-use Rattle.hwpt_device.specs.PageTables.{Hwpt}
-use Rattle.hwpt_device.specs.Removed.{without_file, without_hwpt}
+use Rattle.page_table_set.proofs.OwnIds.{first_alone, own_parts}
+use Rattle.page_table_set.specs.PageTables.{Hwpt}
+use Rattle.page_table_set.specs.Removed.{without_file, without_hwpt}
 use Rattle.iofd_rows.proofs.Each.{in_filter, of_all}
 use Rattle.iofd_rows.proofs.Found.{all_filter}
 use Rattle.iofd_rows.proofs.ListTests.{filter_all}

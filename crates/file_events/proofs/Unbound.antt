@@ -27,7 +27,7 @@ use Rattle.iofd_rows.proofs.Named.{file_is, id_is, kind_only}
 use Rattle.iofd_rows.proofs.PageTables.{hwpt-unbound}
 use Rattle.iofd_rows.specs.Ids.{AreBoundOnce, have_own_ids}
 use Rattle.iofd_runs.proofs.NotRefused.{unbind_passed}
-use Rattle.memory_rows.proofs.FramesFollow.{pins_moved, translated_same}
+use Rattle.user_memory_rows.proofs.FramesFollow.{pins_moved, translated_same}
 use Rattle.file_events.proofs.SpacesGone.{areas-removed, areas_stay, found_without, other_goes}
 use Rattle.object_table.specs.Table.{Row, Table, destroy_refusal, is_at, removed}
 use Rattle.object_table.specs.declared.kind.Kind.TheVariants as of_kind

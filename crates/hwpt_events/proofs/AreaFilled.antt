@@ -7,8 +7,8 @@ use Rattle.std.specs.List.{find}
 use Rattle.std.proofs.lemmas.Bool.Decides.{nat_tests}
 use Rattle.std.proofs.lemmas.Option.{slice_get-get_or}
 use Rattle.frame_memory.specs.Pool.{FramePool, free_count}
-use Rattle.hwpt_device.specs.OverSpans.{LeadsMapped, frames_for, missing_found, with_missing}
-use Rattle.hwpt_device.specs.PageTables.{AllStand, Hwpt, IfAllStand, KeepsOthers, hwpt_of}
+use Rattle.page_table_set.specs.OverSpans.{LeadsMapped, frames_for, missing_found, with_missing}
+use Rattle.page_table_set.specs.PageTables.{AllStand, Hwpt, IfAllStand, KeepsOthers, hwpt_of}
 use Rattle.iofd_rows.proofs.Bools.{and_true, both_true, clash}
 use Rattle.iofd_rows.proofs.Each.{in_found}
 use Rattle.iofd_rows.proofs.Named.{file_is, id_is}
@@ -28,8 +28,8 @@ use Rattle.iofd_words.specs.declared.rows.Area.{Area}
 use Rattle.iofd_words.specs.declared.rows.MemoryObject.{MemoryObject}
 use Rattle.iofd_words.specs.declared.rows.TableFrame.{TableFrame}
 use Rattle.server_state.specs.Leads.{lead_by, leads_in, object_page}
-use Rattle.table_spans.specs.Spans.{IsOfPages, held_once}
-use Rattle.table_words.specs.Rows.{MappedPage}
+use Rattle.page_table_spans.specs.Spans.{IsOfPages, held_once}
+use Rattle.page_table_words.specs.Rows.{MappedPage}
 use Rattle.user_memory.specs.Memory as memory
 use Rattle.user_memory.specs.Memory.{Memory, pinned_frame}
 use Rattle.hwpt_events.proofs.Filled.{none_filled}

@@ -23,14 +23,14 @@ use Rattle.iofd_words.specs.declared.rows.MemoryObject.{MemoryObject}
 use Rattle.iofd_words.specs.declared.rows.Object.{Object}
 use Rattle.iofd_words.specs.declared.width.Width.{Width}
 use Rattle.iofd_words.specs.declared.width.Width.TheVariants.{Bits39}
-use Rattle.hwpt_device.specs.PageTables.{Hwpt, objects_of}
+use Rattle.page_table_set.specs.PageTables.{Hwpt, objects_of}
 use Rattle.hwpt_events.proofs.Gained.{table_gained}
 use Rattle.hwpt_events.specs.Making.{IsRoomy, made_object}
 use Rattle.iofd_words.specs.View.{View, view}
 use Rattle.server_state.proofs.ViewShown.{same_view}
-use Rattle.memory_rows.proofs.Gone.{few_translated}
-use Rattle.memory_rows.specs.Moves.{numbers_of}
-use Rattle.memory_rows.specs.Shown.{over, translated}
+use Rattle.user_memory_rows.proofs.Gone.{few_translated}
+use Rattle.user_memory_rows.specs.Moves.{numbers_of}
+use Rattle.user_memory_rows.specs.Shown.{over, translated}
 use Rattle.user_memory.proofs.NewPages.{lacking_pages}
 use Rattle.user_memory.specs.Invariant.{ObjectsTell}
 use Rattle.user_memory.specs.Memory.{Memory, are_of, frame_now, lacks_page, newly_pinned, pinned_frame, rows_at}
@@ -38,9 +38,9 @@ use Rattle.user_memory.specs.Memory.{rows_of}
 use Rattle.std.proofs.Common.{subst}
 use Rattle.iofd_rows.specs.Ids.{have_own_ids}
 use Rattle.iofd_words.specs.Checks.{passes_limit, passes_limit_attached}
-use Rattle.memory_rows.proofs.FramesFollow.{is_backed}
-use Rattle.memory_rows.proofs.PinsFollow.{only_kept}
-use Rattle.memory_rows.specs.Moves.{MayPin, PinsAreKnown}
+use Rattle.user_memory_rows.proofs.FramesFollow.{is_backed}
+use Rattle.user_memory_rows.proofs.PinsFollow.{only_kept}
+use Rattle.user_memory_rows.specs.Moves.{MayPin, PinsAreKnown}
 use Rattle.user_memory.specs.Memory.{has_room}
 use Rattle.server_state.proofs.AreasBecome.{own_at}
 use Rattle.server_state.proofs.Orderly.{orderly}

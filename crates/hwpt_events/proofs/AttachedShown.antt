@@ -33,8 +33,8 @@ use Rattle.iofd_rows.proofs.Paid.{pays_none}
 use Rattle.iofd_runs.proofs.KeepsPins.{keeps_pins}
 use Rattle.iofd_runs.proofs.Known.{bound_known}
 use Rattle.iofd_runs.proofs.NotRefused.{attach_passed, target_passed}
-use Rattle.memory_rows.proofs.PinsFollow.{only_kept, pins_follow}
-use Rattle.memory_rows.proofs.Released.{settles_none}
+use Rattle.user_memory_rows.proofs.PinsFollow.{only_kept, pins_follow}
+use Rattle.user_memory_rows.proofs.Released.{settles_none}
 use Rattle.hwpt_events.specs.Making.{IsRoomy, MayCome, lacks_tables, made_object, missing_with, named_table}
 use Rattle.hwpt_events.specs.Making.{table_there, width_of, with_table}
 use Rattle.iofd_runs.proofs.StillTabled.{finds_table, owned_after}

@@ -9,7 +9,7 @@ use Rattle.std.proofs.lemmas.Bool.Decides.{nat_tests}
 use Rattle.std.proofs.lemmas.List.{map-append}
 use Rattle.std.proofs.lemmas.List.Sorted.{list_any-IsPermutation}
 use Rattle.std.proofs.lemmas.List.Sums.{sum_by-cons}
-use Rattle.area_rows.specs.Areas.{AreApart, AreApartFrom}
+use Rattle.area_map_rows.specs.Areas.{AreApart, AreApartFrom}
 use Rattle.iofd_words.specs.Pins.{unpinned_pages}
 use Rattle.iofd_words.specs.declared.rows.Area.{Area}
 use Rattle.iofd_words.specs.declared.rows.MemoryObject.{MemoryObject}
@@ -17,7 +17,7 @@ use Rattle.memory_objects.proofs.Counted.{no_numbers, one_number_more}
 use Rattle.memory_objects.proofs.OneObject.{sum_by-map}
 use Rattle.memory_objects.specs.Objects as objects
 use Rattle.memory_objects.specs.Objects.{MemoryEntry, are_rising, new_count_in, object_at}
-use Rattle.memory_rows.specs.Moves.{numbers_of}
+use Rattle.user_memory_rows.specs.Moves.{numbers_of}
 use Rattle.object_table.proofs.Lists.{list_any-map}
 use Rattle.user_memory.proofs.Counts.{newly_told}
 use Rattle.user_memory.specs.Invariant.{ObjectsTell}

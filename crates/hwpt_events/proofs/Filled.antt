@@ -5,13 +5,13 @@ use Rattle.std.proofs.Common.{sym, ◌∙◌, arith, Vec, vec_capacity, vec_len}
 use Rattle.std.specs.List.{filter, flat_map}
 use Rattle.std.proofs.lemmas.Grind.{flat_map-append}
 use Rattle.std.proofs.lemmas.List.{append_assoc, length-map}
-use Rattle.area_rows.specs.Areas.{AreApart, AreApartFrom}
+use Rattle.area_map_rows.specs.Areas.{AreApart, AreApartFrom}
 use Rattle.frame_memory.specs.Pool.{FramePool}
-use Rattle.hwpt_device.proofs.Kept.{rows_have}
-use Rattle.hwpt_device.proofs.Missing.{missing_at}
-use Rattle.hwpt_device.proofs.Staying.{all_told}
-use Rattle.hwpt_device.specs.OverSpans.{frames_for, with_missing}
-use Rattle.hwpt_device.specs.PageTables.{AllStand, Hwpt, HwptStands, PageTables, hwpt_of, rows_of}
+use Rattle.page_table_set.proofs.Kept.{rows_have}
+use Rattle.page_table_set.proofs.Missing.{missing_at}
+use Rattle.page_table_set.proofs.Staying.{all_told}
+use Rattle.page_table_set.specs.OverSpans.{frames_for, with_missing}
+use Rattle.page_table_set.specs.PageTables.{AllStand, Hwpt, HwptStands, PageTables, hwpt_of, rows_of}
 use Rattle.iofd_rows.proofs.Each.{IsIn, in_found}
 use Rattle.iofd_words.specs.Levels.{first_address, levels_of}
 use Rattle.iofd_words.specs.Objects.{is_object}
@@ -26,15 +26,15 @@ use Rattle.iofd_words.specs.declared.rows.Object.{Object}
 use Rattle.iofd_words.specs.declared.rows.TableFrame.{TableFrame}
 use Rattle.iofd_words.specs.declared.width.Width.{Width}
 use Rattle.server_state.specs.Leads.{leads_in, live_area_at}
-use Rattle.table_spans.proofs.Lacking.{are_with, lacking_append}
-use Rattle.table_spans.proofs.LeastFrames.{length_least}
-use Rattle.table_spans.proofs.OnePage.{row_there}
-use Rattle.table_spans.specs.Spans as spans
-use Rattle.table_spans.specs.Spans.{held_once}
-use Rattle.table_words.proofs.Frames.{no_frames}
-use Rattle.table_words.proofs.Lookups.{some_is}
-use Rattle.table_words.proofs.Tops.{number-first}
-use Rattle.table_words.specs.Rows.{MappedPage, table_at}
+use Rattle.page_table_spans.proofs.Lacking.{are_with, lacking_append}
+use Rattle.page_table_spans.proofs.LeastFrames.{length_least}
+use Rattle.page_table_spans.proofs.OnePage.{row_there}
+use Rattle.page_table_spans.specs.Spans as spans
+use Rattle.page_table_spans.specs.Spans.{held_once}
+use Rattle.page_table_words.proofs.Frames.{no_frames}
+use Rattle.page_table_words.proofs.Lookups.{some_is}
+use Rattle.page_table_words.proofs.Tops.{number-first}
+use Rattle.page_table_words.specs.Rows.{MappedPage, table_at}
 use Rattle.user_memory.specs.Memory.{Memory, pinned_frame}
 use Rattle.hwpt_events.proofs.FilledInTurn.{as_many, few, more_filled}
 use Rattle.hwpt_events.proofs.TablesInTurn.{live_in_turn}

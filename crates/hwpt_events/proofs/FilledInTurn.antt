@@ -5,13 +5,13 @@ use Rattle.std.proofs.Common.{arith}
 use Rattle.std.specs.List.{find}
 use Rattle.std.proofs.lemmas.Bool.Decides.{nat_tests}
 use Rattle.std.proofs.lemmas.List.{append_assoc}
-use Rattle.area_rows.specs.Areas.{AreApart, AreApartFrom}
+use Rattle.area_map_rows.specs.Areas.{AreApart, AreApartFrom}
 use Rattle.frame_memory.specs.Pool.{FramePool, free_count}
-use Rattle.hwpt_device.proofs.Counted.{tables_append}
-use Rattle.hwpt_device.proofs.Missing.{frames_in_turn, held_more, missing_in_turn}
-use Rattle.hwpt_device.proofs.Staying.{all_told}
-use Rattle.hwpt_device.specs.OverSpans.{frames_for, with_missing}
-use Rattle.hwpt_device.specs.PageTables.{AllStand, Hwpt, tables_in}
+use Rattle.page_table_set.proofs.Counted.{tables_append}
+use Rattle.page_table_set.proofs.Missing.{frames_in_turn, held_more, missing_in_turn}
+use Rattle.page_table_set.proofs.Staying.{all_told}
+use Rattle.page_table_set.specs.OverSpans.{frames_for, with_missing}
+use Rattle.page_table_set.specs.PageTables.{AllStand, Hwpt, tables_in}
 use Rattle.iofd_rows.proofs.Bools.{and_true}
 use Rattle.iofd_rows.proofs.Each.{IsIn, in_found}
 use Rattle.iofd_words.specs.Objects.{is_object}
@@ -26,8 +26,8 @@ use Rattle.iofd_words.specs.declared.rows.Object.{Object}
 use Rattle.iofd_words.specs.declared.rows.TableFrame.{TableFrame}
 use Rattle.iofd_words.specs.declared.width.Width.{Width}
 use Rattle.server_state.specs.Leads.{lead_by, live_area_at}
-use Rattle.table_spans.specs.Spans.{held_once}
-use Rattle.table_words.specs.Rows.{MappedPage}
+use Rattle.page_table_spans.specs.Spans.{held_once}
+use Rattle.page_table_words.specs.Rows.{MappedPage}
 use Rattle.user_memory.specs.Memory.{Memory, pinned_frame}
 use Rattle.hwpt_events.proofs.TablesInTurn.{live_in_turn, tables_in_turn}
 use Rattle.hwpt_events.specs.Filling.{IsFilled, filled, tables_for, with_tables_for}

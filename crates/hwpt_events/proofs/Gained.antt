@@ -3,8 +3,8 @@ use Rattle.std.proofs.Common.{◌≡◌, ℕ, ◌+◌, Bool, true, false, ◌&&�
 use Rattle.std.proofs.lemmas.Bool.Decides.{nat_tests}
 use Rattle.iofd_words.specs.Areas.{areas_of}
 use Rattle.iofd_words.specs.Objects.{has_hwpt, with_object}
-use Rattle.memory_rows.proofs.Gone.{table_lost}
-use Rattle.memory_rows.specs.Shown.{over, translated}
+use Rattle.user_memory_rows.proofs.Gone.{table_lost}
+use Rattle.user_memory_rows.specs.Shown.{over, translated}
 use Rattle.iofd_words.specs.declared.numbers.FileNo.{FileNo}
 use Rattle.iofd_words.specs.declared.numbers.ObjId.{ObjId}
 use Rattle.iofd_words.specs.declared.rows.Area.{Area}

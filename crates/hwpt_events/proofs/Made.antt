@@ -2,13 +2,13 @@
 use Rattle.std.proofs.Common.{◌≡◌, ◌+◌, ℕ, eqb, List, map, sym, ◌∙◌, ap, subst, arith}
 use Rattle.std.specs.List.{count_by, list_all}
 use Rattle.frame_memory.specs.Pool.{FramePool}
-use Rattle.hwpt_device.specs.PageTables.{AllStand, Hwpt, PageTables}
+use Rattle.page_table_set.specs.PageTables.{AllStand, Hwpt, PageTables}
 use Rattle.iofd_words.specs.Frames.{frame_at}
 use Rattle.iofd_words.specs.World.{World}
 use Rattle.iofd_words.specs.declared.rows.UserPage.{UserPage}
 use Rattle.memory_objects.specs.Objects.{pins_on}
-use Rattle.memory_rows.proofs.FramesFollow.{pins_same}
-use Rattle.memory_rows.specs.Shown.{FramesShown, tables_in}
+use Rattle.user_memory_rows.proofs.FramesFollow.{pins_same}
+use Rattle.user_memory_rows.specs.Shown.{FramesShown, tables_in}
 use Rattle.object_table.specs.Table.{Row}
 use Rattle.server_state.specs.Held.{areas_at, is_proper, object_of}
 use Rattle.server_state.specs.Leads.{leads_of}

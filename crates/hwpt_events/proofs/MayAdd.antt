@@ -6,8 +6,8 @@ use Rattle.std.specs.List.{filter, find, list_all, list_any}
 use Rattle.std.proofs.lemmas.Bool.Decides.{nat_tests}
 use Rattle.std.proofs.lemmas.List.{length-map}
 use Rattle.frame_memory.specs.Pool.{FramePool, free_count}
-use Rattle.hwpt_device.proofs.Missing.{missing_at}
-use Rattle.hwpt_device.specs.PageTables.{rows_of, row_of}
+use Rattle.page_table_set.proofs.Missing.{missing_at}
+use Rattle.page_table_set.specs.PageTables.{rows_of, row_of}
 use Rattle.iofd_rows.proofs.Bools.{and_true, both_true, clash}
 use Rattle.iofd_rows.proofs.Each.{IsIn, in_filter, of_any, of_each}
 use Rattle.iofd_rows.proofs.Named.{file_is, id_is}
@@ -33,9 +33,9 @@ use Rattle.iofd_words.specs.declared.rows.MemoryObject.{MemoryObject}
 use Rattle.iofd_words.specs.declared.rows.Object.{Object}
 use Rattle.iofd_words.specs.declared.rows.TableFrame.{TableFrame}
 use Rattle.iofd_words.specs.declared.width.Width.{Width}
-use Rattle.memory_rows.proofs.PinsFollow.{any_count}
-use Rattle.memory_rows.specs.Moves.{ArePinnedMore}
-use Rattle.memory_rows.specs.Shown.{translated}
+use Rattle.user_memory_rows.proofs.PinsFollow.{any_count}
+use Rattle.user_memory_rows.specs.Moves.{ArePinnedMore}
+use Rattle.user_memory_rows.specs.Shown.{translated}
 use Rattle.server_state.proofs.AreasBecome.{own_at}
 use Rattle.server_state.proofs.Orderly.{orderly}
 use Rattle.server_state.proofs.ViewShown.{same_count}

@@ -4,7 +4,7 @@ use Rattle.std.proofs.Common.{Option, Some, None, List, [], ◌∷◌, map, refl
 use Rattle.std.specs.List.{count_by, list_any}
 use Rattle.std.proofs.lemmas.Bool.Decides.{nat_tests}
 use Rattle.frame_memory.specs.Pool.{FramePool}
-use Rattle.hwpt_device.specs.PageTables.{AllStand, Hwpt, hwpt_of}
+use Rattle.page_table_set.specs.PageTables.{AllStand, Hwpt, hwpt_of}
 use Rattle.iofd_rows.specs.Pinned.{ArePinned}
 use Rattle.iofd_rows.proofs.Bools.{and_true, both_true}
 use Rattle.iofd_rows.proofs.Each.{IsIn, in_filter}
@@ -25,11 +25,11 @@ use Rattle.iofd_words.specs.declared.rows.MemoryObject.{MemoryObject}
 use Rattle.iofd_words.specs.declared.rows.Object.{Object}
 use Rattle.iofd_words.specs.declared.rows.UserPage.{UserPage}
 use Rattle.iofd_words.specs.declared.width.Width.{Width}
-use Rattle.memory_rows.proofs.FramesFollow.{frames_follow, translated_same}
-use Rattle.memory_rows.proofs.Named.{settles_named}
-use Rattle.memory_rows.proofs.PinsFollow.{only_kept, pins_follow}
-use Rattle.memory_rows.specs.Moves.{ArePinnedMore}
-use Rattle.memory_rows.specs.Shown.{FramesShown, PinsShown, UsersShown, over, translated}
+use Rattle.user_memory_rows.proofs.FramesFollow.{frames_follow, translated_same}
+use Rattle.user_memory_rows.proofs.Named.{settles_named}
+use Rattle.user_memory_rows.proofs.PinsFollow.{only_kept, pins_follow}
+use Rattle.user_memory_rows.specs.Moves.{ArePinnedMore}
+use Rattle.user_memory_rows.specs.Shown.{FramesShown, PinsShown, UsersShown, over, translated}
 use Rattle.server_state.proofs.FreeAlike.{AreAlike, free_alike}
 use Rattle.server_state.proofs.LeadsStay.{has_page, is_translated, leads_alike, pin_stays, spaces_alike, stand_alike}
 use Rattle.server_state.proofs.TablesFollow.{tables_follow}

@@ -4,9 +4,9 @@ use Rattle.std.specs.Prelude.{if◌then◌else◌}
 use Rattle.std.specs.Result.{OnErr, OnOk}
 use Rattle.frame_memory.specs.Pool.{FramePool}
 use Rattle.iofd_words.specs.declared.rows.Area.{Area}
-use Rattle.memory_rows.proofs.Released.{settles_none}
-use Rattle.memory_rows.specs.Moves.{ArePinnedMore, PinsAreKnown}
-use Rattle.memory_rows.specs.Shown.{over}
+use Rattle.user_memory_rows.proofs.Released.{settles_none}
+use Rattle.user_memory_rows.specs.Moves.{ArePinnedMore, PinsAreKnown}
+use Rattle.user_memory_rows.specs.Shown.{over}
 use Rattle.user_memory.specs.Changes.{HasPins, SameObjects, Settles}
 use Rattle.user_memory.specs.Memory.{Memory}
 use Rattle.hwpt_events.specs.Pinning.{Stays}

@@ -4,15 +4,16 @@ use Rattle.std.proofs.Common.{◌++◌, length, length-append, refl, ap, subst, 
 use Rattle.std.specs.Prelude.{IfSome}
 use Rattle.std.proofs.lemmas.Bool.Decides.{nat_tests}
 use Rattle.std.proofs.lemmas.List.{get_or-set_other}
-use Rattle.area_rows.specs.Areas.{AreApart}
+use Rattle.area_map_rows.specs.Areas.{AreApart}
 use Rattle.frame_memory.specs.Pool.{FramePool, bytes_of, free_count, given, least_free, zeros}
-use Rattle.hwpt_device.proofs.Inserted.{tables_in_with}
-use Rattle.hwpt_device.proofs.Kept.{rows_have}
-use Rattle.hwpt_device.proofs.Missing.{missing_at}
-use Rattle.hwpt_device.proofs.Staying.{all_told}
-use Rattle.hwpt_device.specs.OverSpans.{frames_for, with_missing}
-use Rattle.hwpt_device.specs.PageTables.{AllStand, Hwpt, KeepsOthers, hwpt_at, hwpt_of, root_frame, rows_of, tables_in}
-use Rattle.hwpt_device.specs.PageTables.{with_hwpt}
+use Rattle.page_table_set.proofs.Inserted.{tables_in_with}
+use Rattle.page_table_set.proofs.Kept.{rows_have}
+use Rattle.page_table_set.proofs.Missing.{missing_at}
+use Rattle.page_table_set.proofs.Staying.{all_told}
+use Rattle.page_table_set.specs.OverSpans.{frames_for, with_missing}
+use Rattle.page_table_set.specs.PageTables.{AllStand, Hwpt, KeepsOthers, hwpt_at, hwpt_of, root_frame, rows_of}
+use Rattle.page_table_set.specs.PageTables.{tables_in}
+use Rattle.page_table_set.specs.PageTables.{with_hwpt}
 use Rattle.iofd_words.specs.Objects.{comes_before, is_object}
 use Rattle.iofd_words.specs.TablePlaces.{has_table, live_pages, root_place}
 use Rattle.iofd_words.specs.Tables.{MissingTable, in_frames}
@@ -21,10 +22,10 @@ use Rattle.iofd_words.specs.declared.rows.Area.{Area}
 use Rattle.iofd_words.specs.declared.rows.Object.{Object}
 use Rattle.iofd_words.specs.declared.rows.TableFrame.{TableFrame}
 use Rattle.iofd_words.specs.declared.width.Width.{Width}
-use Rattle.table_spans.specs.Spans as spans
-use Rattle.table_spans.specs.Spans.{held_once}
-use Rattle.table_words.proofs.Frames.{free_taken, least_frames_more, no_frames, some_least}
-use Rattle.table_words.specs.Rows.{TableRow}
+use Rattle.page_table_spans.specs.Spans as spans
+use Rattle.page_table_spans.specs.Spans.{held_once}
+use Rattle.page_table_words.proofs.Frames.{free_taken, least_frames_more, no_frames, some_least}
+use Rattle.page_table_words.specs.Rows.{TableRow}
 use Rattle.user_memory.specs.Memory.{Memory}
 use Rattle.hwpt_events.proofs.Filled.{fails_both, tables_fewer}
 use Rattle.hwpt_events.proofs.FilledInTurn.{Leads, as_many, more_filled}

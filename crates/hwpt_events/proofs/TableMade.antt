@@ -5,9 +5,9 @@ use Rattle.std.specs.Prelude.{slice_index}
 use Rattle.std.specs.List.{list_all}
 use Rattle.std.proofs.lemmas.Bool.Decides.{nat_tests}
 use Rattle.frame_memory.specs.Pool.{FramePool, free_count}
-use Rattle.hwpt_device.proofs.Inserted.{in_with}
-use Rattle.hwpt_device.proofs.Missing.{least_are_free}
-use Rattle.hwpt_device.specs.PageTables.{AllStand, Hwpt, KeepsOthers, PageTables, hwpt_at, with_hwpt}
+use Rattle.page_table_set.proofs.Inserted.{in_with}
+use Rattle.page_table_set.proofs.Missing.{least_are_free}
+use Rattle.page_table_set.specs.PageTables.{AllStand, Hwpt, KeepsOthers, PageTables, hwpt_at, with_hwpt}
 use Rattle.iofd_rows.proofs.Bools.{and_true, both_true}
 use Rattle.iofd_rows.proofs.Each.{IsIn, of_any, of_each}
 use Rattle.iofd_rows.proofs.Found.{find-with_object}
@@ -30,8 +30,8 @@ use Rattle.iofd_words.specs.declared.rows.Area.{Area}
 use Rattle.iofd_words.specs.declared.rows.Object.{Object}
 use Rattle.iofd_words.specs.declared.rows.TableFrame.{TableFrame}
 use Rattle.iofd_words.specs.declared.width.Width.{Width}
-use Rattle.memory_rows.specs.Moves.{ArePinnedMore}
-use Rattle.memory_rows.specs.Shown.{FramesShown, tables_in}
+use Rattle.user_memory_rows.specs.Moves.{ArePinnedMore}
+use Rattle.user_memory_rows.specs.Shown.{FramesShown, tables_in}
 use Rattle.object_table.specs.Table.{Table}
 use Rattle.server_state.proofs.FreeFrames as free_frames
 use Rattle.server_state.proofs.GivenBack.{times_in}
@@ -44,12 +44,12 @@ use Rattle.server_state.specs.Step.{IsTidy}
 use Rattle.server_state.specs.Tables.{has_own_width}
 use Rattle.server_state.specs.declared.held.Held.{Held}
 use Rattle.server_state.specs.declared.state.State.{State}
-use Rattle.table_spans.proofs.LeastFrames.{are_frames, length_least}
-use Rattle.table_words.specs.Taken.{least_frames}
+use Rattle.page_table_spans.proofs.LeastFrames.{are_frames, length_least}
+use Rattle.page_table_words.specs.Taken.{least_frames}
 use Rattle.user_memory.specs.Memory.{Memory, reached}
 use Rattle.iofd_words.specs.Pins as pin
-use Rattle.table_spans.specs.Spans.{held_once}
-use Rattle.table_words.specs.Rows.{MappedPage}
+use Rattle.page_table_spans.specs.Spans.{held_once}
+use Rattle.page_table_words.specs.Rows.{MappedPage}
 use Rattle.user_memory.specs.Memory as memory
 use Rattle.server_state.proofs.FreeAlike.{least_frames_alike}
 use Rattle.hwpt_events.proofs.MayAdd.{free_there}

@@ -8,8 +8,8 @@ use Rattle.std.proofs.lemmas.List.{length-map, map-append}
 use Rattle.std.proofs.lemmas.List.Elements.{filter-append}
 use Rattle.std.proofs.lemmas.List.Folds.{list_any-append}
 use Rattle.frame_memory.specs.Pool.{free_count}
-use Rattle.hwpt_device.proofs.Missing.{missing_at}
-use Rattle.hwpt_device.specs.OverSpans.{frames_for, with_missing}
+use Rattle.page_table_set.proofs.Missing.{missing_at}
+use Rattle.page_table_set.specs.OverSpans.{frames_for, with_missing}
 use Rattle.iofd_rows.proofs.Bools.{both_true}
 use Rattle.iofd_words.specs.Levels.{levels_of}
 use Rattle.iofd_words.specs.TablePlaces.{TablePlace, has_table, is_live, is_place, is_table_of, lacking, live_pages}
@@ -20,8 +20,8 @@ use Rattle.iofd_words.specs.declared.rows.Area.{Area}
 use Rattle.iofd_words.specs.declared.rows.Object.{Object}
 use Rattle.iofd_words.specs.declared.rows.TableFrame.{TableFrame}
 use Rattle.iofd_words.specs.declared.width.Width.{Width}
-use Rattle.table_spans.proofs.Lacking.{are_with, lacking_append, lacking_same}
-use Rattle.table_spans.proofs.LeastFrames.{length_least}
+use Rattle.page_table_spans.proofs.Lacking.{are_with, lacking_append, lacking_same}
+use Rattle.page_table_spans.proofs.LeastFrames.{length_least}
 use Rattle.hwpt_events.specs.Filling.{tables_for}
 
 -- ---- rows of tables in frames

@@ -5,8 +5,8 @@ use Rattle.std.specs.Prelude.{slice_index}
 use Rattle.std.specs.List.{count_by, filter, list_all, list_any}
 use Rattle.std.proofs.lemmas.Bool.Decides.{nat_tests}
 use Rattle.frame_memory.specs.Pool.{FramePool}
-use Rattle.hwpt_device.proofs.Staying.{table_held}
-use Rattle.hwpt_device.specs.PageTables.{AllStand, Hwpt, row_of, rows_of}
+use Rattle.page_table_set.proofs.Staying.{table_held}
+use Rattle.page_table_set.specs.PageTables.{AllStand, Hwpt, row_of, rows_of}
 use Rattle.iofd_rows.proofs.Bools.{and_true, both_true, clash}
 use Rattle.iofd_rows.proofs.Each.{IsIn, in_map, of_any, of_each}
 use Rattle.iofd_rows.proofs.Named.{object_of_kind}
@@ -21,12 +21,12 @@ use Rattle.iofd_words.specs.declared.numbers.ObjId.{ObjId}
 use Rattle.iofd_words.specs.declared.rows.Object.{Object}
 use Rattle.iofd_words.specs.declared.rows.ObjectKind.{ObjectKind}
 use Rattle.iofd_words.specs.declared.rows.TableFrame.{TableFrame}
-use Rattle.memory_rows.proofs.PinsFollow.{any_count, count-cons}
-use Rattle.memory_rows.specs.Shown.{tables_in}
+use Rattle.user_memory_rows.proofs.PinsFollow.{any_count, count-cons}
+use Rattle.user_memory_rows.specs.Shown.{tables_in}
 use Rattle.server_state.proofs.GivenBack.{times_in}
 use Rattle.server_state.specs.Tables.{page_tables_among}
-use Rattle.table_words.specs.Rows.{MappedPage, TableRow}
-use Rattle.table_words.specs.Taken.{names}
+use Rattle.page_table_words.specs.Rows.{MappedPage, TableRow}
+use Rattle.page_table_words.specs.Taken.{names}
 
 -- ---- a frame in a list
 

@@ -2,10 +2,10 @@
 use Rattle.std.specs.Prelude.{ℕ, ◌≡◌, ◌≤◌, ◌<◌, ◌+◌, ◌*◌, true, false, ◌==◌, ◌&&◌}
 use Rattle.std.specs.Prelude.{Option, Some, None, is_some}
 use Rattle.std.specs.Prelude.{List, [], ◌++◌, find, length, map, if◌then◌else◌}
-use Rattle.area_rows.specs.Areas.{AreApart}
+use Rattle.area_map_rows.specs.Areas.{AreApart}
 use Rattle.frame_memory.specs.Pool.{FramePool, free_count}
-use Rattle.hwpt_device.specs.OverSpans.{frames_for, with_missing}
-use Rattle.hwpt_device.specs.PageTables.{AllStand, Hwpt, KeepsOthers, hwpt_of, rows_of}
+use Rattle.page_table_set.specs.OverSpans.{frames_for, with_missing}
+use Rattle.page_table_set.specs.PageTables.{AllStand, Hwpt, KeepsOthers, hwpt_of, rows_of}
 use Rattle.iofd_rows.proofs.Each.{IsIn}
 use Rattle.iofd_runs.specs.Fits.{begins_at_page, is_of_pages}
 use Rattle.iofd_words.specs.Objects.{is_object}
@@ -22,8 +22,8 @@ use Rattle.iofd_words.specs.declared.rows.Object.{Object}
 use Rattle.iofd_words.specs.declared.rows.TableFrame.{TableFrame}
 use Rattle.iofd_words.specs.declared.width.Width.{Width}
 use Rattle.server_state.specs.Leads.{leads_in, live_area_at}
-use Rattle.table_spans.specs.Spans.{held_once}
-use Rattle.table_words.specs.Rows.{MappedPage}
+use Rattle.page_table_spans.specs.Spans.{held_once}
+use Rattle.page_table_words.specs.Rows.{MappedPage}
 use Rattle.user_memory.specs.Memory as memory
 use Rattle.user_memory.specs.Memory.{Memory, pinned_frame, table_pins}
 

@@ -2,16 +2,16 @@
 
 ghost use Rattle.std.specs.Prelude.{◌≡◌, ◌<◌, ◌-◌, ◌∷◌, [], IfSome, vec_capacity, vec_len};
 ghost use Rattle.frame_memory.specs.Pool.{least_free};
-ghost use Rattle.hwpt_device.specs.PageTables.{hwpt_at, with_hwpt};
+ghost use Rattle.page_table_set.specs.PageTables.{hwpt_at, with_hwpt};
 ghost use Rattle.hwpt_events.specs.Filling.{Adds, CanAdd, CanFill, Fills};
 ghost use Rattle.iofd_words.specs.TablePlaces as places;
 ghost use Rattle.server_state.specs.Mapping.{own_areas};
 
 use area_map::Iter;
 use frame_memory::Pool;
-use hwpt_device::PageTables;
 use iofd_words::{Area, FileNo, FrameNo, ObjId, Object, Phase, Width};
 use object_table::ObjectTable;
+use page_table_set::PageTables;
 use server_state::{Held, area_changes};
 use std::alloc::Allocator;
 use user_memory::UserMemory;

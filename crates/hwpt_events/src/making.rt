@@ -18,7 +18,7 @@ ghost use Rattle.iofd_words.specs.Span.{meets};
 ghost use Rattle.iofd_words.specs.Usable.{beyond};
 ghost use Rattle.std.specs.List.{list_any};
 ghost use Rattle.hwpt_events.specs.Pinning.{Stays, newly_translated};
-ghost use Rattle.memory_rows.specs.Moves.{ArePinnedMore, MayPin, PinsAreKnown};
+ghost use Rattle.user_memory_rows.specs.Moves.{ArePinnedMore, MayPin, PinsAreKnown};
 ghost use Rattle.server_state.specs.Seen.{seen};
 ghost use Rattle.server_state.specs.Step.{IsKnown, ShowsSame};
 

@@ -29,6 +29,7 @@ pub mod Settings
 pub mod Span
 pub mod TablePlaces
 pub mod Tables
+pub mod Turns
 pub mod Usable
 pub mod View
 pub mod Width

@@ -1,29 +1,34 @@
 -- The answers to questions, which change nothing.
-use Rattle.std.specs.Prelude.{ℕ, ◌≡◌, ◌^◌, Bool, ◌&&◌, not, nat_lt, Option, Some, None, List, []}
+use Rattle.std.specs.Prelude.{ℕ, ◌≡◌, ◌^◌, Bool, ◌&&◌, not, nat_lt, Option, Some, None, is_none, List, []}
 use Rattle.std.specs.Prelude.{◌∷◌, map}
+use Rattle.std.specs.List.{list_any}
+use Rattle.std.specs.Option.{option_map}
+use Rattle.iofd_words.specs.Attachments.{attachment_of}
 use Rattle.iofd_words.specs.Bounds.{Bounds}
 use Rattle.iofd_words.specs.Checks.{access_checks, unusable_in, user_access_checks}
 use Rattle.iofd_words.specs.FirstTrue.{first_true}
 use Rattle.iofd_words.specs.Frames.{bytes_at, frame_at, free_count}
-use Rattle.iofd_words.specs.Files.{is_user}
+use Rattle.iofd_words.specs.Files.{is_device, is_user}
 use Rattle.iofd_words.specs.Objects.{has_ioas}
 use Rattle.iofd_words.specs.Pages.{offset_of, page_of}
 use Rattle.iofd_words.specs.Pins.{held_by, pinned_frame}
-use Rattle.iofd_words.specs.Policy.{Outcome, Passes, Denied, outcomes, fault_of}
+use Rattle.iofd_words.specs.Policy.{Outcome, Passes, Denied, outcomes, fault_of, is_pass_at}
 use Rattle.iofd_words.specs.Ranges.{AreMerged, in_spans}
 use Rattle.iofd_words.specs.Run.{world_of}
 use Rattle.iofd_words.specs.Settings.{Settings}
 use Rattle.iofd_words.specs.View.{View, view}
 use Rattle.iofd_words.specs.World.{World}
+use Rattle.iofd_words.specs.declared.fault.AccessKind.{AccessKind}
 use Rattle.iofd_words.specs.declared.fault.AccessKind.TheVariants.{Read}
 use Rattle.iofd_words.specs.declared.numbers.DeviceNo.{DeviceNo}
 use Rattle.iofd_words.specs.declared.numbers.FileNo.{FileNo}
 use Rattle.iofd_words.specs.declared.numbers.FrameNo.{FrameNo}
+use Rattle.iofd_words.specs.declared.numbers.Iova.{Iova}
 use Rattle.iofd_words.specs.declared.numbers.ObjId.{ObjId}
 use Rattle.iofd_words.specs.declared.query.Answer.{Answer}
 use Rattle.iofd_words.specs.declared.query.Answer.TheVariants as answer
 use Rattle.iofd_words.specs.declared.query.Query.{Query}
-use Rattle.iofd_words.specs.declared.query.Query.TheVariants.{DeviceRead, FreeFrames, Held, UserRead}
+use Rattle.iofd_words.specs.declared.query.Query.TheVariants.{AttachedTo, DeviceRead, FreeFrames, Held, UserRead}
 use Rattle.iofd_words.specs.declared.record.Record.{Record}
 use Rattle.iofd_words.specs.declared.refusal.Cause.{Cause}
 use Rattle.iofd_words.specs.declared.refusal.Cause.TheVariants as cause
@@ -34,6 +39,7 @@ query_checks v (DeviceRead device iova len) = access_checks v device iova len
 query_checks v (UserRead user va len) = user_access_checks v user va len
 query_checks v FreeFrames = []
 query_checks v (Held user) = (cause.Id, not (is_user v.settings user)) ∷ []
+query_checks v (AttachedTo device) = (cause.Id, not (is_device v.settings device)) ∷ []
 
 -- those of the question for an address space's usable ranges
 abbrev pub ranges_checks : View → FileNo → ObjId → List (Cause × Bool)
@@ -66,6 +72,8 @@ lawful_answers w records (UserRead user va len) = user_bytes w va len (frame_at 
 lawful_answers w records FreeFrames =
     answer.Count (free_count w.settings.pool w.user_pages w.pins w.table_frames) ∷ []
 lawful_answers w records (Held user) = answer.Count (held_by (pinned_frame w.pins) w.memory user) ∷ []
+lawful_answers w records (AttachedTo device) =
+    answer.Attached (option_map (λ a. a.hwpt) (attachment_of w.attachments device)) ∷ []
 
 -- all lawful answers, in this world and after these records
 unfoldable pub answers_in : {A : Type 0} → World → List (Record A) → Query → List Answer
@@ -78,3 +86,9 @@ answers_in w records query =
 -- all lawful answers after a run
 abbrev pub answers_to : {A : Type 0} → Settings → List (Record A) → Query → List Answer
 answers_to settings records query = answers_in (world_of settings records) records query
+
+-- nothing refuses the device's access to so many bytes from the address on, and the policy lets it pass at this frame
+abbrev pub passes_in : World → DeviceNo → Iova → ℕ → AccessKind → FrameNo → Bool
+passes_in w device iova len kind frame =
+    is_none (first_true (access_checks (view w) device iova len))
+    && list_any (is_pass_at frame) (outcomes w device iova.0 kind)

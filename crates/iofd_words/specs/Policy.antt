@@ -7,7 +7,7 @@
 --   5. else it is denied for want of the right, a write or a read.
 -- `access_outcomes` is the whole, by what is read of a world, and `outcomes` the same of a world; the words before are
 -- its parts.
-use Rattle.std.specs.Prelude.{ℕ, ◌-◌, ◌/◌, ◌^◌, nat_le, Option, Some, None, List, [], ◌∷◌}
+use Rattle.std.specs.Prelude.{ℕ, ◌-◌, ◌/◌, ◌^◌, nat_le, ◌==◌, Bool, false, Option, Some, None, List, [], ◌∷◌}
 use Rattle.std.specs.Prelude.{◌++◌, if◌then◌else◌}
 use Rattle.iofd_words.specs.Areas.{area_at}
 use Rattle.iofd_words.specs.Attachments.{attachment_of, ioas_of_attachment}
@@ -36,6 +36,11 @@ use Rattle.iofd_words.specs.declared.rows.Phase.TheVariants.{Live, Leaving}
 pub data Outcome : Type 0 where
   Passes : FrameNo → Outcome
   Denied : FaultReason → Outcome
+
+-- it passes at this frame
+abbrev pub is_pass_at : FrameNo → Outcome → Bool
+is_pass_at frame (Passes at) = at.0 == frame.0
+is_pass_at frame (Denied reason) = false
 
 -- the page of its memory object that an area has at the address
 abbrev pub page_in : Area → ℕ → ObjectPage

@@ -2,7 +2,7 @@
 
 use crate::burst::Burst;
 use crate::fault::Fault;
-use crate::numbers::{DeviceNo, Iova, UserNo};
+use crate::numbers::{DeviceNo, Iova, ObjId, UserNo};
 use crate::refusal::Refusal;
 
 /// A question about the world. It changes nothing and isn't recorded.
@@ -24,6 +24,8 @@ pub enum Query {
     FreeFrames,
     /// How many pinned pages a user has.
     Held(UserNo),
+    /// By which hardware page table a device translates.
+    AttachedTo(DeviceNo),
 }
 
 /// The answer to a question.
@@ -33,6 +35,8 @@ pub enum Answer {
     Read(Burst),
     /// How many there are.
     Count(u64),
+    /// The id of the hardware page table, in the file that the device is bound to; None where it isn't attached.
+    Attached(Option<ObjId>),
     /// The access was denied.
     Fault(Fault),
     /// The question was refused.

@@ -22,7 +22,7 @@ use Rattle.iofd_runs.proofs.SameSettings.{changed_settings}
 use Rattle.iommufd_core.proofs.Histories.{run_more, tidy_run, world_more}
 use Rattle.server_state.specs.Choice.{AreFramesChosen, IsChosen, MayUse}
 use Rattle.iommufd_core.specs.History.{History, may_apply, world}
-use Rattle.server_state.specs.Choice.{is_pass_at}
+use Rattle.iofd_words.specs.Policy.{is_pass_at}
 use Rattle.server_state.specs.Step.{recorded}
 use Rattle.iommufd_core.specs.Kept.{IsKept}
 use Rattle.server_state.specs.Shows.{Shows}

@@ -11,7 +11,7 @@ use Rattle.iofd_words.specs.declared.numbers.FileNo.{FileNo}
 use Rattle.iofd_words.specs.declared.numbers.UserNo.{UserNo}
 use Rattle.iofd_words.specs.declared.rows.UserPage.{UserPage}
 use Rattle.server_state.specs.declared.held.Held.{Held}
-use Rattle.memory_rows.specs.Shown.{FramesShown, PinsShown}
+use Rattle.user_memory_rows.specs.Shown.{FramesShown, PinsShown}
 use Rattle.object_table.specs.Table.{fresh_table, is_open}
 use Rattle.memory_objects.specs.Invariant.{MemoryInvariant}
 use Rattle.memory_objects.specs.Objects as entries

@@ -1,38 +1,24 @@
 -- What a core is seen as: what it was opened with, and its records.
-use Rattle.std.specs.Prelude.{◌≡◌, ℕ, Bool, true, false, ◌&&◌, Option, Some, None, is_none, List, []}
+use Rattle.std.specs.Prelude.{◌≡◌, ℕ, Bool, true, false, Option, Some, None, List, []}
 use Rattle.std.specs.Prelude.{◌∷◌, ◌++◌, length}
-use Rattle.std.specs.List.{list_any}
 use Rattle.iofd_words.specs.After.{changed}
 use Rattle.iofd_words.specs.Checks.{refusal}
-use Rattle.iofd_words.specs.FirstTrue.{first_true}
-use Rattle.iofd_words.specs.Look.{query_checks}
-use Rattle.iofd_words.specs.Policy.{outcomes}
+use Rattle.iofd_words.specs.Look.{passes_in}
 use Rattle.iofd_words.specs.Run.{world_of}
 use Rattle.iofd_words.specs.Settings.{Settings}
-use Rattle.iofd_words.specs.View.{view}
 use Rattle.iofd_words.specs.World.{World}
 use Rattle.iofd_words.specs.declared.event.Event.{Event}
 use Rattle.iofd_words.specs.declared.event.Event.TheVariants as event
-use Rattle.iofd_words.specs.declared.fault.AccessKind.{AccessKind}
 use Rattle.iofd_words.specs.declared.fault.AccessKind.TheVariants.{Write}
-use Rattle.iofd_words.specs.declared.numbers.DeviceNo.{DeviceNo}
 use Rattle.iofd_words.specs.declared.numbers.FrameNo.{FrameNo}
 use Rattle.iofd_words.specs.declared.numbers.PassNo.{PassNo}
-use Rattle.iofd_words.specs.declared.query.Query.TheVariants.{DeviceRead}
-use Rattle.iofd_words.specs.declared.numbers.Iova.{Iova}
 use Rattle.iofd_words.specs.declared.record.Record.{Record}
 use Rattle.iofd_words.specs.declared.reply.Reply.{Reply}
-use Rattle.server_state.specs.Choice.{AreFramesChosen, is_pass_at}
+use Rattle.server_state.specs.Choice.{AreFramesChosen}
 
 pub record History (A : Type 0) : Type 0 where
   pub settings : Settings
   pub records : List (Record A)
-
--- what may_pass asks: nothing refuses the access, and the policy lets it pass at this frame
-abbrev pub passes_in : World → DeviceNo → Iova → ℕ → AccessKind → FrameNo → Bool
-passes_in w device iova len kind frame =
-    is_none (first_true (query_checks (view w) (DeviceRead device iova len)))
-    && list_any (is_pass_at frame) (outcomes w device iova.0 kind)
 
 module _ {A : Type 0} where
   -- the world that the records have left

@@ -3,10 +3,10 @@
 ghost use Rattle.std.specs.Prelude.{◌≡◌, ◌<◌, ◌^◌, [], IfOk, IsTrue, OnErr, length, None};
 ghost use Rattle.iofd_words.specs.Checks as checks;
 ghost use Rattle.iofd_words.specs.FirstTrue.{first_true};
-ghost use Rattle.iofd_words.specs.Look.{AreUsableRanges, answers_to, ranges_checks};
+ghost use Rattle.iofd_words.specs.Look.{AreUsableRanges, answers_to, passes_in, ranges_checks};
 ghost use Rattle.iofd_words.specs.Run.{IsRun};
 ghost use Rattle.server_state.specs.Choice.{IsChosen, IsLooked};
-ghost use Rattle.iommufd_core.specs.History.{HasOneMore, may_apply, passes_in, world};
+ghost use Rattle.iommufd_core.specs.History.{HasOneMore, may_apply, world};
 ghost use Rattle.iommufd_core.specs.Ranges.{refused_ranges};
 ghost use Rattle.iommufd_core.specs.Server.{MayWant};
 ghost use Rattle.iofd_words.specs.View.{view};

@@ -5,10 +5,10 @@ ghost use Rattle.iofd_words.specs.World.{opening};
 ghost use Rattle.server_state.specs.Shows.{Shows};
 
 use frame_memory::Pool;
-use hwpt_device::PageTables;
 use iofd_words::{Config, NoMemory};
 use iova_ranges::AllowedTable;
 use object_table::ObjectTable;
+use page_table_set::PageTables;
 use server_state::State;
 use std::alloc::Allocator;
 use user_memory::UserMemory;

@@ -7,8 +7,8 @@ use Rattle.std.specs.List.{find, flat_map}
 use Rattle.std.proofs.lemmas.Bool.Decides.{nat_tests}
 use Rattle.std.proofs.lemmas.Option.{slice_get-get_or}
 use Rattle.frame_memory.specs.Pool.{FramePool}
-use Rattle.hwpt_device.specs.OverSpans.{LeadsMapped, hwpts_over, is_over, missing_in, with_missing}
-use Rattle.hwpt_device.specs.PageTables.{AllStand, Hwpt}
+use Rattle.page_table_set.specs.OverSpans.{LeadsMapped, hwpts_over, is_over, missing_in, with_missing}
+use Rattle.page_table_set.specs.PageTables.{AllStand, Hwpt}
 use Rattle.iofd_rows.proofs.Bools.{and_true}
 use Rattle.iofd_rows.proofs.Each.{IsIn}
 use Rattle.iofd_words.specs.Pages.{page_of}
@@ -23,9 +23,9 @@ use Rattle.iofd_words.specs.declared.rows.TableFrame.{TableFrame}
 use Rattle.map_events.specs.AreaMapped.{IsAreaMapped, area_leads, missing_for}
 use Rattle.server_state.proofs.LeadsStay.{stand_alike}
 use Rattle.server_state.specs.Leads.{lead_by, leads_in, object_page}
-use Rattle.table_spans.specs.Spans.{held_once}
-use Rattle.table_words.specs.Rows.{MappedPage}
-use Rattle.table_words.specs.Taken.{least_frames}
+use Rattle.page_table_spans.specs.Spans.{held_once}
+use Rattle.page_table_words.specs.Rows.{MappedPage}
+use Rattle.page_table_words.specs.Taken.{least_frames}
 use Rattle.user_memory.specs.Memory as memory
 use Rattle.user_memory.specs.Memory.{Memory, pinned_frame}
 

@@ -3,9 +3,9 @@
 use Rattle.std.proofs.Common.{◌≡◌, ℕ, ◌*◌, ◌<◌, ◌≤◌, Bool, true, false, cond, ◌&&◌, ◌||◌, eqb, ltb, get_or}
 use Rattle.std.proofs.Common.{is_some, Option, Some, None, List, [], ◌∷◌, refl, ◌∙◌, ap, arith}
 use Rattle.std.proofs.lemmas.Bool.Decides.{nat_tests}
-use Rattle.area_rows.specs.Areas as own
+use Rattle.area_map_rows.specs.Areas as own
 use Rattle.frame_memory.specs.Pool.{FramePool}
-use Rattle.hwpt_device.specs.PageTables.{AllStand}
+use Rattle.page_table_set.specs.PageTables.{AllStand}
 use Rattle.iofd_rows.proofs.Bools.{and_true, clash}
 use Rattle.iofd_rows.proofs.Each.{IsIn, in_filter, in_found}
 use Rattle.iofd_rows.proofs.Named.{file_is, id_is}
@@ -26,10 +26,10 @@ use Rattle.iofd_words.specs.declared.rows.Area.{Area}
 use Rattle.iofd_words.specs.declared.rows.MemoryObject.{MemoryObject}
 use Rattle.map_events.proofs.AreasFiltered.{with_area_other, with_area_own}
 use Rattle.server_state.proofs.FreeAlike.{AreAlike, free_alike}
-use Rattle.memory_rows.proofs.FramesFollow.{frames_follow}
-use Rattle.memory_rows.proofs.Named.{settles_named}
-use Rattle.memory_rows.proofs.PinsFollow.{only_kept}
-use Rattle.memory_rows.specs.Shown.{FramesShown, PinsShown}
+use Rattle.user_memory_rows.proofs.FramesFollow.{frames_follow}
+use Rattle.user_memory_rows.proofs.Named.{settles_named}
+use Rattle.user_memory_rows.proofs.PinsFollow.{only_kept}
+use Rattle.user_memory_rows.specs.Shown.{FramesShown, PinsShown}
 use Rattle.server_state.proofs.LeadsStay.{has_page, is_translated, lead_alike, pin_stays}
 use Rattle.server_state.proofs.TablesFollow.{tables_follow}
 use Rattle.server_state.specs.Leads.{lead_by, leads_in, leads_of, live_area_at, object_page, space_leads}

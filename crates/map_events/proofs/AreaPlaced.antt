@@ -2,7 +2,7 @@
 use Rattle.std.proofs.Common.{◌≡◌, ℕ, ◌+◌, ◌<◌, Bool, true, false, ◌&&◌, not, eqb, None, is_some, List, [], ◌∷◌, refl}
 use Rattle.std.proofs.Common.{sym, ◌∙◌, ap, arith, subst}
 use Rattle.std.proofs.lemmas.Bool.Decides.{nat_tests}
-use Rattle.area_rows.specs.Areas as own
+use Rattle.area_map_rows.specs.Areas as own
 use Rattle.area_map.specs.Insertion.{insert_refusal}
 use Rattle.std.specs.List.{count_by, list_any}
 use Rattle.iofd_rows.proofs.Bools.{both_false, clash, not_false}
@@ -51,8 +51,8 @@ use Rattle.iofd_runs.proofs.MappedAt.{LiesAt, placed_lies}
 use Rattle.iofd_words.specs.Frames.{frame_at}
 use Rattle.iofd_words.specs.declared.rows.UserPage.{UserPage}
 use Rattle.memory_objects.specs.Objects.{pins_on}
-use Rattle.memory_rows.proofs.FramesFollow.{pins_same}
-use Rattle.memory_rows.specs.Shown.{FramesShown, tables_in}
+use Rattle.user_memory_rows.proofs.FramesFollow.{pins_same}
+use Rattle.user_memory_rows.specs.Shown.{FramesShown, tables_in}
 use Rattle.user_memory.specs.Changes.{SameObjects}
 
 -- an area that isn't of this address space

@@ -6,9 +6,9 @@ use Rattle.std.specs.Prelude.{slice_index}
 use Rattle.std.specs.List.{count_by, list_all}
 use Rattle.std.proofs.lemmas.Bool.Decides.{nat_tests}
 use Rattle.frame_memory.specs.Pool.{FramePool, free_count}
-use Rattle.hwpt_device.proofs.Missing.{least_are_free, missing_counted}
-use Rattle.hwpt_device.specs.OverSpans.{tables_needed, with_missing}
-use Rattle.hwpt_device.specs.PageTables.{AllStand, Hwpt, IfAllStand, KeepsOthers}
+use Rattle.page_table_set.proofs.Missing.{least_are_free, missing_counted}
+use Rattle.page_table_set.specs.OverSpans.{tables_needed, with_missing}
+use Rattle.page_table_set.specs.PageTables.{AllStand, Hwpt, IfAllStand, KeepsOthers}
 use Rattle.iofd_rows.proofs.Bools.{and_true, both_true}
 use Rattle.iofd_rows.proofs.Each.{IsIn, in_filter, of_any, of_each}
 use Rattle.iofd_runs.proofs.StillTabled.{none_given}
@@ -41,8 +41,8 @@ use Rattle.map_events.proofs.MissingMapped.{missing_mapped}
 use Rattle.server_state.proofs.TablesUnreached.{in_list, unreached}
 use Rattle.map_events.proofs.TakenOnce.{counted_there, each_once}
 use Rattle.map_events.specs.AreaMapped.{IsAreaMapped, area_leads, missing_for}
-use Rattle.memory_rows.proofs.Named.{settles_named}
-use Rattle.memory_rows.specs.Shown.{FramesShown, tables_in}
+use Rattle.user_memory_rows.proofs.Named.{settles_named}
+use Rattle.user_memory_rows.specs.Shown.{FramesShown, tables_in}
 use Rattle.object_table.specs.Table.{Table}
 use Rattle.server_state.proofs.FreeFrames as free_frames
 use Rattle.server_state.proofs.GivenBack.{times_in}
@@ -57,9 +57,9 @@ use Rattle.server_state.specs.Step.{IsTidy}
 use Rattle.server_state.specs.Tables.{page_tables_among}
 use Rattle.server_state.specs.declared.held.Held.{Held}
 use Rattle.server_state.specs.declared.state.State.{State}
-use Rattle.table_spans.proofs.LeastFrames.{are_frames, length_least}
-use Rattle.table_spans.specs.Spans.{held_once}
-use Rattle.table_words.specs.Taken.{least_frames}
+use Rattle.page_table_spans.proofs.LeastFrames.{are_frames, length_least}
+use Rattle.page_table_spans.specs.Spans.{held_once}
+use Rattle.page_table_words.specs.Taken.{least_frames}
 use Rattle.user_memory.specs.Memory as memory
 use Rattle.user_memory.specs.Memory.{Memory, reached}
 

@@ -1,7 +1,7 @@
 -- The areas of one address space, taken from all areas, where one more comes.
 use Rattle.std.proofs.Common.{◌≡◌, Bool, true, false, cond, ◌&&◌, ltb, List, [], ◌∷◌, refl, ap, arith}
 use Rattle.std.proofs.lemmas.Bool.Decides.{nat_tests}
-use Rattle.area_rows.specs.Areas as own
+use Rattle.area_map_rows.specs.Areas as own
 use Rattle.iofd_words.specs.Areas.{areas_of, is_of}
 use Rattle.iofd_words.specs.Areas as world
 use Rattle.iofd_words.specs.declared.numbers.FileNo.{FileNo}

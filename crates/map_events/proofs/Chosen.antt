@@ -8,7 +8,7 @@ use Rattle.std.proofs.lemmas.Bool.{cases_lt, or_cases}
 use Rattle.std.proofs.lemmas.List.Folds.{list_any-append}
 use Rattle.iofd_rows.proofs.Bools.{and_true, both_false, clash, or_false}
 use Rattle.iofd_rows.proofs.ListTests.{any_weaker, false_else, or_left, or_right}
-use Rattle.area_rows.specs.Areas.{AreApart, AreApartFrom, HasNoneFree, IsFirstFree}
+use Rattle.area_map_rows.specs.Areas.{AreApart, AreApartFrom, HasNoneFree, IsFirstFree}
 use Rattle.iofd_runs.specs.Fits.{begins_at_page, is_of_pages}
 use Rattle.iofd_words.specs.Areas.{areas_meet}
 use Rattle.iofd_words.specs.Bounds.{Bounds}

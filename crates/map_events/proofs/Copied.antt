@@ -2,9 +2,9 @@
 use Rattle.std.proofs.Common.{◌≡◌, ℕ, ◌+◌, ◌<◌, ◌≤◌, ◌^◌, Bool, true, false, Option, Some, None, List, [], length, sym}
 use Rattle.std.proofs.Common.{◌∙◌, ap, subst}
 use Rattle.std.specs.Prelude.{if◌then◌else◌}
-use Rattle.area_rows.specs.Areas as own
+use Rattle.area_map_rows.specs.Areas as own
 use Rattle.frame_memory.specs.Pool.{FramePool, free_count}
-use Rattle.hwpt_device.specs.PageTables.{IfAllStand}
+use Rattle.page_table_set.specs.PageTables.{IfAllStand}
 use Rattle.iofd_runs.proofs.CopySource.{IsSource, copy_source, source_area}
 use Rattle.iofd_runs.proofs.KeepsOwnMemory.{OwnPins, copied_own}
 use Rattle.iofd_runs.proofs.MappedAt.{copy_lies_at}

@@ -18,7 +18,7 @@ use Rattle.iofd_words.specs.declared.refusal.Cause.TheVariants as cause
 use Rattle.iofd_words.specs.declared.rows.Area.{Area}
 use Rattle.map_events.specs.Place.{place_checks}
 use Rattle.map_events.specs.Sources.{number_of}
-use Rattle.memory_rows.proofs.ObjectOf.{lacks_one, pages_of_one}
+use Rattle.user_memory_rows.proofs.ObjectOf.{lacks_one, pages_of_one}
 use Rattle.server_state.specs.Seen.{seen}
 use Rattle.server_state.specs.declared.state.State.{State}
 use Rattle.user_memory.specs.Invariant.{ObjectsTell}

@@ -38,7 +38,7 @@ use Rattle.map_events.proofs.PlaceAsks.{frames_enough, good_rights, span_usable,
 use Rattle.map_events.specs.AreaMapped.{CanMapArea}
 use Rattle.map_events.specs.Place.{IsPlace}
 use Rattle.map_events.specs.Sources.{number_of}
-use Rattle.memory_rows.proofs.ObjectOf.{area_there, own_of_one}
+use Rattle.user_memory_rows.proofs.ObjectOf.{area_there, own_of_one}
 use Rattle.server_state.proofs.Limits.{room_there}
 use Rattle.server_state.proofs.ViewShown.{same_refusal, same_view}
 use Rattle.server_state.specs.Held.{areas_at, objects_in}

@@ -20,8 +20,8 @@ use Rattle.iofd_words.specs.declared.rows.Area.{Area}
 use Rattle.iofd_words.specs.declared.rows.MemoryObject.{MemoryObject}
 use Rattle.iofd_words.specs.declared.rows.Object.{Object}
 use Rattle.map_events.proofs.AreaPinned.{Comes}
-use Rattle.memory_rows.proofs.AreaComes.{more_pinned, more_pins, more_shared, shared_shown}
-use Rattle.memory_rows.proofs.ObjectOf.{IsFound, object_under}
+use Rattle.user_memory_rows.proofs.AreaComes.{more_pinned, more_pins, more_shared, shared_shown}
+use Rattle.user_memory_rows.proofs.ObjectOf.{IsFound, object_under}
 use Rattle.server_state.proofs.LeadsStay.{has_page}
 use Rattle.server_state.specs.Held.{objects_in}
 use Rattle.server_state.specs.Leads.{object_page}

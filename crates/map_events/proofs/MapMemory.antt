@@ -26,9 +26,9 @@ use Rattle.iofd_words.specs.declared.rows.Area.{Area}
 use Rattle.iofd_words.specs.declared.rows.MemoryObject.{MemoryObject}
 use Rattle.iofd_words.specs.declared.rows.Object.{Object}
 use Rattle.map_events.proofs.AreaPinned.{Comes, world_with}
-use Rattle.memory_rows.proofs.Counts.{count_with_area}
-use Rattle.memory_rows.proofs.PinsFollow.{pins_follow}
-use Rattle.memory_rows.specs.Shown.{PinsShown, translated}
+use Rattle.user_memory_rows.proofs.Counts.{count_with_area}
+use Rattle.user_memory_rows.proofs.PinsFollow.{pins_follow}
+use Rattle.user_memory_rows.specs.Shown.{PinsShown, translated}
 use Rattle.user_memory.specs.Changes.{HasObject, Settles}
 use Rattle.user_memory.specs.Memory.{Memory, is_pinned, rows_of, table_pins}
 use Rattle.server_state.proofs.LeadsStay.{has_page}

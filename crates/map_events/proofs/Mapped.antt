@@ -1,7 +1,7 @@
 -- The world after a MAP is shown.
 use Rattle.std.proofs.Common.{◌≡◌, ℕ, Bool, Option, Some, None, List, [], ◌∷◌, ◌++◌, length, sym, ◌+◌, ◌≤◌, subst}
 use Rattle.iofd_words.specs.Answers.{Answers, IsMappedAt}
-use Rattle.area_rows.specs.Areas as own
+use Rattle.area_map_rows.specs.Areas as own
 use Rattle.iofd_runs.proofs.KeepsOwnMemory.{OwnPins, keeps_own_pins}
 use Rattle.iofd_runs.proofs.MappedAt.{lies_at}
 use Rattle.iofd_words.specs.Checks.{map_checks, tables_to_map}
@@ -10,7 +10,7 @@ use Rattle.iofd_words.specs.Files.{user_of}
 use Rattle.iofd_words.specs.Rights.{is_fixed}
 use Rattle.iofd_words.specs.FirstTrue.{first_true}
 use Rattle.frame_memory.specs.Pool.{FramePool, free_count}
-use Rattle.hwpt_device.specs.PageTables.{IfAllStand}
+use Rattle.page_table_set.specs.PageTables.{IfAllStand}
 use Rattle.iofd_words.specs.Tables.{MovesTables, with_tables}
 use Rattle.iofd_words.specs.declared.numbers.FrameNo.{FrameNo}
 use Rattle.user_memory.specs.Changes.{HasObject, Settles}

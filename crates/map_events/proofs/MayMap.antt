@@ -2,8 +2,8 @@
 use Rattle.std.proofs.Common.{◌≡◌, ℕ, ◌<◌, ◌≤◌, ◌^◌, ◌*◌, true, false, eqb, Some, List, [], ◌∷◌, map, refl, ◌∙◌, arith}
 use Rattle.std.specs.List.{find, list_any}
 use Rattle.frame_memory.specs.Pool.{FramePool, free_count}
-use Rattle.hwpt_device.specs.OverSpans.{hwpts_over, is_over}
-use Rattle.hwpt_device.specs.PageTables.{Hwpt}
+use Rattle.page_table_set.specs.OverSpans.{hwpts_over, is_over}
+use Rattle.page_table_set.specs.PageTables.{Hwpt}
 use Rattle.iofd_rows.proofs.Bools.{or_false}
 use Rattle.iofd_words.specs.After.{mapped_area}
 use Rattle.iofd_words.specs.Checks.{tables_to_map, unusable_in}

@@ -5,8 +5,8 @@ use Rattle.std.proofs.Common.{arith}
 use Rattle.std.specs.List.{filter, flat_map, list_all}
 use Rattle.std.proofs.lemmas.Bool.Decides.{nat_tests}
 use Rattle.std.proofs.lemmas.List.Concat.{flat_map-cons}
-use Rattle.hwpt_device.specs.OverSpans.{hwpts_over, is_over, missing_in}
-use Rattle.hwpt_device.specs.PageTables.{Hwpt}
+use Rattle.page_table_set.specs.OverSpans.{hwpts_over, is_over, missing_in}
+use Rattle.page_table_set.specs.PageTables.{Hwpt}
 use Rattle.iofd_rows.proofs.Bools.{and_true, both_true, clash}
 use Rattle.iofd_runs.proofs.MissingTables.{all_needed, has_needed, missing_at, needed_places, none_lacking}
 use Rattle.iofd_runs.proofs.TableCounts.{lacking_mapped, pages_stay}

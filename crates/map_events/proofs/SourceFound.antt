@@ -4,7 +4,7 @@ use Rattle.std.proofs.Common.{◌≡◌, ℕ, ◌+◌, ◌<◌, Bool, true, fals
 use Rattle.std.proofs.Common.{◌∷◌, refl, arith}
 use Rattle.std.specs.List.{find}
 use Rattle.std.proofs.lemmas.Bool.Decides.{nat_tests}
-use Rattle.area_rows.specs.Areas.{AreApartFrom, area_of}
+use Rattle.area_map_rows.specs.Areas.{AreApartFrom, area_of}
 use Rattle.iofd_words.specs.Bounds.{Bounds}
 use Rattle.iofd_words.specs.Copies.{is_live_at}
 use Rattle.iofd_words.specs.TablePlaces.{is_live}

@@ -3,8 +3,8 @@ use Rattle.std.specs.Prelude.{ℕ, ◌≡◌, ◌<◌, ◌*◌, ◌==◌, ◌&&�
 use Rattle.std.specs.Prelude.{is_some, List, [], ◌∷◌, find}
 use Rattle.std.specs.Prelude.{if◌then◌else◌}
 use Rattle.frame_memory.specs.Pool.{FramePool}
-use Rattle.hwpt_device.specs.OverSpans.{CanMap, HaveSpan, frames_for, is_over, tables_missing, with_missing}
-use Rattle.hwpt_device.specs.PageTables.{AllStand, Hwpt, KeepsOthers}
+use Rattle.page_table_set.specs.OverSpans.{CanMap, HaveSpan, frames_for, is_over, tables_missing, with_missing}
+use Rattle.page_table_set.specs.PageTables.{AllStand, Hwpt, KeepsOthers}
 use Rattle.iofd_words.specs.Span.{is_whole_pages, size_of}
 use Rattle.iofd_words.specs.TablePlaces.{is_live}
 use Rattle.iofd_words.specs.Tables.{MissingTable}
@@ -14,8 +14,8 @@ use Rattle.iofd_words.specs.declared.rows.MemoryObject.{MemoryObject}
 use Rattle.iofd_words.specs.declared.rows.Object.{Object}
 use Rattle.iofd_words.specs.declared.rows.TableFrame.{TableFrame}
 use Rattle.server_state.specs.Leads.{leads_in, live_area_at}
-use Rattle.table_spans.specs.Spans.{held_once}
-use Rattle.table_words.specs.Rows.{MappedPage}
+use Rattle.page_table_spans.specs.Spans.{held_once}
+use Rattle.page_table_words.specs.Rows.{MappedPage}
 use Rattle.user_memory.specs.Memory.{Memory, pinned_frame, rows_of, table_pins}
 
 -- through the page tables over the area's address space its pages lead to the frames at which they are pinned; every

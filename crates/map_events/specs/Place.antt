@@ -1,6 +1,6 @@
 -- Where a MAP puts its area.
 use Rattle.std.specs.Prelude.{◌≡◌, ℕ, ◌≤◌, ◌==◌, ◌&&◌, ◌||◌, not, Bool, true, false, List, [], ◌∷◌}
-use Rattle.area_rows.specs.Areas.{IsFirstFree}
+use Rattle.area_map_rows.specs.Areas.{IsFirstFree}
 use Rattle.iofd_words.specs.Areas.{has_no_room}
 use Rattle.iofd_words.specs.Bounds.{Bounds}
 use Rattle.iofd_words.specs.Checks.{choices, has_choice, is_outside_usable, lacks_choice, may_choose, overlaps}

@@ -1,7 +1,7 @@
 //! The address that the server chooses for a MAP that doesn't fix one.
 
 ghost use Rattle.std.specs.Prelude.{◌≡◌, ◌==◌, ◌+◌, ◌≤◌, ◌^◌, ℕ, true, false, MatchOption};
-ghost use Rattle.area_rows.specs.Areas.{AreKept, HasNoneFree};
+ghost use Rattle.area_map_rows.specs.Areas.{AreKept, HasNoneFree};
 ghost use Rattle.iofd_words.specs.Allowed.{allowed_of};
 ghost use Rattle.iofd_words.specs.Checks.{has_choice, may_choose};
 ghost use Rattle.iofd_words.specs.Fits.{whole_from};

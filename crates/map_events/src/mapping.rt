@@ -1,8 +1,8 @@
 //! The pages of an area that comes are mapped in the page tables over its address space.
 
 ghost use Rattle.std.specs.Prelude.{◌≡◌, ◌-◌, true, false, [], vec_capacity, vec_len};
-ghost use Rattle.hwpt_device.specs.OverSpans.{hwpts_over};
-ghost use Rattle.hwpt_device.specs.PageTables.{IfAllStand};
+ghost use Rattle.page_table_set.specs.OverSpans.{hwpts_over};
+ghost use Rattle.page_table_set.specs.PageTables.{IfAllStand};
 ghost use Rattle.map_events.specs.AreaMapped.{CanMapArea, IsAreaMapped};
 
 use iofd_words::{Area, FrameNo};

@@ -1,9 +1,9 @@
 -- The areas of an address space may be cleared in its page tables: they begin at pages, and end below the end of each.
 use Rattle.std.proofs.Common.{◌≡◌, ℕ, true, false, eqb, List, refl, ap, subst, sym, ◌∙◌}
 use Rattle.std.specs.List.{list_all, list_any}
-use Rattle.area_rows.specs.Areas.{areas_within}
-use Rattle.hwpt_device.specs.OverSpans.{is_over}
-use Rattle.hwpt_device.specs.PageTables.{Hwpt}
+use Rattle.area_map_rows.specs.Areas.{areas_within}
+use Rattle.page_table_set.specs.OverSpans.{is_over}
+use Rattle.page_table_set.specs.PageTables.{Hwpt}
 use Rattle.iofd_rows.proofs.Bools.{and_true, both_true, clash, not_true, or_false, or_none}
 use Rattle.iofd_rows.proofs.Each.{IsIn, in_filter, of_any, of_each}
 use Rattle.iofd_rows.proofs.Found.{all_filter}

@@ -4,7 +4,7 @@ use Rattle.std.proofs.Common.{◌≡◌, ℕ, ◌+◌, ◌*◌, ◌<◌, ◌≤�
 use Rattle.std.proofs.Common.{None, List, [], ◌∷◌, map, refl, ap, ◌∙◌, arith}
 use Rattle.std.specs.List.{filter}
 use Rattle.std.proofs.lemmas.Bool.Decides.{nat_tests}
-use Rattle.area_rows.specs.Areas.{AreApart, AreApartFrom, areas_outside, areas_within, marked}
+use Rattle.area_map_rows.specs.Areas.{AreApart, AreApartFrom, areas_outside, areas_within, marked}
 use Rattle.iofd_words.specs.Areas.{leaving}
 use Rattle.iofd_words.specs.Bounds.{Bounds}
 use Rattle.iofd_words.specs.Pins.{ObjectPage}

@@ -5,9 +5,9 @@ use Rattle.std.proofs.Common.{◌∙◌, arith}
 use Rattle.std.proofs.lemmas.Bool.Decides.{nat_tests}
 use Rattle.std.proofs.lemmas.List.{append_assoc}
 use Rattle.frame_memory.specs.Pool.{FramePool}
-use Rattle.hwpt_device.proofs.Staying.{all_told}
-use Rattle.hwpt_device.specs.OverSpans.{LeadsCleared, is_over}
-use Rattle.hwpt_device.specs.PageTables.{AllStand, Hwpt, PageTables}
+use Rattle.page_table_set.proofs.Staying.{all_told}
+use Rattle.page_table_set.specs.OverSpans.{LeadsCleared, is_over}
+use Rattle.page_table_set.specs.PageTables.{AllStand, Hwpt, PageTables}
 use Rattle.iofd_rows.proofs.Bools.{both_true}
 use Rattle.iofd_rows.proofs.Each.{IsIn, of_each}
 use Rattle.iofd_rows.proofs.Unusable.{each_not}
@@ -23,7 +23,7 @@ use Rattle.iofd_words.specs.declared.rows.TableFrame.{TableFrame}
 use Rattle.server_state.proofs.TablesUnreached.{in_list}
 use Rattle.memory_events.specs.Cleared.{CanClear, Clears, cleared, is_beyond}
 use Rattle.server_state.specs.Leads.{live_area_at}
-use Rattle.table_words.specs.Rows.{MappedPage}
+use Rattle.page_table_words.specs.Rows.{MappedPage}
 
 abbrev Leads : Type 0
 Leads = Object → ℕ → Option MappedPage

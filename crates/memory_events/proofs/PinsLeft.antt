@@ -15,9 +15,9 @@ use Rattle.iofd_words.specs.declared.numbers.FileNo.{FileNo}
 use Rattle.iofd_words.specs.declared.numbers.ObjId.{ObjId}
 use Rattle.iofd_words.specs.declared.rows.Area.{Area}
 use Rattle.iofd_words.specs.declared.rows.MemoryObject.{MemoryObject}
-use Rattle.memory_rows.proofs.Gone.{few_translated}
-use Rattle.memory_rows.specs.Moves.{IsReleased}
-use Rattle.memory_rows.specs.Shown.{PinsShown, over, translated}
+use Rattle.user_memory_rows.proofs.Gone.{few_translated}
+use Rattle.user_memory_rows.specs.Moves.{IsReleased}
+use Rattle.user_memory_rows.specs.Shown.{PinsShown, over, translated}
 use Rattle.server_state.proofs.LeadsStay.{has_page, is_translated, lead_alike, pin_stays}
 use Rattle.server_state.proofs.MemoryReleased.{AreFewer}
 use Rattle.server_state.specs.Leads.{live_area_at, object_page, space_leads}

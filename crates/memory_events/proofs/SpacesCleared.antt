@@ -4,8 +4,8 @@ use Rattle.std.proofs.Common.{◌≡◌, ℕ, Bool, true, false, cond, ◌&&◌,
 use Rattle.std.proofs.Common.{subst, arith}
 use Rattle.std.proofs.lemmas.Bool.Decides.{nat_tests}
 use Rattle.frame_memory.specs.Pool.{FramePool}
-use Rattle.hwpt_device.proofs.Staying.{all_told}
-use Rattle.hwpt_device.specs.PageTables.{AllStand, Hwpt}
+use Rattle.page_table_set.proofs.Staying.{all_told}
+use Rattle.page_table_set.specs.PageTables.{AllStand, Hwpt}
 use Rattle.iofd_rows.proofs.Bools.{and_true, both_true}
 use Rattle.iofd_rows.proofs.Each.{IsIn, in_filter, of_any}
 use Rattle.iofd_rows.proofs.Named.{file_is, id_is}
@@ -25,7 +25,7 @@ use Rattle.server_state.proofs.TablesUnreached.{in_list}
 use Rattle.server_state.specs.Leads.{leads_by_kind, leads_in, leads_of, live_area_at, space_leads}
 use Rattle.server_state.specs.Spaces.{is_space}
 use Rattle.server_state.specs.Tables.{page_tables_among}
-use Rattle.table_words.specs.Rows.{MappedPage}
+use Rattle.page_table_words.specs.Rows.{MappedPage}
 
 -- a page of one of these areas of this address space leads nowhere, another where it did
 abbrev pub left_space : World → FileNo → ObjId → List Area → FileNo → ObjId → ℕ → Option MappedPage

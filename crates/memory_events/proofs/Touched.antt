@@ -3,7 +3,7 @@ use Rattle.std.proofs.Common.{◌≡◌, ℕ, ◌+◌, ◌≤◌, Bool, true, fa
 use Rattle.std.proofs.Common.{refl, ap, arith}
 use Rattle.std.specs.List.{filter, list_any}
 use Rattle.std.proofs.lemmas.Bool.Decides.{nat_tests}
-use Rattle.area_rows.specs.Areas.{AreApartFrom, areas_outside, areas_within, marked}
+use Rattle.area_map_rows.specs.Areas.{AreApartFrom, areas_outside, areas_within, marked}
 use Rattle.iofd_rows.proofs.Bools.{or_false}
 use Rattle.iofd_words.specs.Areas.{areas_of, is_cut, is_of, is_touched, is_waiting, leaving, owed_by, touched}
 use Rattle.iofd_words.specs.Areas.{unmapped_span, with_leaving, with_phase}

@@ -2,10 +2,10 @@
 use Rattle.std.proofs.Common.{◌≡◌, ℕ, ◌+◌, ◌*◌, ◌<◌, ◌≤◌, leb, Bool, true, false, cond, not, eqb, Option, None, is_some}
 use Rattle.std.proofs.Common.{List, [], ◌∷◌, get_or, length, map, refl, subst, sym, ◌∙◌, ap, arith}
 use Rattle.std.specs.List.{filter, list_all, list_any}
-use Rattle.area_rows.specs.Areas.{AreApart, AreKept, areas_outside, areas_within, bytes_of, marked}
+use Rattle.area_map_rows.specs.Areas.{AreApart, AreKept, areas_outside, areas_within, bytes_of, marked}
 use Rattle.std.proofs.lemmas.Bool.Decides.{nat_tests}
 use Rattle.std.proofs.lemmas.List.Sums.{sum_by-cons}
-use Rattle.area_rows.proofs.Kept.{length-filter-le}
+use Rattle.area_map_rows.proofs.Kept.{length-filter-le}
 use Rattle.iofd_rows.proofs.Bools.{and_true}
 use Rattle.iofd_rows.proofs.Found.{all_filter}
 use Rattle.iofd_runs.proofs.NotRefused.{unmap_passed}
@@ -22,11 +22,11 @@ use Rattle.iofd_words.specs.Checks.{unmap_checks}
 use Rattle.iofd_words.specs.FirstTrue.{first_true}
 use Rattle.iofd_words.specs.Objects.{has_hwpt}
 use Rattle.frame_memory.specs.Pool.{FramePool}
-use Rattle.memory_rows.proofs.Gone.{objects_left, over_parts, translated_parts, translated_space}
-use Rattle.memory_rows.specs.Moves.{IsReleased, MayRelease, if_translated}
-use Rattle.memory_rows.specs.Shown.{FramesShown, over, translated}
-use Rattle.memory_rows.proofs.FramesFollow.{frames_follow}
-use Rattle.memory_rows.proofs.Named.{settles_named}
+use Rattle.user_memory_rows.proofs.Gone.{objects_left, over_parts, translated_parts, translated_space}
+use Rattle.user_memory_rows.specs.Moves.{IsReleased, MayRelease, if_translated}
+use Rattle.user_memory_rows.specs.Shown.{FramesShown, over, translated}
+use Rattle.user_memory_rows.proofs.FramesFollow.{frames_follow}
+use Rattle.user_memory_rows.proofs.Named.{settles_named}
 use Rattle.user_memory.specs.Memory.{Memory, reached}
 use Rattle.iofd_words.specs.Pages.{is_above_sum, is_whole}
 use Rattle.iofd_words.specs.Pins.{pinned_frame}
@@ -44,7 +44,7 @@ use Rattle.iofd_words.specs.declared.rows.Object.{Object}
 use Rattle.server_state.proofs.Orderly.{orderly}
 use Rattle.server_state.proofs.AreasBecome.{areas_become, own_at}
 use Rattle.server_state.proofs.MemoryReleased.{AreFewer, AreShown, may_release, pins_changed, shown_after}
-use Rattle.hwpt_device.specs.PageTables.{AllStand, PageTables}
+use Rattle.page_table_set.specs.PageTables.{AllStand, PageTables}
 use Rattle.memory_events.proofs.LeavingAreas.{leads_marked, leads_outside}
 use Rattle.memory_events.proofs.PinsLeft.{leads_left, released_over}
 use Rattle.memory_events.proofs.SpacesCleared.{left_space, space_left, spaces_cleared}

@@ -14,7 +14,7 @@ use Rattle.iofd_rows.proofs.Bools.{and_true, both_true, clash}
 use Rattle.iofd_rows.proofs.ListTests.{alike, any_weaker, false_else}
 use Rattle.iofd_rows.proofs.Unusable.{by_rows}
 use Rattle.iofd_rows.specs.Reached.{ends_in, keeps_of}
-use Rattle.hwpt_device.specs.PageTables.{Hwpt}
+use Rattle.page_table_set.specs.PageTables.{Hwpt}
 use Rattle.iofd_words.specs.Bounds.{Bounds}
 use Rattle.iofd_words.specs.Objects.{is_hwpt_over}
 use Rattle.iofd_words.specs.Ranges.{meets_some}

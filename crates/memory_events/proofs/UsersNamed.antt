@@ -16,11 +16,11 @@ use Rattle.iofd_words.specs.declared.numbers.UserNo.{UserNo}
 use Rattle.iofd_words.specs.declared.rows.Object.{Object}
 use Rattle.iofd_words.specs.declared.rows.TableFrame.{TableFrame}
 use Rattle.iofd_words.specs.declared.rows.UserPage.{UserPage}
-use Rattle.hwpt_device.specs.PageTables.{AllStand, Hwpt}
-use Rattle.memory_rows.proofs.PinsFollow.{any_count}
-use Rattle.memory_rows.specs.Shown.{FramesShown}
+use Rattle.page_table_set.specs.PageTables.{AllStand, Hwpt}
+use Rattle.user_memory_rows.proofs.PinsFollow.{any_count}
+use Rattle.user_memory_rows.specs.Shown.{FramesShown}
 use Rattle.server_state.proofs.TablesFollow.{tables_follow}
-use Rattle.table_words.specs.Rows.{MappedPage}
+use Rattle.page_table_words.specs.Rows.{MappedPage}
 use Rattle.user_memory.specs.Changes.{SameObjects}
 use Rattle.user_memory.specs.Memory.{Memory, reached}
 

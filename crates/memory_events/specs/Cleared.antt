@@ -2,8 +2,8 @@
 use Rattle.std.specs.Prelude.{ℕ, ◌≡◌, Bool, true, false, ◌&&◌, Option, None}
 use Rattle.std.specs.Prelude.{is_some, List, if◌then◌else◌}
 use Rattle.std.specs.List.{list_all, list_any}
-use Rattle.hwpt_device.specs.OverSpans.{is_over}
-use Rattle.hwpt_device.specs.PageTables.{AllStand, Hwpt, IfAllStand, KeepsOthers, Stand}
+use Rattle.page_table_set.specs.OverSpans.{is_over}
+use Rattle.page_table_set.specs.PageTables.{AllStand, Hwpt, IfAllStand, KeepsOthers, Stand}
 use Rattle.frame_memory.specs.Pool.{FramePool}
 use Rattle.iofd_rows.proofs.Each.{IsIn}
 use Rattle.iofd_runs.specs.Fits.{begins_at_page}
@@ -14,7 +14,7 @@ use Rattle.iofd_words.specs.declared.numbers.ObjId.{ObjId}
 use Rattle.iofd_words.specs.declared.rows.Area.{Area}
 use Rattle.iofd_words.specs.declared.rows.Object.{Object}
 use Rattle.server_state.specs.Leads.{live_area_at}
-use Rattle.table_words.specs.Rows.{MappedPage}
+use Rattle.page_table_words.specs.Rows.{MappedPage}
 
 -- through the page tables over the address space the pages of the live ones of these areas lead nowhere; every other
 -- page leads where it did

@@ -6,8 +6,8 @@ ghost use Rattle.memory_events.specs.Cleared.{CanClear, Clears};
 
 use area_map::Iter;
 use frame_memory::Pool;
-use hwpt_device::PageTables;
 use iofd_words::{Area, FileNo, ObjId, PAGE_SIZE, Phase};
+use page_table_set::PageTables;
 use std::alloc::Allocator;
 
 /// The pages of those of these areas that are live are cleared in each page table over the address space. A leaving

@@ -2,7 +2,7 @@
 
 ghost use Rattle.std.specs.Prelude.{◌≡◌, ◌<◌, ◌≤◌, ◌^◌, ◌&&◌, ◌∷◌, [], ℕ, false};
 ghost use Rattle.std.specs.Prelude.{length, not, IfSome, IsSome};
-ghost use Rattle.area_rows.specs.Areas.{bytes_of};
+ghost use Rattle.area_map_rows.specs.Areas.{bytes_of};
 ghost use Rattle.iofd_words.specs.Areas.{areas_meet, is_cut, is_everything, most_areas, unmapped_span};
 ghost use Rattle.iofd_words.specs.Checks.{unmap_checks};
 ghost use Rattle.iofd_words.specs.FirstTrue.{first_true};

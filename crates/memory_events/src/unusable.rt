@@ -15,12 +15,12 @@ ghost use Rattle.server_state.specs.Held.{objects_in};
 ghost use Rattle.server_state.specs.Seen.{seen};
 ghost use Rattle.server_state.specs.Step.{IsKnown};
 
-use hwpt_device::Hwpt;
 use iofd_words::{
     Attachment, Config, DeviceConfig, DeviceNo, FileNo, INTERRUPT_RANGE, IovaRange, ObjId, Object,
     ObjectKind, Span,
 };
 use object_table::ObjectTable;
+use page_table_set::Hwpt;
 use server_state::{Held, State, lookups};
 use std::alloc::Allocator;
 

@@ -12,21 +12,21 @@ use Rattle.iofd_words.specs.Bounds.{Bounds}
 use Rattle.iofd_words.specs.Pages.{page_of}
 use Rattle.iofd_words.specs.declared.numbers.FrameNo.{FrameNo}
 use Rattle.frame_memory.specs.Pool.{FramePool, bytes_of}
-use Rattle.table_words.specs.Cut.{CanCut, Cuts, goes_below, is_below}
-use Rattle.table_words.specs.Entries.{WritesEntry}
+use Rattle.page_table_words.specs.Cut.{CanCut, Cuts, goes_below, is_below}
+use Rattle.page_table_words.specs.Entries.{WritesEntry}
 use Rattle.iofd_words.specs.Levels.{index_at, number_at}
-use Rattle.table_words.specs.Pruned.{goes, is_kept, is_used, is_wanted, left}
-use Rattle.table_words.specs.Rows.{MappedPage, TableRow, is_table, table_at}
-use Rattle.table_words.specs.Stands.{Stands}
-use Rattle.table_words.specs.Taken.{names}
-use Rattle.table_words.specs.Under.{HoldsTable, frames_under}
+use Rattle.page_table_words.specs.Pruned.{goes, is_kept, is_used, is_wanted, left}
+use Rattle.page_table_words.specs.Rows.{MappedPage, TableRow, is_table, table_at}
+use Rattle.page_table_words.specs.Stands.{Stands}
+use Rattle.page_table_words.specs.Taken.{names}
+use Rattle.page_table_words.specs.Under.{HoldsTable, frames_under}
 use Rattle.page_table.proofs.Cutting.{cut_stands, passed_at, row_number}
-use Rattle.table_words.proofs.FramesUnder.{rows_permute}
-use Rattle.table_words.proofs.Lookups.{named_table, table_at-same}
-use Rattle.table_words.proofs.Members.{filter_all, filter_none, filter_split}
+use Rattle.page_table_words.proofs.FramesUnder.{rows_permute}
+use Rattle.page_table_words.proofs.Lookups.{named_table, table_at-same}
+use Rattle.page_table_words.proofs.Members.{filter_all, filter_none, filter_split}
 use Rattle.page_table.proofs.Parting.{count_less, count_next, cut_all, cut_at, cut_before, cut_next, cut_none}
 use Rattle.page_table.proofs.Parting.{filter_same, idle_at, last_none, wanted_at}
-use Rattle.table_words.proofs.RowsUnder.{child_above, child_page, is_under, none_are_under}
+use Rattle.page_table_words.proofs.RowsUnder.{child_above, child_page, is_under, none_are_under}
 
 -- ---- lists
 

@@ -10,14 +10,14 @@ use Rattle.std.proofs.lemmas.List.Sums.{sum_by-cons}
 use Rattle.iofd_words.specs.Pages.{page_of}
 use Rattle.iofd_words.specs.declared.numbers.FrameNo.{FrameNo}
 use Rattle.frame_memory.specs.Pool.{FramePool}
-use Rattle.table_words.specs.Entries.{WritesEntry, entry_at, table_entry}
+use Rattle.page_table_words.specs.Entries.{WritesEntry, entry_at, table_entry}
 use Rattle.iofd_words.specs.Levels.{first_address, index_at, number_at}
-use Rattle.table_words.specs.Pruned.{is_used}
-use Rattle.table_words.specs.Rows.{MappedPage, TableRow, is_table, page_at, table_at}
-use Rattle.table_words.specs.Stands.{Stands}
-use Rattle.table_words.proofs.Lookups.{both_some, none_or_some, same_frame, some_is, table_at-same, the_some}
-use Rattle.table_words.proofs.Numbers.{number-page, page_of-first, same_above, same_below}
-use Rattle.table_words.proofs.RowsUnder.{is_under}
+use Rattle.page_table_words.specs.Pruned.{is_used}
+use Rattle.page_table_words.specs.Rows.{MappedPage, TableRow, is_table, page_at, table_at}
+use Rattle.page_table_words.specs.Stands.{Stands}
+use Rattle.page_table_words.proofs.Lookups.{both_some, none_or_some, same_frame, some_is, table_at-same, the_some}
+use Rattle.page_table_words.proofs.Numbers.{number-page, page_of-first, same_above, same_below}
+use Rattle.page_table_words.proofs.RowsUnder.{is_under}
 use Rattle.page_table.proofs.Wanted.{page_used, up_same}
 
 -- ---- rows that pass a test

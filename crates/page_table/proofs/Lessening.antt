@@ -7,7 +7,7 @@ use Rattle.std.proofs.lemmas.List.{get_or_past, get_or-set_same, get_or-set_othe
 use Rattle.std.proofs.lemmas.List.Sums.{sum_by_more, sum_by-take-le}
 use Rattle.iofd_words.specs.declared.numbers.FrameNo.{FrameNo}
 use Rattle.frame_memory.specs.Pool.{FramePool, with_holds}
-use Rattle.table_words.specs.Released.{HasFewerHolds, times}
+use Rattle.page_table_words.specs.Released.{HasFewerHolds, times}
 
 pub none_less : (pool : FramePool) → HasFewerHolds pool pool []
 none_less pool = record { holds = λ f. omega arith; bytes = refl; count = refl }

@@ -6,18 +6,18 @@ use Rattle.iofd_words.specs.Width.{bits_of}
 use Rattle.iofd_words.specs.declared.flags.Rights.{Rights}
 use Rattle.iofd_words.specs.declared.numbers.FrameNo.{FrameNo}
 use Rattle.frame_memory.specs.Pool.{FramePool}
-use Rattle.table_words.specs.Entries.{WritesEntry, page_entry}
-use Rattle.table_words.specs.Extended.{Extends}
+use Rattle.page_table_words.specs.Entries.{WritesEntry, page_entry}
+use Rattle.page_table_words.specs.Extended.{Extends}
 use Rattle.iofd_words.specs.Levels.{levels_of}
-use Rattle.table_words.specs.Mapped.{Becomes}
-use Rattle.table_words.specs.Reached.{EndsAt, IsLowest}
-use Rattle.table_words.specs.Rows.{MappedPage, TableRow, page_at, table_at, with_page, without_page}
-use Rattle.table_words.specs.Stands.{Stands, TableRoot, TableStands}
-use Rattle.table_words.specs.Taken.{LeavesOthers, least_frames, missing, names, rows_below, with_tables}
-use Rattle.table_words.proofs.LeafWritten.{LeadsTo, WritesLeaf, leaf_written}
-use Rattle.table_words.proofs.Lookups.{both_some, named_table, none_or_some, page_at-with, page_at-without}
-use Rattle.table_words.proofs.Missing.{missing_is}
-use Rattle.table_words.proofs.Tables.{stands_alike, table_within}
+use Rattle.page_table_words.specs.Mapped.{Becomes}
+use Rattle.page_table_words.specs.Reached.{EndsAt, IsLowest}
+use Rattle.page_table_words.specs.Rows.{MappedPage, TableRow, page_at, table_at, with_page, without_page}
+use Rattle.page_table_words.specs.Stands.{Stands, TableRoot, TableStands}
+use Rattle.page_table_words.specs.Taken.{LeavesOthers, least_frames, missing, names, rows_below, with_tables}
+use Rattle.page_table_words.proofs.LeafWritten.{LeadsTo, WritesLeaf, leaf_written}
+use Rattle.page_table_words.proofs.Lookups.{both_some, named_table, none_or_some, page_at-with, page_at-without}
+use Rattle.page_table_words.proofs.Missing.{missing_is}
+use Rattle.page_table_words.proofs.Tables.{stands_alike, table_within}
 use Rattle.page_table.proofs.Walking.{no_leaf, none_beyond}
 
 writes_leaf : (old new : FramePool) (rows : List TableRow) (page : ℕ) (table : FrameNo) (to : Option MappedPage)

@@ -16,19 +16,20 @@ use Rattle.iofd_words.specs.Bounds.{Bounds}
 use Rattle.iofd_words.specs.Pages.{page_of}
 use Rattle.iofd_words.specs.declared.numbers.FrameNo.{FrameNo}
 use Rattle.frame_memory.specs.Pool.{FramePool}
-use Rattle.table_words.specs.Cut.{goes_below, is_below}
+use Rattle.page_table_words.specs.Cut.{goes_below, is_below}
 use Rattle.iofd_words.specs.Levels.{index_at, number_at}
-use Rattle.table_words.specs.Pruned.{goes, gone, is_wanted}
-use Rattle.table_words.specs.Rows.{MappedPage, TableRow, table_at}
-use Rattle.table_words.specs.Stands.{Stands}
-use Rattle.table_words.specs.Under.{frames_under}
-use Rattle.table_words.proofs.FramesUnder.{rows_permute}
-use Rattle.table_words.proofs.Lookups.{some_is, the_some}
-use Rattle.table_words.proofs.Members.{count_first, count_other, each_then, filter_alike, filter_none, filter_split}
-use Rattle.table_words.proofs.Numbers.{index_below, number-up}
-use Rattle.table_words.proofs.RowsUnder.{IsPlaced, all_placed, child_page, is_under, none_are_under}
-use Rattle.table_words.proofs.Tables.{tables_above}
-use Rattle.table_words.proofs.Tops.{number-first}
+use Rattle.page_table_words.specs.Pruned.{goes, gone, is_wanted}
+use Rattle.page_table_words.specs.Rows.{MappedPage, TableRow, table_at}
+use Rattle.page_table_words.specs.Stands.{Stands}
+use Rattle.page_table_words.specs.Under.{frames_under}
+use Rattle.page_table_words.proofs.FramesUnder.{rows_permute}
+use Rattle.page_table_words.proofs.Lookups.{some_is, the_some}
+use Rattle.page_table_words.proofs.Members.{count_first, count_other, each_then, filter_alike, filter_none}
+use Rattle.page_table_words.proofs.Members.{filter_split}
+use Rattle.page_table_words.proofs.Numbers.{index_below, number-up}
+use Rattle.page_table_words.proofs.RowsUnder.{IsPlaced, all_placed, child_page, is_under, none_are_under}
+use Rattle.page_table_words.proofs.Tables.{tables_above}
+use Rattle.page_table_words.proofs.Tops.{number-first}
 use Rattle.page_table.proofs.Wanted.{child_number, wanted_up}
 
 -- ---- lists

@@ -9,18 +9,18 @@ use Rattle.std.proofs.lemmas.List.Sorted.{IsPermutation-sym, sum_by-IsPermutatio
 use Rattle.iofd_words.specs.Bounds.{Bounds}
 use Rattle.iofd_words.specs.declared.numbers.FrameNo.{FrameNo}
 use Rattle.frame_memory.specs.Pool.{FramePool, word_at}
-use Rattle.table_words.specs.Cut.{Cuts, goes_below}
-use Rattle.table_words.specs.Pruned.{Prunes, goes, gone, left}
-use Rattle.table_words.specs.Released.{HasFewerHolds, times}
-use Rattle.table_words.specs.Rows.{MappedPage, TableRow}
-use Rattle.table_words.specs.Stands.{Stands}
-use Rattle.table_words.specs.Taken.{names}
+use Rattle.page_table_words.specs.Cut.{Cuts, goes_below}
+use Rattle.page_table_words.specs.Pruned.{Prunes, goes, gone, left}
+use Rattle.page_table_words.specs.Released.{HasFewerHolds, times}
+use Rattle.page_table_words.specs.Rows.{MappedPage, TableRow}
+use Rattle.page_table_words.specs.Stands.{Stands}
+use Rattle.page_table_words.specs.Taken.{names}
 use Rattle.page_table.proofs.Cutting.{passed_at, passed_fewer, row_number}
-use Rattle.table_words.proofs.Lookups.{named_table}
-use Rattle.table_words.proofs.Members.{each_then, filter_alike}
+use Rattle.page_table_words.proofs.Lookups.{named_table}
+use Rattle.page_table_words.proofs.Members.{each_then, filter_alike}
 use Rattle.page_table.proofs.Parting.{root_each}
-use Rattle.table_words.proofs.Releasing.{named_counted, named_held, one_row, times_rows, unnamed_counted}
-use Rattle.table_words.proofs.Tables.{stands_still}
+use Rattle.page_table_words.proofs.Releasing.{named_counted, named_held, one_row, times_rows, unnamed_counted}
+use Rattle.page_table_words.proofs.Tables.{stands_still}
 
 -- the root stays
 pub root_stays : (pool : FramePool) (levels : ℕ) (root : FrameNo) (rows : List TableRow) (pages : List MappedPage)

@@ -7,9 +7,9 @@ use Rattle.std.proofs.lemmas.List.{append-nil}
 use Rattle.std.proofs.Math.Nat.{mul-le-mul_right}
 use Rattle.iofd_words.specs.declared.numbers.FrameNo.{FrameNo}
 use Rattle.frame_memory.specs.Pool.{FramePool}
-use Rattle.table_words.specs.Entries.{entry_at}
-use Rattle.table_words.specs.Under.{frames_of_entry}
-use Rattle.table_words.proofs.FramesUnder.{entries_more, entry_absent}
+use Rattle.page_table_words.specs.Entries.{entry_at}
+use Rattle.page_table_words.specs.Under.{frames_of_entry}
+use Rattle.page_table_words.proofs.FramesUnder.{entries_more, entry_absent}
 
 -- what so many more give, none of which gives any
 none_more : (f : ℕ → List FrameNo) (n d : ℕ) → ((k : ℕ) → n ≤ k → k < n + d → f k ≡ [])

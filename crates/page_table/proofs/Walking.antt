@@ -15,15 +15,15 @@ use Rattle.iofd_words.specs.declared.width.Width.TheVariants.{Bits39, Bits48}
 use Rattle.frame_memory.specs.Pool.{FramePool}
 use Rattle.page_table.specs.declared.walk.Walk.{Walk}
 use Rattle.page_table.specs.declared.walk.Walk.TheVariants as walk
-use Rattle.table_words.specs.Entries.{entry_at, page_entry}
+use Rattle.page_table_words.specs.Entries.{entry_at, page_entry}
 use Rattle.iofd_words.specs.Levels.{index_at, levels_of, number_at}
-use Rattle.table_words.specs.Reached.{IsLowest}
-use Rattle.table_words.specs.Rows.{MappedPage, TableRow, page_at, table_at}
-use Rattle.table_words.specs.Stands.{Stands, TableRoot, TableStands}
+use Rattle.page_table_words.specs.Reached.{IsLowest}
+use Rattle.page_table_words.specs.Rows.{MappedPage, TableRow, page_at, table_at}
+use Rattle.page_table_words.specs.Stands.{Stands, TableRoot, TableStands}
 use Rattle.page_table.specs.Walks.{walk_of}
-use Rattle.table_words.proofs.Lookups.{cases_Option, none_or_some, same_frame, the_some}
-use Rattle.table_words.proofs.Tables.{none_below}
-use Rattle.table_words.proofs.Tops.{some_levels}
+use Rattle.page_table_words.proofs.Lookups.{cases_Option, none_or_some, same_frame, the_some}
+use Rattle.page_table_words.proofs.Tables.{none_below}
+use Rattle.page_table_words.proofs.Tops.{some_levels}
 
 -- ---- the page
 

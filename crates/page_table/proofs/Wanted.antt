@@ -10,18 +10,18 @@ use Rattle.iofd_words.specs.Bounds.{Bounds}
 use Rattle.iofd_words.specs.Pages.{page_of}
 use Rattle.iofd_words.specs.declared.numbers.FrameNo.{FrameNo}
 use Rattle.frame_memory.specs.Pool.{FramePool}
-use Rattle.table_words.specs.Entries.{entry_at, page_entry, table_entry}
+use Rattle.page_table_words.specs.Entries.{entry_at, page_entry, table_entry}
 use Rattle.iofd_words.specs.Levels.{index_at, number_at}
-use Rattle.table_words.specs.Needed.{goes_through}
-use Rattle.table_words.specs.Pruned.{is_kept, is_used, is_wanted}
-use Rattle.table_words.specs.Rows.{MappedPage, TableRow, page_at, table_at}
-use Rattle.table_words.specs.Stands.{Stands}
-use Rattle.table_words.proofs.Decoded.{table_absent, table_present}
-use Rattle.table_words.proofs.FramesUnder.{child_entry}
-use Rattle.table_words.proofs.Lookups.{cases_Option, none_or_some, table_at-same, the_some}
-use Rattle.table_words.proofs.Numbers.{index_below, number-page, number-up, number-zero}
-use Rattle.table_words.proofs.RowsUnder.{child_page}
-use Rattle.table_words.proofs.Tables.{tables_above}
+use Rattle.page_table_words.specs.Needed.{goes_through}
+use Rattle.page_table_words.specs.Pruned.{is_kept, is_used, is_wanted}
+use Rattle.page_table_words.specs.Rows.{MappedPage, TableRow, page_at, table_at}
+use Rattle.page_table_words.specs.Stands.{Stands}
+use Rattle.page_table_words.proofs.Decoded.{table_absent, table_present}
+use Rattle.page_table_words.proofs.FramesUnder.{child_entry}
+use Rattle.page_table_words.proofs.Lookups.{cases_Option, none_or_some, table_at-same, the_some}
+use Rattle.page_table_words.proofs.Numbers.{index_below, number-page, number-up, number-zero}
+use Rattle.page_table_words.proofs.RowsUnder.{child_page}
+use Rattle.page_table_words.proofs.Tables.{tables_above}
 
 -- ---- some of a list
 

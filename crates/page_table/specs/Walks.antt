@@ -5,7 +5,7 @@ use Rattle.iofd_words.specs.Width.{bits_of}
 use Rattle.iofd_words.specs.declared.width.Width.{Width}
 use Rattle.page_table.specs.declared.walk.Walk.{Walk}
 use Rattle.page_table.specs.declared.walk.Walk.TheVariants as walk
-use Rattle.table_words.specs.Rows.{MappedPage, page_at}
+use Rattle.page_table_words.specs.Rows.{MappedPage, page_at}
 
 -- a mapped page leads to its frame with its rights, an address at or above the width's end is beyond, and no other
 -- leads anywhere

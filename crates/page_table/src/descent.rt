@@ -2,9 +2,9 @@
 
 ghost use Rattle.std.specs.Prelude.{ℕ, ◌≡◌, ◌≤◌, ◌<◌, List};
 ghost use Rattle.iofd_words.specs.declared.numbers.FrameNo.{FrameNo};
-ghost use Rattle.table_words.specs.Reached.{GoesThrough, IsLowest};
-ghost use Rattle.table_words.specs.Rows.{MappedPage, TableRow, table_at};
-ghost use Rattle.table_words.specs.Stands.{Stands};
+ghost use Rattle.page_table_words.specs.Reached.{GoesThrough, IsLowest};
+ghost use Rattle.page_table_words.specs.Rows.{MappedPage, TableRow, table_at};
+ghost use Rattle.page_table_words.specs.Stands.{Stands};
 
 use crate::entry::Entry;
 use frame_memory::Pool;

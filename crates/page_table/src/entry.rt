@@ -2,7 +2,7 @@
 
 ghost use Rattle.std.specs.Prelude.{ℕ, ◌≡◌, ◌≤◌, ◌<◌, ◌+◌, ◌*◌, ◌/◌, ◌%◌, ◌^◌};
 ghost use Rattle.std.specs.Prelude.{◌==◌, not, length};
-ghost use Rattle.table_words.specs.Entries.{WritesEntry, entry_at};
+ghost use Rattle.page_table_words.specs.Entries.{WritesEntry, entry_at};
 ghost use Rattle.iofd_words.specs.Levels.{index_at};
 
 use crate::levels::index;

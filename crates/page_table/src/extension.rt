@@ -4,11 +4,11 @@ ghost use Rattle.std.specs.Prelude.{ℕ, ◌≡◌, ◌≤◌, ◌<◌, ◌+◌,
 ghost use Rattle.std.specs.Prelude.{slice_index, vec_len, vec_capacity};
 ghost use Rattle.iofd_words.specs.declared.numbers.FrameNo.{FrameNo};
 ghost use Rattle.frame_memory.specs.Pool.{free_count};
-ghost use Rattle.table_words.specs.Extended.{AddsTable, Extends};
-ghost use Rattle.table_words.specs.Reached.{EndsAt, IsLowest};
-ghost use Rattle.table_words.specs.Rows.{MappedPage, TableRow};
-ghost use Rattle.table_words.specs.Stands.{Stands};
-ghost use Rattle.table_words.specs.Taken.{least_frames};
+ghost use Rattle.page_table_words.specs.Extended.{AddsTable, Extends};
+ghost use Rattle.page_table_words.specs.Reached.{EndsAt, IsLowest};
+ghost use Rattle.page_table_words.specs.Rows.{MappedPage, TableRow};
+ghost use Rattle.page_table_words.specs.Stands.{Stands};
+ghost use Rattle.page_table_words.specs.Taken.{least_frames};
 
 use crate::entry::Entry;
 use frame_memory::Pool;

@@ -2,10 +2,10 @@
 
 ghost use Rattle.std.specs.Prelude.{ℕ, ◌≡◌, true, List, slice_index};
 ghost use Rattle.frame_memory.specs.Pool.{FramePool};
-ghost use Rattle.table_words.specs.Rows.{MappedPage, TableRow, page_at};
-ghost use Rattle.table_words.specs.SameTables.{SameTables};
-ghost use Rattle.table_words.specs.Stands.{TableRoot, TableStands};
-ghost use Rattle.table_words.specs.Taken.{names};
+ghost use Rattle.page_table_words.specs.Rows.{MappedPage, TableRow, page_at};
+ghost use Rattle.page_table_words.specs.SameTables.{SameTables};
+ghost use Rattle.page_table_words.specs.Stands.{TableRoot, TableStands};
+ghost use Rattle.page_table_words.specs.Taken.{names};
 
 /// What is done to other frames leaves a page table as it was: where another pool has the same words in each of its
 /// table frames, and as many holds on them, it stands there too, with the same rows and pages.

@@ -2,7 +2,7 @@
 
 ghost use Rattle.std.specs.Prelude.{◌≡◌, ◌≤◌, ◌<◌, ◌^◌};
 ghost use Rattle.iofd_words.specs.Levels.{index_at, levels_of, number_at};
-ghost use Rattle.table_words.specs.Needed.{first_page};
+ghost use Rattle.page_table_words.specs.Needed.{first_page};
 
 use iofd_words::Width;
 

@@ -4,14 +4,14 @@ ghost use Rattle.std.specs.Prelude.{ℕ, ◌≡◌, ◌≤◌, ◌<◌, ◌-◌,
 ghost use Rattle.std.specs.Prelude.{List, vec_len, vec_capacity};
 ghost use Rattle.std.specs.List.{count_by};
 ghost use Rattle.iofd_words.specs.declared.numbers.FrameNo.{FrameNo};
-ghost use Rattle.table_words.specs.Cut.{CanCut, Cuts, goes_below};
+ghost use Rattle.page_table_words.specs.Cut.{CanCut, Cuts, goes_below};
 ghost use Rattle.iofd_words.specs.Levels.{number_at};
-ghost use Rattle.table_words.specs.Needed.{goes_through};
-ghost use Rattle.table_words.specs.Pruned.{is_kept, is_used, is_wanted, left};
-ghost use Rattle.table_words.specs.Rows.{MappedPage, TableRow, table_at};
-ghost use Rattle.table_words.specs.Stands.{Stands};
-ghost use Rattle.table_words.specs.Taken.{names};
-ghost use Rattle.table_words.specs.Under.{HoldsTable};
+ghost use Rattle.page_table_words.specs.Needed.{goes_through};
+ghost use Rattle.page_table_words.specs.Pruned.{is_kept, is_used, is_wanted, left};
+ghost use Rattle.page_table_words.specs.Rows.{MappedPage, TableRow, table_at};
+ghost use Rattle.page_table_words.specs.Stands.{Stands};
+ghost use Rattle.page_table_words.specs.Taken.{names};
+ghost use Rattle.page_table_words.specs.Under.{HoldsTable};
 
 use crate::entry::Entry;
 use crate::levels;

@@ -2,7 +2,7 @@
 
 ghost use Rattle.std.specs.Prelude.{ℕ, ◌≡◌, ◌≤◌, drop, slice_index, take, vec_capacity, vec_len};
 ghost use Rattle.std.specs.List.Sorted.{IsNonDecreasingBy, IsPermutation};
-ghost use Rattle.table_words.specs.Released.{HasFewerHolds, times};
+ghost use Rattle.page_table_words.specs.Released.{HasFewerHolds, times};
 
 use frame_memory::Pool;
 use iofd_words::FrameNo;

@@ -6,14 +6,14 @@ ghost use Rattle.std.specs.Prelude.{OnOk, OnErr, length, vec_len, vec_capacity};
 ghost use Rattle.std.specs.List.{count_by, range_with_len};
 ghost use Rattle.frame_memory.specs.Pool.{free_count, given, least_free};
 ghost use Rattle.iofd_words.specs.Levels.{levels_of};
-ghost use Rattle.table_words.specs.Mapped.{Becomes, HasRoom, IsBelow, IsTable, root_row};
-ghost use Rattle.table_words.specs.Needed.{AreOrdered, is_absent, needed, needed_at};
-ghost use Rattle.table_words.specs.Pruned.{CanPrune, Prunes, gone, left};
-ghost use Rattle.table_words.specs.Reached.{EndsAt, IsLowest};
-ghost use Rattle.table_words.specs.Released.{CanRelease, GivesBack, Releases};
-ghost use Rattle.table_words.specs.Rows.{with_page, without_page};
-ghost use Rattle.table_words.specs.Stands.{IfStands, TableStands};
-ghost use Rattle.table_words.specs.Taken.{least_frames, missing, with_tables};
+ghost use Rattle.page_table_words.specs.Mapped.{Becomes, HasRoom, IsBelow, IsTable, root_row};
+ghost use Rattle.page_table_words.specs.Needed.{AreOrdered, is_absent, needed, needed_at};
+ghost use Rattle.page_table_words.specs.Pruned.{CanPrune, Prunes, gone, left};
+ghost use Rattle.page_table_words.specs.Reached.{EndsAt, IsLowest};
+ghost use Rattle.page_table_words.specs.Released.{CanRelease, GivesBack, Releases};
+ghost use Rattle.page_table_words.specs.Rows.{with_page, without_page};
+ghost use Rattle.page_table_words.specs.Stands.{IfStands, TableStands};
+ghost use Rattle.page_table_words.specs.Taken.{least_frames, missing, with_tables};
 ghost use Rattle.page_table.specs.Walks.{walk_of};
 
 use crate::descent::{Reached, descend};
@@ -39,7 +39,7 @@ pub struct Table {
 }
 
 impl Model for Table {
-    ghost use Rattle.table_words.specs.Stands.{TableRoot};
+    ghost use Rattle.page_table_words.specs.Stands.{TableRoot};
 
     ghost Value = { TableRoot };
 

@@ -3,8 +3,8 @@
 ghost use Rattle.std.specs.Prelude.{ℕ, ◌≡◌, ◌≢◌, ◌≤◌, ◌<◌, ◌+◌, ◌-◌, ◌%◌};
 ghost use Rattle.std.specs.Prelude.{◌^◌, ◌++◌, IsTrue, length, vec_len};
 ghost use Rattle.std.specs.Prelude.{vec_capacity};
-ghost use Rattle.table_words.specs.Entries.{entry_at};
-ghost use Rattle.table_words.specs.Under.{HoldsTable, frames_under};
+ghost use Rattle.page_table_words.specs.Entries.{entry_at};
+ghost use Rattle.page_table_words.specs.Under.{HoldsTable, frames_under};
 
 use crate::entry::Entry;
 use frame_memory::Pool;

@@ -6,9 +6,9 @@ use Rattle.std.specs.List.{count_by, filter, list_all, list_any}
 use Rattle.std.proofs.lemmas.Bool.Decides.{nat_tests}
 use Rattle.std.proofs.lemmas.List.Filters.{length-filter_both}
 use Rattle.std.proofs.lemmas.List.Sums.{length-filter}
-use Rattle.hwpt_device.proofs.Gone.{other_table}
-use Rattle.hwpt_device.proofs.OwnIds.{first_alone, own_parts}
-use Rattle.hwpt_device.specs.PageTables.{Hwpt, HwptStands, row_of, rows_of}
+use Rattle.page_table_set.proofs.Gone.{other_table}
+use Rattle.page_table_set.proofs.OwnIds.{first_alone, own_parts}
+use Rattle.page_table_set.specs.PageTables.{Hwpt, HwptStands, row_of, rows_of}
 use Rattle.iofd_rows.proofs.Bools.{and_true, both_true, or_false}
 use Rattle.iofd_rows.proofs.Each.{IsIn, of_all, of_any}
 use Rattle.iofd_rows.proofs.ListTests.{any-filter, any_weaker, filter_all}
@@ -24,14 +24,14 @@ use Rattle.iofd_words.specs.World.{World}
 use Rattle.iofd_words.specs.declared.config.ConfigError.{ConfigError}
 use Rattle.iofd_words.specs.declared.config.ConfigError.TheVariants as field
 use Rattle.iofd_words.specs.declared.rows.TableFrame.{TableFrame}
-use Rattle.memory_rows.proofs.Counts.{count_split}
-use Rattle.memory_rows.proofs.PinsFollow.{any_count, count-cons}
-use Rattle.memory_rows.specs.Shown.{tables_in}
+use Rattle.user_memory_rows.proofs.Counts.{count_split}
+use Rattle.user_memory_rows.proofs.PinsFollow.{any_count, count-cons}
+use Rattle.user_memory_rows.specs.Shown.{tables_in}
 use Rattle.server_state.specs.Leads.{leads_of}
 use Rattle.server_state.specs.Shows.{Shows}
 use Rattle.server_state.specs.declared.state.State.{State}
-use Rattle.table_words.proofs.Lookups.{none_or_some}
-use Rattle.table_words.specs.Rows.{MappedPage, TableRow, table_at}
+use Rattle.page_table_words.proofs.Lookups.{none_or_some}
+use Rattle.page_table_words.specs.Rows.{MappedPage, TableRow, table_at}
 
 -- ---- tables and frames
 

@@ -14,10 +14,10 @@ use Rattle.iofd_words.specs.declared.rows.TableFrame.{TableFrame}
 use Rattle.iofd_words.specs.declared.rows.UserPage.{UserPage}
 use Rattle.memory_objects.specs.Invariant.{MemoryInvariant}
 use Rattle.memory_objects.specs.Objects.{pins_on}
-use Rattle.memory_rows.proofs.Named.{settles_named}
-use Rattle.memory_rows.proofs.PinsFollow.{count-cons}
-use Rattle.memory_rows.specs.Shown.{FramesShown, tables_in}
-use Rattle.table_words.specs.Taken.{least_frames}
+use Rattle.user_memory_rows.proofs.Named.{settles_named}
+use Rattle.user_memory_rows.proofs.PinsFollow.{count-cons}
+use Rattle.user_memory_rows.specs.Shown.{FramesShown, tables_in}
+use Rattle.page_table_words.specs.Taken.{least_frames}
 use Rattle.user_memory.proofs.PinsNamed.{named_counts, some_named}
 use Rattle.user_memory.specs.Changes.{Settles}
 use Rattle.user_memory.specs.Memory.{Memory, is_pinned, pinned_frame, reached}

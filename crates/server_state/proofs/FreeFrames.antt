@@ -18,13 +18,13 @@ use Rattle.iofd_words.specs.declared.event.Event.{Event}
 use Rattle.iofd_words.specs.declared.numbers.FrameNo.{FrameNo}
 use Rattle.iofd_words.specs.declared.reply.Reply.{Reply}
 use Rattle.iofd_words.specs.declared.rows.TableFrame.{TableFrame}
-use Rattle.memory_rows.proofs.FramesFollow.{free_alike}
+use Rattle.user_memory_rows.proofs.FramesFollow.{free_alike}
 use Rattle.server_state.specs.Choice as choice
 use Rattle.server_state.specs.Choice.{AreFramesChosen}
 use Rattle.server_state.specs.Shows.{Shows}
 use Rattle.server_state.specs.declared.state.State.{State}
-use Rattle.table_spans.proofs.LeastFrames.{length_least}
-use Rattle.table_words.specs.Taken.{least_frames}
+use Rattle.page_table_spans.proofs.LeastFrames.{length_least}
+use Rattle.page_table_words.specs.Taken.{least_frames}
 
 -- ---- the least of a list of holds
 

@@ -10,8 +10,8 @@ use Rattle.iofd_rows.proofs.Each.{IsIn, of_any}
 use Rattle.iofd_words.specs.Tables.{are_rising, is_among, kept_tables}
 use Rattle.iofd_words.specs.declared.numbers.FrameNo.{FrameNo}
 use Rattle.iofd_words.specs.declared.rows.TableFrame.{TableFrame}
-use Rattle.memory_rows.proofs.PinsFollow.{any_count, count-cons}
-use Rattle.memory_rows.specs.Shown.{tables_in}
+use Rattle.user_memory_rows.proofs.PinsFollow.{any_count, count-cons}
+use Rattle.user_memory_rows.specs.Shown.{tables_in}
 
 -- ---- lists
 

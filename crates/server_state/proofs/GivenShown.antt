@@ -7,11 +7,11 @@ use Rattle.std.proofs.lemmas.Bool.Decides.{nat_tests}
 use Rattle.iofd_words.specs.Frames.{FrameWrite}
 use Rattle.iofd_words.specs.declared.rows.TableFrame.{TableFrame}
 use Rattle.frame_memory.specs.Pool.{FramePool}
-use Rattle.memory_rows.specs.Shown.{FramesShown, tables_in}
+use Rattle.user_memory_rows.specs.Shown.{FramesShown, tables_in}
 use Rattle.server_state.proofs.GivenBack.{parts}
-use Rattle.table_words.specs.Released.{Releases}
-use Rattle.table_words.specs.Rows.{TableRow}
-use Rattle.table_words.specs.Taken.{names}
+use Rattle.page_table_words.specs.Released.{Releases}
+use Rattle.page_table_words.specs.Rows.{TableRow}
+use Rattle.page_table_words.specs.Taken.{names}
 use Rattle.user_memory.specs.Memory.{Memory, reached}
 
 module _ (pool : ℕ) (writes : List FrameWrite) (frames : List TableFrame) (goes : TableFrame

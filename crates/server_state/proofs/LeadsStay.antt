@@ -22,12 +22,12 @@ use Rattle.iofd_words.specs.declared.rows.ObjectKind.{ObjectKind}
 use Rattle.iofd_words.specs.declared.rows.ObjectKind.TheVariants as kind
 use Rattle.iofd_words.specs.declared.rows.TableFrame.{TableFrame}
 use Rattle.frame_memory.specs.Pool.{FramePool}
-use Rattle.hwpt_device.specs.PageTables.{AllStand, Hwpt}
-use Rattle.memory_rows.proofs.PinsFollow.{any_count, only_kept}
-use Rattle.memory_rows.specs.Shown.{PinsShown, translated}
+use Rattle.page_table_set.specs.PageTables.{AllStand, Hwpt}
+use Rattle.user_memory_rows.proofs.PinsFollow.{any_count, only_kept}
+use Rattle.user_memory_rows.specs.Shown.{PinsShown, translated}
 use Rattle.server_state.specs.Leads.{lead_by, leads_by_kind, leads_of, live_area_at, object_page, space_leads}
 use Rattle.server_state.specs.Tables.{page_tables_among}
-use Rattle.table_words.specs.Rows.{MappedPage}
+use Rattle.page_table_words.specs.Rows.{MappedPage}
 use Rattle.user_memory.specs.Changes.{Settles}
 use Rattle.user_memory.specs.Memory as memory
 use Rattle.user_memory.specs.Memory.{Memory, is_pinned, rows_of, table_pins}

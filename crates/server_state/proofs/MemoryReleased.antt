@@ -24,14 +24,14 @@ use Rattle.iofd_words.specs.declared.rows.Object.{Object}
 use Rattle.iofd_words.specs.declared.rows.Pin.{Pin}
 use Rattle.iofd_words.specs.declared.rows.TableFrame.{TableFrame}
 use Rattle.iofd_words.specs.declared.rows.UserPage.{UserPage}
-use Rattle.memory_rows.proofs.Counts.{count_map}
-use Rattle.memory_rows.proofs.FramesFollow as frames
-use Rattle.memory_rows.proofs.Gone.{few_translated, rows_left}
-use Rattle.hwpt_device.specs.PageTables.{AllStand, Hwpt}
-use Rattle.memory_rows.proofs.Named.{settles_named}
-use Rattle.memory_rows.proofs.PinsFollow.{only_kept, pins_follow}
-use Rattle.memory_rows.specs.Moves.{IsReleased, MayRelease}
-use Rattle.memory_rows.specs.Shown.{FramesShown, PinsShown, UsersShown, over, translated}
+use Rattle.user_memory_rows.proofs.Counts.{count_map}
+use Rattle.user_memory_rows.proofs.FramesFollow as frames
+use Rattle.user_memory_rows.proofs.Gone.{few_translated, rows_left}
+use Rattle.page_table_set.specs.PageTables.{AllStand, Hwpt}
+use Rattle.user_memory_rows.proofs.Named.{settles_named}
+use Rattle.user_memory_rows.proofs.PinsFollow.{only_kept, pins_follow}
+use Rattle.user_memory_rows.specs.Moves.{IsReleased, MayRelease}
+use Rattle.user_memory_rows.specs.Shown.{FramesShown, PinsShown, UsersShown, over, translated}
 use Rattle.user_memory.specs.Changes.{HasLess}
 use Rattle.user_memory.specs.Memory.{Memory, areas_over, rows_of, table_pins}
 use Rattle.server_state.proofs.LeadsStay.{has_page, is_translated, lead_alike, pin_stays, spaces_alike}

@@ -4,7 +4,7 @@ use Rattle.std.proofs.Common.{◌≡◌, ℕ, zero, suc, ◌+◌, ◌-◌, ◌<�
 use Rattle.std.proofs.Common.{[], ◌∷◌, length, refl, sym, ◌∙◌, ap, arith}
 use Rattle.std.specs.List.{All, find, list_all, list_any}
 use Rattle.std.proofs.lemmas.Bool.Decides.{nat_tests}
-use Rattle.area_rows.specs.Areas.{AreApart, AreApartFrom}
+use Rattle.area_map_rows.specs.Areas.{AreApart, AreApartFrom}
 use Rattle.iofd_rows.proofs.Bools.{and_true, both_true, clash, or_false}
 use Rattle.iofd_rows.proofs.Each.{in_found, of_any}
 use Rattle.iofd_rows.proofs.Found.{all_filter}
@@ -23,7 +23,7 @@ use Rattle.server_state.proofs.Kept.{none_found}
 use Rattle.server_state.specs.Held.{areas_at}
 use Rattle.server_state.specs.Step.{IsKnown}
 use Rattle.server_state.specs.declared.state.State.{State}
-use Rattle.table_spans.specs.Spans.{IsOfPages}
+use Rattle.page_table_spans.specs.Spans.{IsOfPages}
 
 abbrev ends_from : ℕ → Area → Bool
 ends_from end area = leb end area.span.last

@@ -15,7 +15,7 @@ use Rattle.iofd_words.specs.declared.rows.Object.{Object}
 use Rattle.iofd_words.specs.declared.rows.ObjectKind.{ObjectKind}
 use Rattle.iofd_rows.proofs.Bools.{and_true, both_true}
 use Rattle.iofd_rows.proofs.PageTables.{same_hwpt}
-use Rattle.memory_rows.proofs.FramesFollow.{pins_moved, translated_same}
+use Rattle.user_memory_rows.proofs.FramesFollow.{pins_moved, translated_same}
 use Rattle.server_state.proofs.Objects.{kind_at, kind_of_rows}
 use Rattle.server_state.proofs.PageTables.{over_no_other}
 use Rattle.server_state.proofs.Counted.{over-beside, users-inserted}

@@ -13,7 +13,7 @@ use Rattle.iofd_words.specs.declared.numbers.ObjId.{ObjId}
 use Rattle.iofd_words.specs.declared.rows.Object.{Object}
 use Rattle.iofd_words.specs.declared.rows.ObjectKind.{ObjectKind}
 use Rattle.iofd_words.specs.declared.rows.ObjectKind.TheVariants as kind
-use Rattle.hwpt_device.specs.PageTables.{Hwpt, hwpt_of, objects_of}
+use Rattle.page_table_set.specs.PageTables.{Hwpt, hwpt_of, objects_of}
 use Rattle.server_state.specs.Held.{objects_in}
 use Rattle.server_state.specs.Shows.{Shows}
 use Rattle.server_state.specs.Step.{IsKnown}

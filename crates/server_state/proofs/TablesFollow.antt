@@ -6,12 +6,12 @@ use Rattle.iofd_words.specs.Frames.{FrameWrite}
 use Rattle.iofd_words.specs.declared.rows.Object.{Object}
 use Rattle.iofd_words.specs.declared.rows.TableFrame.{TableFrame}
 use Rattle.frame_memory.specs.Pool.{FramePool, bytes_of, word_at}
-use Rattle.hwpt_device.proofs.Staying.{all_stay, named_within, table_held}
-use Rattle.hwpt_device.specs.PageTables.{AllStand, Hwpt, rows_of}
-use Rattle.memory_rows.specs.Shown.{FramesShown, tables_in}
-use Rattle.table_words.specs.Rows.{MappedPage}
-use Rattle.table_words.specs.SameTables.{SameTables}
-use Rattle.table_words.specs.Taken.{names}
+use Rattle.page_table_set.proofs.Staying.{all_stay, named_within, table_held}
+use Rattle.page_table_set.specs.PageTables.{AllStand, Hwpt, rows_of}
+use Rattle.user_memory_rows.specs.Shown.{FramesShown, tables_in}
+use Rattle.page_table_words.specs.Rows.{MappedPage}
+use Rattle.page_table_words.specs.SameTables.{SameTables}
+use Rattle.page_table_words.specs.Taken.{names}
 use Rattle.user_memory.specs.Memory.{Memory, reached}
 
 module _ (pool : ℕ) (writes others : List FrameWrite) (frames : List TableFrame) (leads : Object → ℕ

@@ -5,8 +5,8 @@ use Rattle.std.proofs.Common.{map, sum_by, refl, sym, ◌∙◌, ap, subst, arit
 use Rattle.std.specs.List.{filter, list_all, list_any}
 use Rattle.std.proofs.lemmas.Bool.Decides.{nat_tests}
 use Rattle.std.proofs.lemmas.List.Sums.{count_by-le-length, length-filter, sum_by-cons}
-use Rattle.hwpt_device.specs.OverSpans.{HaveSpan, hwpts_over, is_over, tables_lacked, tables_needed}
-use Rattle.hwpt_device.specs.PageTables.{Hwpt}
+use Rattle.page_table_set.specs.OverSpans.{HaveSpan, hwpts_over, is_over, tables_lacked, tables_needed}
+use Rattle.page_table_set.specs.PageTables.{Hwpt}
 use Rattle.iofd_rows.proofs.Bools.{and_true, both_true, clash, or_false, or_none}
 use Rattle.iofd_rows.proofs.Each.{IsIn, in_filter, of_any, of_each}
 use Rattle.iofd_rows.proofs.ListTests.{false_else}

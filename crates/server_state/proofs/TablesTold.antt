@@ -16,9 +16,9 @@ use Rattle.iofd_words.specs.declared.rows.Object.{Object}
 use Rattle.iofd_words.specs.declared.rows.ObjectKind.{ObjectKind}
 use Rattle.iofd_words.specs.declared.rows.TableFrame.{TableFrame}
 use Rattle.frame_memory.specs.Pool.{FramePool}
-use Rattle.hwpt_device.proofs.Kept.{kept_is}
-use Rattle.hwpt_device.specs.Kept.{has_kept, keeps}
-use Rattle.hwpt_device.specs.PageTables.{Hwpt, PageTables, hwpt_of}
+use Rattle.page_table_set.proofs.Kept.{kept_is}
+use Rattle.page_table_set.specs.Kept.{has_kept, keeps}
+use Rattle.page_table_set.specs.PageTables.{Hwpt, PageTables, hwpt_of}
 use Rattle.server_state.proofs.PageTables.{found_among}
 use Rattle.server_state.specs.Leads.{leads_of}
 use Rattle.server_state.specs.Shows.{TablesShown}

@@ -5,8 +5,8 @@ use Rattle.std.proofs.Common.{◌∷◌, append-nil, length, map, refl, ap, subs
 use Rattle.std.specs.List.{filter, list_all, list_any}
 use Rattle.std.proofs.lemmas.Bool.Decides.{nat_tests}
 use Rattle.frame_memory.specs.Pool.{FramePool}
-use Rattle.hwpt_device.proofs.Staying.{table_held}
-use Rattle.hwpt_device.specs.PageTables.{AllStand, Hwpt, KeepsOthers, row_of, rows_of}
+use Rattle.page_table_set.proofs.Staying.{table_held}
+use Rattle.page_table_set.specs.PageTables.{AllStand, Hwpt, KeepsOthers, row_of, rows_of}
 use Rattle.iofd_rows.proofs.Bools.{both_true}
 use Rattle.iofd_rows.proofs.Each.{IsIn, in_map, of_any, of_each}
 use Rattle.iofd_rows.proofs.Named.{object_of_kind}
@@ -18,15 +18,15 @@ use Rattle.iofd_words.specs.World.{World}
 use Rattle.iofd_words.specs.declared.rows.Object.{Object}
 use Rattle.iofd_words.specs.declared.rows.ObjectKind.{ObjectKind}
 use Rattle.iofd_words.specs.declared.rows.TableFrame.{TableFrame}
-use Rattle.memory_rows.proofs.PinsFollow.{any_count}
-use Rattle.memory_rows.specs.Shown.{FramesShown, tables_in}
+use Rattle.user_memory_rows.proofs.PinsFollow.{any_count}
+use Rattle.user_memory_rows.specs.Shown.{FramesShown, tables_in}
 use Rattle.server_state.proofs.TakenShown.{taken_shown}
 use Rattle.server_state.specs.Leads.{leads_of}
 use Rattle.server_state.specs.Shows.{Shows}
 use Rattle.server_state.specs.Tables.{page_tables_among}
 use Rattle.server_state.specs.declared.state.State.{State}
-use Rattle.table_words.specs.Rows.{MappedPage, TableRow}
-use Rattle.table_words.specs.Taken.{names}
+use Rattle.page_table_words.specs.Rows.{MappedPage, TableRow}
+use Rattle.page_table_words.specs.Taken.{names}
 use Rattle.user_memory.specs.Memory.{Memory, reached}
 
 -- ---- lists

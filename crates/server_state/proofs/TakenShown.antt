@@ -9,13 +9,13 @@ use Rattle.iofd_words.specs.Tables.{MissingTable, in_frames}
 use Rattle.iofd_words.specs.declared.numbers.FrameNo.{FrameNo}
 use Rattle.iofd_words.specs.declared.rows.TableFrame.{TableFrame}
 use Rattle.frame_memory.specs.Pool.{FramePool}
-use Rattle.hwpt_device.proofs.Counted.{tables_append}
-use Rattle.hwpt_device.specs.PageTables.{KeepsOthers}
-use Rattle.memory_rows.proofs.PinsFollow.{count-cons}
-use Rattle.memory_rows.specs.Shown.{FramesShown, tables_in}
+use Rattle.page_table_set.proofs.Counted.{tables_append}
+use Rattle.page_table_set.specs.PageTables.{KeepsOthers}
+use Rattle.user_memory_rows.proofs.PinsFollow.{count-cons}
+use Rattle.user_memory_rows.specs.Shown.{FramesShown, tables_in}
 use Rattle.server_state.proofs.GivenBack.{times_in}
-use Rattle.table_spans.proofs.LeastFrames.{length_held}
-use Rattle.table_spans.specs.Spans.{held_once}
+use Rattle.page_table_spans.proofs.LeastFrames.{length_held}
+use Rattle.page_table_spans.specs.Spans.{held_once}
 use Rattle.user_memory.specs.Memory.{Memory, reached}
 
 -- ---- frames that are held once

@@ -15,7 +15,7 @@ use Rattle.iofd_words.specs.declared.numbers.FrameNo.{FrameNo}
 use Rattle.iofd_words.specs.declared.numbers.UserNo.{UserNo}
 use Rattle.iofd_words.specs.declared.rows.MemoryObject.{MemoryObject}
 use Rattle.frame_memory.specs.Pool.{free_count, least_free}
-use Rattle.memory_rows.proofs.FramesFollow.{free_count_alike, least_alike}
+use Rattle.user_memory_rows.proofs.FramesFollow.{free_count_alike, least_alike}
 use Rattle.user_memory.specs.Memory as kept
 use Rattle.iofd_words.specs.FirstTrue.{first_true}
 use Rattle.iofd_words.specs.Look.{query_checks}
@@ -29,7 +29,7 @@ use Rattle.iofd_words.specs.declared.event.Event.{Event}
 use Rattle.iofd_words.specs.declared.fault.AccessKind.{AccessKind}
 use Rattle.iofd_words.specs.declared.numbers.DeviceNo.{DeviceNo}
 use Rattle.iofd_words.specs.declared.query.Query.{Query}
-use Rattle.hwpt_device.specs.Kept.{has_kept}
+use Rattle.page_table_set.specs.Kept.{has_kept}
 use Rattle.server_state.proofs.TablesTold.{tables_told}
 use Rattle.server_state.specs.Held.{areas_at}
 use Rattle.server_state.specs.Seen.{seen}

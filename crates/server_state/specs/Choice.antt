@@ -42,6 +42,7 @@ without_cache outcomes = elim (find is_denial outcomes) [ Some denial ↦ Some d
 abbrev pub is_fault : Answer → Bool
 is_fault (answer.Read bytes) = false
 is_fault (answer.Count count) = false
+is_fault (answer.Attached hwpt) = false
 is_fault (answer.Fault fault) = true
 is_fault (answer.Refused refusal) = false
 
@@ -49,11 +50,6 @@ is_fault (answer.Refused refusal) = false
 pub record IsLooked (lawful : List Answer) (given : Answer) : Type 0 where
   pub is_lawful : Contains lawful given
   pub is_fault_else : list_any is_fault lawful ≡ true → is_fault given ≡ true
-
--- it passes at this frame
-abbrev pub is_pass_at : FrameNo → Outcome → Bool
-is_pass_at frame (Passes at) = at.0 == frame.0
-is_pass_at frame (Denied reason) = false
 
 -- the cached frame is one at which the policy lets the write pass now; only a device's write may have one
 abbrev pub MayUse : {A : Type 0} → World → Event A → Option FrameNo → Type 0

@@ -14,7 +14,7 @@ use Rattle.iofd_words.specs.declared.rows.Object.{Object}
 use Rattle.iofd_words.specs.declared.rows.ObjectKind.{ObjectKind}
 use Rattle.iofd_words.specs.declared.rows.ObjectKind.TheVariants as kind
 use Rattle.iofd_words.specs.declared.rows.Pin.{Pin}
-use Rattle.table_words.specs.Rows.{MappedPage}
+use Rattle.page_table_words.specs.Rows.{MappedPage}
 
 -- the live area that holds the page
 abbrev pub live_area_at : ℕ → List Area → Option Area

@@ -1,8 +1,8 @@
 -- Words for MAP and UNMAP: the pins that come, and the areas of one address space.
 use Rattle.std.specs.Prelude.{ℕ, Bool, false, ◌==◌, not, Some, None, List, [], length, if◌then◌else◌}
 use Rattle.std.specs.List.{list_any}
-use Rattle.area_rows.specs.Areas.{areas_within}
-use Rattle.hwpt_device.specs.PageTables.{PageTables, objects_of}
+use Rattle.area_map_rows.specs.Areas.{areas_within}
+use Rattle.page_table_set.specs.PageTables.{PageTables, objects_of}
 use Rattle.iofd_words.specs.Areas.{owed_by}
 use Rattle.iofd_words.specs.Bounds.{Bounds}
 use Rattle.iofd_words.specs.Objects.{kind_of, has_hwpt, is_hwpt_over}
@@ -11,7 +11,7 @@ use Rattle.iofd_words.specs.declared.numbers.ObjId.{ObjId}
 use Rattle.iofd_words.specs.declared.rows.Area.{Area}
 use Rattle.iofd_words.specs.declared.rows.Attachment.{Attachment}
 use Rattle.iofd_words.specs.declared.rows.Object.{Object}
-use Rattle.memory_rows.specs.Shown.{over}
+use Rattle.user_memory_rows.specs.Shown.{over}
 use Rattle.server_state.specs.Held.{areas_in}
 use Rattle.server_state.specs.declared.held.Held.{Held}
 use Rattle.object_table.specs.Table.{Table, own}

@@ -1,6 +1,6 @@
 -- What is kept, as the view that the refusals and the policy read. It is that of the world that is shown.
 use Rattle.frame_memory.specs.Pool.{free_count}
-use Rattle.hwpt_device.specs.Kept.{has_kept}
+use Rattle.page_table_set.specs.Kept.{has_kept}
 use Rattle.iofd_words.specs.Allowed.{allowed_of}
 use Rattle.iofd_words.specs.Frames.{frame_at}
 use Rattle.iofd_words.specs.Objects as object

@@ -22,8 +22,8 @@ use Rattle.server_state.specs.Tables.{has_own_width, page_tables_among}
 use Rattle.server_state.specs.Users.{AreCounted}
 use Rattle.server_state.specs.declared.state.State.{State}
 use Rattle.frame_memory.specs.Pool.{FramePool}
-use Rattle.hwpt_device.specs.PageTables.{AllStand, PageTables, objects_of}
-use Rattle.memory_rows.specs.Shown.{FramesShown, PinsShown, UsersShown}
+use Rattle.page_table_set.specs.PageTables.{AllStand, PageTables, objects_of}
+use Rattle.user_memory_rows.specs.Shown.{FramesShown, PinsShown, UsersShown}
 use Rattle.object_table.specs.Table.{Table, is_open}
 
 -- the files, and the objects of each with the areas of its address spaces

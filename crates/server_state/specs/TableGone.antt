@@ -1,8 +1,8 @@
 -- A page table goes: of the objects, of the page tables and of the pool, where its tables had their frames.
 use Rattle.std.specs.Prelude.{◌≡◌, ℕ, Bool, Some, List}
 use Rattle.frame_memory.specs.Pool.{FramePool}
-use Rattle.hwpt_device.specs.PageTables.{AllStand, IfAllStand, PageTables, hwpt_of}
-use Rattle.hwpt_device.specs.Removed.{rows_found, without_hwpt, without_tables}
+use Rattle.page_table_set.specs.PageTables.{AllStand, IfAllStand, PageTables, hwpt_of}
+use Rattle.page_table_set.specs.Removed.{rows_found, without_hwpt, without_tables}
 use Rattle.iofd_words.specs.Objects.{kind_of, without_object}
 use Rattle.iofd_words.specs.World.{World}
 use Rattle.iofd_words.specs.declared.numbers.FileNo.{FileNo}
@@ -11,7 +11,7 @@ use Rattle.iofd_words.specs.declared.rows.Area.{Area}
 use Rattle.iofd_words.specs.declared.rows.Attachment.{Attachment}
 use Rattle.iofd_words.specs.declared.rows.ObjectKind.TheVariants.{Hwpt}
 use Rattle.iofd_words.specs.declared.width.Width.{Width}
-use Rattle.memory_rows.specs.Moves.{IsReleased, MayRelease}
+use Rattle.user_memory_rows.specs.Moves.{IsReleased, MayRelease}
 use Rattle.object_table.specs.Table.{Table}
 use Rattle.server_state.specs.Mapping.{untranslated_pins}
 use Rattle.server_state.specs.Shows.{ObjectsShown}
@@ -19,7 +19,7 @@ use Rattle.server_state.specs.Step.{IsTidy}
 use Rattle.server_state.specs.Users.{devices_on}
 use Rattle.server_state.specs.declared.held.Held.{Held}
 use Rattle.server_state.specs.declared.state.State.{State}
-use Rattle.table_words.specs.Released.{Releases}
+use Rattle.page_table_words.specs.Released.{Releases}
 use Rattle.user_memory.specs.Changes.{never}
 
 -- the file's page table of this id, over this address space, is gone: so much is left of the objects, the page tables

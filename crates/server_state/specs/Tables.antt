@@ -1,7 +1,7 @@
 -- The page tables, kept beside the other objects.
 use Rattle.std.specs.Prelude.{Bool, false, ◌==◌, ◌&&◌, List, filter}
 use Rattle.std.specs.List.{list_any}
-use Rattle.hwpt_device.specs.PageTables.{Hwpt}
+use Rattle.page_table_set.specs.PageTables.{Hwpt}
 use Rattle.iofd_words.specs.Objects.{is_hwpt, is_object}
 use Rattle.iofd_words.specs.Width.{bits_of}
 use Rattle.iofd_words.specs.declared.numbers.FileNo.{FileNo}

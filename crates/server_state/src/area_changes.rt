@@ -3,7 +3,7 @@
 ghost use Rattle.std.specs.Prelude.{◌≡◌, ◌<◌, ◌==◌, not, true, None, [], length, map};
 ghost use Rattle.std.specs.Prelude.{OnErr, OnOk, MatchOption};
 ghost use Rattle.std.specs.List.{list_any};
-ghost use Rattle.area_rows.specs.Areas.{AreKept, areas_outside, areas_within, marked, with_area};
+ghost use Rattle.area_map_rows.specs.Areas.{AreKept, areas_outside, areas_within, marked, with_area};
 ghost use Rattle.area_map.specs.Insertion.{insert_refusal};
 ghost use Rattle.iofd_words.specs.Areas.{all_paid, owed_by};
 ghost use Rattle.iofd_words.specs.Objects.{has_ioas, is_ioas};

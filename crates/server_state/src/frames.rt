@@ -1,7 +1,7 @@
 //! The frames that page tables give back.
 
 ghost use Rattle.std.specs.Prelude.{◌≡◌, ◌-◌, IsTrue, OnErr, OnOk, vec_capacity, vec_len};
-ghost use Rattle.hwpt_device.specs.Removed.{CanRemove};
+ghost use Rattle.page_table_set.specs.Removed.{CanRemove};
 ghost use Rattle.server_state.specs.Held.{objects_in};
 ghost use Rattle.server_state.specs.Step.{IsKnown};
 ghost use Rattle.server_state.specs.Tables.{has_page_table};

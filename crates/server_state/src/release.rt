@@ -1,15 +1,15 @@
 //! Areas that go, or that no page table translates any more, let go of their memory objects; and a page table goes.
 
 ghost use Rattle.std.specs.Prelude.{◌≡◌, ◌-◌, None, if◌then◌else◌, vec_capacity, vec_len};
-ghost use Rattle.hwpt_device.specs.PageTables.{IfAllStand, hwpt_of};
-ghost use Rattle.hwpt_device.specs.Removed.{CanRemove, rows_found};
+ghost use Rattle.page_table_set.specs.PageTables.{IfAllStand, hwpt_of};
+ghost use Rattle.page_table_set.specs.Removed.{CanRemove, rows_found};
 ghost use Rattle.object_table.specs.Table.{destroy_refusal, removed};
 ghost use Rattle.object_table.specs.declared.kind.Kind.TheVariants as of_kind;
 ghost use Rattle.server_state.specs.Mapping.{own_areas, untranslated_pins};
 ghost use Rattle.server_state.specs.TableGone.{HasLostTable, MayLoseTable};
-ghost use Rattle.memory_rows.specs.Moves.{IsReleased, MayRelease, if_translated};
-ghost use Rattle.memory_rows.specs.Shown.{over};
-ghost use Rattle.table_words.specs.Released.{GivesBack};
+ghost use Rattle.user_memory_rows.specs.Moves.{IsReleased, MayRelease, if_translated};
+ghost use Rattle.user_memory_rows.specs.Shown.{over};
+ghost use Rattle.page_table_words.specs.Released.{GivesBack};
 ghost use Rattle.user_memory.specs.Changes.{never, once};
 
 use crate::held::Held;
@@ -17,9 +17,9 @@ use crate::state::State;
 use crate::{area_changes, counts};
 use area_map::Iter;
 use frame_memory::Pool;
-use hwpt_device::PageTables;
 use iofd_words::{FileNo, FrameNo, ObjId};
 use object_table::{Kind, ObjectTable};
+use page_table_set::PageTables;
 use std::alloc::Allocator;
 use user_memory::UserMemory;
 

@@ -2,10 +2,10 @@
 
 use crate::held::Held;
 use frame_memory::Pool;
-use hwpt_device::PageTables;
 use iofd_words::{Attachment, Config, Object};
 use iova_ranges::AllowedTable;
 use object_table::ObjectTable;
+use page_table_set::PageTables;
 use std::alloc::{Allocator, Global};
 use user_memory::UserMemory;
 

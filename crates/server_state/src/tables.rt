@@ -66,6 +66,6 @@ fn tables_for<A: Allocator>(width: Width, areas: &Areas<A>) -> u64
             let _ = area.span.last();
             unreachable!()
         }
-        None => table_spans::tables_for(width, areas),
+        None => page_table_spans::tables_for(width, areas),
     }
 }

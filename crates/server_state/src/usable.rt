@@ -17,9 +17,9 @@ ghost use Rattle.server_state.specs.Tables.{page_tables_among};
 use crate::held::Held;
 use crate::lookups;
 use crate::state::State;
-use hwpt_device::Hwpt;
 use iofd_words::{Attachment, Config, DeviceNo, FileNo, ObjId, Object, ObjectKind, Span};
 use object_table::ObjectTable;
+use page_table_set::Hwpt;
 use std::alloc::Allocator;
 
 impl<A: Allocator> State<A> {

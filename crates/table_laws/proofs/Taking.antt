@@ -14,19 +14,19 @@ use Rattle.iofd_words.specs.Pages.{page_of}
 use Rattle.iofd_words.specs.declared.numbers.FrameNo.{FrameNo}
 use Rattle.frame_memory.specs.Pool.{FramePool, free_count}
 use Rattle.iofd_words.specs.Levels.{first_address, levels_of, number_at}
-use Rattle.table_words.specs.Needed.{first_page, goes_through, is_absent, needed, needed_at}
-use Rattle.table_words.specs.Mapped.{IsBelow}
-use Rattle.table_words.specs.Reached.{IsLowest}
-use Rattle.table_words.specs.Rows.{MappedPage, TableRow, table_at}
-use Rattle.table_words.specs.Stands.{Stands, TableRoot, TableStands}
-use Rattle.table_words.specs.Taken.{least_frames, missing, rows_below, with_tables}
-use Rattle.table_words.proofs.Frames.{free_taken, least_frames_more, no_frames, some_least}
-use Rattle.table_words.proofs.Lookups.{cases_Option, one_is, row_for, table_at-append, table_at-same}
-use Rattle.table_words.proofs.Missing.{count_below, missing_is}
-use Rattle.table_words.proofs.Needs.{count_split, count_window, in_window, number_below, pages_grow}
-use Rattle.table_words.proofs.Numbers.{number-page, same_first}
-use Rattle.table_words.proofs.Tables.{none_below}
-use Rattle.table_words.proofs.Tops.{at_top, some_levels}
+use Rattle.page_table_words.specs.Needed.{first_page, goes_through, is_absent, needed, needed_at}
+use Rattle.page_table_words.specs.Mapped.{IsBelow}
+use Rattle.page_table_words.specs.Reached.{IsLowest}
+use Rattle.page_table_words.specs.Rows.{MappedPage, TableRow, table_at}
+use Rattle.page_table_words.specs.Stands.{Stands, TableRoot, TableStands}
+use Rattle.page_table_words.specs.Taken.{least_frames, missing, rows_below, with_tables}
+use Rattle.page_table_words.proofs.Frames.{free_taken, least_frames_more, no_frames, some_least}
+use Rattle.page_table_words.proofs.Lookups.{cases_Option, one_is, row_for, table_at-append, table_at-same}
+use Rattle.page_table_words.proofs.Missing.{count_below, missing_is}
+use Rattle.page_table_words.proofs.Needs.{count_split, count_window, in_window, number_below, pages_grow}
+use Rattle.page_table_words.proofs.Numbers.{number-page, same_first}
+use Rattle.page_table_words.proofs.Tables.{none_below}
+use Rattle.page_table_words.proofs.Tops.{at_top, some_levels}
 
 -- ---- the tables that are made
 

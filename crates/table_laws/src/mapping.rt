@@ -4,11 +4,11 @@ ghost use Rattle.std.specs.Prelude.{ℕ, ◌≡◌, ◌≤◌, ◌+◌, List};
 ghost use Rattle.iofd_words.specs.Bounds.{Bounds};
 ghost use Rattle.frame_memory.specs.Pool.{FramePool, free_count};
 ghost use Rattle.iofd_words.specs.Levels.{levels_of};
-ghost use Rattle.table_words.specs.Mapped.{IsBelow};
-ghost use Rattle.table_words.specs.Needed.{HasPage, needed};
-ghost use Rattle.table_words.specs.Rows.{MappedPage, TableRow};
-ghost use Rattle.table_words.specs.Stands.{TableRoot, TableStands};
-ghost use Rattle.table_words.specs.Taken.{missing, with_tables};
+ghost use Rattle.page_table_words.specs.Mapped.{IsBelow};
+ghost use Rattle.page_table_words.specs.Needed.{HasPage, needed};
+ghost use Rattle.page_table_words.specs.Rows.{MappedPage, TableRow};
+ghost use Rattle.page_table_words.specs.Stands.{TableRoot, TableStands};
+ghost use Rattle.page_table_words.specs.Taken.{missing, with_tables};
 
 /// While a page of the spans is mapped, just so many frames are taken as they then need fewer tables. So all their
 /// pages can be mapped where as many frames are free as they need.

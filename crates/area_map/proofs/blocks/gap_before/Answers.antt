@@ -1,7 +1,7 @@
 use Rattle.std.proofs.Common.{◌≡◌, ◌∙◌, ◌-◌, ◌<◌, List, length, get_or, sym, ap, arith}
 use Rattle.std.proofs.lemmas.List.{get_or_default}
 use Rattle.iofd_words.specs.declared.rows.Area.{Area}
-use Rattle.area_rows.specs.Rows.{end_of, first_of}
+use Rattle.area_map_rows.specs.Rows.{end_of, first_of}
 use Rattle.area_map.proofs.OneRow.{gap-none, gap-past, gap_between}
 use Rattle.area_map.proofs.blocks.gap_before.Goals as goal
 use Rattle.area_map.proofs.blocks.gap_before.Goals.{then-place-eq0-via-then-place-eq0}

@@ -1,7 +1,7 @@
 use Rattle.std.proofs.Common.{◌≡◌, ◌∙◌, ℕ, ◌-◌, ◌*◌, List, take, drop, length, ap}
 use Rattle.std.proofs.lemmas.List.{drop_min, take_min, take_rest}
 use Rattle.iofd_words.specs.declared.rows.Area.{Area}
-use Rattle.area_rows.proofs.Rows.{AreRows-take, AreRows-drop}
+use Rattle.area_map_rows.proofs.Rows.{AreRows-take, AreRows-drop}
 use Rattle.area_map.proofs.blocks.rows_of.Goals as goal
 
 pub returns-clause-value : goal.returns-clause-value

@@ -1,7 +1,7 @@
 use Rattle.std.proofs.Common.{◌≡◌, ◌∙◌, List, [], get_or, refl, ap, add-one}
 use Rattle.std.proofs.Math.Nat.{le_refl}
 use Rattle.iofd_words.specs.declared.rows.Area.{Area}
-use Rattle.area_rows.specs.Rows.{widest_of}
+use Rattle.area_map_rows.specs.Rows.{widest_of}
 use Rattle.area_map.proofs.blocks.widest_around.Goals as goal
 use Rattle.area_map.proofs.blocks.widest_around.Goals.{in-Some, in-None}
 

@@ -2,7 +2,7 @@ use Rattle.std.proofs.Common.{◌≡◌, ◌∙◌, ℕ, ◌+◌, ◌<◌, List,
 use borrow.Author.Count.{falls}
 use Rattle.std.proofs.lemmas.List.{drop_all}
 use Rattle.iofd_words.specs.declared.rows.Area.{Area}
-use Rattle.area_rows.specs.Rows.{end_of, first_of, in_rows, widest_behind, widest_of}
+use Rattle.area_map_rows.specs.Rows.{end_of, first_of, in_rows, widest_behind, widest_of}
 use Rattle.area_map.proofs.RowsInBlocks.{behind_next}
 use Rattle.area_map.proofs.blocks.widest_behind.Goals as goal
 

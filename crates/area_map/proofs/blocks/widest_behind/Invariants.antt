@@ -1,5 +1,5 @@
 use Rattle.std.proofs.Common.{◌≡◌, max, drop}
-use Rattle.area_rows.specs.Rows.{in_rows, widest_behind}
+use Rattle.area_map_rows.specs.Rows.{in_rows, widest_behind}
 use Rattle.area_map.proofs.blocks.widest_behind.Given as goal
 
 abbrev pub invariant-loop-row : goal.invariant-loop-row

@@ -1,5 +1,5 @@
 use Rattle.std.proofs.Common.{ℕ, sym, ap, arith}
-use Rattle.area_rows.specs.Rows.{in_rows, widest_behind}
+use Rattle.area_map_rows.specs.Rows.{in_rows, widest_behind}
 use Rattle.area_map.proofs.RowsInBlocks.{widest_of-none, widest_of-rows}
 use Rattle.area_map.proofs.blocks.widest_of.Goals as goal
 

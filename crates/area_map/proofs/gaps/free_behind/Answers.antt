@@ -1,8 +1,8 @@
 use Rattle.std.proofs.Common.{◌≡◌, ◌∙◌, ℕ, ◌-◌, ◌*◌, ◌≤◌, List, take, drop, sym, ap, arith}
 use Rattle.std.proofs.lemmas.List.{drop_min}
 use Rattle.iofd_words.specs.declared.rows.Area.{Area}
-use Rattle.area_rows.specs.Rows.{first_free, in_rows}
-use Rattle.area_rows.proofs.Rows.{AreRows-take, AreRows-drop, apart-drop}
+use Rattle.area_map_rows.specs.Rows.{first_free, in_rows}
+use Rattle.area_map_rows.proofs.Rows.{AreRows-take, AreRows-drop, apart-drop}
 use Rattle.area_map.proofs.RowsInBlocks.{apart-take, free-own}
 use Rattle.area_map.proofs.gaps.free_behind.Goals as goal
 

@@ -1,8 +1,8 @@
 use Rattle.std.proofs.Common.{◌≡◌, List, subst, sym, arith, ℕ}
 use Rattle.iofd_words.specs.declared.rows.Area.{Area}
-use Rattle.area_rows.specs.Areas.{IsFirstFree}
-use Rattle.area_rows.specs.Rows.{first_free, in_rows}
-use Rattle.area_rows.proofs.FirstFree.{free-is_first, free-none}
+use Rattle.area_map_rows.specs.Areas.{IsFirstFree}
+use Rattle.area_map_rows.specs.Rows.{first_free, in_rows}
+use Rattle.area_map_rows.proofs.FirstFree.{free-is_first, free-none}
 use Rattle.area_map.proofs.gaps.free_from.Goals as goal
 
 pub returns-then-at-from : goal.returns-then-at-from

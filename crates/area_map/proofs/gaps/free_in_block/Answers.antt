@@ -1,7 +1,7 @@
 use Rattle.std.proofs.Common.{◌∙◌, List, refl, sym, subst, ap, arith}
 use Rattle.iofd_words.specs.declared.rows.Area.{Area}
-use Rattle.area_rows.specs.Areas.{AreApart}
-use Rattle.area_rows.specs.Rows.{first_free, in_rows}
+use Rattle.area_map_rows.specs.Areas.{AreApart}
+use Rattle.area_map_rows.specs.Rows.{first_free, in_rows}
 use Rattle.area_map.proofs.RowsInBlocks.{apart-block, passed-block}
 use Rattle.area_map.proofs.gaps.free_in_block.Goals as goal
 

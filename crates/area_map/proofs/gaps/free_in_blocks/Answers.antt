@@ -4,8 +4,8 @@ use Rattle.std.proofs.lemmas.List.{drop_min, get_or_default, take_rest}
 use Rattle.iofd_words.specs.declared.rows.Area.{Area}
 use Rattle.area_map.specs.declared.blocks.Block.{Block}
 use Rattle.area_map.specs.Blocks.{IsBlockOf, block_of, rows_of}
-use Rattle.area_rows.specs.Rows.{first_free, in_rows}
-use Rattle.area_rows.proofs.Rows.{AreRows-take, AreRows-drop, apart-drop}
+use Rattle.area_map_rows.specs.Rows.{first_free, in_rows}
+use Rattle.area_map_rows.proofs.Rows.{AreRows-take, AreRows-drop, apart-drop}
 use Rattle.area_map.proofs.RowsInBlocks.{apart-take, free-block}
 use Rattle.area_map.proofs.gaps.free_in_blocks.Goals as goal
 

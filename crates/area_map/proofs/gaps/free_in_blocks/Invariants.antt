@@ -1,5 +1,5 @@
 use Rattle.std.proofs.Common.{◌≡◌, ◌-◌, ◌*◌, ◌≤◌, ◌^◌, drop, length}
-use Rattle.area_rows.specs.Rows.{first_free, in_rows}
+use Rattle.area_map_rows.specs.Rows.{first_free, in_rows}
 use Rattle.area_map.proofs.gaps.free_in_blocks.Given as goal
 
 abbrev pub invariant-loop-number : goal.invariant-loop-number

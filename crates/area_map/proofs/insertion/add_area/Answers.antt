@@ -3,13 +3,13 @@ use Rattle.std.proofs.Common.{length-set, get_or, refl, sym, arith}
 use Rattle.std.proofs.lemmas.Bool.Decides.{nat_tests}
 use Rattle.std.proofs.lemmas.List.{take-set}
 use Rattle.iofd_words.specs.declared.rows.Area.{Area}
-use Rattle.area_rows.specs.Areas.{with_area}
+use Rattle.area_map_rows.specs.Areas.{with_area}
 use Rattle.std.specs.List.{prefix_len}
-use Rattle.area_rows.specs.Rows.{end_of}
+use Rattle.area_map_rows.specs.Rows.{end_of}
 use Rattle.area_map.specs.Kept.{takes_row}
 use Rattle.area_map.proofs.Room.{room-none, room-one}
 use Rattle.area_map.proofs.RowsAdded.{added_in_row, row-alone, full_row, added_row, back_with, rows-before, rows-behind}
-use Rattle.area_rows.proofs.Rows.{row-apart, row-few}
+use Rattle.area_map_rows.proofs.Rows.{row-apart, row-few}
 use Rattle.area_map.proofs.RowsSame.{same_set, same_past}
 use Rattle.area_map.proofs.insertion.add_area.Goals as goal
 

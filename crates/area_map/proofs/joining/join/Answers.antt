@@ -4,7 +4,7 @@ use Rattle.std.specs.List.{remove}
 use Rattle.std.proofs.lemmas.List.{get_or_default, length-set}
 use Rattle.std.proofs.lemmas.List.Edits.{get_or-remove_below}
 use Rattle.iofd_words.specs.declared.rows.Area.{Area}
-use Rattle.area_rows.proofs.Rows.{written_back}
+use Rattle.area_map_rows.proofs.Rows.{written_back}
 use Rattle.area_map.proofs.RowsAdded.{in_rows-join, AreRows-join}
 use Rattle.area_map.proofs.RowsSame.{before_join}
 use Rattle.area_map.proofs.joining.join.Goals as goal

@@ -1,6 +1,6 @@
 use Rattle.std.proofs.Common.{◌≡◌, ◌++◌, List}
 use Rattle.iofd_words.specs.declared.rows.Area.{Area}
-use Rattle.area_rows.specs.Rows.{LeaveIn}
+use Rattle.area_map_rows.specs.Rows.{LeaveIn}
 use Rattle.area_map.proofs.leaving.hull_of.Given as goal
 
 -- the areas so far leave in the span so far

@@ -1,7 +1,7 @@
 use Rattle.std.proofs.Common.{None, not, sym}
 use Rattle.iofd_words.specs.Span.{lies_in}
 use Rattle.iofd_words.specs.declared.rows.Area.{Area}
-use Rattle.area_rows.specs.Rows.{in_rows}
+use Rattle.area_map_rows.specs.Rows.{in_rows}
 use Rattle.area_map.proofs.Hull.{leave-filter, leave-gone, leave-within}
 use Rattle.area_map.proofs.leaving.without.Goals as goal
 

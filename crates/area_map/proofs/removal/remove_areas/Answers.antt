@@ -2,8 +2,8 @@ use Rattle.std.proofs.Common.{◌≡◌, ◌∙◌, List, length, map, refl, ap,
 use Rattle.std.proofs.Math.Nat.{le_refl}
 use Rattle.std.proofs.lemmas.List.{length-map}
 use Rattle.iofd_words.specs.declared.rows.Area.{Area}
-use Rattle.area_rows.specs.Areas.{areas_outside}
-use Rattle.area_rows.proofs.Rows.{written_back}
+use Rattle.area_map_rows.specs.Areas.{areas_outside}
+use Rattle.area_map_rows.proofs.Rows.{written_back}
 use Rattle.area_map.proofs.RowsRemoved.{outside_in_rows, few_outside, nonempty_in_rows, nonempty_rows}
 use Rattle.area_map.proofs.RowsSame.{same_dropped, slice_back}
 use Rattle.area_map.proofs.removal.remove_areas.Goals as goal

@@ -3,9 +3,9 @@ use borrow.Author.Rules.{scaled_Fits}
 use borrow.Author.Count.{falls}
 use Rattle.std.proofs.lemmas.List.Edits.{map_over_more}
 use Rattle.iofd_words.specs.declared.rows.Area.{Area}
-use Rattle.area_rows.specs.Areas.{areas_outside}
+use Rattle.area_map_rows.specs.Areas.{areas_outside}
 use Rattle.area_map.proofs.RowsRemoved.{length-set_row, row_ahead}
-use Rattle.area_rows.proofs.Rows.{row-apart, map_over_all}
+use Rattle.area_map_rows.proofs.Rows.{row-apart, map_over_all}
 use Rattle.std.proofs.lemmas.List.{get_or_default}
 use Rattle.area_map.proofs.removal.remove_each.Goals as goal
 

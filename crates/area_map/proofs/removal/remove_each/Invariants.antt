@@ -1,6 +1,6 @@
 use Rattle.std.proofs.Common.{◌≡◌, ◌+◌, ◌++◌, length, map, take, drop}
-use Rattle.area_rows.specs.Areas.{areas_outside}
-use Rattle.area_rows.specs.Rows.{in_rows}
+use Rattle.area_map_rows.specs.Areas.{areas_outside}
+use Rattle.area_map_rows.specs.Rows.{in_rows}
 use Rattle.area_map.proofs.removal.remove_each.Given as goal
 
 abbrev pub invariant-loop-row : goal.invariant-loop-row

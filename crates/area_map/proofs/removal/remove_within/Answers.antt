@@ -5,9 +5,9 @@ use Rattle.std.specs.List.{between}
 use Rattle.std.proofs.lemmas.List.{length-map}
 use Rattle.std.proofs.lemmas.List.Edits.{length-between}
 use Rattle.iofd_words.specs.declared.rows.Area.{Area}
-use Rattle.area_rows.proofs.Rows.{AreRows-take, AreRows-drop}
-use Rattle.area_rows.specs.Areas.{areas_outside}
-use Rattle.area_rows.proofs.RowsChanged.{changed_mid, outside_between, always}
+use Rattle.area_map_rows.proofs.Rows.{AreRows-take, AreRows-drop}
+use Rattle.area_map_rows.specs.Areas.{areas_outside}
+use Rattle.area_map_rows.proofs.RowsChanged.{changed_mid, outside_between, always}
 use Rattle.area_map.proofs.RowsRemoved.{kept_between, count_around, rows_around}
 use Rattle.area_map.proofs.RowsSame.{same_mid}
 use Rattle.area_map.proofs.removal.remove_within.Goals as goal

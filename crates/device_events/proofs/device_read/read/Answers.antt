@@ -12,10 +12,10 @@ use Rattle.server_state.specs.Choice.{IsLooked}
 use Rattle.iofd_runs.proofs.Runs.{tests_false}
 use Rattle.device_events.proofs.DeviceReads.{chosen_read}
 use Rattle.device_events.proofs.DeviceWrites.{pass_in_pool, pass_named}
-use Rattle.memory_rows.proofs.UserAccess.{short}
+use Rattle.user_memory_rows.proofs.UserAccess.{short}
 use Rattle.server_state.proofs.ViewShown.{same_outcomes}
 use Rattle.device_events.specs.Outcomes.{given_outcome}
-use Rattle.memory_rows.proofs.FramesFollow.{read_shown}
+use Rattle.user_memory_rows.proofs.FramesFollow.{read_shown}
 use Rattle.device_events.proofs.device_read.read.Goals as goal
 
 pub read-requires-clause-frame : goal.read-requires-clause-frame

@@ -6,11 +6,11 @@ use Rattle.iofd_words.specs.Policy.{Passes, fault_of, outcomes}
 use Rattle.iofd_words.specs.View.{view}
 use Rattle.iofd_words.specs.declared.fault.AccessKind.TheVariants.{Write}
 use Rattle.device_events.proofs.DeviceWrites.{chosen_answer, pass_in_pool, pass_named, tables_written}
-use Rattle.memory_rows.proofs.UserAccess.{short}
+use Rattle.user_memory_rows.proofs.UserAccess.{short}
 use Rattle.server_state.proofs.ViewShown.{same_outcomes}
 use Rattle.server_state.specs.Leads.{leads_of}
 use Rattle.frame_memory.specs.Pool.{written}
-use Rattle.memory_rows.proofs.FramesFollow.{written_shown}
+use Rattle.user_memory_rows.proofs.FramesFollow.{written_shown}
 use Rattle.device_events.specs.Outcomes.{given_outcome}
 use Rattle.device_events.proofs.device_write.commit.Goals as goal
 

@@ -1,8 +1,8 @@
 use Rattle.std.proofs.Common.{List, ◌+◌, eqb, get_or, length, sym, ap, ◌∙◌, arith}
 use Rattle.file_events.proofs.FramesCounted.{count_more, count_same, first_few}
-use Rattle.hwpt_device.proofs.Partly.{all_taken}
-use Rattle.hwpt_device.specs.PageTables.{Hwpt, hwpt_of}
-use Rattle.hwpt_device.specs.Removed.{rows_found, rows_of_file}
+use Rattle.page_table_set.proofs.Partly.{all_taken}
+use Rattle.page_table_set.specs.PageTables.{Hwpt, hwpt_of}
+use Rattle.page_table_set.specs.Removed.{rows_found, rows_of_file}
 use Rattle.iofd_words.specs.declared.rows.Object.{Object}
 use Rattle.server_state.specs.Leads.{leads_of}
 use Rattle.file_events.proofs.close.frames_of.Goals as goal

@@ -1,6 +1,6 @@
 use Rattle.std.proofs.Common.{◌≡◌, length, take}
-use Rattle.hwpt_device.specs.PageTables.{IfAllStand}
-use Rattle.hwpt_device.specs.Removed.{rows_of_file}
+use Rattle.page_table_set.specs.PageTables.{IfAllStand}
+use Rattle.page_table_set.specs.Removed.{rows_of_file}
 use Rattle.file_events.proofs.close.frames_of.Given as goal
 
 -- the count is that of the page tables so far

@@ -1,8 +1,8 @@
 use Rattle.std.proofs.Common.{ap, refl, subst, sym, ◌∙◌, []}
 use Rattle.iofd_rows.proofs.ListTests.{all_pass}
-use Rattle.memory_rows.proofs.Gone.{leaving_first, leaving_last}
-use Rattle.memory_rows.specs.Shown.{over}
-use Rattle.hwpt_device.specs.PageTables.{objects_of}
+use Rattle.user_memory_rows.proofs.Gone.{leaving_first, leaving_last}
+use Rattle.user_memory_rows.specs.Shown.{over}
+use Rattle.page_table_set.specs.PageTables.{objects_of}
 use Rattle.object_table.specs.Rows.{row_shown}
 use Rattle.object_table.specs.Table.{is_of_file, rows_of}
 use Rattle.file_events.proofs.RowsCounted.{AreClosing, other_passed, space_gone, space_may}

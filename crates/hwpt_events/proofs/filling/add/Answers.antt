@@ -1,9 +1,9 @@
 use Rattle.std.proofs.Common.{◌≡◌, ◌-◌, ◌++◌, ℕ, List, [], ◌∷◌, sym, ap, ◌∙◌, arith, is_some, None, subst, vec_capacity}
 use Rattle.std.proofs.Common.{vec_len}
-use Rattle.area_rows.specs.Areas.{AreApart}
+use Rattle.area_map_rows.specs.Areas.{AreApart}
 use Rattle.std.specs.Prelude.{IfSome}
 use Rattle.frame_memory.specs.Pool.{given, least_free}
-use Rattle.hwpt_device.specs.PageTables.{AllStand, PageTables, hwpt_at, root_frame, rows_of, with_hwpt}
+use Rattle.page_table_set.specs.PageTables.{AllStand, PageTables, hwpt_at, root_frame, rows_of, with_hwpt}
 use Rattle.iofd_words.specs.TablePlaces.{live_pages}
 use Rattle.iofd_words.specs.declared.rows.Area.{Area}
 use Rattle.iofd_words.specs.declared.rows.TableFrame.{TableFrame}

@@ -2,9 +2,9 @@ use Rattle.std.proofs.Common.{ℕ, ◌-◌, ◌^◌, ◌<◌, ◌≤◌, Option,
 use Rattle.std.proofs.Common.{vec_len}
 use Rattle.std.specs.Prelude.{IfSome}
 use Rattle.frame_memory.specs.Pool.{free_count}
-use Rattle.hwpt_device.specs.PageTables.{Hwpt}
+use Rattle.page_table_set.specs.PageTables.{Hwpt}
 use Rattle.iofd_words.specs.Tables.{MissingTable}
-use Rattle.table_spans.specs.Spans.{IsOfPages}
+use Rattle.page_table_spans.specs.Spans.{IsOfPages}
 use Rattle.hwpt_events.proofs.AreaFilled.{as_long, leaving_filled, live_filled, missing_is, of_pages, whole_pages}
 use Rattle.hwpt_events.proofs.AreaFilled.{whole_size}
 use Rattle.hwpt_events.proofs.filling.fill_area.Goals as goal

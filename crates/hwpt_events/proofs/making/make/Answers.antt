@@ -1,9 +1,9 @@
 use Rattle.std.proofs.Common.{◌≡◌, ◌-◌, ℕ, List, false, IsSome, length, refl, sym, ◌∙◌, ap, subst, arith, vec_capacity}
 use Rattle.std.proofs.Common.{vec_len}
 use Rattle.frame_memory.specs.Pool.{least_free}
-use Rattle.hwpt_device.specs.PageTables.{hwpt_at, with_hwpt}
+use Rattle.page_table_set.specs.PageTables.{hwpt_at, with_hwpt}
 use Rattle.iofd_runs.proofs.TableCounts.{no_kind}
-use Rattle.table_words.proofs.Frames.{some_least}
+use Rattle.page_table_words.proofs.Frames.{some_least}
 use Rattle.iofd_words.specs.Areas.{areas_of}
 use Rattle.iofd_words.specs.Files.{is_user, user_of}
 use Rattle.iofd_words.specs.Settings.{Settings}

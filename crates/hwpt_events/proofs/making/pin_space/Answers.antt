@@ -4,8 +4,8 @@ use Rattle.std.proofs.Math.Path.{fun_ext}
 use Rattle.std.proofs.lemmas.List.Folds.{fold-map}
 use Rattle.iofd_words.specs.declared.rows.Area.{Area}
 use Rattle.memory_objects.specs.Objects.{times_of}
-use Rattle.memory_rows.specs.Moves.{numbers_of}
-use Rattle.memory_rows.specs.Shown.{over}
+use Rattle.user_memory_rows.specs.Moves.{numbers_of}
+use Rattle.user_memory_rows.specs.Shown.{over}
 use Rattle.server_state.specs.Mapping.{own_areas}
 use Rattle.user_memory.proofs.NewPages.{lacking_pages}
 use Rattle.user_memory.specs.Memory.{are_of, areas_over, has_room, lacks_page, newly_pinned, rows_at}

@@ -1,6 +1,6 @@
 use Rattle.std.proofs.Common.{true, false, List, [], ◌∷◌, ◌++◌, append-nil, length, length-append, sym, ◌∙◌, ap, arith}
 use Rattle.iofd_words.specs.declared.rows.Area.{Area}
-use Rattle.memory_rows.specs.Moves.{numbers_of}
+use Rattle.user_memory_rows.specs.Moves.{numbers_of}
 use Rattle.user_memory.specs.Memory.{newly_pinned}
 use Rattle.hwpt_events.proofs.CountedOnce.{moved_on, newly_next, none_newly}
 use Rattle.hwpt_events.proofs.pins.new_pages_in_turn.Goals as goal

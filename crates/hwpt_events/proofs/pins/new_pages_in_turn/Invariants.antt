@@ -1,6 +1,6 @@
 use Rattle.std.proofs.Common.{◌≡◌, ◌++◌, ◌*◌, ◌≤◌, List, length}
 use Rattle.iofd_words.specs.declared.rows.Area.{Area}
-use Rattle.memory_rows.specs.Moves.{numbers_of}
+use Rattle.user_memory_rows.specs.Moves.{numbers_of}
 use Rattle.user_memory.specs.Memory.{newly_pinned}
 use Rattle.hwpt_events.proofs.pins.new_pages_in_turn.Given as goal
 

@@ -11,9 +11,9 @@ use Rattle.iofd_words.specs.View.{view}
 use Rattle.iofd_words.specs.declared.numbers.FrameNo.{FrameNo}
 use Rattle.iofd_words.specs.declared.reply.Reply.TheVariants as reply
 use Rattle.iofd_words.specs.declared.rows.Area.{Area}
-use Rattle.hwpt_device.specs.OverSpans.{hwpts_over}
-use Rattle.hwpt_device.specs.PageTables.{IfAllStand}
-use Rattle.memory_rows.proofs.FramesFollow.{is_backed}
+use Rattle.page_table_set.specs.OverSpans.{hwpts_over}
+use Rattle.page_table_set.specs.PageTables.{IfAllStand}
+use Rattle.user_memory_rows.proofs.FramesFollow.{is_backed}
 use Rattle.map_events.proofs.AreaPlaced.{area_comes, area_taken, has_place, has_user, is_place, shows_roomy}
 use Rattle.map_events.proofs.AreaPlaced.{shows_unpinned}
 use Rattle.map_events.proofs.Chosen.{is_spanned}

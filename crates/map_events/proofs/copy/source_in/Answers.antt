@@ -1,5 +1,5 @@
 use Rattle.std.proofs.Common.{◌≡◌, Bool, Option, Some, None, cond, List, sym, ◌∙◌, ap}
-use Rattle.area_rows.specs.Areas.{AreApart, area_of}
+use Rattle.area_map_rows.specs.Areas.{AreApart, area_of}
 use Rattle.iofd_words.specs.Bounds.{Bounds}
 use Rattle.iofd_words.specs.Copies.{source_in}
 use Rattle.iofd_words.specs.Span.{span_from}

@@ -11,13 +11,13 @@ use Rattle.iofd_words.specs.declared.reply.Reply.TheVariants as reply
 use Rattle.server_state.specs.Choice.{IsLeastMapped}
 use Rattle.iofd_words.specs.Files.{user_of}
 use Rattle.iofd_words.specs.After.{mapped_area}
-use Rattle.memory_rows.proofs.FramesFollow.{is_backed}
+use Rattle.user_memory_rows.proofs.FramesFollow.{is_backed}
 use Rattle.map_events.proofs.MapGranted.{can_map, enough_there}
 use Rattle.map_events.proofs.MayMap.{no_table_over}
 use Rattle.map_events.specs.AreaMapped.{CanMapArea, IsAreaMapped}
-use Rattle.hwpt_device.specs.PageTables.{IfAllStand}
+use Rattle.page_table_set.specs.PageTables.{IfAllStand}
 use Rattle.iofd_words.specs.declared.numbers.FrameNo.{FrameNo}
-use Rattle.hwpt_device.specs.OverSpans.{hwpts_over}
+use Rattle.page_table_set.specs.OverSpans.{hwpts_over}
 use Rattle.iofd_words.specs.declared.rows.Area.{Area}
 use Rattle.server_state.specs.Step.{IsKnown}
 use Rattle.server_state.proofs.Limits.{same_limits}

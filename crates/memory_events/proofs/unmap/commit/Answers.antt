@@ -1,5 +1,5 @@
 use Rattle.std.proofs.Common.{refl, sym, ◌∙◌, arith}
-use Rattle.area_rows.proofs.Kept.{length-filter-le}
+use Rattle.area_map_rows.proofs.Kept.{length-filter-le}
 use Rattle.iofd_words.specs.After.{changed}
 use Rattle.iofd_words.specs.Answers.{Answers, UnmapAnswers}
 use Rattle.iofd_rows.proofs.Bools.{not_false}

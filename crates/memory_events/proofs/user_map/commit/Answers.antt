@@ -13,8 +13,8 @@ use Rattle.iofd_words.specs.View.{view}
 use Rattle.iofd_words.specs.declared.numbers.FrameNo.{FrameNo}
 use Rattle.iofd_words.specs.declared.reply.Reply.TheVariants as reply
 use Rattle.server_state.proofs.ViewShown.{same_least}
-use Rattle.memory_rows.proofs.Counts.{count_found}
-use Rattle.memory_rows.proofs.FramesFollow.{given_shown, least_within, pins_same, users_more}
+use Rattle.user_memory_rows.proofs.Counts.{count_found}
+use Rattle.user_memory_rows.proofs.FramesFollow.{given_shown, least_within, pins_same, users_more}
 use Rattle.memory_events.proofs.UsersNamed.{more_named, tables_given}
 use Rattle.server_state.specs.Leads.{leads_of}
 use Rattle.memory_events.proofs.user_map.commit.Goals as goal

@@ -5,9 +5,9 @@ use Rattle.iofd_words.specs.Pages.{page_of}
 use Rattle.iofd_words.specs.View.{view}
 use Rattle.iofd_words.specs.declared.numbers.FrameNo.{FrameNo}
 use Rattle.iofd_words.specs.declared.query.Answer.TheVariants as answer
-use Rattle.memory_rows.proofs.UserAccess.{page_in_pool, short}
+use Rattle.user_memory_rows.proofs.UserAccess.{page_in_pool, short}
 use Rattle.server_state.specs.Choice.{IsLooked}
-use Rattle.memory_rows.proofs.FramesFollow.{read_shown}
+use Rattle.user_memory_rows.proofs.FramesFollow.{read_shown}
 use Rattle.memory_events.proofs.UsersNamed.{page_named}
 use Rattle.memory_events.proofs.user_read.read.Goals as goal
 

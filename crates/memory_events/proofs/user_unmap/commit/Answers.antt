@@ -9,8 +9,8 @@ use Rattle.iofd_words.specs.Pages.{page_of}
 use Rattle.iofd_words.specs.View.{view}
 use Rattle.iofd_words.specs.declared.numbers.FrameNo.{FrameNo}
 use Rattle.iofd_words.specs.declared.numbers.UserNo.{UserNo}
-use Rattle.memory_rows.proofs.FramesFollow.{frames_follow, is_backed, pins_same, users_less}
-use Rattle.memory_rows.specs.Shown.{UsersShown}
+use Rattle.user_memory_rows.proofs.FramesFollow.{frames_follow, is_backed, pins_same, users_less}
+use Rattle.user_memory_rows.specs.Shown.{UsersShown}
 use Rattle.server_state.proofs.TablesFollow.{tables_follow}
 use Rattle.server_state.specs.Leads.{leads_of}
 use Rattle.user_memory.specs.Changes.{SameObjects}

@@ -7,8 +7,8 @@ use Rattle.iofd_words.specs.Frames.{frame_at}
 use Rattle.iofd_words.specs.Pages.{page_of}
 use Rattle.iofd_words.specs.View.{view}
 use Rattle.iofd_words.specs.declared.numbers.FrameNo.{FrameNo}
-use Rattle.memory_rows.proofs.UserAccess.{page_in_pool, short}
-use Rattle.memory_rows.proofs.FramesFollow.{written_shown}
+use Rattle.user_memory_rows.proofs.UserAccess.{page_in_pool, short}
+use Rattle.user_memory_rows.proofs.FramesFollow.{written_shown}
 use Rattle.memory_events.proofs.UsersNamed.{page_named, tables_written}
 use Rattle.server_state.specs.Leads.{leads_of}
 use Rattle.memory_events.proofs.user_write.commit.Goals as goal

@@ -1,10 +1,10 @@
 use Rattle.std.proofs.Common.{ℕ, ◌≡◌, ◌-◌, List, Some, sym, arith, ◌∙◌}
 use Rattle.std.proofs.lemmas.Bool.Decides.{nat_tests}
 use Rattle.iofd_words.specs.declared.numbers.FrameNo.{FrameNo}
-use Rattle.table_words.specs.Rows.{MappedPage, TableRow, table_at}
-use Rattle.table_words.specs.Stands.{Stands}
-use Rattle.table_words.proofs.Decoded.{table_absent}
-use Rattle.table_words.proofs.Descends.{next_at, through_within}
+use Rattle.page_table_words.specs.Rows.{MappedPage, TableRow, table_at}
+use Rattle.page_table_words.specs.Stands.{Stands}
+use Rattle.page_table_words.proofs.Decoded.{table_absent}
+use Rattle.page_table_words.proofs.Descends.{next_at, through_within}
 use Rattle.page_table.proofs.Walking.{same_rights}
 use Rattle.page_table.proofs.descent.descend.Goals as goal
 

@@ -1,8 +1,8 @@
 use Rattle.std.proofs.Common.{◌≡◌, ◌≤◌, ◌<◌, ℕ, List, Some}
 use Rattle.iofd_words.specs.declared.numbers.FrameNo.{FrameNo}
-use Rattle.table_words.specs.Reached.{GoesThrough}
-use Rattle.table_words.specs.Rows.{MappedPage, TableRow, table_at}
-use Rattle.table_words.specs.Stands.{Stands}
+use Rattle.page_table_words.specs.Reached.{GoesThrough}
+use Rattle.page_table_words.specs.Rows.{MappedPage, TableRow, table_at}
+use Rattle.page_table_words.specs.Stands.{Stands}
 use Rattle.page_table.proofs.descent.descend.Given as goal
 
 -- a table on the page's way, from the first one down

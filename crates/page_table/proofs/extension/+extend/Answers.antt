@@ -2,9 +2,9 @@ use Rattle.std.proofs.Common.{◌≡◌, ℕ, ◌+◌, ◌-◌, ◌<◌, List, �
 use Rattle.std.proofs.lemmas.List.{append-nil, append_assoc}
 use Rattle.iofd_words.specs.declared.numbers.FrameNo.{FrameNo}
 use Rattle.frame_memory.specs.Pool.{free_count}
-use Rattle.table_words.specs.Taken.{least_frames}
-use Rattle.table_words.proofs.Extending.{all_extend, ends_below, none_left, more_lowest, more_stand}
-use Rattle.table_words.proofs.Frames.{free_taken, least_frames_more, no_frames}
+use Rattle.page_table_words.specs.Taken.{least_frames}
+use Rattle.page_table_words.proofs.Extending.{all_extend, ends_below, none_left, more_lowest, more_stand}
+use Rattle.page_table_words.proofs.Frames.{free_taken, least_frames_more, no_frames}
 use Rattle.page_table.proofs.extension.+extend.Goals as goal
 
 pub returns-then-level-eq1-clause-out : goal.returns-then-level-eq1-clause-out

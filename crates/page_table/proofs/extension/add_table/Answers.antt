@@ -1,8 +1,8 @@
 use Rattle.std.proofs.Common.{◌≡◌, [], Some, inl, ap, ◌∙◌, rules}
 use Rattle.std.proofs.lemmas.List.{get_or-set_other}
 use Rattle.frame_memory.specs.Pool.{FramePool, bytes_of, given, least_free, zeros}
-use Rattle.table_words.specs.Entries.{entry_at}
-use Rattle.table_words.proofs.AddingTable.{other_frame, take_ok, taken_least}
+use Rattle.page_table_words.specs.Entries.{entry_at}
+use Rattle.page_table_words.proofs.AddingTable.{other_frame, take_ok, taken_least}
 use Rattle.page_table.proofs.extension.add_table.Goals as goal
 
 pub unwrap-frame-requires : goal.unwrap-frame-requires

@@ -1,5 +1,5 @@
 use Rattle.iofd_words.specs.Levels.{levels_of}
-use Rattle.table_words.proofs.Tables.{stands_alike}
+use Rattle.page_table_words.proofs.Tables.{stands_alike}
 use Rattle.page_table.proofs.laws.lookups_tell_pages.Goals as goal
 
 pub returns : goal.returns

@@ -1,5 +1,5 @@
 use Rattle.iofd_words.specs.Levels.{levels_of}
-use Rattle.table_words.proofs.Tables.{stands_still}
+use Rattle.page_table_words.proofs.Tables.{stands_still}
 use Rattle.page_table.proofs.laws.other_frames_leave_tables.Goals as goal
 
 pub returns : goal.returns

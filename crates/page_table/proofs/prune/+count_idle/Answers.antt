@@ -3,8 +3,8 @@ use Rattle.std.specs.List.{count_by}
 use Rattle.page_table.proofs.NextLevel.{above_one, few_below, some_below}
 use Rattle.page_table.proofs.Parting.{absent_counted, count_all, count_next, count_none, cut_before, idle_counted}
 use Rattle.page_table.proofs.Parting.{last_counted, number_fits, sum_fits, wanted_counted}
-use Rattle.table_words.proofs.RowsUnder.{child_page}
-use Rattle.table_words.proofs.Visiting.{bound_kept, entry_small, holds_within, next_holds}
+use Rattle.page_table_words.proofs.RowsUnder.{child_page}
+use Rattle.page_table_words.proofs.Visiting.{bound_kept, entry_small, holds_within, next_holds}
 use Rattle.page_table.proofs.Wanted.{child_found, child_none, child_place, unwanted, wanted}
 use Rattle.page_table.proofs.prune.+count_idle.Goals.{then-is_present+then-is_idle, then-is_present+else-is_idle}
 use Rattle.page_table.proofs.prune.+count_idle.Goals.{else-is_present}

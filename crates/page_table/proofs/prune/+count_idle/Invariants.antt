@@ -2,8 +2,8 @@ use Rattle.std.proofs.Common.{◌≡◌, ◌≤◌, ◌+◌, ◌-◌, ◌*◌, �
 use Rattle.std.specs.List.{count_by}
 use Rattle.iofd_words.specs.declared.numbers.FrameNo.{FrameNo}
 use Rattle.iofd_words.specs.Levels.{number_at}
-use Rattle.table_words.specs.Rows.{MappedPage, TableRow, table_at}
-use Rattle.table_words.specs.Stands.{Stands}
+use Rattle.page_table_words.specs.Rows.{MappedPage, TableRow, table_at}
+use Rattle.page_table_words.specs.Stands.{Stands}
 use Rattle.page_table.proofs.Parting.{cut_before}
 use Rattle.page_table.proofs.prune.+count_idle.Given as goal
 

@@ -2,8 +2,8 @@ use Rattle.std.proofs.Common.{refl, sym, ◌∙◌, arith}
 use Rattle.page_table.proofs.CutBefore.{child_stays, cuts_absent, cuts_all, cuts_idle, cuts_last, cuts_none}
 use Rattle.page_table.proofs.CutBefore.{cuts_wanted, holds_cut, idle_length, room_left, still_at, uncut}
 use Rattle.page_table.proofs.Parting.{number_fits, wanted_counted}
-use Rattle.table_words.proofs.RowsUnder.{child_index, child_page}
-use Rattle.table_words.proofs.Visiting.{entry_small, holds_within, next_holds}
+use Rattle.page_table_words.proofs.RowsUnder.{child_index, child_page}
+use Rattle.page_table_words.proofs.Visiting.{entry_small, holds_within, next_holds}
 use Rattle.page_table.proofs.Wanted.{child_found, child_none, child_place, unwanted, wanted}
 use Rattle.page_table.proofs.prune.+cut_idle.Goals as goal
 use Rattle.page_table.proofs.prune.+cut_idle.Goals.{then-is_present+then-is_idle, then-is_present+else-is_idle}

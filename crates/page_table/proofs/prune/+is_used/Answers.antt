@@ -2,9 +2,9 @@ use Rattle.std.proofs.Common.{◌≡◌, ◌-◌, ◌*◌, ◌+◌, ◌||◌, Bo
 use Rattle.std.proofs.lemmas.Bool.{false_from_ne_true}
 use Rattle.std.proofs.lemmas.Bool.Decides.{nat_tests}
 use Rattle.iofd_words.specs.Levels.{number_at}
-use Rattle.table_words.specs.Pruned.{is_used}
-use Rattle.table_words.proofs.RowsUnder.{child_page}
-use Rattle.table_words.proofs.Visiting.{entry_small, holds_within, next_holds}
+use Rattle.page_table_words.specs.Pruned.{is_used}
+use Rattle.page_table_words.proofs.RowsUnder.{child_page}
+use Rattle.page_table_words.proofs.Visiting.{entry_small, holds_within, next_holds}
 use Rattle.page_table.proofs.Wanted.{child_found, child_number, leaf_used, used_all, used_before, used_more, used_none}
 use Rattle.page_table.proofs.Wanted.{used_present, used_some}
 use Rattle.page_table.proofs.prune.+is_used.Goals as goal

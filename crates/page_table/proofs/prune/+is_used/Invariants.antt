@@ -1,8 +1,8 @@
 use Rattle.std.proofs.Common.{◌≡◌, ℕ, false, Some, List}
 use Rattle.iofd_words.specs.declared.numbers.FrameNo.{FrameNo}
 use Rattle.iofd_words.specs.Levels.{number_at}
-use Rattle.table_words.specs.Rows.{MappedPage, TableRow, table_at}
-use Rattle.table_words.specs.Stands.{Stands}
+use Rattle.page_table_words.specs.Rows.{MappedPage, TableRow, table_at}
+use Rattle.page_table_words.specs.Stands.{Stands}
 use Rattle.page_table.proofs.Wanted.{used_before}
 use Rattle.page_table.proofs.prune.+is_used.Given as goal
 

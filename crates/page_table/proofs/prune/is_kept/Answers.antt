@@ -3,8 +3,8 @@ use Rattle.std.specs.List.{list_any}
 use Rattle.std.proofs.lemmas.List.{take_all}
 use Rattle.std.proofs.lemmas.List.Folds.{list_any_at, list_any_more}
 use Rattle.iofd_words.specs.Bounds.{Bounds}
-use Rattle.table_words.specs.Needed.{goes_through}
-use Rattle.table_words.specs.Pruned.{is_kept}
+use Rattle.page_table_words.specs.Needed.{goes_through}
+use Rattle.page_table_words.specs.Pruned.{is_kept}
 use Rattle.page_table.proofs.prune.is_kept.Goals as goal
 
 pub returns-then-goes_through : goal.returns-then-goes_through

@@ -1,5 +1,5 @@
 use Rattle.std.proofs.Common.{◌≡◌, false, take}
-use Rattle.table_words.specs.Pruned.{is_kept}
+use Rattle.page_table_words.specs.Pruned.{is_kept}
 use Rattle.page_table.proofs.prune.is_kept.Given as goal
 
 -- none of the spans so far has a page that goes through it

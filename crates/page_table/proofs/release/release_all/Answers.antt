@@ -1,7 +1,7 @@
 use Rattle.std.proofs.Common.{List, subst, arith, rules}
 use Rattle.std.proofs.lemmas.List.{take_all}
 use Rattle.iofd_words.specs.declared.numbers.FrameNo.{FrameNo}
-use Rattle.table_words.specs.Released.{HasFewerHolds}
+use Rattle.page_table_words.specs.Released.{HasFewerHolds}
 use Rattle.page_table.proofs.Lessening.{has_more, none_less, one_less}
 use Rattle.page_table.proofs.release.release_all.Goals as goal
 

@@ -1,5 +1,5 @@
 use Rattle.std.proofs.Common.{take}
-use Rattle.table_words.specs.Released.{HasFewerHolds}
+use Rattle.page_table_words.specs.Released.{HasFewerHolds}
 use Rattle.page_table.proofs.release.release_all.Given as goal
 
 -- the frames so far have a hold less for each time

@@ -1,9 +1,10 @@
 use Rattle.std.proofs.Common.{◌≡◌, ◌+◌, ◌-◌, ◌++◌, ℕ, List, ◌∷◌, length, sym, ap, ◌∙◌, arith}
 use Rattle.std.specs.List.{flat_map, range_with_len}
 use Rattle.iofd_words.specs.declared.numbers.FrameNo.{FrameNo}
-use Rattle.table_words.specs.Under.{frames_of_entry, frames_under}
-use Rattle.table_words.proofs.Visiting.{all_entries, entry_small, holds_within, items_more, length_more, length_within}
-use Rattle.table_words.proofs.Visiting.{next_holds, no_entries, present_frames, some_under}
+use Rattle.page_table_words.specs.Under.{frames_of_entry, frames_under}
+use Rattle.page_table_words.proofs.Visiting.{all_entries, entry_small, holds_within, items_more, length_more}
+use Rattle.page_table_words.proofs.Visiting.{length_within}
+use Rattle.page_table_words.proofs.Visiting.{next_holds, no_entries, present_frames, some_under}
 use Rattle.page_table.proofs.Skipping.{is_present, none_between}
 use Rattle.page_table.proofs.visit.+collect.Goals as goal
 

@@ -1,9 +1,10 @@
 use Rattle.std.proofs.Common.{◌≡◌, ◌+◌, ◌-◌, ◌^◌, ℕ, List, length, sym, ap, arith}
 use Rattle.std.specs.List.{flat_map, range_with_len}
 use Rattle.iofd_words.specs.declared.numbers.FrameNo.{FrameNo}
-use Rattle.table_words.specs.Under.{frames_of_entry}
-use Rattle.table_words.proofs.Visiting.{all_entries, bound_kept, entry_small, holds_within, length_more, next_holds}
-use Rattle.table_words.proofs.Visiting.{no_entries, present_frames}
+use Rattle.page_table_words.specs.Under.{frames_of_entry}
+use Rattle.page_table_words.proofs.Visiting.{all_entries, bound_kept, entry_small, holds_within, length_more}
+use Rattle.page_table_words.proofs.Visiting.{next_holds}
+use Rattle.page_table_words.proofs.Visiting.{no_entries, present_frames}
 use Rattle.page_table.proofs.Parting.{sum_fits}
 use Rattle.page_table.proofs.Skipping.{is_present, none_between, total_small}
 use Rattle.page_table.proofs.visit.+count.Goals as goal

@@ -1,7 +1,7 @@
 use Rattle.std.proofs.Common.{◌≡◌, ◌≢◌, ◌≤◌, ◌<◌, ◌+◌, ◌-◌, ◌*◌, ◌%◌, ◌^◌, length}
 use Rattle.std.specs.List.{flat_map, range_with_len}
-use Rattle.table_words.specs.Entries.{entry_at}
-use Rattle.table_words.specs.Under.{frames_of_entry}
+use Rattle.page_table_words.specs.Entries.{entry_at}
+use Rattle.page_table_words.specs.Under.{frames_of_entry}
 use Rattle.page_table.proofs.visit.+count.Given as goal
 
 abbrev pub decreases-count : goal.decreases-count

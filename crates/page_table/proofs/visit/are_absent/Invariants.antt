@@ -1,5 +1,5 @@
 use Rattle.std.proofs.Common.{◌≡◌, ℕ, ◌≤◌, ◌<◌, ◌%◌, true}
-use Rattle.table_words.specs.Entries.{entry_at}
+use Rattle.page_table_words.specs.Entries.{entry_at}
 use Rattle.page_table.proofs.visit.are_absent.Given as goal
 
 abbrev pub invariant-loop-index : goal.invariant-loop-index

@@ -1,5 +1,5 @@
 use Rattle.std.proofs.Common.{◌<◌, ℕ, subst}
-use Rattle.area_rows.specs.Areas.{with_area}
+use Rattle.area_map_rows.specs.Areas.{with_area}
 use Rattle.server_state.proofs.AreasHeld.{areas_found, rewritten, space_absent, space_found}
 use Rattle.server_state.proofs.RoomHeld.{room_found}
 use Rattle.server_state.proofs.area_changes.insert.Goals as goal

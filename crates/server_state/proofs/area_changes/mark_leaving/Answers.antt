@@ -1,5 +1,5 @@
 use Rattle.std.proofs.Common.{List, map}
-use Rattle.area_rows.specs.Areas.{marked}
+use Rattle.area_map_rows.specs.Areas.{marked}
 use Rattle.iofd_words.specs.declared.rows.Area.{Area}
 use Rattle.server_state.proofs.AreasHeld.{rewritten}
 use Rattle.server_state.proofs.area_changes.mark_leaving.Goals as goal

@@ -1,4 +1,4 @@
-use Rattle.area_rows.specs.Areas.{areas_outside}
+use Rattle.area_map_rows.specs.Areas.{areas_outside}
 use Rattle.server_state.proofs.AreasHeld.{rewritten}
 use Rattle.server_state.proofs.area_changes.remove.Goals as goal
 

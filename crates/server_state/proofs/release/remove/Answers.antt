@@ -1,9 +1,9 @@
 use Rattle.std.proofs.Common.{cond, List, refl, sym, subst}
 use Rattle.iofd_words.specs.declared.rows.Area.{Area}
-use Rattle.memory_rows.proofs.AreasGoing.{AreGoing, going_first, going_further, going_last, may_one, over_first}
-use Rattle.memory_rows.proofs.AreasGoing.{translated_first, translated_none}
-use Rattle.memory_rows.specs.Moves.{if_translated}
-use Rattle.memory_rows.specs.Shown.{over}
+use Rattle.user_memory_rows.proofs.AreasGoing.{AreGoing, going_first, going_further, going_last, may_one, over_first}
+use Rattle.user_memory_rows.proofs.AreasGoing.{translated_first, translated_none}
+use Rattle.user_memory_rows.specs.Moves.{if_translated}
+use Rattle.user_memory_rows.specs.Shown.{over}
 use Rattle.user_memory.specs.Changes.{never, once}
 use Rattle.server_state.proofs.release.remove.Goals as goal
 

@@ -1,6 +1,6 @@
-use Rattle.memory_rows.proofs.AreasGoing.{AreGoing}
-use Rattle.memory_rows.specs.Moves.{if_translated}
-use Rattle.memory_rows.specs.Shown.{over}
+use Rattle.user_memory_rows.proofs.AreasGoing.{AreGoing}
+use Rattle.user_memory_rows.specs.Moves.{if_translated}
+use Rattle.user_memory_rows.specs.Shown.{over}
 use Rattle.server_state.proofs.release.remove.Given as goal
 
 -- some of the areas have let go of their memory objects, and the others may

@@ -1,5 +1,5 @@
 use Rattle.std.proofs.Common.{ap, not}
-use Rattle.memory_rows.proofs.Gone.{one_released}
+use Rattle.user_memory_rows.proofs.Gone.{one_released}
 use Rattle.server_state.proofs.release.remove_one.Goals as goal
 
 pub returns : goal.returns

@@ -1,4 +1,4 @@
-use Rattle.memory_rows.proofs.Gone.{no_areas_released}
+use Rattle.user_memory_rows.proofs.Gone.{no_areas_released}
 use Rattle.server_state.specs.Mapping.{own_areas}
 use Rattle.server_state.proofs.release.remove_space.Goals as goal
 

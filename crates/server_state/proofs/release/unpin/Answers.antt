@@ -1,7 +1,7 @@
 use Rattle.std.proofs.Common.{List, refl, sym, subst, arith}
 use Rattle.iofd_words.specs.declared.rows.Area.{Area}
-use Rattle.memory_rows.proofs.AreasGoing.{AreGoing, going_first, going_further, going_last, may_unpin, over_first}
-use Rattle.memory_rows.specs.Shown.{over}
+use Rattle.user_memory_rows.proofs.AreasGoing.{AreGoing, going_first, going_further, going_last, may_unpin, over_first}
+use Rattle.user_memory_rows.specs.Shown.{over}
 use Rattle.user_memory.specs.Changes.{never, once}
 use Rattle.server_state.proofs.release.unpin.Goals as goal
 

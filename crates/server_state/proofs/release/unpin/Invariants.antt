@@ -1,5 +1,5 @@
-use Rattle.memory_rows.proofs.AreasGoing.{AreGoing}
-use Rattle.memory_rows.specs.Shown.{over}
+use Rattle.user_memory_rows.proofs.AreasGoing.{AreGoing}
+use Rattle.user_memory_rows.specs.Shown.{over}
 use Rattle.user_memory.specs.Changes.{never}
 use Rattle.server_state.proofs.release.unpin.Given as goal
 

@@ -1,4 +1,4 @@
-use Rattle.memory_rows.proofs.Gone.{no_pins_released}
+use Rattle.user_memory_rows.proofs.Gone.{no_pins_released}
 use Rattle.server_state.specs.Mapping.{own_areas}
 use Rattle.server_state.proofs.release.unpin_space.Goals as goal
 

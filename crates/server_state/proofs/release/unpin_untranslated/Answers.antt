@@ -1,5 +1,5 @@
 use Rattle.std.proofs.Common.{sym, ◌∙◌}
-use Rattle.memory_rows.proofs.Gone.{released_none}
+use Rattle.user_memory_rows.proofs.Gone.{released_none}
 use Rattle.server_state.proofs.release.unpin_untranslated.Goals as goal
 
 pub unpin_space-requires : goal.unpin_space-requires

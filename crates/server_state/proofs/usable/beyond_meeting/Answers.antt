@@ -1,6 +1,6 @@
 use Rattle.std.proofs.Common.{map, sym, ap, ◌∙◌}
 use Rattle.std.specs.Option.{option_copied, option_map}
-use Rattle.hwpt_device.specs.PageTables.{Hwpt}
+use Rattle.page_table_set.specs.PageTables.{Hwpt}
 use Rattle.iofd_rows.specs.Reached.{ends_in}
 use Rattle.server_state.proofs.Kept.{end_found, none_ends}
 use Rattle.server_state.proofs.PageTables.{found_among}

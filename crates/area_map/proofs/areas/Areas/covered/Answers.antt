@@ -1,7 +1,7 @@
 use Rattle.std.proofs.lemmas.Bool.{false≢true}
-use Rattle.area_rows.specs.Areas.{IsCovered, HasGap}
-use Rattle.area_rows.specs.Rows.{in_rows}
-use Rattle.area_rows.proofs.Kept.{gap_tells}
+use Rattle.area_map_rows.specs.Areas.{IsCovered, HasGap}
+use Rattle.area_map_rows.specs.Rows.{in_rows}
+use Rattle.area_map_rows.proofs.Kept.{gap_tells}
 use Rattle.area_map.proofs.areas.Areas.covered.Goals as goal
 
 pub returns-else-covers-clause-covered : goal.returns-else-covers-clause-covered

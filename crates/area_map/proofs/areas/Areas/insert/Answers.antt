@@ -9,7 +9,7 @@ use Rattle.iofd_words.specs.declared.refusal.Cause.{Cause}
 use Rattle.iofd_words.specs.declared.refusal.Cause.TheVariants.{Full, Overlap}
 use Rattle.iofd_words.specs.declared.rows.Area.{Area}
 use Rattle.iofd_words.specs.Areas.{areas_meet, has_no_room}
-use Rattle.area_rows.specs.Rows.{in_rows}
+use Rattle.area_map_rows.specs.Rows.{in_rows}
 use Rattle.area_map.specs.AreaTable.{AreaTable}
 use Rattle.area_map.specs.Insertion.{insert_refusal}
 use Rattle.area_map.specs.Kept.{room_of}

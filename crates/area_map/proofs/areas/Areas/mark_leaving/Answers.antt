@@ -1,10 +1,10 @@
 use Rattle.std.proofs.Common.{List, refl, ap, arith}
 use Rattle.iofd_words.specs.declared.rows.Area.{Area}
-use Rattle.area_rows.specs.Areas.{marked}
-use Rattle.area_rows.specs.Rows.{in_rows}
+use Rattle.area_map_rows.specs.Areas.{marked}
+use Rattle.area_map_rows.specs.Rows.{in_rows}
 use Rattle.area_map.specs.Kept.{joined}
 use Rattle.area_map.proofs.Hull.{leave-marked}
-use Rattle.area_rows.proofs.Rows.{in_rows-map_map}
+use Rattle.area_map_rows.proofs.Rows.{in_rows-map_map}
 use Rattle.area_map.proofs.RowsInBlocks.{blocks_mapped}
 use Rattle.area_map.proofs.RowsKept.{rows_mapped, mapped_back}
 use Rattle.area_map.proofs.areas.Areas.mark_leaving.Goals as goal

@@ -2,8 +2,8 @@ use Rattle.std.proofs.Common.{◌≡◌, ◌-◌, List, length, not, arith}
 use Rattle.std.proofs.Math.Nat.{le_refl}
 use Rattle.iofd_words.specs.Span.{lies_in}
 use Rattle.iofd_words.specs.declared.rows.Area.{Area}
-use Rattle.area_rows.specs.Rows.{in_rows, LeaveIn}
-use Rattle.area_rows.proofs.Kept.{kept-filter}
+use Rattle.area_map_rows.specs.Rows.{in_rows, LeaveIn}
+use Rattle.area_map_rows.proofs.Kept.{kept-filter}
 use Rattle.area_map.specs.Kept.{room_of}
 use Rattle.area_map.proofs.RowsKept.{rows_without, spare_stays}
 use Rattle.area_map.proofs.areas.Areas.remove.Goals as goal

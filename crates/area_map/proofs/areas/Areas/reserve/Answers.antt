@@ -1,6 +1,6 @@
 use Rattle.std.proofs.Common.{refl, ap}
 use Rattle.std.proofs.lemmas.Result.{on_ok_weaker, on_err_weaker}
-use Rattle.area_rows.specs.Rows.{in_rows}
+use Rattle.area_map_rows.specs.Rows.{in_rows}
 use Rattle.area_map.specs.Kept.{room_of}
 use Rattle.area_map.proofs.Room.{room-some, room-grows, table-same}
 use Rattle.area_map.proofs.areas.Areas.reserve.Goals as goal

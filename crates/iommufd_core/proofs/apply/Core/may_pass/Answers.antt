@@ -7,7 +7,7 @@ use Rattle.iofd_words.specs.View.{view}
 use Rattle.iofd_words.specs.declared.query.Query.TheVariants.{DeviceRead}
 use Rattle.iommufd_core.proofs.Histories.{tidy_run}
 use Rattle.server_state.proofs.ViewShown.{same_outcomes, same_query_refusal}
-use Rattle.server_state.specs.Choice.{is_pass_at}
+use Rattle.iofd_words.specs.Policy.{is_pass_at}
 use Rattle.iommufd_core.proofs.apply.Core.may_pass.Goals as goal
 
 none_if : {X : Type 0} (o : Option X) → is_some o ≡ false → is_none o ≡ true

@@ -1,4 +1,4 @@
-use Rattle.table_words.specs.Entries.{entry_at}
+use Rattle.page_table_words.specs.Entries.{entry_at}
 use Rattle.page_table.proofs.entry.Entry.at.Goals as goal
 
 pub returns : goal.returns

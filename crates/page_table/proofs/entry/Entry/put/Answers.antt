@@ -1,7 +1,7 @@
 use Rattle.std.proofs.Common.{ℕ, [], ap, sym, ◌∙◌, inl, inr, ⊎_elim, ◌≢◌}
 use Rattle.std.proofs.lemmas.List.{get_or-set_other}
 use Rattle.frame_memory.specs.Pool.{FramePool, bytes_of}
-use Rattle.table_words.specs.Entries.{entry_at}
+use Rattle.page_table_words.specs.Entries.{entry_at}
 use Rattle.iofd_words.specs.Levels.{index_at}
 use Rattle.page_table.proofs.entry.Entry.put.Goals as goal
 

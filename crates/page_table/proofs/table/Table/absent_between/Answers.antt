@@ -1,8 +1,8 @@
 use Rattle.std.proofs.Common.{◌≡◌, ◌+◌, ◌-◌, ℕ, true, false, ap, ◌∙◌, arith}
 use Rattle.std.specs.List.{count_by, range_with_len}
 use Rattle.iofd_words.specs.Levels.{levels_of}
-use Rattle.table_words.specs.Needed.{is_absent}
-use Rattle.table_words.proofs.Needs.{absent_above, absent_more, first_below, present_from}
+use Rattle.page_table_words.specs.Needed.{is_absent}
+use Rattle.page_table_words.proofs.Needs.{absent_above, absent_more, first_below, present_from}
 use Rattle.page_table.proofs.table.Table.absent_between.Goals as goal
 use Rattle.page_table.proofs.table.Table.absent_between.Goals.{then-lowest-level, else-lowest-level}
 

@@ -1,8 +1,8 @@
 use Rattle.std.proofs.Common.{◌≡◌, ◌≤◌, ◌-◌, List}
 use Rattle.std.specs.List.{count_by, range_with_len}
-use Rattle.table_words.specs.Needed.{is_absent}
-use Rattle.table_words.specs.Rows.{MappedPage, TableRow}
-use Rattle.table_words.specs.Stands.{TableStands}
+use Rattle.page_table_words.specs.Needed.{is_absent}
+use Rattle.page_table_words.specs.Rows.{MappedPage, TableRow}
+use Rattle.page_table_words.specs.Stands.{TableStands}
 use Rattle.page_table.proofs.table.Table.absent_between.Given as goal
 
 -- the tables so far

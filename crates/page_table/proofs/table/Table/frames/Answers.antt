@@ -1,6 +1,6 @@
 use Rattle.std.proofs.Common.{◌-◌, ℕ, ap, ◌∙◌, length}
-use Rattle.table_words.specs.Under.{frames_under}
-use Rattle.table_words.proofs.FramesUnder.{all_counted}
+use Rattle.page_table_words.specs.Under.{frames_under}
+use Rattle.page_table_words.proofs.FramesUnder.{all_counted}
 use Rattle.page_table.proofs.table.Table.frames.Goals as goal
 
 pub returns : goal.returns

@@ -1,7 +1,7 @@
 use Rattle.std.proofs.Common.{ℕ, ap, ◌∙◌}
 use Rattle.iofd_words.specs.Levels.{levels_of}
-use Rattle.table_words.specs.Rows.{table_at}
-use Rattle.table_words.proofs.Tops.{at_top, ends_somewhere, goes_from_top}
+use Rattle.page_table_words.specs.Rows.{table_at}
+use Rattle.page_table_words.proofs.Tops.{at_top, ends_somewhere, goes_from_top}
 use Rattle.page_table.proofs.table.Table.lowest.Goals as goal
 
 pub descend-requires-clause-table : goal.descend-requires-clause-table

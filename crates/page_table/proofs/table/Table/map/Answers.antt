@@ -1,9 +1,9 @@
 use Rattle.std.proofs.Common.{◌++◌, ℕ, List, sym, ap, ◌∙◌, arith, rules}
 use Rattle.frame_memory.specs.Pool.{free_count}
 use Rattle.iofd_words.specs.Levels.{levels_of}
-use Rattle.table_words.specs.Taken.{least_frames}
+use Rattle.page_table_words.specs.Taken.{least_frames}
 use Rattle.page_table.proofs.Mapping.{last_within, page_mapped}
-use Rattle.table_words.proofs.Missing.{missing_is}
+use Rattle.page_table_words.proofs.Missing.{missing_is}
 use Rattle.page_table.proofs.table.Table.map.Goals as goal
 
 pub extend-last-requires-clause-room : goal.extend-last-requires-clause-room

@@ -1,9 +1,9 @@
 use Rattle.std.proofs.Common.{◌≡◌, ◌-◌, ℕ, ap, ◌∙◌, arith}
 use Rattle.std.specs.List.{range_with_len, sum_by}
 use Rattle.iofd_words.specs.Levels.{levels_of}
-use Rattle.table_words.specs.Needed.{needed_at}
-use Rattle.table_words.specs.Stands.{TableRoot}
-use Rattle.table_words.proofs.Needs.{sum_range_more}
+use Rattle.page_table_words.specs.Needed.{needed_at}
+use Rattle.page_table_words.specs.Stands.{TableRoot}
+use Rattle.page_table_words.proofs.Needs.{sum_range_more}
 use Rattle.page_table.proofs.table.Table.needs.Goals as goal
 
 pub loop-level-preserved : goal.loop-level-preserved

@@ -1,9 +1,9 @@
 use Rattle.std.proofs.Common.{◌≡◌, ◌≤◌, ◌*◌, ◌-◌, ◌^◌, List}
 use Rattle.std.specs.List.{range_with_len, sum_by}
 use Rattle.iofd_words.specs.Levels.{levels_of}
-use Rattle.table_words.specs.Needed.{needed_at}
-use Rattle.table_words.specs.Rows.{MappedPage, TableRow}
-use Rattle.table_words.specs.Stands.{TableStands}
+use Rattle.page_table_words.specs.Needed.{needed_at}
+use Rattle.page_table_words.specs.Rows.{MappedPage, TableRow}
+use Rattle.page_table_words.specs.Stands.{TableStands}
 use Rattle.page_table.proofs.table.Table.needs.Given as goal
 
 -- the levels so far

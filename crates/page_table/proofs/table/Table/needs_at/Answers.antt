@@ -4,9 +4,10 @@ use Rattle.std.proofs.lemmas.Bool.{false≢true}
 use Rattle.std.proofs.lemmas.List.{take_all}
 use Rattle.iofd_words.specs.Pages.{page_of}
 use Rattle.iofd_words.specs.Levels.{levels_of, number_at}
-use Rattle.table_words.specs.Needed.{goes_through, needed_at}
-use Rattle.table_words.proofs.Needs.{before_more, bound, first_within, needed_more, next_is, next_number}
-use Rattle.table_words.proofs.Needs.{nothing_needed, number_below, number_grows, overlaps, reached_more, span_below}
+use Rattle.page_table_words.specs.Needed.{goes_through, needed_at}
+use Rattle.page_table_words.proofs.Needs.{before_more, bound, first_within, needed_more, next_is, next_number}
+use Rattle.page_table_words.proofs.Needs.{nothing_needed, number_below, number_grows, overlaps, reached_more}
+use Rattle.page_table_words.proofs.Needs.{span_below}
 use Rattle.page_table.proofs.table.Table.needs_at.Goals as goal
 
 pub loop-span-init : goal.loop-span-init

@@ -3,9 +3,9 @@ use Rattle.std.specs.List.{list_any}
 use Rattle.iofd_words.specs.Bounds.{Bounds}
 use Rattle.iofd_words.specs.Pages.{page_of}
 use Rattle.iofd_words.specs.Levels.{levels_of, number_at}
-use Rattle.table_words.specs.Needed.{goes_through, needed_at}
-use Rattle.table_words.specs.Rows.{MappedPage, TableRow}
-use Rattle.table_words.specs.Stands.{TableStands}
+use Rattle.page_table_words.specs.Needed.{goes_through, needed_at}
+use Rattle.page_table_words.specs.Rows.{MappedPage, TableRow}
+use Rattle.page_table_words.specs.Stands.{TableStands}
 use Rattle.page_table.proofs.table.Table.needs_at.Given as goal
 
 -- the spans so far go through tables before the next one alone, which lies just behind the last of them

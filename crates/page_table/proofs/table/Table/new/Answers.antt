@@ -1,7 +1,7 @@
 use Rattle.std.proofs.Common.{rules}
-use Rattle.table_words.proofs.AddingTable.{taken_least}
-use Rattle.table_words.proofs.Rooted.{root_becomes}
-use Rattle.table_words.proofs.Tops.{some_levels}
+use Rattle.page_table_words.proofs.AddingTable.{taken_least}
+use Rattle.page_table_words.proofs.Rooted.{root_becomes}
+use Rattle.page_table_words.proofs.Tops.{some_levels}
 use Rattle.page_table.proofs.table.Table.new.Goals as goal
 
 pub returns-clause-table : goal.returns-clause-table

@@ -1,11 +1,11 @@
 use Rattle.std.proofs.Common.{◌*◌, ◌-◌, ℕ, sym, ap, ◌∙◌}
 use Rattle.std.proofs.lemmas.Nat.{pow_pos}
 use Rattle.std.specs.List.{count_by}
-use Rattle.table_words.specs.Cut.{goes_below}
+use Rattle.page_table_words.specs.Cut.{goes_below}
 use Rattle.iofd_words.specs.Levels.{levels_of}
-use Rattle.table_words.specs.Rows.{table_at}
+use Rattle.page_table_words.specs.Rows.{table_at}
 use Rattle.page_table.proofs.Parting.{root_counted}
-use Rattle.table_words.proofs.Tops.{number-first, root_holds}
+use Rattle.page_table_words.proofs.Tops.{number-first, root_holds}
 use Rattle.page_table.proofs.table.Table.prunable.Goals as goal
 
 pub count_idle-requires-clause-within : goal.count_idle-requires-clause-within

@@ -1,15 +1,15 @@
 use Rattle.std.proofs.Common.{◌≤◌, ◌-◌, ◌*◌, ℕ, List, get_or, drop, sym, ap, ◌∙◌, arith, subst}
 use Rattle.std.proofs.lemmas.Nat.{pow_pos}
 use Rattle.iofd_words.specs.declared.numbers.FrameNo.{FrameNo}
-use Rattle.table_words.specs.Cut.{Cuts}
+use Rattle.page_table_words.specs.Cut.{Cuts}
 use Rattle.iofd_words.specs.Levels.{levels_of}
-use Rattle.table_words.specs.Pruned.{gone}
-use Rattle.table_words.specs.Released.{HasFewerHolds, times}
-use Rattle.table_words.specs.Rows.{table_at}
+use Rattle.page_table_words.specs.Pruned.{gone}
+use Rattle.page_table_words.specs.Released.{HasFewerHolds, times}
+use Rattle.page_table_words.specs.Rows.{table_at}
 use Rattle.page_table.proofs.Parting.{root_counted}
 use Rattle.page_table.proofs.Pruning.{all_pruned, gone_same, may_give, root_stays, still_stands}
-use Rattle.table_words.proofs.Releasing.{given_permutes, gives_back, rest_is}
-use Rattle.table_words.proofs.Tops.{number-first}
+use Rattle.page_table_words.proofs.Releasing.{given_permutes, gives_back, rest_is}
+use Rattle.page_table_words.proofs.Tops.{number-first}
 use Rattle.page_table.proofs.table.Table.prune.Goals as goal
 
 pub cut_idle-requires-clause-table : goal.cut_idle-requires-clause-table

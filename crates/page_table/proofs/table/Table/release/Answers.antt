@@ -1,10 +1,11 @@
 use Rattle.std.proofs.Common.{◌≤◌, ◌-◌, ℕ, List, get_or, length, drop, sym, ap, ◌∙◌, arith, subst}
 use Rattle.iofd_words.specs.declared.numbers.FrameNo.{FrameNo}
 use Rattle.iofd_words.specs.Levels.{levels_of}
-use Rattle.table_words.specs.Released.{HasFewerHolds, times}
-use Rattle.table_words.specs.Under.{frames_under}
-use Rattle.table_words.proofs.FramesUnder.{all_counted}
-use Rattle.table_words.proofs.Releasing.{all_collected, all_released, given_permutes, gives_back, may_release, rest_is}
+use Rattle.page_table_words.specs.Released.{HasFewerHolds, times}
+use Rattle.page_table_words.specs.Under.{frames_under}
+use Rattle.page_table_words.proofs.FramesUnder.{all_counted}
+use Rattle.page_table_words.proofs.Releasing.{all_collected, all_released, given_permutes, gives_back, may_release}
+use Rattle.page_table_words.proofs.Releasing.{rest_is}
 use Rattle.page_table.proofs.table.Table.release.Goals as goal
 
 pub collect-requires-clause-room : goal.collect-requires-clause-room

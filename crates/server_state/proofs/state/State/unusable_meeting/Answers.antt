@@ -1,5 +1,5 @@
 use Rattle.std.proofs.Common.{map, ap, ◌∙◌}
-use Rattle.hwpt_device.specs.PageTables.{Hwpt}
+use Rattle.page_table_set.specs.PageTables.{Hwpt}
 use Rattle.server_state.proofs.Kept.{unusable_beyond, unusable_found}
 use Rattle.server_state.proofs.PageTables.{tables_known}
 use Rattle.server_state.specs.Held.{objects_in}

@@ -1,9 +1,0 @@
-use Rattle.std.proofs.Common.{◌≡◌, ap, ◌∙◌}
-use Rattle.hwpt_device.specs.PageTables.{PageTables}
-use Rattle.hwpt_device.proofs.page_tables.PageTables.needs.Goals as goal
-
-pub returns : goal.returns
-returns g c =
-    let same : c.deref.result.now ≡ c.args.self.now.tables =
-    c.deref.ensures.value ∙ ap (λ (p : PageTables). p.tables) c.self.view_is in
-    rw same at c.needs.ensures

@@ -1,5 +1,0 @@
-use Rattle.lane_lock.specs.Passes.{Owns}
-use Rattle.lane_lock_bench.proofs.lanes.one.Given as goal
-
-abbrev pub invariant-loop : goal.invariant-loop
-invariant-loop g l = Owns l.lock l.pass

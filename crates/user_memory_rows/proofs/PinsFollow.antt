@@ -1,0 +1,237 @@
+-- The pins of the world follow those that are kept.
+use Rattle.std.proofs.Common.{◌≡◌, ℕ, ◌+◌, Bool, true, false, cond, ◌&&◌, ◌||◌, ◌⊎◌, inl, inr, not, eqb, ltb, Option}
+use Rattle.std.proofs.Common.{Some, None, is_some, List, [], ◌∷◌, map, refl, ap, sym, ◌∙◌, arith}
+use Rattle.std.specs.Prelude.{if◌then◌else◌}
+use Rattle.std.specs.List.{count_by, find, list_any}
+use Rattle.std.proofs.Math.Path.{fun_ext}
+use Rattle.std.proofs.lemmas.Bool.Decides.{nat_tests}
+use Rattle.std.proofs.lemmas.List.Sums.{sum_by-cons}
+use Rattle.frame_memory.specs.Pool.{FramePool}
+use Rattle.iofd_words.specs.Frames.{frame_at}
+use Rattle.iofd_words.specs.Objects.{has_hwpt}
+use Rattle.iofd_words.specs.Pages.{page_of}
+use Rattle.iofd_words.specs.Pins.{ObjectPage, frame_now, is_page, is_translated, page_of_pin, pinned_frame}
+use Rattle.iofd_words.specs.Pins.{pinned_pages, settled}
+use Rattle.iofd_words.specs.World.{World}
+use Rattle.iofd_words.specs.declared.numbers.FrameNo.{FrameNo}
+use Rattle.iofd_words.specs.declared.numbers.UserNo.{UserNo}
+use Rattle.iofd_words.specs.declared.rows.Area.{Area}
+use Rattle.iofd_words.specs.declared.rows.MemoryObject.{MemoryObject}
+use Rattle.iofd_words.specs.declared.rows.Pin.{Pin}
+use Rattle.iofd_rows.specs.Pinned.{ArePinned, differ}
+use Rattle.iofd_rows.proofs.Bools.{and_true, clash, not_true}
+use Rattle.iofd_rows.proofs.Each.{IsIn, in_found, of_any}
+use Rattle.iofd_rows.proofs.ListTests.{alike}
+use Rattle.iofd_rows.proofs.ObjectPages.{in_pinned, listed_is}
+use Rattle.iofd_rows.proofs.PageLists.{page_itself, same_page}
+use Rattle.iofd_rows.proofs.PinsFollow.{pin_is_of, settled_at, settled_frame}
+use Rattle.memory_objects.specs.Objects.{are_rising, pins_on}
+use Rattle.user_memory.proofs.PinsNamed.{named_counts, some_named}
+use Rattle.user_memory.specs.Changes.{Settles}
+use Rattle.user_memory.specs.Memory as memory
+use Rattle.user_memory.specs.Memory.{Memory, areas_over, is_pinned, rows_of, table_pins}
+use Rattle.user_memory_rows.specs.Shown.{PinsShown, over, translated}
+
+-- ---- which frames pins name
+
+-- a row that names the frame
+some_pin : (pins : List Pin) (frame : ℕ) → list_any (λ (pin : Pin). eqb pin.frame.0 frame) pins ≡ true
+    → (pin : Pin) × IsIn pins pin × (eqb pin.frame.0 frame ≡ true)
+some_pin [] frame some = cc
+some_pin (p ∷ pins) frame some = by_test (eqb p.frame.0 frame) refl some (λ later. some_pin pins frame later)
+  where
+    by_test : (b : Bool) → eqb p.frame.0 frame ≡ b → (b || list_any (λ (pin : Pin). eqb pin.frame.0 frame) pins) ≡ true
+        → (list_any (λ (pin : Pin). eqb pin.frame.0 frame) pins ≡ true → (pin : Pin) × IsIn pins pin
+        × (eqb pin.frame.0 frame ≡ true)) → (pin : Pin) × IsIn (p ∷ pins) pin × (eqb pin.frame.0 frame ≡ true)
+    by_test true is here later = (p, inl refl, is)
+    by_test false is here later = let rest = later here in (rest.0, inr rest.1, rest.2)
+
+-- where no page has two pins, a page's frame is that of its row
+frame_of_row : (pins : List Pin) (pin : Pin) → differ (map page_of_pin pins) ≡ true → IsIn pins pin
+    → pinned_frame pins (page_of_pin pin) ≡ Some pin.frame
+frame_of_row [] pin once within = absurd within
+frame_of_row (p ∷ pins) pin once within =
+    let parts = and_true (not (list_any (is_page (page_of_pin p)) (map page_of_pin pins)))
+    (differ (map page_of_pin pins)) once in
+    by_row within (not_true _ parts.0) (λ later. frame_of_row pins pin parts.1 later)
+  where
+    among : (rows : List Pin) → IsIn rows pin → list_any (is_page (page_of_pin pin)) (map page_of_pin rows) ≡ true
+    among [] within = absurd within
+    among (r ∷ rows) (inl same) = let here : is_page (page_of_pin pin) (page_of_pin r) ≡ true =
+        ap (λ (x : Pin). is_page (page_of_pin pin) (page_of_pin x)) same ∙ page_itself (page_of_pin pin) in rw here refl
+    among (r ∷ rows) (inr later) = either (is_page (page_of_pin pin) (page_of_pin r)) (among rows later)
+      where
+        either : (b : Bool) → list_any (is_page (page_of_pin pin)) (map page_of_pin rows) ≡ true
+            → (b || list_any (is_page (page_of_pin pin)) (map page_of_pin rows)) ≡ true
+        either true rest = refl
+        either false rest = rest
+
+    at_test : (b : Bool) → is_page (page_of_pin p) (page_of_pin pin) ≡ b
+        → pinned_frame (p ∷ pins) (page_of_pin pin) ≡ cond b (Some p.frame) (pinned_frame pins (page_of_pin pin))
+    at_test b is =
+        ap (λ (c : Bool). elim (cond c (Some p) (find (λ (x : Pin). is_page (page_of_pin x) (page_of_pin pin)) pins))
+        as (λ _. Option FrameNo) [ Some x ↦ Some x.frame | None ↦ None ]) is ∙ opened b
+      where
+        opened : (c : Bool) → elim (cond c (Some p)
+            (find (λ (x : Pin). is_page (page_of_pin x) (page_of_pin pin)) pins)) as (λ _. Option FrameNo) [
+              | Some
+                  x ↦ Some x.frame
+              | None ↦ None
+            ] ≡ cond c (Some p.frame) (pinned_frame pins (page_of_pin pin))
+        opened true = refl
+        opened false = refl
+
+    by_row : (p ≡ pin) ⊎ IsIn pins pin → list_any (is_page (page_of_pin p)) (map page_of_pin pins) ≡ false
+        → (IsIn pins pin → pinned_frame pins (page_of_pin pin) ≡ Some pin.frame)
+        → pinned_frame (p ∷ pins) (page_of_pin pin) ≡ Some pin.frame
+    by_row (inl same) none rest = at_test true (ap (λ (x : Pin). is_page (page_of_pin x) (page_of_pin pin)) same
+        ∙ page_itself (page_of_pin pin)) ∙ ap (λ (x : Pin). Some x.frame) same
+    by_row (inr later) none rest = by_test (is_page (page_of_pin p) (page_of_pin pin)) refl
+      where
+        by_test : (b : Bool) → is_page (page_of_pin p) (page_of_pin pin) ≡ b
+            → pinned_frame (p ∷ pins) (page_of_pin pin) ≡ Some pin.frame
+        by_test true is =
+            let alike_pages = same_page (page_of_pin p) (page_of_pin pin) is in
+            absurd (clash _ none (ap (λ page. list_any (is_page page) (map page_of_pin pins)) alike_pages
+            ∙ among pins later))
+        by_test false is = at_test false is ∙ rest later
+
+-- ---- counts
+
+pub count-cons : {X : Type 0} (p : X → Bool) (x : X) (xs : List X)
+    → count_by p (x ∷ xs) ≡ cond (p x) 1 0 + count_by p xs
+count-cons p x xs = sum_by-cons (λ y. cond (p y) 1 0) x xs
+
+-- some row passes a test just where the rows that pass are counted
+pub any_count : {X : Type 0} (p : X → Bool) (xs : List X) → list_any p xs ≡ ltb 0 (count_by p xs)
+any_count p [] = refl
+any_count p (x ∷ xs) = by_test (p x) (any_count p xs) ∙ ap (ltb 0) (sym (count-cons p x xs))
+  where
+    by_test : (b : Bool) → list_any p xs ≡ ltb 0 (count_by p xs)
+        → (b || list_any p xs) ≡ ltb 0 (cond b 1 0 + count_by p xs)
+    by_test true rest = search (arith, nat_tests)
+    by_test false rest = rest ∙ ap (ltb 0) (omega arith)
+
+-- ---- which pages are pinned
+
+pub pinned_is : (w : World) (kept : Memory) (page : ObjectPage) → w.memory ≡ rows_of kept
+    → ((number : ℕ) → table_pins kept number ≡ translated w.objects w.areas number)
+    → list_any (is_page page) (pinned_pages w.objects w.areas w.memory w.access_pins) ≡ is_pinned kept page
+pinned_is w kept page rows pins =
+    in_pinned w.objects w.areas w.memory w.access_pins page
+    ∙ ap (λ b. b && is_translated w.objects w.areas page.memory) (listed_is w.memory page
+    ∙ ap (λ (l : List MemoryObject). list_any (λ row. eqb page.memory row.number && ltb page.index row.count) l)
+    rows)
+    ∙ ap (λ b. list_any (λ row. eqb page.memory row.number && ltb page.index row.count) (rows_of kept) && b)
+    (any_count (λ (area : Area). eqb area.memory page.memory && has_hwpt w.objects area.file area.ioas) w.areas
+    ∙ ap (ltb 0) (sym (pins page.memory)))
+
+-- where no page has two pins, the frames that they name are those at which pages are pinned
+module _ (pins : List Pin) (kept : Memory) (once : differ (map page_of_pin pins) ≡ true)
+    (rising : are_rising kept.objects ≡ true) (same : (page : ObjectPage)
+    → pinned_frame pins page ≡ memory.pinned_frame kept page) where
+  pub reached_alike : (frame : ℕ) → list_any (λ (pin : Pin). eqb pin.frame.0 frame) pins ≡ ltb 0
+      (pins_on kept.objects frame)
+  reached_alike frame = alike _ _ to from
+    where
+      to : list_any (λ (pin : Pin). eqb pin.frame.0 frame) pins ≡ true → ltb 0 (pins_on kept.objects frame) ≡ true
+      to some =
+          let (pin, within, is) = some_pin pins frame some in
+          named_counts kept.objects pin.memory pin.index frame pin.frame (sym (same (page_of_pin pin))
+          ∙ frame_of_row pins pin once within) is
+
+      by_found : (number index : ℕ) (found : FrameNo) → eqb found.0 frame ≡ true → (o : Option Pin)
+          → find (λ (x : Pin). is_page (page_of_pin x) (record { memory = number; index = index })) pins ≡ o
+          → pinned_frame pins (record { memory = number; index = index }) ≡ Some found
+          → list_any (λ (pin : Pin). eqb pin.frame.0 frame) pins ≡ true
+      by_found number index found names None is there = absurd (never (rw (is, pinned_frame) at there))
+        where
+          never : None ≡ Some found → ⊥
+          never is = cc
+      by_found number index found names (Some x) is there =
+          let same_frame : Some x.frame ≡ Some found = rw (is, pinned_frame) at there in
+          let alike_frame : x.frame ≡ found = cc in
+          let named : eqb x.frame.0 frame ≡ true = ap (λ (f : FrameNo). eqb f.0 frame) alike_frame ∙ names in
+          of_any (λ (pin : Pin). eqb pin.frame.0 frame) pins x
+          (in_found (λ (y : Pin). is_page (page_of_pin y) (record { memory = number; index = index })) pins x is).0
+          named
+
+      from : ltb 0 (pins_on kept.objects frame) ≡ true → list_any (λ (pin : Pin). eqb pin.frame.0 frame) pins ≡ true
+      from some =
+          let named = some_named kept.objects frame rising some in
+          by_found named.number named.index named.found named.names _ refl
+          (same (record { memory = named.number; index = named.index }) ∙ named.pinned)
+
+-- ---- they follow
+
+-- no other page has a pin
+pub only_pinned : (at : ℕ) (w : World) (kept : Memory) → ArePinned at w
+    → PinsShown w.objects w.areas w.memory w.pins kept → (page : ObjectPage) → is_pinned kept page ≡ false
+    → pinned_frame w.pins page ≡ None
+only_pinned at w kept pinned shown page not_pinned = by_frame (pinned_frame w.pins page) refl
+  where
+    by_frame : (o : Option FrameNo) → pinned_frame w.pins page ≡ o → pinned_frame w.pins page ≡ None
+    by_frame None is = is
+    by_frame (Some frame) is =
+        absurd (clash _ (pinned_is w kept page shown.rows shown.tables ∙ not_pinned)
+        (pin_is_of w.pins (pinned_pages w.objects w.areas w.memory w.access_pins) page
+        (ap (λ (o : Option FrameNo). is_some o) is) pinned.only))
+
+pub only_kept : (at : ℕ) (w : World) (kept : Memory) → ArePinned at w → PinsShown w.objects w.areas w.memory w.pins kept
+    → (page : ObjectPage) → is_pinned kept page ≡ false → memory.pinned_frame kept page ≡ None
+only_kept at w kept pinned shown page not_pinned =
+    sym (shown.frames page) ∙ only_pinned at w kept pinned shown page not_pinned
+
+-- where a page is pinned, and was or wasn't before
+settles_at : (was is : Bool) (old now : Option FrameNo) → (was ≡ false → old ≡ None)
+    → settled_at was is old now ≡ (if is then (if was then old else now) else None)
+settles_at true true None now only = refl
+settles_at true true (Some frame) now only = refl
+settles_at false true None now only = refl
+settles_at false true (Some frame) now only = let never : Some frame ≡ None = only refl in cc
+settles_at was false old now only = by_old was old
+  where
+    by_old : (b : Bool) (o : Option FrameNo) → settled_at b false o now ≡ None
+    by_old true o = refl
+    by_old false o = refl
+
+module _ (at next : ℕ) (w new : World) (kept after : Memory) (before_pool after_pool : FramePool)
+    (pinned : ArePinned at w) (pinned_next : ArePinned next new)
+    (shown : PinsShown w.objects w.areas w.memory w.pins kept)
+    (is_settled : new.pins ≡ settled (pinned_pages w.objects w.areas w.memory w.access_pins)
+    (pinned_pages new.objects new.areas new.memory new.access_pins) new.memory new.user_pages w.pins)
+    (pages : (user : UserNo) (page : ℕ) → frame_at new.user_pages user page ≡ frame_at after.pages user page)
+    (rows : new.memory ≡ rows_of after)
+    (areas : (number : ℕ) → areas_over after number ≡ over new.areas number)
+    (pins : (number : ℕ) → table_pins after number ≡ translated new.objects new.areas number)
+    (settles : Settles kept after before_pool after_pool) where
+  now_alike : (page : ObjectPage) → frame_now new.memory new.user_pages page ≡ memory.frame_now after page
+  now_alike page =
+      ap (λ (l : List MemoryObject). frame_now l new.user_pages page) rows
+      ∙ ap (λ (f : UserNo → ℕ → Option FrameNo). now_by f) (fun_ext (λ user. fun_ext (λ p. pages user p)))
+    where
+      now_by : (UserNo → ℕ → Option FrameNo) → Option FrameNo
+      now_by f = elim (find (λ m. eqb m.number page.memory) (rows_of after))
+          [ Some m ↦ f m.user (page_of m.va + page.index) | None ↦ None ]
+
+  frames_follow : (page : ObjectPage) → pinned_frame new.pins page ≡ memory.pinned_frame after page
+  frames_follow page =
+      ap (λ (l : List Pin). pinned_frame l page) is_settled
+      ∙ settled_frame (pinned_pages w.objects w.areas w.memory w.access_pins)
+      (pinned_pages new.objects new.areas new.memory new.access_pins) new.memory new.user_pages w.pins page
+      ∙ rw (pinned_is w kept page shown.rows shown.tables, pinned_is new after page rows pins) refl
+      ∙ settles_at (is_pinned kept page) (is_pinned after page) (pinned_frame w.pins page)
+      (frame_now new.memory new.user_pages page) (only_pinned at w kept pinned shown page)
+      ∙ rw (shown.frames page, now_alike page) refl
+      ∙ sym (settles.frames page)
+
+  pub pins_follow : PinsShown new.objects new.areas new.memory new.pins after
+  pins_follow =
+      record {
+        rows = rows;
+        areas = areas;
+        tables = pins;
+        frames = frames_follow;
+        names = reached_alike new.pins after pinned_next.once settles.kept.rising frames_follow;
+        invariant = settles.kept;
+      }
