@@ -115,6 +115,8 @@ ranges_text request ranges = places_text request (length ranges) ++ encode_lower
 abbrev pub answer_text : Answer → List ℕ
 answer_text (answer.Read bytes) = codes "ok " ++ encode_lower bytes
 answer_text (answer.Count count) = codes "ok " ++ decimal count
+answer_text (answer.Attached (Some id)) = codes "ok id " ++ decimal id.0
+answer_text (answer.Attached None) = codes "ok"
 answer_text (answer.Fault fault) = fault_text fault
 answer_text (answer.Refused refusal) = refusal_text refusal.cause
 

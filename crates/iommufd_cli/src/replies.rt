@@ -42,14 +42,16 @@ impl Line {
         }
     }
 
-    /// Tells an answer to a look: the bytes in hex, the count in decimal, the fault, or the errno and the
-    /// cause of a refusal. A line feed ends it.
+    /// Tells an answer to a look: the bytes in hex, the count or the id in decimal, `ok` alone where there is no id, the
+    /// fault, or the errno and the cause of a refusal. A line feed ends it.
     pub fn tell_answer(&mut self, answer: &Answer)
         ensures { self.new ≡ line (answer_text answer.now) }
     {
         match answer {
             Answer::Read(bytes) => self.tell_hex(b"ok ", bytes.as_slice()),
             Answer::Count(count) => self.tell_number(b"ok ", *count),
+            Answer::Attached(Some(id)) => self.tell_number(b"ok id ", u64::from(id.0)),
+            Answer::Attached(None) => self.tell(b"ok"),
             Answer::Fault(fault) => self.tell_fault(*fault),
             Answer::Refused(refusal) => self.tell_refusal(*refusal),
         }

@@ -12,7 +12,7 @@ ghost use Rattle.iommufd_core.specs.Server.{MayWant};
 ghost use Rattle.iofd_words.specs.View.{view};
 
 use crate::{events, look, opening, ranges};
-use device_events::access;
+use event_device_access::access;
 use iofd_words::{
     AccessKind, Act, Answer, CallError, Config, DeviceNo, FileNo, FrameList, FrameNo, Iova,
     NoMemory, ObjId, PassNo, Query, Record, Reply,

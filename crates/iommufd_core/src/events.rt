@@ -8,12 +8,15 @@ ghost use Rattle.server_state.specs.Seen.{seen};
 ghost use Rattle.iommufd_core.specs.Server.{takes_memory};
 ghost use Rattle.server_state.specs.Step.{Answered, IsCalled, IsGrantedFor, IsKnown, MovingSteps, TidyShowsSame};
 
-use device_events::{bind, detach, device_write, flush};
-use file_events::{close, destroy, ioas_alloc, unbind};
-use hwpt_events::{attach, hwpt_alloc};
+use event_destroy::{close, destroy};
+use event_device_access::device_write;
+use event_ioas::{allow_iovas, ioas_alloc};
+use event_map::{copy, map};
+use event_unmap::unmap;
+use event_user_memory::{user_map, user_unmap, user_write};
+use hwpt_device::{bind, detach, flush, unbind};
+use hwpt_device_attach::{attach, hwpt_alloc};
 use iofd_words::{Act, Cause, Event, FrameNo, NoMemory, Refusal, Reply};
-use map_events::{copy, map};
-use memory_events::{allow_iovas, unmap, user_map, user_unmap, user_write};
 use server_state::State;
 use std::alloc::Allocator;
 

@@ -1,6 +1,8 @@
 //! Each question, refused or answered. None takes memory.
 
 ghost use Rattle.std.specs.Prelude.{◌≡◌, ℕ, List, None};
+ghost use Rattle.std.specs.Option.{option_map};
+ghost use Rattle.iofd_words.specs.Attachments.{attachment_of};
 ghost use Rattle.iofd_words.specs.FirstTrue.{first_true};
 ghost use Rattle.iofd_words.specs.Look.{answers_in, lawful_answers, query_checks};
 ghost use Rattle.iofd_words.specs.View.{view};
@@ -12,9 +14,9 @@ ghost use Rattle.server_state.specs.Seen.{seen};
 ghost use Rattle.server_state.specs.Shows.{Shows};
 ghost use Rattle.server_state.specs.Step.{IsAsked, IsKnown, IsTidy};
 
-use device_events::{access, device_read};
-use iofd_words::{Answer, Cause, Query, Refusal, UserNo};
-use memory_events::{user_access, user_read};
+use event_device_access::{access, device_read};
+use event_user_memory::{user_access, user_read};
+use iofd_words::{Answer, Cause, DeviceNo, ObjId, Query, Refusal, UserNo};
 use server_state::State;
 use std::alloc::Allocator;
 
@@ -44,6 +46,7 @@ fn refusal<A: Allocator>(state: &State<A>, query: &Query) -> Option<Cause>
         }
         Query::FreeFrames => None,
         Query::Held(user) => refusal_by_user(state, *user),
+        Query::AttachedTo(device) => refusal_by_device(state, *device),
     }
 }
 
@@ -59,6 +62,7 @@ fn answer<A: Allocator>(state: &State<A>, query: &Query) -> Answer
         Query::UserRead { user, va, len } => user_read::read(state, *user, *va, *len),
         Query::FreeFrames => Answer::Count(u64::from(state.pool.free_count())),
         Query::Held(user) => Answer::Count(state.memory.held(*user)),
+        Query::AttachedTo(device) => Answer::Attached(hwpt_of(state, *device)),
     }
 }
 
@@ -71,4 +75,23 @@ fn refusal_by_user<A: Allocator>(state: &State<A>, user: UserNo) -> Option<Cause
     } else {
         Some(Cause::Id)
     }
+}
+
+/// Why a question about a device's attachment is refused.
+fn refusal_by_device<A: Allocator>(state: &State<A>, device: DeviceNo) -> Option<Cause>
+    ensures { result ≡ first_true (query_checks (seen state.now) (queries.AttachedTo device)) }
+{
+    if state.config.has_device(device) {
+        None
+    } else {
+        Some(Cause::Id)
+    }
+}
+
+/// The hardware page table by which the device translates.
+fn hwpt_of<A: Allocator>(state: &State<A>, device: DeviceNo) -> Option<ObjId>
+    requires { IsKnown state.now }
+    ensures { result ≡ option_map (λ a. a.hwpt) (attachment_of state.now.attachments.items device) }
+{
+    Some(state.attachment_of(device)?.hwpt)
 }

@@ -6,9 +6,9 @@ ghost use Rattle.iofd_words.specs.Look.{AreUsableRanges, ranges_checks};
 ghost use Rattle.server_state.specs.Seen.{seen};
 ghost use Rattle.iommufd_core.specs.Ranges.{refused_ranges};
 
+use event_ioas::usable_ranges;
 use iofd_words::{CallError, FileNo, NoMemory, ObjId, Refusal};
 use iova_ranges::RangeSet;
-use memory_events::usable_ranges;
 use server_state::State;
 use std::alloc::Allocator;
 

@@ -9,3 +9,4 @@ pub mod SpanMapped
 pub mod SpanNeeds
 pub mod SpanPages
 pub mod SpanTables
+pub mod Taking

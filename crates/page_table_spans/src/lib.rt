@@ -2,8 +2,10 @@
 //! the areas of an address space need, and spans that are mapped or cleared, page after page.
 #![tactic(auto)]
 
+mod laws;
 mod mapping;
 mod needing;
 
+pub use laws::mapping_takes_what_is_needed;
 pub use mapping::{clear, map};
 pub use needing::{needs, tables_for};

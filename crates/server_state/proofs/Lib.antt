@@ -24,8 +24,10 @@ pub mod Orderly
 pub mod PageTables
 pub mod RoomHeld
 pub mod Searched
+pub mod SpacesGone
 pub mod Still
 pub mod TableRows
+pub mod TablesAmong
 pub mod TablesFollow
 pub mod TablesToMap
 pub mod TablesTold

@@ -4,7 +4,6 @@ ghost use Rattle.std.specs.Prelude.{◌≡◌, ◌-◌, None, if◌then◌else�
 ghost use Rattle.page_table_set.specs.PageTables.{IfAllStand, hwpt_of};
 ghost use Rattle.page_table_set.specs.Removed.{CanRemove, rows_found};
 ghost use Rattle.object_table.specs.Table.{destroy_refusal, removed};
-ghost use Rattle.object_table.specs.declared.kind.Kind.TheVariants as of_kind;
 ghost use Rattle.server_state.specs.Mapping.{own_areas, untranslated_pins};
 ghost use Rattle.server_state.specs.TableGone.{HasLostTable, MayLoseTable};
 ghost use Rattle.user_memory_rows.specs.Moves.{IsReleased, MayRelease, if_translated};
@@ -144,7 +143,7 @@ pub fn remove_page_table<A: Allocator>(
         given.old.items given.new.items) }
 {
     counts::one_fewer(&mut state.objects, file, Kind::Ioas, ioas);
-    remove_row(&mut state.objects, file, hwpt);
+    remove_object(&mut state.objects, file, Kind::Hwpt, hwpt);
     state.page_tables.remove(&mut state.pool, file, hwpt, given);
     unpin_untranslated(
         &state.objects,
@@ -156,11 +155,17 @@ pub fn remove_page_table<A: Allocator>(
     );
 }
 
-/// The page table's row goes. All other objects and all areas stay.
-fn remove_row<A: Allocator>(table: &mut ObjectTable<Held<A>, A>, file: FileNo, hwpt: ObjId)
-    ensures rows { destroy_refusal table.old file of_kind.Hwpt hwpt ≡ None
-        → table.new.rows ≡ removed file hwpt table.old.rows }
+/// Takes the file's object of this kind and id out of the table, if nothing there refuses it. All other objects and all
+/// areas stay. It takes no memory.
+pub fn remove_object<A: Allocator>(
+    table: &mut ObjectTable<Held<A>, A>,
+    file: FileNo,
+    kind: Kind,
+    id: ObjId,
+)
+    ensures rows { destroy_refusal table.old file kind id ≡ None
+        → table.new.rows ≡ removed file id table.old.rows }
     ensures files { table.new.files ≡ table.old.files }
 {
-    let _ = table.destroy(file, Kind::Hwpt, hwpt);
+    let _ = table.destroy(file, kind, id);
 }

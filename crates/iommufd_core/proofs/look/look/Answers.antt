@@ -1,6 +1,6 @@
 use Rattle.std.proofs.Common.{sym, ◌∙◌, subst}
 use Rattle.server_state.specs.Choice.{IsLooked}
-use Rattle.device_events.proofs.DeviceReads.{answered_read, refused_read}
+use Rattle.event_device_access.proofs.DeviceReads.{answered_read, refused_read}
 use Rattle.server_state.proofs.ViewShown.{same_query_refusal}
 use Rattle.iommufd_core.proofs.look.look.Goals as goal
 

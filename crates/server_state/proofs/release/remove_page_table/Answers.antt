@@ -4,12 +4,12 @@ use Rattle.server_state.proofs.release.remove_page_table.Goals as goal
 
 pub unpin_untranslated-requires : goal.unpin_untranslated-requires
 unpin_untranslated-requires g c =
-    c.requires.pins c.remove_row.new.table c.remove.new.self c.remove.new.pool (record {
+    c.requires.pins c.remove_object.new.table c.remove.new.self c.remove.new.pool (record {
       objects = λ at w attachments areas width automatic tidy shown is_kind unused.
-          table_leaves w.settings w.closed w.objects attachments areas c.args.state.now.objects c.remove_row.new.table
+          table_leaves w.settings w.closed w.objects attachments areas c.args.state.now.objects c.remove_object.new.table
           shown c.args.file c.args.hwpt c.args.ioas width automatic c.one_fewer.new.table tidy.ids tidy.debts.spaces
-          is_kind unused c.one_fewer.ensures.rows c.one_fewer.ensures.others c.remove_row.ensures.rows
-          c.remove_row.ensures.files;
+          is_kind unused c.one_fewer.ensures.rows c.one_fewer.ensures.others c.remove_object.ensures.rows
+          c.remove_object.ensures.files;
       kept = c.remove.ensures.tables;
       stand = c.remove.ensures.stand;
       released = c.remove.ensures.pool;
@@ -20,10 +20,10 @@ returns-clause-state g c = record {
   between = c.remove.new.pool;
   gone = record {
     objects = λ at w attachments areas width automatic tidy shown is_kind unused.
-        table_leaves w.settings w.closed w.objects attachments areas c.args.state.now.objects c.remove_row.new.table
+        table_leaves w.settings w.closed w.objects attachments areas c.args.state.now.objects c.remove_object.new.table
         shown c.args.file c.args.hwpt c.args.ioas width automatic c.one_fewer.new.table tidy.ids tidy.debts.spaces
-        is_kind unused c.one_fewer.ensures.rows c.one_fewer.ensures.others c.remove_row.ensures.rows
-        c.remove_row.ensures.files;
+        is_kind unused c.one_fewer.ensures.rows c.one_fewer.ensures.others c.remove_object.ensures.rows
+        c.remove_object.ensures.files;
     kept = c.remove.ensures.tables;
     stand = c.remove.ensures.stand;
     released = c.remove.ensures.pool;

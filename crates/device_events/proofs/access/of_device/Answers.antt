@@ -1,7 +1,0 @@
-use Rattle.std.proofs.Common.{rules}
-use Rattle.iofd_words.specs.Policy.{access_outcomes}
-use Rattle.device_events.proofs.access.of_device.Goals as goal
-
-pub returns-then-is_beyond : goal.returns-then-is_beyond
-unfolding access_outcomes
-returns-then-is_beyond g c = search rules

@@ -1,2 +1,0 @@
-pub mod Attaching
-pub mod Outcomes

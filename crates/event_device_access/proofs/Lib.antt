@@ -1,0 +1,4 @@
+pub mod ByWalk
+pub mod DeviceReads
+pub mod DeviceWrites
+pub mod Walked

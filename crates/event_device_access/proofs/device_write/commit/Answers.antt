@@ -1,0 +1,99 @@
+use Rattle.std.proofs.Common.{◌≡◌, ◌%◌, ◌∷◌, length, ◌∙◌, ap, sym, arith}
+use Rattle.iofd_runs.proofs.NotRefused.{write_passed}
+use Rattle.iofd_words.specs.After.{changed}
+use Rattle.iofd_words.specs.Answers.{Answers}
+use Rattle.iofd_words.specs.Policy.{Passes, fault_of, outcomes}
+use Rattle.iofd_words.specs.View.{view}
+use Rattle.iofd_words.specs.declared.fault.AccessKind.TheVariants.{Write}
+use Rattle.event_device_access.proofs.DeviceWrites.{chosen_answer, pass_in_pool, pass_named, tables_written}
+use Rattle.user_memory_rows.proofs.UserAccess.{short}
+use Rattle.server_state.proofs.ViewShown.{same_outcomes}
+use Rattle.server_state.specs.Leads.{leads_of}
+use Rattle.frame_memory.specs.Pool.{written}
+use Rattle.user_memory_rows.proofs.FramesFollow.{written_shown}
+use Rattle.event_device_access.specs.Outcomes.{given_outcome}
+use Rattle.event_device_access.proofs.device_write.commit.Goals as goal
+
+pub given-requires : goal.given-requires
+given-requires g c =
+    let known = c.requires.granted.granted in
+    record { at = c.requires.at; world = known.world; tidy = known.tidy; shows = known.shows }
+
+pub write-requires-clause-frame : goal.write-requires-clause-frame
+write-requires-clause-frame g c =
+    let known = c.requires.granted.granted in
+    let w = known.world in
+    let frame = c.in-Ok.frame in
+    let iova = c.args.iova in
+    let told : Passes c.in-Ok.frame ≡ given_outcome c.args.via (outcomes w c.args.device c.args.iova.0 Write) =
+    c.in-Ok.ensures ∙ ap (given_outcome c.args.via) (same_outcomes w c.args.state.now known.shows
+    known.tidy.tabled.owned c.args.device
+    c.args.iova.0 Write)
+    in
+    let answer = chosen_answer c.requires.at w c.args.device iova c.args.via (Passes frame)
+    known.tidy told c.requires.granted.may in
+    let within = pass_in_pool w known.tidy.fit.pin_frames c.args.device iova.0 Write frame answer.0 in
+    let size = known.shows.frames.size in
+    omega (arith, within, size)
+
+pub write-requires-clause-within : goal.write-requires-clause-within
+write-requires-clause-within g c =
+    let known = c.requires.granted.granted in
+    let w = known.world in
+    let iova = c.args.iova in
+    let bytes = c.args.bytes.now in
+    let passed = write_passed (view w) c.args.device iova bytes
+    known.none in
+    rw c.as_slice.ensures.value (short iova.0 (length bytes) passed.short).within
+
+pub returns-in-Ok : goal.returns-in-Ok
+unfolding changed Answers
+returns-in-Ok g c = λ at w tidy shows none may.
+    let frame = c.in-Ok.frame in
+    let iova = c.args.iova in
+    let bytes = c.args.bytes.now in
+    let told : Passes frame ≡ given_outcome c.args.via (outcomes w c.args.device iova.0 Write) =
+    c.in-Ok.ensures ∙ ap (given_outcome c.args.via)
+    (same_outcomes w c.args.state.now shows tidy.tabled.owned c.args.device iova.0 Write) in
+    let answer = chosen_answer at w c.args.device iova c.args.via (Passes frame) tidy told may in
+    let within = pass_in_pool w tidy.fit.pin_frames c.args.device iova.0 Write frame answer.0 in
+    let within_page =
+    (short iova.0 (length bytes) (write_passed (view w) c.args.device iova bytes none).short).within in
+    let old = c.args.state.now in
+    let put : c.write.new.self ≡ written old.pool frame.0 (iova.0 % 4096) bytes =
+    rw c.as_slice.ensures.value at c.write.ensures.new in
+    let named = pass_named w old shows c.args.device iova.0 Write frame answer.0 in
+    let frames = written_shown w.settings.pool w.writes w.table_frames old.memory old.pool frame.0 (iova.0 % 4096) bytes
+    shows.frames within within_page named in (
+      answer.1,
+      answer.2,
+      record {
+        settings = shows.settings;
+        limits = shows.limits;
+        allowed = shows.allowed;
+        objects = shows.objects;
+        devices = shows.devices;
+        users = shows.users;
+        pins = shows.pins;
+        frames = rw put frames;
+        tables = record {
+          tables = shows.tables.tables;
+          widths = shows.tables.widths;
+          stand = rw put (tables_written w.settings.pool w.writes
+              (record { frame = frame.0; offset = iova.0 % 4096; bytes = bytes } ∷ w.writes) w.table_frames (leads_of w)
+              old.page_tables.tables old.memory old.pool frame.0 (iova.0 % 4096) bytes shows.tables.stand shows.frames
+              frames named);
+        };
+      },
+    )
+
+pub returns-in-Err : goal.returns-in-Err
+unfolding changed Answers
+returns-in-Err g c = λ at w tidy shows none may.
+    let iova = c.args.iova in
+    let told = c.in-Err.ensures ∙ ap (given_outcome c.args.via)
+    (same_outcomes w c.args.state.now shows tidy.tabled.owned c.args.device iova.0 Write) in
+    let answer = chosen_answer at w c.args.device iova c.args.via _ tidy told may in
+    let fault = c.fault_of.ensures ∙ ap (λ settings. fault_of settings c.args.device iova.0 Write c.in-Err.reason)
+    (sym shows.settings) in
+    (rw fault answer.1, rw fault answer.2, shows)

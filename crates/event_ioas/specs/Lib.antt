@@ -1,0 +1,3 @@
+pub mod LeftOut
+pub mod RangeChecks
+pub mod Rising

@@ -1,0 +1,9 @@
+pub mod AreasToClear
+pub mod AttachedDevices
+pub mod LeavingAreas
+pub mod PagesCleared
+pub mod PinsLeft
+pub mod SpacesCleared
+pub mod Touched
+pub mod UnmapRows
+pub mod Unmapped

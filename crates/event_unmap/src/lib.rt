@@ -1,0 +1,6 @@
+//! UNMAP, by which areas leave and go: the test that refuses it, and what it does.
+#![tactic(auto)]
+
+mod clearing;
+mod devices;
+pub mod unmap;

@@ -1,0 +1,124 @@
+//! UNMAP: areas go, or are on their way out until devices have flushed.
+
+ghost use Rattle.std.specs.Prelude.{◌≡◌, ◌<◌, ◌≤◌, ◌^◌, ◌&&◌, ◌∷◌, [], ℕ, false};
+ghost use Rattle.std.specs.Prelude.{length, not, IfSome, IsSome};
+ghost use Rattle.area_map_rows.specs.Areas.{bytes_of};
+ghost use Rattle.iofd_words.specs.Areas.{areas_meet, is_cut, is_everything, most_areas, unmapped_span};
+ghost use Rattle.iofd_words.specs.Checks.{unmap_checks};
+ghost use Rattle.iofd_words.specs.FirstTrue.{first_true};
+ghost use Rattle.iofd_words.specs.Pages.{is_above_sum};
+ghost use Rattle.iofd_words.specs.declared.event.Event.TheVariants as event;
+ghost use Rattle.server_state.specs.Seen.{seen};
+ghost use Rattle.server_state.specs.Step.{IsGranted, Steps};
+
+use crate::{clearing, devices};
+use area_map::{Areas, Iter};
+use iofd_words::{Cause, Errno, FileNo, Reply, Span, UnmapRequest};
+use server_state::addresses::is_above_sum;
+use server_state::{State, area_changes, lookups, release};
+use std::alloc::Allocator;
+
+/// Why it is refused, by the first row of the definitions that holds. None where nothing refuses it.
+#[tactic(auto, unfolding(iofd_words::specs::Checks::unmap_checks))]
+pub fn refusal<A: Allocator>(state: &State<A>, file: FileNo, request: UnmapRequest) -> Option<Cause>
+    ensures { result ≡ first_true (unmap_checks (seen state.now) file request) }
+{
+    if !state.objects.is_open(file) {
+        return Some(Cause::Id);
+    }
+    if is_above_sum(request.iova.0, request.length) {
+        return Some(Cause::Sum);
+    }
+    let Some(span) = unmapped_span(request) else {
+        return Some(Cause::Align);
+    };
+    let Some(areas) = lookups::areas_of(&state.objects, file, request.ioas) else {
+        return Some(Cause::Id);
+    };
+    refusal_by_areas(request, span, areas)
+}
+
+/// Why the address space with these areas refuses it.
+fn refusal_by_areas<A: Allocator>(
+    request: UnmapRequest,
+    span: Span,
+    areas: &Areas<A>,
+) -> Option<Cause>
+    ensures { result ≡ first_true (
+        (Cause.Span, not (is_everything request) && not (areas_meet span areas.now.areas))
+        ∷ (Cause.Span, is_cut span areas.now.areas)
+        ∷ []) }
+{
+    let (meets, cuts) = areas.meets_and_cuts(span);
+    if !is_everything(request) && !meets {
+        return Some(Cause::Span);
+    }
+    if cuts {
+        return Some(Cause::Span);
+    }
+    None
+}
+
+/// What it does where nothing refuses it. In the page tables of the address space the pages of the areas that it names
+/// lead nowhere from then on; their tables stay. Where a device still has to flush before all these areas may go, they
+/// are on their way out, and the reply is EAGAIN. Else they go, with their memory objects and pins, and the reply is
+/// how many bytes they had. It takes no memory.
+pub fn commit<A: Allocator>(state: &mut State<A>, file: FileNo, request: UnmapRequest) -> Reply
+    requires { IsGranted (event.Unmap file request) state.old }
+    ensures { (at : ℕ) → Steps at (event.Unmap file request) state.old result state.new }
+{
+    let Some(span) = unmapped_span(request) else {
+        // It was refused.
+        unreachable!()
+    };
+    let ioas = request.ioas;
+    let Some(attached) = devices::attached_to(state, file, ioas) else {
+        // Each attached device is one of the configuration.
+        unreachable!()
+    };
+    let translated = state.has_hwpt(file, ioas);
+    let areas = area_changes::areas_within(&state.objects, file, ioas, span);
+    clearing::clear(
+        areas.again(),
+        file,
+        ioas,
+        &mut state.page_tables,
+        &mut state.pool,
+    );
+    if area_changes::some_waits(areas.again(), &attached) {
+        area_changes::mark_leaving(&mut state.objects, file, ioas, span, &attached);
+        return Reply::Pending(Errno::EAGAIN);
+    }
+    let bytes = bytes_of(areas.again());
+    release::remove(areas, translated, &mut state.memory, &mut state.pool);
+    area_changes::remove(&mut state.objects, file, ioas, span);
+    Reply::Bytes(bytes)
+}
+
+/// How many bytes the areas have: at most 65,535 areas of at most 2^48 bytes.
+fn bytes_of<A: Allocator>(areas: Iter<'_, A>) -> u64
+    requires few { length areas ≤ most_areas }
+    requires fit { bytes_of areas < 2 ^ 64 }
+    ensures { result ≡ bytes_of areas.entry }
+{
+    areas.bytes() as u64
+}
+
+/// Whether it names every address, the last one too.
+fn is_everything(request: UnmapRequest) -> bool
+    ensures { result ≡ is_everything request }
+{
+    request.iova.0 == 0 && request.length == u64::MAX
+}
+
+/// The span that it names. None where it names no address, or one above 2^64 - 1.
+fn unmapped_span(request: UnmapRequest) -> Option<Span>
+    ensures value { IfSome result (λ span. span ≡ unmapped_span request) }
+    ensures some { 0 < request.length → is_above_sum request.iova.0 request.length ≡ false → IsSome result }
+    ensures none { IsSome result → 0 < request.length }
+{
+    if is_everything(request) {
+        return Span::new(0, u64::MAX);
+    }
+    Span::of_length(request.iova.0, request.length)
+}

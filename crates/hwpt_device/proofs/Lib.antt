@@ -1,0 +1,9 @@
+pub mod Bound
+pub mod Detached
+pub mod DetachedShown
+pub mod Flushed
+pub mod NeverRefused
+pub mod NoUser
+pub mod PaidLeads
+pub mod TableGone
+pub mod Unbound

@@ -1,7 +1,0 @@
-use Rattle.memory_events.proofs.PagesCleared.{AreClearing}
-use Rattle.memory_events.proofs.clearing.clear_areas.Given as goal
-
--- the pages of some of the areas are cleared
-abbrev pub invariant-loop-area : goal.invariant-loop-area
-invariant-loop-area g l =
-    AreClearing l.fn.file l.fn.ioas l.fn.areas l.area-iterator l.initial.page_tables l.page_tables l.initial.pool l.pool

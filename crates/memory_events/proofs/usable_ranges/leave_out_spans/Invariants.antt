@@ -1,7 +1,0 @@
-use Rattle.std.proofs.Common.{take}
-use Rattle.iofd_words.specs.Ranges.{in_spans}
-use Rattle.memory_events.specs.LeftOut.{LeavesOut}
-use Rattle.memory_events.proofs.usable_ranges.leave_out_spans.Given as goal
-
-abbrev pub invariant-loop-span : goal.invariant-loop-span
-invariant-loop-span g l = LeavesOut (in_spans (take l.span-index l.spans)) l.initial.set.spans l.set.spans

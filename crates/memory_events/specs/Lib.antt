@@ -1,4 +1,0 @@
-pub mod Cleared
-pub mod LeftOut
-pub mod RangeChecks
-pub mod Rising
