@@ -33,7 +33,8 @@ pub(crate) fn attached_to<A: Allocator>(
     )
 }
 
-/// The same, by these attachments.
+/// Those of these attachments that lead to the address space, as a set. None where one is of no device of the
+/// configuration.
 fn attached_by<A: Allocator>(
     config: &Config<A>,
     table: &ObjectTable<Held<A>, A>,

@@ -17,7 +17,7 @@ use Rattle.user_memory_rows.specs.Moves.{IsReleased, MayRelease}
 use Rattle.user_memory_rows.specs.Shown.{FramesShown, over, tables_in, translated}
 use Rattle.user_memory.specs.Changes.{never}
 use Rattle.user_memory.specs.Memory.{Memory}
-use Rattle.std.specs.Prelude.{is_none}
+use Rattle.std.specs.Prelude.{IsTrue, is_none}
 use Rattle.std.specs.List.{filter, list_all}
 use Rattle.std.specs.List.Sorted.{IsNonDecreasingBy, IsPermutation}
 use Rattle.iofd_words.specs.After.{changed, detach_changes, detached, goes_with, settle}
@@ -40,7 +40,7 @@ use Rattle.iofd_rows.proofs.Owed.{table_of}
 use Rattle.iofd_rows.proofs.Paid.{paid_areas_of}
 use Rattle.server_state.specs.Held.{areas_at, objects_in, space_of}
 use Rattle.server_state.specs.Mapping.{own_areas, untranslated_pins}
-use Rattle.hwpt_device.specs.Attaching.{has_no_user, is_automatic_at, is_idle}
+use Rattle.hwpt_device.specs.Attaching.{has_no_user, has_one_user, is_automatic_at, is_idle, takes_its_table}
 use Rattle.server_state.specs.Choice.{AreFramesChosen, IsChosen}
 use Rattle.server_state.specs.Leads.{leads_of}
 use Rattle.server_state.specs.Shows.{ObjectsShown, Shows, TablesShown}
@@ -53,8 +53,8 @@ use Rattle.server_state.specs.declared.state.State.{State}
 use Rattle.server_state.proofs.AreasBecome.{own_at}
 use Rattle.server_state.proofs.Counted.{over_spaces, own_row, users_of_row}
 use Rattle.server_state.specs.Users.{devices_on, tables_over}
-use Rattle.server_state.proofs.CountsShown.{device_leaves}
-use Rattle.server_state.proofs.DevicesOn.{has_devices, none_on}
+use Rattle.server_state.proofs.CountsShown.{device_leaves, on_own}
+use Rattle.server_state.proofs.DevicesOn.{devices-without, has_devices, none_on}
 use Rattle.iofd_words.specs.Attachments.{has_device_on}
 use Rattle.iofd_rows.proofs.Bools.{and_true, not_true}
 use Rattle.std.proofs.lemmas.Bool.Decides.{nat_tests}
@@ -178,6 +178,58 @@ module _ {A : Type 0} where
       × AreFramesChosen w (changed {A = A} at w (event.Detach device) reply.Done) [] given
       × Shows (with_tables [] given (changed {A = A} at w (event.Detach device) reply.Done)) new
 
+  -- whether the page table goes is told before by its users: the device is the only one
+  pub last_tells : (at : ℕ) (w : World) (s : State A) (device : DeviceNo) (a : Attachment) (file : FileNo) (ioas : ObjId)
+      → IsTidy at w → Shows w s → attachment_of s.attachments.items device ≡ Some a
+      → space_of (objects_in s.objects) (attachment_of s.attachments.items device) ≡ Some (file, ioas)
+      → (is_automatic_at (objects_in s.objects) a.file a.hwpt && has_one_user s.objects a.file a.hwpt)
+      ≡ is_idle w.objects (without_attachment device w.attachments) a.file a.hwpt
+  last_tells at w s device a file ioas tidy shows found space =
+      ap (λ (l : List Object). is_automatic_at l a.file a.hwpt && has_one_user s.objects a.file a.hwpt)
+      (sym shows.objects.rows)
+      ∙ ap (λ (b : Bool). is_automatic_at w.objects a.file a.hwpt && b) one_tells
+    where
+      end : Ending w device a ioas
+      end = ending w s device a file ioas shows found space
+
+      one_or_more : (n : ℕ) → eqb (n + 1) 1 ≡ not (ltb 0 n)
+      one_or_more n = grind (arith, nat_tests)
+
+      one_tells : has_one_user s.objects a.file a.hwpt
+          ≡ not (has_device_on (without_attachment device w.attachments) a.file a.hwpt)
+      one_tells =
+          let (width, automatic, kind_w) = table_of w.objects a ioas end.over in
+          let kind_s : kind_of (objects_in s.objects) a.file a.hwpt ≡ Some (kind.Hwpt ioas width automatic) =
+          sym (ap (λ (objects : List Object). kind_of objects a.file a.hwpt) shows.objects.rows) ∙ kind_w in
+          let (row, found, there) = own_row s.objects.rows a.file a.hwpt (kind.Hwpt ioas width automatic)
+          shows.objects.proper kind_s in
+          let many = users_of_row w.objects w.attachments s.objects.rows shows.objects.counted a.file a.hwpt row
+          there in
+          let no_space : has_ioas w.objects a.file a.hwpt ≡ false =
+          ap (λ (o : Option ObjectKind). elim o [ Some k ↦ is_ioas k | None ↦ false ]) kind_w in
+          let none = over_spaces w.objects a.file a.hwpt tidy.debts.spaces no_space in
+          let all = devices-without w.attachments device a a.file a.hwpt tidy.debts.once end.found in
+          let one = on_own a in
+          let on : row.users ≡ devices_on (without_attachment device w.attachments) a.file a.hwpt + 1 =
+          omega (arith, many, none, all, one) in
+          ap (λ (o : Option (Row (Held A))). elim o as (λ _. Bool) [ Some r ↦ eqb r.users 1 | None ↦ false ]) found
+          ∙ ap (λ (n : ℕ). eqb n 1) on
+          ∙ one_or_more (devices_on (without_attachment device w.attachments) a.file a.hwpt)
+          ∙ ap not (sym (has_devices (without_attachment device w.attachments) a.file a.hwpt))
+
+  -- in the words of what is kept
+  pub takes_it : (at : ℕ) (w : World) (s : State A) (device : DeviceNo) (a : Attachment) (file : FileNo) (ioas : ObjId)
+      → IsTidy at w → Shows w s → attachment_of s.attachments.items device ≡ Some a
+      → space_of (objects_in s.objects) (attachment_of s.attachments.items device) ≡ Some (file, ioas)
+      → (is_automatic_at (objects_in s.objects) a.file a.hwpt && has_one_user s.objects a.file a.hwpt) ≡ true
+      → IsTrue (takes_its_table (objects_in s.objects) s.attachments.items device)
+  takes_it at w s device a file ioas tidy shows found space last =
+      let idle : is_idle w.objects (without_attachment device w.attachments) a.file a.hwpt ≡ true =
+      sym (last_tells at w s device a file ioas tidy shows found space) ∙ last in
+      let kept : is_idle (objects_in s.objects) (without_attachment device s.attachments.items) a.file a.hwpt ≡ true =
+      rw (shows.objects.rows, shows.devices.attached) at idle in
+      rw (takes_its_table, found) kept
+
   module _ (at : ℕ) (w : World) (s : State A) (attachments : Vec Attachment A) (device : DeviceNo) (a : Attachment)
       (file : FileNo) (ioas : ObjId) (table : Table (Held A)) (tidy : IsTidy at w) (shows : Shows w s)
       (none : first_true (detach_checks (view w) device) ≡ None)
@@ -254,6 +306,11 @@ module _ {A : Type 0} where
         ap (λ (l : List Object). is_automatic_at l a.file a.hwpt && has_no_user less a.file a.hwpt)
         (sym less_shown.rows)
         ∙ ap (λ (b : Bool). is_automatic_at w.objects a.file a.hwpt && b) users_tell
+
+    -- one user is counted before exactly where none is left
+    pub last_told : (is_automatic_at (objects_in s.objects) a.file a.hwpt && has_one_user s.objects a.file a.hwpt)
+        ≡ (is_automatic_at (objects_in less) a.file a.hwpt && has_no_user less a.file a.hwpt)
+    last_told = last_tells at w s device a file ioas tidy shows found space ∙ sym table_tells
 
     -- the objects that are left
     abbrev left : List Object

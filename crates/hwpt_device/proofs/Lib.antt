@@ -3,7 +3,7 @@ pub mod Detached
 pub mod DetachedShown
 pub mod Flushed
 pub mod NeverRefused
-pub mod NoUser
+pub mod OneUser
 pub mod PaidLeads
 pub mod TableGone
 pub mod Unbound

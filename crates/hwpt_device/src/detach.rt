@@ -1,12 +1,14 @@
 //! Detach: a device translates no more.
 
-ghost use Rattle.std.specs.Prelude.{◌≡◌, ℕ, ◌&&◌, Option, None, [], IfOk, OnErr};
+ghost use Rattle.std.specs.Prelude.{◌≡◌, ◌-◌, ℕ, ◌&&◌, true, Option, None, [], IfOk, IsTrue, OnErr, OnOk};
+ghost use Rattle.std.specs.Prelude.{vec_capacity, vec_len};
 ghost use Rattle.iofd_words.specs.declared.numbers.FrameNo.{FrameNo};
 ghost use Rattle.iofd_words.specs.Checks.{detach_checks};
 ghost use Rattle.iofd_words.specs.FirstTrue.{first_true};
 ghost use Rattle.iofd_words.specs.declared.event.Event.TheVariants as event;
 ghost use Rattle.server_state.specs.Held.{objects_in};
-ghost use Rattle.hwpt_device.specs.Attaching.{has_no_user, is_automatic_at};
+ghost use Rattle.hwpt_device.specs.Attaching.{has_one_user, is_automatic_at, takes_its_table};
+ghost use Rattle.page_table_set.specs.Removed.{CanRemove};
 ghost use Rattle.server_state.specs.Seen.{seen};
 ghost use Rattle.server_state.specs.Step.{IsGranted, IsKnown, MovingSteps, ShowsSame};
 
@@ -36,7 +38,7 @@ pub fn refusal<A: Allocator>(state: &State<A>, device: DeviceNo) -> Option<Cause
 /// What it does where nothing refuses it: the device owes no area a flush any more, and an automatic page table goes
 /// with its last device. The frames of its tables are given back, and are listed by rising number.
 ///
-/// The only error is want of memory for that list. It leaves the world as it was.
+/// The only error is want of memory for that list, where a page table goes. It leaves the world as it was.
 pub fn commit<A: Allocator>(
     state: &mut State<A>,
     device: DeviceNo,
@@ -48,6 +50,8 @@ pub fn commit<A: Allocator>(
         MovingSteps at (event.Detach device) via state.old reply [] given.new.items state.new) }
     ensures err { OnErr result (ShowsSame state.old state.new) }
     ensures none_err { OnErr result (given.new.items ≡ []) }
+    ensures memory { OnErr result (IsTrue
+        (takes_its_table (objects_in state.old.objects) state.old.attachments.items device)) }
 {
     let Some(attachment) = state.attachment_of(device) else {
         // It was refused.
@@ -58,30 +62,51 @@ pub fn commit<A: Allocator>(
         // Each attached device's page table is over an address space.
         unreachable!()
     };
-    state.reserve_given(file, hwpt, given)?;
+    let goes = is_last(&state.objects, file, hwpt);
+    reserve_where(state, goes, file, hwpt, given)?;
     area_changes::pay(&mut state.objects, file, ioas, device);
     attachments::remove(&mut state.attachments, device);
     counts::one_fewer(&mut state.objects, file, Kind::Hwpt, hwpt);
-    if is_idle(&state.objects, file, hwpt) {
+    if goes {
         release::remove_page_table(state, file, hwpt, ioas, given);
     }
     Ok(Reply::Done)
 }
 
-/// Whether the page table is an automatic one with which no user is counted.
-fn is_idle<A: Allocator>(table: &ObjectTable<Held<A>, A>, file: FileNo, hwpt: ObjId) -> bool
-    ensures { result ≡ is_automatic_at (objects_in table.now) file hwpt && has_no_user table.now file hwpt }
+/// Takes memory for the numbers of the page table's frames, if it goes.
+fn reserve_where<A: Allocator>(
+    state: &State<A>,
+    goes: bool,
+    file: FileNo,
+    hwpt: ObjId,
+    given: &mut Vec<FrameNo, A>,
+) -> Result<(), NoMemory>
+    requires { IsKnown state.now }
+    ensures same { given.new.items ≡ given.old.items }
+    ensures room { goes ≡ true → OnOk result (CanRemove state.now.pool state.now.page_tables.tables file hwpt
+        (vec_capacity given.new - vec_len given.new)) }
+    ensures memory { OnErr result (goes ≡ true) }
 {
-    is_automatic(table, file, hwpt) && has_no_user(table, file, hwpt)
+    if !goes {
+        return Ok(());
+    }
+    state.reserve_given(file, hwpt, given)
 }
 
-/// Whether no user is counted with the page table.
-fn has_no_user<A: Allocator>(table: &ObjectTable<Held<A>, A>, file: FileNo, hwpt: ObjId) -> bool
-    ensures { result ≡ has_no_user table.now file hwpt }
+/// Whether the page table is an automatic one with which one user is counted.
+fn is_last<A: Allocator>(table: &ObjectTable<Held<A>, A>, file: FileNo, hwpt: ObjId) -> bool
+    ensures { result ≡ is_automatic_at (objects_in table.now) file hwpt && has_one_user table.now file hwpt }
+{
+    is_automatic(table, file, hwpt) && has_one_user(table, file, hwpt)
+}
+
+/// Whether one user is counted with the page table.
+fn has_one_user<A: Allocator>(table: &ObjectTable<Held<A>, A>, file: FileNo, hwpt: ObjId) -> bool
+    ensures { result ≡ has_one_user table.now file hwpt }
 {
     match table.users(file, Kind::Hwpt, hwpt) {
-        Ok(users) => users == 0,
-        Err(_) => true,
+        Ok(users) => users == 1,
+        Err(_) => false,
     }
 }
 

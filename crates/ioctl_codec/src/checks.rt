@@ -13,7 +13,7 @@ const SIZE_LIMIT: u32 = 4096;
 // The fields behind the size, and the bytes after the size's end, if the sizes are good for a
 // structure of this length and nothing stands in its tail.
 #[tactic(auto, unfolding(crate::specs::Refusals::size_checks))]
-pub fn parts(bytes: &[u8], known: u32) -> Result<(&[u8], &[u8]), Refusal>
+pub fn split_structure(bytes: &[u8], known: u32) -> Result<(&[u8], &[u8]), Refusal>
     requires { 4 ≤ known }
     ensures refused { cause_of result ≡ first_true (size_checks known bytes.now) }
     ensures fields { IfOk result (λ parts. parts.0.now ≡ drop 4 bytes.now) }
@@ -50,7 +50,7 @@ pub fn parts(bytes: &[u8], known: u32) -> Result<(&[u8], &[u8]), Refusal>
 // The last checks: the flags and reserved fields are supported, and behind the size's end are the bytes of so many
 // entries.
 #[tactic(auto, unfolding(crate::specs::Refusals::field_checks))]
-pub fn checked(supported: bool, count: u32, after: &[u8]) -> Result<(), Refusal>
+pub fn check_fields(supported: bool, count: u32, after: &[u8]) -> Result<(), Refusal>
     ensures refused { cause_of result ≡ first_true (field_checks supported count after.now) }
     ensures whole { IfOk result (λ _. length after.now ≡ 16 * count) }
 {

@@ -14,7 +14,7 @@ ghost use Rattle.ioctl_codec.specs.Refusals.{read_count, after_size, OnMemory, G
 ghost use Rattle.ioctl_codec.specs.Table.{has_count, placed, structure_in};
 ghost use Rattle.ioctl_codec.specs.declared.command.Command.{Command};
 
-use crate::checks::{checked, parts};
+use crate::checks::{check_fields, split_structure};
 use crate::command::{Command, DecodeError, RangesRequest, kept_iova};
 use crate::entries::read_entries;
 use crate::fields::read_fields;
@@ -32,7 +32,7 @@ use std::alloc::Allocator;
 
 // The numbers in a structure behind which no entries follow, unless something refuses the bytes.
 #[inline(always)]
-fn alone(structure: Structure, bytes: &[u8]) -> Result<[u64; 8], Refusal>
+fn numbers_of(structure: Structure, bytes: &[u8]) -> Result<[u64; 8], Refusal>
     requires known { structure.length ≡ length_of (structure_in structure) }
     requires few { length structure.fields.now ≤ 8 }
     requires uncounted { has_count (structure_in structure).fields ≡ false }
@@ -40,9 +40,9 @@ fn alone(structure: Structure, bytes: &[u8]) -> Result<[u64; 8], Refusal>
     ensures numbers { IfOk result (λ numbers. let s = structure_in structure in
         placed 0 s.fields numbers ≡ read_numbers s bytes.now) }
 {
-    let (fields, after) = parts(bytes, structure.length)?;
+    let (fields, after) = split_structure(bytes, structure.length)?;
     let (numbers, allowed) = read_fields(structure.fields, fields);
-    checked(allowed, 0, after)?;
+    check_fields(allowed, 0, after)?;
     Ok(numbers)
 }
 
@@ -78,7 +78,7 @@ fn map_of(numbers: &[u64; 8]) -> MapRequest
 }
 
 // Reading by the command's number, where no entries follow the structure.
-fn read_alone<A: Allocator>(nr: u32, bytes: &[u8]) -> Result<Command<A>, Refusal>
+fn read_without_entries<A: Allocator>(nr: u32, bytes: &[u8]) -> Result<Command<A>, Refusal>
     requires { nr ≢ 0x3b82 }
     ensures refused { cause_of result ≡ refusal nr bytes.now }
     ensures number { IfOk result (λ c. (structure_of c).number ≡ nr) }
@@ -87,28 +87,28 @@ fn read_alone<A: Allocator>(nr: u32, bytes: &[u8]) -> Result<Command<A>, Refusal
 {
     match nr {
         DESTROY => {
-            let numbers = alone(DESTROY_ROW, bytes)?;
+            let numbers = numbers_of(DESTROY_ROW, bytes)?;
             Ok(Command::Destroy(ObjId(low(numbers[0]))))
         }
         IOAS_ALLOC => {
-            alone(IOAS_ALLOC_ROW, bytes)?;
+            numbers_of(IOAS_ALLOC_ROW, bytes)?;
             Ok(Command::IoasAlloc)
         }
-        IOAS_COPY => Ok(Command::IoasCopy(copy_of(&alone(IOAS_COPY_ROW, bytes)?))),
+        IOAS_COPY => Ok(Command::IoasCopy(copy_of(&numbers_of(IOAS_COPY_ROW, bytes)?))),
         IOAS_IOVA_RANGES => {
-            let numbers = alone(IOAS_IOVA_RANGES_ROW, bytes)?;
+            let numbers = numbers_of(IOAS_IOVA_RANGES_ROW, bytes)?;
             let (ioas, places) = (ObjId(low(numbers[0])), low(numbers[1]));
             Ok(Command::IoasIovaRanges(RangesRequest { ioas, places }))
         }
-        IOAS_MAP => Ok(Command::IoasMap(map_of(&alone(IOAS_MAP_ROW, bytes)?))),
+        IOAS_MAP => Ok(Command::IoasMap(map_of(&numbers_of(IOAS_MAP_ROW, bytes)?))),
         IOAS_UNMAP => {
-            let numbers = alone(IOAS_UNMAP_ROW, bytes)?;
+            let numbers = numbers_of(IOAS_UNMAP_ROW, bytes)?;
             let (ioas, iova) = (ObjId(low(numbers[0])), Iova(numbers[1]));
             let length = numbers[2];
             Ok(Command::IoasUnmap(UnmapRequest { ioas, iova, length }))
         }
         HWPT_ALLOC => {
-            let numbers = alone(HWPT_ALLOC_ROW, bytes)?;
+            let numbers = numbers_of(HWPT_ALLOC_ROW, bytes)?;
             let (device, ioas) = (ObjId(low(numbers[1])), ObjId(low(numbers[2])));
             Ok(Command::HwptAlloc(HwptRequest { device, ioas }))
         }
@@ -125,10 +125,10 @@ fn ioas_allow_iovas_at(bytes: &[u8]) -> Result<(ObjId, u32, &[u8]), Refusal>
     ensures after { IfOk result (λ found. found.2.now ≡ after_size bytes.now) }
     ensures whole { IfOk result (λ found. length found.2.now ≡ 16 * found.1) }
 {
-    let (fields, after) = parts(bytes, IOAS_ALLOW_IOVAS_ROW.length)?;
+    let (fields, after) = split_structure(bytes, IOAS_ALLOW_IOVAS_ROW.length)?;
     let (numbers, allowed) = read_fields(IOAS_ALLOW_IOVAS_ROW.fields, fields);
     let (ioas, num_iovas) = (ObjId(low(numbers[0])), low(numbers[1]));
-    checked(allowed, num_iovas, after)?;
+    check_fields(allowed, num_iovas, after)?;
     Ok((ioas, num_iovas, after))
 }
 
@@ -161,7 +161,7 @@ fn read<A: Allocator>(alloc: A, nr: u32, bytes: &[u8]) -> Result<Command<A>, Dec
     if nr == IOAS_ALLOW_IOVAS {
         return ioas_allow_iovas_of(alloc, bytes);
     }
-    match read_alone(nr, bytes) {
+    match read_without_entries(nr, bytes) {
         Err(refusal) => Err(DecodeError::Refused(refusal)),
         Ok(command) => Ok(command),
     }

@@ -31,7 +31,7 @@ pub enum Role {
     Flags(u32),
     // A number that the command carries.
     Argument,
-    // The same, and what is written back has the answer in its place.
+    // A number that the command carries, and in whose place the answer is written back.
     Answered,
     // How many entries follow the structure.
     Count,

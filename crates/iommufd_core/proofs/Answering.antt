@@ -14,12 +14,13 @@ use Rattle.iofd_words.specs.declared.numbers.FrameNo.{FrameNo}
 use Rattle.iofd_words.specs.declared.numbers.PassNo.{PassNo}
 use Rattle.iofd_words.specs.declared.refusal.Cause.{Cause}
 use Rattle.iofd_words.specs.declared.reply.Reply.{Reply}
-use Rattle.iofd_words.specs.declared.rows.Object.{Object}
 use Rattle.iommufd_core.specs.Server.{takes_memory}
 use Rattle.iofd_words.specs.declared.reply.Reply.TheVariants as reply
 use Rattle.iofd_runs.proofs.StillTabled.{MakesNone, TakesNone}
 use Rattle.server_state.proofs.Still.{chosen_moves}
 use Rattle.server_state.specs.Choice.{IsChosen}
+use Rattle.server_state.specs.Held.{objects_in}
+use Rattle.server_state.specs.Shows.{Shows}
 use Rattle.server_state.specs.Step.{ChosenSteps, IsGranted, IsGrantedAt, IsGrantedFor, IsGrantedVia, IsKnown}
 use Rattle.server_state.specs.Step.{MovingSteps, Steps, recorded}
 use Rattle.server_state.specs.declared.state.State.{State}
@@ -88,6 +89,14 @@ module _ {A : Type 0} (at : ℕ) (e f : Event A) (via : Option FrameNo) (s : Sta
   granted_known =
       record { at = at; world = granted.granted.world; tidy = granted.granted.tidy; shows = granted.granted.shows }
 
-pub takes_as : {A : Type 0} (objects : List Object) (e f : Event A) → e ≡ f → IsTrue (takes_memory objects f)
-    → IsTrue (takes_memory objects e)
-takes_as objects e f same takes = subst (λ (x : Event _). IsTrue (takes_memory objects x)) (sym same) takes
+pub takes_as : {A : Type 0} (s : State A) (e f : Event A) → e ≡ f
+    → IsTrue (takes_memory (objects_in s.objects) s.attachments.items f)
+    → IsTrue (takes_memory (objects_in s.objects) s.attachments.items e)
+takes_as s e f same takes =
+    subst (λ (x : Event _). IsTrue (takes_memory (objects_in s.objects) s.attachments.items x)) (sym same) takes
+
+-- of a world that is shown
+pub takes_in : {A : Type 0} (w : World) (s : State A) → Shows w s → (e : Event A)
+    → IsTrue (takes_memory (objects_in s.objects) s.attachments.items e)
+    → IsTrue (takes_memory w.objects w.attachments e)
+takes_in w s shows e takes = rw (shows.objects.rows, shows.devices.attached) takes

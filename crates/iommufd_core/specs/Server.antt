@@ -4,7 +4,9 @@ use Rattle.iofd_words.specs.Allowed.{ranges_of}
 use Rattle.iofd_words.specs.Checks.{refusal}
 use Rattle.iofd_words.specs.declared.event.Event.{Event}
 use Rattle.iofd_words.specs.declared.event.Event.TheVariants as event
+use Rattle.iofd_words.specs.declared.rows.Attachment.{Attachment}
 use Rattle.iofd_words.specs.declared.rows.Object.{Object}
+use Rattle.hwpt_device.specs.Attaching.{takes_its_table}
 use Rattle.iommufd_core.specs.History.{History, world}
 use Rattle.server_state.specs.Tables.{has_page_table, has_page_tables}
 
@@ -13,30 +15,30 @@ pub record Server (A : Type 0) : Type 0 where
   pub history : History A
   pub room : ℕ
 
--- the events that may take memory beside their record's, where these objects stand: those by which something comes, and
--- those by which page tables may go, for the list of the frames that they give back
-abbrev pub takes_memory : {A : Type 0} → List Object → Event A → Bool
-takes_memory objects (event.IoasAlloc file) = true
-takes_memory objects (event.AllowIovas file ioas ranges) = nat_lt 0 (length ranges)
-takes_memory objects (event.Map file request) = true
-takes_memory objects (event.Copy file request) = true
-takes_memory objects (event.Unmap file request) = false
-takes_memory objects (event.HwptAlloc file request) = true
-takes_memory objects (event.Destroy file id) = has_page_table objects file id
-takes_memory objects (event.Close file) = has_page_tables objects file
-takes_memory objects (event.UserMap user va) = true
-takes_memory objects (event.UserUnmap user va) = false
-takes_memory objects (event.UserWrite user va bytes) = false
-takes_memory objects (event.Bind file device) = true
-takes_memory objects (event.Unbind file id) = false
-takes_memory objects (event.Attach device pt_id) = true
-takes_memory objects (event.Detach device) = true
-takes_memory objects (event.Flush device) = false
-takes_memory objects (event.DeviceWrite device iova bytes) = false
+-- the events that may take memory beside their record's, where these objects and attachments stand: those by which
+-- something comes, and those by which page tables go, for the list of the frames that they give back
+abbrev pub takes_memory : {A : Type 0} → List Object → List Attachment → Event A → Bool
+takes_memory objects attachments (event.IoasAlloc file) = true
+takes_memory objects attachments (event.AllowIovas file ioas ranges) = nat_lt 0 (length ranges)
+takes_memory objects attachments (event.Map file request) = true
+takes_memory objects attachments (event.Copy file request) = true
+takes_memory objects attachments (event.Unmap file request) = false
+takes_memory objects attachments (event.HwptAlloc file request) = true
+takes_memory objects attachments (event.Destroy file id) = has_page_table objects file id
+takes_memory objects attachments (event.Close file) = has_page_tables objects file
+takes_memory objects attachments (event.UserMap user va) = true
+takes_memory objects attachments (event.UserUnmap user va) = false
+takes_memory objects attachments (event.UserWrite user va bytes) = false
+takes_memory objects attachments (event.Bind file device) = true
+takes_memory objects attachments (event.Unbind file id) = false
+takes_memory objects attachments (event.Attach device pt_id) = true
+takes_memory objects attachments (event.Detach device) = takes_its_table objects attachments device
+takes_memory objects attachments (event.Flush device) = false
+takes_memory objects attachments (event.DeviceWrite device iova bytes) = false
 
 -- the only time at which memory may be wanting: there is no place for the record, or for the list that the event
 -- carries, or nothing refuses the event and it is one that may take memory
 abbrev pub MayWant : {A : Type 0} → Server A → Event A → Type 0
 MayWant s e =
     ((s.room ≡ 0) ⊎ (0 < length (ranges_of e)))
-    ⊎ ((refusal (world s.history) e ≡ None) × IsTrue (takes_memory (world s.history).objects e))
+    ⊎ ((refusal (world s.history) e ≡ None) × IsTrue (takes_memory (world s.history).objects (world s.history).attachments e))

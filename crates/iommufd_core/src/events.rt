@@ -40,7 +40,7 @@ pub(crate) fn answer<A: Allocator + Copy>(
         Answered at act.now.event act.now.via state.old reply taken.new.items given.new.items state.new) }
     ensures err { OnErr result (TidyShowsSame at state.old state.new) }
     ensures memory { OnErr result ((first_true (checks (seen state.old) act.now.event) ≡ None)
-        × IsTrue (takes_memory (objects_in state.old.objects) act.now.event)) }
+        × IsTrue (takes_memory (objects_in state.old.objects) state.old.attachments.items act.now.event)) }
 {
     match refusal(state, &act.event) {
         Some(cause) => Ok(Reply::Refused(Refusal { cause })),
@@ -93,7 +93,7 @@ fn commit<A: Allocator + Copy>(
     ensures ok { IfOk result (λ reply.
         MovingSteps at act.now.event act.now.via state.old reply taken.new.items given.new.items state.new) }
     ensures err { OnErr result (TidyShowsSame at state.old state.new) }
-    ensures memory { OnErr result (IsTrue (takes_memory (objects_in state.old.objects) act.now.event)) }
+    ensures memory { OnErr result (IsTrue (takes_memory (objects_in state.old.objects) state.old.attachments.items act.now.event)) }
 {
     match &act.event {
         Event::IoasAlloc(file) => ioas_alloc::commit(state, *file),

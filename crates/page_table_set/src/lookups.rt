@@ -57,7 +57,7 @@ pub(crate) fn has_over(tables: &[Hwpt], file: FileNo, ioas: ObjId) -> bool
     }
 }
 
-/// The same, by search.
+/// Whether one of them is over it, by searching the file's.
 fn own_over(tables: &[Hwpt], file: FileNo, ioas: ObjId) -> bool
     requires { IsTrue (are_by_file tables.now) }
     ensures { result
@@ -66,7 +66,7 @@ fn own_over(tables: &[Hwpt], file: FileNo, ioas: ObjId) -> bool
     any_over(of_file(tables, file), file, ioas)
 }
 
-/// The same, each of them looked at.
+/// Whether one of them is over it, by looking at each.
 fn any_over(tables: &[Hwpt], file: FileNo, ioas: ObjId) -> bool
     ensures { result
         ≡ list_any (λ h. h.object.file.0 == file.0 && objects.is_hwpt_over ioas h.object.kind) tables.now }
@@ -97,7 +97,7 @@ pub(crate) fn find(tables: &[Hwpt], file: FileNo, id: ObjId) -> Option<&Hwpt>
     }
 }
 
-/// The same, by search.
+/// The file's page table of this id, by searching the file's.
 fn find_own(tables: &[Hwpt], file: FileNo, id: ObjId) -> Option<&Hwpt>
     requires { IsTrue (are_by_file tables.now) }
     ensures { option_copied result ≡ hwpt_of tables.now file id }
@@ -105,7 +105,7 @@ fn find_own(tables: &[Hwpt], file: FileNo, id: ObjId) -> Option<&Hwpt>
     find_in(of_file(tables, file), file, id)
 }
 
-/// The same, each of them looked at.
+/// The file's page table of this id, by looking at each.
 fn find_in(tables: &[Hwpt], file: FileNo, id: ObjId) -> Option<&Hwpt>
     ensures { option_copied result ≡ hwpt_of tables.now file id }
 {
@@ -127,7 +127,7 @@ pub(crate) fn place(tables: &[Hwpt], file: FileNo, id: ObjId) -> Option<usize>
     }
 }
 
-/// The same, by search.
+/// Its place, by searching the file's.
 fn own_place(tables: &[Hwpt], file: FileNo, id: ObjId) -> Option<usize>
     requires { IsTrue (are_by_file tables.now) }
     ensures value { result ≡ position (λ h. objects.is_object file id h.object) tables.now }
@@ -137,7 +137,7 @@ fn own_place(tables: &[Hwpt], file: FileNo, id: ObjId) -> Option<usize>
     Some(count_below(tables, file) + behind)
 }
 
-/// The same, each of them looked at.
+/// Its place, by looking at each.
 fn place_in(tables: &[Hwpt], file: FileNo, id: ObjId) -> Option<usize>
     ensures value { result ≡ position (λ h. objects.is_object file id h.object) tables.now }
     ensures within { IfSome result (λ place. place < length tables.now) }

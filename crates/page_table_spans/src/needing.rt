@@ -88,7 +88,8 @@ fn end_of_table(level: u8, address: u64) -> u64
     (number(level, address / PAGE_SIZE) + 1) << (9 * level + 12)
 }
 
-// The same, area by area. Two neighbours share at most their border.
+// How many tables of this level the areas go through, counted area by area: two neighbours share at most the one at
+// their border.
 fn count_at<A: Allocator>(level: u8, areas: Iter<'_, A>) -> u64
     requires pages { All (λ area. is_whole_pages area.span ≡ true) areas }
     requires apart { AreApart areas }

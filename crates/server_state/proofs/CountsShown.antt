@@ -32,7 +32,7 @@ use Rattle.server_state.specs.Shows.{ObjectsShown}
 use Rattle.server_state.specs.Users.{AreCounted, devices_on, tables_over, users_at}
 use Rattle.server_state.specs.declared.held.Held.{Held}
 
-on_own : (a : Attachment) → on_by a a.file a.hwpt ≡ 1
+pub on_own : (a : Attachment) → on_by a a.file a.hwpt ≡ 1
 on_own a = rw (itself a.file.0, itself a.hwpt.0) refl
   where
     itself : (n : ℕ) → eqb n n ≡ true

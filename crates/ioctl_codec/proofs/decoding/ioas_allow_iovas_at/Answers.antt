@@ -10,18 +10,18 @@ returns-in_err-fields-clause-refused c =
     refused_early ioas_allow_iovas c.args.bytes.now c.from_residual.result c.in_err-fields.field-0.0
     c.from_residual.ensures.1 c.in_err-fields.ensures.refused
 
-pub returns-in_err-checked-clause-refused : goal.returns-in_err-checked-clause-refused
+pub returns-in_err-check_fields-clause-refused : goal.returns-in_err-check_fields-clause-refused
 unfolding read_numbers
-returns-in_err-checked-clause-refused c =
+returns-in_err-check_fields-clause-refused c =
     let parts = c.in_ok-fields in
-    let back = c.from_residual-in_err-checked in
+    let back = c.from_residual-in_err-check_fields in
     let read = c.read_fields-allowed in
     refused_late ioas_allow_iovas c.args.bytes.now parts.after.now read.result.1 c.low-num_iovas.result back.result
-    c.in_err-checked.field-0.0 back.ensures.1
+    c.in_err-check_fields.field-0.0 back.ensures.1
     parts.ensures.refused parts.ensures.after
     (rw parts.ensures.fields at read.ensures.allowed)
     (c.low-num_iovas.ensures ∙ ap (λ (ns : List ℕ). slice_index ns 1) (rw parts.ensures.fields at read.ensures.numbers))
-    c.in_err-checked.ensures.refused
+    c.in_err-check_fields.ensures.refused
 
 pub returns-clause-refused : goal.returns-clause-refused
 unfolding read_numbers
@@ -32,4 +32,4 @@ returns-clause-refused c =
     parts.ensures.refused parts.ensures.after
     (rw parts.ensures.fields at read.ensures.allowed)
     (c.low-num_iovas.ensures ∙ ap (λ (ns : List ℕ). slice_index ns 1) (rw parts.ensures.fields at read.ensures.numbers))
-    c.in_ok-checked.ensures.refused
+    c.in_ok-check_fields.ensures.refused

@@ -2,9 +2,7 @@ use Rattle.std.proofs.Common.{[], IsTrue, refl, sym, subst}
 use Rattle.iofd_words.specs.declared.event.Event.{Event}
 use Rattle.iommufd_core.proofs.Answering.{granted_as, granted_at, granted_known, granted_via, if_ok, none_chosen}
 use Rattle.iommufd_core.proofs.Answering.{none_moved, on_err, takes_as}
-use Rattle.iommufd_core.specs.Server.{takes_memory}
 use Rattle.server_state.proofs.Errors.{on_err_same}
-use Rattle.server_state.specs.Held.{objects_in}
 use Rattle.server_state.specs.Step.{MovingSteps}
 use Rattle.iommufd_core.proofs.events.commit.Goals as goal
 
@@ -189,15 +187,11 @@ returns-in-Detach-clause-err g c =
 
 pub returns-in-Destroy-clause-memory : goal.returns-in-Destroy-clause-memory
 returns-in-Destroy-clause-memory g c = on_err c.commit-in-Destroy.result _ _
-    (λ has. subst (λ (e : Event _). IsTrue (takes_memory (objects_in c.args.state.now.objects) e))
-    (sym c.in-Destroy.is) has)
-    c.commit-in-Destroy.ensures.memory
+    (takes_as c.args.state.now _ _ c.in-Destroy.is) c.commit-in-Destroy.ensures.memory
 
 pub returns-in-Close-clause-memory : goal.returns-in-Close-clause-memory
 returns-in-Close-clause-memory g c = on_err c.commit-in-Close.result _ _
-    (λ has. subst (λ (e : Event _). IsTrue (takes_memory (objects_in c.args.state.now.objects) e))
-    (sym c.in-Close.is) has)
-    c.commit-in-Close.ensures.memory
+    (takes_as c.args.state.now _ _ c.in-Close.is) c.commit-in-Close.ensures.memory
 
 -- ---- each is granted, as the event that it is
 
@@ -228,6 +222,14 @@ commit-requires-in-Attach-clause-granted g c =
 pub commit-requires-in-Detach-clause-granted : goal.commit-requires-in-Detach-clause-granted
 commit-requires-in-Detach-clause-granted g c =
     granted_as c.args.at _ _ c.args.act.now.via c.args.state.now c.in-Detach.is c.requires.granted
+
+pub commit-requires : goal.commit-requires
+commit-requires g c =
+    granted_as c.args.at _ _ c.args.act.now.via c.args.state.now c.in-IoasAlloc.is c.requires.granted
+
+pub commit-requires-in-Bind : goal.commit-requires-in-Bind
+commit-requires-in-Bind g c =
+    granted_as c.args.at _ _ c.args.act.now.via c.args.state.now c.in-Bind.is c.requires.granted
 
 pub commit-requires-in-Unmap : goal.commit-requires-in-Unmap
 commit-requires-in-Unmap g c =
@@ -261,40 +263,40 @@ commit-requires-in-DeviceWrite g c =
 
 pub returns-in-IoasAlloc-clause-memory : goal.returns-in-IoasAlloc-clause-memory
 returns-in-IoasAlloc-clause-memory g c =
-    on_err_same c.commit.result _ (takes_as (objects_in c.args.state.now.objects) _ _ c.in-IoasAlloc.is refl)
+    on_err_same c.commit.result _ (takes_as c.args.state.now _ _ c.in-IoasAlloc.is refl)
 
 pub returns-in-Map-clause-memory : goal.returns-in-Map-clause-memory
 returns-in-Map-clause-memory g c =
-    on_err_same c.commit-in-Map.result _ (takes_as (objects_in c.args.state.now.objects) _ _ c.in-Map.is refl)
+    on_err_same c.commit-in-Map.result _ (takes_as c.args.state.now _ _ c.in-Map.is refl)
 
 pub returns-in-Copy-clause-memory : goal.returns-in-Copy-clause-memory
 returns-in-Copy-clause-memory g c =
-    on_err_same c.commit-in-Copy.result _ (takes_as (objects_in c.args.state.now.objects) _ _ c.in-Copy.is refl)
+    on_err_same c.commit-in-Copy.result _ (takes_as c.args.state.now _ _ c.in-Copy.is refl)
 
 pub returns-in-HwptAlloc-clause-memory : goal.returns-in-HwptAlloc-clause-memory
 returns-in-HwptAlloc-clause-memory g c =
     on_err_same c.commit-in-HwptAlloc.result _
-    (takes_as (objects_in c.args.state.now.objects) _ _ c.in-HwptAlloc.is refl)
+    (takes_as c.args.state.now _ _ c.in-HwptAlloc.is refl)
 
 pub returns-in-UserMap-clause-memory : goal.returns-in-UserMap-clause-memory
 returns-in-UserMap-clause-memory g c =
-    on_err_same c.commit-in-UserMap.result _ (takes_as (objects_in c.args.state.now.objects) _ _ c.in-UserMap.is refl)
+    on_err_same c.commit-in-UserMap.result _ (takes_as c.args.state.now _ _ c.in-UserMap.is refl)
 
 pub returns-in-Bind-clause-memory : goal.returns-in-Bind-clause-memory
 returns-in-Bind-clause-memory g c =
-    on_err_same c.commit-in-Bind.result _ (takes_as (objects_in c.args.state.now.objects) _ _ c.in-Bind.is refl)
+    on_err_same c.commit-in-Bind.result _ (takes_as c.args.state.now _ _ c.in-Bind.is refl)
 
 pub returns-in-Attach-clause-memory : goal.returns-in-Attach-clause-memory
 returns-in-Attach-clause-memory g c =
-    on_err_same c.commit-in-Attach.result _ (takes_as (objects_in c.args.state.now.objects) _ _ c.in-Attach.is refl)
+    on_err_same c.commit-in-Attach.result _ (takes_as c.args.state.now _ _ c.in-Attach.is refl)
 
 pub returns-in-Detach-clause-memory : goal.returns-in-Detach-clause-memory
-returns-in-Detach-clause-memory g c =
-    on_err_same c.commit-in-Detach.result _ (takes_as (objects_in c.args.state.now.objects) _ _ c.in-Detach.is refl)
+returns-in-Detach-clause-memory g c = on_err c.commit-in-Detach.result _ _
+    (takes_as c.args.state.now _ _ c.in-Detach.is) c.commit-in-Detach.ensures.memory
 
 pub returns-in-AllowIovas-clause-memory : goal.returns-in-AllowIovas-clause-memory
 returns-in-AllowIovas-clause-memory g c = on_err c.commit-in-AllowIovas.result _ _
-    (takes_as (objects_in c.args.state.now.objects) _ _ c.in-AllowIovas.is) c.commit-in-AllowIovas.ensures.memory
+    (takes_as c.args.state.now _ _ c.in-AllowIovas.is) c.commit-in-AllowIovas.ensures.memory
 
 pub returns-in-Map-clause-err : goal.returns-in-Map-clause-err
 returns-in-Map-clause-err g c = c.commit-in-Map.ensures.err

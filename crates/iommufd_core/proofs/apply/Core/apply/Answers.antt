@@ -7,7 +7,8 @@ use Rattle.iommufd_core.proofs.Roomless.{no_room, of_success}
 use Rattle.server_state.specs.Choice.{MayUse}
 use Rattle.iommufd_core.specs.History.{HasOneMore}
 use Rattle.server_state.specs.Step.{recorded}
-use Rattle.iommufd_core.specs.Server.{Server, takes_memory}
+use Rattle.iommufd_core.specs.Server.{Server}
+use Rattle.iommufd_core.proofs.Answering.{takes_in}
 use Rattle.server_state.proofs.ViewShown.{same_refusal}
 use Rattle.server_state.specs.Step.{Answered, IsCalled, TidyShowsSame}
 use Rattle.iommufd_core.proofs.apply.Core.apply.Goals as goal
@@ -113,8 +114,7 @@ returns-in_default-answer-clause-memory g c =
       sym (same_refusal (world_of old.config records) old c.self.invariant.shows
           (tidy_run old.config records c.self.invariant.run).tabled.owned c.args.act.now.event)
           ∙ wants.0,
-      subst (λ objects. IsTrue (takes_memory objects c.args.act.now.event))
-          (sym c.self.invariant.shows.objects.rows) wants.1,
+      takes_in (world_of old.config records) old c.self.invariant.shows c.args.act.now.event wants.1,
     ))
 
 pub answer-requires-clause-called : goal.answer-requires-clause-called

@@ -1,5 +1,5 @@
-use Rattle.hwpt_device.proofs.NoUser.{none_there, users_there}
-use Rattle.hwpt_device.proofs.detach.has_no_user.Goals as goal
+use Rattle.hwpt_device.proofs.OneUser.{none_there, users_there}
+use Rattle.hwpt_device.proofs.detach.has_one_user.Goals as goal
 
 pub returns-in-Ok : goal.returns-in-Ok
 returns-in-Ok g c = users_there c.args.table.now c.args.file c.args.hwpt c.in-Ok.users c.in-Ok.ensures.ok

@@ -3,7 +3,7 @@ use Rattle.ioctl_codec.specs.Refusals.{read_numbers, read_values}
 use Rattle.ioctl_codec.specs.Table.{structure_in}
 use Rattle.ioctl_codec.proofs.Refusing.{refused_early, checked_late, refused_late}
 use Rattle.ioctl_codec.proofs.Rows.{uncounted}
-use Rattle.ioctl_codec.proofs.decoding.alone.Goals as goal
+use Rattle.ioctl_codec.proofs.decoding.numbers_of.Goals as goal
 
 pub returns-in_err-fields-clause-refused : goal.returns-in_err-fields-clause-refused
 returns-in_err-fields-clause-refused c =
@@ -11,18 +11,18 @@ returns-in_err-fields-clause-refused c =
     refused_early (structure_in c.args.structure) c.args.bytes.now c.from_residual.result early.field-0.0
     c.from_residual.ensures.1 (rw c.requires.known at early.ensures.refused)
 
-pub returns-in_err-checked-clause-refused : goal.returns-in_err-checked-clause-refused
+pub returns-in_err-check_fields-clause-refused : goal.returns-in_err-check_fields-clause-refused
 unfolding read_numbers
-returns-in_err-checked-clause-refused c =
+returns-in_err-check_fields-clause-refused c =
     let s = structure_in c.args.structure in
     let parts = c.in_ok-fields in
-    let back = c.from_residual-in_err-checked in
+    let back = c.from_residual-in_err-check_fields in
     refused_late s c.args.bytes.now parts.after.now c.read_fields-allowed.result.1 0 back.result
-    c.in_err-checked.field-0.0 back.ensures.1
+    c.in_err-check_fields.field-0.0 back.ensures.1
     (rw c.requires.known at parts.ensures.refused) parts.ensures.after
     (rw parts.ensures.fields at c.read_fields-allowed.ensures.allowed)
     (sym (uncounted s.fields (read_values s c.args.bytes.now) c.requires.uncounted))
-    c.in_err-checked.ensures.refused
+    c.in_err-check_fields.ensures.refused
 
 pub returns-clause-refused : goal.returns-clause-refused
 unfolding read_numbers
@@ -33,4 +33,4 @@ returns-clause-refused c =
     (rw c.requires.known at parts.ensures.refused) parts.ensures.after
     (rw parts.ensures.fields at c.read_fields-allowed.ensures.allowed)
     (sym (uncounted s.fields (read_values s c.args.bytes.now) c.requires.uncounted))
-    c.in_ok-checked.ensures.refused
+    c.in_ok-check_fields.ensures.refused
