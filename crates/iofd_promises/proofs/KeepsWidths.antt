@@ -17,24 +17,25 @@ use Rattle.iofd_rows.proofs.Owed.{each_owed}
 use Rattle.iofd_runs.proofs.KeepsDebts.{IsSound, keeps_sound, tabled_sound}
 use Rattle.iofd_runs.proofs.SameSettings.{changed_settings}
 use Rattle.iofd_promises.proofs.Comes.{came, same_kind}
-use Rattle.iofd_promises.proofs.Moves.{AttachmentsMove, FewerAttachments, OneAttachment, SameAttachments, changed_moves}
-use Rattle.iofd_promises.proofs.Widths.{IsOfWidth}
+use Rattle.iofd_runs.proofs.Moves.{AttachmentsMove, FewerAttachments, OneAttachment, SameAttachments, changed_moves}
+use Rattle.iofd_runs.proofs.Widths.{IsOfWidth}
 
 -- an attachment is an old one, or it is of its device's width
 abbrev AttachCame : World → List Object → Attachment → Type 0
 AttachCame w objects a = IsIn w.attachments a ⊎ IsOfWidth w.settings objects a
 
-attach_came : (w : World) (objects : List Object) (new : List Attachment) → AttachmentsMove w objects new
-    → have_own_ids w.objects ≡ true → (a : Attachment) → IsIn new a → AttachCame w objects a
-attach_came w objects new (SameAttachments is) own a within =
-    inl (subst (λ (those : List Attachment). IsIn those a) is within)
-attach_came w objects new (FewerAttachments stays is) own a within =
-    inl (in_filter stays w.attachments a (subst (λ (those : List Attachment). IsIn those a) is within)).0
-attach_came w objects new (OneAttachment attachment width is) own a within =
+attach_came : {A : Type 0} (w : World) (e : Event A) (answer : Reply) (objects : List Object) (new : List Attachment)
+    → AttachmentsMove w e answer objects new → refusal w e ≡ None → Answers w e answer → have_own_ids w.objects ≡ true
+    → (a : Attachment) → IsIn new a → AttachCame w objects a
+attach_came w e answer objects new (SameAttachments is) none answers own a within = inl (rw is at within)
+attach_came w e answer objects new (FewerAttachments stays is) none answers own a within =
+    inl (in_filter stays w.attachments a (rw is at within)).0
+attach_came w e answer objects new (OneAttachment attachment bound binding of_file free width is) none answers own a
+    within =
     ⊎_elim
-    (λ (one : attachment ≡ a). inr (subst (IsOfWidth w.settings objects) one (width own)))
+    (λ (one : attachment ≡ a). inr (subst (IsOfWidth w.settings objects) one (width none answers own)))
     (λ (old : IsIn w.attachments a). inl old)
-    (in_with_attachment attachment w.attachments a (subst (λ (those : List Attachment). IsIn those a) is within))
+    (in_with_attachment attachment w.attachments a (rw is at within))
 
 pub record WidthSound (settings : Settings) (w : World) : Type 0 where
   pub opened : w.settings ≡ settings
@@ -46,8 +47,9 @@ pub keeps_widths : {A : Type 0} → (settings : Settings) (at : ℕ) (w : World)
 keeps_widths settings at w e answer none answers s = record {
   opened = changed_settings at w e answer ∙ s.opened;
   sound = keeps_sound at w e answer none answers s.sound;
-  widths = λ a within. by_row a (attach_came w (changed at w e answer).objects (changed at w e answer).attachments
-      (changed_moves at w e answer none answers).attachments s.sound.own_ids a within);
+  widths = λ a within. by_row a (attach_came w e answer (changed at w e answer).objects
+      (changed at w e answer).attachments (changed_moves at w e answer).attachments none answers s.sound.own_ids a
+      within);
 }
   where
     by_row : (a : Attachment) → AttachCame w (changed at w e answer).objects a

@@ -1,5 +1,6 @@
 pub mod AttachMoves
 pub mod AttachedPages
+pub mod Branches
 pub mod CopiedPages
 pub mod CopySource
 pub mod KeepsApart
@@ -16,6 +17,7 @@ pub mod Known
 pub mod MappedAt
 pub mod MappedPages
 pub mod MissingTables
+pub mod Moves
 pub mod NotRefused
 pub mod ObjectsGo
 pub mod OwnIds
@@ -27,3 +29,5 @@ pub mod SameSettings
 pub mod SameTables
 pub mod StillTabled
 pub mod TableCounts
+pub mod TableEvents
+pub mod Widths
