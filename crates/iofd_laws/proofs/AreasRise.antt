@@ -19,7 +19,6 @@ use Rattle.iofd_rows.proofs.Bools.{and_true, both_true}
 use Rattle.iofd_rows.proofs.Found.{all_filter, all_weaker}
 use Rattle.iofd_rows.proofs.OwnMemory.{all-with_area}
 use Rattle.iofd_runs.proofs.Moves.{AreasMove, SameAreas, FewerAreas, OtherPhases, OneArea, changed_moves}
-use Rattle.iofd_words.specs.declared.rows.MemoryObject.{MemoryObject}
 use Rattle.std.proofs.Common.{not}
 
 -- ---- one more area
@@ -77,12 +76,12 @@ rise-map phase (a ∷ areas) = rw (all-map a phase areas, rise-map phase areas) 
 pub keeps_rise : {A : Type 0} → (at : ℕ) (w : World) (e : Event A) (answer : Reply) → refusal w e ≡ None
     → Answers w e answer → starts_rise w.areas ≡ true → starts_rise (changed at w e answer).areas ≡ true
 keeps_rise at w e answer none answers rise =
-    by_move (changed at w e answer).areas (changed at w e answer).memory (changed_moves at w e answer).areas
+    by_move (changed at w e answer) (changed_moves at w e answer).areas
   where
-    by_move : (new : List Area) (memory : List MemoryObject) → AreasMove at w e answer new memory
-        → starts_rise new ≡ true
-    by_move new memory (SameAreas is same) = rw is rise
-    by_move new memory (FewerAreas goes is left) = rw is (rise-filter (λ (a : Area). not (goes a)) w.areas rise)
-    by_move new memory (OtherPhases phase lives is same) = rw is (rise-map phase w.areas ∙ rise)
-    by_move new memory (OneArea number file request iova passed lies makes is under) =
+    by_move : (new : World) → AreasMove at w e answer new
+        → starts_rise new.areas ≡ true
+    by_move new (SameAreas is same) = rw is rise
+    by_move new (FewerAreas goes is left) = rw is (rise-filter (λ (a : Area). not (goes a)) w.areas rise)
+    by_move new (OtherPhases phase lives is same) = rw is (rise-map phase w.areas ∙ rise)
+    by_move new (OneArea number file request iova passed lies makes alike is under) =
         rw is (rise-with_area (mapped_area number file request iova) w.areas rise)

@@ -230,18 +230,18 @@ keeps_object : {A : Type 0} → (at : ℕ) (w : World) (e : Event A) (answer : R
     → list_any (λ (a : Area). eqb a.memory number) (changed at w e answer).areas ≡ true
     → object_numbered (changed at w e answer).memory number ≡ object_numbered w.memory number
 keeps_object at w e answer number some has =
-    by_move (changed at w e answer).areas (changed at w e answer).memory (changed_moves at w e answer).areas has
+    by_move (changed at w e answer) (changed_moves at w e answer).areas has
   where
-    by_move : (new : List Area) (memory : List MemoryObject) → AreasMove at w e answer new memory
-        → list_any (λ (a : Area). eqb a.memory number) new ≡ true
-        → object_numbered memory number ≡ object_numbered w.memory number
-    by_move new memory (SameAreas is same) has = rw same refl
-    by_move new memory (FewerAreas goes is left) has =
+    by_move : (new : World) → AreasMove at w e answer new
+        → list_any (λ (a : Area). eqb a.memory number) new.areas ≡ true
+        → object_numbered new.memory number ≡ object_numbered w.memory number
+    by_move new (SameAreas is same) has = rw same refl
+    by_move new (FewerAreas goes is left) has =
         rw left (gone_object goes w.areas w.memory number (rw is at has))
-    by_move new memory (OtherPhases phase lives is same) has = rw same refl
-    by_move new memory (OneArea n file request iova passed lies makes is (NewMemory user known short at_end more)) has =
+    by_move new (OtherPhases phase lives is same) has = rw same refl
+    by_move new (OneArea n file request iova passed lies makes alike is (NewMemory user known short at_end more)) has =
         rw more (found_before (λ (m : MemoryObject). eqb m.number number) w.memory _ some)
-    by_move new memory (OneArea n file request iova passed lies makes is (SharedMemory source within of_file size of same))
+    by_move new (OneArea n file request iova passed lies makes alike is (SharedMemory source within of_file size of same))
         has = rw same refl
 
 after_object : {A : Type 0} (at : ℕ) (w : World) (r : Record A) (number : ℕ)

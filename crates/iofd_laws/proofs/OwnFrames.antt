@@ -26,7 +26,6 @@ use Rattle.iofd_words.specs.declared.rows.UserPage.{UserPage}
 use Rattle.iofd_rows.proofs.Each.{IsIn, of_each}
 use Rattle.iofd_rows.proofs.Bools.{or_false, and_true, both_false, both_true, not_true, not_false}
 use Rattle.iofd_runs.proofs.Moves.{MemoryMoves, SameMemory, OnePage, FewerPages, Written, changed_moves}
-use Rattle.iofd_words.specs.Frames.{FrameWrite}
 
 -- ---- a free frame is reached by nobody
 
@@ -102,16 +101,15 @@ pub keeps_own_frames : {A : Type 0} → (at : ℕ) (w : World) (e : Event A) (an
     → Answers w e answer → have_own_frames w.user_pages ≡ true
     → have_own_frames (changed at w e answer).user_pages ≡ true
 keeps_own_frames at w e answer none answers own =
-    by_move (changed at w e answer).user_pages (changed at w e answer).writes (changed_moves at w e answer).memory
+    by_move (changed at w e answer) (changed_moves at w e answer).memory
   where
-    by_move : (pages : List UserPage) (writes : List FrameWrite) → MemoryMoves w e answer pages writes
-        → have_own_frames pages ≡ true
-    by_move pages writes (SameMemory is same) = rw is own
-    by_move pages writes (OnePage user va frame passed free told is less) =
+    by_move : (new : World) → MemoryMoves w e answer new → have_own_frames new.user_pages ≡ true
+    by_move new (SameMemory is same) = rw is own
+    by_move new (OnePage user va frame passed free told is less) =
         rw is (own_frames_more w.user_pages _ (no_page w.user_pages w.pins w.table_frames frame.0
         (free_parts w.settings.pool w.user_pages w.pins w.table_frames frame.0 (free answers)).1) own)
-    by_move pages writes (FewerPages stays is same) = rw is (own_frames-filter stays w.user_pages own)
-    by_move pages writes (Written written is) = rw is own
+    by_move new (FewerPages stays is same) = rw is (own_frames-filter stays w.user_pages own)
+    by_move new (Written written is) = rw is own
 
 -- ---- a frame that is given out was free
 

@@ -35,7 +35,6 @@ use Rattle.iofd_runs.proofs.StillTabled.{none_given}
 use Rattle.iofd_laws.proofs.OwnFrames.{flipped, given_free, never_written}
 use Rattle.iofd_laws.specs.Laws.{TablesAlone, is_alone, tables_differ}
 use Rattle.iofd_runs.proofs.Moves.{MemoryMoves, SameMemory, OnePage, FewerPages, Written, PinsMove, SamePins, Settled, changed_moves}
-use Rattle.iofd_words.specs.Frames.{FrameWrite}
 
 -- ---- what holds of all frames of users' pages and pins
 
@@ -50,15 +49,15 @@ all_more q pages page all here =
     list_all-append (λ (p : UserPage). q p.frame.0) pages (page ∷ []) ∙ both_true _ _ all (both_true _ _ here refl)
 
 module _ (q : ℕ → Bool) (w : World) (all : OfFrames q w) where
-  users_stay : {A : Type 0} (e : Event A) (answer : Reply) (pages : List UserPage) (writes : List FrameWrite)
-      → MemoryMoves w e answer pages writes → ((frame : FrameNo) → answer ≡ reply.Frame frame → q frame.0 ≡ true)
-      → list_all (λ (p : UserPage). q p.frame.0) pages ≡ true
-  users_stay e answer pages writes (SameMemory is same) given = rw is all.users
-  users_stay e answer pages writes (OnePage user va frame passed free told is less) given =
+  users_stay : {A : Type 0} (e : Event A) (answer : Reply) (new : World) → MemoryMoves w e answer new
+      → ((frame : FrameNo) → answer ≡ reply.Frame frame → q frame.0 ≡ true)
+      → list_all (λ (p : UserPage). q p.frame.0) new.user_pages ≡ true
+  users_stay e answer new (SameMemory is same) given = rw is all.users
+  users_stay e answer new (OnePage user va frame passed free told is less) given =
       rw is (all_more q w.user_pages _ all.users (given frame told))
-  users_stay e answer pages writes (FewerPages stays is same) given =
+  users_stay e answer new (FewerPages stays is same) given =
       rw is (all_filter (λ (p : UserPage). q p.frame.0) stays w.user_pages all.users)
-  users_stay e answer pages writes (Written written is) given = rw is all.users
+  users_stay e answer new (Written written is) given = rw is all.users
 
   pins_stay : (new : World) → PinsMove w new → list_all (λ (p : UserPage). q p.frame.0) new.user_pages ≡ true
       → list_all (λ (pin : Pin). q pin.frame.0) new.pins ≡ true
@@ -72,7 +71,7 @@ module _ (q : ℕ → Bool) (w : World) (all : OfFrames q w) where
       → ((frame : FrameNo) → answer ≡ reply.Frame frame → q frame.0 ≡ true) → OfFrames q (changed at w e answer)
   frames_stay at e answer given =
       let new : World = changed at w e answer in
-      let users = users_stay e answer new.user_pages new.writes (changed_moves at w e answer).memory given in
+      let users = users_stay e answer new (changed_moves at w e answer).memory given in
       record { users = users; pins = pins_stay new (changed_moves at w e answer).pins users }
 
 -- ---- none and each not

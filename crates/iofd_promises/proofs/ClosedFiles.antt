@@ -58,7 +58,7 @@ of_another closed file other open_still there same =
 abbrev pub AllowedOpen : World → Type 0
 AllowedOpen w = (row : AllowedRanges) → IsIn w.allowed row → is_closed w.closed row.file ≡ false
 
-keeps_allowed : {A : Type 0} (w : World) (e : Event A) (new : World) → FilesMove w new → AllowedMove w e new.allowed
+keeps_allowed : {A : Type 0} (w : World) (e : Event A) (new : World) → FilesMove w new → AllowedMove w e new
     → refusal w e ≡ None → AllowedOpen w → AllowedOpen new
 keeps_allowed w e new (Closes file closed objects allowed) move none open_all row there =
     let (old, stays) = in_filter (λ (r : AllowedRanges). not (eqb r.file.0 file.0)) w.allowed row
@@ -70,7 +70,7 @@ keeps_allowed w e new (StayOpen closed) (SameAllowed is) none open_all row there
     rw closed (open_all row (rw is at there))
 keeps_allowed w e new (StayOpen closed) (FewerAllowed stays gone is) none open_all row there =
     rw closed (open_all row (in_filter stays w.allowed row (rw is at there)).0)
-keeps_allowed w e new (StayOpen closed) (Allows file ioas ranges passed is) none open_all row there =
+keeps_allowed w e new (StayOpen closed) (Allows file ioas ranges passed alike is) none open_all row there =
     rw closed (by_place (rw is at there))
   where
     by_place : IsIn (with_allowed file ioas ranges w.allowed) row → is_closed w.closed row.file ≡ false

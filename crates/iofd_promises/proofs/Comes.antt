@@ -26,9 +26,9 @@ Came objects object = IsIn objects object ⊎ (is_fresh objects object.file obje
 pub came : {A : Type 0} → (at : ℕ) (w : World) (e : Event A) (answer : Reply) → refusal w e ≡ None → Answers w e answer
     → (x : Object) → IsIn (changed at w e answer).objects x → Came w.objects x
 came at w e answer none answers x within =
-    by_move (changed at w e answer).objects (changed_moves at w e answer).objects within
+    by_move (changed at w e answer) (changed_moves at w e answer).objects within
   where
-    by_move : (new : List Object) → ObjectsMove w e answer new → IsIn new x → Came w.objects x
+    by_move : (new : World) → ObjectsMove w e answer new → IsIn new.objects x → Came w.objects x
     by_move new (Same is) within = inl (rw is at within)
     by_move new (Fewer stays stay is) within = inl (in_filter stays w.objects x (rw is at within)).0
     by_move new (More object fresh admitted makes is) within =

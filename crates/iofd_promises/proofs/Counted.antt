@@ -25,7 +25,6 @@ use Rattle.iofd_runs.proofs.Moves.{SameAreas, changed_moves}
 use Rattle.iofd_words.specs.Checks.{refusal}
 use Rattle.iofd_words.specs.declared.event.Event.{Event}
 use Rattle.iofd_words.specs.declared.reply.Reply.{Reply}
-use Rattle.iofd_words.specs.declared.rows.MemoryObject.{MemoryObject}
 use Rattle.std.proofs.Common.{not}
 use Rattle.std.proofs.Common.{None}
 
@@ -102,9 +101,9 @@ one_area p area (o ∷ areas) = by_order (is_of area.file area.ioas o && ltb are
 abbrev of_file : ℕ → Object → Bool
 of_file file object = eqb object.file.0 file
 
-few_by : {A : Type 0} (file : ℕ) (w : World) (e : Event A) (answer : Reply) (new : List Object)
+few_by : {A : Type 0} (file : ℕ) (w : World) (e : Event A) (answer : Reply) (new : World)
     → ObjectsMove w e answer new → refusal w e ≡ None → how_many (of_file file) w.objects ≤ 65535
-    → how_many (of_file file) new ≤ 65535
+    → how_many (of_file file) new.objects ≤ 65535
 few_by file w e answer new (Same is) none few = rw is few
 few_by file w e answer new (Fewer stays stay is) none few =
     let less = fewer (of_file file) stays w.objects in rw is (omega (arith, less, few))
@@ -131,7 +130,7 @@ pub few_objects : {A : Type 0} (settings : Settings) (records : List (Record A))
 unfolding IsRun world_of with_tables
 few_objects settings records file run =
     run_keeps (λ w. how_many (of_file file) w.objects ≤ 65535) (λ w taken given few. few)
-    (λ at w e answer none answers few. few_by file w e answer (changed at w e answer).objects
+    (λ at w e answer none answers few. few_by file w e answer (changed at w e answer)
     (changed_moves at w e answer).objects none few)
     0 (opening settings) records run (omega arith)
 
@@ -147,15 +146,15 @@ same_count file ioas phase [] = refl
 same_count file ioas phase (area ∷ areas) =
     ap (λ (n : ℕ). cond (of_space file ioas area) (1 + n) n) (same_count file ioas phase areas)
 
-few_areas_by : {A : Type 0} (file ioas at : ℕ) (w : World) (e : Event A) (answer : Reply) (new : List Area)
-    (memory : List MemoryObject) → AreasMove at w e answer new memory → refusal w e ≡ None
-    → how_many (of_space file ioas) w.areas ≤ 65535 → how_many (of_space file ioas) new ≤ 65535
-few_areas_by file ioas at w e answer new memory (SameAreas is same) none few = rw is few
-few_areas_by file ioas at w e answer new memory (FewerAreas goes is left) none few =
+few_areas_by : {A : Type 0} (file ioas at : ℕ) (w : World) (e : Event A) (answer : Reply) (new : World)
+    → AreasMove at w e answer new → refusal w e ≡ None
+    → how_many (of_space file ioas) w.areas ≤ 65535 → how_many (of_space file ioas) new.areas ≤ 65535
+few_areas_by file ioas at w e answer new (SameAreas is same) none few = rw is few
+few_areas_by file ioas at w e answer new (FewerAreas goes is left) none few =
     let less = fewer (of_space file ioas) (λ (a : Area). not (goes a)) w.areas in rw is (omega (arith, less, few))
-few_areas_by file ioas at w e answer new memory (OtherPhases phase lives is same) none few =
+few_areas_by file ioas at w e answer new (OtherPhases phase lives is same) none few =
     let alike = same_count file ioas phase w.areas in rw is (omega (arith, alike, few))
-few_areas_by file ioas at w e answer new memory (OneArea number own request iova passed lies makes is under) none few =
+few_areas_by file ioas at w e answer new (OneArea number own request iova passed lies makes alike is under) none few =
     rw is (by_space (of_space file ioas area) refl (one_area (of_space file ioas) area w.areas))
   where
     area : Area
@@ -182,8 +181,7 @@ pub few_areas : {A : Type 0} (settings : Settings) (records : List (Record A)) (
 unfolding IsRun world_of with_tables
 few_areas settings records file ioas run =
     run_keeps (λ w. how_many (of_space file ioas) w.areas ≤ 65535) (λ w taken given few. few)
-    (λ at w e answer none answers few. few_areas_by file ioas at w e answer (changed at w e answer).areas
-    (changed at w e answer).memory (changed_moves at w e answer).areas none few)
+    (λ at w e answer none answers few. few_areas_by file ioas at w e answer (changed at w e answer) (changed_moves at w e answer).areas none few)
     0 (opening settings) records run (omega arith)
 
 -- ---- ids

@@ -27,7 +27,7 @@ writes_change e answer never = absurd never
 
 -- an answer that gives out no frame, or another one
 pub keeps_byte : {A : Type 0} (w new : World) (e : Event A) (answer : Reply) (frame place : ℕ)
-    → MemoryMoves w e answer new.user_pages new.writes → changes_bytes e answer ≡ false
+    → MemoryMoves w e answer new → changes_bytes e answer ≡ false
     → ((given : FrameNo) → answer ≡ reply.Frame given → given.0 ≢ frame)
     → reads new.writes frame place ≡ reads w.writes frame place
 keeps_byte w new e answer frame place (SameMemory pages is) none others =

@@ -22,4 +22,3 @@ pub mod Steps
 pub mod TableLevels
 pub mod Unmapped
 pub mod UserPages
-pub mod Widths

@@ -50,9 +50,8 @@ module _ (p : Area → Bool) (phases : (phase : Phase) (area : Area) → p area 
   pub areas_keep : {A : Type 0} → (at : ℕ) (w : World) (e : Event A) (answer : Reply) → refusal w e ≡ None
       → Answers w e answer → list_all p w.areas ≡ true → list_all p (changed at w e answer).areas ≡ true
   areas_keep at w e answer none answers all =
-      all_areas p phases at w e answer (changed at w e answer).areas (changed at w e answer).memory
-      (changed_moves at w e answer).areas
-      (λ number file request iova passed lies under. places w number file request iova (passed none) (lies none answers))
+      all_areas p phases at w e answer (changed at w e answer) (changed_moves at w e answer).areas
+      (λ number file request iova passed lies alike under. places w number file request iova (passed none) (lies none answers))
       all
 
 -- it begins no later than it ends, below 2^64

@@ -18,3 +18,4 @@ pub mod PageTables
 pub mod Paid
 pub mod PinsFollow
 pub mod Unusable
+pub mod Widths

@@ -27,7 +27,6 @@ use Rattle.iofd_words.specs.declared.rows.Phase.{Phase}
 use Rattle.iofd_rows.proofs.Bools.{or_false, and_true, both_false, not_true, swapped}
 use Rattle.iofd_runs.proofs.MappedAt.{lies_at}
 use Rattle.iofd_runs.proofs.Moves.{AreasMove, SameAreas, FewerAreas, OtherPhases, OneArea, changed_moves}
-use Rattle.iofd_words.specs.declared.rows.MemoryObject.{MemoryObject}
 
 -- a and b are of one address space, and have an address in common
 abbrev clash : Area → Area → Bool
@@ -137,12 +136,12 @@ map_is_free w file request iova is none = (lies_at w file request iova none is).
 pub keeps_apart : {A : Type 0} → (at : ℕ) (w : World) (e : Event A) (answer : Reply) → refusal w e ≡ None
     → Answers w e answer → are_apart w.areas ≡ true → are_apart (changed at w e answer).areas ≡ true
 keeps_apart at w e answer none answers apart =
-    by_move (changed at w e answer).areas (changed at w e answer).memory (changed_moves at w e answer).areas
+    by_move (changed at w e answer) (changed_moves at w e answer).areas
   where
-    by_move : (new : List Area) (memory : List MemoryObject) → AreasMove at w e answer new memory
-        → are_apart new ≡ true
-    by_move new memory (SameAreas is same) = rw is apart
-    by_move new memory (FewerAreas goes is left) = rw is (are_apart-filter (λ (a : Area). not (goes a)) w.areas apart)
-    by_move new memory (OtherPhases phase lives is same) = rw is (are_apart-map phase w.areas ∙ apart)
-    by_move new memory (OneArea number file request iova passed lies makes is under) =
+    by_move : (new : World) → AreasMove at w e answer new
+        → are_apart new.areas ≡ true
+    by_move new (SameAreas is same) = rw is apart
+    by_move new (FewerAreas goes is left) = rw is (are_apart-filter (λ (a : Area). not (goes a)) w.areas apart)
+    by_move new (OtherPhases phase lives is same) = rw is (are_apart-map phase w.areas ∙ apart)
+    by_move new (OneArea number file request iova passed lies makes alike is under) =
         rw is (are_apart-with_area (mapped_area number file request iova) w.areas (lies none answers).apart apart)

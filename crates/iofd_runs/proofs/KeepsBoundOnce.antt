@@ -10,7 +10,6 @@ use Rattle.iofd_words.specs.World.{World, opening}
 use Rattle.iofd_words.specs.declared.event.Event.{Event}
 use Rattle.iofd_words.specs.declared.numbers.FrameNo.{FrameNo}
 use Rattle.iofd_words.specs.declared.reply.Reply.{Reply}
-use Rattle.iofd_words.specs.declared.rows.Object.{Object}
 use Rattle.iofd_rows.specs.Ids.{AreBoundOnce}
 use Rattle.iofd_rows.proofs.BoundOnce.{once-filter, once-with_object}
 use Rattle.iofd_runs.proofs.Moves.{ObjectsMove, Same, Fewer, More, changed_moves}
@@ -24,9 +23,9 @@ opening_once settings device = omega arith
 
 pub keeps_once : {A : Type 0} → (at : ℕ) (w : World) (e : Event A) (answer : Reply) → refusal w e ≡ None
     → Answers w e answer → DevicesOnce w → DevicesOnce (changed at w e answer)
-keeps_once at w e answer none answers once = by_move (changed at w e answer).objects (changed_moves at w e answer).objects
+keeps_once at w e answer none answers once = by_move (changed at w e answer) (changed_moves at w e answer).objects
   where
-    by_move : (new : List Object) → ObjectsMove w e answer new → AreBoundOnce new
+    by_move : (new : World) → ObjectsMove w e answer new → AreBoundOnce new.objects
     by_move new (Same is) = rw is once
     by_move new (Fewer stays stay is) = rw is (once-filter stays w.objects once)
     by_move new (More object fresh admitted makes is) =

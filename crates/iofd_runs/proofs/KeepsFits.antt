@@ -27,7 +27,6 @@ use Rattle.iofd_words.specs.declared.numbers.UserNo.{UserNo}
 use Rattle.iofd_words.specs.declared.reply.Reply.{Reply}
 use Rattle.iofd_words.specs.declared.rows.Attachment.{Attachment}
 use Rattle.iofd_words.specs.declared.rows.MemoryObject.{MemoryObject}
-use Rattle.iofd_words.specs.declared.rows.Object.{Object}
 use Rattle.iofd_words.specs.declared.rows.Pin.{Pin}
 use Rattle.iofd_words.specs.declared.rows.UserPage.{UserPage}
 use Rattle.iofd_rows.proofs.Bools.{and_true, both_true}
@@ -36,7 +35,6 @@ use Rattle.iofd_rows.proofs.Found.{all_filter, found_passes}
 use Rattle.iofd_runs.proofs.Known.{attached_one, bound_known, is_known}
 use Rattle.iofd_runs.proofs.Known.{known_closed, known_one}
 use Rattle.iofd_runs.proofs.Moves.{AttachmentsMove, Closes, Fewer, FewerAttachments, FewerPages, FilesMove, MemoryMoves, MemoryUnder, More, NewMemory, ObjectsMove, OneAttachment, OnePage, PinsMove, Same, SameAttachments, SameMemory, SamePins, Settled, SharedMemory, StayOpen, Written, changed_moves}
-use Rattle.iofd_words.specs.Frames.{FrameWrite}
 use Rattle.iofd_runs.proofs.NotRefused.{PlacePassed}
 use Rattle.iofd_runs.proofs.Known.{are_attached}
 use Rattle.iofd_runs.proofs.Moves.{all_areas}
@@ -197,29 +195,29 @@ module _ (q : ℕ → Bool) (memory : List MemoryObject) (pages : List UserPage)
 
 module _ {A : Type 0} (at : ℕ) (w : World) (e : Event A) (answer : Reply) (none : refusal w e ≡ None)
     (answers : Answers w e answer) (fits : RowsFit w) where
-  attachments_rise : (objects : List Object) (new : List Attachment) → AttachmentsMove w e answer objects new
-      → devices_rise new ≡ true
-  attachments_rise objects new (SameAttachments is) = rw is fits.rise
-  attachments_rise objects new (FewerAttachments stays is) = rw is (rise-filter stays w.attachments fits.rise)
-  attachments_rise objects new (OneAttachment a bound binding of_file free width is) =
+  attachments_rise : (new : World) → AttachmentsMove w e answer new
+      → devices_rise new.attachments ≡ true
+  attachments_rise new (SameAttachments is) = rw is fits.rise
+  attachments_rise new (FewerAttachments stays is) = rw is (rise-filter stays w.attachments fits.rise)
+  attachments_rise new (OneAttachment a bound binding of_file free served is) =
       rw is (rise-with_attachment a w.attachments (free none) fits.rise)
 
-  attachments_known : (objects : List Object) (new : List Attachment) → AttachmentsMove w e answer objects new
-      → are_attached w.settings new ≡ true
-  attachments_known objects new (SameAttachments is) = rw is fits.attached
-  attachments_known objects new (FewerAttachments stays is) = rw is (all_filter _ stays w.attachments fits.attached)
-  attachments_known objects new (OneAttachment a bound binding of_file free width is) =
+  attachments_known : (new : World) → AttachmentsMove w e answer new
+      → are_attached w.settings new.attachments ≡ true
+  attachments_known new (SameAttachments is) = rw is fits.attached
+  attachments_known new (FewerAttachments stays is) = rw is (all_filter _ stays w.attachments fits.attached)
+  attachments_known new (OneAttachment a bound binding of_file free served is) =
       rw is (attached_one w.settings a w.attachments
       (bound_known w.settings w.closed w.objects a.device bound fits.known binding).1 fits.attached)
 
-  pages_fit : (pages : List UserPage) (writes : List FrameWrite) → MemoryMoves w e answer pages writes
-      → list_all (λ (p : UserPage). ltb p.frame.0 w.settings.pool) pages ≡ true
-  pages_fit pages writes (SameMemory is same) = rw is fits.user_frames
-  pages_fit pages writes (OnePage user va frame passed free told is less) =
+  pages_fit : (new : World) → MemoryMoves w e answer new
+      → list_all (λ (p : UserPage). ltb p.frame.0 w.settings.pool) new.user_pages ≡ true
+  pages_fit new (SameMemory is same) = rw is fits.user_frames
+  pages_fit new (OnePage user va frame passed free told is less) =
       rw is (all_both (λ (p : UserPage). ltb p.frame.0 w.settings.pool) w.user_pages _ fits.user_frames
       (both_true _ _ (and_true (ltb frame.0 w.settings.pool) _ (free answers)).0 refl))
-  pages_fit pages writes (FewerPages stays is same) = rw is (all_filter _ stays w.user_pages fits.user_frames)
-  pages_fit pages writes (Written written is) = rw is fits.user_frames
+  pages_fit new (FewerPages stays is same) = rw is (all_filter _ stays w.user_pages fits.user_frames)
+  pages_fit new (Written written is) = rw is fits.user_frames
 
   pins_fit : (new : World) → PinsMove w new
       → list_all (λ (p : UserPage). ltb p.frame.0 w.settings.pool) new.user_pages ≡ true
@@ -229,7 +227,7 @@ module _ {A : Type 0} (at : ℕ) (w : World) (e : Event A) (answer : Reply) (non
   pins_fit new (Settled is) users =
       rw is (settled_frames (λ n. ltb n w.settings.pool) _ new.user_pages users _ _ w.pins fits.pin_frames)
 
-  objects_known : (new : World) → ObjectsMove w e answer new.objects → FilesMove w new
+  objects_known : (new : World) → ObjectsMove w e answer new → FilesMove w new
       → list_all (is_known w.settings new.closed) new.objects ≡ true
   objects_known new move (Closes file closed objects allowed) =
       rw (closed, objects) (known_closed w.settings w.closed file w.objects fits.known)
@@ -244,21 +242,21 @@ module _ {A : Type 0} (at : ℕ) (w : World) (e : Event A) (answer : Reply) (non
   keeps_fit =
       let new : World = changed at w e answer in
       let m = changed_moves at w e answer in
-      let users = pages_fit new.user_pages new.writes m.memory in
+      let users = pages_fit new m.memory in
       record {
-        pages = all_areas is_of_pages (λ phase a here. here) at w e answer new.areas new.memory m.areas
-            (λ number file request iova passed lies under. one_pages at w e file request iova number new.memory none
+        pages = all_areas is_of_pages (λ phase a here. here) at w e answer new m.areas
+            (λ number file request iova passed lies alike under. one_pages at w e file request iova number new.memory none
             (passed none) fits.pages under) fits.pages;
-        starts = all_areas begins_at_page (λ phase a here. here) at w e answer new.areas new.memory m.areas
-            (λ number file request iova passed lies under. (lies none answers).whole) fits.starts;
-        rights = all_areas has_rights (λ phase a here. here) at w e answer new.areas new.memory m.areas
-            (λ number file request iova passed lies under. some_rights (is_readable request.flags)
+        starts = all_areas begins_at_page (λ phase a here. here) at w e answer new m.areas
+            (λ number file request iova passed lies alike under. (lies none answers).whole) fits.starts;
+        rights = all_areas has_rights (λ phase a here. here) at w e answer new m.areas
+            (λ number file request iova passed lies alike under. some_rights (is_readable request.flags)
             (is_writeable request.flags) (passed none).right) fits.rights;
-        rise = attachments_rise new.objects new.attachments m.attachments;
+        rise = attachments_rise new m.attachments;
         user_frames = rw m.settings users;
         pin_frames = rw m.settings (pins_fit new m.pins users);
         known = rw m.settings (objects_known new m.objects m.files);
-        attached = rw m.settings (attachments_known new.objects new.attachments m.attachments);
+        attached = rw m.settings (attachments_known new m.attachments);
       }
 
 -- the frames of tables are no part of it

@@ -45,7 +45,7 @@ copied_shares w file request iova source found own =
 pub keeps_own_memory : {A : Type 0} → (at : ℕ) (w : World) (e : Event A) (answer : Reply) → ArePinned at w
     → share_in_files w.areas ≡ true → share_in_files (changed at w e answer).areas ≡ true
 keeps_own_memory at w e answer p own =
-    by_move (changed at w e answer).areas (changed at w e answer).memory (changed_moves at w e answer).areas
+    by_move (changed at w e answer) (changed_moves at w e answer).areas
   where
     by_memory : (number : ℕ) (file : FileNo) (request : MapRequest) (iova : Iova) (memory : List MemoryObject)
         → MemoryUnder at w e file request iova number memory
@@ -56,14 +56,14 @@ keeps_own_memory at w e answer p own =
     by_memory number file request iova memory (SharedMemory source within of_file size is same) =
         rw (← is, ← of_file) (of_each (λ (a : Area). list_all (share_in_file a) w.areas) w.areas source own within)
 
-    by_move : (new : List Area) (memory : List MemoryObject) → AreasMove at w e answer new memory
-        → share_in_files new ≡ true
-    by_move new memory (SameAreas is same) = rw is own
-    by_move new memory (FewerAreas goes is left) = rw is (shared-filter (λ (a : Area). not (goes a)) w.areas own)
-    by_move new memory (OtherPhases phase lives is same) = rw is (shared-map phase w.areas own)
-    by_move new memory (OneArea number file request iova passed lies makes is under) =
+    by_move : (new : World) → AreasMove at w e answer new
+        → share_in_files new.areas ≡ true
+    by_move new (SameAreas is same) = rw is own
+    by_move new (FewerAreas goes is left) = rw is (shared-filter (λ (a : Area). not (goes a)) w.areas own)
+    by_move new (OtherPhases phase lives is same) = rw is (shared-map phase w.areas own)
+    by_move new (OneArea number file request iova passed lies makes alike is under) =
         rw is (shared-with_area (mapped_area number file request iova) w.areas
-        (by_memory number file request iova memory under) own)
+        (by_memory number file request iova new.memory under) own)
 
 -- pins, and memory objects that are of one file each
 pub record OwnPins (at : ℕ) (w : World) : Type 0 where

@@ -94,7 +94,7 @@ pub keeps_owned : {A : Type 0} → (at : ℕ) (w : World) (e : Event A) (answer 
 keeps_owned at w e answer p o = record {
   owned = ap (λ (s : Settings). list_all (is_over_own s (changed at w e answer).memory) (changed at w e answer).areas)
       (changed_moves at w e answer).settings
-      ∙ by_move (changed at w e answer).areas (changed at w e answer).memory (changed_moves at w e answer).areas;
+      ∙ by_move (changed at w e answer) (changed_moves at w e answer).areas;
 }
   where
     by_memory : (number : ℕ) (file : FileNo) (request : MapRequest) (iova : Iova) (memory : List MemoryObject)
@@ -112,17 +112,17 @@ keeps_owned at w e answer p o = record {
         (mapped_area source.memory source.file request iova) w.areas
         (of_each (is_over_own w.settings w.memory) w.areas source o.owned within) o.owned)
 
-    by_move : (new : List Area) (memory : List MemoryObject) → AreasMove at w e answer new memory
-        → list_all (is_over_own w.settings memory) new ≡ true
-    by_move new memory (SameAreas is same) = rw (is, same) o.owned
-    by_move new memory (FewerAreas goes is left) =
+    by_move : (new : World) → AreasMove at w e answer new
+        → list_all (is_over_own w.settings new.memory) new.areas ≡ true
+    by_move new (SameAreas is same) = rw (is, same) o.owned
+    by_move new (FewerAreas goes is left) =
         rw (is, left) (all_filter (is_over_own w.settings _) (λ (a : Area). not (goes a)) w.areas
         (fewer_owned w.settings _ w.memory w.areas o.owned))
-    by_move new memory (OtherPhases phase lives is same) =
+    by_move new (OtherPhases phase lives is same) =
         rw (is, same) (all_map (is_over_own w.settings w.memory) (is_over_own w.settings w.memory) _ w.areas
         (λ a over. over) o.owned)
-    by_move new memory (OneArea number file request iova passed lies makes is under) =
-        rw is (by_memory number file request iova memory under)
+    by_move new (OneArea number file request iova passed lies makes alike is under) =
+        rw is (by_memory number file request iova new.memory under)
 
 -- with the pins
 pub record OwnedPins (at : ℕ) (w : World) : Type 0 where

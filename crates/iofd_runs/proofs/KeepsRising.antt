@@ -9,7 +9,6 @@ use Rattle.iofd_words.specs.World.{World, opening}
 use Rattle.iofd_words.specs.declared.event.Event.{Event}
 use Rattle.iofd_words.specs.declared.numbers.FrameNo.{FrameNo}
 use Rattle.iofd_words.specs.declared.reply.Reply.{Reply}
-use Rattle.iofd_words.specs.declared.rows.Object.{Object}
 use Rattle.iofd_runs.specs.Rising.{objects_rise}
 use Rattle.iofd_runs.proofs.OwnIds.{unused}
 use Rattle.iofd_runs.proofs.RisingLists.{rise-filter, rise-with_object}
@@ -24,9 +23,9 @@ opening_rises settings = refl
 
 pub keeps_rising : {A : Type 0} → (at : ℕ) (w : World) (e : Event A) (answer : Reply) → refusal w e ≡ None
     → Answers w e answer → ObjectsRise w → ObjectsRise (changed at w e answer)
-keeps_rising at w e answer none answers rise = by_move (changed at w e answer).objects (changed_moves at w e answer).objects
+keeps_rising at w e answer none answers rise = by_move (changed at w e answer) (changed_moves at w e answer).objects
   where
-    by_move : (new : List Object) → ObjectsMove w e answer new → objects_rise new ≡ true
+    by_move : (new : World) → ObjectsMove w e answer new → objects_rise new.objects ≡ true
     by_move new (Same is) = rw is rise
     by_move new (Fewer stays stay is) = rw is (rise-filter stays w.objects rise)
     by_move new (More object fresh admitted makes is) =

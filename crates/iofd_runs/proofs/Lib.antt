@@ -27,7 +27,7 @@ pub mod Runs
 pub mod SamePages
 pub mod SameSettings
 pub mod SameTables
+pub mod Served
 pub mod StillTabled
 pub mod TableCounts
 pub mod TableEvents
-pub mod Widths

@@ -18,7 +18,7 @@ use Rattle.iofd_runs.proofs.NotRefused.{attach_passed, bind_passed, copy_place, 
 use Rattle.iofd_runs.proofs.NotRefused.{map_place, user_map_passed}
 use Rattle.iofd_runs.proofs.TableEvents.{HwptsStay, MakesNone, TakesNone, closed_stay, destroyed_stay, detached_stay}
 use Rattle.iofd_runs.proofs.TableEvents.{finds_table, leaving_live, paid_live, unbound_stay}
-use Rattle.iofd_runs.proofs.Widths.{IsOfWidth, joined_width, made_width}
+use Rattle.iofd_runs.proofs.Served.{IsServed, joined_served, made_served}
 use Rattle.iofd_words.specs.After.{attached, changed, copy_changes, detached}
 use Rattle.iofd_words.specs.After.{hwpt_changes, joined, made_hwpt, map_changes, mapped_area, memory_object, settle}
 use Rattle.iofd_words.specs.After.{with_hwpt, without_areas}
@@ -27,11 +27,12 @@ use Rattle.iofd_words.specs.Answers.{Answers, IsHwptFor, IsHwptOf}
 use Rattle.iofd_words.specs.Areas.{is_of, is_touched, with_area, with_phase}
 use Rattle.iofd_words.specs.Attachments.{attachment_of, with_attachment}
 use Rattle.iofd_words.specs.Bounds.{Bounds}
-use Rattle.iofd_words.specs.Checks.{lacks_room_for_hwpt, refusal}
+use Rattle.iofd_words.specs.Checks.{lacks_room_for_hwpt, narrows, narrows_by_width, narrows_without, refusal}
+use Rattle.iofd_words.specs.Usable.{beyond, reserved_by}
 use Rattle.iofd_words.specs.Pages.{is_above_user}
 use Rattle.iofd_words.specs.Copies.{placed_as}
 use Rattle.iofd_words.specs.Files.{device_of, user_of}
-use Rattle.iofd_words.specs.Frames.{FrameWrite, is_free, without_frame}
+use Rattle.iofd_words.specs.Frames.{is_free, without_frame}
 use Rattle.iofd_words.specs.Objects.{automatic_hwpt, binding_of, is_bound_as, is_bound_device, is_fresh, is_full}
 use Rattle.iofd_words.specs.Objects.{is_hwpt, kind_of, settings_under, with_object}
 use Rattle.iofd_words.specs.Settings.{DeviceSettings}
@@ -63,61 +64,71 @@ use Rattle.iofd_rows.proofs.OwnMemory.{all-with_area}
 
 -- ---- what an event may make of the rows
 
--- what the refusals leave of an object that comes: there is room for it, its file is open and its device one of the
--- settings, if it binds one, and that device isn't bound
+-- a page table that comes narrows nothing that stands, nor does it with what the device that it comes with keeps
+abbrev pub IsWide : World → FileNo → ObjectKind → Type 0
+IsWide w file kind.Ioas = Unit {0}
+IsWide w file (kind.Hwpt ioas width automatic) =
+    (spans : List Bounds) × (narrows_without (view w) file ioas (beyond width ∷ spans) ≡ false)
+IsWide w file (kind.Device device) = Unit {0}
+
+-- what the refusals leave of an object that comes: there is room for it, its file is open, its device is one of the
+-- settings and isn't bound, if it binds one, and it is wide
 pub record IsAdmitted (w : World) (object : Object) : Type 0 where
   pub roomy : is_full w.objects object.file ≡ false
   pub known : list_all (is_known w.settings w.closed) w.objects ≡ true → is_known w.settings w.closed object ≡ true
   pub unbound : (device : DeviceNo) → is_bound_as device object.kind ≡ true → binding_of w.objects device ≡ None
+  pub wide : IsWide w object.file object.kind
 
 -- objects: the same, fewer, or one more, under a fresh id
-pub data ObjectsMove {A : Type 0} (w : World) (e : Event A) (answer : Reply) (new : List Object) : Type 0 where
-  Same : new ≡ w.objects → ObjectsMove w e answer new
+pub data ObjectsMove {A : Type 0} (w : World) (e : Event A) (answer : Reply) (new : World) : Type 0 where
+  Same : new.objects ≡ w.objects → ObjectsMove w e answer new
   Fewer : (stays : Object → Bool) → (TakesNone w e → HwptsStay w.objects (filter stays w.objects))
-      → new ≡ filter stays w.objects → ObjectsMove w e answer new
+      → new.objects ≡ filter stays w.objects → ObjectsMove w e answer new
   More : (object : Object) → (Answers w e answer → is_fresh w.objects object.file object.id ≡ true)
       → (refusal w e ≡ None → IsAdmitted w object) → (MakesNone w e → is_hwpt object.kind ≡ false)
-      → new ≡ with_object object w.objects → ObjectsMove w e answer new
+      → new.objects ≡ with_object object w.objects → ObjectsMove w e answer new
 
 -- the memory object under a new area: a new one of the file's user, as a MAP makes it, or that of an area that a COPY
 -- names
 pub data MemoryUnder {A : Type 0} (at : ℕ) (w : World) (e : Event A) (file : FileNo) (request : MapRequest)
-    (iova : Iova) (number : ℕ) (new : List MemoryObject) : Type 0 where
+    (iova : Iova) (number : ℕ) (memory : List MemoryObject) : Type 0 where
   NewMemory : (user : UserNo) → user_of w.settings file ≡ Some user
       → (refusal w e ≡ None → is_above_user request.user_va request.length ≡ false) → number ≡ at
-      → new ≡ w.memory ++ memory_object at user request ∷ [] → MemoryUnder at w e file request iova number new
+      → memory ≡ w.memory ++ memory_object at user request ∷ [] → MemoryUnder at w e file request iova number memory
   SharedMemory : (source : Area) → IsIn w.areas source → source.file ≡ file
       → (refusal w e ≡ None → size_of source.span ≡ size_of (span_from iova.0 request.length))
-      → source.memory ≡ number → new ≡ w.memory → MemoryUnder at w e file request iova number new
+      → source.memory ≡ number → memory ≡ w.memory → MemoryUnder at w e file request iova number memory
+
+-- the page tables and the devices that translate by them are the same
+pub record SameTranslations (w new : World) : Type 0 where
+  pub objects : new.objects ≡ w.objects
+  pub attachments : new.attachments ≡ w.attachments
 
 -- areas with their memory objects: the same, fewer, the same areas in other phases, of which none becomes live, or one
 -- more, placed as a MAP or a COPY that nothing refuses places it
-pub data AreasMove {A : Type 0} (at : ℕ) (w : World) (e : Event A) (answer : Reply) (new : List Area)
-    (memory : List MemoryObject) : Type 0 where
-  SameAreas : new ≡ w.areas → memory ≡ w.memory → AreasMove at w e answer new memory
-  FewerAreas : (goes : Area → Bool) → new ≡ filter (λ (a : Area). not (goes a)) w.areas
-      → memory ≡ filter (λ m. list_any (λ (a : Area). eqb a.memory m.number && not (goes a)) w.areas) w.memory
-      → AreasMove at w e answer new memory
+pub data AreasMove {A : Type 0} (at : ℕ) (w : World) (e : Event A) (answer : Reply) (new : World) : Type 0 where
+  SameAreas : new.areas ≡ w.areas → new.memory ≡ w.memory → AreasMove at w e answer new
+  FewerAreas : (goes : Area → Bool) → new.areas ≡ filter (λ (a : Area). not (goes a)) w.areas
+      → new.memory ≡ filter (λ m. list_any (λ (a : Area). eqb a.memory m.number && not (goes a)) w.areas) w.memory
+      → AreasMove at w e answer new
   OtherPhases : (phase : Area → Phase) → ((a : Area) → is_live (phase a) ≡ true → is_live a.phase ≡ true)
-      → new ≡ map (λ (a : Area). with_phase (phase a) a) w.areas → memory ≡ w.memory
-      → AreasMove at w e answer new memory
+      → new.areas ≡ map (λ (a : Area). with_phase (phase a) a) w.areas → new.memory ≡ w.memory
+      → AreasMove at w e answer new
   OneArea : (number : ℕ) (file : FileNo) (request : MapRequest) (iova : Iova)
       → (refusal w e ≡ None → PlacePassed (view w) file request)
       → (refusal w e ≡ None → Answers w e answer → LiesAt (view w) file request iova.0) → (MakesNone w e → ⊥)
-      → new ≡ with_area (mapped_area number file request iova) w.areas
-      → MemoryUnder at w e file request iova number memory → AreasMove at w e answer new memory
+      → SameTranslations w new → new.areas ≡ with_area (mapped_area number file request iova) w.areas
+      → MemoryUnder at w e file request iova number new.memory → AreasMove at w e answer new
 
--- attachments: the same, fewer, or one more, of a device that is bound to its file and wasn't attached, by a page table
--- of its width
-pub data AttachmentsMove {A : Type 0} (w : World) (e : Event A) (answer : Reply) (objects : List Object)
-    (new : List Attachment) : Type 0 where
-  SameAttachments : new ≡ w.attachments → AttachmentsMove w e answer objects new
-  FewerAttachments : (stays : Attachment → Bool) → new ≡ filter stays w.attachments
-      → AttachmentsMove w e answer objects new
+-- attachments: the same, fewer, or one more, of a device that is bound to its file and wasn't attached
+pub data AttachmentsMove {A : Type 0} (w : World) (e : Event A) (answer : Reply) (new : World) : Type 0 where
+  SameAttachments : new.attachments ≡ w.attachments → AttachmentsMove w e answer new
+  FewerAttachments : (stays : Attachment → Bool) → new.attachments ≡ filter stays w.attachments
+      → AttachmentsMove w e answer new
   OneAttachment : (a : Attachment) (bound : Object) → binding_of w.objects a.device ≡ Some bound → bound.file ≡ a.file
       → (refusal w e ≡ None → is_some (attachment_of w.attachments a.device) ≡ false)
-      → (refusal w e ≡ None → Answers w e answer → have_own_ids w.objects ≡ true → IsOfWidth w.settings objects a)
-      → new ≡ with_attachment a w.attachments → AttachmentsMove w e answer objects new
+      → (refusal w e ≡ None → Answers w e answer → have_own_ids w.objects ≡ true → IsServed w new.objects a)
+      → new.attachments ≡ with_attachment a w.attachments → AttachmentsMove w e answer new
 
 -- a write that is carried out: a user's, and a device's that passes
 abbrev pub Writes : {A : Type 0} → Event A → Reply → Type 0
@@ -127,17 +138,16 @@ Writes e answer = ⊥
 
 -- users' pages and what was written: the same, one page more in a free frame without its writes, fewer pages, or the
 -- same pages where bytes are written
-pub data MemoryMoves {A : Type 0} (w : World) (e : Event A) (answer : Reply) (pages : List UserPage)
-    (writes : List FrameWrite) : Type 0 where
-  SameMemory : pages ≡ w.user_pages → writes ≡ w.writes → MemoryMoves w e answer pages writes
+pub data MemoryMoves {A : Type 0} (w : World) (e : Event A) (answer : Reply) (new : World) : Type 0 where
+  SameMemory : new.user_pages ≡ w.user_pages → new.writes ≡ w.writes → MemoryMoves w e answer new
   OnePage : (user : UserNo) (va : ℕ) (frame : FrameNo) → (refusal w e ≡ None → UserMapPassed (view w) user va)
       → (Answers w e answer → is_free w.settings.pool w.user_pages w.pins w.table_frames frame.0 ≡ true)
       → answer ≡ reply.Frame frame
-      → pages ≡ w.user_pages ++ record { user = user; page = va / 4096; frame = frame } ∷ []
-      → writes ≡ without_frame frame.0 w.writes → MemoryMoves w e answer pages writes
-  FewerPages : (stays : UserPage → Bool) → pages ≡ filter stays w.user_pages → writes ≡ w.writes
-      → MemoryMoves w e answer pages writes
-  Written : Writes e answer → pages ≡ w.user_pages → MemoryMoves w e answer pages writes
+      → new.user_pages ≡ w.user_pages ++ record { user = user; page = va / 4096; frame = frame } ∷ []
+      → new.writes ≡ without_frame frame.0 w.writes → MemoryMoves w e answer new
+  FewerPages : (stays : UserPage → Bool) → new.user_pages ≡ filter stays w.user_pages → new.writes ≡ w.writes
+      → MemoryMoves w e answer new
+  Written : Writes e answer → new.user_pages ≡ w.user_pages → MemoryMoves w e answer new
 
 -- pins: the same, or those that follow the areas and page tables of the world after the event
 pub data PinsMove (w new : World) : Type 0 where
@@ -145,14 +155,14 @@ pub data PinsMove (w new : World) : Type 0 where
   Settled : new.pins ≡ (settle w new).pins → PinsMove w new
 
 -- allowed ranges: the same, fewer, all of an address space or none of them, or those that an address space is given
-pub data AllowedMove {A : Type 0} (w : World) (e : Event A) (new : List AllowedRanges) : Type 0 where
-  SameAllowed : new ≡ w.allowed → AllowedMove w e new
+pub data AllowedMove {A : Type 0} (w : World) (e : Event A) (new : World) : Type 0 where
+  SameAllowed : new.allowed ≡ w.allowed → AllowedMove w e new
   FewerAllowed : (stays : AllowedRanges → Bool) → ((file : FileNo) (ioas : ObjId) → (gone : Bool)
       × (allowed_of (filter stays w.allowed) file ioas ≡ cond gone [] (allowed_of w.allowed file ioas)))
-      → new ≡ filter stays w.allowed → AllowedMove w e new
+      → new.allowed ≡ filter stays w.allowed → AllowedMove w e new
   Allows : (file : FileNo) (ioas : ObjId) (ranges : List Bounds)
-      → (refusal w e ≡ None → AllowPassed (view w) file ioas ranges) → new ≡ with_allowed file ioas ranges w.allowed
-      → AllowedMove w e new
+      → (refusal w e ≡ None → AllowPassed (view w) file ioas ranges) → SameTranslations w new
+      → new.allowed ≡ with_allowed file ioas ranges w.allowed → AllowedMove w e new
 
 -- files: none is closed, or one is, without its objects and allowed ranges
 pub data FilesMove (w new : World) : Type 0 where
@@ -162,12 +172,12 @@ pub data FilesMove (w new : World) : Type 0 where
       → new.allowed ≡ filter (λ (row : AllowedRanges). not (eqb row.file.0 file.0)) w.allowed → FilesMove w new
 
 pub record Moves {A : Type 0} (at : ℕ) (w : World) (e : Event A) (answer : Reply) (new : World) : Type 0 where
-  pub objects : ObjectsMove w e answer new.objects
-  pub areas : AreasMove at w e answer new.areas new.memory
-  pub attachments : AttachmentsMove w e answer new.objects new.attachments
-  pub memory : MemoryMoves w e answer new.user_pages new.writes
+  pub objects : ObjectsMove w e answer new
+  pub areas : AreasMove at w e answer new
+  pub attachments : AttachmentsMove w e answer new
+  pub memory : MemoryMoves w e answer new
   pub pins : PinsMove w new
-  pub allowed : AllowedMove w e new.allowed
+  pub allowed : AllowedMove w e new
   pub files : FilesMove w new
   -- no event changes what the server was opened with, nor rows of tables: the frames that its record takes and gives do
   pub settings : new.settings ≡ w.settings
@@ -200,11 +210,11 @@ hwpt_moves : {A : Type 0} (w : World) (device : DeviceNo) (ioas id : ObjId) (obj
     → automatic_hwpt w.objects object.file ioas d.width ≡ o
     → (IsHwptOf w ioas id (binding_of w.objects device) (device_of w.settings device)
     → IsHwptFor w object.file id o)
-    → ObjectsMove {A = A} w (event.Attach device ioas) (reply.Id id)
-    (with_hwpt object.file ioas id d.width o w.objects)
+    → (new : World) → new.objects ≡ with_hwpt object.file ioas id d.width o w.objects
+    → ObjectsMove {A = A} w (event.Attach device ioas) (reply.Id id) new
 unfolding Answers
-hwpt_moves w device ioas id object d bound known named (Some automatic) is answers = Same refl
-hwpt_moves w device ioas id object d bound known named None is answers =
+hwpt_moves w device ioas id object d bound known named (Some automatic) is answers new same = Same same
+hwpt_moves w device ioas id object d bound known named None is answers new same =
     More (record { file = object.file; id = id; kind = kind.Hwpt ioas d.width true }) answers
     (λ none.
     let room = subst (λ (o : Option DeviceSettings). lacks_room_for_hwpt (view w) object.file ioas o ≡ false) known
@@ -213,8 +223,13 @@ hwpt_moves w device ioas id object d bound known named None is answers =
       roomy = sym (ap (λ (o : Option Object). is_none o && is_full w.objects object.file) is) ∙ room;
       known = λ all. both_true _ _ (bound_known w.settings w.closed w.objects device object all bound).0 refl;
       unbound = no_device w (kind.Hwpt ioas d.width true) refl;
+      wide = (
+        reserved_by d,
+        sym (ap (narrows (view w) object.file ioas) known)
+            ∙ (attach_passed (view w) device ioas object bound named none).wide,
+      );
     })
-    (λ finds. absurd (no_table finds)) refl
+    (λ finds. absurd (no_table finds)) same
   where
     no_table : finds_table w.objects ioas (binding_of w.objects device) (device_of w.settings device) ≡ true → ⊥
     no_table finds = let found = rw (bound, known, named, is) at finds in cc
@@ -222,9 +237,8 @@ hwpt_moves w device ioas id object d bound known named None is answers =
 -- ---- each event
 
 module _ {A : Type 0} (at : ℕ) (w : World) (e : Event A) (answer : Reply) (new : World) where
-  moves : ObjectsMove w e answer new.objects → AreasMove at w e answer new.areas new.memory
-      → AttachmentsMove w e answer new.objects new.attachments → MemoryMoves w e answer new.user_pages new.writes
-      → PinsMove w new → AllowedMove w e new.allowed → FilesMove w new → new.settings ≡ w.settings
+  moves : ObjectsMove w e answer new → AreasMove at w e answer new → AttachmentsMove w e answer new
+      → MemoryMoves w e answer new → PinsMove w new → AllowedMove w e new → FilesMove w new → new.settings ≡ w.settings
       → new.table_frames ≡ w.table_frames → Moves at w e answer new
   moves objects areas attachments memory pins allowed files settings tables =
       record {
@@ -246,7 +260,7 @@ stays at w e answer = moves at w e answer w (Same refl) (SameAreas refl refl) (S
 
 -- only the objects change
 object_moves : {A : Type 0} (at : ℕ) (w : World) (e : Event A) (answer : Reply) (objects : List Object)
-    → ObjectsMove w e answer objects → Moves at w e answer (record w { objects = objects })
+    → ObjectsMove w e answer (record w { objects = objects }) → Moves at w e answer (record w { objects = objects })
 object_moves at w e answer objects move =
     moves at w e answer (record w { objects = objects }) move (SameAreas refl refl) (SameAttachments refl)
     (SameMemory refl refl) (SamePins refl) (SameAllowed refl) (StayOpen refl) refl refl
@@ -262,18 +276,19 @@ changed_moves at w (event.IoasAlloc file) (reply.Id id) =
       roomy = passed.roomy;
       known = λ all. both_true _ _ passed.opened refl;
       unbound = no_device w kind.Ioas refl;
+      wide = tt;
     })
     (λ makes. refl) refl)
 changed_moves at w (event.AllowIovas file ioas ranges) reply.Done =
     moves at w _ _ _ (Same refl) (SameAreas refl refl) (SameAttachments refl) (SameMemory refl refl) (SamePins refl)
-    (Allows file ioas ranges (λ none. allow_passed (view w) file ioas ranges none) refl) (StayOpen refl) refl refl
+    (Allows file ioas ranges (λ none. allow_passed (view w) file ioas ranges none) (record { objects = refl; attachments = refl }) refl) (StayOpen refl) refl refl
 changed_moves {A = A} at w (event.Map file request) (reply.Iova iova) =
     let e : Event A = event.Map file request in
     by_found (λ user. Moves at w e (reply.Iova iova) (map_changes at w file request iova user))
     (user_of w.settings file) (stays at w e (reply.Iova iova)) (λ user is.
     moves at w _ _ _ (Same refl)
     (OneArea at file request iova (λ none. map_place (view w) file request none)
-    (λ none answers. lies_at w file request iova none answers) (λ makes. makes) refl
+    (λ none answers. lies_at w file request iova none answers) (λ makes. makes) (record { objects = refl; attachments = refl }) refl
     (NewMemory user is (λ none. (map_passed (view w) file request none).in_user) refl refl))
     (SameAttachments refl) (SameMemory refl refl) (Settled refl) (SameAllowed refl) (StayOpen refl) refl refl)
 changed_moves {A = A} at w (event.Copy file request) (reply.Iova iova) =
@@ -283,7 +298,7 @@ changed_moves {A = A} at w (event.Copy file request) (reply.Iova iova) =
     let source_of = source_is w file request source is in
     moves at w _ _ _ (Same refl)
     (OneArea source.memory file (placed_as request) iova (λ none. copy_place (view w) file request none)
-    (λ none answers. copy_lies_at w file request iova none answers) (λ makes. makes) refl
+    (λ none answers. copy_lies_at w file request iova none answers) (λ makes. makes) (record { objects = refl; attachments = refl }) refl
     (SharedMemory source source_of.within source_of.of_file
     (λ none. copied_size w file request iova source none source_of) refl refl))
     (SameAttachments refl) (SameMemory refl refl) (Settled refl) (SameAllowed refl) (StayOpen refl) refl refl)
@@ -304,6 +319,7 @@ changed_moves {A = A} at w (event.HwptAlloc file request) (reply.Id id) =
       roomy = passed.roomy;
       known = λ all. both_true _ _ passed.opened refl;
       unbound = no_device w (kind.Hwpt request.ioas settings.width false) refl;
+      wide = ([], sym (ap (narrows_by_width (view w) file request.ioas) is) ∙ passed.wide);
     })
     (λ makes. absurd makes) refl)
     (SameAreas refl refl) (SameAttachments refl) (SameMemory refl refl) (Settled refl) (SameAllowed refl)
@@ -335,6 +351,7 @@ changed_moves at w (event.Bind file device) (reply.Id id) =
       roomy = passed.roomy;
       known = λ all. both_true _ _ passed.opened passed.known;
       unbound = λ other same. unbound_before w device other passed.unbound same;
+      wide = tt;
     })
     (λ makes. refl) refl)
 changed_moves at w (event.Unbind file id) reply.Done =
@@ -344,18 +361,20 @@ changed_moves {A = A} at w (event.Attach device pt_id) (reply.Id id) =
     by_target w device pt_id id (Moves at w e (reply.Id id)) (stays at w e (reply.Id id))
     (λ object d bound known space made.
     let automatic = automatic_hwpt w.objects object.file pt_id d.width in
-    moves at w e (reply.Id id) (settle w (attached w device pt_id id object d)) (hwpt_moves w device pt_id id object d bound known space automatic refl made)
+    moves at w e (reply.Id id) (settle w (attached w device pt_id id object d)) (hwpt_moves w device pt_id id object d bound known space automatic refl made _ refl)
     (OtherPhases _ (λ a live. paid_live device a.phase live) refl refl)
     (OneAttachment (record { device = device; file = object.file; hwpt = id }) object bound refl
     (λ none. (attach_passed (view w) device pt_id object bound space none).unattached)
-    (λ none answers own. made_width w device object.file pt_id id d automatic own known refl (made answers)) refl)
+    (λ none answers own. made_served w device object.file pt_id id d automatic own known refl (made answers)
+    (sym (ap (narrows (view w) object.file pt_id) known)
+    ∙ (attach_passed (view w) device pt_id object bound space none).wide)) refl)
     (SameMemory refl refl) (Settled refl) (SameAllowed refl) (StayOpen refl) refl refl)
     (λ object d ioas width automatic bound known table same.
     moves at w _ _ _ (Same refl) (OtherPhases _ (λ a live. paid_live device a.phase live) refl refl)
     (OneAttachment (record { device = device; file = object.file; hwpt = id }) object bound refl
     (λ none. (join_passed (view w) device pt_id ioas width automatic object bound table none).unattached)
-    (λ none answers own. joined_width w device object.file ioas id width automatic (rw (same answers) table)
-    (join_passed (view w) device pt_id ioas width automatic object bound table none).same_width) refl)
+    (λ none answers own. joined_served w device object ioas id d width automatic known
+    (rw (same answers) table) (join_passed (view w) device pt_id ioas width automatic object bound table none)) refl)
     (SameMemory refl refl) (SamePins refl) (SameAllowed refl) (StayOpen refl) refl refl)
 changed_moves {A = A} at w (event.Detach device) reply.Done =
     let e : Event A = event.Detach device in
@@ -375,17 +394,16 @@ changed_moves at w e answer = stays at w e answer
 
 -- what holds of areas whatever their phase, and of the one that comes
 pub all_areas : {A : Type 0} (p : Area → Bool) → ((phase : Phase) (a : Area) → p a ≡ true → p (with_phase phase a) ≡ true)
-    → (at : ℕ) (w : World) (e : Event A) (answer : Reply) (new : List Area) (memory : List MemoryObject)
-    → AreasMove at w e answer new memory
+    → (at : ℕ) (w : World) (e : Event A) (answer : Reply) (new : World) → AreasMove at w e answer new
     → ((number : ℕ) (file : FileNo) (request : MapRequest) (iova : Iova)
     → (refusal w e ≡ None → PlacePassed (view w) file request)
-    → (refusal w e ≡ None → Answers w e answer → LiesAt (view w) file request iova.0)
-    → MemoryUnder at w e file request iova number memory → p (mapped_area number file request iova) ≡ true)
-    → list_all p w.areas ≡ true → list_all p new ≡ true
-all_areas p phases at w e answer new memory (SameAreas is same) one all = rw is all
-all_areas p phases at w e answer new memory (FewerAreas goes is left) one all = rw is (all_filter p _ w.areas all)
-all_areas p phases at w e answer new memory (OtherPhases phase lives is same) one all =
+    → (refusal w e ≡ None → Answers w e answer → LiesAt (view w) file request iova.0) → SameTranslations w new
+    → MemoryUnder at w e file request iova number new.memory → p (mapped_area number file request iova) ≡ true)
+    → list_all p w.areas ≡ true → list_all p new.areas ≡ true
+all_areas p phases at w e answer new (SameAreas is same) one all = rw is all
+all_areas p phases at w e answer new (FewerAreas goes is left) one all = rw is (all_filter p _ w.areas all)
+all_areas p phases at w e answer new (OtherPhases phase lives is same) one all =
     rw is (all_map p p _ w.areas (λ a here. phases (phase a) a here) all)
-all_areas p phases at w e answer new memory (OneArea number file request iova passed lies makes is under) one all =
+all_areas p phases at w e answer new (OneArea number file request iova passed lies makes alike is under) one all =
     rw is (all-with_area p (mapped_area number file request iova) w.areas
-    (one number file request iova passed lies under) all)
+    (one number file request iova passed lies alike under) all)

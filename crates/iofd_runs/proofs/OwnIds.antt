@@ -1,5 +1,5 @@
 -- Each id is that of one object of its file, after every event.
-use Rattle.std.proofs.Common.{◌≡◌, ℕ, true, None, List}
+use Rattle.std.proofs.Common.{◌≡◌, ℕ, true, None}
 use Rattle.iofd_rows.specs.Ids.{have_own_ids}
 use Rattle.iofd_runs.proofs.Moves.{ObjectsMove, Same, Fewer, More, changed_moves}
 use Rattle.iofd_words.specs.After.{changed}
@@ -8,15 +8,14 @@ use Rattle.iofd_words.specs.Checks.{refusal}
 use Rattle.iofd_words.specs.World.{World}
 use Rattle.iofd_words.specs.declared.event.Event.{Event}
 use Rattle.iofd_words.specs.declared.reply.Reply.{Reply}
-use Rattle.iofd_words.specs.declared.rows.Object.{Object}
 pub use Rattle.iofd_rows.proofs.OwnIds.{any_found, own_ids-filter, own_ids-with_object, unused}
 
 pub keeps_own_ids : {A : Type 0} → (at : ℕ) (w : World) (e : Event A) (answer : Reply) → refusal w e ≡ None
     → Answers w e answer → have_own_ids w.objects ≡ true → have_own_ids (changed at w e answer).objects ≡ true
 keeps_own_ids at w e answer none answers own =
-    by_move (changed at w e answer).objects (changed_moves at w e answer).objects
+    by_move (changed at w e answer) (changed_moves at w e answer).objects
   where
-    by_move : (new : List Object) → ObjectsMove w e answer new → have_own_ids new ≡ true
+    by_move : (new : World) → ObjectsMove w e answer new → have_own_ids new.objects ≡ true
     by_move new (Same is) = rw is own
     by_move new (Fewer stays stay is) = rw is (own_ids-filter stays w.objects own)
     by_move new (More object fresh admitted makes is) =

@@ -38,7 +38,6 @@ use Rattle.iofd_runs.proofs.SameTables.{same_tables}
 use Rattle.iofd_runs.specs.Tabled.{AreTabled}
 use Rattle.iofd_runs.proofs.Moves.{AreasMove, Fewer, FewerAreas, More, ObjectsMove, OneArea, OtherPhases, Same, SameAreas, changed_moves}
 use Rattle.iofd_runs.proofs.TableEvents.{HwptsStay, paid_live, stay_same, stay_with}
-use Rattle.iofd_words.specs.declared.rows.MemoryObject.{MemoryObject}
 pub use Rattle.iofd_runs.proofs.TableEvents.{MakesNone, TakesNone, finds_table, leaves_table}
 
 -- ---- what is in lists
@@ -184,19 +183,19 @@ pub none_after : {A : Type 0} → (at : ℕ) (w : World) (e : Event A) (answer :
     → missing_tables (changed at w e answer).objects (changed at w e answer).areas w.table_frames ≡ []
 none_after at w e answer makes none =
     still_none_missing w.objects (changed at w e answer).objects w.areas (changed at w e answer).areas w.table_frames
-    (hwpts (changed at w e answer).objects (changed_moves at w e answer).objects)
-    (lived (changed at w e answer).areas (changed at w e answer).memory (changed_moves at w e answer).areas) none
+    (hwpts (changed at w e answer) (changed_moves at w e answer).objects)
+    (lived (changed at w e answer) (changed_moves at w e answer).areas) none
   where
-    hwpts : (new : List Object) → ObjectsMove w e answer new → HwptsIn w.objects new
+    hwpts : (new : World) → ObjectsMove w e answer new → HwptsIn w.objects new.objects
     hwpts new (Same is) = rw is (hwpts_same w.objects)
     hwpts new (Fewer stays stay is) = rw is (hwpts_fewer stays w.objects)
     hwpts new (More object fresh admitted other is) = rw is (hwpts_other object w.objects (other makes))
 
-    lived : (new : List Area) (memory : List MemoryObject) → AreasMove at w e answer new memory → LiveIn w.areas new
-    lived new memory (SameAreas is same) = rw is (live_same w.areas)
-    lived new memory (FewerAreas goes is left) = rw is (live_fewer (λ (a : Area). not (goes a)) w.areas)
-    lived new memory (OtherPhases phase lives is same) = rw is (live_phases phase w.areas lives)
-    lived new memory (OneArea number file request iova passed lies never is under) = absurd (never makes)
+    lived : (new : World) → AreasMove at w e answer new → LiveIn w.areas new.areas
+    lived new (SameAreas is same) = rw is (live_same w.areas)
+    lived new (FewerAreas goes is left) = rw is (live_fewer (λ (a : Area). not (goes a)) w.areas)
+    lived new (OtherPhases phase lives is same) = rw is (live_phases phase w.areas lives)
+    lived new (OneArea number file request iova passed lies never alike is under) = absurd (never makes)
 
 -- by the kind of its page table
 pub orphan_is : (objects : List Object) (table : TableFrame) (o : Option ObjectKind)
@@ -272,9 +271,9 @@ pub owned_after : {A : Type 0} → (at : ℕ) (w : World) (e : Event A) (answer 
     → list_all (is_owned (changed at w e answer).objects) w.table_frames ≡ true
 owned_after at w e answer answers takes all =
     still_owned w.objects (changed at w e answer).objects w.table_frames
-    (by_move (changed at w e answer).objects (changed_moves at w e answer).objects) all
+    (by_move (changed at w e answer) (changed_moves at w e answer).objects) all
   where
-    by_move : (new : List Object) → ObjectsMove w e answer new → HwptsStay w.objects new
+    by_move : (new : World) → ObjectsMove w e answer new → HwptsStay w.objects new.objects
     by_move new (Same is) = rw is (stay_same w.objects)
     by_move new (Fewer stays stay is) = rw is (stay takes)
     by_move new (More object fresh admitted other is) =
