@@ -71,9 +71,9 @@ use Rattle.iofd_runs.proofs.AttachedPages.{there_now, with_table}
 use Rattle.iofd_runs.proofs.CopiedPages.{pages_copied}
 use Rattle.iofd_runs.proofs.CopySource.{source_area, source_is}
 use Rattle.iofd_runs.proofs.KeepsOwned.{OwnedPins, owner}
-use Rattle.iofd_runs.proofs.KeepsPins.{AlikeAreas, pages_in}
+use Rattle.iofd_runs.proofs.PagesToPin.{AlikeAreas, alike_paid, pages_in}
 use Rattle.iofd_runs.proofs.StillTabled.{in_kept}
-use Rattle.iofd_laws.proofs.KeepsLimits.{alike_paid, copied_world, has_pin, held_settle, listed_page, mapped_world}
+use Rattle.iofd_laws.proofs.KeepsLimits.{copied_world, has_pin, held_settle, listed_page, mapped_world}
 use Rattle.iofd_laws.proofs.KeepsLimits.{moved_world, number_of_page, of_user, page_of_object}
 use Rattle.iofd_laws.proofs.RefusingRow.{row_passed, some_row}
 

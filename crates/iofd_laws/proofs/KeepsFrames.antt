@@ -16,6 +16,7 @@ use Rattle.iofd_rows.proofs.PinsFollow.{settled_at, settled_frame}
 use Rattle.iofd_runs.proofs.Moves.{PinsMove, SamePins, Settled, changed_moves}
 use Rattle.iofd_words.specs.declared.rows.Pin.{Pin}
 use Rattle.std.proofs.Common.{List, ap, ◌∙◌}
+use Rattle.iofd_words.specs.declared.event.Event.{Event}
 
 same : (old now : Option FrameNo) → PinMoves old old now
 same None now = tt
@@ -34,10 +35,10 @@ module _ (w : World) (page : ObjectPage) where
   stays : pin_moves page w w
   stays = same (pinned_frame w.pins page) (frame_now w.memory w.user_pages page)
 
-  by_move : (new : World) → PinsMove w new → pin_moves page w new
+  by_move : {A : Type 0} (at : ℕ) (e : Event A) (new : World) → PinsMove at w e new → pin_moves page w new
   unfolding settle
-  by_move new (SamePins is) = rw is (same (pinned_frame w.pins page) _)
-  by_move new (Settled is) =
+  by_move at e new (SamePins is alike) = rw is (same (pinned_frame w.pins page) _)
+  by_move at e new (Settled is present) =
       let before = pinned_pages w.objects w.areas w.memory w.access_pins in
       let next = pinned_pages new.objects new.areas new.memory new.access_pins in
       let now = frame_now new.memory new.user_pages page in
@@ -53,4 +54,4 @@ module _ (w : World) (page : ObjectPage) where
       by_refusal : (o : Option Cause) → pin_moves page w (after_answer at w r o)
       by_refusal (Some cause) = stays
       by_refusal None =
-          by_move (changed at w r.event r.reply) (changed_moves at w r.event r.reply).pins
+          by_move at r.event (changed at w r.event r.reply) (changed_moves at w r.event r.reply).pins

@@ -12,7 +12,7 @@ use Rattle.iofd_words.specs.After.{detach_changes, settle, without_areas, attach
 use Rattle.iofd_words.specs.After.{mapped_area, memory_object, with_hwpt}
 use Rattle.iofd_words.specs.Allowed.{AllowedRanges}
 use Rattle.iofd_words.specs.Answers.{Answers}
-use Rattle.iofd_words.specs.Areas.{all_paid, areas_of, is_of, is_touched, paid, with_area}
+use Rattle.iofd_words.specs.Areas.{all_paid, areas_of, is_of, is_touched, with_area}
 use Rattle.iofd_words.specs.Attachments.{attachment_of, with_attachment, without_attachment}
 use Rattle.iofd_words.specs.Checks.{copy_checks, map_checks, newly_pinned, passes_limit, passes_limit_attached, refusal}
 use Rattle.iofd_words.specs.Copies.{placed_as}
@@ -49,7 +49,7 @@ use Rattle.iofd_rows.specs.Pinned.{ArePinned}
 use Rattle.iofd_rows.proofs.Bools.{and_rest, and_true, both_true, clash, not_false, not_true}
 use Rattle.iofd_rows.proofs.Each.{IsIn, of_any, of_each}
 use Rattle.iofd_rows.proofs.ListTests.{false_else}
-use Rattle.iofd_rows.proofs.ObjectPages.{has_page, in_pinned, is_listed, listed_is, translated-map}
+use Rattle.iofd_rows.proofs.ObjectPages.{has_page, in_pinned, is_listed, listed_is}
 use Rattle.iofd_rows.proofs.ObjectPages.{translated-with_area, untranslated}
 use Rattle.iofd_rows.proofs.PageCounts.{count_either, count_none, count_weaker, page_count, page_count_bound}
 use Rattle.iofd_rows.proofs.PageCounts.{page_count_filter, page_count_last, page_count_none}
@@ -62,7 +62,7 @@ use Rattle.iofd_runs.proofs.AttachedPages.{with_table}
 use Rattle.iofd_runs.proofs.CopiedPages.{IsAdded, added_page, pages_copied}
 use Rattle.iofd_runs.proofs.CopySource.{source_area, source_is}
 use Rattle.iofd_runs.proofs.KeepsOwned.{OwnedPins, keeps_owned_pins, later_owned, opening_owned, owner, tabled_owned}
-use Rattle.iofd_runs.proofs.KeepsPins.{AlikeAreas, gone_within, moved_new, none_over, pages_in}
+use Rattle.iofd_runs.proofs.PagesToPin.{AlikeAreas, alike_paid, gone_within, moved_new, none_over, pages_in}
 use Rattle.iofd_runs.proofs.NotRefused.{attach_passed, copy_passed, hwpt_passed, map_passed}
 use Rattle.iofd_runs.proofs.StillTabled.{in_kept}
 
@@ -457,10 +457,6 @@ fewer_held w areas left attachments user alike fewer =
     rw (held_settle w (moved_world w areas left attachments) user)
     (none_comes w (moved_world w areas left attachments) (of_user user) w.memory
     (λ page is. none_new w left page fewer (comes_new w areas left attachments page alike is)))
-
--- the areas with a device's debts paid
-pub alike_paid : (w : World) (device : DeviceNo) → AlikeAreas w (all_paid device w.areas)
-alike_paid w device = λ objects number. translated-map objects (λ a. paid device a.phase) w.areas number
 
 -- an address space gets its first page table
 module _ (at : ℕ) (w : World) (areas : List Area) (alike : AlikeAreas w areas) (file : FileNo) (ioas id : ObjId)

@@ -59,11 +59,11 @@ module _ (q : ℕ → Bool) (w : World) (all : OfFrames q w) where
       rw is (all_filter (λ (p : UserPage). q p.frame.0) stays w.user_pages all.users)
   users_stay e answer new (Written written is) given = rw is all.users
 
-  pins_stay : (new : World) → PinsMove w new → list_all (λ (p : UserPage). q p.frame.0) new.user_pages ≡ true
+  pins_stay : {A : Type 0} (at : ℕ) (e : Event A) (new : World) → PinsMove at w e new → list_all (λ (p : UserPage). q p.frame.0) new.user_pages ≡ true
       → list_all (λ (pin : Pin). q pin.frame.0) new.pins ≡ true
   unfolding settle
-  pins_stay new (SamePins is) users = rw is all.pins
-  pins_stay new (Settled is) users =
+  pins_stay at e new (SamePins is alike) users = rw is all.pins
+  pins_stay at e new (Settled is present) users =
       rw is (settled_frames q new.memory new.user_pages users _ _ w.pins all.pins)
 
   -- it holds still, if it holds of the frame that is answered
@@ -72,7 +72,7 @@ module _ (q : ℕ → Bool) (w : World) (all : OfFrames q w) where
   frames_stay at e answer given =
       let new : World = changed at w e answer in
       let users = users_stay e answer new (changed_moves at w e answer).memory given in
-      record { users = users; pins = pins_stay new (changed_moves at w e answer).pins users }
+      record { users = users; pins = pins_stay at e new (changed_moves at w e answer).pins users }
 
 -- ---- none and each not
 

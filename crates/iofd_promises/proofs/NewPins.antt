@@ -17,6 +17,7 @@ use Rattle.iofd_runs.proofs.Moves.{PinsMove, SamePins, Settled}
 use Rattle.iofd_promises.proofs.Lists.{in_append, in_filter_map}
 use Rattle.iofd_promises.proofs.Rows.{contains}
 use Rattle.iofd_promises.proofs.UserPages.{page_at}
+use Rattle.iofd_words.specs.declared.event.Event.{Event}
 
 -- a page's pin, by its frame, and its frame, by its memory object
 abbrev pin_with : ℕ → ℕ → Option FrameNo → Option Pin
@@ -73,6 +74,6 @@ module _ (w : World) (pin : Pin) where
       inr (of_now new page is))
       (in_append (filter (λ (p : Pin). list_any (is_page (page_of_pin p)) next) w.pins) _ pin within)
 
-  pub pin_from : (new : World) → PinsMove w new → IsIn new.pins pin → IsFrom new
-  pin_from new (SamePins is) within = inl (rw is at within)
-  pin_from new (Settled is) within = settled_from new (rw is at within)
+  pub pin_from : {A : Type 0} (at : ℕ) (e : Event A) (new : World) → PinsMove at w e new → IsIn new.pins pin → IsFrom new
+  pin_from at e new (SamePins is alike) within = inl (rw is at within)
+  pin_from at e new (Settled is present) within = settled_from new (rw is at within)

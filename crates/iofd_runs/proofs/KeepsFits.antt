@@ -219,12 +219,12 @@ module _ {A : Type 0} (at : ℕ) (w : World) (e : Event A) (answer : Reply) (non
   pages_fit new (FewerPages stays is same) = rw is (all_filter _ stays w.user_pages fits.user_frames)
   pages_fit new (Written written is) = rw is fits.user_frames
 
-  pins_fit : (new : World) → PinsMove w new
+  pins_fit : (new : World) → PinsMove at w e new
       → list_all (λ (p : UserPage). ltb p.frame.0 w.settings.pool) new.user_pages ≡ true
       → list_all (λ (pin : Pin). ltb pin.frame.0 w.settings.pool) new.pins ≡ true
   unfolding settle
-  pins_fit new (SamePins is) users = rw is fits.pin_frames
-  pins_fit new (Settled is) users =
+  pins_fit new (SamePins is alike) users = rw is fits.pin_frames
+  pins_fit new (Settled is present) users =
       rw is (settled_frames (λ n. ltb n w.settings.pool) _ new.user_pages users _ _ w.pins fits.pin_frames)
 
   objects_known : (new : World) → ObjectsMove w e answer new → FilesMove w new

@@ -1,11 +1,9 @@
 -- Every event leaves the memory objects of each file its own: only areas of one file share them.
-use Rattle.std.proofs.Common.{◌≡◌, ℕ, ◌+◌, true, Some, None, List, ◌∙◌, ◌||◌, not, eqb, ap, sym}
+use Rattle.std.proofs.Common.{◌≡◌, ℕ, ◌+◌, true, Some, None, List, not}
 use Rattle.iofd_words.specs.After.{changed, copy_changes}
-use Rattle.iofd_words.specs.After.{mapped_area, settle}
+use Rattle.iofd_words.specs.After.{mapped_area}
 use Rattle.iofd_words.specs.Answers.{Answers}
-use Rattle.iofd_words.specs.Areas.{with_area}
 use Rattle.iofd_words.specs.Checks.{copy_checks, refusal}
-use Rattle.iofd_words.specs.Copies.{placed_as}
 use Rattle.iofd_words.specs.FirstTrue.{first_true}
 use Rattle.iofd_words.specs.Tables.{with_tables}
 use Rattle.iofd_words.specs.View.{view}
@@ -18,8 +16,8 @@ use Rattle.iofd_words.specs.declared.numbers.Iova.{Iova}
 use Rattle.iofd_words.specs.declared.reply.Reply.{Reply}
 use Rattle.iofd_words.specs.declared.rows.Area.{Area}
 use Rattle.iofd_rows.specs.Pinned.{ArePinned, share_in_file, share_in_files}
-use Rattle.iofd_runs.proofs.CopySource.{IsSource, source_area, source_is}
-use Rattle.iofd_runs.proofs.KeepsPins.{copied_pinned, keeps_pins, later_pinned, none_over, tabled_pinned}
+use Rattle.iofd_runs.proofs.CopySource.{source_area}
+use Rattle.iofd_runs.proofs.KeepsPins.{keeps_pins, later_pinned, tabled_pinned}
 use Rattle.iofd_rows.proofs.Each.{of_each}
 use Rattle.iofd_rows.proofs.OwnMemory.{shared-filter, shared-map, shared-with_area, shares_none}
 use Rattle.std.specs.List.{list_all}
@@ -27,20 +25,10 @@ use Rattle.iofd_runs.proofs.Moves.{AreasMove, SameAreas, FewerAreas, OtherPhases
 use Rattle.iofd_runs.proofs.Moves.{SharedMemory, changed_moves}
 use Rattle.iofd_words.specs.declared.rows.MemoryObject.{MemoryObject}
 use Rattle.iofd_words.specs.declared.event.MapRequest.{MapRequest}
-
--- a COPY's area shares its source's memory object, and is of its source's file
-copied_shares : (w : World) (file : FileNo) (request : CopyRequest) (iova : Iova) (source : Area)
-    → source_area w file request ≡ Some source → share_in_files w.areas ≡ true
-    → share_in_files (with_area (mapped_area source.memory file (placed_as request) iova) w.areas) ≡ true
-copied_shares w file request iova source found own =
-    shared-with_area (mapped_area source.memory file (placed_as request) iova) w.areas
-    (ap (λ (f : FileNo). list_all (λ (a : Area). not (eqb source.memory a.memory) || eqb f.0 a.file.0) w.areas)
-    (sym is.of_file)
-    ∙ of_each (λ (a : Area). list_all (share_in_file a) w.areas) w.areas source own is.within)
-    own
-  where
-    is : IsSource w file request source
-    is = source_is w file request source found
+use Rattle.iofd_runs.proofs.KeepsPins.{pinned_after}
+use Rattle.iofd_runs.proofs.PagesToPin.{none_over}
+use Rattle.iofd_words.specs.declared.event.Event.TheVariants as event
+use Rattle.iofd_words.specs.declared.reply.Reply.TheVariants as reply
 
 pub keeps_own_memory : {A : Type 0} → (at : ℕ) (w : World) (e : Event A) (answer : Reply) → ArePinned at w
     → share_in_files w.areas ≡ true → share_in_files (changed at w e answer).areas ≡ true
@@ -82,12 +70,14 @@ later_own at w p = record { pins = later_pinned at w p.pins; own = p.own }
 pub copied_own : (at : ℕ) (w : World) (file : FileNo) (request : CopyRequest) (iova : Iova) (source : Area)
     → first_true (copy_checks (view w) file request) ≡ None → source_area w file request ≡ Some source → OwnPins at w
     → OwnPins (at + 1) (copy_changes w file request iova (Some source))
-unfolding settle
+unfolding changed
 copied_own at w file request iova source none found p =
-    record {
-      pins = copied_pinned at w file request iova source none found p.pins;
-      own = copied_shares w file request iova source found p.own;
-    }
+    let e : Event (Unit {0}) = event.Copy file request in
+    let after : OwnPins (at + 1) (copy_changes w file request iova (source_area w file request)) = record {
+      pins = pinned_after at w e (reply.Iova iova) none p.pins;
+      own = keeps_own_memory at w e (reply.Iova iova) p.pins p.own;
+    } in
+    rw found at after
 
 pub keeps_own_pins : {A : Type 0} → (at : ℕ) (w : World) (e : Event A) (answer : Reply) → refusal w e ≡ None
     → Answers w e answer → OwnPins at w → OwnPins (at + 1) (changed at w e answer)

@@ -30,11 +30,12 @@ use Rattle.iofd_rows.proofs.Each.{IsIn, of_each}
 use Rattle.iofd_rows.proofs.Found.{all_filter, all_map, all_weaker}
 use Rattle.iofd_rows.proofs.ListTests.{or_left, or_right, any-filter, any_of_all}
 use Rattle.iofd_rows.proofs.OwnMemory.{all-with_area}
-use Rattle.iofd_runs.proofs.KeepsPins.{keeps_pins, later_pinned, none_over, tabled_pinned, opening_pinned}
+use Rattle.iofd_runs.proofs.KeepsPins.{keeps_pins, later_pinned, tabled_pinned, opening_pinned}
 use Rattle.iofd_runs.specs.Owned.{AreasOwned, is_of_files_user, is_over_own}
 use Rattle.iofd_runs.proofs.Moves.{AreasMove, SameAreas, FewerAreas, OtherPhases, OneArea, MemoryUnder, NewMemory}
 use Rattle.iofd_runs.proofs.Moves.{SharedMemory, changed_moves}
 use Rattle.iofd_words.specs.Areas.{with_area}
+use Rattle.iofd_runs.proofs.PagesToPin.{none_over}
 
 -- ---- a MAP
 

@@ -21,6 +21,7 @@ pub mod Moves
 pub mod NotRefused
 pub mod ObjectsGo
 pub mod OwnIds
+pub mod PagesToPin
 pub mod PinnedAccess
 pub mod RisingLists
 pub mod Runs

@@ -61,6 +61,15 @@ use Rattle.iofd_words.specs.declared.rows.Phase.{Phase}
 use Rattle.iofd_words.specs.declared.rows.UserPage.{UserPage}
 use Rattle.iofd_rows.proofs.Found.{all_filter, all_map}
 use Rattle.iofd_rows.proofs.OwnMemory.{all-with_area}
+use Rattle.iofd_runs.proofs.PagesToPin.{ArePresent, PagesAlike, alike_objects, alike_paid, alike_phases, moved_new, none_comes, none_over}
+use Rattle.iofd_runs.proofs.AttachedPages.{attached_present, none_new, table_present}
+use Rattle.iofd_runs.proofs.CopiedPages.{added_page, copied_present}
+use Rattle.iofd_runs.proofs.MappedPages.{mapped_present}
+use Rattle.iofd_rows.proofs.PageTables.{hwpt-filter, hwpt-unbound, same_hwpt}
+use Rattle.iofd_rows.specs.Pinned.{ArePinned}
+use Rattle.iofd_words.specs.Areas.{all_paid}
+use Rattle.iofd_words.specs.Objects.{has_hwpt}
+use Rattle.iofd_words.specs.Areas.{paid}
 
 -- ---- what an event may make of the rows
 
@@ -149,10 +158,12 @@ pub data MemoryMoves {A : Type 0} (w : World) (e : Event A) (answer : Reply) (ne
       → MemoryMoves w e answer new
   Written : Writes e answer → new.user_pages ≡ w.user_pages → MemoryMoves w e answer new
 
--- pins: the same, or those that follow the areas and page tables of the world after the event
-pub data PinsMove (w new : World) : Type 0 where
-  SamePins : new.pins ≡ w.pins → PinsMove w new
-  Settled : new.pins ≡ (settle w new).pins → PinsMove w new
+-- pins: the same, where the same pages are to be pinned, or those that follow the areas and page tables of the world
+-- after the event
+pub data PinsMove {A : Type 0} (at : ℕ) (w : World) (e : Event A) (new : World) : Type 0 where
+  SamePins : new.pins ≡ w.pins → PagesAlike w new → PinsMove at w e new
+  Settled : new.pins ≡ (settle w new).pins → (refusal w e ≡ None → ArePinned at w → ArePresent w new)
+      → PinsMove at w e new
 
 -- allowed ranges: the same, fewer, all of an address space or none of them, or those that an address space is given
 pub data AllowedMove {A : Type 0} (w : World) (e : Event A) (new : World) : Type 0 where
@@ -176,7 +187,7 @@ pub record Moves {A : Type 0} (at : ℕ) (w : World) (e : Event A) (answer : Rep
   pub areas : AreasMove at w e answer new
   pub attachments : AttachmentsMove w e answer new
   pub memory : MemoryMoves w e answer new
-  pub pins : PinsMove w new
+  pub pins : PinsMove at w e new
   pub allowed : AllowedMove w e new
   pub files : FilesMove w new
   -- no event changes what the server was opened with, nor rows of tables: the frames that its record takes and gives do
@@ -238,7 +249,7 @@ hwpt_moves w device ioas id object d bound known named None is answers new same 
 
 module _ {A : Type 0} (at : ℕ) (w : World) (e : Event A) (answer : Reply) (new : World) where
   moves : ObjectsMove w e answer new → AreasMove at w e answer new → AttachmentsMove w e answer new
-      → MemoryMoves w e answer new → PinsMove w new → AllowedMove w e new → FilesMove w new → new.settings ≡ w.settings
+      → MemoryMoves w e answer new → PinsMove at w e new → AllowedMove w e new → FilesMove w new → new.settings ≡ w.settings
       → new.table_frames ≡ w.table_frames → Moves at w e answer new
   moves objects areas attachments memory pins allowed files settings tables =
       record {
@@ -256,14 +267,16 @@ module _ {A : Type 0} (at : ℕ) (w : World) (e : Event A) (answer : Reply) (new
 -- the world stays
 stays : {A : Type 0} (at : ℕ) (w : World) (e : Event A) (answer : Reply) → Moves at w e answer w
 stays at w e answer = moves at w e answer w (Same refl) (SameAreas refl refl) (SameAttachments refl)
-    (SameMemory refl refl) (SamePins refl) (SameAllowed refl) (StayOpen refl) refl refl
+    (SameMemory refl refl) (SamePins refl (λ page. refl)) (SameAllowed refl) (StayOpen refl) refl refl
 
--- only the objects change
+-- objects come or go, none of them a page table
 object_moves : {A : Type 0} (at : ℕ) (w : World) (e : Event A) (answer : Reply) (objects : List Object)
-    → ObjectsMove w e answer (record w { objects = objects }) → Moves at w e answer (record w { objects = objects })
-object_moves at w e answer objects move =
+    → ObjectsMove w e answer (record w { objects = objects })
+    → ((file : FileNo) (ioas : ObjId) → has_hwpt objects file ioas ≡ has_hwpt w.objects file ioas)
+    → Moves at w e answer (record w { objects = objects })
+object_moves at w e answer objects move same =
     moves at w e answer (record w { objects = objects }) move (SameAreas refl refl) (SameAttachments refl)
-    (SameMemory refl refl) (SamePins refl) (SameAllowed refl) (StayOpen refl) refl refl
+    (SameMemory refl refl) (SamePins refl (alike_objects w objects same)) (SameAllowed refl) (StayOpen refl) refl refl
 
 pub changed_moves : {A : Type 0} → (at : ℕ) (w : World) (e : Event A) (answer : Reply)
     → Moves at w e answer (changed at w e answer)
@@ -278,9 +291,9 @@ changed_moves at w (event.IoasAlloc file) (reply.Id id) =
       unbound = no_device w kind.Ioas refl;
       wide = tt;
     })
-    (λ makes. refl) refl)
+    (λ makes. refl) refl) (λ own ioas. same_hwpt _ w.objects own ioas refl)
 changed_moves at w (event.AllowIovas file ioas ranges) reply.Done =
-    moves at w _ _ _ (Same refl) (SameAreas refl refl) (SameAttachments refl) (SameMemory refl refl) (SamePins refl)
+    moves at w _ _ _ (Same refl) (SameAreas refl refl) (SameAttachments refl) (SameMemory refl refl) (SamePins refl (λ page. refl))
     (Allows file ioas ranges (λ none. allow_passed (view w) file ioas ranges none) (record { objects = refl; attachments = refl }) refl) (StayOpen refl) refl refl
 changed_moves {A = A} at w (event.Map file request) (reply.Iova iova) =
     let e : Event A = event.Map file request in
@@ -290,7 +303,9 @@ changed_moves {A = A} at w (event.Map file request) (reply.Iova iova) =
     (OneArea at file request iova (λ none. map_place (view w) file request none)
     (λ none answers. lies_at w file request iova none answers) (λ makes. makes) (record { objects = refl; attachments = refl }) refl
     (NewMemory user is (λ none. (map_passed (view w) file request none).in_user) refl refl))
-    (SameAttachments refl) (SameMemory refl refl) (Settled refl) (SameAllowed refl) (StayOpen refl) refl refl)
+    (SameAttachments refl) (SameMemory refl refl)
+    (Settled refl (λ none p page within before. mapped_present at w file request iova user page none is p.made
+    (none_over at w.areas w.memory p.made p.sizes) within before)) (SameAllowed refl) (StayOpen refl) refl refl)
 changed_moves {A = A} at w (event.Copy file request) (reply.Iova iova) =
     let e : Event A = event.Copy file request in
     by_found (λ source. Moves at w e (reply.Iova iova) (copy_changes w file request iova source))
@@ -301,14 +316,18 @@ changed_moves {A = A} at w (event.Copy file request) (reply.Iova iova) =
     (λ none answers. copy_lies_at w file request iova none answers) (λ makes. makes) (record { objects = refl; attachments = refl }) refl
     (SharedMemory source source_of.within source_of.of_file
     (λ none. copied_size w file request iova source none source_of) refl refl))
-    (SameAttachments refl) (SameMemory refl refl) (Settled refl) (SameAllowed refl) (StayOpen refl) refl refl)
+    (SameAttachments refl) (SameMemory refl refl)
+    (Settled refl (λ none p page within before. copied_present at w file request iova source page p none is
+    (added_page w (mapped_area source.memory file (placed_as request) iova) page within before))) (SameAllowed refl) (StayOpen refl) refl refl)
 changed_moves at w (event.Unmap file request) (reply.Bytes count) =
     moves at w _ _ _ (Same refl) (FewerAreas (is_touched file request) refl refl) (SameAttachments refl)
-    (SameMemory refl refl) (Settled refl) (SameAllowed refl) (StayOpen refl) refl refl
+    (SameMemory refl refl)
+    (Settled refl (λ none p page within before. absurd (none_comes w (is_touched file request) w.objects page
+    (λ own ioas has. has) within before))) (SameAllowed refl) (StayOpen refl) refl refl
 changed_moves at w (event.Unmap file request) (reply.Pending errno) =
     moves at w _ _ _ (Same refl)
     (OtherPhases _ (λ a live. leaving_live (is_touched file request a) _ a.phase live) refl refl)
-    (SameAttachments refl) (SameMemory refl refl) (SamePins refl) (SameAllowed refl) (StayOpen refl) refl refl
+    (SameAttachments refl) (SameMemory refl refl) (SamePins refl (alike_phases w _)) (SameAllowed refl) (StayOpen refl) refl refl
 changed_moves {A = A} at w (event.HwptAlloc file request) (reply.Id id) =
     let e : Event A = event.HwptAlloc file request in
     by_found (λ settings. Moves at w e (reply.Id id) (hwpt_changes w file request.ioas id settings))
@@ -322,26 +341,32 @@ changed_moves {A = A} at w (event.HwptAlloc file request) (reply.Id id) =
       wide = ([], sym (ap (narrows_by_width (view w) file request.ioas) is) ∙ passed.wide);
     })
     (λ makes. absurd makes) refl)
-    (SameAreas refl refl) (SameAttachments refl) (SameMemory refl refl) (Settled refl) (SameAllowed refl)
+    (SameAreas refl refl) (SameAttachments refl) (SameMemory refl refl)
+    (Settled refl (λ none p page within before. table_present at w file request.ioas id settings.width false page p
+    (hwpt_passed (view w) file request none).present
+    (moved_new w w.areas _ page (λ objects number. refl) within before))) (SameAllowed refl)
     (StayOpen refl) refl refl)
 changed_moves at w (event.Destroy file id) reply.Done =
     moves at w _ _ _ (Fewer _ (λ takes. destroyed_stay w file id takes) refl) (FewerAreas (is_of file id) refl refl)
-    (SameAttachments refl) (SameMemory refl refl) (Settled refl)
+    (SameAttachments refl) (SameMemory refl refl)
+    (Settled refl (λ none p page within before. absurd (none_comes w (is_of file id) _ page
+    (λ own ioas has. hwpt-filter _ w.objects own ioas has) within before)))
     (FewerAllowed _ (λ f i. (_, allowed_without file id w.allowed f i)) refl) (StayOpen refl) refl refl
 changed_moves at w (event.Close file) reply.Done =
     moves at w _ _ _ (Fewer _ (λ takes. closed_stay w file takes) refl)
     (FewerAreas (λ (a : Area). eqb a.file.0 file.0) refl refl) (FewerAttachments _ refl) (SameMemory refl refl)
-    (Settled refl) (FewerAllowed _ (λ f i. (_, allowed_closed file w.allowed f i)) refl)
+    (Settled refl (λ none p page within before. absurd (none_comes w (λ (a : Area). eqb a.file.0 file.0) _ page
+    (λ own ioas has. hwpt-filter _ w.objects own ioas has) within before))) (FewerAllowed _ (λ f i. (_, allowed_closed file w.allowed f i)) refl)
     (Closes file refl refl refl) refl refl
 changed_moves at w (event.UserMap user va) (reply.Frame frame) =
     moves at w _ _ _ (Same refl) (SameAreas refl refl) (SameAttachments refl)
     (OnePage user va frame (λ none. user_map_passed (view w) user va none) (λ answers. answers) refl refl refl)
-    (SamePins refl) (SameAllowed refl) (StayOpen refl) refl refl
+    (SamePins refl (λ page. refl)) (SameAllowed refl) (StayOpen refl) refl refl
 changed_moves at w (event.UserUnmap user va) reply.Done =
-    moves at w _ _ _ (Same refl) (SameAreas refl refl) (SameAttachments refl) (FewerPages _ refl refl) (SamePins refl)
+    moves at w _ _ _ (Same refl) (SameAreas refl refl) (SameAttachments refl) (FewerPages _ refl refl) (SamePins refl (λ page. refl))
     (SameAllowed refl) (StayOpen refl) refl refl
 changed_moves at w (event.UserWrite user va bytes) reply.Done =
-    moves at w _ _ _ (Same refl) (SameAreas refl refl) (SameAttachments refl) (Written tt refl) (SamePins refl)
+    moves at w _ _ _ (Same refl) (SameAreas refl refl) (SameAttachments refl) (Written tt refl) (SamePins refl (λ page. refl))
     (SameAllowed refl) (StayOpen refl) refl refl
 changed_moves at w (event.Bind file device) (reply.Id id) =
     object_moves at w (event.Bind file device) (reply.Id id) _
@@ -353,9 +378,10 @@ changed_moves at w (event.Bind file device) (reply.Id id) =
       unbound = λ other same. unbound_before w device other passed.unbound same;
       wide = tt;
     })
-    (λ makes. refl) refl)
+    (λ makes. refl) refl) (λ own ioas. same_hwpt _ w.objects own ioas refl)
 changed_moves at w (event.Unbind file id) reply.Done =
     object_moves at w (event.Unbind file id) reply.Done _ (Fewer _ (λ takes. unbound_stay w file id) refl)
+    (hwpt-unbound w.objects file id)
 changed_moves {A = A} at w (event.Attach device pt_id) (reply.Id id) =
     let e : Event A = event.Attach device pt_id in
     by_target w device pt_id id (Moves at w e (reply.Id id)) (stays at w e (reply.Id id))
@@ -368,25 +394,30 @@ changed_moves {A = A} at w (event.Attach device pt_id) (reply.Id id) =
     (λ none answers own. made_served w device object.file pt_id id d automatic own known refl (made answers)
     (sym (ap (narrows (view w) object.file pt_id) known)
     ∙ (attach_passed (view w) device pt_id object bound space none).wide)) refl)
-    (SameMemory refl refl) (Settled refl) (SameAllowed refl) (StayOpen refl) refl refl)
+    (SameMemory refl refl)
+    (Settled refl (λ none p page within before. attached_present at w device pt_id id object d.width automatic page p
+    none bound space (moved_new w (all_paid device w.areas) _ page (alike_paid w device) within before))) (SameAllowed refl) (StayOpen refl) refl refl)
     (λ object d ioas width automatic bound known table same.
     moves at w _ _ _ (Same refl) (OtherPhases _ (λ a live. paid_live device a.phase live) refl refl)
     (OneAttachment (record { device = device; file = object.file; hwpt = id }) object bound refl
     (λ none. (join_passed (view w) device pt_id ioas width automatic object bound table none).unattached)
     (λ none answers own. joined_served w device object ioas id d width automatic known
     (rw (same answers) table) (join_passed (view w) device pt_id ioas width automatic object bound table none)) refl)
-    (SameMemory refl refl) (SamePins refl) (SameAllowed refl) (StayOpen refl) refl refl)
+    (SameMemory refl refl) (SamePins refl (alike_phases w (λ a. paid device a.phase))) (SameAllowed refl) (StayOpen refl) refl refl)
 changed_moves {A = A} at w (event.Detach device) reply.Done =
     let e : Event A = event.Detach device in
     by_attachment w device (Moves at w e reply.Done) (stays at w e reply.Done) (λ a is.
     moves at w _ _ _ (Fewer _ (λ takes. detached_stay w device a is takes) refl)
     (OtherPhases _ (λ area live. paid_live device area.phase live) refl refl) (FewerAttachments _ refl)
-    (SameMemory refl refl) (Settled refl) (SameAllowed refl) (StayOpen refl) refl refl)
+    (SameMemory refl refl)
+    (Settled refl (λ none p page within before. absurd (none_new w _ page
+    (λ own ioas has. hwpt-filter _ w.objects own ioas has)
+    (moved_new w (all_paid device w.areas) _ page (alike_paid w device) within before)))) (SameAllowed refl) (StayOpen refl) refl refl)
 changed_moves at w (event.Flush device) reply.Done =
     moves at w _ _ _ (Same refl) (OtherPhases _ (λ a live. paid_live device a.phase live) refl refl)
-    (SameAttachments refl) (SameMemory refl refl) (SamePins refl) (SameAllowed refl) (StayOpen refl) refl refl
+    (SameAttachments refl) (SameMemory refl refl) (SamePins refl (alike_phases w (λ a. paid device a.phase))) (SameAllowed refl) (StayOpen refl) refl refl
 changed_moves at w (event.DeviceWrite device iova bytes) (reply.Passed frame) =
-    moves at w _ _ _ (Same refl) (SameAreas refl refl) (SameAttachments refl) (Written tt refl) (SamePins refl)
+    moves at w _ _ _ (Same refl) (SameAreas refl refl) (SameAttachments refl) (Written tt refl) (SamePins refl (λ page. refl))
     (SameAllowed refl) (StayOpen refl) refl refl
 changed_moves at w e answer = stays at w e answer
 

@@ -29,5 +29,5 @@ returns g c = λ settings before r pin run.
       of_page = users.of_page;
       of_frame = users.of_frame;
     }))
-    (pin_from w pin (changed (length before) w r.event r.reply)
+    (pin_from w pin (length before) r.event (changed (length before) w r.event r.reply)
     (changed_moves (length before) w r.event r.reply).pins (within _ pin has)))
