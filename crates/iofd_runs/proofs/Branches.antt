@@ -28,12 +28,12 @@ by_attachment w device P stays detaches =
     by_found (λ a. P (detach_changes w device a)) (attachment_of w.attachments device) stays detaches
 
 -- a device that is bound is attached: to an address space, by its automatic page table or a new one, or to the page
--- table that is named; of a lawful answer more is known
+-- table that is named. Of a lawful answer more is known, and elsewhere no answer is lawful
 module _ (w : World) (device : DeviceNo) (pt_id id : ObjId) (P : World → Type 0) where
   abbrev IsHere : Type 0
   IsHere = IsHwptOf w pt_id id (binding_of w.objects device) (device_of w.settings device)
 
-  pub by_target : P w
+  pub by_target : ((IsHere → ⊥) → P w)
       → ((bound : Object) (settings : DeviceSettings) → binding_of w.objects device ≡ Some bound
       → device_of w.settings device ≡ Some settings → kind_of w.objects bound.file pt_id ≡ Some kind.Ioas
       → (IsHere → IsHwptFor w bound.file id (automatic_hwpt w.objects bound.file pt_id settings.width))
@@ -49,8 +49,8 @@ module _ (w : World) (device : DeviceNo) (pt_id id : ObjId) (P : World → Type 
       by_device : (o : Option Object) → binding_of w.objects device ≡ o → (s : Option DeviceSettings)
           → device_of w.settings device ≡ s → (IsHere → IsHwptOf w pt_id id o s)
           → P (attach_changes w device pt_id id o s)
-      by_device None bound s known here = stays
-      by_device (Some object) bound None known here = stays
+      by_device None bound s known here = stays here
+      by_device (Some object) bound None known here = stays here
       by_device (Some object) bound (Some settings) known here =
           by_kind (kind_of w.objects object.file pt_id) refl here
         where
@@ -60,5 +60,5 @@ module _ (w : World) (device : DeviceNo) (pt_id id : ObjId) (P : World → Type 
           by_kind (Some kind.Ioas) named here = to_space object settings bound known named here
           by_kind (Some (kind.Hwpt ioas width automatic)) named here =
               to_table object settings ioas width automatic bound known named here
-          by_kind (Some (kind.Device other)) named here = stays
-          by_kind None named here = stays
+          by_kind (Some (kind.Device other)) named here = stays here
+          by_kind None named here = stays here

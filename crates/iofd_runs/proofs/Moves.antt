@@ -384,7 +384,7 @@ changed_moves at w (event.Unbind file id) reply.Done =
     (hwpt-unbound w.objects file id)
 changed_moves {A = A} at w (event.Attach device pt_id) (reply.Id id) =
     let e : Event A = event.Attach device pt_id in
-    by_target w device pt_id id (Moves at w e (reply.Id id)) (stays at w e (reply.Id id))
+    by_target w device pt_id id (Moves at w e (reply.Id id)) (λ nowhere. stays at w e (reply.Id id))
     (λ object d bound known space made.
     let automatic = automatic_hwpt w.objects object.file pt_id d.width in
     moves at w e (reply.Id id) (settle w (attached w device pt_id id object d)) (hwpt_moves w device pt_id id object d bound known space automatic refl made _ refl)
