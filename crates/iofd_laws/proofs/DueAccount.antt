@@ -8,7 +8,7 @@ use Rattle.std.proofs.lemmas.Bool.{not-false}
 use Rattle.std.proofs.lemmas.List.FromFn.{length-map-range_with_len}
 use Rattle.std.proofs.lemmas.List.Sums.{length-filter}
 use Rattle.iofd_words.specs.After.{attach_changes, attached, changed, copy_changes, hwpt_changes, map_changes}
-use Rattle.iofd_words.specs.After.{mapped_area, memory_object, settle, target_changes, with_hwpt}
+use Rattle.iofd_words.specs.After.{mapped_area, memory_object, settle, with_hwpt}
 use Rattle.iofd_words.specs.Answers.{Answers, IsHwptOf}
 use Rattle.iofd_words.specs.Areas.{all_paid, areas_of, is_of, with_area}
 use Rattle.iofd_words.specs.Attachments.{attachment_of, with_attachment}
@@ -71,11 +71,12 @@ use Rattle.iofd_runs.proofs.AttachedPages.{there_now, with_table}
 use Rattle.iofd_runs.proofs.CopiedPages.{pages_copied}
 use Rattle.iofd_runs.proofs.CopySource.{source_area, source_is}
 use Rattle.iofd_runs.proofs.KeepsOwned.{OwnedPins, owner}
-use Rattle.iofd_runs.proofs.KeepsPins.{AlikeAreas, pages_in}
+use Rattle.iofd_runs.proofs.PagesToPin.{AlikeAreas, alike_paid, pages_in}
 use Rattle.iofd_runs.proofs.StillTabled.{in_kept}
-use Rattle.iofd_laws.proofs.KeepsLimits.{alike_paid, copied_world, has_pin, held_settle, listed_page, mapped_world}
+use Rattle.iofd_laws.proofs.KeepsLimits.{copied_world, has_pin, held_settle, listed_page, mapped_world}
 use Rattle.iofd_laws.proofs.KeepsLimits.{moved_world, number_of_page, of_user, page_of_object}
 use Rattle.iofd_laws.proofs.RefusingRow.{row_passed, some_row}
+use Rattle.iofd_runs.proofs.Branches.{by_target}
 
 never : false ≡ true → ⊥
 never is = cc
@@ -591,48 +592,38 @@ module _ {A : Type 0} (at : ℕ) (w : World) (p : OwnedPins at w) (fits : RowsFi
       (event.Attach device pt_id)
   unfolding attach_checks attached
   attach_over device pt_id id refused made =
-      by_binding (binding_of w.objects device) refl (device_of w.settings device) refused made
+      by_target w device pt_id id (λ left. PassesLimit {A = A} w left (event.Attach device pt_id))
+      (λ nowhere. absurd (nowhere made))
+      (λ bound d is known space here.
+      let refused_space = refused_of bound (Some kind.Ioas) is space in
+      let row : passes_limit_attached (view w) bound.file pt_id ≡ true =
+      sym (or_none (passes_limit_attached (view w) bound.file pt_id))
+      ∙ account_row (rows bound (Some kind.Ioas)) refused_space in
+      let lacks : lacks_attached_page (view w) bound.file pt_id ≡ false =
+      row_passed cause.Account is_account refl (rows bound (Some kind.Ioas)) 3 refused_space refl in
+      let none = not_true _ (and_true (not (has_hwpt w.objects bound.file pt_id)) _ row).0 in
+      let of_file : file_of {A = A} w (event.Attach device pt_id) ≡ Some bound.file =
+      ap (λ (o : Option Object). elim o as (λ _. Option FileNo) [ Some b ↦ Some b.file | None ↦ None ]) is in
+      let attachments = with_attachment (record { device = device; file = bound.file; hwpt = id }) w.attachments in
+      subst (λ (o : Option Object). PassesLimit {A = A} w (settle w (moved_world w (all_paid device w.areas)
+      (with_hwpt bound.file pt_id id d.width o w.objects) attachments)) (event.Attach device pt_id))
+      (sym (no_automatic w.objects bound.file pt_id d.width none))
+      (table_over {A = A} at w (all_paid device w.areas) (alike_paid w device) (event.Attach device pt_id)
+      bound.file pt_id id d.width true attachments p of_file row lacks))
+      (λ bound d ioas width automatic is known table same.
+      let k : Option ObjectKind = Some (kind.Hwpt ioas width automatic) in
+      absurd (never (account_row (rows bound k) (refused_of bound k is table))))
     where
       rows : Object → Option ObjectKind → List (Cause × Bool)
       rows bound k = (cause.Bound, is_some (attachment_of w.attachments device))
           ∷ target_checks (view w) device pt_id bound.file k
 
-      by_kind : (bound : Object) (d : DeviceSettings) → binding_of w.objects device ≡ Some bound
-          → (k : Option ObjectKind) → first_true (rows bound k) ≡ Some cause.Account
-          → PassesLimit {A = A} w (target_changes w device pt_id id bound d k) (event.Attach device pt_id)
-      by_kind bound d is (Some kind.Ioas) refused =
-          let row : passes_limit_attached (view w) bound.file pt_id ≡ true =
-          sym (or_none (passes_limit_attached (view w) bound.file pt_id))
-          ∙ account_row (rows bound (Some kind.Ioas)) refused in
-          let lacks : lacks_attached_page (view w) bound.file pt_id ≡ false =
-          row_passed cause.Account is_account refl (rows bound (Some kind.Ioas)) 3 refused refl in
-          let none = not_true _ (and_true (not (has_hwpt w.objects bound.file pt_id)) _ row).0 in
-          let of_file : file_of {A = A} w (event.Attach device pt_id) ≡ Some bound.file =
-          ap (λ (o : Option Object). elim o as (λ _. Option FileNo) [ Some b ↦ Some b.file | None ↦ None ]) is in
-          let attachments =
-          with_attachment (record { device = device; file = bound.file; hwpt = id }) w.attachments in
-          subst (λ (o : Option Object). PassesLimit {A = A} w (settle w (moved_world w (all_paid device w.areas)
-          (with_hwpt bound.file pt_id id d.width o w.objects) attachments)) (event.Attach device pt_id))
-          (sym (no_automatic w.objects bound.file pt_id d.width none))
-          (table_over {A = A} at w (all_paid device w.areas) (alike_paid w device) (event.Attach device pt_id)
-          bound.file pt_id id d.width true attachments p of_file row lacks)
-      by_kind bound d is (Some (kind.Hwpt ioas width automatic)) refused =
-          absurd (never (account_row (rows bound (Some (kind.Hwpt ioas width automatic))) refused))
-      by_kind bound d is (Some (kind.Device other)) refused =
-          absurd (never (account_row (rows bound (Some (kind.Device other))) refused))
-      by_kind bound d is None refused = absurd (never (account_row (rows bound None) refused))
-
-      by_binding : (o : Option Object) → binding_of w.objects device ≡ o → (s : Option DeviceSettings)
-          → first_true (elim o [
-            | None ↦ (cause.Id, true) ∷ []
-            | Some bound ↦ bound_attach_checks (view w) device pt_id bound.file
-          ]) ≡ Some cause.Account
-          → IsHwptOf w pt_id id o s
-          → PassesLimit {A = A} w (attach_changes w device pt_id id o s) (event.Attach device pt_id)
-      by_binding None is s refused made = absurd made
-      by_binding (Some bound) is None refused made = absurd made
-      by_binding (Some bound) is (Some d) refused made =
-          by_kind bound d is (kind_of w.objects bound.file pt_id) refused
+      refused_of : (bound : Object) (k : Option ObjectKind) → binding_of w.objects device ≡ Some bound
+          → kind_of w.objects bound.file pt_id ≡ k → first_true (rows bound k) ≡ Some cause.Account
+      refused_of bound k is named =
+          let refused_bound : first_true (bound_attach_checks (view w) device pt_id bound.file) ≡ Some cause.Account =
+          rw (is, attach_checks) at refused in
+          rw named at refused_bound
 
   pub over_limit : (e : Event A) (answer : Reply) → refusal w e ≡ Some cause.Account → Answers w e answer
       → PassesLimit {A = A} w (changed at w e answer) e

@@ -4,20 +4,19 @@ use Rattle.std.proofs.Common.{is_none, is_some, Option, Some, None, List, [], �
 use Rattle.std.proofs.Common.{arith, inl}
 use Rattle.std.specs.List.{count_by, filter, list_all, list_any, range_with_len}
 use Rattle.std.proofs.lemmas.Bool.Decides.{nat_tests}
-use Rattle.iofd_words.specs.After.{attach_changes, attached, changed, copy_changes, hwpt_changes, map_changes, settle}
-use Rattle.iofd_words.specs.After.{target_changes}
-use Rattle.iofd_words.specs.Answers.{Answers, IsHwptFor, IsHwptOf, IsMappedAt, IsTarget}
+use Rattle.iofd_words.specs.After.{attached, changed, copy_changes, hwpt_changes, map_changes, settle}
+use Rattle.iofd_words.specs.Answers.{Answers, IsHwptFor, IsMappedAt}
 use Rattle.iofd_words.specs.Checks.{allow_iovas_checks, attach_checks, bind_checks, bound_attach_checks, checks}
 use Rattle.iofd_words.specs.Checks.{close_checks, copy_checks, destroy_checks, detach_checks, device_write_checks}
 use Rattle.iofd_words.specs.Checks.{flush_checks, hwpt_alloc_checks, ioas_alloc_checks, lacks_attached_frames}
 use Rattle.iofd_words.specs.Checks.{lacks_mapped_frames, lacks_new_tables, map_checks, mapped_start, refusal}
-use Rattle.iofd_words.specs.Checks.{tables_to_map, target_checks, unbind_checks, unmap_checks, user_map_checks}
+use Rattle.iofd_words.specs.Checks.{tables_to_map, unbind_checks, unmap_checks, user_map_checks}
 use Rattle.iofd_words.specs.Checks.{user_unmap_checks, user_write_checks}
 use Rattle.iofd_words.specs.Copies.{placed_as}
 use Rattle.iofd_words.specs.Files.{device_of, is_open, user_of}
 use Rattle.iofd_words.specs.FirstTrue.{first_true}
 use Rattle.iofd_words.specs.Frames.{free_count, is_free}
-use Rattle.iofd_words.specs.Objects.{automatic_hwpt, binding_of, kind_of, settings_under}
+use Rattle.iofd_words.specs.Objects.{automatic_hwpt, settings_under}
 use Rattle.iofd_words.specs.Rights.{is_fixed}
 use Rattle.iofd_words.specs.Settings.{DeviceSettings}
 use Rattle.iofd_words.specs.Span.{span_from}
@@ -41,8 +40,6 @@ use Rattle.iofd_words.specs.declared.reply.Reply.{Reply}
 use Rattle.iofd_words.specs.declared.reply.Reply.TheVariants as reply
 use Rattle.iofd_words.specs.declared.rows.Area.{Area}
 use Rattle.iofd_words.specs.declared.rows.Object.{Object}
-use Rattle.iofd_words.specs.declared.rows.ObjectKind.{ObjectKind}
-use Rattle.iofd_words.specs.declared.rows.ObjectKind.TheVariants as kind
 use Rattle.iofd_words.specs.declared.rows.TableFrame.{TableFrame}
 use Rattle.iofd_rows.proofs.Bools.{and_true, both_true, clash, or_none}
 use Rattle.iofd_rows.proofs.Each.{IsIn, in_filter, of_all, of_each}
@@ -57,6 +54,7 @@ use Rattle.iofd_laws.proofs.OwnTables.{all_none, none_all, none_goes}
 use Rattle.iofd_laws.proofs.RefusingRow.{row_passed, some_row}
 use Rattle.iofd_laws.proofs.SomeRecord.{attached_owned, attached_tables, made_owned, made_tables, mapped_tables}
 use Rattle.iofd_laws.specs.Laws.{chooses_address}
+use Rattle.iofd_runs.proofs.Branches.{by_target}
 
 never : false ≡ true → ⊥
 never is = cc
@@ -308,7 +306,21 @@ module _ {A : Type 0} (at : ℕ) (w : World) (has : HasTables w) (taken given : 
       (event.Attach device pt_id) (reply.Id id) taken given → ⊥
   unfolding changed settle attached Answers attach_checks
   attach_due device pt_id id refused answers moves =
-      by_binding (binding_of w.objects device) (device_of w.settings device) refl refused answers moves
+      by_target w device pt_id id
+      (λ left. MovesTables {A = A} w left (event.Attach device pt_id) (reply.Id id) taken given → ⊥)
+      (λ nowhere moves. nowhere answers)
+      (λ bound d is known space made moves.
+      let refused_bound : first_true (bound_attach_checks (view w) device pt_id bound.file) ≡ Some cause.Frames =
+      rw (is, attach_checks) at refused in
+      let row = rw space at (frames_row (bound_attach_checks (view w) device pt_id bound.file) refused_bound) in
+      let lacks : lacks_attached_frames (view w) bound.file pt_id (device_of w.settings device) ≡ true =
+      sym (or_none (lacks_attached_frames (view w) bound.file pt_id (device_of w.settings device))) ∙ row in
+      by_table bound d (automatic_hwpt w.objects bound.file pt_id d.width) refl (made answers)
+      (subst (λ o. lacks_attached_frames (view w) bound.file pt_id o ≡ true) known lacks) moves)
+      (λ bound d ioas width automatic is known table same moves.
+      let refused_bound : first_true (bound_attach_checks (view w) device pt_id bound.file) ≡ Some cause.Frames =
+      rw (is, attach_checks) at refused in
+      never (rw table at (frames_row (bound_attach_checks (view w) device pt_id bound.file) refused_bound))) moves
     where
       by_table : (bound : Object) (d : DeviceSettings) (o : Option Object)
           → automatic_hwpt w.objects bound.file pt_id d.width ≡ o → IsHwptFor w bound.file id o
@@ -320,41 +332,6 @@ module _ {A : Type 0} (at : ℕ) (w : World) (has : HasTables w) (taken given : 
           overdrawn w {A = A} (settle w (attached w device pt_id id bound d)) (event.Attach device pt_id) (reply.Id id)
           taken given moves refl (attached_owned w has device pt_id id bound d lacks made) (λ table. refl)
           (subst (λ n. count w < n) (sym (attached_tables w has device pt_id id bound d lacks made)) (above _ _ new))
-
-      by_kind : (bound : Object) (d : DeviceSettings) → device_of w.settings device ≡ Some d → (k : Option ObjectKind)
-          → list_any (λ row. is_frames row.0 && row.1) (target_checks (view w) device pt_id bound.file k) ≡ true
-          → IsTarget w bound.file pt_id id d.width k
-          → MovesTables {A = A} w (target_changes w device pt_id id bound d k) (event.Attach device pt_id)
-          (reply.Id id) taken given → ⊥
-      by_kind bound d known (Some kind.Ioas) row made moves =
-          let lacks : lacks_attached_frames (view w) bound.file pt_id (device_of w.settings device) ≡ true =
-          sym (or_none (lacks_attached_frames (view w) bound.file pt_id (device_of w.settings device))) ∙ row in
-          by_table bound d (automatic_hwpt w.objects bound.file pt_id d.width) refl made
-          (subst (λ o. lacks_attached_frames (view w) bound.file pt_id o ≡ true) known lacks) moves
-      by_kind bound d known (Some (kind.Hwpt ioas width automatic)) row made moves = never row
-      by_kind bound d known (Some (kind.Device other)) row made moves = absurd made
-      by_kind bound d known None row made moves = absurd made
-
-      by_device : (bound : Object) (s : Option DeviceSettings) → device_of w.settings device ≡ s
-          → first_true (bound_attach_checks (view w) device pt_id bound.file) ≡ Some cause.Frames
-          → IsHwptOf w pt_id id (Some bound) s
-          → MovesTables {A = A} w (attach_changes w device pt_id id (Some bound) s) (event.Attach device pt_id)
-          (reply.Id id) taken given → ⊥
-      by_device bound None known refused made moves = absurd made
-      by_device bound (Some d) known refused made moves =
-          by_kind bound d known (kind_of w.objects bound.file pt_id)
-          (frames_row (bound_attach_checks (view w) device pt_id bound.file) refused) made moves
-
-      by_binding : (o : Option Object) (s : Option DeviceSettings) → device_of w.settings device ≡ s
-          → first_true (elim o [
-            | None ↦ (cause.Id, true) ∷ []
-            | Some bound ↦ bound_attach_checks (view w) device pt_id bound.file
-          ]) ≡ Some cause.Frames
-          → IsHwptOf w pt_id id o s
-          → MovesTables {A = A} w (attach_changes w device pt_id id o s) (event.Attach device pt_id)
-          (reply.Id id) taken given → ⊥
-      by_binding None s known refused made moves = absurd made
-      by_binding (Some bound) s known refused made moves = by_device bound s known refused made moves
 
   pub due : (e : Event A) (answer : Reply) → refusal w e ≡ Some cause.Frames → chooses_address e ≡ false
       → Answers w e answer → MovesTables w (changed at w e answer) e answer taken given → ⊥

@@ -5,22 +5,20 @@ use Rattle.std.specs.Prelude.{is_none}
 use Rattle.std.specs.List.{filter, list_all, list_any}
 use Rattle.std.proofs.lemmas.Bool.{eqb-true, true≢false}
 use Rattle.std.proofs.lemmas.Bool.Decides.{nat_tests}
-use Rattle.iofd_words.specs.After.{changed, copy_changes, map_changes, hwpt_changes, attach_changes, target_changes}
-use Rattle.iofd_words.specs.After.{detach_changes, settle, without_areas, attached, detached, joined, goes_with}
+use Rattle.iofd_words.specs.After.{changed, copy_changes, map_changes, hwpt_changes}
+use Rattle.iofd_words.specs.After.{settle, without_areas, attached, detached, joined, goes_with}
 use Rattle.iofd_words.specs.After.{mapped_area, with_hwpt}
 use Rattle.iofd_words.specs.Allowed.{AllowedRanges, with_allowed, without_allowed}
 use Rattle.iofd_words.specs.Areas.{all_paid, owed_by, paid, is_touched, leaving, with_area, with_phase}
 use Rattle.iofd_words.specs.Attachments.{attachment_of, with_attachment, without_attachment, devices_of}
-use Rattle.iofd_words.specs.Checks.{detach_checks, flush_checks, refusal}
+use Rattle.iofd_words.specs.Checks.{refusal}
 use Rattle.iofd_words.specs.Copies.{placed_as}
 use Rattle.iofd_words.specs.DeviceSet.{without_device}
-use Rattle.iofd_words.specs.Files.{user_of, device_of}
+use Rattle.iofd_words.specs.Files.{user_of}
 use Rattle.iofd_laws.specs.Laws.{FileRows, IsOfAnother, file_of_device, rows_of}
-use Rattle.iofd_words.specs.FirstTrue.{first_true}
-use Rattle.iofd_words.specs.Objects.{automatic_hwpt, binding_of, comes_before, kind_of, objects_of, settings_under}
+use Rattle.iofd_words.specs.Objects.{automatic_hwpt, binding_of, comes_before, objects_of, settings_under}
 use Rattle.iofd_words.specs.Objects.{with_object}
 use Rattle.iofd_words.specs.Run.{after, after_answer}
-use Rattle.iofd_words.specs.Settings.{DeviceSettings}
 use Rattle.iofd_words.specs.Tables.{with_tables}
 use Rattle.iofd_words.specs.View.{view}
 use Rattle.iofd_words.specs.World.{World}
@@ -29,7 +27,6 @@ use Rattle.iofd_words.specs.declared.event.Event.TheVariants as event
 use Rattle.iofd_words.specs.declared.numbers.DeviceNo.{DeviceNo}
 use Rattle.iofd_words.specs.declared.numbers.FileNo.{FileNo}
 use Rattle.iofd_words.specs.declared.numbers.ObjId.{ObjId}
-use Rattle.iofd_words.specs.declared.numbers.UserNo.{UserNo}
 use Rattle.iofd_words.specs.declared.record.Record.{Record}
 use Rattle.iofd_words.specs.declared.refusal.Cause.{Cause}
 use Rattle.iofd_words.specs.declared.reply.Reply.{Reply}
@@ -37,7 +34,6 @@ use Rattle.iofd_words.specs.declared.reply.Reply.TheVariants as reply
 use Rattle.iofd_words.specs.declared.rows.Area.{Area}
 use Rattle.iofd_words.specs.declared.rows.Attachment.{Attachment}
 use Rattle.iofd_words.specs.declared.rows.Object.{Object}
-use Rattle.iofd_words.specs.declared.rows.ObjectKind.{ObjectKind}
 use Rattle.iofd_words.specs.declared.rows.ObjectKind.TheVariants as kind
 use Rattle.iofd_words.specs.declared.rows.Phase.{Phase}
 use Rattle.iofd_words.specs.declared.rows.Phase.TheVariants.{Live, Leaving}
@@ -47,6 +43,7 @@ use Rattle.iofd_laws.proofs.Bound.{AreBound, is_bound_to, is_of_file}
 use Rattle.iofd_rows.proofs.Found.{found_passes}
 use Rattle.iofd_runs.proofs.CopySource.{source_area}
 use Rattle.iofd_runs.proofs.NotRefused.{detach_passed, flush_passed, passes}
+use Rattle.iofd_runs.proofs.Branches.{by_attachment, by_found, by_target}
 
 -- ---- filters
 
@@ -286,14 +283,6 @@ elsewhere : (w : World) (device : DeviceNo) (object : Object) (file : FileNo)
 elsewhere w device object file another is =
     another object.file (ap (λ o. elim o [ Some bound ↦ Some bound.file | None ↦ None ]) is)
 
-flush_bound : (w : World) (device : DeviceNo) → first_true (flush_checks (view w) device) ≡ None
-    → is_none (binding_of w.objects device) ≡ false
-flush_bound w device none = flush_passed (view w) device none
-
-detach_is_bound : (w : World) (device : DeviceNo) → first_true (detach_checks (view w) device) ≡ None
-    → is_none (binding_of w.objects device) ≡ false
-detach_is_bound w device none = (detach_passed (view w) device none).bound
-
 pub keeps_others : {A : Type 0} → (at : ℕ) (w : World) (e : Event A) (answer : Reply) (file : FileNo) → AreBound w
     → refusal w e ≡ None → IsOfAnother w e file → rows_of file (changed at w e answer) ≡ rows_of file w
 unfolding changed settle without_areas attached detached joined
@@ -305,19 +294,15 @@ keeps_others at w (event.AllowIovas f ioas ranges) reply.Done file b none anothe
     let gone : filter (are_of_file file) (with_allowed f ioas ranges w.allowed) ≡ filter (are_of_file file) w.allowed =
     rw (filter, other_file f file (another f refl)) before in
     same_rows refl refl gone refl refl
-keeps_others at w (event.Map f request) (reply.Iova iova) file b none another = mapped (user_of w.settings f)
-  where
-    mapped : (user : Option UserNo) → rows_of file (map_changes at w f request iova user) ≡ rows_of file w
-    mapped None = refl
-    mapped (Some user) = same_rows refl (areas-with_area (mapped_area at f request iova) w.areas file
-        (other_file f file (another f refl))) refl refl refl
-keeps_others at w (event.Copy f request) (reply.Iova iova) file b none another = copied (source_area w f request)
-  where
-    copied : (source : Option Area) → rows_of file (copy_changes w f request iova source) ≡ rows_of file w
-    copied None = refl
-    copied (Some source) =
-        same_rows refl (areas-with_area (mapped_area source.memory f (placed_as request) iova) w.areas file
-        (other_file f file (another f refl))) refl refl refl
+keeps_others at w (event.Map f request) (reply.Iova iova) file b none another =
+    by_found (λ user. rows_of file (map_changes at w f request iova user) ≡ rows_of file w) (user_of w.settings f) refl
+    (λ user is. same_rows refl (areas-with_area (mapped_area at f request iova) w.areas file
+    (other_file f file (another f refl))) refl refl refl)
+keeps_others at w (event.Copy f request) (reply.Iova iova) file b none another =
+    by_found (λ source. rows_of file (copy_changes w f request iova source) ≡ rows_of file w)
+    (source_area w f request) refl (λ source is. same_rows refl
+    (areas-with_area (mapped_area source.memory f (placed_as request) iova) w.areas file
+    (other_file f file (another f refl))) refl refl refl)
 keeps_others at w (event.Unmap f request) (reply.Bytes count) file b none another =
     same_rows refl (filter_filter _ _ w.areas
     (λ a same. not_false _ (untouched f file a.file.0 _ _ (another f refl) same))) refl refl refl
@@ -330,13 +315,9 @@ keeps_others at w (event.Unmap f request) (reply.Pending errno) file b none anot
     (untouched f file a.file.0 _ _ (another f refl) same)))
     refl refl refl
 keeps_others at w (event.HwptAlloc f request) (reply.Id id) file b none another =
-    made (settings_under w.settings w.objects f request.device)
-  where
-    made : (settings : Option DeviceSettings)
-        → rows_of file (hwpt_changes w f request.ioas id settings) ≡ rows_of file w
-    made None = refl
-    made (Some settings) =
-        same_rows (objects-with_object _ w.objects file (other_file f file (another f refl))) refl refl refl refl
+    by_found (λ settings. rows_of file (hwpt_changes w f request.ioas id settings) ≡ rows_of file w)
+    (settings_under w.settings w.objects f request.device) refl (λ settings is. same_rows
+    (objects-with_object _ w.objects file (other_file f file (another f refl))) refl refl refl refl)
 keeps_others at w (event.Destroy f id) reply.Done file b none another =
     same_rows (filter_filter _ _ w.objects (λ o same. stays f file o.file.0 _ (another f refl) same))
     (filter_filter _ _ w.areas (λ a same. stays f file a.file.0 _ (another f refl) same))
@@ -358,49 +339,34 @@ keeps_others at w (event.Unbind f id) reply.Done file b none another =
     same_rows (filter_filter _ _ w.objects (λ o same. not_false _
     (untouched f file o.file.0 _ _ (another f refl) same))) refl refl refl refl
 keeps_others at w (event.Attach device pt_id) (reply.Id id) file b none another =
-    bound (binding_of w.objects device) refl (device_of w.settings device)
-  where
-    bound : (o : Option Object) → binding_of w.objects device ≡ o → (settings : Option DeviceSettings)
-        → rows_of file (attach_changes w device pt_id id o settings) ≡ rows_of file w
-    bound None is settings = refl
-    bound (Some object) is None = refl
-    bound (Some object) is (Some settings) = by_kind (kind_of w.objects object.file pt_id)
-      where
-        by_kind : (k : Option ObjectKind) → rows_of file
-            (target_changes w device pt_id id object settings k) ≡ rows_of file w
-        by_kind (Some kind.Ioas) =
-            let differ = elsewhere w device object file another is in
-            same_rows
-            (hwpt_same object.file pt_id id settings.width (automatic_hwpt w.objects object.file pt_id settings.width)
-            w.objects file (other_file object.file file differ))
-            (areas_paid w device object file b is differ)
-            refl
-            (attachments-with_attachment_other _ w.attachments file (other_file object.file file differ))
-            refl
-        by_kind (Some (kind.Hwpt ioas width automatic)) =
-            let differ = elsewhere w device object file another is in
-            same_rows refl (areas_paid w device object file b is differ) refl
-            (attachments-with_attachment_other _ w.attachments file (other_file object.file file differ)) refl
-        by_kind k = refl
+    by_target w device pt_id id (λ new. rows_of file new ≡ rows_of file w) (λ nowhere. refl)
+    (λ object d bound known space made.
+    let differ = elsewhere w device object file another bound in
+    same_rows
+    (hwpt_same object.file pt_id id d.width (automatic_hwpt w.objects object.file pt_id d.width) w.objects file
+    (other_file object.file file differ))
+    (areas_paid w device object file b bound differ)
+    refl
+    (attachments-with_attachment_other _ w.attachments file (other_file object.file file differ))
+    refl)
+    (λ object d ioas width automatic bound known table same.
+    let differ = elsewhere w device object file another bound in
+    same_rows refl (areas_paid w device object file b bound differ) refl
+    (attachments-with_attachment_other _ w.attachments file (other_file object.file file differ)) refl)
 keeps_others at w (event.Detach device) reply.Done file b none another =
-    let bound = is_bound w device (detach_is_bound w device none) in
-    attached_or_not bound.0 bound.1 (attachment_of w.attachments device) refl
-  where
-    attached_or_not : (object : Object) → binding_of w.objects device ≡ Some object → (a : Option Attachment)
-        → attachment_of w.attachments device ≡ a → rows_of file (detach_changes w device a) ≡ rows_of file w
-    attached_or_not object is None found = refl
-    attached_or_not object is (Some a) found =
-        let differ = elsewhere w device object file another is in
-        let own = attached_file w device object a b is found in
-        same_rows
-        (filter_filter _ _ w.objects (λ o same. goes_elsewhere (without_attachment device w.attachments) a file o
-        (λ here. differ (own ∙ here)) same))
-        (areas_paid w device object file b is differ)
-        refl
-        (attachments_same w device object file b is differ)
-        refl
+    let (object, bound) = is_bound w device (detach_passed (view w) device none).bound in
+    by_attachment w device (λ new. rows_of file new ≡ rows_of file w) refl (λ a found.
+    let differ = elsewhere w device object file another bound in
+    let own = attached_file w device object a b bound found in
+    same_rows
+    (filter_filter _ _ w.objects (λ o same. goes_elsewhere (without_attachment device w.attachments) a file o
+    (λ here. differ (own ∙ here)) same))
+    (areas_paid w device object file b bound differ)
+    refl
+    (attachments_same w device object file b bound differ)
+    refl)
 keeps_others at w (event.Flush device) reply.Done file b none another =
-    let bound = is_bound w device (flush_bound w device none) in
+    let bound = is_bound w device (flush_passed (view w) device none) in
     same_rows refl (areas_paid w device bound.0 file b bound.1 (elsewhere w device bound.0 file another bound.1)) refl
     refl refl
 keeps_others at w (event.DeviceWrite device iova bytes) (reply.Passed frame) file b none another = refl

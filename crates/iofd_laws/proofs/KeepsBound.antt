@@ -1,19 +1,18 @@
 -- Every event keeps ids unique, and devices bound to the files whose rows name them.
-use Rattle.std.proofs.Common.{◌≡◌, ℕ, Bool, true, false, ◌&&◌, not, eqb, Option, Some, None, List, refl, ap, ◌∙◌}
-use Rattle.std.proofs.Common.{is_some, arith}
-use Rattle.std.specs.List.{filter, list_any}
+use Rattle.std.proofs.Common.{◌≡◌, ℕ, Bool, true, ◌&&◌, not, eqb, Option, Some, None, List, refl, ap, ◌∙◌}
+use Rattle.std.proofs.Common.{arith}
+use Rattle.std.specs.List.{filter}
 use Rattle.std.proofs.lemmas.Bool.Decides.{nat_tests}
-use Rattle.iofd_words.specs.After.{changed, copy_changes, map_changes, hwpt_changes, attach_changes, target_changes}
-use Rattle.iofd_words.specs.After.{detach_changes, settle, without_areas, attached, detached, joined, goes_with}
+use Rattle.iofd_words.specs.After.{changed, copy_changes, map_changes, hwpt_changes}
+use Rattle.iofd_words.specs.After.{settle, without_areas, attached, detached, joined, goes_with}
 use Rattle.iofd_words.specs.After.{made_hwpt, with_hwpt}
 use Rattle.iofd_words.specs.Answers.{Answers}
-use Rattle.iofd_words.specs.Attachments.{attachment_of, has_device_on, with_attachment, without_attachment}
-use Rattle.iofd_words.specs.Checks.{bind_checks, close_checks, destroy_checks, is_device_object, refusal}
-use Rattle.iofd_words.specs.Files.{user_of, device_of}
-use Rattle.iofd_words.specs.FirstTrue.{first_true}
-use Rattle.iofd_words.specs.Objects.{automatic_hwpt, binding_of, is_automatic, is_bound_as, is_bound_device, is_object}
-use Rattle.iofd_words.specs.Objects.{kind_of, objects_of, settings_under, with_object, without_object}
-use Rattle.iofd_words.specs.Settings.{DeviceSettings, Settings}
+use Rattle.iofd_words.specs.Attachments.{has_device_on, with_attachment, without_attachment}
+use Rattle.iofd_words.specs.Checks.{refusal}
+use Rattle.iofd_words.specs.Files.{user_of}
+use Rattle.iofd_words.specs.Objects.{automatic_hwpt, binding_of, is_automatic, is_bound_as, is_object}
+use Rattle.iofd_words.specs.Objects.{settings_under, with_object, without_object}
+use Rattle.iofd_words.specs.Settings.{Settings}
 use Rattle.iofd_words.specs.Tables.{with_tables}
 use Rattle.iofd_words.specs.View.{view}
 use Rattle.iofd_words.specs.World.{World, opening}
@@ -23,13 +22,10 @@ use Rattle.iofd_words.specs.declared.numbers.DeviceNo.{DeviceNo}
 use Rattle.iofd_words.specs.declared.numbers.FileNo.{FileNo}
 use Rattle.iofd_words.specs.declared.numbers.FrameNo.{FrameNo}
 use Rattle.iofd_words.specs.declared.numbers.ObjId.{ObjId}
-use Rattle.iofd_words.specs.declared.numbers.UserNo.{UserNo}
 use Rattle.iofd_words.specs.declared.reply.Reply.{Reply}
 use Rattle.iofd_words.specs.declared.reply.Reply.TheVariants as reply
-use Rattle.iofd_words.specs.declared.rows.Area.{Area}
 use Rattle.iofd_words.specs.declared.rows.Attachment.{Attachment}
 use Rattle.iofd_words.specs.declared.rows.Object.{Object}
-use Rattle.iofd_words.specs.declared.rows.ObjectKind.{ObjectKind}
 use Rattle.iofd_words.specs.declared.rows.ObjectKind.TheVariants as kind
 use Rattle.iofd_words.specs.declared.width.Width.{Width}
 use Rattle.iofd_laws.proofs.Bound.{AreBound, StayBound, attachments_bound, is_bound_to, is_of_file, attachments_stay}
@@ -40,6 +36,7 @@ use Rattle.iofd_rows.proofs.Found.{all_filter, none_both}
 use Rattle.iofd_runs.proofs.CopySource.{source_area}
 use Rattle.iofd_runs.proofs.KeepsDebts.{IsSound, keeps_sound, tabled_sound}
 use Rattle.iofd_runs.proofs.NotRefused.{bind_passed, close_passed, destroy_passed, unbind_passed}
+use Rattle.iofd_runs.proofs.Branches.{by_attachment, by_found, by_target}
 
 abbrev AttachmentsBound : World → Type 0
 AttachmentsBound w = attachments_bound w.objects w.attachments ≡ true
@@ -113,20 +110,6 @@ detached_bound w device a b =
     (λ o is. no_device_goes d o a others is)) in
     attachments_stay w.objects left others stay (all_filter _ _ w.attachments b)
 
--- ---- what the refusals rule out
-
-destroy_no_device : (w : World) (file : FileNo) (id : ObjId) → first_true (destroy_checks (view w) file id) ≡ None
-    → is_device_object (kind_of w.objects file id) ≡ false
-destroy_no_device w file id none = (destroy_passed (view w) file id none).no_device
-
-close_no_device : (w : World) (file : FileNo) → first_true (close_checks (view w) file) ≡ None
-    → list_any (λ (o : Object). is_bound_device o.kind) (objects_of w.objects file) ≡ false
-close_no_device w file none = (close_passed (view w) file none).no_device
-
-bind_unbound : (w : World) (file : FileNo) (device : DeviceNo) → first_true (bind_checks (view w) file device) ≡ None
-    → is_some (binding_of w.objects device) ≡ false
-bind_unbound w file device none = (bind_passed (view w) file device none).unbound
-
 -- ---- each event
 
 keeps_attachments : {A : Type 0} → (at : ℕ) (w : World) (e : Event A) (answer : Reply) → refusal w e ≡ None → IsTidy w
@@ -136,33 +119,26 @@ keeps_attachments at w (event.IoasAlloc file) (reply.Id id) none tidy =
     let object : Object = record { file = file; id = id; kind = kind.Ioas } in
     attachments_stay w.objects (with_object object w.objects) w.attachments
     (stays-with_object object w.objects (λ device. refl)) tidy.attachments
-keeps_attachments at w (event.Map file request) (reply.Iova iova) none tidy = mapped (user_of w.settings file)
-  where
-    mapped : (user : Option UserNo) → AttachmentsBound (map_changes at w file request iova user)
-    mapped None = tidy.attachments
-    mapped (Some user) = tidy.attachments
-keeps_attachments at w (event.Copy file request) (reply.Iova iova) none tidy = copied (source_area w file request)
-  where
-    copied : (source : Option Area) → AttachmentsBound (copy_changes w file request iova source)
-    copied None = tidy.attachments
-    copied (Some source) = tidy.attachments
+keeps_attachments at w (event.Map file request) (reply.Iova iova) none tidy =
+    by_found (λ user. AttachmentsBound (map_changes at w file request iova user)) (user_of w.settings file)
+    tidy.attachments (λ user is. tidy.attachments)
+keeps_attachments at w (event.Copy file request) (reply.Iova iova) none tidy =
+    by_found (λ source. AttachmentsBound (copy_changes w file request iova source)) (source_area w file request)
+    tidy.attachments (λ source is. tidy.attachments)
 keeps_attachments at w (event.Unmap file request) (reply.Bytes count) none tidy = tidy.attachments
 keeps_attachments at w (event.Unmap file request) (reply.Pending errno) none tidy = tidy.attachments
 keeps_attachments at w (event.HwptAlloc file request) (reply.Id id) none tidy =
-    made (settings_under w.settings w.objects file request.device)
-  where
-    made : (settings : Option DeviceSettings) → AttachmentsBound (hwpt_changes w file request.ioas id settings)
-    made None = tidy.attachments
-    made (Some settings) =
-        attachments_stay w.objects (with_object (made_hwpt file request.ioas id settings) w.objects) w.attachments
-        (stays-with_object (made_hwpt file request.ioas id settings) w.objects (λ device. refl)) tidy.attachments
+    by_found (λ settings. AttachmentsBound (hwpt_changes w file request.ioas id settings))
+    (settings_under w.settings w.objects file request.device) tidy.attachments (λ settings is.
+    attachments_stay w.objects (with_object (made_hwpt file request.ioas id settings) w.objects) w.attachments
+    (stays-with_object (made_hwpt file request.ioas id settings) w.objects (λ device. refl)) tidy.attachments)
 keeps_attachments at w (event.Destroy file id) reply.Done none tidy =
     let stay = stays-filter (is_object file id) w.objects
-    (λ device. id_without_device device file id w.objects tidy.sound.own_ids (destroy_no_device w file id none)) in
+    (λ device. id_without_device device file id w.objects tidy.sound.own_ids (destroy_passed (view w) file id none).no_device) in
     attachments_stay w.objects (without_object file id w.objects) w.attachments stay tidy.attachments
 keeps_attachments at w (event.Close file) reply.Done none tidy =
     let stay = stays-filter (λ o. eqb o.file.0 file.0) w.objects
-    (λ device. file_without_devices device file w.objects (close_no_device w file none)) in
+    (λ device. file_without_devices device file w.objects (close_passed (view w) file none).no_device) in
     attachments_stay w.objects (filter (λ (o : Object). not (eqb o.file.0 file.0)) w.objects) _ stay
     (all_filter _ _ w.attachments tidy.attachments)
 keeps_attachments at w (event.UserMap user va) (reply.Frame frame) none tidy = tidy.attachments
@@ -172,32 +148,20 @@ keeps_attachments at w (event.UserWrite user va bytes) reply.Done none tidy = ti
 keeps_attachments at w (event.Bind file device) (reply.Id id) none tidy =
     let object : Object = record { file = file; id = id; kind = kind.Device device } in
     attachments_stay w.objects (with_object object w.objects) w.attachments
-    (stays-bind file id device w.objects (bind_unbound w file device none)) tidy.attachments
+    (stays-bind file id device w.objects (bind_passed (view w) file device none).unbound) tidy.attachments
 keeps_attachments at w (event.Unbind file id) reply.Done none tidy =
     attachments-unbound w file id tidy.sound.own_ids tidy.sound.debts.once
     (unbind_passed (view w) file id none).unattached tidy.attachments
 keeps_attachments at w (event.Attach device pt_id) (reply.Id id) none tidy =
-    bound (binding_of w.objects device) refl (device_of w.settings device)
-  where
-    bound : (object : Option Object) → binding_of w.objects device ≡ object → (settings : Option DeviceSettings)
-        → AttachmentsBound (attach_changes w device pt_id id object settings)
-    bound None is settings = tidy.attachments
-    bound (Some object) is None = tidy.attachments
-    bound (Some object) is (Some settings) = by_kind (kind_of w.objects object.file pt_id)
-      where
-        by_kind : (k : Option ObjectKind) → AttachmentsBound (target_changes w device pt_id id object settings k)
-        by_kind (Some kind.Ioas) =
-            let automatic = automatic_hwpt w.objects object.file pt_id settings.width in
-            attached_bound w device id object (with_hwpt object.file pt_id id settings.width automatic w.objects) is
-            (hwpt_stays object.file pt_id id settings.width automatic w.objects) tidy.attachments
-        by_kind (Some (kind.Hwpt ioas width automatic)) =
-            attached_bound w device id object w.objects is (λ own d here. here) tidy.attachments
-        by_kind k = tidy.attachments
-keeps_attachments at w (event.Detach device) reply.Done none tidy = attached_or_not (attachment_of w.attachments device)
-  where
-    attached_or_not : (a : Option Attachment) → AttachmentsBound (detach_changes w device a)
-    attached_or_not None = tidy.attachments
-    attached_or_not (Some a) = detached_bound w device a tidy.attachments
+    by_target w device pt_id id AttachmentsBound (λ nowhere. tidy.attachments)
+    (λ object d bound known space made.
+    let automatic = automatic_hwpt w.objects object.file pt_id d.width in
+    attached_bound w device id object (with_hwpt object.file pt_id id d.width automatic w.objects) bound
+    (hwpt_stays object.file pt_id id d.width automatic w.objects) tidy.attachments)
+    (λ object d ioas width automatic bound known table same.
+    attached_bound w device id object w.objects bound (λ own d here. here) tidy.attachments)
+keeps_attachments at w (event.Detach device) reply.Done none tidy =
+    by_attachment w device AttachmentsBound tidy.attachments (λ a is. detached_bound w device a tidy.attachments)
 keeps_attachments at w (event.Flush device) reply.Done none tidy = tidy.attachments
 keeps_attachments at w (event.DeviceWrite device iova bytes) (reply.Passed frame) none tidy = tidy.attachments
 keeps_attachments at w e answer none tidy = tidy.attachments

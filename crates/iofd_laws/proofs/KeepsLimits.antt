@@ -7,21 +7,21 @@ use Rattle.std.proofs.lemmas.Bool.Decides.{nat_tests}
 use Rattle.std.proofs.lemmas.Bool.{eqb-true}
 use Rattle.std.proofs.lemmas.List.FromFn.{length-map-range_with_len}
 use Rattle.std.proofs.lemmas.List.Sums.{count_by-le-length, length-filter}
-use Rattle.iofd_words.specs.After.{changed, copy_changes, map_changes, hwpt_changes, attach_changes, target_changes}
-use Rattle.iofd_words.specs.After.{detach_changes, settle, without_areas, attached, detached, joined, goes_with}
+use Rattle.iofd_words.specs.After.{changed, copy_changes, map_changes, hwpt_changes}
+use Rattle.iofd_words.specs.After.{settle, without_areas, attached, detached, joined, goes_with}
 use Rattle.iofd_words.specs.After.{mapped_area, memory_object, with_hwpt}
 use Rattle.iofd_words.specs.Allowed.{AllowedRanges}
 use Rattle.iofd_words.specs.Answers.{Answers}
-use Rattle.iofd_words.specs.Areas.{all_paid, areas_of, is_of, is_touched, paid, with_area}
-use Rattle.iofd_words.specs.Attachments.{attachment_of, with_attachment, without_attachment}
+use Rattle.iofd_words.specs.Areas.{all_paid, areas_of, is_of, is_touched, with_area}
+use Rattle.iofd_words.specs.Attachments.{with_attachment, without_attachment}
 use Rattle.iofd_words.specs.Checks.{copy_checks, map_checks, newly_pinned, passes_limit, passes_limit_attached, refusal}
 use Rattle.iofd_words.specs.Copies.{placed_as}
-use Rattle.iofd_words.specs.Files.{device_of, limit_of, user_of}
+use Rattle.iofd_words.specs.Files.{limit_of, user_of}
 use Rattle.iofd_words.specs.FirstTrue.{first_true}
-use Rattle.iofd_words.specs.Objects.{automatic_hwpt, binding_of, has_hwpt, is_object, kind_of, settings_under}
+use Rattle.iofd_words.specs.Objects.{automatic_hwpt, has_hwpt, is_object, settings_under}
 use Rattle.iofd_words.specs.Objects.{without_object}
 use Rattle.iofd_words.specs.Pins.{ObjectPage, is_page, is_translated, pages_of, pinned_frame, settled, unpinned_pages}
-use Rattle.iofd_words.specs.Settings.{DeviceSettings, Settings}
+use Rattle.iofd_words.specs.Settings.{Settings}
 use Rattle.iofd_words.specs.Tables.{with_tables}
 use Rattle.iofd_words.specs.View.{View, view}
 use Rattle.iofd_words.specs.World.{World, opening}
@@ -41,15 +41,13 @@ use Rattle.iofd_words.specs.declared.rows.Area.{Area}
 use Rattle.iofd_words.specs.declared.rows.Attachment.{Attachment}
 use Rattle.iofd_words.specs.declared.rows.MemoryObject.{MemoryObject}
 use Rattle.iofd_words.specs.declared.rows.Object.{Object}
-use Rattle.iofd_words.specs.declared.rows.ObjectKind.{ObjectKind}
-use Rattle.iofd_words.specs.declared.rows.ObjectKind.TheVariants as kind
 use Rattle.iofd_words.specs.declared.width.Width.{Width}
 use Rattle.iofd_laws.specs.Laws.{held_in}
 use Rattle.iofd_rows.specs.Pinned.{ArePinned}
 use Rattle.iofd_rows.proofs.Bools.{and_rest, and_true, both_true, clash, not_false, not_true}
 use Rattle.iofd_rows.proofs.Each.{IsIn, of_any, of_each}
 use Rattle.iofd_rows.proofs.ListTests.{false_else}
-use Rattle.iofd_rows.proofs.ObjectPages.{has_page, in_pinned, is_listed, listed_is, translated-map}
+use Rattle.iofd_rows.proofs.ObjectPages.{has_page, in_pinned, is_listed, listed_is}
 use Rattle.iofd_rows.proofs.ObjectPages.{translated-with_area, untranslated}
 use Rattle.iofd_rows.proofs.PageCounts.{count_either, count_none, count_weaker, page_count, page_count_bound}
 use Rattle.iofd_rows.proofs.PageCounts.{page_count_filter, page_count_last, page_count_none}
@@ -62,9 +60,10 @@ use Rattle.iofd_runs.proofs.AttachedPages.{with_table}
 use Rattle.iofd_runs.proofs.CopiedPages.{IsAdded, added_page, pages_copied}
 use Rattle.iofd_runs.proofs.CopySource.{source_area, source_is}
 use Rattle.iofd_runs.proofs.KeepsOwned.{OwnedPins, keeps_owned_pins, later_owned, opening_owned, owner, tabled_owned}
-use Rattle.iofd_runs.proofs.KeepsPins.{AlikeAreas, gone_within, moved_new, none_over, pages_in}
+use Rattle.iofd_runs.proofs.PagesToPin.{AlikeAreas, alike_paid, gone_within, moved_new, none_over, pages_in}
 use Rattle.iofd_runs.proofs.NotRefused.{attach_passed, copy_passed, hwpt_passed, map_passed}
 use Rattle.iofd_runs.proofs.StillTabled.{in_kept}
+use Rattle.iofd_runs.proofs.Branches.{by_attachment, by_found, by_target}
 
 -- a memory object of the user
 abbrev pub of_user : UserNo → MemoryObject → Bool
@@ -458,10 +457,6 @@ fewer_held w areas left attachments user alike fewer =
     (none_comes w (moved_world w areas left attachments) (of_user user) w.memory
     (λ page is. none_new w left page fewer (comes_new w areas left attachments page alike is)))
 
--- the areas with a device's debts paid
-pub alike_paid : (w : World) (device : DeviceNo) → AlikeAreas w (all_paid device w.areas)
-alike_paid w device = λ objects number. translated-map objects (λ a. paid device a.phase) w.areas number
-
 -- an address space gets its first page table
 module _ (at : ℕ) (w : World) (areas : List Area) (alike : AlikeAreas w areas) (file : FileNo) (ioas id : ObjId)
     (width : Width) (automatic : Bool) (attachments : List Attachment) (user : UserNo) (limit : ℕ) (p : OwnedPins at w)
@@ -562,34 +557,24 @@ pub keeps_limits : {A : Type 0} → (at : ℕ) (w : World) (e : Event A) (answer
     → OwnedPins at w → WithinLimits w → WithinLimits (changed at w e answer)
 unfolding changed without_areas attached detached joined
 keeps_limits at w (event.IoasAlloc file) (reply.Id id) none p within = within
-keeps_limits at w (event.Map file request) (reply.Iova iova) none p within = mapped (user_of w.settings file) refl
-  where
-    mapped : (user : Option UserNo) → user_of w.settings file ≡ user
-        → WithinLimits (map_changes at w file request iova user)
-    mapped None is = within
-    mapped (Some user) is = settled_limits w (mapped_world at w file request iova user) refl
-        (λ other limit has before. mapped_held at w file request iova user other limit p.pins none is has before) within
-keeps_limits at w (event.Copy file request) (reply.Iova iova) none p within = copied (source_area w file request) refl
-  where
-    copied : (source : Option Area) → source_area w file request ≡ source
-        → WithinLimits (copy_changes w file request iova source)
-    copied None is = within
-    copied (Some source) is = settled_limits w (copied_world w file request iova source) refl
-        (λ user limit has before. copied_held at w file request iova source user limit p none is has before) within
+keeps_limits at w (event.Map file request) (reply.Iova iova) none p within =
+    by_found (λ user. WithinLimits (map_changes at w file request iova user)) (user_of w.settings file) within
+    (λ user is. settled_limits w (mapped_world at w file request iova user) refl
+    (λ other limit has before. mapped_held at w file request iova user other limit p.pins none is has before) within)
+keeps_limits at w (event.Copy file request) (reply.Iova iova) none p within =
+    by_found (λ source. WithinLimits (copy_changes w file request iova source)) (source_area w file request) within
+    (λ source is. settled_limits w (copied_world w file request iova source) refl
+    (λ user limit has before. copied_held at w file request iova source user limit p none is has before) within)
 keeps_limits at w (event.Unmap file request) (reply.Bytes count) none p within =
     gone_limits w (is_touched file request) w.objects w.attachments w.allowed w.closed (λ own ioas has. has) within
 keeps_limits at w (event.Unmap file request) (reply.Pending errno) none p within = within
 keeps_limits at w (event.HwptAlloc file request) (reply.Id id) none p within =
-    made (settings_under w.settings w.objects file request.device)
-  where
-    made : (settings : Option DeviceSettings) → WithinLimits (hwpt_changes w file request.ioas id settings)
-    made None = within
-    made (Some settings) =
-        let passed = hwpt_passed (view w) file request none in
-        settled_limits w (moved_world w w.areas (with_table file request.ioas id settings.width false w.objects)
-        w.attachments) refl
-        (λ user limit has before. table_held at w w.areas file request.ioas id settings.width false w.attachments user
-        limit (λ objects number. refl) p passed.within_limit has before) within
+    by_found (λ settings. WithinLimits (hwpt_changes w file request.ioas id settings))
+    (settings_under w.settings w.objects file request.device) within (λ settings is.
+    settled_limits w (moved_world w w.areas (with_table file request.ioas id settings.width false w.objects)
+    w.attachments) refl
+    (λ user limit has before. table_held at w w.areas file request.ioas id settings.width false w.attachments user
+    limit (λ objects number. refl) p (hwpt_passed (view w) file request none).within_limit has before) within)
 keeps_limits at w (event.Destroy file id) reply.Done none p within =
     gone_limits w (is_of file id) (without_object file id w.objects) w.attachments _ w.closed
     (λ own ioas has. hwpt-filter (λ o. not (is_object file id o)) w.objects own ioas has) within
@@ -603,39 +588,24 @@ keeps_limits at w (event.UserWrite user va bytes) reply.Done none p within = wit
 keeps_limits at w (event.Bind file device) (reply.Id id) none p within = within
 keeps_limits at w (event.Unbind file id) reply.Done none p within = within
 keeps_limits at w (event.Attach device pt_id) (reply.Id id) none p within =
-    bound (binding_of w.objects device) refl (device_of w.settings device)
-  where
-    bound : (object : Option Object) → binding_of w.objects device ≡ object → (settings : Option DeviceSettings)
-        → WithinLimits (attach_changes w device pt_id id object settings)
-    bound None is settings = within
-    bound (Some object) is None = within
-    bound (Some object) is (Some settings) = by_kind (kind_of w.objects object.file pt_id) refl
-      where
-        by_kind : (k : Option ObjectKind) → kind_of w.objects object.file pt_id ≡ k
-            → WithinLimits (target_changes w device pt_id id object settings k)
-        by_kind (Some kind.Ioas) space =
-            let automatic = automatic_hwpt w.objects object.file pt_id settings.width in
-            let attachments =
-            with_attachment (record { device = device; file = object.file; hwpt = id }) w.attachments in
-            let passed = attach_passed (view w) device pt_id object is space none in
-            settled_limits w (moved_world w (all_paid device w.areas)
-            (with_hwpt object.file pt_id id settings.width automatic w.objects) attachments) refl
-            (λ user limit has before. attached_held at w device object.file pt_id id settings.width automatic
-            attachments user limit p passed.within_limit has before) within
-        by_kind (Some (kind.Hwpt ioas width automatic)) table = within
-        by_kind k other = within
-keeps_limits at w (event.Detach device) reply.Done none p within = attached_or_not (attachment_of w.attachments device)
-  where
-    attached_or_not : (a : Option Attachment) → WithinLimits (detach_changes w device a)
-    attached_or_not None = within
-    attached_or_not (Some a) =
-        let goes = goes_with (without_attachment device w.attachments) a in
-        let left = filter (λ (o : Object). not (goes o)) w.objects in
-        settled_limits w (moved_world w (all_paid device w.areas) left (without_attachment device w.attachments)) refl
-        (λ user limit has before. let held = fewer_held w (all_paid device w.areas) left
-        (without_attachment device w.attachments) user (alike_paid w device)
-        (λ own ioas table. hwpt-filter (λ o. not (goes o)) w.objects own ioas table) in
-        omega (arith, held, before)) within
+    by_target w device pt_id id WithinLimits (λ nowhere. within)
+    (λ object d bound known space made.
+    let automatic = automatic_hwpt w.objects object.file pt_id d.width in
+    let attachments = with_attachment (record { device = device; file = object.file; hwpt = id }) w.attachments in
+    settled_limits w (moved_world w (all_paid device w.areas)
+    (with_hwpt object.file pt_id id d.width automatic w.objects) attachments) refl
+    (λ user limit has before. attached_held at w device object.file pt_id id d.width automatic attachments user limit p
+    (attach_passed (view w) device pt_id object bound space none).within_limit has before) within)
+    (λ object d ioas width automatic bound known table same. within)
+keeps_limits at w (event.Detach device) reply.Done none p within =
+    by_attachment w device WithinLimits within (λ a is.
+    let goes = goes_with (without_attachment device w.attachments) a in
+    let left = filter (λ (o : Object). not (goes o)) w.objects in
+    settled_limits w (moved_world w (all_paid device w.areas) left (without_attachment device w.attachments)) refl
+    (λ user limit has before. let held = fewer_held w (all_paid device w.areas) left
+    (without_attachment device w.attachments) user (alike_paid w device)
+    (λ own ioas table. hwpt-filter (λ o. not (goes o)) w.objects own ioas table) in
+    omega (arith, held, before)) within)
 keeps_limits at w (event.Flush device) reply.Done none p within = within
 keeps_limits at w (event.DeviceWrite device iova bytes) (reply.Passed frame) none p within = within
 keeps_limits at w e answer none p within = within

@@ -4,35 +4,24 @@ use Rattle.std.proofs.Common.{Some, None, List, [], ◌∷◌, ◌++◌, refl, s
 use Rattle.std.specs.List.{filter, find, list_all, list_any}
 use Rattle.std.proofs.lemmas.Bool.{eqb-true}
 use Rattle.std.proofs.lemmas.Bool.Decides.{nat_tests}
-use Rattle.iofd_words.specs.After.{changed, copy_changes, map_changes, hwpt_changes, attach_changes, target_changes}
-use Rattle.iofd_words.specs.After.{detach_changes, settle, without_areas, attached, detached, joined}
-use Rattle.iofd_words.specs.Areas.{is_of, is_touched}
-use Rattle.iofd_words.specs.Attachments.{attachment_of}
+use Rattle.iofd_words.specs.After.{changed}
 use Rattle.iofd_words.specs.Checks.{refusal}
-use Rattle.iofd_words.specs.Files.{user_of, device_of}
-use Rattle.iofd_words.specs.Objects.{binding_of, has_hwpt, is_hwpt_over, kind_of, objects_of, settings_under}
+use Rattle.iofd_words.specs.Objects.{has_hwpt, is_hwpt_over, objects_of}
 use Rattle.iofd_words.specs.Pins.{ObjectPage, is_page, is_translated, pinned_frame, pinned_pages}
 use Rattle.iofd_words.specs.Run.{after, after_answer}
-use Rattle.iofd_words.specs.Settings.{DeviceSettings}
 use Rattle.iofd_words.specs.Span.{size_of}
 use Rattle.iofd_words.specs.Tables.{with_tables}
 use Rattle.iofd_words.specs.World.{World}
 use Rattle.iofd_words.specs.declared.event.Event.{Event}
-use Rattle.iofd_words.specs.declared.event.Event.TheVariants as event
 use Rattle.iofd_words.specs.declared.numbers.FileNo.{FileNo}
 use Rattle.iofd_words.specs.declared.numbers.FrameNo.{FrameNo}
 use Rattle.iofd_words.specs.declared.numbers.ObjId.{ObjId}
-use Rattle.iofd_words.specs.declared.numbers.UserNo.{UserNo}
 use Rattle.iofd_words.specs.declared.record.Record.{Record}
 use Rattle.iofd_words.specs.declared.refusal.Cause.{Cause}
 use Rattle.iofd_words.specs.declared.reply.Reply.{Reply}
-use Rattle.iofd_words.specs.declared.reply.Reply.TheVariants as reply
 use Rattle.iofd_words.specs.declared.rows.Area.{Area}
-use Rattle.iofd_words.specs.declared.rows.Attachment.{Attachment}
 use Rattle.iofd_words.specs.declared.rows.MemoryObject.{MemoryObject}
 use Rattle.iofd_words.specs.declared.rows.Object.{Object}
-use Rattle.iofd_words.specs.declared.rows.ObjectKind.{ObjectKind}
-use Rattle.iofd_words.specs.declared.rows.ObjectKind.TheVariants as kind
 use Rattle.iofd_laws.specs.Laws.{FileRows, IsOfAnother, SameMemory, has_memory, object_numbered, rows_of}
 use Rattle.iofd_laws.specs.Laws.{PinMoves}
 use Rattle.iofd_rows.specs.Pinned.{ArePinned, has_object, have_own_numbers, share_in_file, share_in_files}
@@ -43,12 +32,12 @@ use Rattle.iofd_laws.proofs.FreeFrames.{some_in}
 use Rattle.iofd_rows.proofs.Each.{of_each}
 use Rattle.iofd_rows.proofs.Found.{all_weaker, find-filter}
 use Rattle.iofd_laws.proofs.KeepsFrames.{after_moves}
-use Rattle.iofd_runs.proofs.CopySource.{source_area}
 use Rattle.iofd_runs.proofs.KeepsOwnMemory.{OwnPins}
 use Rattle.iofd_rows.proofs.ListTests.{alike, any-filter, any_of_all, any_weaker, none_stronger}
 use Rattle.iofd_rows.proofs.ObjectPages.{has_page, in_pinned, is_listed, listed_is}
 use Rattle.iofd_rows.proofs.PageLists.{at_page}
 use Rattle.iofd_rows.proofs.PinsFollow.{pin_is_of}
+use Rattle.iofd_runs.proofs.Moves.{AreasMove, SameAreas, FewerAreas, OtherPhases, OneArea, NewMemory, SharedMemory, changed_moves}
 
 flipped : (a b : ℕ) → eqb a b ≡ true → eqb b a ≡ true
 flipped a b is = grind (arith, nat_tests)
@@ -240,65 +229,20 @@ keeps_object : {A : Type 0} → (at : ℕ) (w : World) (e : Event A) (answer : R
     → is_some (object_numbered w.memory number) ≡ true
     → list_any (λ (a : Area). eqb a.memory number) (changed at w e answer).areas ≡ true
     → object_numbered (changed at w e answer).memory number ≡ object_numbered w.memory number
-unfolding changed settle without_areas attached detached joined
-keeps_object at w (event.IoasAlloc file) (reply.Id id) number some has = refl
-keeps_object at w (event.Map file request) (reply.Iova iova) number some has = mapped (user_of w.settings file)
+keeps_object at w e answer number some has =
+    by_move (changed at w e answer) (changed_moves at w e answer).areas has
   where
-    mapped : (user : Option UserNo) → object_numbered (map_changes at w file request iova user).memory
-        number ≡ object_numbered w.memory number
-    mapped None = refl
-    mapped (Some user) = found_before (λ (m : MemoryObject). eqb m.number number) w.memory _ some
-keeps_object at w (event.Copy file request) (reply.Iova iova) number some has = copied (source_area w file request)
-  where
-    copied : (source : Option Area) → object_numbered (copy_changes w file request iova source).memory
-        number ≡ object_numbered w.memory number
-    copied None = refl
-    copied (Some source) = refl
-keeps_object at w (event.Unmap file request) (reply.Bytes count) number some has =
-    gone_object (is_touched file request) w.areas w.memory number has
-keeps_object at w (event.Unmap file request) (reply.Pending errno) number some has = refl
-keeps_object at w (event.HwptAlloc file request) (reply.Id id) number some has =
-    made (settings_under w.settings w.objects file request.device)
-  where
-    made : (settings : Option DeviceSettings)
-        → object_numbered (hwpt_changes w file request.ioas id settings).memory number ≡ object_numbered w.memory number
-    made None = refl
-    made (Some settings) = refl
-keeps_object at w (event.Destroy file id) reply.Done number some has =
-    gone_object (is_of file id) w.areas w.memory number has
-keeps_object at w (event.Close file) reply.Done number some has =
-    gone_object (λ (a : Area). eqb a.file.0 file.0) w.areas w.memory number has
-keeps_object at w (event.UserMap user va) (reply.Frame frame) number some has = refl
-keeps_object at w (event.AllowIovas file ioas ranges) reply.Done number some has = refl
-keeps_object at w (event.UserUnmap user va) reply.Done number some has = refl
-keeps_object at w (event.UserWrite user va bytes) reply.Done number some has = refl
-keeps_object at w (event.Bind file device) (reply.Id id) number some has = refl
-keeps_object at w (event.Unbind file id) reply.Done number some has = refl
-keeps_object at w (event.Attach device pt_id) (reply.Id id) number some has =
-    bound (binding_of w.objects device) (device_of w.settings device)
-  where
-    bound : (object : Option Object) (settings : Option DeviceSettings)
-        → object_numbered (attach_changes w device pt_id id object settings).memory
-        number ≡ object_numbered w.memory number
-    bound None settings = refl
-    bound (Some object) None = refl
-    bound (Some object) (Some settings) = by_kind (kind_of w.objects object.file pt_id)
-      where
-        by_kind : (k : Option ObjectKind) → object_numbered (target_changes w device pt_id id object settings k).memory
-            number ≡ object_numbered w.memory number
-        by_kind (Some kind.Ioas) = refl
-        by_kind (Some (kind.Hwpt ioas width automatic)) = refl
-        by_kind k = refl
-keeps_object at w (event.Detach device) reply.Done number some has =
-    attached_or_not (attachment_of w.attachments device)
-  where
-    attached_or_not : (a : Option Attachment)
-        → object_numbered (detach_changes w device a).memory number ≡ object_numbered w.memory number
-    attached_or_not None = refl
-    attached_or_not (Some a) = refl
-keeps_object at w (event.Flush device) reply.Done number some has = refl
-keeps_object at w (event.DeviceWrite device iova bytes) (reply.Passed frame) number some has = refl
-keeps_object at w e answer number some has = refl
+    by_move : (new : World) → AreasMove at w e answer new
+        → list_any (λ (a : Area). eqb a.memory number) new.areas ≡ true
+        → object_numbered new.memory number ≡ object_numbered w.memory number
+    by_move new (SameAreas is same) has = rw same refl
+    by_move new (FewerAreas goes is left) has =
+        rw left (gone_object goes w.areas w.memory number (rw is at has))
+    by_move new (OtherPhases phase lives is same) has = rw same refl
+    by_move new (OneArea n file request iova passed lies makes alike is (NewMemory user known short at_end more)) has =
+        rw more (found_before (λ (m : MemoryObject). eqb m.number number) w.memory _ some)
+    by_move new (OneArea n file request iova passed lies makes alike is (SharedMemory source within of_file size of same))
+        has = rw same refl
 
 after_object : {A : Type 0} (at : ℕ) (w : World) (r : Record A) (number : ℕ)
     → is_some (object_numbered w.memory number) ≡ true

@@ -3,40 +3,29 @@ use Rattle.std.proofs.Common.{◌≡◌, ℕ, zero, suc, ◌<◌, Bool, true, fa
 use Rattle.std.proofs.Common.{[], ◌∷◌, ◌++◌, map, Contains, refl, sym, ◌∙◌, subst, arith, IsTrue, inl, inr}
 use Rattle.std.specs.List.{filter, list_any}
 use Rattle.std.proofs.lemmas.Bool.Decides.{nat_tests}
-use Rattle.iofd_words.specs.After.{changed, copy_changes, map_changes, hwpt_changes, attach_changes, target_changes}
-use Rattle.iofd_words.specs.After.{detach_changes, settle, without_areas, attached, detached, joined}
+use Rattle.iofd_words.specs.After.{changed}
 use Rattle.iofd_words.specs.Answers.{Answers, write_reply}
-use Rattle.iofd_words.specs.Attachments.{attachment_of}
 use Rattle.iofd_words.specs.Checks.{refusal}
-use Rattle.iofd_words.specs.Files.{user_of, device_of}
 use Rattle.iofd_words.specs.Frames.{is_free, is_reached}
 use Rattle.iofd_laws.specs.Laws.{have_own_frames, WasFree}
-use Rattle.iofd_words.specs.Objects.{binding_of, kind_of, settings_under}
 use Rattle.iofd_words.specs.Policy.{Outcome, Passes, Denied, outcomes}
 use Rattle.iofd_words.specs.Run.{IsAnswer, Lawful, MovesFrames}
-use Rattle.iofd_words.specs.Settings.{DeviceSettings}
 use Rattle.iofd_words.specs.World.{World}
 use Rattle.iofd_words.specs.declared.event.Event.{Event}
 use Rattle.iofd_words.specs.declared.event.Event.TheVariants as event
 use Rattle.iofd_words.specs.declared.fault.AccessKind.TheVariants.{Write}
 use Rattle.iofd_words.specs.declared.numbers.DeviceNo.{DeviceNo}
 use Rattle.iofd_words.specs.declared.numbers.FrameNo.{FrameNo}
-use Rattle.iofd_words.specs.declared.numbers.UserNo.{UserNo}
 use Rattle.iofd_words.specs.declared.record.Record.{Record}
 use Rattle.iofd_words.specs.declared.refusal.Cause.{Cause}
 use Rattle.iofd_words.specs.declared.reply.Reply.{Reply}
 use Rattle.iofd_words.specs.declared.reply.Reply.TheVariants as reply
-use Rattle.iofd_words.specs.declared.rows.Area.{Area}
-use Rattle.iofd_words.specs.declared.rows.Attachment.{Attachment}
-use Rattle.iofd_words.specs.declared.rows.Object.{Object}
-use Rattle.iofd_words.specs.declared.rows.ObjectKind.{ObjectKind}
-use Rattle.iofd_words.specs.declared.rows.ObjectKind.TheVariants as kind
 use Rattle.iofd_words.specs.declared.rows.Pin.{Pin}
 use Rattle.iofd_words.specs.declared.rows.TableFrame.{TableFrame}
 use Rattle.iofd_words.specs.declared.rows.UserPage.{UserPage}
 use Rattle.iofd_rows.proofs.Each.{IsIn, of_each}
-use Rattle.iofd_runs.proofs.CopySource.{source_area}
 use Rattle.iofd_rows.proofs.Bools.{or_false, and_true, both_false, both_true, not_true, not_false}
+use Rattle.iofd_runs.proofs.Moves.{MemoryMoves, SameMemory, OnePage, FewerPages, Written, changed_moves}
 
 -- ---- a free frame is reached by nobody
 
@@ -111,60 +100,16 @@ own_frames-filter stays (p ∷ pages) own =
 pub keeps_own_frames : {A : Type 0} → (at : ℕ) (w : World) (e : Event A) (answer : Reply) → refusal w e ≡ None
     → Answers w e answer → have_own_frames w.user_pages ≡ true
     → have_own_frames (changed at w e answer).user_pages ≡ true
-unfolding changed settle without_areas attached detached joined Answers
-keeps_own_frames at w (event.IoasAlloc file) (reply.Id id) none answers own = own
-keeps_own_frames at w (event.Map file request) (reply.Iova iova) none answers own = mapped (user_of w.settings file)
+keeps_own_frames at w e answer none answers own =
+    by_move (changed at w e answer) (changed_moves at w e answer).memory
   where
-    mapped : (user : Option UserNo) → have_own_frames (map_changes at w file request iova user).user_pages ≡ true
-    mapped None = own
-    mapped (Some user) = own
-keeps_own_frames at w (event.Copy file request) (reply.Iova iova) none answers own = copied (source_area w file request)
-  where
-    copied : (source : Option Area) → have_own_frames (copy_changes w file request iova source).user_pages ≡ true
-    copied None = own
-    copied (Some source) = own
-keeps_own_frames at w (event.Unmap file request) (reply.Bytes count) none answers own = own
-keeps_own_frames at w (event.Unmap file request) (reply.Pending errno) none answers own = own
-keeps_own_frames at w (event.HwptAlloc file request) (reply.Id id) none answers own =
-    made (settings_under w.settings w.objects file request.device)
-  where
-    made : (settings : Option DeviceSettings)
-        → have_own_frames (hwpt_changes w file request.ioas id settings).user_pages ≡ true
-    made None = own
-    made (Some settings) = own
-keeps_own_frames at w (event.Destroy file id) reply.Done none answers own = own
-keeps_own_frames at w (event.Close file) reply.Done none answers own = own
-keeps_own_frames at w (event.UserMap user va) (reply.Frame frame) none answers own =
-    own_frames_more w.user_pages _ (no_page w.user_pages w.pins w.table_frames frame.0
-    (free_parts w.settings.pool w.user_pages w.pins w.table_frames frame.0 answers).1) own
-keeps_own_frames at w (event.AllowIovas file ioas ranges) reply.Done none answers own = own
-keeps_own_frames at w (event.UserUnmap user va) reply.Done none answers own = own_frames-filter _ w.user_pages own
-keeps_own_frames at w (event.UserWrite user va bytes) reply.Done none answers own = own
-keeps_own_frames at w (event.Bind file device) (reply.Id id) none answers own = own
-keeps_own_frames at w (event.Unbind file id) reply.Done none answers own = own
-keeps_own_frames at w (event.Attach device pt_id) (reply.Id id) none answers own =
-    bound (binding_of w.objects device) (device_of w.settings device)
-  where
-    bound : (object : Option Object) (settings : Option DeviceSettings)
-        → have_own_frames (attach_changes w device pt_id id object settings).user_pages ≡ true
-    bound None settings = own
-    bound (Some object) None = own
-    bound (Some object) (Some settings) = by_kind (kind_of w.objects object.file pt_id)
-      where
-        by_kind : (k : Option ObjectKind) → have_own_frames
-            (target_changes w device pt_id id object settings k).user_pages ≡ true
-        by_kind (Some kind.Ioas) = own
-        by_kind (Some (kind.Hwpt ioas width automatic)) = own
-        by_kind k = own
-keeps_own_frames at w (event.Detach device) reply.Done none answers own =
-    attached_or_not (attachment_of w.attachments device)
-  where
-    attached_or_not : (a : Option Attachment) → have_own_frames (detach_changes w device a).user_pages ≡ true
-    attached_or_not None = own
-    attached_or_not (Some a) = own
-keeps_own_frames at w (event.Flush device) reply.Done none answers own = own
-keeps_own_frames at w (event.DeviceWrite device iova bytes) (reply.Passed frame) none answers own = own
-keeps_own_frames at w e answer none answers own = own
+    by_move : (new : World) → MemoryMoves w e answer new → have_own_frames new.user_pages ≡ true
+    by_move new (SameMemory is same) = rw is own
+    by_move new (OnePage user va frame passed free told is less) =
+        rw is (own_frames_more w.user_pages _ (no_page w.user_pages w.pins w.table_frames frame.0
+        (free_parts w.settings.pool w.user_pages w.pins w.table_frames frame.0 (free answers)).1) own)
+    by_move new (FewerPages stays is same) = rw is (own_frames-filter stays w.user_pages own)
+    by_move new (Written written is) = rw is own
 
 -- ---- a frame that is given out was free
 

@@ -1,18 +1,15 @@
 -- A table's frame is of the pool and of no other table, and no user's page and no pin has it.
-use Rattle.std.proofs.Common.{◌≡◌, ℕ, Bool, true, false, cond, ◌&&◌, ◌||◌, ◌++◌, not, eqb, ltb, Option, Some, None}
+use Rattle.std.proofs.Common.{◌≡◌, ℕ, Bool, true, false, cond, ◌&&◌, ◌||◌, ◌++◌, not, eqb, ltb, None}
 use Rattle.std.proofs.Common.{List, [], ◌∷◌, length, refl, ap, ◌∙◌, subst}
 use Rattle.std.specs.List.{filter, list_all, list_any}
 use Rattle.std.proofs.lemmas.List.Folds.{list_all-append, list_any-append}
-use Rattle.iofd_words.specs.After.{attach_changes, attached, changed, copy_changes, detach_changes, detached}
-use Rattle.iofd_words.specs.After.{hwpt_changes, joined, map_changes, settle, target_changes, without_areas}
+use Rattle.iofd_words.specs.After.{changed}
+use Rattle.iofd_words.specs.After.{settle}
 use Rattle.iofd_words.specs.Answers.{Answers}
-use Rattle.iofd_words.specs.Attachments.{attachment_of}
 use Rattle.iofd_words.specs.Checks.{refusal}
-use Rattle.iofd_words.specs.Files.{device_of, user_of}
 use Rattle.iofd_words.specs.Frames.{is_free, is_reached}
-use Rattle.iofd_words.specs.Objects.{binding_of, kind_of, settings_under}
 use Rattle.iofd_words.specs.Policy.{outcomes}
-use Rattle.iofd_words.specs.Settings.{DeviceSettings, Settings}
+use Rattle.iofd_words.specs.Settings.{Settings}
 use Rattle.iofd_words.specs.Tables.{MissingTable, MovesTables, are_different, in_frames, is_among, is_orphan}
 use Rattle.iofd_words.specs.Tables.{kept_tables, may_go, missing_tables, with_tables}
 use Rattle.iofd_words.specs.World.{World, opening}
@@ -20,14 +17,8 @@ use Rattle.iofd_words.specs.declared.event.Event.{Event}
 use Rattle.iofd_words.specs.declared.event.Event.TheVariants as event
 use Rattle.iofd_words.specs.declared.fault.AccessKind.TheVariants.{Write}
 use Rattle.iofd_words.specs.declared.numbers.FrameNo.{FrameNo}
-use Rattle.iofd_words.specs.declared.numbers.UserNo.{UserNo}
 use Rattle.iofd_words.specs.declared.reply.Reply.{Reply}
 use Rattle.iofd_words.specs.declared.reply.Reply.TheVariants as reply
-use Rattle.iofd_words.specs.declared.rows.Area.{Area}
-use Rattle.iofd_words.specs.declared.rows.Attachment.{Attachment}
-use Rattle.iofd_words.specs.declared.rows.Object.{Object}
-use Rattle.iofd_words.specs.declared.rows.ObjectKind.{ObjectKind}
-use Rattle.iofd_words.specs.declared.rows.ObjectKind.TheVariants as kind
 use Rattle.iofd_words.specs.declared.rows.Pin.{Pin}
 use Rattle.iofd_words.specs.declared.rows.TableFrame.{TableFrame}
 use Rattle.iofd_words.specs.declared.rows.UserPage.{UserPage}
@@ -35,7 +26,6 @@ use Rattle.iofd_rows.proofs.Bools.{and_true, both_false, both_true, clash, not_f
 use Rattle.iofd_rows.proofs.Each.{IsIn, in_filter, of_all, of_each}
 use Rattle.iofd_rows.proofs.Found.{all_filter}
 use Rattle.iofd_rows.proofs.Unusable.{each_not, none_of}
-use Rattle.iofd_runs.proofs.CopySource.{source_area}
 use Rattle.iofd_runs.proofs.KeepsFits.{settled_frames}
 use Rattle.iofd_runs.proofs.KeepsTabled.{HasTables, keeps_tables, opening_tables}
 use Rattle.iofd_runs.proofs.MissingTables.{is_owned}
@@ -44,6 +34,7 @@ use Rattle.iofd_runs.proofs.SameTables.{same_tables}
 use Rattle.iofd_runs.proofs.StillTabled.{none_given}
 use Rattle.iofd_laws.proofs.OwnFrames.{flipped, given_free, never_written}
 use Rattle.iofd_laws.specs.Laws.{TablesAlone, is_alone, tables_differ}
+use Rattle.iofd_runs.proofs.Moves.{MemoryMoves, SameMemory, OnePage, FewerPages, Written, PinsMove, SamePins, Settled, changed_moves}
 
 -- ---- what holds of all frames of users' pages and pins
 
@@ -58,67 +49,30 @@ all_more q pages page all here =
     list_all-append (λ (p : UserPage). q p.frame.0) pages (page ∷ []) ∙ both_true _ _ all (both_true _ _ here refl)
 
 module _ (q : ℕ → Bool) (w : World) (all : OfFrames q w) where
-  settles : (new : World) → new.user_pages ≡ w.user_pages → OfFrames q (settle w new)
+  users_stay : {A : Type 0} (e : Event A) (answer : Reply) (new : World) → MemoryMoves w e answer new
+      → ((frame : FrameNo) → answer ≡ reply.Frame frame → q frame.0 ≡ true)
+      → list_all (λ (p : UserPage). q p.frame.0) new.user_pages ≡ true
+  users_stay e answer new (SameMemory is same) given = rw is all.users
+  users_stay e answer new (OnePage user va frame passed free told is less) given =
+      rw is (all_more q w.user_pages _ all.users (given frame told))
+  users_stay e answer new (FewerPages stays is same) given =
+      rw is (all_filter (λ (p : UserPage). q p.frame.0) stays w.user_pages all.users)
+  users_stay e answer new (Written written is) given = rw is all.users
+
+  pins_stay : {A : Type 0} (at : ℕ) (e : Event A) (new : World) → PinsMove at w e new → list_all (λ (p : UserPage). q p.frame.0) new.user_pages ≡ true
+      → list_all (λ (pin : Pin). q pin.frame.0) new.pins ≡ true
   unfolding settle
-  settles new same =
-      let users : list_all (λ (p : UserPage). q p.frame.0) new.user_pages ≡ true = rw same all.users in
-      record { users = users; pins = settled_frames q new.memory new.user_pages users _ _ w.pins all.pins }
+  pins_stay at e new (SamePins is alike) users = rw is all.pins
+  pins_stay at e new (Settled is present) users =
+      rw is (settled_frames q new.memory new.user_pages users _ _ w.pins all.pins)
 
   -- it holds still, if it holds of the frame that is answered
   frames_stay : {A : Type 0} (at : ℕ) (e : Event A) (answer : Reply)
       → ((frame : FrameNo) → answer ≡ reply.Frame frame → q frame.0 ≡ true) → OfFrames q (changed at w e answer)
-  unfolding changed without_areas attached detached joined
-  frames_stay at (event.IoasAlloc file) (reply.Id id) given = record { users = all.users; pins = all.pins }
-  frames_stay at (event.Map file request) (reply.Iova iova) given = mapped (user_of w.settings file)
-    where
-      mapped : (user : Option UserNo) → OfFrames q (map_changes at w file request iova user)
-      mapped None = all
-      mapped (Some user) = settles _ refl
-  frames_stay at (event.Copy file request) (reply.Iova iova) given = copied (source_area w file request)
-    where
-      copied : (source : Option Area) → OfFrames q (copy_changes w file request iova source)
-      copied None = all
-      copied (Some source) = settles _ refl
-  frames_stay at (event.Unmap file request) (reply.Bytes count) given = settles _ refl
-  frames_stay at (event.Unmap file request) (reply.Pending errno) given = record { users = all.users; pins = all.pins }
-  frames_stay at (event.HwptAlloc file request) (reply.Id id) given =
-      made (settings_under w.settings w.objects file request.device)
-    where
-      made : (settings : Option DeviceSettings) → OfFrames q (hwpt_changes w file request.ioas id settings)
-      made None = all
-      made (Some settings) = settles _ refl
-  frames_stay at (event.Destroy file id) reply.Done given = settles _ refl
-  frames_stay at (event.Close file) reply.Done given = settles _ refl
-  frames_stay at (event.UserMap user va) (reply.Frame frame) given =
-      record { users = all_more q w.user_pages _ all.users (given frame refl); pins = all.pins }
-  frames_stay at (event.AllowIovas file ioas ranges) reply.Done given = record { users = all.users; pins = all.pins }
-  frames_stay at (event.UserUnmap user va) reply.Done given =
-      record { users = all_filter (λ (p : UserPage). q p.frame.0) _ w.user_pages all.users; pins = all.pins }
-  frames_stay at (event.UserWrite user va bytes) reply.Done given = record { users = all.users; pins = all.pins }
-  frames_stay at (event.Bind file device) (reply.Id id) given = record { users = all.users; pins = all.pins }
-  frames_stay at (event.Unbind file id) reply.Done given = record { users = all.users; pins = all.pins }
-  frames_stay at (event.Attach device pt_id) (reply.Id id) given =
-      bound (binding_of w.objects device) (device_of w.settings device)
-    where
-      bound : (object : Option Object) (settings : Option DeviceSettings)
-          → OfFrames q (attach_changes w device pt_id id object settings)
-      bound None settings = all
-      bound (Some object) None = all
-      bound (Some object) (Some settings) = by_kind (kind_of w.objects object.file pt_id)
-        where
-          by_kind : (k : Option ObjectKind) → OfFrames q (target_changes w device pt_id id object settings k)
-          by_kind (Some kind.Ioas) = settles _ refl
-          by_kind (Some (kind.Hwpt ioas width automatic)) = record { users = all.users; pins = all.pins }
-          by_kind k = all
-  frames_stay at (event.Detach device) reply.Done given = attached_or_not (attachment_of w.attachments device)
-    where
-      attached_or_not : (a : Option Attachment) → OfFrames q (detach_changes w device a)
-      attached_or_not None = all
-      attached_or_not (Some a) = settles _ refl
-  frames_stay at (event.Flush device) reply.Done given = record { users = all.users; pins = all.pins }
-  frames_stay at (event.DeviceWrite device iova bytes) (reply.Passed frame) given =
-      record { users = all.users; pins = all.pins }
-  frames_stay at e answer given = all
+  frames_stay at e answer given =
+      let new : World = changed at w e answer in
+      let users = users_stay e answer new (changed_moves at w e answer).memory given in
+      record { users = users; pins = pins_stay at e new (changed_moves at w e answer).pins users }
 
 -- ---- none and each not
 

@@ -4,16 +4,16 @@ use Rattle.std.proofs.Common.{◌≡◌, ℕ, ◌+◌, ◌<◌, ◌≤◌, Bool,
 use Rattle.std.proofs.Common.{Option, Some, None, List, [], length, refl, ap, sym, ◌∙◌, subst, arith}
 use Rattle.std.specs.List.{list_all, list_any}
 use Rattle.std.proofs.lemmas.Bool.Decides.{nat_tests}
-use Rattle.iofd_words.specs.After.{attach_changes, attached, changed, copy_changes, hwpt_changes, made_hwpt}
-use Rattle.iofd_words.specs.After.{map_changes, mapped_area, settle, target_changes, with_hwpt}
-use Rattle.iofd_words.specs.Answers.{Answers, IsHwptFor, IsHwptOf, IsTarget}
+use Rattle.iofd_words.specs.After.{attached, changed, copy_changes, hwpt_changes, made_hwpt}
+use Rattle.iofd_words.specs.After.{map_changes, mapped_area, settle, with_hwpt}
+use Rattle.iofd_words.specs.Answers.{Answers, IsHwptFor}
 use Rattle.iofd_words.specs.Areas.{all_paid, areas_of, with_area}
 use Rattle.iofd_words.specs.Checks.{lacks_attached_frames, lacks_mapped_frames, lacks_new_tables, mapped_start, refusal}
 use Rattle.iofd_words.specs.Checks.{tables_to_map}
 use Rattle.iofd_words.specs.Copies.{placed_as}
 use Rattle.iofd_words.specs.Files.{device_of, user_of}
 use Rattle.iofd_words.specs.Frames.{free_count, is_free}
-use Rattle.iofd_words.specs.Objects.{automatic_hwpt, binding_of, is_fresh, is_ioas, kind_of, settings_under}
+use Rattle.iofd_words.specs.Objects.{automatic_hwpt, binding_of, is_fresh, kind_of, settings_under}
 use Rattle.iofd_words.specs.Objects.{with_object}
 use Rattle.iofd_words.specs.Run.{IsAnswer, Lawful, MovesFrames}
 use Rattle.iofd_words.specs.Settings.{DeviceSettings}
@@ -38,7 +38,6 @@ use Rattle.iofd_words.specs.declared.reply.Reply.{Reply}
 use Rattle.iofd_words.specs.declared.reply.Reply.TheVariants as reply
 use Rattle.iofd_words.specs.declared.rows.Area.{Area}
 use Rattle.iofd_words.specs.declared.rows.Object.{Object}
-use Rattle.iofd_words.specs.declared.rows.ObjectKind.{ObjectKind}
 use Rattle.iofd_words.specs.declared.rows.ObjectKind.TheVariants as kind
 use Rattle.iofd_words.specs.declared.rows.TableFrame.{TableFrame}
 use Rattle.iofd_rows.specs.Ids.{have_own_ids}
@@ -54,12 +53,14 @@ use Rattle.iofd_runs.proofs.MissingTables.{all_needed, is_owned}
 use Rattle.iofd_runs.proofs.NotRefused.{attach_passed, copy_passed, hwpt_passed, map_passed}
 use Rattle.iofd_runs.proofs.OwnIds.{keeps_own_ids, unused}
 use Rattle.iofd_runs.proofs.SameTables.{same_tables}
-use Rattle.iofd_runs.proofs.StillTabled.{MakesNone, finds_table, hwpts_same, live_paid, moves_given, none_after}
-use Rattle.iofd_runs.proofs.StillTabled.{none_given, stay_with, still_none_missing, still_owned}
+use Rattle.iofd_runs.proofs.StillTabled.{hwpts_same, live_paid, moves_given, none_after}
+use Rattle.iofd_runs.proofs.StillTabled.{none_given, still_none_missing, still_owned}
+use Rattle.iofd_runs.proofs.TableEvents.{MakesNone, finds_table, stay_with}
 use Rattle.iofd_runs.proofs.TableCounts.{count_mapped, count_new, no_kind, pages_paid}
 use Rattle.iofd_laws.proofs.FreeFrames.{frames_that, pick, same_row, some_in, that_has, that_pass, that_rise}
 use Rattle.iofd_laws.proofs.SomeAnswer.{map_answer, some_answer}
 use Rattle.iofd_laws.specs.Laws.{HasRecord, TablesAlone}
+use Rattle.iofd_runs.proofs.Branches.{by_target}
 
 -- frames move as they may, from a world to the one that an event has left
 abbrev Moved : {A : Type 0} → World → World → Event A → Reply → Type 0
@@ -324,32 +325,17 @@ module _ (at : ℕ) (w : World) (has : HasTables w) (alone : TablesAlone w) wher
       by_table bound d is known space (Some automatic) lacks made some = cc
       by_table bound d is known space None lacks made some = new bound d is known space lacks made
 
-      by_kind : (bound : Object) (d : DeviceSettings) → binding_of w.objects device ≡ Some bound
-          → device_of w.settings device ≡ Some d → (k : Option ObjectKind) → kind_of w.objects bound.file pt_id ≡ k
-          → IsTarget w bound.file pt_id id d.width k
-          → (not (elim k [ Some kind ↦ is_ioas kind | None ↦ false ])
-          || is_some (automatic_hwpt w.objects bound.file pt_id d.width)) ≡ false
-          → Moved {A = A} w (target_changes w device pt_id id bound d k) (event.Attach device pt_id) (reply.Id id)
-      by_kind bound d is known (Some kind.Ioas) space made finds =
-          by_table bound d is known space (automatic_hwpt w.objects bound.file pt_id d.width) refl made finds
-      by_kind bound d is known (Some (kind.Hwpt ioas width automatic)) space made finds = cc
-      by_kind bound d is known (Some (kind.Device other)) space never finds = absurd never
-      by_kind bound d is known None space never finds = absurd never
-
-      by_binding : (o : Option Object) (s : Option DeviceSettings) → binding_of w.objects device ≡ o
-          → device_of w.settings device ≡ s → IsHwptOf w pt_id id o s → finds_table w.objects pt_id o s ≡ false
-          → Moved {A = A} w (attach_changes w device pt_id id o s) (event.Attach device pt_id) (reply.Id id)
-      by_binding None s is known never finds = absurd never
-      by_binding (Some bound) None is known never finds = absurd never
-      by_binding (Some bound) (Some d) is known made finds =
-          by_kind bound d is known (kind_of w.objects bound.file pt_id) refl made finds
-
       by_finds : (b : Bool) → finds_table w.objects pt_id (binding_of w.objects device) (device_of w.settings device)
           ≡ b → Moved {A = A} w (changed {A = A} at w (event.Attach device pt_id) (reply.Id id))
           (event.Attach device pt_id) (reply.Id id)
       by_finds true finds = rest {A = A} (event.Attach device pt_id) (reply.Id id) none answers finds
       by_finds false finds =
-          by_binding (binding_of w.objects device) (device_of w.settings device) refl refl answers finds
+          by_target w device pt_id id (λ left. Moved {A = A} w left (event.Attach device pt_id) (reply.Id id))
+          (λ nowhere. absurd (nowhere answers))
+          (λ bound d is known space made. by_table bound d is known space
+          (automatic_hwpt w.objects bound.file pt_id d.width) refl (made answers) (rw (is, known, space) at finds))
+          (λ bound d ioas width automatic is known table same.
+          let other : true ≡ false = rw (is, known, table) at finds in absurd (cc))
 
   -- each other event than a MAP and a COPY, with any answer
   abbrev PlacesNoArea : {A : Type 0} → Event A → Type 0

@@ -33,8 +33,10 @@ use Rattle.iofd_runs.proofs.Known.{is_known}
 use Rattle.iofd_runs.proofs.Runs.{run_keeps}
 use Rattle.iofd_promises.specs.Closing.{HasNothing, IsGone, file_named}
 use Rattle.iofd_promises.proofs.Lists.{any_last}
-use Rattle.iofd_promises.proofs.Moves.{Closes, FilesMove, StayOpen, changed_moves}
+use Rattle.iofd_runs.proofs.Moves.{Closes, FilesMove, StayOpen, changed_moves}
 use Rattle.iofd_promises.proofs.Rows.{within}
+use Rattle.iofd_runs.proofs.Moves.{AllowedMove, SameAllowed, FewerAllowed, Allows}
+use Rattle.iofd_words.specs.Allowed.{with_allowed}
 
 -- ---- rows of open files
 
@@ -56,29 +58,34 @@ of_another closed file other open_still there same =
 abbrev pub AllowedOpen : World → Type 0
 AllowedOpen w = (row : AllowedRanges) → IsIn w.allowed row → is_closed w.closed row.file ≡ false
 
-keeps_allowed : (w new : World) → FilesMove w new → AllowedOpen w → AllowedOpen new
-keeps_allowed w new (StayOpen closed came) open_all row there =
-    subst (λ (files : List FileNo). is_closed files row.file ≡ false) (sym closed) (by_place (came row there))
-  where
-    by_place : IsIn w.allowed row ⊎ (is_open w.settings w.closed row.file ≡ true) → is_closed w.closed row.file ≡ false
-    by_place (inl old) = open_all row old
-    by_place (inr is) = opened w.settings w.closed row.file is
-keeps_allowed w new (Closes file closed allowed) open_all row there =
+keeps_allowed : {A : Type 0} (w : World) (e : Event A) (new : World) → FilesMove w new → AllowedMove w e new
+    → refusal w e ≡ None → AllowedOpen w → AllowedOpen new
+keeps_allowed w e new (Closes file closed objects allowed) move none open_all row there =
     let (old, stays) = in_filter (λ (r : AllowedRanges). not (eqb r.file.0 file.0)) w.allowed row
-    (subst (λ (rows : List AllowedRanges). IsIn rows row) allowed there) in
+    (rw allowed at there) in
     let apart = not_true _ stays in
     let other : eqb file.0 row.file.0 ≡ false = search (apart, arith, nat_tests) in
-    subst (λ (files : List FileNo). is_closed files row.file ≡ false) (sym closed)
-    (any_last (λ (f : FileNo). eqb f.0 row.file.0) w.closed file (open_all row old) other)
+    rw closed (any_last (λ (f : FileNo). eqb f.0 row.file.0) w.closed file (open_all row old) other)
+keeps_allowed w e new (StayOpen closed) (SameAllowed is) none open_all row there =
+    rw closed (open_all row (rw is at there))
+keeps_allowed w e new (StayOpen closed) (FewerAllowed stays gone is) none open_all row there =
+    rw closed (open_all row (in_filter stays w.allowed row (rw is at there)).0)
+keeps_allowed w e new (StayOpen closed) (Allows file ioas ranges passed alike is) none open_all row there =
+    rw closed (by_place (rw is at there))
+  where
+    by_place : IsIn (with_allowed file ioas ranges w.allowed) row → is_closed w.closed row.file ≡ false
+    by_place (inl same) = subst (λ (r : AllowedRanges). is_closed w.closed r.file ≡ false) same
+        (opened w.settings w.closed file (passed none).opened)
+    by_place (inr later) = open_all row (in_filter _ w.allowed row later).0
 
 pub allowed_open : {A : Type 0} (settings : Settings) (records : List (Record A)) → IsRun settings records
     → AllowedOpen (world_of settings records)
 unfolding IsRun world_of with_tables
 allowed_open settings records run =
     run_keeps AllowedOpen (λ w taken given open_all. open_all)
-    (λ at w e answer none answers open_all. keeps_allowed w (changed at w e answer)
-    (changed_moves at w e answer none answers).files open_all) 0 (opening settings) records run (λ
-    row there. absurd there)
+    (λ at w e answer none answers open_all. keeps_allowed w e (changed at w e answer)
+    (changed_moves at w e answer).files (changed_moves at w e answer).allowed none open_all) 0 (opening settings)
+    records run (λ row there. absurd there)
 
 pub has_nothing : (w : World) (file : FileNo) → RowsFit w → IsSound w → AllowedOpen w → IsIn w.closed file
     → HasNothing w file
@@ -104,9 +111,9 @@ has_nothing w file fits sound open_all there = record {
 -- ---- closed files
 
 pub stays_closed : (w new : World) (file : FileNo) → FilesMove w new → IsIn w.closed file → IsIn new.closed file
-stays_closed w new file (StayOpen closed came) there =
+stays_closed w new file (StayOpen closed) there =
     subst (λ (files : List FileNo). IsIn files file) (sym closed) there
-stays_closed w new file (Closes other closed allowed) there =
+stays_closed w new file (Closes other closed objects allowed) there =
     subst (λ (files : List FileNo). IsIn files file) (sym closed) (in_more w.closed there)
   where
     in_more : (files : List FileNo) → IsIn files file → IsIn (files ++ other ∷ []) file

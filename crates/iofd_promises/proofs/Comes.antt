@@ -15,7 +15,7 @@ use Rattle.iofd_rows.specs.Ids.{have_own_ids}
 use Rattle.iofd_rows.proofs.Each.{IsIn, in_filter, in_with_object, of_any}
 use Rattle.iofd_rows.proofs.Named.{kind_only, named, object_of_kind}
 use Rattle.iofd_runs.proofs.OwnIds.{unused}
-use Rattle.iofd_promises.proofs.Moves.{Fewer, More, ObjectsMove, Same, changed_moves}
+use Rattle.iofd_runs.proofs.Moves.{Fewer, More, ObjectsMove, Same, changed_moves}
 
 -- ---- an object that is there after it
 
@@ -23,20 +23,18 @@ use Rattle.iofd_promises.proofs.Moves.{Fewer, More, ObjectsMove, Same, changed_m
 abbrev pub Came : List Object → Object → Type 0
 Came objects object = IsIn objects object ⊎ (is_fresh objects object.file object.id ≡ true)
 
-came_by : (old new : List Object) (x : Object) → ObjectsMove old new → IsIn new x → Came old x
-came_by old new x (Same is) within = inl (subst (λ (os : List Object). IsIn os x) is within)
-came_by old new x (Fewer stays is) within =
-    inl (in_filter stays old x (subst (λ (os : List Object). IsIn os x) is within)).0
-came_by old new x (More object fresh room is) within =
-    ⊎_elim
-    (λ (new : object ≡ x). inr (subst (λ (o : Object). is_fresh old o.file o.id ≡ true) new fresh))
-    (λ (before : IsIn old x). inl before)
-    (in_with_object object old x (subst (λ (os : List Object). IsIn os x) is within))
-
 pub came : {A : Type 0} → (at : ℕ) (w : World) (e : Event A) (answer : Reply) → refusal w e ≡ None → Answers w e answer
     → (x : Object) → IsIn (changed at w e answer).objects x → Came w.objects x
 came at w e answer none answers x within =
-    came_by w.objects (changed at w e answer).objects x (changed_moves at w e answer none answers).objects within
+    by_move (changed at w e answer) (changed_moves at w e answer).objects within
+  where
+    by_move : (new : World) → ObjectsMove w e answer new → IsIn new.objects x → Came w.objects x
+    by_move new (Same is) within = inl (rw is at within)
+    by_move new (Fewer stays stay is) within = inl (in_filter stays w.objects x (rw is at within)).0
+    by_move new (More object fresh admitted makes is) within =
+        ⊎_elim
+        (λ (new : object ≡ x). inr (subst (λ (o : Object). is_fresh w.objects o.file o.id ≡ true) new (fresh answers)))
+        (λ (before : IsIn w.objects x). inl before) (in_with_object object w.objects x (rw is at within))
 
 -- a name that had an object and has one still has the same one
 pub same_kind : (old new : List Object) (file : FileNo) (id : ObjId) (before k : ObjectKind) → have_own_ids old ≡ true

@@ -20,8 +20,13 @@ use Rattle.iofd_rows.proofs.Each.{of_all, of_each}
 use Rattle.iofd_runs.proofs.Runs.{run_keeps}
 use Rattle.iofd_promises.specs.Bounded.{how_many}
 use Rattle.iofd_promises.proofs.Comes.{Came, came}
-use Rattle.iofd_promises.proofs.Moves.{AreasMove, Fewer, FewerAreas, More, ObjectsMove, OneArea, OtherPhases, Same}
-use Rattle.iofd_promises.proofs.Moves.{SameAreas, changed_moves}
+use Rattle.iofd_runs.proofs.Moves.{AreasMove, Fewer, FewerAreas, More, ObjectsMove, OneArea, OtherPhases, Same}
+use Rattle.iofd_runs.proofs.Moves.{SameAreas, changed_moves}
+use Rattle.iofd_words.specs.Checks.{refusal}
+use Rattle.iofd_words.specs.declared.event.Event.{Event}
+use Rattle.iofd_words.specs.declared.reply.Reply.{Reply}
+use Rattle.std.proofs.Common.{not}
+use Rattle.std.proofs.Common.{None}
 
 -- ---- counts
 
@@ -96,13 +101,18 @@ one_area p area (o ∷ areas) = by_order (is_of area.file area.ioas o && ltb are
 abbrev of_file : ℕ → Object → Bool
 of_file file object = eqb object.file.0 file
 
-few_by : (file : ℕ) (old new : List Object) → ObjectsMove old new → how_many (of_file file) old ≤ 65535
-    → how_many (of_file file) new ≤ 65535
-few_by file old new (Same is) few = rw is few
-few_by file old new (Fewer stays is) few = let less = fewer (of_file file) stays old in rw is (omega (arith, less, few))
-few_by file old new (More object fresh room is) few =
-    rw is (by_file (eqb object.file.0 file) refl (one_object (of_file file) object old))
+few_by : {A : Type 0} (file : ℕ) (w : World) (e : Event A) (answer : Reply) (new : World)
+    → ObjectsMove w e answer new → refusal w e ≡ None → how_many (of_file file) w.objects ≤ 65535
+    → how_many (of_file file) new.objects ≤ 65535
+few_by file w e answer new (Same is) none few = rw is few
+few_by file w e answer new (Fewer stays stay is) none few =
+    let less = fewer (of_file file) stays w.objects in rw is (omega (arith, less, few))
+few_by file w e answer new (More object fresh admitted makes is) none few =
+    rw is (by_file (eqb object.file.0 file) refl (one_object (of_file file) object w.objects))
   where
+    old : List Object
+    old = w.objects
+
     by_file : (b : Bool) → eqb object.file.0 file ≡ b
         → how_many (of_file file) (with_object object old) ≡ cond b 1 0 + how_many (of_file file) old
         → how_many (of_file file) (with_object object old) ≤ 65535
@@ -111,7 +121,8 @@ few_by file old new (More object fresh room is) few =
         let same = eqb-true object.file.0 file own in
         let here : how_many (of_file file) old ≡ length (objects_of old object.file) =
         ap (λ (n : ℕ). how_many (of_file n) old) (sym same) ∙ sym (counted (of_file object.file.0) old) in
-        let below : length (objects_of old object.file) < 65535 = search (room, arith, nat_tests) in
+        let below : length (objects_of old object.file) < 65535 =
+        let room = (admitted none).roomy in search (room, arith, nat_tests) in
         omega (arith, more, here, below)
 
 pub few_objects : {A : Type 0} (settings : Settings) (records : List (Record A)) (file : ℕ) → IsRun settings records
@@ -119,8 +130,8 @@ pub few_objects : {A : Type 0} (settings : Settings) (records : List (Record A))
 unfolding IsRun world_of with_tables
 few_objects settings records file run =
     run_keeps (λ w. how_many (of_file file) w.objects ≤ 65535) (λ w taken given few. few)
-    (λ at w e answer none answers few. few_by file w.objects (changed at w e answer).objects
-    (changed_moves at w e answer none answers).objects few)
+    (λ at w e answer none answers few. few_by file w e answer (changed at w e answer)
+    (changed_moves at w e answer).objects none few)
     0 (opening settings) records run (omega arith)
 
 -- ---- areas of an address space
@@ -135,18 +146,19 @@ same_count file ioas phase [] = refl
 same_count file ioas phase (area ∷ areas) =
     ap (λ (n : ℕ). cond (of_space file ioas area) (1 + n) n) (same_count file ioas phase areas)
 
-few_areas_by : (file ioas : ℕ) (w : World) (new : List Area) → AreasMove w new
-    → how_many (of_space file ioas) w.areas ≤ 65535 → how_many (of_space file ioas) new ≤ 65535
-few_areas_by file ioas w new (SameAreas is) few = rw is few
-few_areas_by file ioas w new (FewerAreas stays is) few =
-    let less = fewer (of_space file ioas) stays w.areas in rw is (omega (arith, less, few))
-few_areas_by file ioas w new (OtherPhases phase is) few =
-    let same = same_count file ioas phase w.areas in rw is (omega (arith, same, few))
-few_areas_by file ioas w new (OneArea memory own request iova passed lies is) few =
+few_areas_by : {A : Type 0} (file ioas at : ℕ) (w : World) (e : Event A) (answer : Reply) (new : World)
+    → AreasMove at w e answer new → refusal w e ≡ None
+    → how_many (of_space file ioas) w.areas ≤ 65535 → how_many (of_space file ioas) new.areas ≤ 65535
+few_areas_by file ioas at w e answer new (SameAreas is same) none few = rw is few
+few_areas_by file ioas at w e answer new (FewerAreas goes is left) none few =
+    let less = fewer (of_space file ioas) (λ (a : Area). not (goes a)) w.areas in rw is (omega (arith, less, few))
+few_areas_by file ioas at w e answer new (OtherPhases phase lives is same) none few =
+    let alike = same_count file ioas phase w.areas in rw is (omega (arith, alike, few))
+few_areas_by file ioas at w e answer new (OneArea number own request iova passed lies makes alike is under) none few =
     rw is (by_space (of_space file ioas area) refl (one_area (of_space file ioas) area w.areas))
   where
     area : Area
-    area = mapped_area memory own request iova
+    area = mapped_area number own request iova
 
     by_space : (b : Bool) → (eqb own.0 file && eqb request.ioas.0 ioas) ≡ b
         → how_many (of_space file ioas) (with_area area w.areas) ≡ cond b 1 0 + how_many (of_space file ioas) w.areas
@@ -160,7 +172,7 @@ few_areas_by file ioas w new (OneArea memory own request iova passed lies is) fe
         ap (λ (n : ℕ). how_many (of_space n ioas) w.areas) (sym file_is)
         ∙ ap (λ (n : ℕ). how_many (of_space own.0 n) w.areas) (sym ioas_is)
         ∙ sym (counted (of_space own.0 request.ioas.0) w.areas) in
-        let room = passed.roomy in
+        let room = (passed none).roomy in
         let below : length (areas_of w.areas own request.ioas) < 65535 = search (room, arith, nat_tests) in
         omega (arith, more, count, below)
 
@@ -169,8 +181,7 @@ pub few_areas : {A : Type 0} (settings : Settings) (records : List (Record A)) (
 unfolding IsRun world_of with_tables
 few_areas settings records file ioas run =
     run_keeps (λ w. how_many (of_space file ioas) w.areas ≤ 65535) (λ w taken given few. few)
-    (λ at w e answer none answers few. few_areas_by file ioas w (changed at w e answer).areas
-    (changed_moves at w e answer none answers).areas few)
+    (λ at w e answer none answers few. few_areas_by file ioas at w e answer (changed at w e answer) (changed_moves at w e answer).areas none few)
     0 (opening settings) records run (omega arith)
 
 -- ---- ids

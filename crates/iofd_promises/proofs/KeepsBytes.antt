@@ -12,23 +12,33 @@ use Rattle.iofd_words.specs.declared.numbers.FrameNo.{FrameNo}
 use Rattle.iofd_words.specs.declared.reply.Reply.{Reply}
 use Rattle.iofd_words.specs.declared.reply.Reply.TheVariants as reply
 use Rattle.iofd_words.specs.Frames.{FrameWrite}
-use Rattle.iofd_promises.proofs.Moves.{FewerPages, MemoryMoves, OnePage, SameMemory, Written}
+use Rattle.iofd_runs.proofs.Moves.{FewerPages, MemoryMoves, OnePage, SameMemory, Written}
 use Rattle.iofd_promises.proofs.Bytes.{reads_given, reads_not_given}
 use Rattle.iofd_promises.specs.Bytes.{reads}
+use Rattle.iofd_runs.proofs.Moves.{Writes}
+use Rattle.iofd_promises.specs.Bytes.{changes_bytes}
+use Rattle.std.proofs.Common.{refl, true}
+
+-- a write that is carried out changes bytes
+writes_change : {A : Type 0} → (e : Event A) (answer : Reply) → Writes e answer → changes_bytes e answer ≡ true
+writes_change (event.UserWrite user va bytes) reply.Done written = refl
+writes_change (event.DeviceWrite device iova bytes) (reply.Passed frame) written = refl
+writes_change e answer never = absurd never
 
 -- an answer that gives out no frame, or another one
-pub keeps_byte : (w new : World) (answer : Reply) (frame place : ℕ)
-    → MemoryMoves w false answer new.user_pages new.writes
+pub keeps_byte : {A : Type 0} (w new : World) (e : Event A) (answer : Reply) (frame place : ℕ)
+    → MemoryMoves w e answer new → changes_bytes e answer ≡ false
     → ((given : FrameNo) → answer ≡ reply.Frame given → given.0 ≢ frame)
     → reads new.writes frame place ≡ reads w.writes frame place
-keeps_byte w new answer frame place (SameMemory pages is) others =
+keeps_byte w new e answer frame place (SameMemory pages is) none others =
     ap (λ (writes : List FrameWrite). reads writes frame place) is
-keeps_byte w new answer frame place (OnePage user va given passed free told pages is) others =
+keeps_byte w new e answer frame place (OnePage user va given passed free told pages is) none others =
     ap (λ (writes : List FrameWrite). reads writes frame place) is
     ∙ reads_not_given given.0 frame place w.writes (others given told)
-keeps_byte w new answer frame place (FewerPages stays pages is) others =
+keeps_byte w new e answer frame place (FewerPages stays pages is) none others =
     ap (λ (writes : List FrameWrite). reads writes frame place) is
-keeps_byte w new answer frame place (Written never pages) others = cc
+keeps_byte w new e answer frame place (Written written pages) none others =
+    let changes = writes_change e answer written in cc
 
 -- a write is not answered with a frame that is given out
 pub never_written : (w : World) (device : DeviceNo) (address : ℕ) (os : List Outcome) (frame : FrameNo)

@@ -17,24 +17,47 @@ use Rattle.iofd_rows.proofs.Owed.{each_owed}
 use Rattle.iofd_runs.proofs.KeepsDebts.{IsSound, keeps_sound, tabled_sound}
 use Rattle.iofd_runs.proofs.SameSettings.{changed_settings}
 use Rattle.iofd_promises.proofs.Comes.{came, same_kind}
-use Rattle.iofd_promises.proofs.Moves.{AttachmentsMove, FewerAttachments, OneAttachment, SameAttachments, changed_moves}
-use Rattle.iofd_promises.proofs.Widths.{IsOfWidth}
+use Rattle.iofd_runs.proofs.Moves.{AttachmentsMove, FewerAttachments, OneAttachment, SameAttachments, changed_moves}
+use Rattle.iofd_runs.proofs.Served.{IsServed}
+use Rattle.iofd_words.specs.Settings.{DeviceSettings}
+use Rattle.iofd_words.specs.Files.{device_of}
+use Rattle.iofd_words.specs.Objects.{kind_of}
+use Rattle.iofd_words.specs.Width.{bits_of}
+use Rattle.iofd_words.specs.declared.rows.ObjectKind.TheVariants as kind
+use Rattle.iofd_words.specs.declared.numbers.ObjId.{ObjId}
+use Rattle.iofd_words.specs.declared.width.Width.{Width}
+use Rattle.std.proofs.Common.{Bool, Some}
+
+-- whatever page table the attachment names has the bits of the device's width
+abbrev pub IsOfWidth : Settings → List Object → Attachment → Type 0
+IsOfWidth settings objects a =
+    (d : DeviceSettings) (ioas : ObjId) (width : Width) (automatic : Bool) → device_of settings a.device ≡ Some d
+    → kind_of objects a.file a.hwpt ≡ Some (kind.Hwpt ioas width automatic) → bits_of d.width ≡ bits_of width
+
+served_width : (w : World) (objects : List Object) (a : Attachment) → IsServed w objects a
+    → IsOfWidth w.settings objects a
+served_width w objects a s = λ d ioas width automatic known table.
+    let same : s.device ≡ d = let other = s.known in cc in
+    let one : kind.Hwpt s.ioas s.width s.automatic ≡ kind.Hwpt ioas width automatic = let other = s.table in cc in
+    let of : s.width ≡ width = cc in
+    rw (← same, ← of) s.same_width
 
 -- an attachment is an old one, or it is of its device's width
 abbrev AttachCame : World → List Object → Attachment → Type 0
 AttachCame w objects a = IsIn w.attachments a ⊎ IsOfWidth w.settings objects a
 
-attach_came : (w : World) (objects : List Object) (new : List Attachment) → AttachmentsMove w objects new
-    → have_own_ids w.objects ≡ true → (a : Attachment) → IsIn new a → AttachCame w objects a
-attach_came w objects new (SameAttachments is) own a within =
-    inl (subst (λ (those : List Attachment). IsIn those a) is within)
-attach_came w objects new (FewerAttachments stays is) own a within =
-    inl (in_filter stays w.attachments a (subst (λ (those : List Attachment). IsIn those a) is within)).0
-attach_came w objects new (OneAttachment attachment width is) own a within =
+attach_came : {A : Type 0} (w : World) (e : Event A) (answer : Reply) (new : World) → AttachmentsMove w e answer new
+    → refusal w e ≡ None → Answers w e answer → have_own_ids w.objects ≡ true → (a : Attachment)
+    → IsIn new.attachments a → AttachCame w new.objects a
+attach_came w e answer new (SameAttachments is) none answers own a within = inl (rw is at within)
+attach_came w e answer new (FewerAttachments stays is) none answers own a within =
+    inl (in_filter stays w.attachments a (rw is at within)).0
+attach_came w e answer new (OneAttachment attachment bound binding of_file free served is) none answers own a within =
     ⊎_elim
-    (λ (one : attachment ≡ a). inr (subst (IsOfWidth w.settings objects) one (width own)))
+    (λ (one : attachment ≡ a). inr (subst (IsOfWidth w.settings new.objects) one
+    (served_width w new.objects attachment (served none answers own))))
     (λ (old : IsIn w.attachments a). inl old)
-    (in_with_attachment attachment w.attachments a (subst (λ (those : List Attachment). IsIn those a) is within))
+    (in_with_attachment attachment w.attachments a (rw is at within))
 
 pub record WidthSound (settings : Settings) (w : World) : Type 0 where
   pub opened : w.settings ≡ settings
@@ -46,8 +69,8 @@ pub keeps_widths : {A : Type 0} → (settings : Settings) (at : ℕ) (w : World)
 keeps_widths settings at w e answer none answers s = record {
   opened = changed_settings at w e answer ∙ s.opened;
   sound = keeps_sound at w e answer none answers s.sound;
-  widths = λ a within. by_row a (attach_came w (changed at w e answer).objects (changed at w e answer).attachments
-      (changed_moves at w e answer none answers).attachments s.sound.own_ids a within);
+  widths = λ a within. by_row a (attach_came w e answer (changed at w e answer) (changed_moves at w e answer).attachments
+      none answers s.sound.own_ids a within);
 }
   where
     by_row : (a : Attachment) → AttachCame w (changed at w e answer).objects a

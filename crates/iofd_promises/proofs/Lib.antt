@@ -9,7 +9,6 @@ pub mod GivenOut
 pub mod KeepsBytes
 pub mod KeepsWidths
 pub mod Lists
-pub mod Moves
 pub mod NewAreas
 pub mod NewPins
 pub mod Outcomes
@@ -23,4 +22,3 @@ pub mod Steps
 pub mod TableLevels
 pub mod Unmapped
 pub mod UserPages
-pub mod Widths

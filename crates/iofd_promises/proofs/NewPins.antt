@@ -1,6 +1,6 @@
 -- A pin that a step brings has the frame of the page that it pins.
-use Rattle.std.proofs.Common.{◌≡◌, ℕ, ◌+◌, ◌/◌, not, eqb, Option, Some, None, List, refl, sym, ap, ◌∙◌, ◌⊎◌, inl, inr}
-use Rattle.std.proofs.Common.{⊎_elim, subst, Contains}
+use Rattle.std.proofs.Common.{◌≡◌, ℕ, ◌+◌, ◌/◌, not, eqb, Option, Some, None, List, refl, ap, ◌∙◌, ◌⊎◌, inl, inr}
+use Rattle.std.proofs.Common.{⊎_elim}
 use Rattle.std.specs.List.{filter, filter_map, find, list_any}
 use Rattle.std.proofs.lemmas.Bool.{eqb-true}
 use Rattle.iofd_words.specs.After.{settle}
@@ -13,10 +13,11 @@ use Rattle.iofd_words.specs.declared.rows.Pin.{Pin}
 use Rattle.iofd_words.specs.declared.rows.UserPage.{UserPage}
 use Rattle.iofd_rows.proofs.Each.{IsIn, in_filter, in_found}
 use Rattle.iofd_promises.specs.Owners.{IsUsersPage}
-use Rattle.iofd_promises.proofs.Moves.{PinsMove, SamePins, Settled}
+use Rattle.iofd_runs.proofs.Moves.{PinsMove, SamePins, Settled}
 use Rattle.iofd_promises.proofs.Lists.{in_append, in_filter_map}
 use Rattle.iofd_promises.proofs.Rows.{contains}
 use Rattle.iofd_promises.proofs.UserPages.{page_at}
+use Rattle.iofd_words.specs.declared.event.Event.{Event}
 
 -- a page's pin, by its frame, and its frame, by its memory object
 abbrev pin_with : ℕ → ℕ → Option FrameNo → Option Pin
@@ -59,7 +60,7 @@ module _ (w : World) (pin : Pin) where
           by_frame new m page.memory page.index (frame_at new.user_pages m.user (m.va / 4096 + page.index)) within
           (eqb-true m.number page.memory same) refl is
 
-  settled_from : (new : World) → IsIn (settle w new).pins pin → IsFrom (settle w new)
+  settled_from : (new : World) → IsIn (settle w new).pins pin → IsFrom new
   unfolding settle
   settled_from new within =
       let before = pinned_pages w.objects w.areas w.memory w.access_pins in
@@ -70,35 +71,9 @@ module _ (w : World) (pin : Pin) where
       (λ (come : IsIn (filter_map (pin_now new.memory new.user_pages)
       (filter (λ page. not (list_any (is_page page) before)) next)) pin).
       let (page, there, is) = in_filter_map (pin_now new.memory new.user_pages) _ pin come in
-      let users = of_now new page is in
-      inr (record {
-        object = users.object;
-        there = users.there;
-        number = users.number;
-        page = users.page;
-        listed = users.listed;
-        of_user = users.of_user;
-        of_page = users.of_page;
-        of_frame = users.of_frame;
-      }))
+      inr (of_now new page is))
       (in_append (filter (λ (p : Pin). list_any (is_page (page_of_pin p)) next) w.pins) _ pin within)
 
-  pub pin_from : (new : World) → PinsMove w new → IsIn new.pins pin → IsFrom new
-  unfolding settle
-  pin_from new (SamePins is) within = inl (subst (λ (pins : List Pin). IsIn pins pin) is within)
-  pin_from new (Settled other is memory pages) within =
-      from_settled (settled_from other (subst (λ (pins : List Pin). IsIn pins pin) is within))
-    where
-      from_settled : IsFrom (settle w other) → IsFrom new
-      from_settled (inl old) = inl old
-      from_settled (inr users) =
-          inr (record {
-            object = users.object;
-            there = subst (λ (rows : List MemoryObject). Contains rows users.object) (sym memory) users.there;
-            number = users.number;
-            page = users.page;
-            listed = subst (λ (rows : List UserPage). Contains rows users.page) (sym pages) users.listed;
-            of_user = users.of_user;
-            of_page = users.of_page;
-            of_frame = users.of_frame;
-          })
+  pub pin_from : {A : Type 0} (at : ℕ) (e : Event A) (new : World) → PinsMove at w e new → IsIn new.pins pin → IsFrom new
+  pin_from at e new (SamePins is alike) within = inl (rw is at within)
+  pin_from at e new (Settled is present) within = settled_from new (rw is at within)

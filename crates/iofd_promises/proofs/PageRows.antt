@@ -5,7 +5,7 @@ use Rattle.std.specs.List.{filter, find, list_all, list_any}
 use Rattle.std.proofs.Math.Nat.{div-lt_iff_lt-mul}
 use Rattle.std.proofs.lemmas.Bool.Decides.{nat_tests}
 use Rattle.iofd_words.specs.After.{changed}
-use Rattle.iofd_words.specs.Frames.{FrameWrite, frame_at, is_free}
+use Rattle.iofd_words.specs.Frames.{frame_at, is_free}
 use Rattle.iofd_words.specs.Pages.{is_whole}
 use Rattle.iofd_words.specs.Run.{IsRun, world_of}
 use Rattle.iofd_words.specs.Settings.{Settings}
@@ -22,8 +22,12 @@ use Rattle.iofd_rows.proofs.Found.{all_filter}
 use Rattle.iofd_runs.proofs.NotRefused.{UserMapPassed}
 use Rattle.iofd_runs.proofs.OwnIds.{any_found}
 use Rattle.iofd_runs.proofs.Runs.{run_keeps}
-use Rattle.iofd_promises.proofs.Moves.{FewerPages, MemoryMoves, OnePage, SameMemory, Written, changed_moves}
+use Rattle.iofd_runs.proofs.Moves.{FewerPages, MemoryMoves, OnePage, SameMemory, Written, changed_moves}
 use Rattle.iofd_promises.proofs.Lists.{all_apart, apart-filter, apart-more}
+use Rattle.iofd_words.specs.After.{changed}
+use Rattle.iofd_words.specs.Answers.{Answers}
+use Rattle.iofd_words.specs.Checks.{refusal}
+use Rattle.iofd_words.specs.declared.event.Event.{Event}
 
 -- what holds of the users' pages where it holds with one more and of those that a filter keeps
 module _ (P : List UserPage → Type 0)
@@ -31,21 +35,21 @@ module _ (P : List UserPage → Type 0)
     → is_free w.settings.pool w.user_pages w.pins w.table_frames frame.0 ≡ true → P w.user_pages
     → P (w.user_pages ++ record { user = user; page = va / 4096; frame = frame } ∷ []))
     (drops : (stays : UserPage → Bool) (pages : List UserPage) → P pages → P (filter stays pages)) where
-  pages_by : (w : World) (changes : Bool) (answer : Reply) (pages : List UserPage) (writes : List FrameWrite)
-      → MemoryMoves w changes answer pages writes → P w.user_pages → P pages
-  pages_by w changes answer pages writes (SameMemory is same) p = subst P (sym is) p
-  pages_by w changes answer pages writes (OnePage user va frame passed free told is less) p =
-      subst P (sym is) (adds w user va frame passed free p)
-  pages_by w changes answer pages writes (FewerPages stays is same) p = subst P (sym is) (drops stays w.user_pages p)
-  pages_by w changes answer pages writes (Written changed is) p = subst P (sym is) p
+  pages_by : {A : Type 0} (w : World) (e : Event A) (answer : Reply) (new : World) → MemoryMoves w e answer new
+      → refusal w e ≡ None → Answers w e answer → P w.user_pages → P new.user_pages
+  pages_by w e answer new (SameMemory is same) none answers p = subst P (sym is) p
+  pages_by w e answer new (OnePage user va frame passed free told is less) none answers p =
+      subst P (sym is) (adds w user va frame (passed none) (free answers) p)
+  pages_by w e answer new (FewerPages stays is same) none answers p =
+      subst P (sym is) (drops stays w.user_pages p)
+  pages_by w e answer new (Written written is) none answers p = subst P (sym is) p
 
   pub pages_of_run : {A : Type 0} (settings : Settings) (records : List (Record A)) → IsRun settings records → P []
       → P (world_of settings records).user_pages
   unfolding IsRun world_of with_tables
   pages_of_run settings records run none =
       run_keeps (λ w. P w.user_pages) (λ w taken given p. p)
-      (λ at w e answer none answers p. pages_by w _ answer _ _ (changed_moves at w e answer none answers).memory p) 0
-      (opening settings) records run none
+      (λ at w e answer none answers p. pages_by w e answer (changed at w e answer) (changed_moves at w e answer).memory none answers p) 0 (opening settings) records run none
 
 -- ---- two rows of one page, or of one frame
 

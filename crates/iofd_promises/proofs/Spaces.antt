@@ -32,7 +32,7 @@ use Rattle.iofd_rows.specs.Ids.{have_own_ids}
 use Rattle.iofd_runs.proofs.StillTabled.{in_kept}
 use Rattle.iofd_promises.specs.Reaches.{TranslatesBy}
 use Rattle.iofd_promises.proofs.Rows.{contains, within}
-use Rattle.iofd_promises.proofs.Widths.{row_kind}
+use Rattle.iofd_rows.proofs.Named.{row_kind}
 
 pub in_mapped : {X Y : Type 0} (f : X → Y) (xs : List X) (x : X) → IsIn xs x → IsIn (map f xs) (f x)
 in_mapped f [] x within = absurd within

@@ -26,9 +26,7 @@ use Rattle.iofd_rows.proofs.Unusable.{by_rows, each_not}
 use Rattle.iofd_rows.specs.Reached.{ends_in, keeps_of}
 use Rattle.iofd_runs.specs.InUsable.{AreasUsable, is_in_usable}
 use Rattle.iofd_runs.proofs.Runs.{run_keeps}
-use Rattle.iofd_promises.proofs.Moves.{AreasMove, FewerAreas, OneArea, OtherPhases, SameAreas, changed_moves}
-use Rattle.iofd_rows.proofs.Found.{all_filter, all_map}
-use Rattle.iofd_rows.proofs.OwnMemory.{all-with_area}
+use Rattle.iofd_runs.proofs.Moves.{changed_moves}
 use Rattle.iofd_runs.proofs.MappedAt.{LiesAt}
 use Rattle.iofd_runs.proofs.NotRefused.{PlacePassed}
 use Rattle.iofd_words.specs.After.{changed, mapped_area}
@@ -42,25 +40,19 @@ use Rattle.iofd_words.specs.declared.numbers.FileNo.{FileNo}
 use Rattle.iofd_words.specs.declared.numbers.Iova.{Iova}
 use Rattle.iofd_words.specs.declared.reply.Reply.{Reply}
 use Rattle.iofd_words.specs.declared.rows.Phase.{Phase}
+use Rattle.iofd_runs.proofs.Moves.{all_areas}
 
 -- what holds of each area, whatever its phase
 module _ (p : Area → Bool) (phases : (phase : Phase) (area : Area) → p area ≡ true → p (with_phase phase area) ≡ true)
     (places : (w : World) (memory : ℕ) (file : FileNo) (request : MapRequest) (iova : Iova)
     → PlacePassed (view w) file request → LiesAt (view w) file request iova.0
     → p (mapped_area memory file request iova) ≡ true) where
-  moved : (w : World) (new : List Area) → AreasMove w new → list_all p w.areas ≡ true → list_all p new ≡ true
-  moved w new (SameAreas is) all = rw is all
-  moved w new (FewerAreas stays is) all = rw is (all_filter p stays w.areas all)
-  moved w new (OtherPhases phase is) all =
-      rw is (all_map p p _ w.areas (λ area holds. phases (phase area) area holds) all)
-  moved w new (OneArea memory file request iova passed lies is) all =
-      rw is (all-with_area p (mapped_area memory file request iova) w.areas
-      (places w memory file request iova passed lies) all)
-
   pub areas_keep : {A : Type 0} → (at : ℕ) (w : World) (e : Event A) (answer : Reply) → refusal w e ≡ None
       → Answers w e answer → list_all p w.areas ≡ true → list_all p (changed at w e answer).areas ≡ true
   areas_keep at w e answer none answers all =
-      moved w (changed at w e answer).areas (changed_moves at w e answer none answers).areas all
+      all_areas p phases at w e answer (changed at w e answer) (changed_moves at w e answer).areas
+      (λ number file request iova passed lies alike under. places w number file request iova (passed none) (lies none answers))
+      all
 
 -- it begins no later than it ends, below 2^64
 abbrev pub is_bounded : Area → Bool

@@ -10,6 +10,7 @@ pub mod Named
 pub mod ObjectPages
 pub mod OnePin
 pub mod Owed
+pub mod OwnIds
 pub mod OwnMemory
 pub mod PageCounts
 pub mod PageLists
@@ -17,3 +18,4 @@ pub mod PageTables
 pub mod Paid
 pub mod PinsFollow
 pub mod Unusable
+pub mod Widths

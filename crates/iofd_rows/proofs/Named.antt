@@ -120,3 +120,10 @@ found_only (o ∷ objects) object own within =
 pub kind_only : (objects : List Object) (object : Object) → have_own_ids objects ≡ true → IsIn objects object
     → kind_of objects object.file object.id ≡ Some object.kind
 kind_only objects object own within = ap kind_from (found_only objects object own within)
+
+-- the kind of a row, by its name
+pub row_kind : (objects : List Object) (object : Object) (file : FileNo) (id : ObjId) (k : ObjectKind)
+    → have_own_ids objects ≡ true → IsIn objects object → object.file ≡ file → object.id ≡ id → object.kind ≡ k
+    → kind_of objects file id ≡ Some k
+row_kind objects object file id k own there of_file of_id is =
+    rw (← of_file, ← of_id, ← is) (kind_only objects object own there)

@@ -26,7 +26,9 @@ use Rattle.iofd_rows.proofs.Moves.{KindsStay, debtors_paid, debtor_stays, found_
 use Rattle.iofd_rows.proofs.Moves.{spaces_paid, spaces_with, table_stays}
 use Rattle.iofd_rows.proofs.Named.{file_is, id_is, kind_before, kind_kept, kind_new, kind_only}
 use Rattle.iofd_rows.proofs.Owed.{EachOwed, HasTable, IsSpace}
-use Rattle.iofd_runs.proofs.OwnIds.{any_found, unused}
+use Rattle.iofd_rows.proofs.OwnIds.{any_found, unused}
+use Rattle.iofd_words.specs.Width.{bits_of}
+use Rattle.std.proofs.Common.{sym}
 
 -- ---- an attachment ends
 
@@ -114,14 +116,14 @@ pub record IsMade (objects new : List Object) (file : FileNo) (ioas id : ObjId) 
   pub automatic : Bool
   pub table : kind_of new file id ≡ Some (kind.Hwpt ioas width automatic)
 
-automatic_kind : (k : ObjectKind) (ioas : ObjId) (width : Width) → is_automatic_over ioas width k ≡ true
-    → (of : Width) × (k ≡ kind.Hwpt ioas of true)
+pub automatic_kind : (k : ObjectKind) (ioas : ObjId) (width : Width) → is_automatic_over ioas width k ≡ true
+    → (of : Width) × (k ≡ kind.Hwpt ioas of true) × (bits_of width ≡ bits_of of)
 automatic_kind kind.Ioas ioas width is = cc
 automatic_kind (kind.Hwpt over of automatic) ioas width is =
-    let parts = and_true (eqb over.0 ioas.0 && automatic) _ is in
+    let parts = and_true (eqb over.0 ioas.0 && automatic) (eqb (bits_of of) (bits_of width)) is in
     let both = and_true (eqb over.0 ioas.0) automatic parts.0 in
     let same = id_is over ioas both.0 in
-    (of, rw (same, both.1) refl)
+    (of, rw (same, both.1) refl, sym (eqb-true (bits_of of) (bits_of width) parts.1))
 automatic_kind (kind.Device device) ioas width is = cc
 
 pub is_made : (w : World) (file : FileNo) (ioas id : ObjId) (width : Width) (o : Option Object)
@@ -133,7 +135,7 @@ is_made w file ioas id width (Some object) own found answers space spaces =
     let (within, passes) = in_found (λ (object : Object). eqb object.file.0 file.0
     && is_automatic_over ioas width object.kind) w.objects object found in
     let parts = and_true (eqb object.file.0 file.0) (is_automatic_over ioas width object.kind) passes in
-    let (of, is_kind) = automatic_kind object.kind ioas width parts.1 in
+    let (of, is_kind, bits) = automatic_kind object.kind ioas width parts.1 in
     let of_file : object.file ≡ file = file_is object.file file parts.0 in
     let only = kind_only w.objects object own within in
     let here : kind_of w.objects file id ≡ Some object.kind = rw (← of_file, answers) only in

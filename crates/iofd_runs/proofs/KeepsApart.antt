@@ -1,18 +1,12 @@
 -- Areas of an address space stay apart.
-use Rattle.std.proofs.Common.{◌≡◌, ℕ, Bool, true, false, cond, ◌&&◌, ◌||◌, not, ltb, Option, Some, None, List, [], ◌∷◌}
+use Rattle.std.proofs.Common.{◌≡◌, ℕ, Bool, true, false, cond, ◌&&◌, ◌||◌, not, ltb, None, List, [], ◌∷◌}
 use Rattle.std.proofs.Common.{refl, ap, sym, ◌∙◌, arith}
 use Rattle.std.specs.Prelude.{map}
 use Rattle.std.specs.List.{filter}
 use Rattle.std.proofs.lemmas.Bool.Decides.{nat_tests}
-use Rattle.iofd_words.specs.After.{attach_changes, attached, changed, copy_changes, detach_changes, detached}
-use Rattle.iofd_words.specs.After.{hwpt_changes, joined, map_changes, mapped_area, settle, target_changes}
-use Rattle.iofd_words.specs.After.{without_areas}
-use Rattle.iofd_words.specs.Attachments.{attachment_of}
-use Rattle.iofd_words.specs.Copies.{placed_as, source_in}
-use Rattle.iofd_words.specs.Files.{user_of, device_of}
+use Rattle.iofd_words.specs.After.{changed}
+use Rattle.iofd_words.specs.After.{mapped_area}
 use Rattle.iofd_words.specs.FirstTrue.{first_true}
-use Rattle.iofd_words.specs.Objects.{binding_of, kind_of, settings_under}
-use Rattle.iofd_words.specs.Settings.{DeviceSettings}
 use Rattle.iofd_words.specs.Answers.{Answers, IsMappedAt}
 use Rattle.iofd_words.specs.Areas.{areas_meet, areas_of, is_of, meets_area, with_area, with_phase}
 use Rattle.iofd_words.specs.Bounds.{Bounds}
@@ -23,22 +17,16 @@ use Rattle.iofd_words.specs.Span.{meets, span_from}
 use Rattle.iofd_words.specs.View.{view}
 use Rattle.iofd_words.specs.World.{World}
 use Rattle.iofd_words.specs.declared.event.Event.{Event}
-use Rattle.iofd_words.specs.declared.event.Event.TheVariants as event
 use Rattle.iofd_words.specs.declared.event.MapRequest.{MapRequest}
 use Rattle.iofd_words.specs.declared.numbers.FileNo.{FileNo}
 use Rattle.iofd_words.specs.declared.numbers.Iova.{Iova}
 use Rattle.iofd_words.specs.declared.numbers.ObjId.{ObjId}
-use Rattle.iofd_words.specs.declared.numbers.UserNo.{UserNo}
-use Rattle.iofd_words.specs.declared.rows.Attachment.{Attachment}
-use Rattle.iofd_words.specs.declared.rows.Object.{Object}
-use Rattle.iofd_words.specs.declared.rows.ObjectKind.{ObjectKind}
-use Rattle.iofd_words.specs.declared.rows.ObjectKind.TheVariants as kind
 use Rattle.iofd_words.specs.declared.reply.Reply.{Reply}
-use Rattle.iofd_words.specs.declared.reply.Reply.TheVariants as reply
 use Rattle.iofd_words.specs.declared.rows.Area.{Area}
 use Rattle.iofd_words.specs.declared.rows.Phase.{Phase}
 use Rattle.iofd_rows.proofs.Bools.{or_false, and_true, both_false, not_true, swapped}
-use Rattle.iofd_runs.proofs.MappedAt.{copy_lies_at, lies_at}
+use Rattle.iofd_runs.proofs.MappedAt.{lies_at}
+use Rattle.iofd_runs.proofs.Moves.{AreasMove, SameAreas, FewerAreas, OtherPhases, OneArea, changed_moves}
 
 -- a and b are of one address space, and have an address in common
 abbrev clash : Area → Area → Bool
@@ -147,56 +135,13 @@ map_is_free w file request iova is none = (lies_at w file request iova none is).
 
 pub keeps_apart : {A : Type 0} → (at : ℕ) (w : World) (e : Event A) (answer : Reply) → refusal w e ≡ None
     → Answers w e answer → are_apart w.areas ≡ true → are_apart (changed at w e answer).areas ≡ true
-unfolding changed settle without_areas attached detached joined Answers
-keeps_apart at w (event.IoasAlloc file) (reply.Id id) none answers apart = apart
-keeps_apart at w (event.Map file request) (reply.Iova iova) none answers apart = mapped (user_of w.settings file)
+keeps_apart at w e answer none answers apart =
+    by_move (changed at w e answer) (changed_moves at w e answer).areas
   where
-    mapped : (user : Option UserNo) → are_apart (map_changes at w file request iova user).areas ≡ true
-    mapped None = apart
-    mapped (Some user) = are_apart-with_area (mapped_area at file request iova) w.areas
-        (map_is_free w file request iova answers none) apart
-keeps_apart at w (event.Copy file request) (reply.Iova iova) none answers apart =
-    copied (source_in (areas_of w.areas file request.src_ioas) request)
-  where
-    copied : (source : Option Area) → are_apart (copy_changes w file request iova source).areas ≡ true
-    copied None = apart
-    copied (Some source) = are_apart-with_area (mapped_area source.memory file (placed_as request) iova) w.areas
-        (copy_lies_at w file request iova none answers).apart apart
-keeps_apart at w (event.Unmap file request) (reply.Bytes count) none answers apart = are_apart-filter _ w.areas apart
-keeps_apart at w (event.Unmap file request) (reply.Pending errno) none answers apart = are_apart-map _ w.areas ∙ apart
-keeps_apart at w (event.HwptAlloc file request) (reply.Id id) none answers apart =
-    made (settings_under w.settings w.objects file request.device)
-  where
-    made : (settings : Option DeviceSettings) → are_apart (hwpt_changes w file request.ioas id settings).areas ≡ true
-    made None = apart
-    made (Some settings) = apart
-keeps_apart at w (event.Destroy file id) reply.Done none answers apart = are_apart-filter _ w.areas apart
-keeps_apart at w (event.Close file) reply.Done none answers apart = are_apart-filter _ w.areas apart
-keeps_apart at w (event.UserMap user va) (reply.Frame frame) none answers apart = apart
-keeps_apart at w (event.AllowIovas file ioas ranges) reply.Done none answers apart = apart
-keeps_apart at w (event.UserUnmap user va) reply.Done none answers apart = apart
-keeps_apart at w (event.UserWrite user va bytes) reply.Done none answers apart = apart
-keeps_apart at w (event.Bind file device) (reply.Id id) none answers apart = apart
-keeps_apart at w (event.Unbind file id) reply.Done none answers apart = apart
-keeps_apart at w (event.Attach device pt_id) (reply.Id id) none answers apart =
-    bound (binding_of w.objects device) (device_of w.settings device)
-  where
-    bound : (object : Option Object) (settings : Option DeviceSettings)
-        → are_apart (attach_changes w device pt_id id object settings).areas ≡ true
-    bound None settings = apart
-    bound (Some object) None = apart
-    bound (Some object) (Some settings) = by_kind (kind_of w.objects object.file pt_id)
-      where
-        by_kind : (k : Option ObjectKind) → are_apart (target_changes w device pt_id id object settings k).areas ≡ true
-        by_kind (Some kind.Ioas) = are_apart-map _ w.areas ∙ apart
-        by_kind (Some (kind.Hwpt ioas width automatic)) = are_apart-map _ w.areas ∙ apart
-        by_kind k = apart
-keeps_apart at w (event.Detach device) reply.Done none answers apart =
-    attached_or_not (attachment_of w.attachments device)
-  where
-    attached_or_not : (a : Option Attachment) → are_apart (detach_changes w device a).areas ≡ true
-    attached_or_not None = apart
-    attached_or_not (Some a) = are_apart-map _ w.areas ∙ apart
-keeps_apart at w (event.Flush device) reply.Done none answers apart = are_apart-map _ w.areas ∙ apart
-keeps_apart at w (event.DeviceWrite device iova bytes) (reply.Passed frame) none answers apart = apart
-keeps_apart at w e answer none answers apart = apart
+    by_move : (new : World) → AreasMove at w e answer new
+        → are_apart new.areas ≡ true
+    by_move new (SameAreas is same) = rw is apart
+    by_move new (FewerAreas goes is left) = rw is (are_apart-filter (λ (a : Area). not (goes a)) w.areas apart)
+    by_move new (OtherPhases phase lives is same) = rw is (are_apart-map phase w.areas ∙ apart)
+    by_move new (OneArea number file request iova passed lies makes alike is under) =
+        rw is (are_apart-with_area (mapped_area number file request iova) w.areas (lies none answers).apart apart)

@@ -39,6 +39,9 @@ use Rattle.iofd_rows.proofs.Owed.{EachOwed, IsSpace, debts_attached, each_owed, 
 use Rattle.iofd_runs.proofs.OwnIds.{keeps_own_ids, unused}
 use Rattle.iofd_runs.proofs.NotRefused.{attach_passed, copy_passed, destroy_passed, hwpt_passed, join_passed}
 use Rattle.iofd_runs.proofs.NotRefused.{map_passed}
+use Rattle.iofd_runs.proofs.Branches.{by_attachment, by_found, by_target}
+use Rattle.iofd_runs.proofs.CopySource.{source_area}
+use Rattle.iofd_runs.proofs.NotRefused.{map_passed, copy_passed, destroy_passed}
 
 -- what holds of every world of a run
 pub record IsSound (w : World) : Type 0 where
@@ -48,20 +51,6 @@ pub record IsSound (w : World) : Type 0 where
 abbrev IsOwed : World → Type 0
 IsOwed w = EachOwed w.objects w.attachments w.areas
 
--- ---- what the refusals rule out
-
-map_has_space : (w : World) (file : FileNo) (request : MapRequest)
-    → first_true (map_checks (view w) file request) ≡ None → has_ioas w.objects file request.ioas ≡ true
-map_has_space w file request none = (map_passed (view w) file request none).space
-
-copy_has_space : (w : World) (file : FileNo) (request : CopyRequest)
-    → first_true (copy_checks (view w) file request) ≡ None → has_ioas w.objects file request.dst_ioas ≡ true
-copy_has_space w file request none = (copy_passed (view w) file request none).space
-
-destroy_unused : (w : World) (file : FileNo) (id : ObjId) → first_true (destroy_checks (view w) file id) ≡ None
-    → is_used (view w) file id (kind_of w.objects file id) ≡ false
-destroy_unused w file id none = (destroy_passed (view w) file id none).unused
-
 -- ---- each event
 
 keeps_owed : {A : Type 0} → (at : ℕ) (w : World) (e : Event A) (answer : Reply) → refusal w e ≡ None
@@ -70,39 +59,26 @@ unfolding changed settle without_areas attached detached joined Answers
 keeps_owed at w (event.IoasAlloc file) (reply.Id id) none answers own each =
     owed_object w.objects w.attachments w.areas (record { file = file; id = id; kind = kind.Ioas })
     (unused w.objects file id answers) (λ ioas is. cc) each
-keeps_owed at w (event.Map file request) (reply.Iova iova) none answers own each = mapped (user_of w.settings file)
-  where
-    mapped : (user : Option UserNo) → IsOwed (map_changes at w file request iova user)
-    mapped None = each
-    mapped (Some user) = owed_area w.objects w.attachments w.areas (mapped_area at file request iova) refl
-        (space_of w.objects file request.ioas (map_has_space w file request none)) each
+keeps_owed at w (event.Map file request) (reply.Iova iova) none answers own each =
+    by_found (λ user. IsOwed (map_changes at w file request iova user)) (user_of w.settings file) each (λ user is.
+    owed_area w.objects w.attachments w.areas (mapped_area at file request iova) refl
+    (space_of w.objects file request.ioas (map_passed (view w) file request none).space) each)
 keeps_owed at w (event.Copy file request) (reply.Iova iova) none answers own each =
-    copied (source_in (areas_of w.areas file request.src_ioas) request)
-  where
-    copied : (source : Option Area) → IsOwed (copy_changes w file request iova source)
-    copied None = each
-    copied (Some source) = owed_area w.objects w.attachments w.areas
-        (mapped_area source.memory file (placed_as request) iova) refl
-        (space_of w.objects file request.dst_ioas (copy_has_space w file request none)) each
+    by_found (λ source. IsOwed (copy_changes w file request iova source)) (source_area w file request) each
+    (λ source is. owed_area w.objects w.attachments w.areas (mapped_area source.memory file (placed_as request) iova)
+    refl (space_of w.objects file request.dst_ioas (copy_passed (view w) file request none).space) each)
 keeps_owed at w (event.Unmap file request) (reply.Bytes count) none answers own each =
     owed_fewer w.objects w.attachments w.areas (λ area. not (is_touched file request area)) each
 keeps_owed at w (event.Unmap file request) (reply.Pending errno) none answers own each =
     owed_leaving w.objects w.attachments w.areas file request each
 keeps_owed at w (event.HwptAlloc file request) (reply.Id id) none answers own each =
-    made (settings_under w.settings w.objects file request.device)
-  where
-    space : IsSpace w.objects file request.ioas
-    space = space_of w.objects file request.ioas (hwpt_passed (view w) file request none).space
-
-    made : (settings : Option DeviceSettings) → IsOwed (hwpt_changes w file request.ioas id settings)
-    made None = each
-    made (Some settings) =
-        owed_object w.objects w.attachments w.areas (made_hwpt file request.ioas id settings)
-        (unused w.objects file id answers)
-        (λ over is. let same : request.ioas ≡ over = cc in rw (← same) space)
-        each
+    by_found (λ settings. IsOwed (hwpt_changes w file request.ioas id settings))
+    (settings_under w.settings w.objects file request.device) each (λ settings is.
+    let space = space_of w.objects file request.ioas (hwpt_passed (view w) file request none).space in
+    owed_object w.objects w.attachments w.areas (made_hwpt file request.ioas id settings)
+    (unused w.objects file id answers) (λ over is. let same : request.ioas ≡ over = cc in rw (← same) space) each)
 keeps_owed at w (event.Destroy file id) reply.Done none answers own each =
-    owed_destroyed w file id (destroy_unused w file id none) each
+    owed_destroyed w file id (destroy_passed (view w) file id none).unused each
 keeps_owed at w (event.Close file) reply.Done none answers own each =
     owed_closed w.objects w.attachments w.areas file each
 keeps_owed at w (event.UserMap user va) (reply.Frame frame) none answers own each = each
@@ -115,34 +91,19 @@ keeps_owed at w (event.Bind file device) (reply.Id id) none answers own each =
 keeps_owed at w (event.Unbind file id) reply.Done none answers own each =
     owed_unbound w.objects w.attachments w.areas file id each
 keeps_owed at w (event.Attach device pt_id) (reply.Id id) none answers own each =
-    bound (binding_of w.objects device) refl (device_of w.settings device) answers
-  where
-    bound : (object : Option Object) → binding_of w.objects device ≡ object → (settings : Option DeviceSettings)
-        → IsHwptOf w pt_id id object settings → IsOwed (attach_changes w device pt_id id object settings)
-    bound None is settings never = absurd never
-    bound (Some object) is None never = absurd never
-    bound (Some object) is (Some settings) hwpt = by_kind (kind_of w.objects object.file pt_id) refl hwpt
-      where
-        by_kind : (k : Option ObjectKind) → kind_of w.objects object.file pt_id ≡ k
-            → IsTarget w object.file pt_id id settings.width k
-            → IsOwed (target_changes w device pt_id id object settings k)
-        by_kind (Some kind.Ioas) space made =
-            let automatic = automatic_hwpt w.objects object.file pt_id settings.width in
-            let table = is_made w object.file pt_id id settings.width automatic own refl made space each.spaces in
-            let objects = with_hwpt object.file pt_id id settings.width automatic w.objects in
-            let free = (attach_passed (view w) device pt_id object is space none).unattached in
-            owed_attached w.objects objects w.attachments w.areas device object.file pt_id id free table each
-        by_kind (Some (kind.Hwpt ioas width automatic)) named same =
-            let table = is_there w.objects object.file ioas id width automatic (rw same named) each.spaces in
-            let free = (join_passed (view w) device pt_id ioas width automatic object is named none).unattached in
-            owed_attached w.objects w.objects w.attachments w.areas device object.file ioas id free table each
-        by_kind k space never = each
+    by_target w device pt_id id IsOwed (λ nowhere. each)
+    (λ object d bound known space made.
+    let automatic = automatic_hwpt w.objects object.file pt_id d.width in
+    let table = is_made w object.file pt_id id d.width automatic own refl (made answers) space each.spaces in
+    let free = (attach_passed (view w) device pt_id object bound space none).unattached in
+    owed_attached w.objects (with_hwpt object.file pt_id id d.width automatic w.objects) w.attachments w.areas device
+    object.file pt_id id free table each)
+    (λ object d ioas width automatic bound known named same.
+    let table = is_there w.objects object.file ioas id width automatic (rw (same answers) named) each.spaces in
+    let free = (join_passed (view w) device pt_id ioas width automatic object bound named none).unattached in
+    owed_attached w.objects w.objects w.attachments w.areas device object.file ioas id free table each)
 keeps_owed at w (event.Detach device) reply.Done none answers own each =
-    attached_or_not (attachment_of w.attachments device)
-  where
-    attached_or_not : (a : Option Attachment) → IsOwed (detach_changes w device a)
-    attached_or_not None = each
-    attached_or_not (Some a) = owed_detached w.objects w.attachments w.areas device a each
+    by_attachment w device IsOwed each (λ a is. owed_detached w.objects w.attachments w.areas device a each)
 keeps_owed at w (event.Flush device) reply.Done none answers own each =
     owed_flush w.objects w.attachments w.areas device each
 keeps_owed at w (event.DeviceWrite device iova bytes) (reply.Passed frame) none answers own each = each

@@ -1,58 +1,43 @@
 -- Areas are of whole pages and give some right, attachments rise by device, frames are of the pool, and objects and
 -- devices are known.
 use Rattle.std.proofs.Common.{◌≡◌, ℕ, ◌+◌, ◌<◌, ◌≤◌, ◌^◌, Bool, true, false, cond, ◌&&◌, ◌||◌, not, eqb, ltb, is_some}
-use Rattle.std.proofs.Common.{Option, Some, None, List, [], ◌∷◌, refl, arith, ◌++◌, IsTrue, ap, sym, leb, ◌∙◌}
+use Rattle.std.proofs.Common.{Option, Some, None, List, [], ◌∷◌, refl, arith, ◌++◌, ap, sym, leb, ◌∙◌}
 use Rattle.std.specs.List.{filter, list_all, find, filter_map, list_any}
 use Rattle.std.proofs.lemmas.Bool.Decides.{nat_tests}
-use Rattle.iofd_words.specs.After.{attach_changes, attached, changed, copy_changes, detach_changes, detached}
-use Rattle.iofd_words.specs.After.{hwpt_changes, joined, made_hwpt, map_changes, mapped_area, settle, target_changes}
-use Rattle.iofd_words.specs.After.{without_areas}
-use Rattle.iofd_words.specs.Answers.{Answers, IsMappedAt}
-use Rattle.iofd_words.specs.Areas.{all_paid}
+use Rattle.iofd_words.specs.After.{changed}
+use Rattle.iofd_words.specs.After.{mapped_area, settle}
+use Rattle.iofd_words.specs.Answers.{Answers}
 use Rattle.iofd_words.specs.Attachments.{attachment_of, with_attachment}
-use Rattle.iofd_words.specs.Checks.{copy_checks, map_checks, refusal}
-use Rattle.iofd_words.specs.Copies.{placed_as}
-use Rattle.iofd_words.specs.Files.{device_of, is_device, is_open, user_of}
+use Rattle.iofd_words.specs.Checks.{refusal}
 use Rattle.iofd_runs.specs.Fits.{RowsFit, begins_at_page, devices_rise, has_rights, is_of_pages}
-use Rattle.iofd_words.specs.FirstTrue.{first_true}
-use Rattle.iofd_words.specs.Frames.{frame_at, is_free}
-use Rattle.iofd_words.specs.Objects.{automatic_hwpt, binding_of, kind_of, settings_under}
+use Rattle.iofd_words.specs.Frames.{frame_at}
 use Rattle.iofd_words.specs.Pages.{is_above_user, is_whole, page_of}
 use Rattle.iofd_words.specs.Pins.{ObjectPage, frame_now, is_page, pin_now, settled}
-use Rattle.iofd_words.specs.Rights.{is_fixed, is_readable, is_writeable}
-use Rattle.iofd_words.specs.Settings.{DeviceSettings}
+use Rattle.iofd_words.specs.Rights.{is_readable, is_writeable}
 use Rattle.iofd_words.specs.Span.{size_of, span_from}
 use Rattle.iofd_words.specs.Tables.{with_tables}
 use Rattle.iofd_words.specs.View.{view}
 use Rattle.iofd_words.specs.World.{World}
-use Rattle.iofd_words.specs.declared.event.CopyRequest.{CopyRequest}
 use Rattle.iofd_words.specs.declared.event.Event.{Event}
-use Rattle.iofd_words.specs.declared.event.Event.TheVariants as event
 use Rattle.iofd_words.specs.declared.event.MapRequest.{MapRequest}
 use Rattle.iofd_words.specs.declared.numbers.FileNo.{FileNo}
 use Rattle.iofd_words.specs.declared.numbers.FrameNo.{FrameNo}
 use Rattle.iofd_words.specs.declared.numbers.Iova.{Iova}
 use Rattle.iofd_words.specs.declared.numbers.UserNo.{UserNo}
 use Rattle.iofd_words.specs.declared.reply.Reply.{Reply}
-use Rattle.iofd_words.specs.declared.reply.Reply.TheVariants as reply
-use Rattle.iofd_words.specs.declared.rows.Area.{Area}
 use Rattle.iofd_words.specs.declared.rows.Attachment.{Attachment}
 use Rattle.iofd_words.specs.declared.rows.MemoryObject.{MemoryObject}
-use Rattle.iofd_words.specs.declared.rows.Object.{Object}
-use Rattle.iofd_words.specs.declared.rows.ObjectKind.{ObjectKind}
-use Rattle.iofd_words.specs.declared.rows.ObjectKind.TheVariants as kind
 use Rattle.iofd_words.specs.declared.rows.Pin.{Pin}
-use Rattle.iofd_words.specs.declared.rows.TableFrame.{TableFrame}
 use Rattle.iofd_words.specs.declared.rows.UserPage.{UserPage}
 use Rattle.iofd_rows.proofs.Bools.{and_true, both_true}
 use Rattle.iofd_rows.proofs.Each.{of_each}
-use Rattle.iofd_rows.proofs.Found.{all_filter, all_map, found_passes}
-use Rattle.iofd_rows.proofs.OwnMemory.{all-with_area}
-use Rattle.iofd_runs.proofs.CopySource.{IsSource, copied_size, source_area, source_is}
-use Rattle.iofd_runs.proofs.Known.{alloc_open, attached_one, bind_device, bind_open, bound_known, is_known}
-use Rattle.iofd_runs.proofs.Known.{known_closed, known_hwpt, known_one}
-use Rattle.iofd_runs.proofs.MappedAt.{copy_lies_at, lies_at}
-use Rattle.iofd_runs.proofs.NotRefused.{attach_passed, copy_passed, hwpt_passed, join_passed, map_passed}
+use Rattle.iofd_rows.proofs.Found.{all_filter, found_passes}
+use Rattle.iofd_runs.proofs.Known.{attached_one, bound_known, is_known}
+use Rattle.iofd_runs.proofs.Known.{known_closed, known_one}
+use Rattle.iofd_runs.proofs.Moves.{AttachmentsMove, Closes, Fewer, FewerAttachments, FewerPages, FilesMove, MemoryMoves, MemoryUnder, More, NewMemory, ObjectsMove, OneAttachment, OnePage, PinsMove, Same, SameAttachments, SameMemory, SamePins, Settled, SharedMemory, StayOpen, Written, changed_moves}
+use Rattle.iofd_runs.proofs.NotRefused.{PlacePassed}
+use Rattle.iofd_runs.proofs.Known.{are_attached}
+use Rattle.iofd_runs.proofs.Moves.{all_areas}
 
 -- ---- a span of a length has that many numbers
 
@@ -64,19 +49,6 @@ from_size first length some = let above : 0 < length = search (some, arith, nat_
 short_length : (va length : ℕ) → is_above_user va length ≡ false → length ≤ 2 ^ 48
 short_length va length is = search (is, arith, nat_tests)
 
-mapped_pages : (at : ℕ) (w : World) (file : FileNo) (request : MapRequest) (iova : Iova)
-    → first_true (map_checks (view w) file request) ≡ None → is_of_pages (mapped_area at file request iova) ≡ true
-mapped_pages at w file request iova none =
-    let passed = map_passed (view w) file request none in
-    let size = from_size iova.0 request.length passed.some in
-    let below : request.length ≤ 2 ^ 48 = short_length request.user_va request.length passed.in_user in
-    rw size (both_true _ _ passed.whole (search (below, arith, nat_tests)))
-
-mapped_start : (at : ℕ) (w : World) (file : FileNo) (request : MapRequest) (iova : Iova)
-    → IsMappedAt w file request (is_fixed request.flags) iova → first_true (map_checks (view w) file request) ≡ None
-    → begins_at_page (mapped_area at file request iova) ≡ true
-mapped_start at w file request iova is none = (lies_at w file request iova none is).whole
-
 some_rights : (reads writes : Bool) → not (reads || writes) ≡ false
     → (ltb 0 (cond reads 1 0 + cond writes 2 0) && ltb (cond reads 1 0 + cond writes 2 0) 4) ≡ true
 some_rights true true some = refl
@@ -84,25 +56,18 @@ some_rights true false some = refl
 some_rights false true some = refl
 some_rights false false some = cc
 
-mapped_rights : (at : ℕ) (w : World) (file : FileNo) (request : MapRequest) (iova : Iova)
-    → first_true (map_checks (view w) file request) ≡ None → has_rights (mapped_area at file request iova) ≡ true
-mapped_rights at w file request iova none =
-    some_rights (is_readable request.flags) (is_writeable request.flags) (map_passed (view w) file request none).right
-
--- a COPY's area has the size of its source
-copied_pages : (w : World) (file : FileNo) (request : CopyRequest) (iova : Iova) (source : Area)
-    → first_true (copy_checks (view w) file request) ≡ None → IsSource w file request source
-    → list_all is_of_pages w.areas ≡ true
-    → is_of_pages (mapped_area source.memory file (placed_as request) iova) ≡ true
-copied_pages w file request iova source none is pages =
-    ap (λ (size : ℕ). is_whole size && leb size (2 ^ 48)) (sym (copied_size w file request iova source none is))
-    ∙ of_each is_of_pages w.areas source pages is.within
-
-copied_rights : (w : World) (file : FileNo) (request : CopyRequest) (iova : Iova) (source : Area)
-    → first_true (copy_checks (view w) file request) ≡ None
-    → has_rights (mapped_area source.memory file (placed_as request) iova) ≡ true
-copied_rights w file request iova source none =
-    some_rights (is_readable request.flags) (is_writeable request.flags) (copy_passed (view w) file request none).right
+-- as long as the request says, or as the area that is copied
+one_pages : {A : Type 0} (at : ℕ) (w : World) (e : Event A) (file : FileNo) (request : MapRequest) (iova : Iova)
+    (number : ℕ) (memory : List MemoryObject) → refusal w e ≡ None → PlacePassed (view w) file request
+    → list_all is_of_pages w.areas ≡ true → MemoryUnder at w e file request iova number memory
+    → is_of_pages (mapped_area number file request iova) ≡ true
+one_pages at w e file request iova number memory none passed pages (NewMemory user known short is more) =
+    let size = from_size iova.0 request.length passed.some in
+    let below : request.length ≤ 2 ^ 48 = short_length request.user_va request.length (short none) in
+    rw size (both_true _ _ passed.whole (search (below, arith, nat_tests)))
+one_pages at w e file request iova number memory none passed pages (SharedMemory source within of_file size is same) =
+    ap (λ (size : ℕ). is_whole size && leb size (2 ^ 48)) (sym (size none))
+    ∙ of_each is_of_pages w.areas source pages within
 
 -- ---- one more attachment
 
@@ -226,290 +191,73 @@ module _ (q : ℕ → Bool) (memory : List MemoryObject) (pages : List UserPage)
       all_both (λ (pin : Pin). q pin.frame.0) _ _ (all_filter (λ (pin : Pin). q pin.frame.0) _ pins below)
       (new_pass (filter (λ page. not (list_any (is_page page) before)) after))
 
-free_below : (pool : ℕ) (pages : List UserPage) (pins : List Pin) (tables : List TableFrame) (frame : ℕ)
-    → IsTrue (is_free pool pages pins tables frame) → ltb frame pool ≡ true
-free_below pool pages pins tables frame free = (and_true (ltb frame pool) _ free).0
-
 -- ---- each event
 
-pub keeps_fit : {A : Type 0} → (at : ℕ) (w : World) (e : Event A) (answer : Reply) → refusal w e ≡ None
-    → Answers w e answer → RowsFit w → RowsFit (changed at w e answer)
-unfolding changed settle without_areas attached detached joined Answers
-keeps_fit at w (event.IoasAlloc file) (reply.Id id) none answers fits = record {
-  pages = fits.pages;
-  starts = fits.starts;
-  rights = fits.rights;
-  rise = fits.rise;
-  user_frames = fits.user_frames;
-  pin_frames = fits.pin_frames;
-  known = known_one (is_known w.settings w.closed) (record {
-    file = file;
-    id = id;
-    kind = kind.Ioas;
-  }) w.objects (both_true _ _ (alloc_open w file none) refl) fits.known;
-  attached = fits.attached;
-}
-keeps_fit at w (event.Map file request) (reply.Iova iova) none answers fits = mapped (user_of w.settings file)
-  where
-    mapped : (user : Option UserNo) → RowsFit (map_changes at w file request iova user)
-    mapped None = fits
-    mapped (Some user) = record {
-      pages = all-with_area is_of_pages (mapped_area at file request iova) w.areas
-          (mapped_pages at w file request iova none) fits.pages;
-      starts = all-with_area begins_at_page (mapped_area at file request iova) w.areas
-          (mapped_start at w file request iova answers none) fits.starts;
-      rights = all-with_area has_rights (mapped_area at file request iova) w.areas
-          (mapped_rights at w file request iova none) fits.rights;
-      rise = fits.rise;
-      user_frames = fits.user_frames;
-      pin_frames = settled_frames (λ n. ltb n w.settings.pool) _ w.user_pages fits.user_frames _ _ w.pins
-          fits.pin_frames;
-      known = fits.known;
-      attached = fits.attached;
-    }
-keeps_fit at w (event.Copy file request) (reply.Iova iova) none answers fits = copied (source_area w file request) refl
-  where
-    copied : (source : Option Area) → source_area w file request ≡ source
-        → RowsFit (copy_changes w file request iova source)
-    copied None is = fits
-    copied (Some source) is =
-        let area = mapped_area source.memory file (placed_as request) iova in
-        record {
-          pages = all-with_area is_of_pages area w.areas
-              (copied_pages w file request iova source none (source_is w file request source is) fits.pages) fits.pages;
-          starts = all-with_area begins_at_page area w.areas
-              (copy_lies_at w file request iova none answers).whole fits.starts;
-          rights = all-with_area has_rights area w.areas (copied_rights w file request iova source none) fits.rights;
-          rise = fits.rise;
-          user_frames = fits.user_frames;
-          pin_frames =
-              settled_frames (λ n. ltb n w.settings.pool) _ w.user_pages fits.user_frames _ _ w.pins fits.pin_frames;
-          known = fits.known;
-          attached = fits.attached;
-        }
-keeps_fit at w (event.Unmap file request) (reply.Bytes count) none answers fits =
-    record {
-      pages = all_filter is_of_pages _ w.areas fits.pages;
-      starts = all_filter begins_at_page _ w.areas fits.starts;
-      rights = all_filter has_rights _ w.areas fits.rights;
-      rise = fits.rise;
-      user_frames = fits.user_frames;
-      pin_frames = settled_frames (λ n. ltb n w.settings.pool) _ w.user_pages fits.user_frames _ _ w.pins
-          fits.pin_frames;
-      known = fits.known;
-      attached = fits.attached;
-    }
-keeps_fit at w (event.Unmap file request) (reply.Pending errno) none answers fits =
-    record {
-      pages = all_map is_of_pages is_of_pages _ w.areas (λ area is. is) fits.pages;
-      starts = all_map begins_at_page begins_at_page _ w.areas (λ area is. is) fits.starts;
-      rights = all_map has_rights has_rights _ w.areas (λ area is. is) fits.rights;
-      rise = fits.rise;
-      user_frames = fits.user_frames;
-      pin_frames = fits.pin_frames;
-      known = fits.known;
-      attached = fits.attached;
-    }
-keeps_fit at w (event.HwptAlloc file request) (reply.Id id) none answers fits =
-    made (settings_under w.settings w.objects file request.device)
-  where
-    made : (settings : Option DeviceSettings) → RowsFit (hwpt_changes w file request.ioas id settings)
-    made None = fits
-    made (Some settings) =
-        let opened = (hwpt_passed (view w) file request none).opened in
-        record {
-          pages = fits.pages;
-          starts = fits.starts;
-          rights = fits.rights;
-          rise = fits.rise;
-          user_frames = fits.user_frames;
-          pin_frames =
-              settled_frames (λ n. ltb n w.settings.pool) _ w.user_pages fits.user_frames _ _ w.pins fits.pin_frames;
-          known = known_one (is_known w.settings w.closed) (made_hwpt file request.ioas id settings) w.objects
-              (both_true _ _ opened refl) fits.known;
-          attached = fits.attached;
-        }
-keeps_fit at w (event.Destroy file id) reply.Done none answers fits =
-    record {
-      pages = all_filter is_of_pages _ w.areas fits.pages;
-      starts = all_filter begins_at_page _ w.areas fits.starts;
-      rights = all_filter has_rights _ w.areas fits.rights;
-      rise = fits.rise;
-      user_frames = fits.user_frames;
-      pin_frames = settled_frames (λ n. ltb n w.settings.pool) _ w.user_pages fits.user_frames _ _ w.pins
-          fits.pin_frames;
-      known = all_filter (is_known w.settings w.closed) _ w.objects fits.known;
-      attached = fits.attached;
-    }
-keeps_fit at w (event.Close file) reply.Done none answers fits =
-    record {
-      pages = all_filter is_of_pages _ w.areas fits.pages;
-      starts = all_filter begins_at_page _ w.areas fits.starts;
-      rights = all_filter has_rights _ w.areas fits.rights;
-      rise = rise-filter _ w.attachments fits.rise;
-      user_frames = fits.user_frames;
-      pin_frames = settled_frames (λ n. ltb n w.settings.pool) _ w.user_pages fits.user_frames _ _ w.pins
-          fits.pin_frames;
-      known = known_closed w.settings w.closed file w.objects fits.known;
-      attached = all_filter _ _ w.attachments fits.attached;
-    }
-keeps_fit at w (event.UserMap user va) (reply.Frame frame) none answers fits =
-    record {
-      pages = fits.pages;
-      starts = fits.starts;
-      rights = fits.rights;
-      rise = fits.rise;
-      user_frames = all_both (λ (p : UserPage). ltb p.frame.0 w.settings.pool) w.user_pages _ fits.user_frames
-          (both_true _ _ (free_below w.settings.pool w.user_pages w.pins w.table_frames frame.0 answers) refl);
-      pin_frames = fits.pin_frames;
-      known = fits.known;
-      attached = fits.attached;
-    }
-keeps_fit at w (event.AllowIovas file ioas ranges) reply.Done none answers fits =
-    record {
-      pages = fits.pages;
-      starts = fits.starts;
-      rights = fits.rights;
-      rise = fits.rise;
-      user_frames = fits.user_frames;
-      pin_frames = fits.pin_frames;
-      known = fits.known;
-      attached = fits.attached;
-    }
-keeps_fit at w (event.UserUnmap user va) reply.Done none answers fits =
-    record {
-      pages = fits.pages;
-      starts = fits.starts;
-      rights = fits.rights;
-      rise = fits.rise;
-      user_frames = all_filter (λ (p : UserPage). ltb p.frame.0 w.settings.pool) _ w.user_pages fits.user_frames;
-      pin_frames = fits.pin_frames;
-      known = fits.known;
-      attached = fits.attached;
-    }
-keeps_fit at w (event.UserWrite user va bytes) reply.Done none answers fits =
-    record {
-      pages = fits.pages;
-      starts = fits.starts;
-      rights = fits.rights;
-      rise = fits.rise;
-      user_frames = fits.user_frames;
-      pin_frames = fits.pin_frames;
-      known = fits.known;
-      attached = fits.attached;
-    }
-keeps_fit at w (event.Bind file device) (reply.Id id) none answers fits = record {
-  pages = fits.pages;
-  starts = fits.starts;
-  rights = fits.rights;
-  rise = fits.rise;
-  user_frames = fits.user_frames;
-  pin_frames = fits.pin_frames;
-  known = known_one (is_known w.settings w.closed) (record {
-    file = file;
-    id = id;
-    kind = kind.Device device;
-  }) w.objects (both_true _ _ (bind_open w file device none) (bind_device w file
-      device none)) fits.known;
-  attached = fits.attached;
-}
-keeps_fit at w (event.Unbind file id) reply.Done none answers fits =
-    record {
-      pages = fits.pages;
-      starts = fits.starts;
-      rights = fits.rights;
-      rise = fits.rise;
-      user_frames = fits.user_frames;
-      pin_frames = fits.pin_frames;
-      known = all_filter (is_known w.settings w.closed) _ w.objects fits.known;
-      attached = fits.attached;
-    }
-keeps_fit at w (event.Attach device pt_id) (reply.Id id) none answers fits =
-    bound (binding_of w.objects device) refl (device_of w.settings device)
-  where
-    bound : (object : Option Object) → binding_of w.objects device ≡ object → (settings : Option DeviceSettings)
-        → RowsFit (attach_changes w device pt_id id object settings)
-    bound None is settings = fits
-    bound (Some object) is None = fits
-    bound (Some object) is (Some settings) = by_kind (kind_of w.objects object.file pt_id) refl
-      where
-        here : (is_open w.settings w.closed object.file ≡ true) × (is_device w.settings device ≡ true)
-        here = bound_known w.settings w.closed w.objects device object fits.known is
+module _ {A : Type 0} (at : ℕ) (w : World) (e : Event A) (answer : Reply) (none : refusal w e ≡ None)
+    (answers : Answers w e answer) (fits : RowsFit w) where
+  attachments_rise : (new : World) → AttachmentsMove w e answer new
+      → devices_rise new.attachments ≡ true
+  attachments_rise new (SameAttachments is) = rw is fits.rise
+  attachments_rise new (FewerAttachments stays is) = rw is (rise-filter stays w.attachments fits.rise)
+  attachments_rise new (OneAttachment a bound binding of_file free served is) =
+      rw is (rise-with_attachment a w.attachments (free none) fits.rise)
 
-        attachment : Attachment
-        attachment = record { device = device; file = object.file; hwpt = id }
+  attachments_known : (new : World) → AttachmentsMove w e answer new
+      → are_attached w.settings new.attachments ≡ true
+  attachments_known new (SameAttachments is) = rw is fits.attached
+  attachments_known new (FewerAttachments stays is) = rw is (all_filter _ stays w.attachments fits.attached)
+  attachments_known new (OneAttachment a bound binding of_file free served is) =
+      rw is (attached_one w.settings a w.attachments
+      (bound_known w.settings w.closed w.objects a.device bound fits.known binding).1 fits.attached)
 
-        -- with the attachment, and with pages pinned for it or not
-        fit : (objects : List Object) (pins : List Pin) → is_some (attachment_of w.attachments device) ≡ false
-            → list_all (is_known w.settings w.closed) objects ≡ true
-            → list_all (λ (pin : Pin). ltb pin.frame.0 w.settings.pool) pins ≡ true
-            → RowsFit (record w {
-              objects = objects;
-              attachments = with_attachment attachment w.attachments;
-              areas = all_paid device w.areas;
-              pins = pins;
-            })
-        fit objects pins free known below =
-            record {
-              pages = all_map is_of_pages is_of_pages _ w.areas (λ area is. is) fits.pages;
-              starts = all_map begins_at_page begins_at_page _ w.areas (λ area is. is) fits.starts;
-              rights = all_map has_rights has_rights _ w.areas (λ area is. is) fits.rights;
-              rise = rise-with_attachment attachment w.attachments free fits.rise;
-              user_frames = fits.user_frames;
-              pin_frames = below;
-              known = known;
-              attached = attached_one w.settings attachment w.attachments here.1 fits.attached;
-            }
+  pages_fit : (new : World) → MemoryMoves w e answer new
+      → list_all (λ (p : UserPage). ltb p.frame.0 w.settings.pool) new.user_pages ≡ true
+  pages_fit new (SameMemory is same) = rw is fits.user_frames
+  pages_fit new (OnePage user va frame passed free told is less) =
+      rw is (all_both (λ (p : UserPage). ltb p.frame.0 w.settings.pool) w.user_pages _ fits.user_frames
+      (both_true _ _ (and_true (ltb frame.0 w.settings.pool) _ (free answers)).0 refl))
+  pages_fit new (FewerPages stays is same) = rw is (all_filter _ stays w.user_pages fits.user_frames)
+  pages_fit new (Written written is) = rw is fits.user_frames
 
-        by_kind : (k : Option ObjectKind) → kind_of w.objects object.file pt_id ≡ k
-            → RowsFit (target_changes w device pt_id id object settings k)
-        by_kind (Some kind.Ioas) named =
-            let automatic = automatic_hwpt w.objects object.file pt_id settings.width in
-            fit _ _ (attach_passed (view w) device pt_id object is named none).unattached
-            (known_hwpt w.settings w.closed object.file pt_id id settings.width automatic w.objects here.0 fits.known)
-            (settled_frames (λ n. ltb n w.settings.pool) _ w.user_pages fits.user_frames _ _ w.pins fits.pin_frames)
-        by_kind (Some (kind.Hwpt ioas width automatic)) named =
-            let free = (join_passed (view w) device pt_id ioas width automatic object is named none).unattached in
-            fit w.objects w.pins free fits.known fits.pin_frames
-        by_kind k named = fits
-keeps_fit at w (event.Detach device) reply.Done none answers fits = attached_or_not (attachment_of w.attachments device)
-  where
-    attached_or_not : (a : Option Attachment) → RowsFit (detach_changes w device a)
-    attached_or_not None = fits
-    attached_or_not (Some a) = record {
-      pages = all_map is_of_pages is_of_pages _ w.areas (λ area is. is) fits.pages;
-      starts = all_map begins_at_page begins_at_page _ w.areas (λ area is. is) fits.starts;
-      rights = all_map has_rights has_rights _ w.areas (λ area is. is) fits.rights;
-      rise = rise-filter _ w.attachments fits.rise;
-      user_frames = fits.user_frames;
-      pin_frames = settled_frames (λ n. ltb n w.settings.pool) _ w.user_pages fits.user_frames _ _ w.pins
-          fits.pin_frames;
-      known = all_filter (is_known w.settings w.closed) _ w.objects fits.known;
-      attached = all_filter _ _ w.attachments fits.attached;
-    }
-keeps_fit at w (event.Flush device) reply.Done none answers fits =
-    record {
-      pages = all_map is_of_pages is_of_pages _ w.areas (λ area is. is) fits.pages;
-      starts = all_map begins_at_page begins_at_page _ w.areas (λ area is. is) fits.starts;
-      rights = all_map has_rights has_rights _ w.areas (λ area is. is) fits.rights;
-      rise = fits.rise;
-      user_frames = fits.user_frames;
-      pin_frames = fits.pin_frames;
-      known = fits.known;
-      attached = fits.attached;
-    }
-keeps_fit at w (event.DeviceWrite device iova bytes) (reply.Passed frame) none answers fits =
-    record {
-      pages = fits.pages;
-      starts = fits.starts;
-      rights = fits.rights;
-      rise = fits.rise;
-      user_frames = fits.user_frames;
-      pin_frames = fits.pin_frames;
-      known = fits.known;
-      attached = fits.attached;
-    }
-keeps_fit at w e answer none answers fits = fits
+  pins_fit : (new : World) → PinsMove at w e new
+      → list_all (λ (p : UserPage). ltb p.frame.0 w.settings.pool) new.user_pages ≡ true
+      → list_all (λ (pin : Pin). ltb pin.frame.0 w.settings.pool) new.pins ≡ true
+  unfolding settle
+  pins_fit new (SamePins is alike) users = rw is fits.pin_frames
+  pins_fit new (Settled is present) users =
+      rw is (settled_frames (λ n. ltb n w.settings.pool) _ new.user_pages users _ _ w.pins fits.pin_frames)
+
+  objects_known : (new : World) → ObjectsMove w e answer new → FilesMove w new
+      → list_all (is_known w.settings new.closed) new.objects ≡ true
+  objects_known new move (Closes file closed objects allowed) =
+      rw (closed, objects) (known_closed w.settings w.closed file w.objects fits.known)
+  objects_known new (Same is) (StayOpen closed) = rw (closed, is) fits.known
+  objects_known new (Fewer stays stay is) (StayOpen closed) =
+      rw (closed, is) (all_filter (is_known w.settings w.closed) stays w.objects fits.known)
+  objects_known new (More object fresh admitted makes is) (StayOpen closed) =
+      rw (closed, is) (known_one (is_known w.settings w.closed) object w.objects ((admitted none).known fits.known)
+      fits.known)
+
+  pub keeps_fit : RowsFit (changed at w e answer)
+  keeps_fit =
+      let new : World = changed at w e answer in
+      let m = changed_moves at w e answer in
+      let users = pages_fit new m.memory in
+      record {
+        pages = all_areas is_of_pages (λ phase a here. here) at w e answer new m.areas
+            (λ number file request iova passed lies alike under. one_pages at w e file request iova number new.memory none
+            (passed none) fits.pages under) fits.pages;
+        starts = all_areas begins_at_page (λ phase a here. here) at w e answer new m.areas
+            (λ number file request iova passed lies alike under. (lies none answers).whole) fits.starts;
+        rights = all_areas has_rights (λ phase a here. here) at w e answer new m.areas
+            (λ number file request iova passed lies alike under. some_rights (is_readable request.flags)
+            (is_writeable request.flags) (passed none).right) fits.rights;
+        rise = attachments_rise new m.attachments;
+        user_frames = rw m.settings users;
+        pin_frames = rw m.settings (pins_fit new m.pins users);
+        known = rw m.settings (objects_known new m.objects m.files);
+        attached = rw m.settings (attachments_known new m.attachments);
+      }
 
 -- the frames of tables are no part of it
 pub tabled_fit : (w : World) (taken given : List FrameNo) → RowsFit w → RowsFit (with_tables taken given w)

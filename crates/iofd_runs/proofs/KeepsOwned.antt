@@ -5,45 +5,37 @@ use Rattle.std.specs.List.{filter, list_all, list_any}
 use Rattle.std.proofs.lemmas.Bool.{eqb-true}
 use Rattle.std.proofs.lemmas.Bool.Decides.{nat_tests}
 use Rattle.std.proofs.lemmas.List.Folds.{list_all-append}
-use Rattle.iofd_words.specs.After.{attach_changes, attached, changed, copy_changes, detach_changes, detached}
-use Rattle.iofd_words.specs.After.{hwpt_changes, joined, map_changes, mapped_area, memory_object, settle}
-use Rattle.iofd_words.specs.After.{target_changes, without_areas}
+use Rattle.iofd_words.specs.After.{changed}
+use Rattle.iofd_words.specs.After.{mapped_area, memory_object}
 use Rattle.iofd_words.specs.Answers.{Answers}
 use Rattle.iofd_words.specs.Areas.{areas_of, is_of}
-use Rattle.iofd_words.specs.Attachments.{attachment_of}
 use Rattle.iofd_words.specs.Checks.{refusal}
-use Rattle.iofd_words.specs.Copies.{placed_as}
-use Rattle.iofd_words.specs.Files.{user_of, device_of, numbered}
-use Rattle.iofd_words.specs.Objects.{binding_of, kind_of, settings_under}
-use Rattle.iofd_words.specs.Settings.{DeviceSettings, Settings}
+use Rattle.iofd_words.specs.Files.{user_of, numbered}
+use Rattle.iofd_words.specs.Settings.{Settings}
 use Rattle.iofd_words.specs.Tables.{with_tables}
 use Rattle.iofd_words.specs.World.{World, opening}
-use Rattle.iofd_words.specs.declared.event.CopyRequest.{CopyRequest}
 use Rattle.iofd_words.specs.declared.event.Event.{Event}
-use Rattle.iofd_words.specs.declared.event.Event.TheVariants as event
 use Rattle.iofd_words.specs.declared.event.MapRequest.{MapRequest}
 use Rattle.iofd_words.specs.declared.numbers.FileNo.{FileNo}
 use Rattle.iofd_words.specs.declared.numbers.Iova.{Iova}
 use Rattle.iofd_words.specs.declared.numbers.ObjId.{ObjId}
 use Rattle.iofd_words.specs.declared.numbers.UserNo.{UserNo}
 use Rattle.iofd_words.specs.declared.reply.Reply.{Reply}
-use Rattle.iofd_words.specs.declared.reply.Reply.TheVariants as reply
 use Rattle.iofd_words.specs.declared.rows.Area.{Area}
-use Rattle.iofd_words.specs.declared.rows.Attachment.{Attachment}
 use Rattle.iofd_words.specs.declared.numbers.FrameNo.{FrameNo}
 use Rattle.iofd_words.specs.declared.rows.MemoryObject.{MemoryObject}
-use Rattle.iofd_words.specs.declared.rows.Object.{Object}
-use Rattle.iofd_words.specs.declared.rows.ObjectKind.{ObjectKind}
-use Rattle.iofd_words.specs.declared.rows.ObjectKind.TheVariants as kind
 use Rattle.iofd_rows.specs.Pinned.{ArePinned}
 use Rattle.iofd_rows.proofs.Bools.{and_true, both_true, not_false, or_false}
 use Rattle.iofd_rows.proofs.Each.{IsIn, of_each}
 use Rattle.iofd_rows.proofs.Found.{all_filter, all_map, all_weaker}
 use Rattle.iofd_rows.proofs.ListTests.{or_left, or_right, any-filter, any_of_all}
 use Rattle.iofd_rows.proofs.OwnMemory.{all-with_area}
-use Rattle.iofd_runs.proofs.CopySource.{IsSource, source_area, source_is}
-use Rattle.iofd_runs.proofs.KeepsPins.{keeps_pins, later_pinned, none_over, tabled_pinned, opening_pinned}
+use Rattle.iofd_runs.proofs.KeepsPins.{keeps_pins, later_pinned, tabled_pinned, opening_pinned}
 use Rattle.iofd_runs.specs.Owned.{AreasOwned, is_of_files_user, is_over_own}
+use Rattle.iofd_runs.proofs.Moves.{AreasMove, SameAreas, FewerAreas, OtherPhases, OneArea, MemoryUnder, NewMemory}
+use Rattle.iofd_runs.proofs.Moves.{SharedMemory, changed_moves}
+use Rattle.iofd_words.specs.Areas.{with_area}
+use Rattle.iofd_runs.proofs.PagesToPin.{none_over}
 
 -- ---- a MAP
 
@@ -86,17 +78,6 @@ owned_new at settings memory file request iova user is made =
     unlike : (n : ℕ) → ltb n at ≡ true → eqb n at ≡ false
     unlike n before = grind (arith, nat_tests)
 
--- ---- a COPY
-
--- the new area is over its source's memory object, and of its source's file
-owned_copy : (w : World) (file : FileNo) (request : CopyRequest) (iova : Iova) (source : Area)
-    → IsSource w file request source → AreasOwned w
-    → is_over_own w.settings w.memory (mapped_area source.memory file (placed_as request) iova) ≡ true
-owned_copy w file request iova source is o =
-    ap (λ (f : FileNo). list_all (λ (m : MemoryObject). not (eqb m.number source.memory)
-    || is_of_files_user w.settings f m) w.memory) (sym is.of_file)
-    ∙ of_each (is_over_own w.settings w.memory) w.areas source o.owned is.within
-
 -- ---- memory objects go
 
 fewer_owned : (settings : Settings) (q : MemoryObject → Bool) (memory : List MemoryObject) (areas : List Area)
@@ -111,100 +92,38 @@ fewer_owned settings q memory areas owned =
 
 pub keeps_owned : {A : Type 0} → (at : ℕ) (w : World) (e : Event A) (answer : Reply) → ArePinned at w → AreasOwned w
     → AreasOwned (changed at w e answer)
-unfolding changed settle without_areas attached detached joined
-keeps_owned at w (event.IoasAlloc file) (reply.Id id) p o = record { owned = o.owned }
-keeps_owned at w (event.Map file request) (reply.Iova iova) p o = mapped (user_of w.settings file) refl
+keeps_owned at w e answer p o = record {
+  owned = ap (λ (s : Settings). list_all (is_over_own s (changed at w e answer).memory) (changed at w e answer).areas)
+      (changed_moves at w e answer).settings
+      ∙ by_move (changed at w e answer) (changed_moves at w e answer).areas;
+}
   where
-    mapped : (user : Option UserNo) → user_of w.settings file ≡ user
-        → AreasOwned (map_changes at w file request iova user)
-    mapped None is = o
-    mapped (Some user) is =
-        record {
-          owned =
-              all-with_area (is_over_own w.settings (w.memory ++ memory_object at user request ∷ []))
-              (mapped_area at file request iova) w.areas
-              (owned_new at w.settings w.memory file request iova user is p.made)
-              (owned_still w.settings w.memory (memory_object at user request) w.areas
-              (none_over at w.areas w.memory p.made p.sizes) o.owned);
-        }
-keeps_owned at w (event.Copy file request) (reply.Iova iova) p o = copied (source_area w file request) refl
-  where
-    copied : (source : Option Area) → source_area w file request ≡ source
-        → AreasOwned (copy_changes w file request iova source)
-    copied None is = o
-    copied (Some source) is =
-        record {
-          owned = all-with_area (is_over_own w.settings w.memory)
-              (mapped_area source.memory file (placed_as request) iova) w.areas
-              (owned_copy w file request iova source (source_is w file request source is) o) o.owned;
-        }
-keeps_owned at w (event.Unmap file request) (reply.Bytes count) p o =
-    record {
-      owned = all_filter (is_over_own w.settings _) _ w.areas
-          (fewer_owned w.settings _ w.memory w.areas o.owned);
-    }
-keeps_owned at w (event.Unmap file request) (reply.Pending errno) p o =
-    record {
-      owned = all_map (is_over_own w.settings w.memory) (is_over_own w.settings w.memory) _
-          w.areas (λ a is. is) o.owned;
-    }
-keeps_owned at w (event.HwptAlloc file request) (reply.Id id) p o =
-    made (settings_under w.settings w.objects file request.device)
-  where
-    made : (settings : Option DeviceSettings) → AreasOwned (hwpt_changes w file request.ioas id settings)
-    made None = o
-    made (Some settings) = record { owned = o.owned }
-keeps_owned at w (event.Destroy file id) reply.Done p o =
-    record {
-      owned = all_filter (is_over_own w.settings _) _ w.areas
-          (fewer_owned w.settings _ w.memory w.areas o.owned);
-    }
-keeps_owned at w (event.Close file) reply.Done p o =
-    record {
-      owned = all_filter (is_over_own w.settings _) _ w.areas
-          (fewer_owned w.settings _ w.memory w.areas o.owned);
-    }
-keeps_owned at w (event.UserMap user va) (reply.Frame frame) p o = record { owned = o.owned }
-keeps_owned at w (event.AllowIovas file ioas ranges) reply.Done p o = record { owned = o.owned }
-keeps_owned at w (event.UserUnmap user va) reply.Done p o = record { owned = o.owned }
-keeps_owned at w (event.UserWrite user va bytes) reply.Done p o = record { owned = o.owned }
-keeps_owned at w (event.Bind file device) (reply.Id id) p o = record { owned = o.owned }
-keeps_owned at w (event.Unbind file id) reply.Done p o = record { owned = o.owned }
-keeps_owned at w (event.Attach device pt_id) (reply.Id id) p o =
-    bound (binding_of w.objects device) (device_of w.settings device)
-  where
-    bound : (object : Option Object) (settings : Option DeviceSettings)
-        → AreasOwned (attach_changes w device pt_id id object settings)
-    bound None settings = o
-    bound (Some object) None = o
-    bound (Some object) (Some settings) = by_kind (kind_of w.objects object.file pt_id)
-      where
-        by_kind : (k : Option ObjectKind) → AreasOwned (target_changes w device pt_id id object settings k)
-        by_kind (Some kind.Ioas) = record {
-          owned = all_map (is_over_own w.settings w.memory)
-              (is_over_own w.settings w.memory) _ w.areas (λ a is. is) o.owned;
-        }
-        by_kind (Some (kind.Hwpt ioas width automatic)) =
-            record {
-              owned = all_map (is_over_own w.settings w.memory) (is_over_own w.settings w.memory) _
-                  w.areas (λ a is. is) o.owned;
-            }
-        by_kind k = o
-keeps_owned at w (event.Detach device) reply.Done p o = attached_or_not (attachment_of w.attachments device)
-  where
-    attached_or_not : (a : Option Attachment) → AreasOwned (detach_changes w device a)
-    attached_or_not None = o
-    attached_or_not (Some a) = record {
-      owned = all_map (is_over_own w.settings w.memory)
-          (is_over_own w.settings w.memory) _ w.areas (λ a is. is) o.owned;
-    }
-keeps_owned at w (event.Flush device) reply.Done p o =
-    record {
-      owned = all_map (is_over_own w.settings w.memory) (is_over_own w.settings w.memory) _
-          w.areas (λ a is. is) o.owned;
-    }
-keeps_owned at w (event.DeviceWrite device iova bytes) (reply.Passed frame) p o = record { owned = o.owned }
-keeps_owned at w e answer p o = o
+    by_memory : (number : ℕ) (file : FileNo) (request : MapRequest) (iova : Iova) (memory : List MemoryObject)
+        → MemoryUnder at w e file request iova number memory
+        → list_all (is_over_own w.settings memory) (with_area (mapped_area number file request iova) w.areas) ≡ true
+    by_memory number file request iova memory (NewMemory user known short is more) =
+        rw (more, is) (all-with_area (is_over_own w.settings (w.memory ++ memory_object at user request ∷ []))
+        (mapped_area at file request iova) w.areas
+        (owned_new at w.settings w.memory file request iova user known p.made)
+        (owned_still w.settings w.memory (memory_object at user request) w.areas
+        (none_over at w.areas w.memory p.made p.sizes) o.owned))
+    -- over its source's memory object, and of its source's file
+    by_memory number file request iova memory (SharedMemory source within of_file size is same) =
+        rw (same, ← is, ← of_file) (all-with_area (is_over_own w.settings w.memory)
+        (mapped_area source.memory source.file request iova) w.areas
+        (of_each (is_over_own w.settings w.memory) w.areas source o.owned within) o.owned)
+
+    by_move : (new : World) → AreasMove at w e answer new
+        → list_all (is_over_own w.settings new.memory) new.areas ≡ true
+    by_move new (SameAreas is same) = rw (is, same) o.owned
+    by_move new (FewerAreas goes is left) =
+        rw (is, left) (all_filter (is_over_own w.settings _) (λ (a : Area). not (goes a)) w.areas
+        (fewer_owned w.settings _ w.memory w.areas o.owned))
+    by_move new (OtherPhases phase lives is same) =
+        rw (is, same) (all_map (is_over_own w.settings w.memory) (is_over_own w.settings w.memory) _ w.areas
+        (λ a over. over) o.owned)
+    by_move new (OneArea number file request iova passed lies makes alike is under) =
+        rw is (by_memory number file request iova new.memory under)
 
 -- with the pins
 pub record OwnedPins (at : ℕ) (w : World) : Type 0 where

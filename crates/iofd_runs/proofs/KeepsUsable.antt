@@ -5,18 +5,15 @@ use Rattle.std.proofs.lemmas.Bool.{eqb-true}
 use Rattle.std.proofs.lemmas.Bool.Decides.{nat_tests}
 use Rattle.std.specs.List.{filter, list_all, list_any}
 use Rattle.std.proofs.lemmas.List.Folds.{list_any-append}
-use Rattle.iofd_words.specs.After.{attach_changes, attached, changed, copy_changes, detach_changes, detached}
-use Rattle.iofd_words.specs.After.{hwpt_changes, joined, made_hwpt, map_changes, mapped_area, settle, target_changes}
-use Rattle.iofd_words.specs.After.{with_hwpt, without_areas}
+use Rattle.iofd_words.specs.After.{changed}
 use Rattle.iofd_words.specs.Allowed.{allowed_of, with_allowed}
-use Rattle.iofd_words.specs.Answers.{Answers, IsHwptFor, IsHwptOf, IsTarget}
+use Rattle.iofd_words.specs.Answers.{Answers}
 use Rattle.iofd_words.specs.Areas.{areas_of, is_of}
-use Rattle.iofd_words.specs.Attachments.{attachment_of, is_attached_to, with_attachment, without_attachment}
+use Rattle.iofd_words.specs.Attachments.{is_attached_to, with_attachment}
 use Rattle.iofd_words.specs.Bounds.{Bounds}
-use Rattle.iofd_words.specs.Checks.{narrows, narrows_by_width, narrows_without, refusal, unusable_in}
-use Rattle.iofd_words.specs.Copies.{placed_as, source_in}
-use Rattle.iofd_words.specs.Files.{device_of, user_of}
-use Rattle.iofd_words.specs.Objects.{automatic_hwpt, binding_of, is_hwpt_over, is_object, kind_of, settings_under}
+use Rattle.iofd_words.specs.Checks.{narrows_without, refusal, unusable_in}
+use Rattle.iofd_words.specs.Files.{device_of}
+use Rattle.iofd_words.specs.Objects.{is_hwpt_over, is_object, kind_of}
 use Rattle.iofd_words.specs.Objects.{with_object}
 use Rattle.iofd_words.specs.Ranges.{meets_some}
 use Rattle.iofd_words.specs.Settings.{DeviceSettings, Settings}
@@ -26,37 +23,29 @@ use Rattle.iofd_words.specs.Usable.{beyond, beyond_table, reserved_by, reserved_
 use Rattle.iofd_words.specs.View.{view}
 use Rattle.iofd_words.specs.World.{World, opening}
 use Rattle.iofd_words.specs.declared.event.Event.{Event}
-use Rattle.iofd_words.specs.declared.event.Event.TheVariants as event
-use Rattle.iofd_words.specs.declared.numbers.DeviceNo.{DeviceNo}
 use Rattle.iofd_words.specs.declared.numbers.FileNo.{FileNo}
 use Rattle.iofd_words.specs.declared.numbers.FrameNo.{FrameNo}
 use Rattle.iofd_words.specs.declared.numbers.ObjId.{ObjId}
-use Rattle.iofd_words.specs.declared.numbers.UserNo.{UserNo}
 use Rattle.iofd_words.specs.declared.reply.Reply.{Reply}
-use Rattle.iofd_words.specs.declared.reply.Reply.TheVariants as reply
 use Rattle.iofd_words.specs.declared.rows.Area.{Area}
 use Rattle.iofd_words.specs.declared.rows.Attachment.{Attachment}
 use Rattle.iofd_words.specs.declared.rows.Object.{Object}
 use Rattle.iofd_words.specs.declared.rows.ObjectKind.{ObjectKind}
 use Rattle.iofd_words.specs.declared.rows.ObjectKind.TheVariants as kind
 use Rattle.iofd_words.specs.declared.width.Width.{Width}
-use Rattle.iofd_rows.proofs.Allowed.{allowed_closed, allowed_with, allowed_without, is_of_space, spans_clear}
+use Rattle.iofd_rows.proofs.Allowed.{allowed_with, is_of_space, spans_clear}
 use Rattle.iofd_rows.proofs.Bools.{and_rest, and_true, both_false, both_true, clash, not_false, not_true, or_false}
 use Rattle.iofd_rows.proofs.Each.{IsIn, in_filter, in_with_attachment, in_with_object, of_all, of_each}
-use Rattle.iofd_rows.proofs.Found.{all_filter, all_map, all_weaker}
 use Rattle.iofd_rows.proofs.ListTests.{any-filter}
 use Rattle.iofd_rows.proofs.Moves.{KindsStay}
 use Rattle.iofd_rows.proofs.Named.{kind_before}
 use Rattle.iofd_rows.proofs.Owed.{EachOwed, HasTable, each_owed}
-use Rattle.iofd_rows.proofs.OwnMemory.{all-with_area}
 use Rattle.iofd_rows.proofs.Unusable.{attached_of, each_not, none_of, usable_left, usable_still}
 use Rattle.iofd_rows.specs.Reached.{ends_in, keeps_of}
-use Rattle.iofd_runs.proofs.AttachMoves.{IsMade, is_made}
 use Rattle.iofd_runs.proofs.KeepsDebts.{IsSound, keeps_sound, tabled_sound}
-use Rattle.iofd_runs.proofs.MappedAt.{copy_lies_at, lies_at}
-use Rattle.iofd_runs.proofs.NotRefused.{allow_passed, attach_passed, hwpt_passed, join_passed}
 use Rattle.iofd_runs.proofs.OwnIds.{unused}
 use Rattle.iofd_runs.specs.InUsable.{AreasUsable, is_in_usable}
+use Rattle.iofd_runs.proofs.Moves.{AllowedMove, Allows, AttachmentsMove, Fewer, FewerAllowed, FewerAttachments, IsWide, More, Moves, ObjectsMove, OneAttachment, Same, SameAllowed, SameAttachments, all_areas, changed_moves}
 
 -- ---- attachments whose page table stays
 
@@ -89,29 +78,11 @@ usable_object w object file ioas span each free reaches clear =
     ))
     clear
 
--- what is no page table over it ends nowhere
-no_end : (object : Object) (file : FileNo) (ioas : ObjId) (span : Bounds) → is_hwpt_over ioas object.kind ≡ false
-    → ends_in file ioas span object ≡ false
-no_end object file ioas span other =
-    none (eqb object.file.0 file.0) (is_hwpt_over ioas object.kind) (meets_some (beyond_table object.kind) span) other
-  where
-    none : (p q r : Bool) → q ≡ false → ((p && q) && r) ≡ false
-    none true q r is = rw is refl
-    none false q r is = refl
-
 -- ---- page tables and devices come
 
 -- the spans of an address space that can't be used
 abbrev bars : World → FileNo → ObjId → List Bounds
 bars w file ioas = unusable w.settings w.objects w.attachments file ioas
-
--- with these objects and attachments, a span that can be used still can; in this address space, if it is clear of the
--- given ones
-abbrev StaysUsable : World → List Object → List Attachment → FileNo → ObjId → List Bounds → Type 0
-StaysUsable w objects attachments file ioas spans =
-    (f : FileNo) (i : ObjId) (span : Bounds) → (is_of_space file ioas f i ≡ true → meets_some spans span ≡ false)
-    → meets_some (bars w f i) span ≡ false
-    → meets_some (unusable w.settings objects attachments f i) span ≡ false
 
 flipped : (m n : ℕ) → eqb m n ≡ true → eqb n m ≡ true
 flipped m n is = grind (arith, nat_tests)
@@ -121,20 +92,6 @@ here_too : (file f : FileNo) (ioas i : ObjId) → (eqb file.0 f.0 && eqb ioas.0 
 here_too file f ioas i is =
     let parts = and_true (eqb file.0 f.0) (eqb ioas.0 i.0) is in
     both_true _ _ (flipped file.0 f.0 parts.0) (flipped ioas.0 i.0 parts.1)
-
--- a page table comes
-usable_hwpt : (w : World) (file : FileNo) (ioas id : ObjId) (width : Width) (automatic : Bool)
-    → EachOwed w.objects w.attachments w.areas → list_any (is_object file id) w.objects ≡ false
-    → StaysUsable w (with_object (record { file = file; id = id; kind = kind.Hwpt ioas width automatic }) w.objects)
-    w.attachments file ioas (beyond width ∷ [])
-usable_hwpt w file ioas id width automatic each free f i span wide clear =
-    let object : Object = record { file = file; id = id; kind = kind.Hwpt ioas width automatic } in
-    usable_object w object f i span each free (by_space (eqb file.0 f.0 && eqb ioas.0 i.0) refl) clear
-  where
-    by_space : (b : Bool) → (eqb file.0 f.0 && eqb ioas.0 i.0) ≡ b
-        → (b && meets_some (beyond width ∷ []) span) ≡ false
-    by_space true is = wide (here_too file f ioas i is)
-    by_space false is = refl
 
 -- a device is attached by a page table that is there
 usable_attachment : (settings : Settings) (objects : List Object) (attachments : List Attachment)
@@ -171,31 +128,6 @@ usable_attachment settings objects attachments attachment device ioas width auto
         let here = here_too attachment.file f ioas i
         (by_table (kind_of objects attachment.file attachment.hwpt) table parts.0) in
         clash _ (wide here) (of_device (device_of settings attachment.device) known parts.1)
-
--- a device is attached to an address space
-usable_attached : (w : World) (device : DeviceNo) (settings : DeviceSettings) (file : FileNo)
-    (ioas id : ObjId) (o : Option Object)
-    → EachOwed w.objects w.attachments w.areas
-    → IsMade w.objects (with_hwpt file ioas id settings.width o w.objects) file ioas id → IsHwptFor w file id o
-    → device_of w.settings device ≡ Some settings
-    → StaysUsable w (with_hwpt file ioas id settings.width o w.objects)
-    (with_attachment (record { device = device; file = file; hwpt = id }) w.attachments)
-    file ioas (beyond settings.width ∷ reserved_by settings)
-usable_attached w device settings file ioas id o each made answers known f i span wide clear =
-    usable_attachment w.settings (with_hwpt file ioas id settings.width o w.objects) w.attachments
-    (record { device = device; file = file; hwpt = id })
-    settings ioas made.width made.automatic made.table known f i span
-    (λ here. (or_false (meets (beyond settings.width) span) _ (wide here)).1)
-    (by_table o answers)
-  where
-    by_table : (o : Option Object) → IsHwptFor w file id o
-        → meets_some (unusable w.settings (with_hwpt file ioas id settings.width o w.objects) w.attachments f i)
-        span ≡ false
-    by_table (Some object) answers = clear
-    by_table None answers =
-        usable_hwpt w file ioas id settings.width true each (unused w.objects file id answers) f i span
-        (λ here. both_false _ _ (or_false (meets (beyond settings.width) span) _ (wide here)).0 refl)
-        clear
 
 -- ---- the allowed ranges
 
@@ -269,204 +201,114 @@ wide_ranges w file ioas spans f i here wide =
     (eqb-true i.0 ioas.0 is.1)
     ∙ (wide_parts w file ioas spans wide).1
 
--- areas and allowed ranges stay in addresses that can be used
-module _ (w : World) (objects : List Object) (attachments : List Attachment) (file : FileNo) (ioas : ObjId)
-    (spans : List Bounds) (wide : narrows_without (view w) file ioas spans ≡ false)
-    (stays : StaysUsable w objects attachments file ioas spans) where
-  clear_areas : list_all (is_in_usable w) w.areas ≡ true
-      → list_all (λ (a : Area). not (meets_some (unusable w.settings objects attachments a.file a.ioas) a.span))
-      w.areas ≡ true
-  clear_areas usable =
-      of_all _ w.areas (λ a within. not_false _
-      (stays a.file a.ioas a.span
-      (λ of_space. wide_areas w file ioas spans a within wide of_space)
-      (not_true _ (of_each (is_in_usable w) w.areas a usable within))))
+-- ---- what can be used still can
 
-  clear_ranges : (f : FileNo) (i : ObjId) → list_any (meets_some (bars w f i)) (allowed_of w.allowed f i) ≡ false
-      → list_any (meets_some (unusable w.settings objects attachments f i)) (allowed_of w.allowed f i) ≡ false
-  clear_ranges f i clear =
-      none_of _ (allowed_of w.allowed f i) (λ span within.
-      stays f i span
-      (λ here. each_not (meets_some spans) (allowed_of w.allowed f i) span
-      (wide_ranges w file ioas spans f i here wide) within)
-      (each_not (meets_some (bars w f i)) (allowed_of w.allowed f i) span clear within))
+-- what is known of a span that an area or an allowed range has: it can be used, and what narrows it is refused
+record StandsIn (w : World) (file : FileNo) (ioas : ObjId) (span : Bounds) : Type 0 where
+  clear : meets_some (bars w file ioas) span ≡ false
+  wide : (own : FileNo) (over : ObjId) (spans : List Bounds) → narrows_without (view w) own over spans ≡ false
+      → is_of_space own over file ioas ≡ true → meets_some spans span ≡ false
 
--- ---- each event
+neither : (b : Bool) → ((b && false) && false) ≡ false
+neither true = refl
+neither false = refl
 
-usable_keeps : {A : Type 0} → (at : ℕ) (w : World) (e : Event A) (answer : Reply) → refusal w e ≡ None
-    → Answers w e answer → IsSound w → AreasUsable w → AreasUsable (changed at w e answer)
-unfolding changed settle without_areas attached detached joined Answers
-usable_keeps at w (event.IoasAlloc file) (reply.Id id) none answers sound u =
-    let object : Object = record { file = file; id = id; kind = kind.Ioas } in
-    record {
-      usable = all_weaker (is_in_usable w) _ w.areas
-          (λ a is. not_false _ (usable_object w object a.file a.ioas a.span (each_owed w sound.debts)
-          (unused w.objects file id answers) (no_end object a.file a.ioas a.span refl) (not_true _ is))) u.usable;
-      ranges = λ f i. spans_clear _ _ _ (λ span clear. usable_object w object f i span (each_owed w sound.debts)
-          (unused w.objects file id answers) (no_end object f i span refl) clear) (u.ranges f i);
-    }
-usable_keeps at w (event.AllowIovas file ioas ranges) reply.Done none answers sound u =
-    let passed = allow_passed (view w) file ioas ranges none in
-    record { usable = u.usable; ranges = λ f i. allowed_clear w file ioas ranges f i passed.usable (u.ranges f i) }
-usable_keeps at w (event.Map file request) (reply.Iova iova) none answers sound u = mapped (user_of w.settings file)
-  where
-    mapped : (user : Option UserNo) → AreasUsable (map_changes at w file request iova user)
-    mapped None = u
-    mapped (Some user) = record {
-      usable = all-with_area (is_in_usable w) (mapped_area at file request iova) w.areas
-          (not_false _ (lies_at w file request iova none answers).usable) u.usable;
-      ranges = u.ranges;
-    }
-usable_keeps at w (event.Copy file request) (reply.Iova iova) none answers sound u =
-    copied (source_in (areas_of w.areas file request.src_ioas) request)
-  where
-    copied : (source : Option Area) → AreasUsable (copy_changes w file request iova source)
-    copied None = u
-    copied (Some source) = record {
-      usable = all-with_area (is_in_usable w)
-          (mapped_area source.memory file (placed_as request) iova) w.areas
-          (not_false _ (copy_lies_at w file request iova none answers).usable) u.usable;
-      ranges = u.ranges;
-    }
-usable_keeps at w (event.Unmap file request) (reply.Bytes count) none answers sound u =
-    record { usable = all_filter (is_in_usable w) _ w.areas u.usable; ranges = u.ranges }
-usable_keeps at w (event.Unmap file request) (reply.Pending errno) none answers sound u =
-    record { usable = all_map (is_in_usable w) (is_in_usable w) _ w.areas (λ a is. is) u.usable; ranges = u.ranges }
-usable_keeps at w (event.HwptAlloc file request) (reply.Id id) none answers sound u =
-    made (settings_under w.settings w.objects file request.device) refl
-  where
-    made : (settings : Option DeviceSettings) → settings_under w.settings w.objects file request.device ≡ settings
-        → AreasUsable (hwpt_changes w file request.ioas id settings)
-    made None is = u
-    made (Some settings) is =
-        let narrow = narrows_by_width (view w) file request.ioas in
-        let wide : narrow (Some settings) ≡ false =
-        sym (ap narrow is) ∙ (hwpt_passed (view w) file request none).wide in
-        let objects = with_object (made_hwpt file request.ioas id settings) w.objects in
-        let spans = beyond settings.width ∷ [] in
-        let stays = usable_hwpt w file request.ioas id settings.width false (each_owed w sound.debts)
-        (unused w.objects file id answers) in
-        record {
-          usable = clear_areas w objects w.attachments file request.ioas spans wide stays u.usable;
-          ranges = λ f i. clear_ranges w objects w.attachments file request.ioas spans wide stays f i (u.ranges f i);
-        }
-usable_keeps at w (event.Destroy file id) reply.Done none answers sound u =
-    record {
-      usable = all_filter _ _ w.areas (all_weaker (is_in_usable w) _ w.areas
-          (λ a is. not_false _ (usable_left w.settings w.objects w.attachments w.attachments _ a.file a.ioas a.span
-          sound.own_ids (λ x within. within) (not_true _ is))) u.usable);
-      ranges = λ f i. spans_clear _ _ _ (λ span clear. usable_left w.settings w.objects w.attachments w.attachments _ f
-          i span sound.own_ids (λ x within. within) clear)
-          (ap (list_any (meets_some (bars w f i))) (allowed_without file id w.allowed f i)
-          ∙ clear_if _ (bars w f i) (allowed_of w.allowed f i) [] (λ here. refl) (λ other. u.ranges f i));
-    }
-usable_keeps at w (event.Close file) reply.Done none answers sound u =
-    record {
-      usable = all_filter _ _ w.areas (all_weaker (is_in_usable w) _ w.areas
-          (λ a is. not_false _ (usable_left w.settings w.objects w.attachments
-          (filter (λ (x : Attachment). not (eqb x.file.0 file.0)) w.attachments) _ a.file a.ioas a.span
-          sound.own_ids (λ x within. (in_filter _ w.attachments x within).0) (not_true _ is))) u.usable);
-      ranges = λ f i. spans_clear _ _ _ (λ span clear. usable_left w.settings w.objects w.attachments
-          (filter (λ (x : Attachment). not (eqb x.file.0 file.0)) w.attachments) _ f i span sound.own_ids
-          (λ x within. (in_filter _ w.attachments x within).0) clear)
-          (ap (list_any (meets_some (bars w f i))) (allowed_closed file w.allowed f i)
-          ∙ clear_if _ (bars w f i) (allowed_of w.allowed f i) [] (λ here. refl) (λ other. u.ranges f i));
-    }
-usable_keeps at w (event.UserMap user va) (reply.Frame frame) none answers sound u =
-    record { usable = u.usable; ranges = u.ranges }
-usable_keeps at w (event.UserUnmap user va) reply.Done none answers sound u =
-    record { usable = u.usable; ranges = u.ranges }
-usable_keeps at w (event.UserWrite user va bytes) reply.Done none answers sound u =
-    record { usable = u.usable; ranges = u.ranges }
-usable_keeps at w (event.Bind file device) (reply.Id id) none answers sound u =
-    let object : Object = record { file = file; id = id; kind = kind.Device device } in
-    record {
-      usable = all_weaker (is_in_usable w) _ w.areas
-          (λ a is. not_false _ (usable_object w object a.file a.ioas a.span (each_owed w sound.debts)
-          (unused w.objects file id answers) (no_end object a.file a.ioas a.span refl) (not_true _ is))) u.usable;
-      ranges = λ f i. spans_clear _ _ _ (λ span clear. usable_object w object f i span (each_owed w sound.debts)
-          (unused w.objects file id answers) (no_end object f i span refl) clear) (u.ranges f i);
-    }
-usable_keeps at w (event.Unbind file id) reply.Done none answers sound u =
-    record {
-      usable = all_weaker (is_in_usable w) _ w.areas
-          (λ a is. not_false _ (usable_left w.settings w.objects w.attachments w.attachments _ a.file a.ioas a.span
-          sound.own_ids (λ x within. within) (not_true _ is))) u.usable;
-      ranges = λ f i. spans_clear _ _ _ (λ span clear. usable_left w.settings w.objects w.attachments w.attachments _ f
-          i span sound.own_ids (λ x within. within) clear) (u.ranges f i);
-    }
-usable_keeps at w (event.Attach device pt_id) (reply.Id id) none answers sound u =
-    bound (binding_of w.objects device) refl (device_of w.settings device) refl answers
-  where
-    bound : (object : Option Object) → binding_of w.objects device ≡ object → (settings : Option DeviceSettings)
-        → device_of w.settings device ≡ settings → IsHwptOf w pt_id id object settings
-        → AreasUsable (attach_changes w device pt_id id object settings)
-    bound None is settings known never = absurd never
-    bound (Some object) is None known never = absurd never
-    bound (Some object) is (Some settings) known hwpt = by_kind (kind_of w.objects object.file pt_id) refl hwpt
+module _ {A : Type 0} (at : ℕ) (w : World) (e : Event A) (answer : Reply) (none : refusal w e ≡ None)
+    (answers : Answers w e answer) (sound : IsSound w) (u : AreasUsable w) where
+  area_stands : (a : Area) → IsIn w.areas a → StandsIn w a.file a.ioas a.span
+  area_stands a within = record {
+    clear = not_true _ (of_each (is_in_usable w) w.areas a u.usable within);
+    wide = λ own over spans wide here. wide_areas w own over spans a within wide here;
+  }
+
+  range_stands : (f : FileNo) (i : ObjId) (span : Bounds) → IsIn (allowed_of w.allowed f i) span → StandsIn w f i span
+  range_stands f i span within = record {
+    clear = each_not (meets_some (bars w f i)) (allowed_of w.allowed f i) span (u.ranges f i) within;
+    wide = λ own over spans wide here. each_not (meets_some spans) (allowed_of w.allowed f i) span
+        (wide_ranges w own over spans f i here wide) within;
+  }
+
+  module _ (f : FileNo) (i : ObjId) (span : Bounds) (stands : StandsIn w f i span) where
+    -- an object that comes ends beyond it
+    ends_beyond : (file : FileNo) (k : ObjectKind) → IsWide w file k
+        → ((eqb file.0 f.0 && is_hwpt_over i k) && meets_some (beyond_table k) span) ≡ false
+    ends_beyond file kind.Ioas wide = neither (eqb file.0 f.0)
+    ends_beyond file (kind.Device device) wide = neither (eqb file.0 f.0)
+    ends_beyond file (kind.Hwpt ioas width automatic) (spans, wide) =
+        by_space (eqb file.0 f.0 && eqb ioas.0 i.0) refl
       where
-        each : EachOwed w.objects w.attachments w.areas
-        each = each_owed w sound.debts
+        by_space : (b : Bool) → (eqb file.0 f.0 && eqb ioas.0 i.0) ≡ b
+            → (b && meets_some (beyond width ∷ []) span) ≡ false
+        by_space true is = both_false _ _ (or_false (meets (beyond width) span) (meets_some spans span)
+            (stands.wide file ioas (beyond width ∷ spans) wide (here_too file f ioas i is))).0 refl
+        by_space false is = refl
 
-        attachment : Attachment
-        attachment = record { device = device; file = object.file; hwpt = id }
+    by_objects : (new : World) → ObjectsMove w e answer new
+        → meets_some (unusable w.settings new.objects w.attachments f i) span ≡ false
+    by_objects new (Same is) = rw is stands.clear
+    by_objects new (Fewer stays stay is) =
+        rw is (usable_left w.settings w.objects w.attachments w.attachments stays f i span sound.own_ids
+        (λ a within. within) stands.clear)
+    by_objects new (More object fresh admitted makes is) =
+        rw is (usable_object w object f i span (each_owed w sound.debts)
+        (unused w.objects object.file object.id (fresh answers))
+        (ends_beyond object.file object.kind (admitted none).wide) stands.clear)
 
-        attachments : List Attachment
-        attachments = with_attachment attachment w.attachments
+    by_attachments : (new : World) → AttachmentsMove w e answer new
+        → meets_some (unusable w.settings new.objects w.attachments f i) span ≡ false
+        → meets_some (unusable w.settings new.objects new.attachments f i) span ≡ false
+    by_attachments new (SameAttachments is) clear = rw is clear
+    by_attachments new (FewerAttachments stays is) clear =
+        rw is (usable_still w.settings new.objects new.objects w.attachments (filter stays w.attachments) f i span
+        (λ o within ends. within)
+        (λ a within keeps. (
+          (in_filter stays w.attachments a within).0,
+          (and_true (is_attached_to new.objects f i a) _ keeps).0,
+        ))
+        clear)
+    by_attachments new (OneAttachment a bound binding of_file free served is) clear =
+        let s = served none answers sound.own_ids in
+        rw is (usable_attachment w.settings new.objects w.attachments a s.device s.ioas s.width s.automatic s.table
+        s.known f i span
+        (λ here. (or_false (meets (beyond s.device.width) span) _ (stands.wide a.file s.ioas (beyond s.device.width ∷ reserved_by s.device) s.wide here)).1) clear)
 
-        spans : List Bounds
-        spans = beyond settings.width ∷ reserved_by settings
+    still_clear : (new : World) → Moves at w e answer new
+        → meets_some (unusable w.settings new.objects new.attachments f i) span ≡ false
+    still_clear new m = by_attachments new m.attachments (by_objects new m.objects)
 
-        by_kind : (k : Option ObjectKind) → kind_of w.objects object.file pt_id ≡ k
-            → IsTarget w object.file pt_id id settings.width k
-            → AreasUsable (target_changes w device pt_id id object settings k)
-        by_kind (Some kind.Ioas) space made =
-            let automatic = automatic_hwpt w.objects object.file pt_id settings.width in
-            let table =
-            is_made w object.file pt_id id settings.width automatic sound.own_ids refl made space each.spaces in
-            let passed = attach_passed (view w) device pt_id object is space none in
-            let wide = sym (ap (narrows (view w) object.file pt_id) known) ∙ passed.wide in
-            let objects = with_hwpt object.file pt_id id settings.width automatic w.objects in
-            let stays = usable_attached w device settings object.file pt_id id automatic each table made known in
-            record {
-              usable = all_map _ _ _ w.areas (λ a is. is)
-                  (clear_areas w objects attachments object.file pt_id spans wide stays u.usable);
-              ranges = λ f i. clear_ranges w objects attachments object.file pt_id spans wide stays f i (u.ranges f i);
-            }
-        by_kind (Some (kind.Hwpt ioas width automatic)) named same =
-            let passed = join_passed (view w) device pt_id ioas width automatic object is named none in
-            let wide = sym (ap (narrows (view w) object.file ioas) known) ∙ passed.wide in
-            let stays : StaysUsable w w.objects attachments object.file ioas spans = λ f i span wide clear.
-            usable_attachment w.settings w.objects w.attachments attachment settings ioas width
-            automatic (rw same named) known
-            f i span (λ here. (or_false (meets (beyond settings.width) span) _ (wide here)).1) clear in
-            record {
-              usable = all_map _ _ _ w.areas (λ a is. is)
-                  (clear_areas w w.objects attachments object.file ioas spans wide stays u.usable);
-              ranges = λ f i. clear_ranges w w.objects attachments object.file ioas spans wide stays f i (u.ranges f i);
-            }
-        by_kind k named never = u
-usable_keeps at w (event.Detach device) reply.Done none answers sound u =
-    attached_or_not (attachment_of w.attachments device)
-  where
-    attached_or_not : (a : Option Attachment) → AreasUsable (detach_changes w device a)
-    attached_or_not None = u
-    attached_or_not (Some x) =
-        record {
-          usable = all_map _ _ _ w.areas (λ a is. is)
-              (all_weaker (is_in_usable w) _ w.areas (λ a is. not_false _
-              (usable_left w.settings w.objects w.attachments (without_attachment device w.attachments) _ a.file
-              a.ioas a.span sound.own_ids (λ y within. (in_filter _ w.attachments y within).0)
-              (not_true _ is))) u.usable);
-          ranges = λ f i. spans_clear _ _ _ (λ span clear. usable_left w.settings w.objects w.attachments
-              (without_attachment device w.attachments) _ f i span sound.own_ids
-              (λ y within. (in_filter _ w.attachments y within).0) clear) (u.ranges f i);
-        }
-usable_keeps at w (event.Flush device) reply.Done none answers sound u =
-    record { usable = all_map (is_in_usable w) (is_in_usable w) _ w.areas (λ a is. is) u.usable; ranges = u.ranges }
-usable_keeps at w (event.DeviceWrite device iova bytes) (reply.Passed frame) none answers sound u =
-    record { usable = u.usable; ranges = u.ranges }
-usable_keeps at w e answer none answers sound u = u
+  areas_still : (new : World) → Moves at w e answer new
+      → list_all (λ (a : Area). not (meets_some (unusable w.settings new.objects new.attachments a.file a.ioas) a.span))
+      new.areas ≡ true
+  areas_still new m =
+      all_areas _ (λ phase a here. here) at w e answer new m.areas
+      (λ number file request iova passed lies alike under.
+      let here = (lies none answers).usable in
+      not_false _ (rw (alike.objects, alike.attachments) here))
+      (of_all _ w.areas (λ a within. not_false _ (still_clear a.file a.ioas a.span (area_stands a within) new m)))
+
+  old_ranges : (new : World) → Moves at w e answer new → (f : FileNo) (i : ObjId)
+      → list_any (meets_some (unusable w.settings new.objects new.attachments f i)) (allowed_of w.allowed f i) ≡ false
+  old_ranges new m f i =
+      none_of _ (allowed_of w.allowed f i) (λ span within. still_clear f i span (range_stands f i span within) new m)
+
+  ranges_still : (new : World) → Moves at w e answer new → AllowedMove w e new → (f : FileNo) (i : ObjId)
+      → list_any (meets_some (unusable w.settings new.objects new.attachments f i)) (allowed_of new.allowed f i) ≡ false
+  ranges_still new m (SameAllowed is) f i = rw is (old_ranges new m f i)
+  ranges_still new m (FewerAllowed stays gone is) f i =
+      rw is (ap (list_any (meets_some (unusable w.settings new.objects new.attachments f i))) (gone f i).1
+      ∙ clear_if (gone f i).0 (unusable w.settings new.objects new.attachments f i) (allowed_of w.allowed f i) []
+      (λ here. refl) (λ here. old_ranges new m f i))
+  ranges_still new m (Allows file ioas ranges passed alike is) f i =
+      rw (alike.objects, alike.attachments, is) (allowed_clear w file ioas ranges f i (passed none).usable (u.ranges f i))
+
+  usable_keeps : AreasUsable (changed at w e answer)
+  usable_keeps =
+      let new : World = changed at w e answer in
+      let m = changed_moves at w e answer in
+      record {
+        usable = rw m.settings (areas_still new m);
+        ranges = λ f i. rw m.settings (ranges_still new m m.allowed f i);
+      }
 
 -- with ids and debts
 pub record UsableSound (w : World) : Type 0 where

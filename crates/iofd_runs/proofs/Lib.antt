@@ -1,5 +1,6 @@
 pub mod AttachMoves
 pub mod AttachedPages
+pub mod Branches
 pub mod CopiedPages
 pub mod CopySource
 pub mod KeepsApart
@@ -16,14 +17,18 @@ pub mod Known
 pub mod MappedAt
 pub mod MappedPages
 pub mod MissingTables
+pub mod Moves
 pub mod NotRefused
 pub mod ObjectsGo
 pub mod OwnIds
+pub mod PagesToPin
 pub mod PinnedAccess
 pub mod RisingLists
 pub mod Runs
 pub mod SamePages
 pub mod SameSettings
 pub mod SameTables
+pub mod Served
 pub mod StillTabled
 pub mod TableCounts
+pub mod TableEvents

@@ -1,54 +1,44 @@
 -- What an event leaves of the tables: where it makes no page table and no live area, none is missing after it; where it
 -- takes no page table away, each row stays with its page table. Then its record takes and gives no frames.
-use Rattle.std.proofs.Common.{length, ◌≡◌, ℕ, ◌-◌, map, Bool, true, false, cond, ◌&&◌, ◌||◌, not, eqb, is_some, Option}
+use Rattle.std.proofs.Common.{length, ◌≡◌, ℕ, ◌-◌, map, Bool, true, false, cond, ◌&&◌, ◌||◌, not, eqb, Option}
 use Rattle.std.proofs.Common.{Some, None, List, [], ◌∷◌, refl, ap, sym, ◌∙◌, inl, inr, ⊎_elim, subst}
-use Rattle.std.specs.List.{filter, find, flat_map, list_all, list_any}
+use Rattle.std.specs.List.{filter, flat_map, list_all, list_any}
 use Rattle.std.proofs.lemmas.List.Folds.{list_all-append}
-use Rattle.iofd_words.specs.After.{attach_changes, attached, changed, copy_changes, detach_changes, detached, goes_with}
-use Rattle.iofd_words.specs.After.{hwpt_changes, joined, made_hwpt, map_changes, settle, target_changes, with_hwpt}
-use Rattle.iofd_words.specs.After.{without_areas}
-use Rattle.iofd_words.specs.Answers.{Answers, IsHwptFor, IsHwptOf, IsTarget}
-use Rattle.iofd_words.specs.Areas.{all_paid, areas_of, is_of, is_touched, leaving, paid, with_leaving, with_phase}
-use Rattle.iofd_words.specs.Attachments.{attachment_of, devices_of, without_attachment}
-use Rattle.iofd_words.specs.Copies.{source_in}
-use Rattle.iofd_words.specs.Files.{device_of, user_of}
+use Rattle.iofd_words.specs.After.{changed}
+use Rattle.iofd_words.specs.Answers.{Answers}
+use Rattle.iofd_words.specs.Areas.{all_paid, areas_of, is_of, paid, with_phase}
 use Rattle.iofd_words.specs.Levels.{levels_of}
-use Rattle.iofd_words.specs.Objects.{automatic_hwpt, binding_of, is_bound_device, is_hwpt, is_ioas, is_object, kind_of}
-use Rattle.iofd_words.specs.Objects.{settings_under, with_object}
-use Rattle.iofd_words.specs.Settings.{DeviceSettings}
+use Rattle.iofd_words.specs.Objects.{is_hwpt, kind_of}
+use Rattle.iofd_words.specs.Objects.{with_object}
 use Rattle.iofd_words.specs.TablePlaces.{TablePlace, has_table, is_live, is_place, is_table_of, live_pages, pages_in}
 use Rattle.iofd_words.specs.TablePlaces.{place_of, places_from}
 use Rattle.iofd_words.specs.Tables.{MovesTables, are_rising, is_among, is_orphan, kept_tables, may_go, missing_tables}
 use Rattle.iofd_words.specs.World.{World}
 use Rattle.iofd_words.specs.declared.event.Event.{Event}
-use Rattle.iofd_words.specs.declared.event.Event.TheVariants as event
-use Rattle.iofd_words.specs.declared.event.UnmapRequest.{UnmapRequest}
 use Rattle.iofd_words.specs.declared.numbers.DeviceNo.{DeviceNo}
 use Rattle.iofd_words.specs.declared.numbers.FileNo.{FileNo}
 use Rattle.iofd_words.specs.declared.numbers.FrameNo.{FrameNo}
 use Rattle.iofd_words.specs.declared.numbers.ObjId.{ObjId}
-use Rattle.iofd_words.specs.declared.numbers.UserNo.{UserNo}
 use Rattle.iofd_words.specs.declared.reply.Reply.{Reply}
-use Rattle.iofd_words.specs.declared.reply.Reply.TheVariants as reply
 use Rattle.iofd_words.specs.declared.rows.Area.{Area}
-use Rattle.iofd_words.specs.declared.rows.Attachment.{Attachment}
 use Rattle.iofd_words.specs.declared.rows.Object.{Object}
 use Rattle.iofd_words.specs.declared.rows.ObjectKind.{ObjectKind}
 use Rattle.iofd_words.specs.declared.rows.ObjectKind.TheVariants as kind
 use Rattle.iofd_words.specs.declared.rows.Phase.{Phase}
-use Rattle.iofd_words.specs.declared.rows.Phase.TheVariants.{Live, Leaving}
 use Rattle.iofd_words.specs.declared.rows.TableFrame.{TableFrame}
 use Rattle.iofd_rows.specs.Ids.{have_own_ids}
 use Rattle.iofd_rows.proofs.Bools.{and_true, both_true}
-use Rattle.iofd_rows.proofs.Each.{IsIn, found_kept, in_filter, in_found, in_map, in_with_object, of_all, of_each}
-use Rattle.iofd_rows.proofs.Found.{all_weaker, found_passes}
-use Rattle.iofd_rows.proofs.ListTests.{any-filter, any_of_all, filter_all, or_left}
-use Rattle.iofd_rows.proofs.Moves.{device_is}
-use Rattle.iofd_rows.proofs.Named.{file_is, id_is, kind_before, kind_kept, kind_only}
+use Rattle.iofd_rows.proofs.Each.{IsIn, in_filter, in_map, in_with_object, of_all, of_each}
+use Rattle.iofd_rows.proofs.Found.{all_weaker}
+use Rattle.iofd_rows.proofs.ListTests.{any-filter, any_of_all, or_left}
+use Rattle.iofd_rows.proofs.Named.{file_is, id_is, kind_only}
 use Rattle.iofd_runs.proofs.MissingTables.{all_needed, has_needed, is_owned, needed_places, none_missing}
 use Rattle.iofd_runs.proofs.OwnIds.{unused}
 use Rattle.iofd_runs.proofs.SameTables.{same_tables}
 use Rattle.iofd_runs.specs.Tabled.{AreTabled}
+use Rattle.iofd_runs.proofs.Moves.{AreasMove, Fewer, FewerAreas, More, ObjectsMove, OneArea, OtherPhases, Same, SameAreas, changed_moves}
+use Rattle.iofd_runs.proofs.TableEvents.{HwptsStay, paid_live, stay_same, stay_with}
+pub use Rattle.iofd_runs.proofs.TableEvents.{MakesNone, TakesNone, finds_table, leaves_table}
 
 -- ---- what is in lists
 
@@ -164,22 +154,7 @@ live_phases phase areas lived area within live =
     )
 
 pub live_paid : (device : DeviceNo) (areas : List Area) → LiveIn areas (all_paid device areas)
-live_paid device areas = live_phases (λ area. paid device area.phase) areas (λ area live. was area.phase live)
-  where
-    was : (phase : Phase) → is_live (paid device phase) ≡ true → is_live phase ≡ true
-    was Live live = refl
-    was (Leaving owed tries) live = live
-
-pub live_leaving : (areas : List Area) (attached : List ℕ) (file : FileNo) (request : UnmapRequest)
-    → LiveIn areas (with_leaving areas attached file request)
-live_leaving areas attached file request =
-    live_phases (λ area. cond (is_touched file request area) (leaving attached area.phase) area.phase) areas
-    (λ area live. was (is_touched file request area) area.phase live)
-  where
-    was : (b : Bool) (phase : Phase) → is_live (cond b (leaving attached phase) phase) ≡ true → is_live phase ≡ true
-    was false phase live = live
-    was true Live live = refl
-    was true (Leaving owed tries) live = live
+live_paid device areas = live_phases (λ area. paid device area.phase) areas (λ area live. paid_live device area.phase live)
 
 -- ---- objects
 
@@ -200,127 +175,27 @@ hwpts_other object objects other o within is =
     false_true : false ≡ true → ⊥
     false_true is = cc
 
--- ---- each event that makes no page table
-
--- an attachment finds its page table: the one that it names, or the automatic one of its width
-abbrev pub finds_table : List Object → ObjId → Option Object → Option DeviceSettings → Bool
-finds_table objects pt_id None settings = true
-finds_table objects pt_id (Some bound) None = true
-finds_table objects pt_id (Some bound) (Some d) =
-    not (elim (kind_of objects bound.file pt_id) [ Some kind ↦ is_ioas kind | None ↦ false ])
-    || is_some (automatic_hwpt objects bound.file pt_id d.width)
-
--- an event that makes no page table and no live area
-abbrev pub MakesNone : {A : Type 0} → World → Event A → Type 0
-MakesNone w (event.Map file request) = ⊥
-MakesNone w (event.Copy file request) = ⊥
-MakesNone w (event.HwptAlloc file request) = ⊥
-MakesNone w (event.Attach device pt_id) =
-    finds_table w.objects pt_id (binding_of w.objects device) (device_of w.settings device) ≡ true
-MakesNone w e = Unit {0}
-
--- what comes of the objects and areas
-record StayWithin (w left : World) : Type 0 where
-  hwpts : HwptsIn w.objects left.objects
-  lived : LiveIn w.areas left.areas
-
-attach_within : (w : World) (device : DeviceNo) (pt_id id : ObjId) (bound : Option Object)
-    (settings : Option DeviceSettings) → finds_table w.objects pt_id bound settings ≡ true
-    → StayWithin w (attach_changes w device pt_id id bound settings)
-unfolding settle attached joined
-attach_within w device pt_id id None settings finds = record { hwpts = hwpts_same w.objects; lived = live_same w.areas }
-attach_within w device pt_id id (Some bound) None finds =
-    record { hwpts = hwpts_same w.objects; lived = live_same w.areas }
-attach_within w device pt_id id (Some bound) (Some d) finds = by_kind (kind_of w.objects bound.file pt_id) finds
-  where
-    by_table : (o : Option Object) → is_some o ≡ true
-        → HwptsIn w.objects (with_hwpt bound.file pt_id id d.width o w.objects)
-    by_table (Some object) some = hwpts_same w.objects
-    by_table None some = cc
-
-    by_kind : (k : Option ObjectKind) → (not (elim k [ Some kind ↦ is_ioas kind | None ↦ false ])
-        || is_some (automatic_hwpt w.objects bound.file pt_id d.width)) ≡ true
-        → StayWithin w (target_changes w device pt_id id bound d k)
-    by_kind (Some kind.Ioas) finds = record {
-      hwpts = by_table (automatic_hwpt w.objects bound.file pt_id d.width)
-          finds;
-      lived = live_paid device w.areas;
-    }
-    by_kind (Some (kind.Hwpt ioas width automatic)) finds =
-        record { hwpts = hwpts_same w.objects; lived = live_paid device w.areas }
-    by_kind (Some (kind.Device other)) finds = record { hwpts = hwpts_same w.objects; lived = live_same w.areas }
-    by_kind None finds = record { hwpts = hwpts_same w.objects; lived = live_same w.areas }
-
-detach_within : (w : World) (device : DeviceNo) (a : Option Attachment) → StayWithin w (detach_changes w device a)
-unfolding settle detached
-detach_within w device None = record { hwpts = hwpts_same w.objects; lived = live_same w.areas }
-detach_within w device (Some a) = record {
-  hwpts = hwpts_fewer
-      (λ object. not (goes_with (without_attachment device w.attachments) a object)) w.objects;
-  lived = live_paid device w.areas;
-}
-
-changed_within : {A : Type 0} → (at : ℕ) (w : World) (e : Event A) (answer : Reply) → MakesNone w e
-    → StayWithin w (changed at w e answer)
-unfolding changed settle without_areas
-changed_within at w (event.IoasAlloc file) (reply.Id id) makes =
-    record {
-      hwpts = hwpts_other (record { file = file; id = id; kind = kind.Ioas }) w.objects refl;
-      lived = live_same w.areas;
-    }
-changed_within at w (event.Map file request) answer makes = absurd makes
-changed_within at w (event.Copy file request) answer makes = absurd makes
-changed_within at w (event.HwptAlloc file request) answer makes = absurd makes
-changed_within at w (event.Unmap file request) (reply.Bytes count) makes =
-    record { hwpts = hwpts_same w.objects; lived = live_fewer (λ area. not (is_touched file request area)) w.areas }
-changed_within at w (event.Unmap file request) (reply.Pending errno) makes =
-    record {
-      hwpts = hwpts_same w.objects;
-      lived = live_leaving w.areas
-          (devices_of w.objects w.attachments file request.ioas) file request;
-    }
-changed_within at w (event.Destroy file id) reply.Done makes =
-    record {
-      hwpts = hwpts_fewer (λ object. not (is_object file id object)) w.objects;
-      lived = live_fewer (λ area. not (is_of file id area)) w.areas;
-    }
-changed_within at w (event.Close file) reply.Done makes =
-    record {
-      hwpts = hwpts_fewer (λ object. not (eqb object.file.0 file.0)) w.objects;
-      lived = live_fewer (λ area. not (eqb area.file.0 file.0)) w.areas;
-    }
-changed_within at w (event.Bind file device) (reply.Id id) makes =
-    record {
-      hwpts = hwpts_other (record { file = file; id = id; kind = kind.Device device }) w.objects refl;
-      lived = live_same w.areas;
-    }
-changed_within at w (event.Unbind file id) reply.Done makes =
-    record { hwpts = hwpts_fewer _ w.objects; lived = live_same w.areas }
-changed_within at w (event.Attach device pt_id) (reply.Id id) makes =
-    attach_within w device pt_id id (binding_of w.objects device) (device_of w.settings device) makes
-changed_within at w (event.Detach device) reply.Done makes = detach_within w device (attachment_of w.attachments device)
-changed_within at w (event.Flush device) reply.Done makes =
-    record { hwpts = hwpts_same w.objects; lived = live_paid device w.areas }
-changed_within at w (event.UserMap user va) (reply.Frame frame) makes =
-    record { hwpts = hwpts_same w.objects; lived = live_same w.areas }
-changed_within at w (event.AllowIovas file ioas ranges) reply.Done makes =
-    record { hwpts = hwpts_same w.objects; lived = live_same w.areas }
-changed_within at w (event.UserUnmap user va) reply.Done makes =
-    record { hwpts = hwpts_same w.objects; lived = live_same w.areas }
-changed_within at w (event.UserWrite user va bytes) reply.Done makes =
-    record { hwpts = hwpts_same w.objects; lived = live_same w.areas }
-changed_within at w (event.DeviceWrite device iova bytes) (reply.Passed frame) makes =
-    record { hwpts = hwpts_same w.objects; lived = live_same w.areas }
-changed_within at w e answer makes = record { hwpts = hwpts_same w.objects; lived = live_same w.areas }
+-- ---- after an event that makes no page table and no live area
 
 -- none is missing after it
 pub none_after : {A : Type 0} → (at : ℕ) (w : World) (e : Event A) (answer : Reply) → MakesNone w e
     → missing_tables w.objects w.areas w.table_frames ≡ []
     → missing_tables (changed at w e answer).objects (changed at w e answer).areas w.table_frames ≡ []
 none_after at w e answer makes none =
-    let within = changed_within at w e answer makes in
     still_none_missing w.objects (changed at w e answer).objects w.areas (changed at w e answer).areas w.table_frames
-    within.hwpts within.lived none
+    (hwpts (changed at w e answer) (changed_moves at w e answer).objects)
+    (lived (changed at w e answer) (changed_moves at w e answer).areas) none
+  where
+    hwpts : (new : World) → ObjectsMove w e answer new → HwptsIn w.objects new.objects
+    hwpts new (Same is) = rw is (hwpts_same w.objects)
+    hwpts new (Fewer stays stay is) = rw is (hwpts_fewer stays w.objects)
+    hwpts new (More object fresh admitted other is) = rw is (hwpts_other object w.objects (other makes))
+
+    lived : (new : World) → AreasMove at w e answer new → LiveIn w.areas new.areas
+    lived new (SameAreas is same) = rw is (live_same w.areas)
+    lived new (FewerAreas goes is left) = rw is (live_fewer (λ (a : Area). not (goes a)) w.areas)
+    lived new (OtherPhases phase lives is same) = rw is (live_phases phase w.areas lives)
+    lived new (OneArea number file request iova passed lies never alike is under) = absurd (never makes)
 
 -- by the kind of its page table
 pub orphan_is : (objects : List Object) (table : TableFrame) (o : Option ObjectKind)
@@ -372,12 +247,7 @@ none_kept left areas given tables own only none =
             (and_true (is_table_of o.file o.id table) (is_place (place_of table) place) passes).0) passes)
             only has
 
--- ---- no page table goes
-
--- each page table is one still
-abbrev pub HwptsStay : List Object → List Object → Type 0
-HwptsStay objects left = (file : FileNo) (id : ObjId) (k : ObjectKind) → is_hwpt k ≡ true
-    → kind_of objects file id ≡ Some k → kind_of left file id ≡ Some k
+-- ---- after an event that takes no page table away
 
 pub still_owned : (objects left : List Object) (tables : List TableFrame) → HwptsStay objects left
     → list_all (is_owned objects) tables ≡ true → list_all (is_owned left) tables ≡ true
@@ -395,163 +265,19 @@ still_owned objects left tables stay all =
         ap not (orphan_is left table (Some k) (stay table.file table.hwpt k (not_not _ own) is)) ∙ own
     by_kind table None is own = cc
 
-pub stay_same : (objects : List Object) → HwptsStay objects objects
-stay_same objects file id k is found = found
-
-pub stay_with : (object : Object) (objects : List Object) → list_any (is_object object.file object.id) objects ≡ false
-    → HwptsStay objects (with_object object objects)
-stay_with object objects free file id k is found = kind_before object objects file id k free found
-
-pub stay_fewer : (q : Object → Bool) (objects : List Object)
-    → ((object : Object) → is_hwpt object.kind ≡ true → kind_of objects object.file object.id ≡ Some object.kind
-    → q object ≡ true) → HwptsStay objects (filter q objects)
-stay_fewer q objects keeps file id k is found =
-    kind_kept q objects file id k (λ object of_file of_id of_kind. keeps object (ap is_hwpt of_kind ∙ is)
-    (rw (of_file, of_id, of_kind) found)) found
-
--- by a test of each object
-stay_listed : (q : Object → Bool) (objects : List Object)
-    → list_all (λ object. not (is_hwpt object.kind) || q object) objects ≡ true → HwptsStay objects (filter q objects)
-stay_listed q objects keeps file id k is found = by_found (find (is_object file id) objects) refl found
-  where
-    by_found : (o : Option Object) → find (is_object file id) objects ≡ o
-        → elim o [ Some object ↦ Some object.kind | None ↦ None ] ≡ Some k → kind_of (filter q objects) file id ≡ Some k
-    by_found None at is_kind = cc
-    by_found (Some object) at is_kind =
-        let of_kind : object.kind ≡ k = cc in
-        let kept = found_passes (λ object. not (is_hwpt object.kind) || q object) (is_object file id)
-        objects object keeps at in
-        let stays : q object ≡ true = rw (ap is_hwpt of_kind ∙ is) at kept.0 in
-        ap (λ (o : Option Object). elim o [ Some object ↦ Some object.kind | None ↦ None ])
-        (found_kept (is_object file id) q objects object at stays) ∙ is_kind
-
--- the page table of an attachment stays when it ends
-abbrev pub leaves_table : List Object → List Attachment → Option Attachment → Bool
-leaves_table objects attachments None = true
-leaves_table objects attachments (Some a) =
-    list_all (λ object. not (goes_with (without_attachment a.device attachments) a object)) objects
-
--- an event that takes no page table away
-abbrev pub TakesNone : {A : Type 0} → World → Event A → Type 0
-TakesNone w (event.Destroy file id) =
-    elim (kind_of w.objects file id) [ Some kind ↦ is_hwpt kind | None ↦ false ] ≡ false
-TakesNone w (event.Close file) =
-    list_all (λ object. not (eqb object.file.0 file.0 && is_hwpt object.kind)) w.objects ≡ true
-TakesNone w (event.Detach device) = leaves_table w.objects w.attachments (attachment_of w.attachments device) ≡ true
-TakesNone w e = Unit {0}
-
-attach_owned : (w : World) (device : DeviceNo) (pt_id id : ObjId) (bound : Option Object)
-    (settings : Option DeviceSettings) → IsHwptOf w pt_id id bound settings
-    → HwptsStay w.objects (attach_changes w device pt_id id bound settings).objects
-unfolding settle attached joined
-attach_owned w device pt_id id None settings answers = absurd answers
-attach_owned w device pt_id id (Some bound) None answers = absurd answers
-attach_owned w device pt_id id (Some bound) (Some d) answers = by_kind (kind_of w.objects bound.file pt_id) answers
-  where
-    by_table : (o : Option Object) → IsHwptFor w bound.file id o
-        → HwptsStay w.objects (with_hwpt bound.file pt_id id d.width o w.objects)
-    by_table (Some object) made = stay_same w.objects
-    by_table None made = stay_with (record { file = bound.file; id = id; kind = kind.Hwpt pt_id d.width true })
-        w.objects (unused w.objects bound.file id made)
-
-    by_kind : (k : Option ObjectKind) → IsTarget w bound.file pt_id id d.width k
-        → HwptsStay w.objects (target_changes w device pt_id id bound d k).objects
-    by_kind (Some kind.Ioas) made = by_table (automatic_hwpt w.objects bound.file pt_id d.width) made
-    by_kind (Some (kind.Hwpt ioas width automatic)) made = stay_same w.objects
-    by_kind (Some (kind.Device other)) never = absurd never
-    by_kind None never = absurd never
-
-detach_stays : (w : World) (device : DeviceNo) (a : Option Attachment) → attachment_of w.attachments device ≡ a
-    → leaves_table w.objects w.attachments a ≡ true → HwptsStay w.objects (detach_changes w device a).objects
-unfolding settle detached
-detach_stays w device None is leaves = stay_same w.objects
-detach_stays w device (Some a) is leaves =
-    let of : a.device ≡ device =
-    device_is a.device device (in_found (λ (b : Attachment). eqb b.device.0 device.0) w.attachments a is).1 in
-    rw (← of) (subst (HwptsStay w.objects) (sym
-    (filter_all (λ object. not (goes_with (without_attachment a.device w.attachments) a object)) w.objects
-    leaves)) (stay_same w.objects))
-
-hwpts_stay : {A : Type 0} → (at : ℕ) (w : World) (e : Event A) (answer : Reply) → Answers w e answer → TakesNone w e
-    → HwptsStay w.objects (changed at w e answer).objects
-unfolding changed settle without_areas Answers
-hwpts_stay at w (event.IoasAlloc file) (reply.Id id) answers takes =
-    stay_with (record { file = file; id = id; kind = kind.Ioas }) w.objects (unused w.objects file id answers)
-hwpts_stay at w (event.Map file request) (reply.Iova iova) answers takes = mapped (user_of w.settings file)
-  where
-    mapped : (user : Option UserNo) → HwptsStay w.objects (map_changes at w file request iova user).objects
-    mapped None = stay_same w.objects
-    mapped (Some user) = stay_same w.objects
-hwpts_stay at w (event.Copy file request) (reply.Iova iova) answers takes =
-    copied (source_in (areas_of w.areas file request.src_ioas) request)
-  where
-    copied : (source : Option Area) → HwptsStay w.objects (copy_changes w file request iova source).objects
-    copied None = stay_same w.objects
-    copied (Some source) = stay_same w.objects
-hwpts_stay at w (event.Unmap file request) (reply.Bytes count) answers takes = stay_same w.objects
-hwpts_stay at w (event.Unmap file request) (reply.Pending errno) answers takes = stay_same w.objects
-hwpts_stay at w (event.HwptAlloc file request) (reply.Id id) answers takes =
-    made (settings_under w.settings w.objects file request.device)
-  where
-    made : (settings : Option DeviceSettings)
-        → HwptsStay w.objects (hwpt_changes w file request.ioas id settings).objects
-    made None = stay_same w.objects
-    made (Some settings) =
-        stay_with (made_hwpt file request.ioas id settings) w.objects (unused w.objects file id answers)
-hwpts_stay at w (event.Destroy file id) reply.Done answers takes =
-    stay_fewer (λ object. not (is_object file id object)) w.objects
-    (λ object is found. by_name object is found (is_object file id object) refl)
-  where
-    by_name : (object : Object) → is_hwpt object.kind ≡ true
-        → kind_of w.objects object.file object.id ≡ Some object.kind → (b : Bool) → is_object file id object ≡ b
-        → not b ≡ true
-    by_name object is found true named =
-        let names = and_true (eqb object.file.0 file.0) (eqb object.id.0 id.0) named in
-        let here = ap (λ f. kind_of w.objects f id) (sym (file_is object.file file names.0))
-        ∙ ap (kind_of w.objects object.file) (sym (id_is object.id id names.1)) ∙ found in
-        let other : is_hwpt object.kind ≡ false =
-        sym (ap (λ (o : Option ObjectKind). elim o [ Some kind ↦ is_hwpt kind | None ↦ false ]) here) ∙ takes in
-        cc
-    by_name object is found false named = refl
-hwpts_stay at w (event.Close file) reply.Done answers takes =
-    stay_listed (λ object. not (eqb object.file.0 file.0)) w.objects
-    (all_weaker _ (λ object. not (is_hwpt object.kind) || not (eqb object.file.0 file.0)) w.objects
-    (λ object none. either (eqb object.file.0 file.0) (is_hwpt object.kind) none) takes)
-  where
-    either : (a b : Bool) → not (a && b) ≡ true → (not b || not a) ≡ true
-    either true true none = none
-    either true false none = refl
-    either false true none = refl
-    either false false none = refl
-hwpts_stay at w (event.Bind file device) (reply.Id id) answers takes =
-    stay_with (record { file = file; id = id; kind = kind.Device device }) w.objects (unused w.objects file id answers)
-hwpts_stay at w (event.Unbind file id) reply.Done answers takes =
-    stay_fewer (λ object. not (is_object file id object && is_bound_device object.kind)) w.objects
-    (λ object is found. by_kind (is_object file id object) object.kind is)
-  where
-    by_kind : (b : Bool) (k : ObjectKind) → is_hwpt k ≡ true → not (b && is_bound_device k) ≡ true
-    by_kind true (kind.Hwpt ioas width automatic) is = refl
-    by_kind true kind.Ioas is = refl
-    by_kind true (kind.Device device) is = cc
-    by_kind false k is = refl
-hwpts_stay at w (event.Attach device pt_id) (reply.Id id) answers takes =
-    attach_owned w device pt_id id (binding_of w.objects device) (device_of w.settings device) answers
-hwpts_stay at w (event.Detach device) reply.Done answers takes =
-    detach_stays w device (attachment_of w.attachments device) refl takes
-hwpts_stay at w (event.UserMap user va) (reply.Frame frame) answers takes = stay_same w.objects
-hwpts_stay at w (event.AllowIovas file ioas ranges) reply.Done answers takes = stay_same w.objects
-hwpts_stay at w (event.UserUnmap user va) reply.Done answers takes = stay_same w.objects
-hwpts_stay at w (event.UserWrite user va bytes) reply.Done answers takes = stay_same w.objects
-hwpts_stay at w (event.Flush device) reply.Done answers takes = stay_same w.objects
-hwpts_stay at w (event.DeviceWrite device iova bytes) (reply.Passed frame) answers takes = stay_same w.objects
-hwpts_stay at w e answer answers takes = stay_same w.objects
-
 -- each row is of a page table that is there after it
 pub owned_after : {A : Type 0} → (at : ℕ) (w : World) (e : Event A) (answer : Reply) → Answers w e answer
     → TakesNone w e → list_all (is_owned w.objects) w.table_frames ≡ true
     → list_all (is_owned (changed at w e answer).objects) w.table_frames ≡ true
 owned_after at w e answer answers takes all =
-    still_owned w.objects (changed at w e answer).objects w.table_frames (hwpts_stay at w e answer answers takes) all
+    still_owned w.objects (changed at w e answer).objects w.table_frames
+    (by_move (changed at w e answer) (changed_moves at w e answer).objects) all
+  where
+    by_move : (new : World) → ObjectsMove w e answer new → HwptsStay w.objects new.objects
+    by_move new (Same is) = rw is (stay_same w.objects)
+    by_move new (Fewer stays stay is) = rw is (stay takes)
+    by_move new (More object fresh admitted other is) =
+        rw is (stay_with object w.objects (unused w.objects object.file object.id (fresh answers)))
 
 -- ---- then no frames move
 

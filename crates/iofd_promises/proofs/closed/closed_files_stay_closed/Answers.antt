@@ -7,7 +7,7 @@ use Rattle.iofd_words.specs.declared.numbers.FileNo.{FileNo}
 use Rattle.iofd_words.specs.declared.reply.Reply.TheVariants as reply
 use Rattle.iofd_rows.proofs.Each.{IsIn}
 use Rattle.iofd_promises.proofs.ClosedFiles.{stays_closed}
-use Rattle.iofd_promises.proofs.Moves.{changed_moves}
+use Rattle.iofd_runs.proofs.Moves.{changed_moves}
 use Rattle.iofd_promises.proofs.Rows.{contains, within}
 use Rattle.iofd_promises.proofs.Steps.{by_event, by_record}
 use Rattle.iofd_promises.proofs.closed.closed_files_stay_closed.Goals as goal
@@ -28,4 +28,4 @@ returns-clause-stays g c = λ settings before r file run has.
     let w = world_of settings before in
     by_record settings before r run (λ new. Contains new.closed file) (λ cause is told. has)
     (λ none answers moves. contains _ file (stays_closed w (changed (length before) w r.event r.reply) file
-    (changed_moves (length before) w r.event r.reply none answers).files (within w.closed file has)))
+    (changed_moves (length before) w r.event r.reply).files (within w.closed file has)))

@@ -3,7 +3,7 @@ use Rattle.iofd_words.specs.Run.{world_of}
 use Rattle.iofd_words.specs.Tables.{with_tables}
 use Rattle.iofd_promises.specs.Owners.{IsUsersPage}
 use Rattle.iofd_rows.proofs.Each.{IsIn}
-use Rattle.iofd_promises.proofs.Moves.{changed_moves}
+use Rattle.iofd_runs.proofs.Moves.{changed_moves}
 use Rattle.iofd_promises.proofs.NewPins.{pin_from}
 use Rattle.iofd_promises.proofs.Rows.{contains, within}
 use Rattle.iofd_promises.proofs.Steps.{by_record}
@@ -29,5 +29,5 @@ returns g c = λ settings before r pin run.
       of_page = users.of_page;
       of_frame = users.of_frame;
     }))
-    (pin_from w pin (changed (length before) w r.event r.reply)
-    (changed_moves (length before) w r.event r.reply none answers).pins (within _ pin has)))
+    (pin_from w pin (length before) r.event (changed (length before) w r.event r.reply)
+    (changed_moves (length before) w r.event r.reply).pins (within _ pin has)))

@@ -3,7 +3,8 @@ use Rattle.iofd_words.specs.Files.{numbered}
 use Rattle.iofd_words.specs.Run.{world_of}
 use Rattle.iofd_promises.proofs.Facts.{widths_of}
 use Rattle.iofd_promises.proofs.Rows.{within}
-use Rattle.iofd_promises.proofs.Widths.{one_width, row_kind}
+use Rattle.iofd_rows.proofs.Named.{row_kind}
+use Rattle.iofd_rows.proofs.Widths.{one_width}
 use Rattle.iofd_promises.proofs.isolation.page_tables_have_their_devices_width.Goals as goal
 
 pub returns : goal.returns
