@@ -18,6 +18,7 @@ pub mod MappedPages
 pub mod MissingTables
 pub mod NotRefused
 pub mod ObjectsGo
+pub mod OneMore
 pub mod OwnIds
 pub mod PinnedAccess
 pub mod RisingLists
