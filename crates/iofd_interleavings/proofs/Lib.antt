@@ -1,4 +1,6 @@
+pub mod Allowed
 pub mod Interleaved
+pub mod KeepsSound
 pub mod OneUser
 pub mod Passes
 pub mod RunsAreSteps

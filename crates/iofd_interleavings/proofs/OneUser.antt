@@ -1,6 +1,6 @@
 -- The users' pages and the pins that have one frame are of one user.
-use Rattle.std.proofs.Common.{◌≡◌, ◌<◌, ℕ, ◌+◌, Bool, true, false, ◌||◌, not, eqb, ltb, Option, Some}
-use Rattle.std.proofs.Common.{None, List, [], ◌∷◌, ◌++◌, length, refl, sym, ap, ◌∙◌, subst, arith, ◌⊎◌, inl, inr, ⊎_elim}
+use Rattle.std.proofs.Common.{◌≡◌, ◌<◌, ℕ, ◌+◌, Bool, true, false, ◌||◌, not, eqb, ltb, Option, Some, None, List, []}
+use Rattle.std.proofs.Common.{◌∷◌, ◌++◌, length, refl, sym, ap, ◌∙◌, subst, arith, ◌⊎◌, inl, inr, ⊎_elim}
 use Rattle.std.specs.List.{list_any}
 use Rattle.std.proofs.lemmas.Bool.Decides.{nat_tests}
 use Rattle.iofd_words.specs.After.{attach_changes, attached, changed, copy_changes, detach_changes, detached}
@@ -46,7 +46,7 @@ use Rattle.iofd_promises.proofs.Lists.{in_append}
 use Rattle.iofd_promises.proofs.Moves.{FewerPages, MemoryMoves, OnePage, SameMemory, Written, changed_moves}
 use Rattle.iofd_promises.proofs.NewPins.{pin_from}
 use Rattle.iofd_promises.proofs.Rows.{contains, within}
-use Rattle.iofd_interleavings.specs.Interleavings.{AreOfOneUser, IsPageAt, IsPinAt, IsUsedBy}
+use Rattle.iofd_interleavings.specs.FramesApart.{AreOfOneUser, IsPageAt, IsPinAt, IsUsedBy}
 
 -- ---- memory objects
 

@@ -1,6 +1,6 @@
 -- In a world of a run, an access that has an entry with the right in a sound set passes at the entry's frame.
-use Rattle.std.proofs.Common.{◌≡◌, ◌<◌, ◌≤◌, ℕ, ◌^◌, ◌+◌, ◌-◌, ◌*◌, ◌/◌, ◌%◌, Bool, true, false, cond, ◌&&◌, ◌||◌}
-use Rattle.std.proofs.Common.{eqb, leb, ltb, Option, Some, None, is_none, List, [], ◌∷◌, ◌++◌, refl, ap, sym, ◌∙◌, subst}
+use Rattle.std.proofs.Common.{◌≡◌, ◌<◌, ◌≤◌, ℕ, ◌^◌, ◌+◌, ◌-◌, ◌*◌, ◌/◌, ◌%◌, Bool, true, false, cond, ◌&&◌, ◌||◌, eqb}
+use Rattle.std.proofs.Common.{leb, ltb, Option, Some, None, is_none, List, [], ◌∷◌, ◌++◌, refl, ap, sym, ◌∙◌, subst}
 use Rattle.std.proofs.Common.{arith, inl}
 use Rattle.std.specs.List.{list_all, list_any}
 use Rattle.std.proofs.lemmas.Bool.{eqb-true}
@@ -11,8 +11,8 @@ use Rattle.iofd_words.specs.Checks.{access_checks, is_interrupt}
 use Rattle.iofd_words.specs.Fault.{denied_by}
 use Rattle.iofd_words.specs.Files.{device_of}
 use Rattle.iofd_words.specs.FirstTrue.{first_true}
-use Rattle.iofd_words.specs.Objects.{binding_of, is_hwpt_over}
 use Rattle.iofd_words.specs.Look.{passes_in}
+use Rattle.iofd_words.specs.Objects.{binding_of, is_hwpt_over}
 use Rattle.iofd_words.specs.Pages.{crosses, is_whole, page_of}
 use Rattle.iofd_words.specs.Pins.{pinned_frame}
 use Rattle.iofd_words.specs.Policy.{Outcome, Passes, Denied, access_outcomes, at_area, by_phase, by_width, outcomes}
@@ -135,11 +135,14 @@ module _ (settings : Settings) (w : World) (widths : WidthSound settings w) (usa
     nat_tests,
   )
 
+  covered : (leb area.span.first (4096 * entry.page) ≡ true) × (leb (4096 * entry.page) area.span.last ≡ true)
+  covered = and_true (leb area.span.first (4096 * entry.page)) (leb (4096 * entry.page) area.span.last) b.covers
+
   low : area.span.first ≤ 4096 * entry.page
-  low = search ((and_true (leb area.span.first (4096 * entry.page)) (leb (4096 * entry.page) area.span.last) b.covers).0, arith, nat_tests)
+  low = search (covered.0, arith, nat_tests)
 
   high : 4096 * entry.page ≤ area.span.last
-  high = search ((and_true (leb area.span.first (4096 * entry.page)) (leb (4096 * entry.page) area.span.last) b.covers).1, arith, nat_tests)
+  high = search (covered.1, arith, nat_tests)
 
   inside : (area.span.first ≤ iova.0) × (iova.0 ≤ area.span.last)
   inside = in_page area.span.first area.span.last entry.page iova.0 begins whole some low high on_page
@@ -263,13 +266,14 @@ module _ (settings : Settings) (w : World) (widths : WidthSound settings w) (usa
           by_mark false clear = refl
           by_mark true clear =
               let none = (or_false (meets interrupt_range area.span) (meets_some d.reserved area.span) clear).0 in
-              false_else (holds interrupt_range iova.0) (λ hits. clash (meets interrupt_range area.span) none (meet_at interrupt_range area.span iova.0 hits held))
+              false_else (holds interrupt_range iova.0) (λ hits. clash (meets interrupt_range area.span) none
+              (meet_at interrupt_range area.span iova.0 hits held))
 
   pub passes_at : (len : ℕ) → crosses iova.0 len ≡ false → passes_in w device iova len access entry.frame ≡ true
   passes_at len short =
       let same : eqb entry.frame.0 entry.frame.0 ≡ true = search (arith, nat_tests) in
-      both_true _ _ checked (of_any (is_pass_at entry.frame) (outcomes w device iova.0 access) (Passes entry.frame) passes
-      same)
+      both_true _ _ checked
+      (of_any (is_pass_at entry.frame) (outcomes w device iova.0 access) (Passes entry.frame) passes same)
     where
       checked : is_none (first_true (access_checks (view w) device iova len)) ≡ true
       checked = rw (is_bound, short, outside) refl

@@ -19,7 +19,8 @@ lawful_next settings before r later run =
     subst (λ n. Lawful n (world_from 0 (opening settings) before) r) same
     (lawful_at 0 (opening settings) before r later run)
 
-pub made_from : {A : Type 0} (settings : Settings) (records before : List (Record A)) → IsRun settings (before ++ records)
+pub made_from : {A : Type 0} (settings : Settings) (records before : List (Record A))
+    → IsRun settings (before ++ records)
     → AreStepsFrom settings (no_caches before) (map Made records)
     × (state_from (no_caches before) (map Made records) ≡ no_caches (before ++ records))
 made_from settings [] before run = (tt, ap no_caches (sym (append-nil before)))
@@ -40,4 +41,5 @@ pub steps_append : {A : Type 0} (settings : Settings) (s : State A) (first secon
     → AreStepsFrom settings s first → AreStepsFrom settings (state_from s first) second
     → AreStepsFrom settings s (first ++ second)
 steps_append settings s [] second are more = more
-steps_append settings s (step ∷ first) second are more = (are.0, steps_append settings (made_by s step) first second are.1 more)
+steps_append settings s (step ∷ first) second are more =
+    (are.0, steps_append settings (made_by s step) first second are.1 more)

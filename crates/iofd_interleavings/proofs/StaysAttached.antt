@@ -4,8 +4,8 @@ use Rattle.std.proofs.Common.{ap, ◌∙◌, subst, arith, inl, inr}
 use Rattle.std.specs.List.{filter, list_any}
 use Rattle.std.proofs.lemmas.Bool.Decides.{nat_tests}
 use Rattle.iofd_words.specs.After.{attach_changes, attached, changed, copy_changes, detach_changes, detached}
-use Rattle.iofd_words.specs.After.{hwpt_changes, joined, made_hwpt, map_changes, settle, target_changes}
-use Rattle.iofd_words.specs.After.{with_hwpt, without_areas}
+use Rattle.iofd_words.specs.After.{hwpt_changes, joined, made_hwpt, map_changes, settle, target_changes, with_hwpt}
+use Rattle.iofd_words.specs.After.{without_areas}
 use Rattle.iofd_words.specs.Answers.{Answers, IsHwptOf, IsTarget}
 use Rattle.iofd_words.specs.Areas.{all_paid, areas_of, is_of}
 use Rattle.iofd_words.specs.Attachments.{attachment_of}
@@ -38,7 +38,7 @@ use Rattle.iofd_rows.proofs.Each.{IsIn, in_found, of_any, of_each}
 use Rattle.iofd_rows.proofs.ListTests.{false_else}
 use Rattle.iofd_rows.proofs.Moves.{owed_object}
 use Rattle.iofd_rows.proofs.Named.{file_is, id_is}
-use Rattle.iofd_rows.proofs.Owed.{EachOwed, IsDebtor, IsSpace, each_owed}
+use Rattle.iofd_rows.proofs.Owed.{EachOwed, IsDebtor, IsSpace, each_owed, space_of}
 use Rattle.iofd_runs.proofs.AttachMoves.{is_made, is_there, owed_attached, owed_detached}
 use Rattle.iofd_runs.proofs.NotRefused.{attach_passed, close_passed, destroy_passed, hwpt_passed, join_passed}
 use Rattle.iofd_runs.proofs.ObjectsGo.{owed_closed, owed_destroyed, owed_unbound}
@@ -47,7 +47,6 @@ use Rattle.iofd_runs.proofs.PinnedAccess.{attached_hwpt}
 use Rattle.iofd_runs.proofs.StillTabled.{in_kept}
 use Rattle.iofd_laws.proofs.Bound.{attachments_bound, is_bound_to, is_of_file}
 use Rattle.iofd_laws.proofs.KeepsBound.{IsTidy}
-use Rattle.iofd_rows.proofs.Owed.{space_of}
 
 -- ---- an area that only this device owes a flush: what the law of debts says of it is that the device is attached
 

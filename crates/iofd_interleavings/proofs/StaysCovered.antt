@@ -1,10 +1,11 @@
 -- An area that an attached device may use stays, and the device may use it still, where the event is no turn of it.
-use Rattle.std.proofs.Common.{◌≡◌, ℕ, Bool, true, false, not, eqb, cond, ◌&&◌, Option, Some, None, List}
-use Rattle.std.proofs.Common.{[], ◌∷◌, length, refl, sym, ap, ◌∙◌, subst, arith}
+use Rattle.std.proofs.Common.{◌≡◌, ℕ, Bool, true, false, not, eqb, cond, ◌&&◌, Option, Some, None, List, [], ◌∷◌}
+use Rattle.std.proofs.Common.{length, refl, sym, ap, ◌∙◌, subst, arith}
 use Rattle.std.specs.List.{filter}
 use Rattle.std.proofs.lemmas.Bool.Decides.{nat_tests}
 use Rattle.iofd_words.specs.After.{attach_changes, attached, changed, copy_changes, detach_changes, detached}
-use Rattle.iofd_words.specs.After.{hwpt_changes, joined, map_changes, mapped_area, settle, target_changes, without_areas}
+use Rattle.iofd_words.specs.After.{hwpt_changes, joined, map_changes, mapped_area, settle, target_changes}
+use Rattle.iofd_words.specs.After.{without_areas}
 use Rattle.iofd_words.specs.Answers.{Answers}
 use Rattle.iofd_words.specs.Areas.{all_paid, areas_of, is_of, is_touched, is_waiting, leaving, owed_by, paid, touched}
 use Rattle.iofd_words.specs.Areas.{with_area, with_phase}
@@ -83,8 +84,8 @@ kept_paid device other area areas differ among may = record {
 
 -- an attached device is one of those of its address space
 attached_among : (w : World) (file : FileNo) (ioas : ObjId) (device : ℕ)
-    → IsDebtor w.objects w.attachments file ioas device → has_device (devices_of w.objects w.attachments file ioas) device
-    ≡ true
+    → IsDebtor w.objects w.attachments file ioas device
+    → has_device (devices_of w.objects w.attachments file ioas) device ≡ true
 attached_among w file ioas device is =
     of_any (λ (d : ℕ). eqb d device) (devices_of w.objects w.attachments file ioas) is.a.device.0
     (in_mapped (λ (a : Attachment). a.device.0) _ is.a (in_kept (is_attached_to w.objects file ioas) w.attachments is.a

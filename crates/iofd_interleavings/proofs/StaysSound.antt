@@ -1,9 +1,8 @@
 -- What is sound for a device is so after a record that is no turn of it.
-use Rattle.std.proofs.Common.{◌≡◌, ◌+◌, Bool, true, false, eqb, cond, Option, Some, None, is_some, List, [], ◌∷◌}
-use Rattle.std.proofs.Common.{◌++◌, length, refl, sym, ap, ◌∙◌, subst, arith}
+use Rattle.std.proofs.Common.{◌≡◌, ◌+◌, Bool, true, false, eqb, cond, Option, Some, None, is_some, List, [], ◌∷◌, ◌++◌}
+use Rattle.std.proofs.Common.{length, refl, sym, ap, ◌∙◌, subst, arith}
 use Rattle.std.proofs.lemmas.Bool.Decides.{nat_tests}
 use Rattle.std.proofs.lemmas.List.Sums.{sum_by-append}
-use Rattle.iofd_rows.proofs.PageCounts.{count-cons}
 use Rattle.std.proofs.lemmas.List.{append-nil, append_assoc}
 use Rattle.iofd_words.specs.Areas.{area_at, areas_of, is_of}
 use Rattle.iofd_words.specs.Attachments.{ioas_of, ioas_of_attachment}
@@ -22,16 +21,17 @@ use Rattle.iofd_words.specs.declared.record.Record.{Record}
 use Rattle.iofd_words.specs.declared.rows.Area.{Area}
 use Rattle.iofd_words.specs.declared.rows.ObjectKind.{ObjectKind}
 use Rattle.iofd_words.specs.declared.rows.ObjectKind.TheVariants as kind
-use Rattle.iofd_laws.specs.Laws.{PinMoves, pin_moves}
-use Rattle.iofd_laws.proofs.KeepsBound.{IsTidy, keeps_tidy, opening_tidy, tabled_tidy}
-use Rattle.iofd_laws.proofs.KeepsFrames.{after_moves}
 use Rattle.iofd_rows.proofs.Bools.{and_true, both_true}
 use Rattle.iofd_rows.proofs.Each.{IsIn}
 use Rattle.iofd_rows.proofs.Named.{file_is, id_is}
 use Rattle.iofd_rows.proofs.Owed.{IsDebtor, each_owed, table_of}
+use Rattle.iofd_rows.proofs.PageCounts.{count-cons}
 use Rattle.iofd_runs.proofs.OneMore.{world_more}
 use Rattle.iofd_runs.proofs.PinnedAccess.{page_pinned}
 use Rattle.iofd_runs.proofs.Runs.{run_beginning, run_keeps}
+use Rattle.iofd_laws.specs.Laws.{PinMoves, pin_moves}
+use Rattle.iofd_laws.proofs.KeepsBound.{IsTidy, keeps_tidy, opening_tidy, tabled_tidy}
+use Rattle.iofd_laws.proofs.KeepsFrames.{after_moves}
 use Rattle.iofd_promises.proofs.Denials.{only_area}
 use Rattle.iofd_promises.proofs.Facts.{apart_of, fits_of, pinned_of}
 use Rattle.iofd_promises.proofs.Rows.{contains, within}
@@ -211,7 +211,8 @@ sound_later {A = A} settings device entries (r ∷ later) before run none sound 
     let parts = no_turn device r later none in
     subst (λ (rs : List (Record A)). Sound (world_of settings rs) device entries) same
     (sound_later settings device entries later (before ++ r ∷ []) run_split parts.1
-    (sound_after settings before r device entries (beginning settings (before ++ r ∷ []) later run_split) parts.0 sound))
+    (sound_after settings before r device entries (beginning settings (before ++ r ∷ []) later run_split) parts.0
+    sound))
 
 pub sound_stays : {A : Type 0} (settings : Settings) (device : DeviceNo) (entries : List Entry)
     (before later : List (Record A)) → IsRun settings (before ++ later)

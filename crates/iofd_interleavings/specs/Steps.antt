@@ -1,6 +1,6 @@
 -- The world with a cache for each device, and its steps: records, looks, and what devices do with their caches.
-use Rattle.std.specs.Prelude.{◌≡◌, ℕ, false, ◌==◌, not, List, [], ◌∷◌, ◌++◌, length, filter}
-use Rattle.std.specs.Prelude.{Contains, IsTrue, if◌then◌else◌}
+use Rattle.std.specs.Prelude.{◌≡◌, ℕ, false, ◌==◌, not, List, [], ◌∷◌, ◌++◌, length, filter, Contains, IsTrue}
+use Rattle.std.specs.Prelude.{if◌then◌else◌}
 use Rattle.iofd_words.specs.Look.{answers_to}
 use Rattle.iofd_words.specs.Pages.{crosses, page_of}
 use Rattle.iofd_words.specs.Rights.{has_right}
@@ -34,15 +34,15 @@ opened = record { records = []; caches = λ device. [] }
 -- ---- the steps
 
 pub data Step (A : Type 0) : Type 0 where
-  -- an event
+  -- an event, by whatever caller
   Made : Record A → Step A
   -- a question
   Looked : Query → Answer → Step A
-  -- a device keeps a page that it is let through to
+  -- a device keeps the translation of a page
   Filled : DeviceNo → Entry → Step A
   -- a device reads so many bytes by an entry of its cache
   ReadHit : DeviceNo → Iova → ℕ → Entry → Step A
-  -- or writes bytes so, by a caller of this pass
+  -- or writes bytes so, by a caller of this pass, which makes a record
   WriteHit : PassNo → DeviceNo → Iova → List ℕ → Entry → Step A
   -- a device forgets a page
   Dropped : DeviceNo → ℕ → Step A
@@ -72,7 +72,7 @@ pub record IsFill (w : World) (device : DeviceNo) (entry : Entry) : Type 0 where
   pub backed : IsBacked w device entry
   pub live : backed.area.phase ≡ Live
 
--- each device whose turn it is has an empty cache
+-- a device that is flushed, attached or detached has an empty cache
 abbrev pub TurnsAreEmpty : {A : Type 0} → Caches → Event A → Type 0
 TurnsAreEmpty caches e = (device : DeviceNo) → IsTrue (is_turn_of device e) → caches device ≡ []
 
@@ -121,3 +121,12 @@ AreSteps settings steps = AreStepsFrom settings opened steps
 
 unfoldable pub state_after : {A : Type 0} → List (Step A) → State A
 state_after steps = state_from opened steps
+
+abbrev pub records_after : {A : Type 0} → List (Step A) → List (Record A)
+records_after steps = (state_after steps).records
+
+abbrev pub caches_after : {A : Type 0} → List (Step A) → Caches
+caches_after steps = (state_after steps).caches
+
+abbrev pub world_after : {A : Type 0} → Settings → List (Step A) → World
+world_after settings steps = world_of settings (records_after steps)
