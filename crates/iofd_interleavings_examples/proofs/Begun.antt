@@ -59,3 +59,6 @@ is_first d is = search (is, arith, nat_tests)
 
 pub is_other : (d : DeviceNo) → eqb 2 d.0 ≡ true → eqb d.0 1 ≡ false
 is_other d is = search (is, arith, nat_tests)
+
+pub is_second : (d : DeviceNo) → eqb 2 d.0 ≡ true → eqb d.0 2 ≡ true
+is_second d is = search (is, arith, nat_tests)

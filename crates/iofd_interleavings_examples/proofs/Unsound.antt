@@ -1,5 +1,7 @@
 -- Why device 1's entry isn't backed.
-use Rattle.std.proofs.Common.{◌≡◌, true, List, [], ◌∷◌, sym, subst, Contains}
+use Rattle.std.proofs.Common.{ℕ, ◌≡◌, true, List, [], ◌∷◌, sym, subst, Contains}
+use Rattle.iofd_words.specs.declared.fault.Fault.{Fault}
+use Rattle.iofd_words.specs.declared.query.Answer.TheVariants as answer
 use Rattle.iofd_words.specs.World.{World}
 use Rattle.iofd_words.specs.declared.rows.Area.{Area}
 use Rattle.iofd_words.specs.declared.rows.Phase.{Phase}
@@ -28,3 +30,11 @@ gone_area w none backed =
 -- nothing is pinned
 pub gone_pin : (w : World) → w.pins ≡ [] → IsBacked w (device 1) entry → ⊥
 gone_pin w none backed = cc
+
+-- ---- why what it reads is no answer
+
+pub only_fault : (f : Fault) (bytes : List ℕ) → Contains (answer.Fault f ∷ []) (answer.Read bytes) → ⊥
+only_fault f bytes has = let is = contained_in_one (answer.Fault f) (answer.Read bytes) has in cc
+
+pub no_answer : (bytes : List ℕ) → Contains [] (answer.Read bytes) → ⊥
+no_answer bytes has = absurd (within [] (answer.Read bytes) has)

@@ -9,6 +9,7 @@ use Rattle.iofd_words.specs.declared.fault.AccessKind.TheVariants.{Read}
 use Rattle.iofd_words.specs.declared.rows.Phase.TheVariants.{Live}
 use Rattle.iofd_examples.specs.Words.{device, frame, iova}
 use Rattle.iofd_interleavings.specs.Caches.{Entry, Sound}
+use Rattle.iofd_interleavings.specs.DeviceAnswers.{Allows, OfRead, bytes_of_hit}
 use Rattle.iofd_interleavings.specs.FramesApart.{GivesOut}
 use Rattle.iofd_interleavings.specs.Steps.{AreSteps, AreStepsFrom, IsHit, Made, Step, caches_after, state_after}
 use Rattle.iofd_interleavings.specs.Steps.{world_after}
@@ -17,11 +18,13 @@ use Rattle.iofd_interleavings_examples.specs.Worked.{takes, waits}
 
 -- ---- what is false
 
--- device 1 hits an entry that isn't sound, and the policy lets no access pass there
+-- device 1 hits an entry that isn't sound, the policy lets no access pass there, and what is read is no answer that it
+-- allows
 pub record IsUnsound (w : World) (entries : List Entry) : Type 0 where
   pub sound : Sound w (device 1) entries → ⊥
   pub hit : IsHit entries (iova 0x1000) 64 Read entry
   pub denied : passes_in w (device 1) (iova 0x1000) 64 Read (frame 0) ≡ false
+  pub answer : Allows w (OfRead (device 1) (iova 0x1000) 64 (bytes_of_hit w (iova 0x1000) 64 entry)) → ⊥
 
 -- the step gives out the frame that the entry of a cache names
 pub record GivesCached (entries : List Entry) (step : Step Global) : Type 0 where

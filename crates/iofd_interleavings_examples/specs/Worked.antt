@@ -90,35 +90,37 @@ gets = Made (step (user_map 2 0x10000) (answers_frame 0))
 
 -- ---- a list of them
 
--- the last four bytes of the page, before and after device 1 writes them out of its cache
-abbrev pub later : List (Step Global)
-later =
-    Looked (device_read 1 0x1ffc 4) (answer.Read (0 ∷ 0 ∷ 0 ∷ 0 ∷ []))
-    ∷ fills 1
-    ∷ WriteHit (record { 0 = 0 }) (device 1) (iova 0x1ffc) (7 ∷ 8 ∷ 9 ∷ 10 ∷ []) entry
-    ∷ ReadHit (device 1) (iova 0x1ffe) 2 entry
-    ∷ Looked (device_read 2 0x1ffc 4) (answer.Read (7 ∷ 8 ∷ 9 ∷ 10 ∷ []))
-    ∷ waits
-    ∷ ReadHit (device 1) (iova 0x1ffe) 2 entry
-    ∷ Dropped (device 1) 1
-    ∷ flushes 1
-    ∷ flushes 2
-    ∷ takes
-    ∷ gives_up
-    ∷ gets
-    ∷ []
+-- device 1 writes the last four bytes of the page out of its cache
+abbrev pub writes : Step Global
+writes = WriteHit (record { 0 = 0 }) (device 1) (iova 0x1ffc) (7 ∷ 8 ∷ 9 ∷ 10 ∷ []) entry
 
-abbrev pub worked : List (Step Global)
-worked = map Made beginning ++ later
+-- and reads two of them so
+abbrev pub reads : Step Global
+reads = ReadHit (device 1) (iova 0x1ffe) 2 entry
 
--- the list up to the first read hit
 abbrev pub until_read : List (Step Global)
 until_read =
     map Made beginning
     ++ Looked (device_read 1 0x1ffc 4) (answer.Read (0 ∷ 0 ∷ 0 ∷ 0 ∷ []))
     ∷ fills 1
-    ∷ WriteHit (record { 0 = 0 }) (device 1) (iova 0x1ffc) (7 ∷ 8 ∷ 9 ∷ 10 ∷ []) entry
+    ∷ writes
     ∷ []
+
+-- a drop of another page takes nothing away
+abbrev pub until_flush : List (Step Global)
+until_flush =
+    until_read
+    ++ reads
+    ∷ Looked (device_read 2 0x1ffc 4) (answer.Read (7 ∷ 8 ∷ 9 ∷ 10 ∷ []))
+    ∷ fills 2
+    ∷ waits
+    ∷ Dropped (device 1) 2
+    ∷ reads
+    ∷ Dropped (device 1) 1
+    ∷ []
+
+abbrev pub worked : List (Step Global)
+worked = until_flush ++ flushes 1 ∷ Dropped (device 2) 1 ∷ flushes 2 ∷ takes ∷ gives_up ∷ gets ∷ []
 
 -- the records that it makes, that of the write hit among them
 abbrev pub records : List (Record Global)

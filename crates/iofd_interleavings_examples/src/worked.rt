@@ -1,26 +1,45 @@
 //! Steps that may be made.
 
-ghost use Rattle.std.specs.Prelude.{◌≡◌, List, [], ◌∷◌, map};
+ghost use Rattle.std.specs.Prelude.{◌≡◌, Some, List, [], ◌∷◌, map};
+ghost use Rattle.iofd_words.specs.Run.{world_of};
 ghost use Rattle.iofd_words.specs.declared.query.Answer.TheVariants as answer;
 ghost use Rattle.iofd_words.specs.declared.rows.Phase.TheVariants.{Live};
-ghost use Rattle.iofd_words.specs.Run.{world_of};
-ghost use Rattle.iofd_examples.specs.Words.{device, iova};
-ghost use Rattle.iofd_interleavings.specs.DeviceAnswers.{bytes_of_hit};
-ghost use Rattle.iofd_interleavings.specs.Steps.{AreSteps, caches_after, records_after, world_after};
-ghost use Rattle.iofd_interleavings_examples.specs.Worked.{beginning, entry, records, settings, shared, until_read};
-ghost use Rattle.iofd_interleavings_examples.specs.Worked.{worked};
+ghost use Rattle.iofd_examples.specs.Words.{answers_id, attach, device, frame, iova, moving, passed, user};
+ghost use Rattle.iofd_interleavings.specs.DeviceAnswers.{OfRead, OfWrite, device_answer};
+ghost use Rattle.iofd_interleavings.specs.FramesApart.{GivesOut, IsPageAt, IsPinAt};
+ghost use Rattle.iofd_interleavings.specs.Steps.{AreSteps, Made, caches_after, records_after, world_after};
+ghost use Rattle.iofd_interleavings_examples.specs.Worked.{beginning, entry, reads, records, settings, shared};
+ghost use Rattle.iofd_interleavings_examples.specs.Worked.{until_flush, until_read, worked, writes};
 
-/// The worked steps are steps: a look, a fill, a write hit, read hits before and while an UNMAP waits, a drop, and
-/// records up to the frame's next user. They make just these records, and leave every cache empty.
+/// The worked steps are steps: looks, fills, a write hit, read hits before and while an UNMAP waits, drops, and records
+/// up to the frame's next user. They make just these records.
 pub fn worked_steps_are_steps()
     ensures begins { world_of settings beginning ≡ shared Live }
     ensures steps { AreSteps settings worked }
     ensures records { records_after worked ≡ records }
-    ensures caches { caches_after worked (device 1) ≡ [] }
 {}
 
-/// Before the UNMAP the cache of device 1 has the one entry, and by it the device reads what it wrote by it.
-pub fn a_hit_reads_what_a_hit_wrote()
-    ensures cache { caches_after until_read (device 1) ≡ entry ∷ [] }
-    ensures reads { bytes_of_hit (world_after settings until_read) (iova 0x1ffe) 2 entry ≡ answer.Read (9 ∷ 10 ∷ []) }
+/// Device 1 keeps the page until it drops it, device 2 a while longer; in the end nothing is kept.
+pub fn worked_caches()
+    ensures filled { caches_after until_read (device 1) ≡ entry ∷ [] }
+    ensures dropped { caches_after until_flush (device 1) ≡ [] }
+    ensures other { caches_after until_flush (device 2) ≡ entry ∷ [] }
+    ensures first { caches_after worked (device 1) ≡ [] }
+    ensures second { caches_after worked (device 2) ≡ [] }
+{}
+
+/// A write hit is told the frame, and a read hit answers two of the bytes that it wrote.
+pub fn worked_hits()
+    ensures write { device_answer (world_of settings beginning) writes
+        ≡ Some (OfWrite (device 1) (iova 0x1ffc) (7 ∷ 8 ∷ 9 ∷ 10 ∷ []) (passed 0)) }
+    ensures read { device_answer (world_after settings until_read) reads
+        ≡ Some (OfRead (device 1) (iova 0x1ffe) 2 (answer.Read (9 ∷ 10 ∷ []))) }
+{}
+
+/// The first attachment gives frames out for tables. Where both devices are attached, frame 0 is the first user's page
+/// and pin.
+pub fn worked_frames()
+    ensures tables { GivesOut (Made (moving (attach 1 1) (answers_id 4) (1 ∷ 2 ∷ 3 ∷ []) [])) (frame 2) }
+    ensures page { IsPageAt (shared Live) 0 (user 1) }
+    ensures pin { IsPinAt (shared Live) 0 (user 1) }
 {}

@@ -11,11 +11,13 @@ use Rattle.iofd_words.specs.Policy.{access_outcomes, outcomes}
 use Rattle.iofd_words.specs.Run.{IsRun, Lawful, after, world_of}
 use Rattle.iofd_words.specs.Tables.{with_tables}
 use Rattle.iofd_words.specs.declared.rows.Phase.TheVariants.{Leaving}
-use Rattle.iofd_examples.specs.Words.{area_row}
+use Rattle.iofd_words.specs.declared.fault.AccessKind.TheVariants.{Read}
+use Rattle.iofd_words.specs.declared.fault.FaultReason.TheVariants.{ReadDenied}
+use Rattle.iofd_examples.specs.Words.{fault, area_row}
 use Rattle.iofd_interleavings.specs.Steps.{AreSteps, state_after}
 use Rattle.iofd_interleavings_examples.specs.Worked.{entry, flushes, waits}
 use Rattle.iofd_interleavings_examples.proofs.Begun.{begun, is_other}
-use Rattle.iofd_interleavings_examples.proofs.Unsound.{not_owed}
+use Rattle.iofd_interleavings_examples.proofs.Unsound.{only_fault, not_owed}
 use Rattle.iofd_interleavings_examples.proofs.broken.a_fill_after_the_flush_is_unsound.Goals as goal
 
 pub returns-clause-breaks : goal.returns-clause-breaks
@@ -67,6 +69,7 @@ returns-clause-breaks c = record {
         (sound entry (0, omega arith, refl));
     hit = record { cached = (0, omega arith, refl); page = refl; right = refl; inside = refl };
     denied = refl;
+    answer = λ has. only_fault (fault 0x08 1 Read ReadDenied) _ has;
   };
   given = record { gives = inl refl; cached = (0, omega arith, refl) };
 }

@@ -15,7 +15,7 @@ use Rattle.iofd_examples.specs.Words.{area_row, attachment_row, id}
 use Rattle.iofd_interleavings.specs.Steps.{AreSteps, state_after}
 use Rattle.iofd_interleavings_examples.specs.Worked.{entry, fills, gives_up}
 use Rattle.iofd_interleavings_examples.proofs.Begun.{begun}
-use Rattle.iofd_interleavings_examples.proofs.Unsound.{gone_pin}
+use Rattle.iofd_interleavings_examples.proofs.Unsound.{no_answer, gone_pin}
 use Rattle.iofd_interleavings_examples.proofs.broken.a_pin_that_goes_with_its_page_is_unsound.Goals as goal
 
 pub returns-clause-begins : goal.returns-clause-begins
@@ -65,6 +65,7 @@ returns-clause-unsound c = record {
   sound = λ sound. gone_pin _ refl (sound entry (0, omega arith, refl));
   hit = record { cached = (0, omega arith, refl); page = refl; right = refl; inside = refl };
   denied = refl;
+  answer = λ has. no_answer _ has;
 }
 
 pub returns-clause-next : goal.returns-clause-next

@@ -11,12 +11,14 @@ use Rattle.iofd_words.specs.Policy.{access_outcomes, outcomes}
 use Rattle.iofd_words.specs.Run.{IsRun, Lawful, after, world_of}
 use Rattle.iofd_words.specs.Tables.{with_tables}
 use Rattle.iofd_words.specs.declared.rows.Phase.TheVariants.{Live}
-use Rattle.iofd_examples.specs.Words.{area_row, attachment_row, id}
+use Rattle.iofd_words.specs.declared.fault.AccessKind.TheVariants.{Read}
+use Rattle.iofd_words.specs.declared.fault.FaultReason.TheVariants.{ReadDenied}
+use Rattle.iofd_examples.specs.Words.{fault, area_row, attachment_row, id}
 use Rattle.iofd_examples.proofs.Never.{never}
 use Rattle.iofd_interleavings.specs.Steps.{AreSteps, state_after}
 use Rattle.iofd_interleavings_examples.specs.Worked.{entry, fills, flushes, waits}
 use Rattle.iofd_interleavings_examples.proofs.Begun.{begun, is_other}
-use Rattle.iofd_interleavings_examples.proofs.Unsound.{gone_area}
+use Rattle.iofd_interleavings_examples.proofs.Unsound.{only_fault, gone_area}
 use Rattle.iofd_interleavings_examples.proofs.broken.an_unmap_that_does_not_wait_is_unsound.Goals as goal
 
 pub returns-clause-breaks : goal.returns-clause-breaks
@@ -73,6 +75,7 @@ returns-clause-breaks c = record {
     sound = λ sound. gone_area _ refl (sound entry (0, omega arith, refl));
     hit = record { cached = (0, omega arith, refl); page = refl; right = refl; inside = refl };
     denied = refl;
+    answer = λ has. only_fault (fault 0x08 1 Read ReadDenied) _ has;
   };
   given = record { gives = inl refl; cached = (0, omega arith, refl) };
 }

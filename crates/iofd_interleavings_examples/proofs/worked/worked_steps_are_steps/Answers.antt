@@ -1,4 +1,4 @@
-use Rattle.std.proofs.Common.{refl, arith}
+use Rattle.std.proofs.Common.{refl, arith, [], ◌∷◌}
 use Rattle.iofd_words.specs.After.{changed, settle, without_areas, attached, detached, joined}
 use Rattle.iofd_words.specs.Answers.{Answers}
 use Rattle.iofd_words.specs.Checks.{allow_iovas_checks, attach_checks, bind_checks, close_checks, copy_checks}
@@ -10,11 +10,14 @@ use Rattle.iofd_words.specs.Look.{answers_in}
 use Rattle.iofd_words.specs.Policy.{access_outcomes, outcomes}
 use Rattle.iofd_words.specs.Run.{IsRun, Lawful, after, world_of}
 use Rattle.iofd_words.specs.Tables.{with_tables}
+use Rattle.iofd_words.specs.declared.query.Answer.TheVariants as answer
 use Rattle.iofd_words.specs.declared.rows.Phase.TheVariants.{Live}
-use Rattle.iofd_examples.specs.Words.{area_row, attachment_row, id}
-use Rattle.iofd_interleavings.specs.Steps.{AreSteps, state_after}
-use Rattle.iofd_interleavings_examples.specs.Worked.{later}
-use Rattle.iofd_interleavings_examples.proofs.Begun.{begun, is_first, is_other}
+use Rattle.iofd_examples.specs.Words.{area_row, attachment_row, device, device_read, id}
+use Rattle.iofd_interleavings.specs.Steps.{AreSteps, Dropped, Looked, opened, state_after}
+use Rattle.iofd_interleavings.proofs.RunsAreSteps.{steps_append}
+use Rattle.iofd_interleavings_examples.specs.Worked.{fills, flushes, gets, gives_up, reads, settings, takes}
+use Rattle.iofd_interleavings_examples.specs.Worked.{until_flush, until_read, waits, writes}
+use Rattle.iofd_interleavings_examples.proofs.Begun.{begun, is_first, is_second}
 use Rattle.iofd_interleavings_examples.proofs.worked.worked_steps_are_steps.Goals as goal
 
 pub returns-clause-begins : goal.returns-clause-begins
@@ -24,12 +27,13 @@ unfolding AreSteps state_after world_of IsRun Lawful after with_tables answers_i
     user_write_checks changed settle without_areas attached detached joined outcomes access_outcomes number_at
 returns-clause-begins c = refl
 
-pub returns-clause-steps : goal.returns-clause-steps
+-- the steps up to the first read hit, up to the first flush, and all
+first : AreSteps settings until_read
 unfolding AreSteps state_after world_of IsRun Lawful after with_tables answers_in Answers allow_iovas_checks
     attach_checks bind_checks close_checks copy_checks destroy_checks detach_checks device_write_checks flush_checks
     hwpt_alloc_checks ioas_alloc_checks map_checks unbind_checks unmap_checks user_map_checks user_unmap_checks
     user_write_checks changed settle without_areas attached detached joined outcomes access_outcomes number_at
-returns-clause-steps c = begun later (
+first = begun (Looked (device_read 1 0x1ffc 4) (answer.Read (0 ∷ 0 ∷ 0 ∷ 0 ∷ [])) ∷ fills 1 ∷ writes ∷ []) (
   (0, omega arith, refl),
   (
     record {
@@ -50,118 +54,115 @@ returns-clause-steps c = begun later (
     },
     (
       record { cached = (0, omega arith, refl); page = refl; right = refl; inside = refl },
+      tt,
+    ),
+  ),
+)
+
+second : AreSteps settings until_flush
+unfolding AreSteps state_after world_of IsRun Lawful after with_tables answers_in Answers allow_iovas_checks
+    attach_checks bind_checks close_checks copy_checks destroy_checks detach_checks device_write_checks flush_checks
+    hwpt_alloc_checks ioas_alloc_checks map_checks unbind_checks unmap_checks user_map_checks user_unmap_checks
+    user_write_checks changed settle without_areas attached detached joined outcomes access_outcomes number_at
+second = steps_append settings opened until_read (
+    reads
+    ∷ Looked (device_read 2 0x1ffc 4) (answer.Read (7 ∷ 8 ∷ 9 ∷ 10 ∷ []))
+    ∷ fills 2
+    ∷ waits
+    ∷ Dropped (device 1) 2
+    ∷ reads
+    ∷ Dropped (device 1) 1
+    ∷ []) first (
+      record { cached = (0, omega arith, refl); page = refl; right = refl; inside = refl },
       (
-        record { cached = (0, omega arith, refl); page = refl; right = refl; inside = refl },
+        (0, omega arith, refl),
         (
-          (0, omega arith, refl),
+          record {
+            backed = record {
+              attachment = attachment_row 2 1 4;
+              attached = refl;
+              ioas = id 1;
+              space = refl;
+              area = area_row 1 1 0x1000 0x1fff 2 3 Live;
+              there = (0, omega arith, refl);
+              own = refl;
+              covers = refl;
+              rights = refl;
+              phase = refl;
+              pinned = refl;
+            };
+            live = refl;
+          },
           (
             (
               (
                 (refl, refl),
-                record {
-                  enough = refl;
-                  free = refl;
-                  different = refl;
-                  gone = refl;
-                  may = refl;
-                  rising = refl;
-                },
+                record { enough = refl; free = refl; different = refl; gone = refl; may = refl; rising = refl },
               ),
               λ d never. cc,
             ),
             (
-              record { cached = (0, omega arith, refl); page = refl; right = refl; inside = refl },
+              tt,
               (
-                tt,
+                record { cached = (0, omega arith, refl); page = refl; right = refl; inside = refl },
                 (
-                  (
-                    (
-                      tt,
-                      record {
-                        enough = refl;
-                        free = refl;
-                        different = refl;
-                        gone = refl;
-                        may = refl;
-                        rising = refl;
-                      },
-                    ),
-                    λ d is. rw (is_first d is) refl,
-                  ),
-                  (
-                    (
-                      (
-                        tt,
-                        record {
-                          enough = refl;
-                          free = refl;
-                          different = refl;
-                          gone = refl;
-                          may = refl;
-                          rising = refl;
-                        },
-                      ),
-                      λ d is. rw (is_other d is) refl,
-                    ),
-                    (
-                      (
-                        (
-                          (refl, refl),
-                          record {
-                            enough = refl;
-                            free = refl;
-                            different = refl;
-                            gone = refl;
-                            may = refl;
-                            rising = refl;
-                          },
-                        ),
-                        λ d never. cc,
-                      ),
-                      (
-                        (
-                          (
-                            tt,
-                            record {
-                              enough = refl;
-                              free = refl;
-                              different = refl;
-                              gone = refl;
-                              may = refl;
-                              rising = refl;
-                            },
-                          ),
-                          λ d never. cc,
-                        ),
-                        (
-                          (
-                            (
-                              refl,
-                              record {
-                                enough = refl;
-                                free = refl;
-                                different = refl;
-                                gone = refl;
-                                may = refl;
-                                rising = refl;
-                              },
-                            ),
-                            λ d never. cc,
-                          ),
-                          tt,
-                        ),
-                      ),
-                    ),
-                  ),
+                  tt,
+                  tt,
                 ),
               ),
             ),
           ),
         ),
       ),
-    ),
-  ),
-)
+    )
+
+pub returns-clause-steps : goal.returns-clause-steps
+unfolding AreSteps state_after world_of IsRun Lawful after with_tables answers_in Answers allow_iovas_checks
+    attach_checks bind_checks close_checks copy_checks destroy_checks detach_checks device_write_checks flush_checks
+    hwpt_alloc_checks ioas_alloc_checks map_checks unbind_checks unmap_checks user_map_checks user_unmap_checks
+    user_write_checks changed settle without_areas attached detached joined outcomes access_outcomes number_at
+returns-clause-steps c = steps_append settings opened until_flush
+    (flushes 1 ∷ Dropped (device 2) 1 ∷ flushes 2 ∷ takes ∷ gives_up ∷ gets ∷ [])
+    second (
+      (
+        (tt, record { enough = refl; free = refl; different = refl; gone = refl; may = refl; rising = refl }),
+        λ d is. rw (is_first d is) refl,
+      ),
+      (
+        tt,
+        (
+          (
+            (tt, record { enough = refl; free = refl; different = refl; gone = refl; may = refl; rising = refl }),
+            λ d is. rw (is_second d is) refl,
+          ),
+          (
+            (
+              (
+                (refl, refl),
+                record { enough = refl; free = refl; different = refl; gone = refl; may = refl; rising = refl },
+              ),
+              λ d never. cc,
+            ),
+            (
+              (
+                (tt, record { enough = refl; free = refl; different = refl; gone = refl; may = refl; rising = refl }),
+                λ d never. cc,
+              ),
+              (
+                (
+                  (
+                    refl,
+                    record { enough = refl; free = refl; different = refl; gone = refl; may = refl; rising = refl },
+                  ),
+                  λ d never. cc,
+                ),
+                tt,
+              ),
+            ),
+          ),
+        ),
+      ),
+    )
 
 pub returns-clause-records : goal.returns-clause-records
 unfolding AreSteps state_after world_of IsRun Lawful after with_tables answers_in Answers allow_iovas_checks
@@ -169,10 +170,3 @@ unfolding AreSteps state_after world_of IsRun Lawful after with_tables answers_i
     hwpt_alloc_checks ioas_alloc_checks map_checks unbind_checks unmap_checks user_map_checks user_unmap_checks
     user_write_checks changed settle without_areas attached detached joined outcomes access_outcomes number_at
 returns-clause-records c = refl
-
-pub returns-clause-caches : goal.returns-clause-caches
-unfolding AreSteps state_after world_of IsRun Lawful after with_tables answers_in Answers allow_iovas_checks
-    attach_checks bind_checks close_checks copy_checks destroy_checks detach_checks device_write_checks flush_checks
-    hwpt_alloc_checks ioas_alloc_checks map_checks unbind_checks unmap_checks user_map_checks user_unmap_checks
-    user_write_checks changed settle without_areas attached detached joined outcomes access_outcomes number_at
-returns-clause-caches c = refl
