@@ -13,9 +13,12 @@ use Rattle.iofd_words.specs.Levels.{number_at}
 use Rattle.iofd_words.specs.Policy.{access_outcomes, outcomes}
 use Rattle.iofd_words.specs.Run.{IsRun, Lawful, after}
 use Rattle.iofd_words.specs.Tables.{with_tables}
-use Rattle.iofd_interleavings.specs.Steps.{AreSteps, AreStepsFrom, Made, State, Step, opened}
+use Rattle.iofd_words.specs.Frames.{FrameWrite}
+use Rattle.iofd_words.specs.declared.rows.Phase.TheVariants.{Live}
+use Rattle.iofd_examples.specs.Words.{area_row, attachment_row, device, id}
+use Rattle.iofd_interleavings.specs.Steps.{AreSteps, AreStepsFrom, IsFill, Made, State, Step, opened}
 use Rattle.iofd_interleavings.proofs.RunsAreSteps.{made_from, no_caches, steps_append}
-use Rattle.iofd_interleavings_examples.specs.Worked.{beginning, settings}
+use Rattle.iofd_interleavings_examples.specs.Worked.{beginning, entry, settings, shared}
 
 begins : IsRun settings beginning
 unfolding IsRun Lawful after with_tables Answers allow_iovas_checks attach_checks bind_checks close_checks
@@ -51,6 +54,44 @@ pub begun : (later : List (Step Global)) → AreStepsFrom settings (no_caches be
 unfolding AreSteps
 begun later are = steps_append settings opened (map Made beginning) later (made_from settings beginning [] begins).0
     (subst (λ (s : State Global). AreStepsFrom settings s later) (sym (made_from settings beginning [] begins).1) are)
+
+-- ---- fills while the page is mapped, whatever was written
+
+pub first_fills : (writes : List FrameWrite) → IsFill (record (shared Live) { writes = writes }) (device 1) entry
+first_fills writes = record {
+  backed = record {
+    attachment = attachment_row 1 1 4;
+    attached = refl;
+    ioas = id 1;
+    space = refl;
+    area = area_row 1 1 0x1000 0x1fff 2 3 Live;
+    there = (0, omega arith, refl);
+    own = refl;
+    covers = refl;
+    rights = refl;
+    phase = refl;
+    pinned = refl;
+  };
+  live = refl;
+}
+
+pub second_fills : (writes : List FrameWrite) → IsFill (record (shared Live) { writes = writes }) (device 2) entry
+second_fills writes = record {
+  backed = record {
+    attachment = attachment_row 2 1 4;
+    attached = refl;
+    ioas = id 1;
+    space = refl;
+    area = area_row 1 1 0x1000 0x1fff 2 3 Live;
+    there = (0, omega arith, refl);
+    own = refl;
+    covers = refl;
+    rights = refl;
+    phase = refl;
+    pinned = refl;
+  };
+  live = refl;
+}
 
 -- ---- whose cache it is
 

@@ -106,12 +106,13 @@ until_read =
     ∷ writes
     ∷ []
 
--- a drop of another page takes nothing away
+-- device 2 keeps the page twice; a drop of another page takes nothing away
 abbrev pub until_flush : List (Step Global)
 until_flush =
     until_read
     ++ reads
     ∷ Looked (device_read 2 0x1ffc 4) (answer.Read (7 ∷ 8 ∷ 9 ∷ 10 ∷ []))
+    ∷ fills 2
     ∷ fills 2
     ∷ waits
     ∷ Dropped (device 1) 2

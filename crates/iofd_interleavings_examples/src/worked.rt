@@ -19,11 +19,11 @@ pub fn worked_steps_are_steps()
     ensures records { records_after worked ≡ records }
 {}
 
-/// Device 1 keeps the page until it drops it, device 2 a while longer; in the end nothing is kept.
+/// Device 1 keeps the page until it drops it, device 2 a while longer, and twice; in the end nothing is kept.
 pub fn worked_caches()
     ensures filled { caches_after until_read (device 1) ≡ entry ∷ [] }
     ensures dropped { caches_after until_flush (device 1) ≡ [] }
-    ensures other { caches_after until_flush (device 2) ≡ entry ∷ [] }
+    ensures other { caches_after until_flush (device 2) ≡ entry ∷ entry ∷ [] }
     ensures first { caches_after worked (device 1) ≡ [] }
     ensures second { caches_after worked (device 2) ≡ [] }
 {}

@@ -10,11 +10,9 @@ use Rattle.iofd_words.specs.Look.{answers_in}
 use Rattle.iofd_words.specs.Policy.{access_outcomes, outcomes}
 use Rattle.iofd_words.specs.Run.{IsRun, Lawful, after, world_of}
 use Rattle.iofd_words.specs.Tables.{with_tables}
-use Rattle.iofd_words.specs.declared.rows.Phase.TheVariants.{Live}
-use Rattle.iofd_examples.specs.Words.{area_row, attachment_row, id}
 use Rattle.iofd_interleavings.specs.Steps.{AreSteps, state_after}
 use Rattle.iofd_interleavings_examples.specs.Worked.{entry, fills, gives_up}
-use Rattle.iofd_interleavings_examples.proofs.Begun.{begun}
+use Rattle.iofd_interleavings_examples.proofs.Begun.{begun, first_fills}
 use Rattle.iofd_interleavings_examples.proofs.Unsound.{no_answer, gone_pin}
 use Rattle.iofd_interleavings_examples.proofs.broken.a_pin_that_goes_with_its_page_is_unsound.Goals as goal
 
@@ -24,22 +22,7 @@ unfolding AreSteps state_after world_of IsRun Lawful after with_tables answers_i
     hwpt_alloc_checks ioas_alloc_checks map_checks unbind_checks unmap_checks user_map_checks user_unmap_checks
     user_write_checks changed settle without_areas attached detached joined outcomes access_outcomes number_at
 returns-clause-begins c = begun (fills 1 ∷ gives_up ∷ []) (
-  record {
-    backed = record {
-      attachment = attachment_row 1 1 4;
-      attached = refl;
-      ioas = id 1;
-      space = refl;
-      area = area_row 1 1 0x1000 0x1fff 2 3 Live;
-      there = (0, omega arith, refl);
-      own = refl;
-      covers = refl;
-      rights = refl;
-      phase = refl;
-      pinned = refl;
-    };
-    live = refl;
-  },
+  first_fills _,
   (
     (
       (tt, record { enough = refl; free = refl; different = refl; gone = refl; may = refl; rising = refl }),

@@ -10,14 +10,13 @@ use Rattle.iofd_words.specs.Look.{answers_in}
 use Rattle.iofd_words.specs.Policy.{access_outcomes, outcomes}
 use Rattle.iofd_words.specs.Run.{IsRun, Lawful, after, world_of}
 use Rattle.iofd_words.specs.Tables.{with_tables}
-use Rattle.iofd_words.specs.declared.rows.Phase.TheVariants.{Live}
 use Rattle.iofd_words.specs.declared.fault.AccessKind.TheVariants.{Read}
 use Rattle.iofd_words.specs.declared.fault.FaultReason.TheVariants.{ReadDenied}
-use Rattle.iofd_examples.specs.Words.{fault, area_row, attachment_row, id}
+use Rattle.iofd_examples.specs.Words.{fault}
 use Rattle.iofd_examples.proofs.Never.{never}
 use Rattle.iofd_interleavings.specs.Steps.{AreSteps, state_after}
 use Rattle.iofd_interleavings_examples.specs.Worked.{entry, fills, flushes, waits}
-use Rattle.iofd_interleavings_examples.proofs.Begun.{begun, is_other}
+use Rattle.iofd_interleavings_examples.proofs.Begun.{begun, first_fills, is_other}
 use Rattle.iofd_interleavings_examples.proofs.Unsound.{only_fault, gone_area}
 use Rattle.iofd_interleavings_examples.proofs.broken.an_unmap_that_does_not_wait_is_unsound.Goals as goal
 
@@ -28,22 +27,7 @@ unfolding AreSteps state_after world_of IsRun Lawful after with_tables answers_i
     user_write_checks changed settle without_areas attached detached joined outcomes access_outcomes number_at
 returns-clause-breaks c = record {
   begins = begun (fills 1 ∷ waits ∷ flushes 2 ∷ []) (
-    record {
-      backed = record {
-        attachment = attachment_row 1 1 4;
-        attached = refl;
-        ioas = id 1;
-        space = refl;
-        area = area_row 1 1 0x1000 0x1fff 2 3 Live;
-        there = (0, omega arith, refl);
-        own = refl;
-        covers = refl;
-        rights = refl;
-        phase = refl;
-        pinned = refl;
-      };
-      live = refl;
-    },
+    first_fills _,
     (
       (
         ((refl, refl), record { enough = refl; free = refl; different = refl; gone = refl; may = refl; rising = refl }),

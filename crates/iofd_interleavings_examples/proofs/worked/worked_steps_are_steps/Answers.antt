@@ -11,13 +11,12 @@ use Rattle.iofd_words.specs.Policy.{access_outcomes, outcomes}
 use Rattle.iofd_words.specs.Run.{IsRun, Lawful, after, world_of}
 use Rattle.iofd_words.specs.Tables.{with_tables}
 use Rattle.iofd_words.specs.declared.query.Answer.TheVariants as answer
-use Rattle.iofd_words.specs.declared.rows.Phase.TheVariants.{Live}
-use Rattle.iofd_examples.specs.Words.{area_row, attachment_row, device, device_read, id}
+use Rattle.iofd_examples.specs.Words.{device, device_read}
 use Rattle.iofd_interleavings.specs.Steps.{AreSteps, Dropped, Looked, opened, state_after}
 use Rattle.iofd_interleavings.proofs.RunsAreSteps.{steps_append}
 use Rattle.iofd_interleavings_examples.specs.Worked.{fills, flushes, gets, gives_up, reads, settings, takes}
 use Rattle.iofd_interleavings_examples.specs.Worked.{until_flush, until_read, waits, writes}
-use Rattle.iofd_interleavings_examples.proofs.Begun.{begun, is_first, is_second}
+use Rattle.iofd_interleavings_examples.proofs.Begun.{begun, first_fills, second_fills, is_first, is_second}
 use Rattle.iofd_interleavings_examples.proofs.worked.worked_steps_are_steps.Goals as goal
 
 pub returns-clause-begins : goal.returns-clause-begins
@@ -36,22 +35,7 @@ unfolding AreSteps state_after world_of IsRun Lawful after with_tables answers_i
 first = begun (Looked (device_read 1 0x1ffc 4) (answer.Read (0 ∷ 0 ∷ 0 ∷ 0 ∷ [])) ∷ fills 1 ∷ writes ∷ []) (
   (0, omega arith, refl),
   (
-    record {
-      backed = record {
-        attachment = attachment_row 1 1 4;
-        attached = refl;
-        ioas = id 1;
-        space = refl;
-        area = area_row 1 1 0x1000 0x1fff 2 3 Live;
-        there = (0, omega arith, refl);
-        own = refl;
-        covers = refl;
-        rights = refl;
-        phase = refl;
-        pinned = refl;
-      };
-      live = refl;
-    },
+    first_fills _,
     (
       record { cached = (0, omega arith, refl); page = refl; right = refl; inside = refl },
       tt,
@@ -68,6 +52,7 @@ second = steps_append settings opened until_read (
     reads
     ∷ Looked (device_read 2 0x1ffc 4) (answer.Read (7 ∷ 8 ∷ 9 ∷ 10 ∷ []))
     ∷ fills 2
+    ∷ fills 2
     ∷ waits
     ∷ Dropped (device 1) 2
     ∷ reads
@@ -77,38 +62,20 @@ second = steps_append settings opened until_read (
       (
         (0, omega arith, refl),
         (
-          record {
-            backed = record {
-              attachment = attachment_row 2 1 4;
-              attached = refl;
-              ioas = id 1;
-              space = refl;
-              area = area_row 1 1 0x1000 0x1fff 2 3 Live;
-              there = (0, omega arith, refl);
-              own = refl;
-              covers = refl;
-              rights = refl;
-              phase = refl;
-              pinned = refl;
-            };
-            live = refl;
-          },
+          second_fills _,
           (
+            second_fills _,
             (
               (
-                (refl, refl),
-                record { enough = refl; free = refl; different = refl; gone = refl; may = refl; rising = refl },
-              ),
-              λ d never. cc,
-            ),
-            (
-              tt,
-              (
-                record { cached = (0, omega arith, refl); page = refl; right = refl; inside = refl },
                 (
-                  tt,
-                  tt,
+                  (refl, refl),
+                  record { enough = refl; free = refl; different = refl; gone = refl; may = refl; rising = refl },
                 ),
+                λ d never. cc,
+              ),
+              (
+                tt,
+                (record { cached = (0, omega arith, refl); page = refl; right = refl; inside = refl }, (tt, tt)),
               ),
             ),
           ),
