@@ -49,7 +49,7 @@ use Rattle.iofd_promises.proofs.KeepsWidths.{WidthSound}
 
 -- ---- the area that holds an address is the only one
 
-meet_at : (a b : Bounds) (n : ℕ) → holds a n ≡ true → holds b n ≡ true → meets a b ≡ true
+pub meet_at : (a b : Bounds) (n : ℕ) → holds a n ≡ true → holds b n ≡ true → meets a b ≡ true
 meet_at a b n first second =
     let one = and_true (leb a.first n) (leb n a.last) first in
     let two = and_true (leb b.first n) (leb n b.last) second in
@@ -66,7 +66,7 @@ same_space file ioas x y first second =
     let spaces : eqb y.ioas.0 x.ioas.0 ≡ true = search (one.1, two.1, arith, nat_tests) in
     both_true _ _ files spaces
 
-only_area : (areas : List Area) (file : FileNo) (ioas : ObjId) (address : ℕ) (area : Area) → are_apart areas ≡ true
+pub only_area : (areas : List Area) (file : FileNo) (ioas : ObjId) (address : ℕ) (area : Area) → are_apart areas ≡ true
     → IsIn areas area → is_of file ioas area ≡ true → holds area.span address ≡ true
     → area_at address (areas_of areas file ioas) ≡ Some area
 only_area [] file ioas address area apart within own held = absurd within

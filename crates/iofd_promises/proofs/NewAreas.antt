@@ -48,7 +48,7 @@ is_added area (a ∷ areas) =
     by_order true rest = inl refl
     by_order false rest = inr rest
 
-stays_in : (area : Area) (areas : List Area) (x : Area) → IsIn areas x → IsIn (with_area area areas) x
+pub stays_in : (area : Area) (areas : List Area) (x : Area) → IsIn areas x → IsIn (with_area area areas) x
 stays_in area [] x there = absurd there
 stays_in area (a ∷ areas) x there =
     by_order (is_of area.file area.ioas a && ltb area.span.first a.span.first) there (stays_in area areas x)

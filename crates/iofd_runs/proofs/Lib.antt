@@ -20,6 +20,7 @@ pub mod MissingTables
 pub mod Moves
 pub mod NotRefused
 pub mod ObjectsGo
+pub mod OneMore
 pub mod OwnIds
 pub mod PagesToPin
 pub mod PinnedAccess

@@ -18,8 +18,9 @@ use Rattle.iofd_words.specs.declared.numbers.PassNo.{PassNo}
 use Rattle.iofd_words.specs.declared.record.Record.{Record}
 use Rattle.iofd_words.specs.declared.refusal.Cause.{Cause}
 use Rattle.iofd_words.specs.declared.reply.Reply.{Reply}
+use Rattle.iofd_runs.proofs.OneMore.{run_more, world_more}
 use Rattle.iofd_runs.proofs.SameSettings.{changed_settings}
-use Rattle.iommufd_core.proofs.Histories.{run_more, tidy_run, world_more}
+use Rattle.iommufd_core.proofs.Histories.{tidy_run}
 use Rattle.server_state.specs.Choice.{AreFramesChosen, IsChosen, MayUse}
 use Rattle.iommufd_core.specs.History.{History, may_apply, world}
 use Rattle.iofd_words.specs.Policy.{is_pass_at}

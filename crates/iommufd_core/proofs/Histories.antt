@@ -1,5 +1,5 @@
--- What one more record makes of a run.
-use Rattle.std.proofs.Common.{◌≡◌, ℕ, suc, ◌+◌, true, List, [], ◌∷◌, ◌++◌, length, refl, subst, arith}
+-- What always holds of a run's world.
+use Rattle.std.proofs.Common.{◌≡◌, true, List, length, refl, arith}
 use Rattle.iofd_runs.proofs.KeepsApart.{keeps_apart}
 use Rattle.iofd_runs.proofs.KeepsFits.{keeps_fit, tabled_fit}
 use Rattle.iofd_runs.proofs.KeepsBoundOnce.{DevicesOnce, keeps_once, opening_once, tabled_once}
@@ -12,45 +12,14 @@ use Rattle.iofd_runs.proofs.KeepsUsable.{UsableSound, keeps_usable, opening_usab
 use Rattle.iofd_runs.proofs.Runs.{run_keeps, run_keeps_at, run_keeps_tables}
 use Rattle.iofd_runs.specs.Apart.{are_apart}
 use Rattle.iofd_runs.specs.Fits.{RowsFit}
-use Rattle.iofd_words.specs.Run.{IsRun, IsRunFrom, Lawful, after, world_from, world_of}
+use Rattle.iofd_words.specs.Run.{IsRun, world_of}
 use Rattle.iofd_words.specs.Settings.{Settings}
 use Rattle.iofd_words.specs.Tables.{with_tables}
-use Rattle.iofd_words.specs.World.{World, opening}
+use Rattle.iofd_words.specs.World.{opening}
 use Rattle.iofd_words.specs.declared.record.Record.{Record}
 use Rattle.server_state.specs.Step.{IsTidy}
 
 module _ {A : Type 0} where
-  run_from_more : (at : ℕ) (w : World) (records : List (Record A)) (r : Record A) → IsRunFrom at w records
-      → Lawful (at + length records) (world_from at w records) r → IsRunFrom at w (records ++ r ∷ [])
-  run_from_more at w [] r run lawful =
-      let same : at + 0 ≡ at = omega arith in (subst (λ (n : ℕ). Lawful n w r) same lawful, tt)
-  run_from_more at w (first ∷ records) r run lawful =
-      let same : at + suc (length records) ≡ at + 1 + length records = omega arith in (
-        run.0,
-        run_from_more (at + 1) (after at w first) records r run.1
-            (subst (λ (n : ℕ). Lawful n (world_from (at + 1) (after at w first) records) r) same lawful),
-      )
-
-  pub run_more : (settings : Settings) (records : List (Record A)) (r : Record A) → IsRun settings records
-      → Lawful (length records) (world_of settings records) r → IsRun settings (records ++ r ∷ [])
-  unfolding IsRun world_of
-  run_more settings records r run lawful =
-      let same : length records ≡ 0 + length records = omega arith in
-      run_from_more 0 (opening settings) records r run
-      (subst (λ (n : ℕ). Lawful n (world_from 0 (opening settings) records) r) same lawful)
-
-  world_from_more : (at : ℕ) (w : World) (records : List (Record A)) (r : Record A)
-      → world_from at w (records ++ r ∷ []) ≡ after (at + length records) (world_from at w records) r
-  world_from_more at w [] r = let same : at + 0 ≡ at = omega arith in rw same refl
-  world_from_more at w (first ∷ records) r = let same : at + suc (length records) ≡ at + 1 + length records =
-      omega arith in rw same (world_from_more (at + 1) (after at w first) records r)
-
-  pub world_more : (settings : Settings) (records : List (Record A)) (r : Record A)
-      → world_of settings (records ++ r ∷ []) ≡ after (length records) (world_of settings records) r
-  unfolding world_of
-  world_more settings records r = let same : 0 + length records ≡ length records =
-      omega arith in rw same at (world_from_more 0 (opening settings) records r)
-
   apart_run : (settings : Settings) (records : List (Record A)) → IsRun settings records
       → are_apart (world_of settings records).areas ≡ true
   unfolding IsRun world_of with_tables

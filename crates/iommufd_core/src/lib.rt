@@ -3,6 +3,7 @@
 
 mod apply;
 mod events;
+pub mod laws;
 mod look;
 mod opening;
 mod ranges;

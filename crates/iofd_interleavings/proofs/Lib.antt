@@ -1,0 +1,9 @@
+pub mod Allowed
+pub mod Interleaved
+pub mod KeepsSound
+pub mod OneUser
+pub mod Passes
+pub mod RunsAreSteps
+pub mod StaysAttached
+pub mod StaysCovered
+pub mod StaysSound

@@ -1,0 +1,86 @@
+use Rattle.std.proofs.Common.{refl, arith, inl, [], ◌∷◌}
+use Rattle.iofd_words.specs.After.{changed, settle, without_areas, attached, detached, joined}
+use Rattle.iofd_words.specs.Answers.{Answers}
+use Rattle.iofd_words.specs.Checks.{allow_iovas_checks, attach_checks, bind_checks, close_checks, copy_checks}
+use Rattle.iofd_words.specs.Checks.{destroy_checks, detach_checks, device_write_checks, flush_checks, hwpt_alloc_checks}
+use Rattle.iofd_words.specs.Checks.{ioas_alloc_checks, map_checks, unbind_checks, unmap_checks, user_map_checks}
+use Rattle.iofd_words.specs.Checks.{user_unmap_checks, user_write_checks}
+use Rattle.iofd_words.specs.Levels.{number_at}
+use Rattle.iofd_words.specs.Look.{answers_in}
+use Rattle.iofd_words.specs.Policy.{access_outcomes, outcomes}
+use Rattle.iofd_words.specs.Run.{IsRun, Lawful, after, world_of}
+use Rattle.iofd_words.specs.Tables.{with_tables}
+use Rattle.iofd_words.specs.declared.fault.AccessKind.TheVariants.{Read}
+use Rattle.iofd_words.specs.declared.fault.FaultReason.TheVariants.{ReadDenied}
+use Rattle.iofd_examples.specs.Words.{fault}
+use Rattle.iofd_examples.proofs.Never.{never}
+use Rattle.iofd_interleavings.specs.Steps.{AreSteps, state_after}
+use Rattle.iofd_interleavings_examples.specs.Worked.{entry, fills, flushes, waits}
+use Rattle.iofd_interleavings_examples.proofs.Begun.{begun, first_fills, is_other}
+use Rattle.iofd_interleavings_examples.proofs.Unsound.{only_fault, gone_area}
+use Rattle.iofd_interleavings_examples.proofs.broken.an_unmap_that_does_not_wait_is_unsound.Goals as goal
+
+pub returns-clause-breaks : goal.returns-clause-breaks
+unfolding AreSteps state_after world_of IsRun Lawful after with_tables answers_in Answers allow_iovas_checks
+    attach_checks bind_checks close_checks copy_checks destroy_checks detach_checks device_write_checks flush_checks
+    hwpt_alloc_checks ioas_alloc_checks map_checks unbind_checks unmap_checks user_map_checks user_unmap_checks
+    user_write_checks changed settle without_areas attached detached joined outcomes access_outcomes number_at
+returns-clause-breaks c = record {
+  begins = begun (fills 1 ∷ waits ∷ flushes 2 ∷ []) (
+    first_fills _,
+    (
+      (
+        ((refl, refl), record { enough = refl; free = refl; different = refl; gone = refl; may = refl; rising = refl }),
+        λ d never. cc,
+      ),
+      (
+        (
+          (tt, record { enough = refl; free = refl; different = refl; gone = refl; may = refl; rising = refl }),
+          λ d is. rw (is_other d is) refl,
+        ),
+        tt,
+      ),
+    ),
+  );
+  goes_on = (
+    (
+      (tt, record { enough = refl; free = refl; different = refl; gone = refl; may = refl; rising = refl }),
+      λ d never. cc,
+    ),
+    (
+      (
+        (refl, record { enough = refl; free = refl; different = refl; gone = refl; may = refl; rising = refl }),
+        λ d never. cc,
+      ),
+      tt,
+    ),
+  );
+  unsound = record {
+    sound = λ sound. gone_area _ refl (sound entry (0, omega arith, refl));
+    hit = record { cached = (0, omega arith, refl); page = refl; right = refl; inside = refl };
+    denied = refl;
+    answer = λ has. only_fault (fault 0x08 1 Read ReadDenied) _ has;
+  };
+  given = record { gives = inl refl; cached = (0, omega arith, refl) };
+}
+
+pub returns-clause-world : goal.returns-clause-world
+unfolding AreSteps state_after world_of IsRun Lawful after with_tables answers_in Answers allow_iovas_checks
+    attach_checks bind_checks close_checks copy_checks destroy_checks detach_checks device_write_checks flush_checks
+    hwpt_alloc_checks ioas_alloc_checks map_checks unbind_checks unmap_checks user_map_checks user_unmap_checks
+    user_write_checks changed settle without_areas attached detached joined outcomes access_outcomes number_at
+returns-clause-world c = refl
+
+pub returns-clause-passes : goal.returns-clause-passes
+unfolding AreSteps state_after world_of IsRun Lawful after with_tables answers_in Answers allow_iovas_checks
+    attach_checks bind_checks close_checks copy_checks destroy_checks detach_checks device_write_checks flush_checks
+    hwpt_alloc_checks ioas_alloc_checks map_checks unbind_checks unmap_checks user_map_checks user_unmap_checks
+    user_write_checks changed settle without_areas attached detached joined outcomes access_outcomes number_at
+returns-clause-passes c = refl
+
+pub returns-clause-early : goal.returns-clause-early
+unfolding AreSteps state_after world_of IsRun Lawful after with_tables answers_in Answers allow_iovas_checks
+    attach_checks bind_checks close_checks copy_checks destroy_checks detach_checks device_write_checks flush_checks
+    hwpt_alloc_checks ioas_alloc_checks map_checks unbind_checks unmap_checks user_map_checks user_unmap_checks
+    user_write_checks changed settle without_areas attached detached joined outcomes access_outcomes number_at
+returns-clause-early c = λ lawful. never lawful.0.0

@@ -1,0 +1,44 @@
+use Rattle.std.proofs.Common.{true, refl, arith, inr}
+use Rattle.iofd_words.specs.After.{changed, settle, without_areas, attached, detached, joined}
+use Rattle.iofd_words.specs.Answers.{Answers}
+use Rattle.iofd_words.specs.Checks.{allow_iovas_checks, attach_checks, bind_checks, close_checks, copy_checks}
+use Rattle.iofd_words.specs.Checks.{destroy_checks, detach_checks, device_write_checks, flush_checks, hwpt_alloc_checks}
+use Rattle.iofd_words.specs.Checks.{ioas_alloc_checks, map_checks, unbind_checks, unmap_checks, user_map_checks}
+use Rattle.iofd_words.specs.Checks.{user_unmap_checks, user_write_checks}
+use Rattle.iofd_words.specs.Levels.{number_at}
+use Rattle.iofd_words.specs.Look.{answers_in}
+use Rattle.iofd_words.specs.Policy.{access_outcomes, outcomes}
+use Rattle.iofd_words.specs.Run.{IsRun, Lawful, after, world_of}
+use Rattle.iofd_words.specs.Tables.{with_tables}
+use Rattle.iofd_interleavings.specs.Steps.{AreSteps, state_after}
+use Rattle.iofd_examples.specs.Words.{memory_row, page_row, pin_row}
+use Rattle.iofd_interleavings_examples.proofs.worked.worked_frames.Goals as goal
+
+pub returns-clause-tables : goal.returns-clause-tables
+unfolding AreSteps state_after world_of IsRun Lawful after with_tables answers_in Answers allow_iovas_checks
+    attach_checks bind_checks close_checks copy_checks destroy_checks detach_checks device_write_checks flush_checks
+    hwpt_alloc_checks ioas_alloc_checks map_checks unbind_checks unmap_checks user_map_checks user_unmap_checks
+    user_write_checks changed settle without_areas attached detached joined outcomes access_outcomes number_at
+returns-clause-tables c = inr (1, omega arith, refl)
+
+pub returns-clause-page : goal.returns-clause-page
+unfolding AreSteps state_after world_of IsRun Lawful after with_tables answers_in Answers allow_iovas_checks
+    attach_checks bind_checks close_checks copy_checks destroy_checks detach_checks device_write_checks flush_checks
+    hwpt_alloc_checks ioas_alloc_checks map_checks unbind_checks unmap_checks user_map_checks user_unmap_checks
+    user_write_checks changed settle without_areas attached detached joined outcomes access_outcomes number_at
+returns-clause-page c = record { page = page_row 1 0x10 0; there = (0, omega arith, refl); of = refl; frame_is = refl }
+
+pub returns-clause-pin : goal.returns-clause-pin
+unfolding AreSteps state_after world_of IsRun Lawful after with_tables answers_in Answers allow_iovas_checks
+    attach_checks bind_checks close_checks copy_checks destroy_checks detach_checks device_write_checks flush_checks
+    hwpt_alloc_checks ioas_alloc_checks map_checks unbind_checks unmap_checks user_map_checks user_unmap_checks
+    user_write_checks changed settle without_areas attached detached joined outcomes access_outcomes number_at
+returns-clause-pin c = record {
+  pin = pin_row 2 0 0;
+  there = (0, omega arith, refl);
+  m = memory_row 2 1 0x10000 1 true;
+  among = (0, omega arith, refl);
+  number = refl;
+  of = refl;
+  frame_is = refl;
+}

@@ -1,0 +1,12 @@
+//! Steps of the law of every interleaving, worked by hand; and, for each demand that the law rests on, steps that break
+//! just that one and make it false. Nothing here runs.
+#![tactic(auto)]
+
+mod broken;
+mod worked;
+
+pub use broken::{
+    a_fill_after_the_flush_is_unsound, a_flush_that_keeps_its_cache_is_unsound,
+    a_pin_that_goes_with_its_page_is_unsound, an_unmap_that_does_not_wait_is_unsound,
+};
+pub use worked::{worked_caches, worked_frames, worked_hits, worked_steps_are_steps};
