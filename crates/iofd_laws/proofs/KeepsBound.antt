@@ -134,7 +134,8 @@ keeps_attachments at w (event.HwptAlloc file request) (reply.Id id) none tidy =
     (stays-with_object (made_hwpt file request.ioas id settings) w.objects (λ device. refl)) tidy.attachments)
 keeps_attachments at w (event.Destroy file id) reply.Done none tidy =
     let stay = stays-filter (is_object file id) w.objects
-    (λ device. id_without_device device file id w.objects tidy.sound.own_ids (destroy_passed (view w) file id none).no_device) in
+    (λ device. id_without_device device file id w.objects tidy.sound.own_ids
+    (destroy_passed (view w) file id none).no_device) in
     attachments_stay w.objects (without_object file id w.objects) w.attachments stay tidy.attachments
 keeps_attachments at w (event.Close file) reply.Done none tidy =
     let stay = stays-filter (λ o. eqb o.file.0 file.0) w.objects

@@ -1,6 +1,5 @@
 -- Every event keeps each device bound by at most one object.
-use Rattle.std.proofs.Common.{◌≡◌, ℕ, None, List}
-use Rattle.std.proofs.Common.{arith}
+use Rattle.std.proofs.Common.{◌≡◌, ℕ, None, List, arith}
 use Rattle.iofd_words.specs.After.{changed}
 use Rattle.iofd_words.specs.Answers.{Answers}
 use Rattle.iofd_words.specs.Checks.{refusal}
