@@ -103,7 +103,7 @@ few_by : {A : Type 0} (file : ℕ) (w : World) (e : Event A) (answer : Reply) (n
     → ObjectsMove w e answer new → refusal w e ≡ None → how_many (of_file file) w.objects ≤ 65535
     → how_many (of_file file) new.objects ≤ 65535
 few_by file w e answer new (Same is) none few = rw is few
-few_by file w e answer new (Fewer stays stay is) none few =
+few_by file w e answer new (Fewer stays stay bound is) none few =
     let less = fewer (of_file file) stays w.objects in rw is (omega (arith, less, few))
 few_by file w e answer new (More object fresh admitted makes is) none few =
     rw is (by_file (eqb object.file.0 file) refl (one_object (of_file file) object w.objects))

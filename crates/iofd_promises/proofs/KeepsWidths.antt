@@ -50,12 +50,12 @@ attach_came : {A : Type 0} (w : World) (e : Event A) (answer : Reply) (new : Wor
 attach_came w e answer new (SameAttachments is) none answers own a within = inl (rw is at within)
 attach_came w e answer new (FewerAttachments stays is) none answers own a within =
     inl (in_filter stays w.attachments a (rw is at within)).0
-attach_came w e answer new (OneAttachment attachment bound binding of_file free served is) none answers own a within =
+attach_came w e answer new (OneAttachment one bound binding still of_file free served is) none answers own a within =
     ⊎_elim
-    (λ (one : attachment ≡ a). inr (subst (IsOfWidth w.settings new.objects) one
-    (served_width w new.objects attachment (served none answers own))))
+    (λ (same : one ≡ a). inr (subst (IsOfWidth w.settings new.objects) same
+    (served_width w new.objects one (served none answers own))))
     (λ (old : IsIn w.attachments a). inl old)
-    (in_with_attachment attachment w.attachments a (rw is at within))
+    (in_with_attachment one w.attachments a (rw is at within))
 
 pub record WidthSound (settings : Settings) (w : World) : Type 0 where
   pub opened : w.settings ≡ settings

@@ -198,14 +198,14 @@ module _ {A : Type 0} (at : ℕ) (w : World) (e : Event A) (answer : Reply) (non
       → devices_rise new.attachments ≡ true
   attachments_rise new (SameAttachments is) = rw is fits.rise
   attachments_rise new (FewerAttachments stays is) = rw is (rise-filter stays w.attachments fits.rise)
-  attachments_rise new (OneAttachment a bound binding of_file free served is) =
+  attachments_rise new (OneAttachment a bound binding still of_file free served is) =
       rw is (rise-with_attachment a w.attachments (free none) fits.rise)
 
   attachments_known : (new : World) → AttachmentsMove w e answer new
       → are_attached w.settings new.attachments ≡ true
   attachments_known new (SameAttachments is) = rw is fits.attached
   attachments_known new (FewerAttachments stays is) = rw is (all_filter _ stays w.attachments fits.attached)
-  attachments_known new (OneAttachment a bound binding of_file free served is) =
+  attachments_known new (OneAttachment a bound binding still of_file free served is) =
       rw is (attached_one w.settings a w.attachments
       (bound_known w.settings w.closed w.objects a.device bound fits.known binding).1 fits.attached)
 
@@ -231,7 +231,7 @@ module _ {A : Type 0} (at : ℕ) (w : World) (e : Event A) (answer : Reply) (non
   objects_known new move (Closes file closed objects allowed) =
       rw (closed, objects) (known_closed w.settings w.closed file w.objects fits.known)
   objects_known new (Same is) (StayOpen closed) = rw (closed, is) fits.known
-  objects_known new (Fewer stays stay is) (StayOpen closed) =
+  objects_known new (Fewer stays stay bound is) (StayOpen closed) =
       rw (closed, is) (all_filter (is_known w.settings w.closed) stays w.objects fits.known)
   objects_known new (More object fresh admitted makes is) (StayOpen closed) =
       rw (closed, is) (known_one (is_known w.settings w.closed) object w.objects ((admitted none).known fits.known)

@@ -247,7 +247,7 @@ module _ {A : Type 0} (at : ℕ) (w : World) (e : Event A) (answer : Reply) (non
     by_objects : (new : World) → ObjectsMove w e answer new
         → meets_some (unusable w.settings new.objects w.attachments f i) span ≡ false
     by_objects new (Same is) = rw is stands.clear
-    by_objects new (Fewer stays stay is) =
+    by_objects new (Fewer stays stay bound is) =
         rw is (usable_left w.settings w.objects w.attachments w.attachments stays f i span sound.own_ids
         (λ a within. within) stands.clear)
     by_objects new (More object fresh admitted makes is) =
@@ -267,7 +267,7 @@ module _ {A : Type 0} (at : ℕ) (w : World) (e : Event A) (answer : Reply) (non
           (and_true (is_attached_to new.objects f i a) _ keeps).0,
         ))
         clear)
-    by_attachments new (OneAttachment a bound binding of_file free served is) clear =
+    by_attachments new (OneAttachment a bound binding still of_file free served is) clear =
         let s = served none answers sound.own_ids in
         rw is (usable_attachment w.settings new.objects w.attachments a s.device s.ioas s.width s.automatic s.table
         s.known f i span

@@ -15,7 +15,7 @@ use Rattle.iofd_runs.proofs.Known.{bound_known, is_known}
 use Rattle.iofd_runs.proofs.MappedAt.{LiesAt, copy_lies_at, lies_at}
 use Rattle.iofd_runs.proofs.NotRefused.{AllowPassed, PlacePassed, UserMapPassed, alloc_passed, allow_passed}
 use Rattle.iofd_runs.proofs.NotRefused.{attach_passed, bind_passed, copy_place, hwpt_passed, join_passed, map_passed}
-use Rattle.iofd_runs.proofs.NotRefused.{map_place, user_map_passed}
+use Rattle.iofd_runs.proofs.NotRefused.{map_place, user_map_passed, close_passed, destroy_passed, unbind_passed}
 use Rattle.iofd_runs.proofs.TableEvents.{HwptsStay, MakesNone, TakesNone, closed_stay, destroyed_stay, detached_stay}
 use Rattle.iofd_runs.proofs.TableEvents.{finds_table, leaving_live, paid_live, unbound_stay}
 use Rattle.iofd_runs.proofs.Served.{IsServed, joined_served, made_served}
@@ -25,7 +25,7 @@ use Rattle.iofd_words.specs.After.{device_flushed, unmapped}
 use Rattle.iofd_words.specs.Allowed.{AllowedRanges, allowed_of, with_allowed}
 use Rattle.iofd_words.specs.Answers.{Answers, IsHwptFor, IsHwptOf}
 use Rattle.iofd_words.specs.Areas.{is_of, is_touched, with_area, with_phase, all_paid, paid}
-use Rattle.iofd_words.specs.Attachments.{attachment_of, with_attachment}
+use Rattle.iofd_words.specs.Attachments.{attachment_of, with_attachment, without_attachment}
 use Rattle.iofd_words.specs.Bounds.{Bounds}
 use Rattle.iofd_words.specs.Checks.{lacks_room_for_hwpt, narrows, narrows_by_width, narrows_without, refusal}
 use Rattle.iofd_words.specs.Usable.{beyond, reserved_by}
@@ -59,7 +59,7 @@ use Rattle.iofd_words.specs.declared.rows.ObjectKind.{ObjectKind}
 use Rattle.iofd_words.specs.declared.rows.ObjectKind.TheVariants as kind
 use Rattle.iofd_words.specs.declared.rows.Phase.{Phase}
 use Rattle.iofd_words.specs.declared.rows.UserPage.{UserPage}
-use Rattle.iofd_rows.proofs.Found.{all_filter, all_map}
+use Rattle.iofd_rows.proofs.Found.{all_filter, all_map, find-with_object}
 use Rattle.iofd_rows.proofs.OwnMemory.{all-with_area}
 use Rattle.iofd_runs.proofs.PagesToPin.{ArePresent, PagesAlike, alike_objects, alike_paid, alike_phases, moved_new}
 use Rattle.iofd_runs.proofs.PagesToPin.{none_comes, none_over}
@@ -68,6 +68,9 @@ use Rattle.iofd_runs.proofs.CopiedPages.{added_page, copied_present}
 use Rattle.iofd_runs.proofs.MappedPages.{mapped_present}
 use Rattle.iofd_rows.proofs.PageTables.{hwpt-filter, hwpt-unbound, same_hwpt}
 use Rattle.iofd_rows.specs.Pinned.{ArePinned}
+use Rattle.iofd_runs.proofs.BoundStay.{BoundStay, closed_bound, destroyed_bound, detached_bound}
+use Rattle.iofd_rows.proofs.Bound.{attachments-unbound}
+use Rattle.iofd_words.specs.declared.width.Width.{Width}
 
 -- ---- what an event may make of the rows
 
@@ -86,10 +89,11 @@ pub record IsAdmitted (w : World) (object : Object) : Type 0 where
   pub unbound : (device : DeviceNo) → is_bound_as device object.kind ≡ true → binding_of w.objects device ≡ None
   pub wide : IsWide w object.file object.kind
 
--- objects: the same, fewer, or one more, under a fresh id
+-- objects: the same, fewer, by which no attached device is unbound, or one more, under a fresh id
 pub data ObjectsMove {A : Type 0} (w : World) (e : Event A) (answer : Reply) (new : World) : Type 0 where
   Same : new.objects ≡ w.objects → ObjectsMove w e answer new
   Fewer : (stays : Object → Bool) → (TakesNone w e → HwptsStay w.objects (filter stays w.objects))
+      → (refusal w e ≡ None → BoundStay w (filter stays w.objects))
       → new.objects ≡ filter stays w.objects → ObjectsMove w e answer new
   More : (object : Object) → (Answers w e answer → is_fresh w.objects object.file object.id ≡ true)
       → (refusal w e ≡ None → IsAdmitted w object) → (MakesNone w e → is_hwpt object.kind ≡ false)
@@ -127,12 +131,13 @@ pub data AreasMove {A : Type 0} (at : ℕ) (w : World) (e : Event A) (answer : R
       → SameTranslations w new → new.areas ≡ with_area (mapped_area number file request iova) w.areas
       → MemoryUnder at w e file request iova number new.memory → AreasMove at w e answer new
 
--- attachments: the same, fewer, or one more, of a device that is bound to its file and wasn't attached
+-- attachments: the same, fewer, or one more, of a device that is bound to its file, and stays so, and wasn't attached
 pub data AttachmentsMove {A : Type 0} (w : World) (e : Event A) (answer : Reply) (new : World) : Type 0 where
   SameAttachments : new.attachments ≡ w.attachments → AttachmentsMove w e answer new
   FewerAttachments : (stays : Attachment → Bool) → new.attachments ≡ filter stays w.attachments
       → AttachmentsMove w e answer new
-  OneAttachment : (a : Attachment) (bound : Object) → binding_of w.objects a.device ≡ Some bound → bound.file ≡ a.file
+  OneAttachment : (a : Attachment) (bound : Object) → binding_of w.objects a.device ≡ Some bound
+      → binding_of new.objects a.device ≡ Some bound → bound.file ≡ a.file
       → (refusal w e ≡ None → is_some (attachment_of w.attachments a.device) ≡ false)
       → (refusal w e ≡ None → Answers w e answer → have_own_ids w.objects ≡ true → IsServed w new.objects a)
       → new.attachments ≡ with_attachment a w.attachments → AttachmentsMove w e answer new
@@ -242,6 +247,15 @@ hwpt_moves w device ioas id object d bound known named None is answers new same 
   where
     no_table : finds_table w.objects ioas (binding_of w.objects device) (device_of w.settings device) ≡ true → ⊥
     no_table finds = let found = rw (bound, known, named, is) at finds in cc
+
+-- it binds no device
+hwpt_binds : (device : DeviceNo) (file : FileNo) (ioas id : ObjId) (width : Width) (o : Option Object)
+    (objects : List Object)
+    → binding_of (with_hwpt file ioas id width o objects) device ≡ binding_of objects device
+hwpt_binds device file ioas id width (Some automatic) objects = refl
+hwpt_binds device file ioas id width None objects =
+    find-with_object (λ o. is_bound_as device o.kind)
+    (record { file = file; id = id; kind = kind.Hwpt ioas width true }) objects refl
 
 -- ---- each event
 
@@ -378,13 +392,15 @@ changed_moves {A = A} at w (event.HwptAlloc file request) (reply.Id id) =
     (hwpt_passed (view w) file request none).present
     (moved_new w w.areas _ page (λ objects number. refl) within before))))
 changed_moves at w (event.Destroy file id) reply.Done =
-    moves at w _ _ _ (Fewer _ (λ takes. destroyed_stay w file id takes) refl) (FewerAreas (is_of file id) refl refl)
-    (SameAttachments refl) (SameMemory refl refl)
+    moves at w _ _ _ (Fewer _ (λ takes. destroyed_stay w file id takes)
+    (λ none. destroyed_bound w file id (destroy_passed (view w) file id none).no_device) refl)
+    (FewerAreas (is_of file id) refl refl) (SameAttachments refl) (SameMemory refl refl)
     (Settled refl (λ none p page within before. absurd (none_comes w (is_of file id) _ page
     (λ own ioas has. hwpt-filter _ w.objects own ioas has) within before)))
     (FewerAllowed _ (λ f i. (_, allowed_without file id w.allowed f i)) refl) (StayOpen refl) refl refl
 changed_moves at w (event.Close file) reply.Done =
-    moves at w _ _ _ (Fewer _ (λ takes. closed_stay w file takes) refl)
+    moves at w _ _ _ (Fewer _ (λ takes. closed_stay w file takes)
+    (λ none. closed_bound w file (close_passed (view w) file none).no_device) refl)
     (FewerAreas (λ (a : Area). eqb a.file.0 file.0) refl refl) (FewerAttachments _ refl) (SameMemory refl refl)
     (Settled refl (λ none p page within before. absurd (none_comes w (λ (a : Area). eqb a.file.0 file.0) _ page
     (λ own ioas has. hwpt-filter _ w.objects own ioas has) within before)))
@@ -408,7 +424,9 @@ changed_moves at w (event.Bind file device) (reply.Id id) =
     })
     (λ makes. refl) refl) (λ own ioas. same_hwpt _ w.objects own ioas refl)
 changed_moves at w (event.Unbind file id) reply.Done =
-    object_moves at w (event.Unbind file id) reply.Done _ (Fewer _ (λ takes. unbound_stay w file id) refl)
+    object_moves at w (event.Unbind file id) reply.Done _ (Fewer _ (λ takes. unbound_stay w file id)
+    (λ none own once bound. attachments-unbound w file id own once (unbind_passed (view w) file id none).unattached
+    bound) refl)
     (hwpt-unbound w.objects file id)
 changed_moves {A = A} at w (event.Attach device pt_id) (reply.Id id) =
     let e : Event A = event.Attach device pt_id in
@@ -418,7 +436,8 @@ changed_moves {A = A} at w (event.Attach device pt_id) (reply.Id id) =
     reach_moves at w e (reply.Id id) (settle w (attached w device pt_id id object d)) refl
     (hwpt_moves w device pt_id id object d bound known space automatic refl made _ refl)
     (OtherPhases _ (λ a live. paid_live device a.phase live) refl refl)
-    (OneAttachment (record { device = device; file = object.file; hwpt = id }) object bound refl
+    (OneAttachment (record { device = device; file = object.file; hwpt = id }) object bound
+    (hwpt_binds device object.file pt_id id d.width automatic w.objects ∙ bound) refl
     (λ none. (attach_passed (view w) device pt_id object bound space none).unattached)
     (λ none answers own. made_served w device object.file pt_id id d automatic own known refl (made answers)
     (sym (ap (narrows (view w) object.file pt_id) known)
@@ -428,7 +447,7 @@ changed_moves {A = A} at w (event.Attach device pt_id) (reply.Id id) =
     (λ object d ioas width automatic bound known table same.
     reach_moves at w e (reply.Id id) (joined w device id object) refl (Same refl)
     (OtherPhases _ (λ a live. paid_live device a.phase live) refl refl)
-    (OneAttachment (record { device = device; file = object.file; hwpt = id }) object bound refl
+    (OneAttachment (record { device = device; file = object.file; hwpt = id }) object bound bound refl
     (λ none. (join_passed (view w) device pt_id ioas width automatic object bound table none).unattached)
     (λ none answers own. joined_served w device object ioas id d width automatic known (rw (same answers) table)
     (join_passed (view w) device pt_id ioas width automatic object bound table none)) refl)
@@ -437,7 +456,8 @@ changed_moves {A = A} at w (event.Detach device) reply.Done =
     let e : Event A = event.Detach device in
     by_attachment w device (Moves at w e reply.Done) (stays at w e reply.Done) (λ a is.
     reach_moves at w e reply.Done (settle w (detached w device a)) refl
-    (Fewer _ (λ takes. detached_stay w device a is takes) refl)
+    (Fewer _ (λ takes. detached_stay w device a is takes)
+    (λ none. detached_bound w a (without_attachment device w.attachments)) refl)
     (OtherPhases _ (λ area live. paid_live device area.phase live) refl refl) (FewerAttachments _ refl)
     (Settled refl (λ none p page within before. absurd (none_new w _ page
     (λ own ioas has. hwpt-filter _ w.objects own ioas has)

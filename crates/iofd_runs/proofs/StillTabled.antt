@@ -189,7 +189,7 @@ none_after at w e answer makes none =
   where
     hwpts : (new : World) → ObjectsMove w e answer new → HwptsIn w.objects new.objects
     hwpts new (Same is) = rw is (hwpts_same w.objects)
-    hwpts new (Fewer stays stay is) = rw is (hwpts_fewer stays w.objects)
+    hwpts new (Fewer stays stay bound is) = rw is (hwpts_fewer stays w.objects)
     hwpts new (More object fresh admitted other is) = rw is (hwpts_other object w.objects (other makes))
 
     lived : (new : World) → AreasMove at w e answer new → LiveIn w.areas new.areas
@@ -276,7 +276,7 @@ owned_after at w e answer answers takes all =
   where
     by_move : (new : World) → ObjectsMove w e answer new → HwptsStay w.objects new.objects
     by_move new (Same is) = rw is (stay_same w.objects)
-    by_move new (Fewer stays stay is) = rw is (stay takes)
+    by_move new (Fewer stays stay bound is) = rw is (stay takes)
     by_move new (More object fresh admitted other is) =
         rw is (stay_with object w.objects (unused w.objects object.file object.id (fresh answers)))
 
