@@ -3,25 +3,21 @@ use Rattle.std.proofs.Common.{◌≡◌, ◌<◌, ℕ, ◌+◌, Bool, true, fals
 use Rattle.std.proofs.Common.{◌∷◌, ◌++◌, length, refl, sym, ap, ◌∙◌, subst, arith, ◌⊎◌, inl, inr, ⊎_elim}
 use Rattle.std.specs.List.{list_any}
 use Rattle.std.proofs.lemmas.Bool.Decides.{nat_tests}
-use Rattle.iofd_words.specs.After.{attach_changes, attached, changed, copy_changes, detach_changes, detached}
-use Rattle.iofd_words.specs.After.{hwpt_changes, joined, map_changes, memory_object, settle, target_changes}
-use Rattle.iofd_words.specs.After.{without_areas}
+use Rattle.iofd_words.specs.After.{changed, memory_object}
 use Rattle.iofd_words.specs.Answers.{Answers}
-use Rattle.iofd_words.specs.Areas.{areas_of}
-use Rattle.iofd_words.specs.Attachments.{attachment_of}
 use Rattle.iofd_words.specs.Checks.{refusal}
-use Rattle.iofd_words.specs.Copies.{source_in}
-use Rattle.iofd_words.specs.Files.{device_of, user_of}
-use Rattle.iofd_words.specs.Frames.{FrameWrite, is_free, is_reached}
-use Rattle.iofd_words.specs.Objects.{binding_of, kind_of, settings_under}
+use Rattle.iofd_words.specs.Frames.{is_free, is_reached}
 use Rattle.iofd_words.specs.Pins.{ObjectPage, is_page, page_of_pin, pinned_pages}
 use Rattle.iofd_words.specs.Run.{IsRun, world_of}
-use Rattle.iofd_words.specs.Settings.{DeviceSettings, Settings}
+use Rattle.iofd_words.specs.Settings.{Settings}
 use Rattle.iofd_words.specs.Tables.{with_tables}
 use Rattle.iofd_words.specs.World.{World, opening}
 use Rattle.iofd_words.specs.declared.event.Event.{Event}
 use Rattle.iofd_words.specs.declared.event.Event.TheVariants as event
+use Rattle.iofd_words.specs.declared.event.MapRequest.{MapRequest}
+use Rattle.iofd_words.specs.declared.numbers.FileNo.{FileNo}
 use Rattle.iofd_words.specs.declared.numbers.FrameNo.{FrameNo}
+use Rattle.iofd_words.specs.declared.numbers.Iova.{Iova}
 use Rattle.iofd_words.specs.declared.numbers.UserNo.{UserNo}
 use Rattle.iofd_words.specs.declared.record.Record.{Record}
 use Rattle.iofd_words.specs.declared.reply.Reply.{Reply}
@@ -43,7 +39,9 @@ use Rattle.iofd_runs.proofs.KeepsPins.{keeps_pins, later_pinned, opening_pinned,
 use Rattle.iofd_runs.proofs.Runs.{run_keeps_at}
 use Rattle.iofd_promises.specs.Owners.{IsUsersPage}
 use Rattle.iofd_promises.proofs.Lists.{in_append}
-use Rattle.iofd_promises.proofs.Moves.{FewerPages, MemoryMoves, OnePage, SameMemory, Written, changed_moves}
+use Rattle.iofd_runs.proofs.Moves.{AreasMove, FewerAreas, OneArea, OtherPhases, SameAreas}
+use Rattle.iofd_runs.proofs.Moves.{FewerPages, MemoryMoves, OnePage, SameMemory, Written, changed_moves}
+use Rattle.iofd_runs.proofs.Moves.{MemoryUnder, NewMemory, SharedMemory}
 use Rattle.iofd_promises.proofs.NewPins.{pin_from}
 use Rattle.iofd_promises.proofs.Rows.{contains, within}
 use Rattle.iofd_interleavings.specs.FramesApart.{AreOfOneUser, IsPageAt, IsPinAt, IsUsedBy}
@@ -55,68 +53,34 @@ abbrev Came : ℕ → World → List MemoryObject → Type 0
 Came at w memory = (m : MemoryObject) → IsIn memory m → IsIn w.memory m ⊎ (m.number ≡ at)
 
 came : {A : Type 0} → (at : ℕ) (w : World) (e : Event A) (answer : Reply) → Came at w (changed at w e answer).memory
-unfolding changed settle without_areas attached detached joined
-came at w (event.IoasAlloc file) (reply.Id id) m there = inl there
-came at w (event.Map file request) (reply.Iova iova) m there = mapped (user_of w.settings file) there
+came {A = A} at w e answer m there = by_move (changed_moves at w e answer).areas
   where
-    mapped : (user : Option UserNo) → IsIn (map_changes at w file request iova user).memory m
-        → IsIn w.memory m ⊎ (m.number ≡ at)
-    mapped None there = inl there
-    mapped (Some user) there = ⊎_elim
+    new : World
+    new = changed at w e answer
+
+    still : new.memory ≡ w.memory → IsIn w.memory m ⊎ (m.number ≡ at)
+    still same = inl (subst (λ (l : List MemoryObject). IsIn l m) same there)
+
+    under : (file : FileNo) (request : MapRequest) (iova : Iova) (number : ℕ)
+        → MemoryUnder at w e file request iova number new.memory → IsIn w.memory m ⊎ (m.number ≡ at)
+    under file request iova number (NewMemory user of long is same) = ⊎_elim
         (λ (old : IsIn w.memory m). inl old)
-        (λ (new : IsIn (memory_object at user request ∷ []) m). inr (made new))
-        (in_append w.memory (memory_object at user request ∷ []) m there)
+        (λ (made : IsIn (memory_object at user request ∷ []) m). inr (of_new made))
+        (in_append w.memory (memory_object at user request ∷ []) m
+        (subst (λ (l : List MemoryObject). IsIn l m) same there))
       where
-        made : IsIn (memory_object at user request ∷ []) m → m.number ≡ at
-        made (inl same) = sym (ap (λ (x : MemoryObject). x.number) same)
-        made (inr none) = absurd none
-came at w (event.Copy file request) (reply.Iova iova) m there =
-    copied (source_in (areas_of w.areas file request.src_ioas) request) there
-  where
-    copied : (source : Option Area) → IsIn (copy_changes w file request iova source).memory m
-        → IsIn w.memory m ⊎ (m.number ≡ at)
-    copied None there = inl there
-    copied (Some source) there = inl there
-came at w (event.Unmap file request) (reply.Bytes count) m there = inl (in_filter _ w.memory m there).0
-came at w (event.Unmap file request) (reply.Pending errno) m there = inl there
-came at w (event.HwptAlloc file request) (reply.Id id) m there =
-    made (settings_under w.settings w.objects file request.device) there
-  where
-    made : (settings : Option DeviceSettings) → IsIn (hwpt_changes w file request.ioas id settings).memory m
-        → IsIn w.memory m ⊎ (m.number ≡ at)
-    made None there = inl there
-    made (Some settings) there = inl there
-came at w (event.Destroy file id) reply.Done m there = inl (in_filter _ w.memory m there).0
-came at w (event.Close file) reply.Done m there = inl (in_filter _ w.memory m there).0
-came at w (event.UserMap user va) (reply.Frame frame) m there = inl there
-came at w (event.AllowIovas file ioas ranges) reply.Done m there = inl there
-came at w (event.UserUnmap user va) reply.Done m there = inl there
-came at w (event.UserWrite user va bytes) reply.Done m there = inl there
-came at w (event.Bind file device) (reply.Id id) m there = inl there
-came at w (event.Unbind file id) reply.Done m there = inl there
-came at w (event.Attach device pt_id) (reply.Id id) m there =
-    bound (binding_of w.objects device) (device_of w.settings device) there
-  where
-    bound : (object : Option Object) (settings : Option DeviceSettings)
-        → IsIn (attach_changes w device pt_id id object settings).memory m → IsIn w.memory m ⊎ (m.number ≡ at)
-    bound None settings there = inl there
-    bound (Some object) None there = inl there
-    bound (Some object) (Some settings) there = by_kind (kind_of w.objects object.file pt_id) there
-      where
-        by_kind : (k : Option ObjectKind) → IsIn (target_changes w device pt_id id object settings k).memory m
-            → IsIn w.memory m ⊎ (m.number ≡ at)
-        by_kind (Some kind.Ioas) there = inl there
-        by_kind (Some (kind.Hwpt ioas width automatic)) there = inl there
-        by_kind k there = inl there
-came at w (event.Detach device) reply.Done m there = attached_or_not (attachment_of w.attachments device) there
-  where
-    attached_or_not : (a : Option Attachment) → IsIn (detach_changes w device a).memory m
-        → IsIn w.memory m ⊎ (m.number ≡ at)
-    attached_or_not None there = inl there
-    attached_or_not (Some a) there = inl there
-came at w (event.Flush device) reply.Done m there = inl there
-came at w (event.DeviceWrite device iova bytes) (reply.Passed frame) m there = inl there
-came at w e answer m there = inl there
+        of_new : IsIn (memory_object at user request ∷ []) m → m.number ≡ at
+        of_new (inl is) = sym (ap (λ (x : MemoryObject). x.number) is)
+        of_new (inr none) = absurd none
+    under file request iova number (SharedMemory source within of long is same) = still same
+
+    by_move : AreasMove at w e answer new → IsIn w.memory m ⊎ (m.number ≡ at)
+    by_move (SameAreas areas same) = still same
+    by_move (FewerAreas goes areas same) =
+        inl (in_filter _ w.memory m (subst (λ (l : List MemoryObject). IsIn l m) same there)).0
+    by_move (OtherPhases phase dead areas same) = still same
+    by_move (OneArea number file request iova placed lies makes translations areas memory) =
+        under file request iova number memory
 
 -- two of one number are one
 one_object : (memory : List MemoryObject) (m n : MemoryObject) → have_own_numbers memory ≡ true → IsIn memory m
@@ -210,7 +174,7 @@ module _ {A : Type 0} (at : ℕ) (w : World) (e : Event A) (answer : Reply) (non
   used frame user (inr u) = ⊎_elim
       (λ (old : IsIn w.pins u.pin). inl (old_pin frame user u old))
       (λ (page : IsUsersPage new u.pin). inr (new_pin frame user u page))
-      (pin_from w u.pin new (changed_moves at w e answer none answers).pins (within new.pins u.pin u.there))
+      (pin_from w u.pin at e new (changed_moves at w e answer).pins (within new.pins u.pin u.there))
 
   page_was : (frame : ℕ) (user : UserNo) (u : IsPageAt new frame user) → IsIn w.user_pages u.page
       → IsUsedBy w frame user
@@ -284,23 +248,22 @@ module _ {A : Type 0} (at : ℕ) (w : World) (e : Event A) (answer : Reply) (non
       both frame a b (inr first) (inr second) = ap (λ (u : UserNo). u.0) (sym first.1 ∙ second.1)
 
   one_user_after : AreOfOneUser w → AreOfOneUser new
-  one_user_after one = by_move _ _ _ (changed_moves at w e answer none answers).memory
+  one_user_after one = by_move (changed_moves at w e answer).memory
     where
       free_frame : (frame : ℕ) → is_free w.settings.pool w.user_pages w.pins w.table_frames frame ≡ true
           → is_reached w.user_pages w.pins w.table_frames frame ≡ false
       free_frame frame is = not_true _ (and_true (ltb frame w.settings.pool)
           (not (is_reached w.user_pages w.pins w.table_frames frame)) is).1
 
-      by_move : (changes : Bool) (told : Reply) (writes : List FrameWrite)
-          → MemoryMoves w changes told new.user_pages writes → AreOfOneUser new
-      by_move changes told writes (SameMemory pages same) =
+      by_move : MemoryMoves w e answer new → AreOfOneUser new
+      by_move (SameMemory pages same) =
           no_page_comes (λ page there. subst (λ (ps : List UserPage). IsIn ps page) pages there) one
-      by_move changes told writes (OnePage user va frame passed free is pages less) =
-          page_comes _ pages (free_frame frame.0 free) one
-      by_move changes told writes (FewerPages stays pages same) =
+      by_move (OnePage user va frame passed free is pages less) =
+          page_comes _ pages (free_frame frame.0 (free answers)) one
+      by_move (FewerPages stays pages same) =
           no_page_comes (λ page there. (in_filter stays w.user_pages page
           (subst (λ (ps : List UserPage). IsIn ps page) pages there)).0) one
-      by_move changes told writes (Written changed_bytes pages) =
+      by_move (Written written pages) =
           no_page_comes (λ page there. subst (λ (ps : List UserPage). IsIn ps page) pages there) one
 
 -- ---- in every run

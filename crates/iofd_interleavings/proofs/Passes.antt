@@ -54,7 +54,7 @@ use Rattle.iofd_runs.specs.Fits.{RowsFit, begins_at_page, is_of_pages}
 use Rattle.iofd_runs.specs.InUsable.{is_in_usable}
 use Rattle.iofd_runs.proofs.KeepsUsable.{UsableSound}
 use Rattle.iofd_runs.proofs.Runs.{run_keeps}
-use Rattle.iofd_laws.proofs.Bound.{attachments_bound, is_bound_to, is_of_file}
+use Rattle.iofd_rows.proofs.Bound.{attachments_bound, is_bound_to, is_of_file}
 use Rattle.iofd_laws.proofs.KeepsBound.{IsTidy, keeps_tidy, opening_tidy, tabled_tidy}
 use Rattle.iofd_promises.proofs.Denials.{meet_at, only_area}
 use Rattle.iofd_promises.proofs.Facts.{apart_of, fits_of, usable_of, widths_of}

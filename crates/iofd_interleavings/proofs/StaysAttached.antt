@@ -45,7 +45,7 @@ use Rattle.iofd_runs.proofs.ObjectsGo.{owed_closed, owed_destroyed, owed_unbound
 use Rattle.iofd_runs.proofs.OwnIds.{unused}
 use Rattle.iofd_runs.proofs.PinnedAccess.{attached_hwpt}
 use Rattle.iofd_runs.proofs.StillTabled.{in_kept}
-use Rattle.iofd_laws.proofs.Bound.{attachments_bound, is_bound_to, is_of_file}
+use Rattle.iofd_rows.proofs.Bound.{attachments_bound, is_bound_to, is_of_file}
 use Rattle.iofd_laws.proofs.KeepsBound.{IsTidy}
 
 -- ---- an area that only this device owes a flush: what the law of debts says of it is that the device is attached

@@ -1,11 +1,10 @@
 -- Areas of an address space stand by rising start.
-use Rattle.std.proofs.Common.{◌≡◌, ℕ, Bool, true, false, cond, ◌&&◌, ltb, None, List, [], ◌∷◌, refl, ap}
-use Rattle.std.proofs.Common.{◌∙◌, arith}
+use Rattle.std.proofs.Common.{◌≡◌, ℕ, Bool, true, false, cond, ◌&&◌, ltb, None, List, [], ◌∷◌, refl, ap, ◌∙◌, arith}
+use Rattle.std.proofs.Common.{not}
 use Rattle.std.specs.Prelude.{map}
 use Rattle.std.specs.List.{filter, list_all}
 use Rattle.std.proofs.lemmas.Bool.Decides.{nat_tests}
-use Rattle.iofd_words.specs.After.{changed}
-use Rattle.iofd_words.specs.After.{mapped_area}
+use Rattle.iofd_words.specs.After.{changed, mapped_area}
 use Rattle.iofd_words.specs.Answers.{Answers}
 use Rattle.iofd_words.specs.Areas.{is_of, with_area, with_phase}
 use Rattle.iofd_words.specs.Checks.{refusal}
@@ -19,7 +18,6 @@ use Rattle.iofd_rows.proofs.Bools.{and_true, both_true}
 use Rattle.iofd_rows.proofs.Found.{all_filter, all_weaker}
 use Rattle.iofd_rows.proofs.OwnMemory.{all-with_area}
 use Rattle.iofd_runs.proofs.Moves.{AreasMove, SameAreas, FewerAreas, OtherPhases, OneArea, changed_moves}
-use Rattle.std.proofs.Common.{not}
 
 -- ---- one more area
 

@@ -39,7 +39,8 @@ use Rattle.iofd_words.specs.declared.rows.Phase.{Phase}
 use Rattle.iofd_words.specs.declared.rows.Phase.TheVariants.{Live, Leaving}
 use Rattle.iofd_words.specs.declared.width.Width.{Width}
 use Rattle.iofd_rows.proofs.Bools.{and_true, not_false}
-use Rattle.iofd_laws.proofs.Bound.{AreBound, is_bound_to, is_of_file}
+use Rattle.iofd_laws.proofs.Bound.{AreBound}
+use Rattle.iofd_rows.proofs.Bound.{is_bound_to, is_of_file}
 use Rattle.iofd_rows.proofs.Found.{found_passes}
 use Rattle.iofd_runs.proofs.CopySource.{source_area}
 use Rattle.iofd_runs.proofs.NotRefused.{detach_passed, flush_passed, passes}

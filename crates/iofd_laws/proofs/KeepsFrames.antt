@@ -1,8 +1,7 @@
 -- A page that stays pinned keeps its frame, and one that becomes pinned takes the frame that its user has there.
-use Rattle.std.proofs.Common.{ℕ, Bool, true, false, Option, Some, None, refl, sym, subst}
+use Rattle.std.proofs.Common.{ℕ, Bool, true, false, Option, Some, None, refl, sym, subst, List, ap, ◌∙◌}
 use Rattle.std.specs.List.{list_any}
-use Rattle.iofd_words.specs.After.{changed}
-use Rattle.iofd_words.specs.After.{settle}
+use Rattle.iofd_words.specs.After.{changed, settle}
 use Rattle.iofd_words.specs.Checks.{refusal}
 use Rattle.iofd_words.specs.Pins.{ObjectPage, frame_now, is_page, pinned_frame, pinned_pages}
 use Rattle.iofd_words.specs.Run.{after, after_answer}
@@ -15,7 +14,6 @@ use Rattle.iofd_laws.specs.Laws.{PinMoves, pin_moves}
 use Rattle.iofd_rows.proofs.PinsFollow.{settled_at, settled_frame}
 use Rattle.iofd_runs.proofs.Moves.{PinsMove, SamePins, Settled, changed_moves}
 use Rattle.iofd_words.specs.declared.rows.Pin.{Pin}
-use Rattle.std.proofs.Common.{List, ap, ◌∙◌}
 use Rattle.iofd_words.specs.declared.event.Event.{Event}
 
 same : (old now : Option FrameNo) → PinMoves old old now

@@ -18,8 +18,7 @@ use Rattle.iofd_words.specs.Checks.{copy_checks, map_checks, newly_pinned, passe
 use Rattle.iofd_words.specs.Copies.{placed_as}
 use Rattle.iofd_words.specs.Files.{limit_of, user_of}
 use Rattle.iofd_words.specs.FirstTrue.{first_true}
-use Rattle.iofd_words.specs.Objects.{automatic_hwpt, has_hwpt, is_object, settings_under}
-use Rattle.iofd_words.specs.Objects.{without_object}
+use Rattle.iofd_words.specs.Objects.{automatic_hwpt, has_hwpt, is_object, settings_under, without_object}
 use Rattle.iofd_words.specs.Pins.{ObjectPage, is_page, is_translated, pages_of, pinned_frame, settled, unpinned_pages}
 use Rattle.iofd_words.specs.Settings.{Settings}
 use Rattle.iofd_words.specs.Tables.{with_tables}
@@ -47,8 +46,7 @@ use Rattle.iofd_rows.specs.Pinned.{ArePinned}
 use Rattle.iofd_rows.proofs.Bools.{and_rest, and_true, both_true, clash, not_false, not_true}
 use Rattle.iofd_rows.proofs.Each.{IsIn, of_any, of_each}
 use Rattle.iofd_rows.proofs.ListTests.{false_else}
-use Rattle.iofd_rows.proofs.ObjectPages.{has_page, in_pinned, is_listed, listed_is}
-use Rattle.iofd_rows.proofs.ObjectPages.{translated-with_area, untranslated}
+use Rattle.iofd_rows.proofs.ObjectPages.{has_page, in_pinned, is_listed, listed_is, translated-with_area, untranslated}
 use Rattle.iofd_rows.proofs.PageCounts.{count_either, count_none, count_weaker, page_count, page_count_bound}
 use Rattle.iofd_rows.proofs.PageCounts.{page_count_filter, page_count_last, page_count_none}
 use Rattle.iofd_rows.proofs.PageLists.{in_pages, page_itself}

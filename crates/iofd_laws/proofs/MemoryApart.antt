@@ -37,7 +37,8 @@ use Rattle.iofd_rows.proofs.ListTests.{alike, any-filter, any_of_all, any_weaker
 use Rattle.iofd_rows.proofs.ObjectPages.{has_page, in_pinned, is_listed, listed_is}
 use Rattle.iofd_rows.proofs.PageLists.{at_page}
 use Rattle.iofd_rows.proofs.PinsFollow.{pin_is_of}
-use Rattle.iofd_runs.proofs.Moves.{AreasMove, SameAreas, FewerAreas, OtherPhases, OneArea, NewMemory, SharedMemory, changed_moves}
+use Rattle.iofd_runs.proofs.Moves.{AreasMove, SameAreas, FewerAreas, OtherPhases, OneArea, NewMemory, SharedMemory}
+use Rattle.iofd_runs.proofs.Moves.{changed_moves, MemoryUnder}
 
 flipped : (a b : ℕ) → eqb a b ≡ true → eqb b a ≡ true
 flipped a b is = grind (arith, nat_tests)
@@ -239,10 +240,13 @@ keeps_object at w e answer number some has =
     by_move new (FewerAreas goes is left) has =
         rw left (gone_object goes w.areas w.memory number (rw is at has))
     by_move new (OtherPhases phase lives is same) has = rw same refl
-    by_move new (OneArea n file request iova passed lies makes alike is (NewMemory user known short at_end more)) has =
-        rw more (found_before (λ (m : MemoryObject). eqb m.number number) w.memory _ some)
-    by_move new (OneArea n file request iova passed lies makes alike is (SharedMemory source within of_file size of same))
-        has = rw same refl
+    by_move new (OneArea own file request iova passed lies makes alike is under) has = by_memory under
+      where
+        by_memory : MemoryUnder at w e file request iova own new.memory
+            → object_numbered new.memory number ≡ object_numbered w.memory number
+        by_memory (NewMemory user known short at_end more) =
+            rw more (found_before (λ (m : MemoryObject). eqb m.number number) w.memory _ some)
+        by_memory (SharedMemory source within of_file size of same) = rw same refl
 
 after_object : {A : Type 0} (at : ℕ) (w : World) (r : Record A) (number : ℕ)
     → is_some (object_numbered w.memory number) ≡ true

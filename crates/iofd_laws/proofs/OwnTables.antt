@@ -3,8 +3,7 @@ use Rattle.std.proofs.Common.{◌≡◌, ℕ, Bool, true, false, cond, ◌&&◌,
 use Rattle.std.proofs.Common.{List, [], ◌∷◌, length, refl, ap, ◌∙◌, subst}
 use Rattle.std.specs.List.{filter, list_all, list_any}
 use Rattle.std.proofs.lemmas.List.Folds.{list_all-append, list_any-append}
-use Rattle.iofd_words.specs.After.{changed}
-use Rattle.iofd_words.specs.After.{settle}
+use Rattle.iofd_words.specs.After.{changed, settle}
 use Rattle.iofd_words.specs.Answers.{Answers}
 use Rattle.iofd_words.specs.Checks.{refusal}
 use Rattle.iofd_words.specs.Frames.{is_free, is_reached}
@@ -34,7 +33,8 @@ use Rattle.iofd_runs.proofs.SameTables.{same_tables}
 use Rattle.iofd_runs.proofs.StillTabled.{none_given}
 use Rattle.iofd_laws.proofs.OwnFrames.{flipped, given_free, never_written}
 use Rattle.iofd_laws.specs.Laws.{TablesAlone, is_alone, tables_differ}
-use Rattle.iofd_runs.proofs.Moves.{MemoryMoves, SameMemory, OnePage, FewerPages, Written, PinsMove, SamePins, Settled, changed_moves}
+use Rattle.iofd_runs.proofs.Moves.{MemoryMoves, SameMemory, OnePage, FewerPages, Written, PinsMove, SamePins, Settled}
+use Rattle.iofd_runs.proofs.Moves.{changed_moves}
 
 -- ---- what holds of all frames of users' pages and pins
 
@@ -59,7 +59,8 @@ module _ (q : ℕ → Bool) (w : World) (all : OfFrames q w) where
       rw is (all_filter (λ (p : UserPage). q p.frame.0) stays w.user_pages all.users)
   users_stay e answer new (Written written is) given = rw is all.users
 
-  pins_stay : {A : Type 0} (at : ℕ) (e : Event A) (new : World) → PinsMove at w e new → list_all (λ (p : UserPage). q p.frame.0) new.user_pages ≡ true
+  pins_stay : {A : Type 0} (at : ℕ) (e : Event A) (new : World) → PinsMove at w e new
+      → list_all (λ (p : UserPage). q p.frame.0) new.user_pages ≡ true
       → list_all (λ (pin : Pin). q pin.frame.0) new.pins ≡ true
   unfolding settle
   pins_stay at e new (SamePins is alike) users = rw is all.pins

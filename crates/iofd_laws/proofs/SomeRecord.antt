@@ -53,8 +53,8 @@ use Rattle.iofd_runs.proofs.MissingTables.{all_needed, is_owned}
 use Rattle.iofd_runs.proofs.NotRefused.{attach_passed, copy_passed, hwpt_passed, map_passed}
 use Rattle.iofd_runs.proofs.OwnIds.{keeps_own_ids, unused}
 use Rattle.iofd_runs.proofs.SameTables.{same_tables}
-use Rattle.iofd_runs.proofs.StillTabled.{hwpts_same, live_paid, moves_given, none_after}
-use Rattle.iofd_runs.proofs.StillTabled.{none_given, still_none_missing, still_owned}
+use Rattle.iofd_runs.proofs.StillTabled.{hwpts_same, live_paid, moves_given, none_after, none_given, still_none_missing}
+use Rattle.iofd_runs.proofs.StillTabled.{still_owned}
 use Rattle.iofd_runs.proofs.TableEvents.{MakesNone, finds_table, stay_with}
 use Rattle.iofd_runs.proofs.TableCounts.{count_mapped, count_new, no_kind, pages_paid}
 use Rattle.iofd_laws.proofs.FreeFrames.{frames_that, pick, same_row, some_in, that_has, that_pass, that_rise}

@@ -5,7 +5,7 @@ use Rattle.std.specs.List.{list_any}
 use Rattle.std.proofs.lemmas.Bool.Decides.{nat_tests}
 use Rattle.std.proofs.lemmas.Option.{slice_get_past}
 use Rattle.iofd_words.specs.After.{changed}
-use Rattle.iofd_words.specs.Allowed.{AllowedRanges}
+use Rattle.iofd_words.specs.Allowed.{AllowedRanges, with_allowed}
 use Rattle.iofd_words.specs.Checks.{allow_iovas_checks, bind_checks, close_checks, copy_checks, destroy_checks}
 use Rattle.iofd_words.specs.Checks.{hwpt_alloc_checks, ioas_alloc_checks, map_checks, refusal, unbind_checks}
 use Rattle.iofd_words.specs.Checks.{unmap_checks}
@@ -33,10 +33,9 @@ use Rattle.iofd_runs.proofs.Known.{is_known}
 use Rattle.iofd_runs.proofs.Runs.{run_keeps}
 use Rattle.iofd_promises.specs.Closing.{HasNothing, IsGone, file_named}
 use Rattle.iofd_promises.proofs.Lists.{any_last}
-use Rattle.iofd_runs.proofs.Moves.{Closes, FilesMove, StayOpen, changed_moves}
+use Rattle.iofd_runs.proofs.Moves.{Closes, FilesMove, StayOpen, changed_moves, AllowedMove, SameAllowed, FewerAllowed}
+use Rattle.iofd_runs.proofs.Moves.{Allows}
 use Rattle.iofd_promises.proofs.Rows.{within}
-use Rattle.iofd_runs.proofs.Moves.{AllowedMove, SameAllowed, FewerAllowed, Allows}
-use Rattle.iofd_words.specs.Allowed.{with_allowed}
 
 -- ---- rows of open files
 

@@ -30,7 +30,7 @@ came at w e answer none answers x within =
   where
     by_move : (new : World) → ObjectsMove w e answer new → IsIn new.objects x → Came w.objects x
     by_move new (Same is) within = inl (rw is at within)
-    by_move new (Fewer stays stay is) within = inl (in_filter stays w.objects x (rw is at within)).0
+    by_move new (Fewer stays stay bound is) within = inl (in_filter stays w.objects x (rw is at within)).0
     by_move new (More object fresh admitted makes is) within =
         ⊎_elim
         (λ (new : object ≡ x). inr (subst (λ (o : Object). is_fresh w.objects o.file o.id ≡ true) new (fresh answers)))

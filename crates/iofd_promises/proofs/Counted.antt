@@ -1,6 +1,6 @@
 -- At most 65,535 objects a file and areas an address space, and ids within their bounds.
 use Rattle.std.proofs.Common.{◌≡◌, ◌<◌, ◌≤◌, ℕ, ◌+◌, Bool, true, false, cond, ◌&&◌, eqb, leb, ltb, List, [], ◌∷◌}
-use Rattle.std.proofs.Common.{length, map, refl, ap, sym, ◌∙◌, arith, inl, inr}
+use Rattle.std.proofs.Common.{length, map, refl, ap, sym, ◌∙◌, arith, inl, inr, not, None}
 use Rattle.std.specs.List.{filter, list_all}
 use Rattle.std.proofs.lemmas.Bool.{eqb-true}
 use Rattle.std.proofs.lemmas.Bool.Decides.{nat_tests}
@@ -25,8 +25,6 @@ use Rattle.iofd_runs.proofs.Moves.{SameAreas, changed_moves}
 use Rattle.iofd_words.specs.Checks.{refusal}
 use Rattle.iofd_words.specs.declared.event.Event.{Event}
 use Rattle.iofd_words.specs.declared.reply.Reply.{Reply}
-use Rattle.std.proofs.Common.{not}
-use Rattle.std.proofs.Common.{None}
 
 -- ---- counts
 
@@ -105,7 +103,7 @@ few_by : {A : Type 0} (file : ℕ) (w : World) (e : Event A) (answer : Reply) (n
     → ObjectsMove w e answer new → refusal w e ≡ None → how_many (of_file file) w.objects ≤ 65535
     → how_many (of_file file) new.objects ≤ 65535
 few_by file w e answer new (Same is) none few = rw is few
-few_by file w e answer new (Fewer stays stay is) none few =
+few_by file w e answer new (Fewer stays stay bound is) none few =
     let less = fewer (of_file file) stays w.objects in rw is (omega (arith, less, few))
 few_by file w e answer new (More object fresh admitted makes is) none few =
     rw is (by_file (eqb object.file.0 file) refl (one_object (of_file file) object w.objects))
@@ -181,7 +179,8 @@ pub few_areas : {A : Type 0} (settings : Settings) (records : List (Record A)) (
 unfolding IsRun world_of with_tables
 few_areas settings records file ioas run =
     run_keeps (λ w. how_many (of_space file ioas) w.areas ≤ 65535) (λ w taken given few. few)
-    (λ at w e answer none answers few. few_areas_by file ioas at w e answer (changed at w e answer) (changed_moves at w e answer).areas none few)
+    (λ at w e answer none answers few. few_areas_by file ioas at w e answer (changed at w e answer)
+    (changed_moves at w e answer).areas none few)
     0 (opening settings) records run (omega arith)
 
 -- ---- ids

@@ -1,5 +1,5 @@
 -- Which writes a step adds: a user's, a device's, and none else; a frame that is given out loses its own.
-use Rattle.std.proofs.Common.{◌≡◌, ◌≢◌, ℕ, zero, suc, false, List, [], ◌∷◌, map, Contains, ap, ◌∙◌, arith}
+use Rattle.std.proofs.Common.{◌≡◌, ◌≢◌, ℕ, zero, suc, false, List, [], ◌∷◌, map, Contains, ap, ◌∙◌, arith, refl, true}
 use Rattle.iofd_words.specs.After.{changed}
 use Rattle.iofd_words.specs.Answers.{Answers, write_reply}
 use Rattle.iofd_words.specs.Policy.{Outcome, Passes, Denied, outcomes}
@@ -12,12 +12,9 @@ use Rattle.iofd_words.specs.declared.numbers.FrameNo.{FrameNo}
 use Rattle.iofd_words.specs.declared.reply.Reply.{Reply}
 use Rattle.iofd_words.specs.declared.reply.Reply.TheVariants as reply
 use Rattle.iofd_words.specs.Frames.{FrameWrite}
-use Rattle.iofd_runs.proofs.Moves.{FewerPages, MemoryMoves, OnePage, SameMemory, Written}
+use Rattle.iofd_runs.proofs.Moves.{FewerPages, MemoryMoves, OnePage, SameMemory, Written, Writes}
 use Rattle.iofd_promises.proofs.Bytes.{reads_given, reads_not_given}
-use Rattle.iofd_promises.specs.Bytes.{reads}
-use Rattle.iofd_runs.proofs.Moves.{Writes}
-use Rattle.iofd_promises.specs.Bytes.{changes_bytes}
-use Rattle.std.proofs.Common.{refl, true}
+use Rattle.iofd_promises.specs.Bytes.{reads, changes_bytes}
 
 -- a write that is carried out changes bytes
 writes_change : {A : Type 0} → (e : Event A) (answer : Reply) → Writes e answer → changes_bytes e answer ≡ true

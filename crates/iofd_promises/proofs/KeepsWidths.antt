@@ -1,9 +1,9 @@
 -- In each world of a run an attached device's page table is of the device's width.
-use Rattle.std.proofs.Common.{◌≡◌, ℕ, true, None, List, ◌∙◌, ◌⊎◌, inl, inr, ⊎_elim, subst}
+use Rattle.std.proofs.Common.{◌≡◌, ℕ, true, None, List, ◌∙◌, ◌⊎◌, inl, inr, ⊎_elim, subst, Bool, Some}
 use Rattle.iofd_words.specs.After.{changed}
 use Rattle.iofd_words.specs.Answers.{Answers}
 use Rattle.iofd_words.specs.Checks.{refusal}
-use Rattle.iofd_words.specs.Settings.{Settings}
+use Rattle.iofd_words.specs.Settings.{Settings, DeviceSettings}
 use Rattle.iofd_words.specs.Tables.{with_tables}
 use Rattle.iofd_words.specs.World.{World}
 use Rattle.iofd_words.specs.declared.event.Event.{Event}
@@ -19,14 +19,12 @@ use Rattle.iofd_runs.proofs.SameSettings.{changed_settings}
 use Rattle.iofd_promises.proofs.Comes.{came, same_kind}
 use Rattle.iofd_runs.proofs.Moves.{AttachmentsMove, FewerAttachments, OneAttachment, SameAttachments, changed_moves}
 use Rattle.iofd_runs.proofs.Served.{IsServed}
-use Rattle.iofd_words.specs.Settings.{DeviceSettings}
 use Rattle.iofd_words.specs.Files.{device_of}
 use Rattle.iofd_words.specs.Objects.{kind_of}
 use Rattle.iofd_words.specs.Width.{bits_of}
 use Rattle.iofd_words.specs.declared.rows.ObjectKind.TheVariants as kind
 use Rattle.iofd_words.specs.declared.numbers.ObjId.{ObjId}
 use Rattle.iofd_words.specs.declared.width.Width.{Width}
-use Rattle.std.proofs.Common.{Bool, Some}
 
 -- whatever page table the attachment names has the bits of the device's width
 abbrev pub IsOfWidth : Settings → List Object → Attachment → Type 0
@@ -52,12 +50,12 @@ attach_came : {A : Type 0} (w : World) (e : Event A) (answer : Reply) (new : Wor
 attach_came w e answer new (SameAttachments is) none answers own a within = inl (rw is at within)
 attach_came w e answer new (FewerAttachments stays is) none answers own a within =
     inl (in_filter stays w.attachments a (rw is at within)).0
-attach_came w e answer new (OneAttachment attachment bound binding of_file free served is) none answers own a within =
+attach_came w e answer new (OneAttachment one bound binding still of_file free served is) none answers own a within =
     ⊎_elim
-    (λ (one : attachment ≡ a). inr (subst (IsOfWidth w.settings new.objects) one
-    (served_width w new.objects attachment (served none answers own))))
+    (λ (same : one ≡ a). inr (subst (IsOfWidth w.settings new.objects) same
+    (served_width w new.objects one (served none answers own))))
     (λ (old : IsIn w.attachments a). inl old)
-    (in_with_attachment attachment w.attachments a (rw is at within))
+    (in_with_attachment one w.attachments a (rw is at within))
 
 pub record WidthSound (settings : Settings) (w : World) : Type 0 where
   pub opened : w.settings ≡ settings
@@ -69,8 +67,8 @@ pub keeps_widths : {A : Type 0} → (settings : Settings) (at : ℕ) (w : World)
 keeps_widths settings at w e answer none answers s = record {
   opened = changed_settings at w e answer ∙ s.opened;
   sound = keeps_sound at w e answer none answers s.sound;
-  widths = λ a within. by_row a (attach_came w e answer (changed at w e answer) (changed_moves at w e answer).attachments
-      none answers s.sound.own_ids a within);
+  widths = λ a within. by_row a (attach_came w e answer (changed at w e answer)
+      (changed_moves at w e answer).attachments none answers s.sound.own_ids a within);
 }
   where
     by_row : (a : Attachment) → AttachCame w (changed at w e answer).objects a

@@ -74,6 +74,7 @@ module _ (w : World) (pin : Pin) where
       inr (of_now new page is))
       (in_append (filter (λ (p : Pin). list_any (is_page (page_of_pin p)) next) w.pins) _ pin within)
 
-  pub pin_from : {A : Type 0} (at : ℕ) (e : Event A) (new : World) → PinsMove at w e new → IsIn new.pins pin → IsFrom new
+  pub pin_from : {A : Type 0} (at : ℕ) (e : Event A) (new : World) → PinsMove at w e new → IsIn new.pins pin
+      → IsFrom new
   pin_from at e new (SamePins is alike) within = inl (rw is at within)
   pin_from at e new (Settled is present) within = settled_from new (rw is at within)

@@ -24,7 +24,6 @@ use Rattle.iofd_runs.proofs.OwnIds.{any_found}
 use Rattle.iofd_runs.proofs.Runs.{run_keeps}
 use Rattle.iofd_runs.proofs.Moves.{FewerPages, MemoryMoves, OnePage, SameMemory, Written, changed_moves}
 use Rattle.iofd_promises.proofs.Lists.{all_apart, apart-filter, apart-more}
-use Rattle.iofd_words.specs.After.{changed}
 use Rattle.iofd_words.specs.Answers.{Answers}
 use Rattle.iofd_words.specs.Checks.{refusal}
 use Rattle.iofd_words.specs.declared.event.Event.{Event}
@@ -49,7 +48,8 @@ module _ (P : List UserPage → Type 0)
   unfolding IsRun world_of with_tables
   pages_of_run settings records run none =
       run_keeps (λ w. P w.user_pages) (λ w taken given p. p)
-      (λ at w e answer none answers p. pages_by w e answer (changed at w e answer) (changed_moves at w e answer).memory none answers p) 0 (opening settings) records run none
+      (λ at w e answer none answers p. pages_by w e answer (changed at w e answer)
+      (changed_moves at w e answer).memory none answers p) 0 (opening settings) records run none
 
 -- ---- two rows of one page, or of one frame
 

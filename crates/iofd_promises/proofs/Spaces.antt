@@ -27,12 +27,11 @@ use Rattle.iofd_words.specs.Span.{meets}
 use Rattle.iofd_words.specs.Usable.{interrupt_range, reserved_by, reserved_of}
 use Rattle.iofd_words.specs.declared.rows.Area.{Area}
 use Rattle.iofd_rows.proofs.Each.{IsIn, in_filter, in_map, of_each}
-use Rattle.iofd_rows.proofs.Named.{file_is, id_is, object_of_kind, some_passes}
+use Rattle.iofd_rows.proofs.Named.{file_is, id_is, object_of_kind, some_passes, row_kind}
 use Rattle.iofd_rows.specs.Ids.{have_own_ids}
 use Rattle.iofd_runs.proofs.StillTabled.{in_kept}
 use Rattle.iofd_promises.specs.Reaches.{TranslatesBy}
 use Rattle.iofd_promises.proofs.Rows.{contains, within}
-use Rattle.iofd_rows.proofs.Named.{row_kind}
 
 pub in_mapped : {X Y : Type 0} (f : X → Y) (xs : List X) (x : X) → IsIn xs x → IsIn (map f xs) (f x)
 in_mapped f [] x within = absurd within

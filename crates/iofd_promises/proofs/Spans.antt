@@ -26,7 +26,7 @@ use Rattle.iofd_rows.proofs.Unusable.{by_rows, each_not}
 use Rattle.iofd_rows.specs.Reached.{ends_in, keeps_of}
 use Rattle.iofd_runs.specs.InUsable.{AreasUsable, is_in_usable}
 use Rattle.iofd_runs.proofs.Runs.{run_keeps}
-use Rattle.iofd_runs.proofs.Moves.{changed_moves}
+use Rattle.iofd_runs.proofs.Moves.{changed_moves, all_areas}
 use Rattle.iofd_runs.proofs.MappedAt.{LiesAt}
 use Rattle.iofd_runs.proofs.NotRefused.{PlacePassed}
 use Rattle.iofd_words.specs.After.{changed, mapped_area}
@@ -40,7 +40,6 @@ use Rattle.iofd_words.specs.declared.numbers.FileNo.{FileNo}
 use Rattle.iofd_words.specs.declared.numbers.Iova.{Iova}
 use Rattle.iofd_words.specs.declared.reply.Reply.{Reply}
 use Rattle.iofd_words.specs.declared.rows.Phase.{Phase}
-use Rattle.iofd_runs.proofs.Moves.{all_areas}
 
 -- what holds of each area, whatever its phase
 module _ (p : Area → Bool) (phases : (phase : Phase) (area : Area) → p area ≡ true → p (with_phase phase area) ≡ true)
@@ -51,8 +50,8 @@ module _ (p : Area → Bool) (phases : (phase : Phase) (area : Area) → p area 
       → Answers w e answer → list_all p w.areas ≡ true → list_all p (changed at w e answer).areas ≡ true
   areas_keep at w e answer none answers all =
       all_areas p phases at w e answer (changed at w e answer) (changed_moves at w e answer).areas
-      (λ number file request iova passed lies alike under. places w number file request iova (passed none) (lies none answers))
-      all
+      (λ number file request iova passed lies alike under. places w number file request iova (passed none)
+      (lies none answers)) all
 
 -- it begins no later than it ends, below 2^64
 abbrev pub is_bounded : Area → Bool

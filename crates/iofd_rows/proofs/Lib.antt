@@ -1,5 +1,6 @@
 pub mod Allowed
 pub mod Bools
+pub mod Bound
 pub mod BoundOnce
 pub mod Contained
 pub mod Each

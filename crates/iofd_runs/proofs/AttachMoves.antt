@@ -1,6 +1,6 @@
 -- What an attachment that comes or ends leaves of the law of debts.
 use Rattle.std.proofs.Common.{◌≡◌, ℕ, Bool, true, false, ◌&&◌, not, eqb, Option, Some, None, List, refl, ap, ◌∙◌, subst}
-use Rattle.std.proofs.Common.{arith, is_some, ⊎_elim}
+use Rattle.std.proofs.Common.{arith, is_some, ⊎_elim, sym}
 use Rattle.std.specs.List.{filter}
 use Rattle.std.proofs.lemmas.Bool.{eqb-true}
 use Rattle.std.proofs.lemmas.Bool.Decides.{nat_tests}
@@ -28,7 +28,6 @@ use Rattle.iofd_rows.proofs.Named.{file_is, id_is, kind_before, kind_kept, kind_
 use Rattle.iofd_rows.proofs.Owed.{EachOwed, HasTable, IsSpace}
 use Rattle.iofd_rows.proofs.OwnIds.{any_found, unused}
 use Rattle.iofd_words.specs.Width.{bits_of}
-use Rattle.std.proofs.Common.{sym}
 
 -- ---- an attachment ends
 

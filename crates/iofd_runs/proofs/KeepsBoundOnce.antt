@@ -1,6 +1,5 @@
 -- Every event keeps each device bound by at most one object.
-use Rattle.std.proofs.Common.{◌≡◌, ℕ, None, List}
-use Rattle.std.proofs.Common.{arith}
+use Rattle.std.proofs.Common.{◌≡◌, ℕ, None, List, arith}
 use Rattle.iofd_words.specs.After.{changed}
 use Rattle.iofd_words.specs.Answers.{Answers}
 use Rattle.iofd_words.specs.Checks.{refusal}
@@ -27,7 +26,7 @@ keeps_once at w e answer none answers once = by_move (changed at w e answer) (ch
   where
     by_move : (new : World) → ObjectsMove w e answer new → AreBoundOnce new.objects
     by_move new (Same is) = rw is once
-    by_move new (Fewer stays stay is) = rw is (once-filter stays w.objects once)
+    by_move new (Fewer stays stay bound is) = rw is (once-filter stays w.objects once)
     by_move new (More object fresh admitted makes is) =
         rw is (once-with_object object w.objects (admitted none).unbound once)
 

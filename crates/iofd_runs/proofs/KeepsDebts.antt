@@ -1,47 +1,33 @@
 -- Every event keeps each debtor attached to the address space of its area.
-use Rattle.std.proofs.Common.{◌≡◌, ℕ, true, false, not, Option, Some, None, List, refl}
-use Rattle.iofd_words.specs.After.{attach_changes, attached, changed, copy_changes, detach_changes, detached}
-use Rattle.iofd_words.specs.After.{hwpt_changes, joined, made_hwpt, map_changes, mapped_area, settle, target_changes}
-use Rattle.iofd_words.specs.After.{with_hwpt, without_areas}
-use Rattle.iofd_words.specs.Answers.{Answers, IsHwptOf, IsTarget}
-use Rattle.iofd_words.specs.Areas.{areas_of, is_touched}
-use Rattle.iofd_words.specs.Attachments.{attachment_of}
-use Rattle.iofd_words.specs.Checks.{copy_checks, destroy_checks, is_used, map_checks, refusal}
+use Rattle.std.proofs.Common.{◌≡◌, ℕ, true, not, None, List, refl}
+use Rattle.iofd_words.specs.After.{attached, changed, copy_changes, detached, hwpt_changes, joined, made_hwpt}
+use Rattle.iofd_words.specs.After.{map_changes, mapped_area, settle, with_hwpt, without_areas}
+use Rattle.iofd_words.specs.Answers.{Answers}
+use Rattle.iofd_words.specs.Areas.{is_touched}
+use Rattle.iofd_words.specs.Checks.{refusal}
 use Rattle.iofd_rows.specs.Debts.{DebtsAttached}
-use Rattle.iofd_words.specs.Copies.{placed_as, source_in}
-use Rattle.iofd_words.specs.Files.{user_of, device_of}
+use Rattle.iofd_words.specs.Copies.{placed_as}
+use Rattle.iofd_words.specs.Files.{user_of}
 use Rattle.iofd_rows.specs.Ids.{have_own_ids}
-use Rattle.iofd_words.specs.FirstTrue.{first_true}
-use Rattle.iofd_words.specs.Objects.{automatic_hwpt, binding_of, has_ioas, kind_of, settings_under}
-use Rattle.iofd_words.specs.Settings.{DeviceSettings}
+use Rattle.iofd_words.specs.Objects.{automatic_hwpt, settings_under}
 use Rattle.iofd_words.specs.Tables.{with_tables}
 use Rattle.iofd_words.specs.View.{view}
 use Rattle.iofd_words.specs.World.{World}
-use Rattle.iofd_words.specs.declared.event.CopyRequest.{CopyRequest}
 use Rattle.iofd_words.specs.declared.event.Event.{Event}
 use Rattle.iofd_words.specs.declared.event.Event.TheVariants as event
-use Rattle.iofd_words.specs.declared.event.MapRequest.{MapRequest}
-use Rattle.iofd_words.specs.declared.numbers.FileNo.{FileNo}
 use Rattle.iofd_words.specs.declared.numbers.FrameNo.{FrameNo}
-use Rattle.iofd_words.specs.declared.numbers.ObjId.{ObjId}
-use Rattle.iofd_words.specs.declared.numbers.UserNo.{UserNo}
 use Rattle.iofd_words.specs.declared.reply.Reply.{Reply}
 use Rattle.iofd_words.specs.declared.reply.Reply.TheVariants as reply
-use Rattle.iofd_words.specs.declared.rows.Area.{Area}
-use Rattle.iofd_words.specs.declared.rows.Attachment.{Attachment}
-use Rattle.iofd_words.specs.declared.rows.Object.{Object}
-use Rattle.iofd_words.specs.declared.rows.ObjectKind.{ObjectKind}
 use Rattle.iofd_words.specs.declared.rows.ObjectKind.TheVariants as kind
 use Rattle.iofd_runs.proofs.AttachMoves.{is_made, is_there, owed_attached, owed_detached}
 use Rattle.iofd_rows.proofs.Moves.{owed_area, owed_fewer, owed_flush, owed_leaving, owed_object}
 use Rattle.iofd_runs.proofs.ObjectsGo.{owed_closed, owed_destroyed, owed_unbound}
-use Rattle.iofd_rows.proofs.Owed.{EachOwed, IsSpace, debts_attached, each_owed, space_of}
+use Rattle.iofd_rows.proofs.Owed.{EachOwed, debts_attached, each_owed, space_of}
 use Rattle.iofd_runs.proofs.OwnIds.{keeps_own_ids, unused}
 use Rattle.iofd_runs.proofs.NotRefused.{attach_passed, copy_passed, destroy_passed, hwpt_passed, join_passed}
 use Rattle.iofd_runs.proofs.NotRefused.{map_passed}
 use Rattle.iofd_runs.proofs.Branches.{by_attachment, by_found, by_target}
 use Rattle.iofd_runs.proofs.CopySource.{source_area}
-use Rattle.iofd_runs.proofs.NotRefused.{map_passed, copy_passed, destroy_passed}
 
 -- what holds of every world of a run
 pub record IsSound (w : World) : Type 0 where

@@ -4,8 +4,7 @@ use Rattle.std.proofs.Common.{◌≡◌, ℕ, ◌+◌, ◌<◌, ◌≤◌, ◌^�
 use Rattle.std.proofs.Common.{Option, Some, None, List, [], ◌∷◌, refl, arith, ◌++◌, ap, sym, leb, ◌∙◌}
 use Rattle.std.specs.List.{filter, list_all, find, filter_map, list_any}
 use Rattle.std.proofs.lemmas.Bool.Decides.{nat_tests}
-use Rattle.iofd_words.specs.After.{changed}
-use Rattle.iofd_words.specs.After.{mapped_area, settle}
+use Rattle.iofd_words.specs.After.{changed, mapped_area, settle}
 use Rattle.iofd_words.specs.Answers.{Answers}
 use Rattle.iofd_words.specs.Attachments.{attachment_of, with_attachment}
 use Rattle.iofd_words.specs.Checks.{refusal}
@@ -32,12 +31,12 @@ use Rattle.iofd_words.specs.declared.rows.UserPage.{UserPage}
 use Rattle.iofd_rows.proofs.Bools.{and_true, both_true}
 use Rattle.iofd_rows.proofs.Each.{of_each}
 use Rattle.iofd_rows.proofs.Found.{all_filter, found_passes}
-use Rattle.iofd_runs.proofs.Known.{attached_one, bound_known, is_known}
-use Rattle.iofd_runs.proofs.Known.{known_closed, known_one}
-use Rattle.iofd_runs.proofs.Moves.{AttachmentsMove, Closes, Fewer, FewerAttachments, FewerPages, FilesMove, MemoryMoves, MemoryUnder, More, NewMemory, ObjectsMove, OneAttachment, OnePage, PinsMove, Same, SameAttachments, SameMemory, SamePins, Settled, SharedMemory, StayOpen, Written, changed_moves}
+use Rattle.iofd_runs.proofs.Known.{attached_one, bound_known, is_known, known_closed, known_one, are_attached}
+use Rattle.iofd_runs.proofs.Moves.{AttachmentsMove, Closes, Fewer, FewerAttachments, FewerPages, FilesMove, MemoryMoves}
+use Rattle.iofd_runs.proofs.Moves.{MemoryUnder, More, NewMemory, ObjectsMove, OneAttachment, OnePage, PinsMove, Same}
+use Rattle.iofd_runs.proofs.Moves.{SameAttachments, SameMemory, SamePins, Settled, SharedMemory, StayOpen, Written}
+use Rattle.iofd_runs.proofs.Moves.{changed_moves, all_areas}
 use Rattle.iofd_runs.proofs.NotRefused.{PlacePassed}
-use Rattle.iofd_runs.proofs.Known.{are_attached}
-use Rattle.iofd_runs.proofs.Moves.{all_areas}
 
 -- ---- a span of a length has that many numbers
 
@@ -199,14 +198,14 @@ module _ {A : Type 0} (at : ℕ) (w : World) (e : Event A) (answer : Reply) (non
       → devices_rise new.attachments ≡ true
   attachments_rise new (SameAttachments is) = rw is fits.rise
   attachments_rise new (FewerAttachments stays is) = rw is (rise-filter stays w.attachments fits.rise)
-  attachments_rise new (OneAttachment a bound binding of_file free served is) =
+  attachments_rise new (OneAttachment a bound binding still of_file free served is) =
       rw is (rise-with_attachment a w.attachments (free none) fits.rise)
 
   attachments_known : (new : World) → AttachmentsMove w e answer new
       → are_attached w.settings new.attachments ≡ true
   attachments_known new (SameAttachments is) = rw is fits.attached
   attachments_known new (FewerAttachments stays is) = rw is (all_filter _ stays w.attachments fits.attached)
-  attachments_known new (OneAttachment a bound binding of_file free served is) =
+  attachments_known new (OneAttachment a bound binding still of_file free served is) =
       rw is (attached_one w.settings a w.attachments
       (bound_known w.settings w.closed w.objects a.device bound fits.known binding).1 fits.attached)
 
@@ -232,7 +231,7 @@ module _ {A : Type 0} (at : ℕ) (w : World) (e : Event A) (answer : Reply) (non
   objects_known new move (Closes file closed objects allowed) =
       rw (closed, objects) (known_closed w.settings w.closed file w.objects fits.known)
   objects_known new (Same is) (StayOpen closed) = rw (closed, is) fits.known
-  objects_known new (Fewer stays stay is) (StayOpen closed) =
+  objects_known new (Fewer stays stay bound is) (StayOpen closed) =
       rw (closed, is) (all_filter (is_known w.settings w.closed) stays w.objects fits.known)
   objects_known new (More object fresh admitted makes is) (StayOpen closed) =
       rw (closed, is) (known_one (is_known w.settings w.closed) object w.objects ((admitted none).known fits.known)
@@ -245,8 +244,8 @@ module _ {A : Type 0} (at : ℕ) (w : World) (e : Event A) (answer : Reply) (non
       let users = pages_fit new m.memory in
       record {
         pages = all_areas is_of_pages (λ phase a here. here) at w e answer new m.areas
-            (λ number file request iova passed lies alike under. one_pages at w e file request iova number new.memory none
-            (passed none) fits.pages under) fits.pages;
+            (λ number file request iova passed lies alike under. one_pages at w e file request iova number
+            new.memory none (passed none) fits.pages under) fits.pages;
         starts = all_areas begins_at_page (λ phase a here. here) at w e answer new m.areas
             (λ number file request iova passed lies alike under. (lies none answers).whole) fits.starts;
         rights = all_areas has_rights (λ phase a here. here) at w e answer new m.areas

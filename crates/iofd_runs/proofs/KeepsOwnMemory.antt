@@ -1,7 +1,6 @@
 -- Every event leaves the memory objects of each file its own: only areas of one file share them.
 use Rattle.std.proofs.Common.{◌≡◌, ℕ, ◌+◌, true, Some, None, List, not}
-use Rattle.iofd_words.specs.After.{changed, copy_changes}
-use Rattle.iofd_words.specs.After.{mapped_area}
+use Rattle.iofd_words.specs.After.{changed, copy_changes, mapped_area}
 use Rattle.iofd_words.specs.Answers.{Answers}
 use Rattle.iofd_words.specs.Checks.{copy_checks, refusal}
 use Rattle.iofd_words.specs.FirstTrue.{first_true}
@@ -17,7 +16,7 @@ use Rattle.iofd_words.specs.declared.reply.Reply.{Reply}
 use Rattle.iofd_words.specs.declared.rows.Area.{Area}
 use Rattle.iofd_rows.specs.Pinned.{ArePinned, share_in_file, share_in_files}
 use Rattle.iofd_runs.proofs.CopySource.{source_area}
-use Rattle.iofd_runs.proofs.KeepsPins.{keeps_pins, later_pinned, tabled_pinned}
+use Rattle.iofd_runs.proofs.KeepsPins.{keeps_pins, later_pinned, tabled_pinned, pinned_after}
 use Rattle.iofd_rows.proofs.Each.{of_each}
 use Rattle.iofd_rows.proofs.OwnMemory.{shared-filter, shared-map, shared-with_area, shares_none}
 use Rattle.std.specs.List.{list_all}
@@ -25,7 +24,6 @@ use Rattle.iofd_runs.proofs.Moves.{AreasMove, SameAreas, FewerAreas, OtherPhases
 use Rattle.iofd_runs.proofs.Moves.{SharedMemory, changed_moves}
 use Rattle.iofd_words.specs.declared.rows.MemoryObject.{MemoryObject}
 use Rattle.iofd_words.specs.declared.event.MapRequest.{MapRequest}
-use Rattle.iofd_runs.proofs.KeepsPins.{pinned_after}
 use Rattle.iofd_runs.proofs.PagesToPin.{none_over}
 use Rattle.iofd_words.specs.declared.event.Event.TheVariants as event
 use Rattle.iofd_words.specs.declared.reply.Reply.TheVariants as reply

@@ -5,10 +5,9 @@ use Rattle.std.specs.List.{filter, list_all, list_any}
 use Rattle.std.proofs.lemmas.Bool.{eqb-true}
 use Rattle.std.proofs.lemmas.Bool.Decides.{nat_tests}
 use Rattle.std.proofs.lemmas.List.Folds.{list_all-append}
-use Rattle.iofd_words.specs.After.{changed}
-use Rattle.iofd_words.specs.After.{mapped_area, memory_object}
+use Rattle.iofd_words.specs.After.{changed, mapped_area, memory_object}
 use Rattle.iofd_words.specs.Answers.{Answers}
-use Rattle.iofd_words.specs.Areas.{areas_of, is_of}
+use Rattle.iofd_words.specs.Areas.{areas_of, is_of, with_area}
 use Rattle.iofd_words.specs.Checks.{refusal}
 use Rattle.iofd_words.specs.Files.{user_of, numbered}
 use Rattle.iofd_words.specs.Settings.{Settings}
@@ -34,7 +33,6 @@ use Rattle.iofd_runs.proofs.KeepsPins.{keeps_pins, later_pinned, tabled_pinned, 
 use Rattle.iofd_runs.specs.Owned.{AreasOwned, is_of_files_user, is_over_own}
 use Rattle.iofd_runs.proofs.Moves.{AreasMove, SameAreas, FewerAreas, OtherPhases, OneArea, MemoryUnder, NewMemory}
 use Rattle.iofd_runs.proofs.Moves.{SharedMemory, changed_moves}
-use Rattle.iofd_words.specs.Areas.{with_area}
 use Rattle.iofd_runs.proofs.PagesToPin.{none_over}
 
 -- ---- a MAP

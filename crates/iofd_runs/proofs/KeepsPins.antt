@@ -6,8 +6,7 @@ use Rattle.std.proofs.Math.Nat.{div-add-mod}
 use Rattle.std.specs.List.{filter, list_all, list_any}
 use Rattle.std.proofs.lemmas.Bool.Decides.{nat_tests}
 use Rattle.std.proofs.lemmas.List.Folds.{list_all-append, list_any-append}
-use Rattle.iofd_words.specs.After.{changed}
-use Rattle.iofd_words.specs.After.{mapped_area, memory_object, settle}
+use Rattle.iofd_words.specs.After.{changed, mapped_area, memory_object, settle}
 use Rattle.iofd_words.specs.Answers.{Answers}
 use Rattle.iofd_words.specs.Areas.{with_area, with_phase}
 use Rattle.iofd_words.specs.Checks.{lacks_attached_page, refusal}
@@ -42,7 +41,8 @@ use Rattle.iofd_rows.proofs.OwnMemory.{all-with_area, areas-filter, areas-map, a
 use Rattle.iofd_rows.proofs.PageLists.{all_pages, at_page, kept_page}
 use Rattle.iofd_rows.proofs.PinsFollow.{settled_only, settled_pinned}
 use Rattle.iofd_runs.proofs.PagesToPin.{ArePresent, PagesAlike, moved_new, pages_in}
-use Rattle.iofd_runs.proofs.Moves.{AreasMove, FewerAreas, MemoryUnder, NewMemory, OneArea, OtherPhases, PinsMove, SameAreas, SamePins, Settled, SharedMemory, changed_moves}
+use Rattle.iofd_runs.proofs.Moves.{AreasMove, FewerAreas, MemoryUnder, NewMemory, OneArea, OtherPhases, PinsMove}
+use Rattle.iofd_runs.proofs.Moves.{SameAreas, SamePins, Settled, SharedMemory, changed_moves}
 use Rattle.iofd_runs.proofs.NotRefused.{PlacePassed}
 use Rattle.iofd_words.specs.Pages.{is_whole}
 

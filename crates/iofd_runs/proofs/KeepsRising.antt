@@ -27,7 +27,7 @@ keeps_rising at w e answer none answers rise = by_move (changed at w e answer) (
   where
     by_move : (new : World) → ObjectsMove w e answer new → objects_rise new.objects ≡ true
     by_move new (Same is) = rw is rise
-    by_move new (Fewer stays stay is) = rw is (rise-filter stays w.objects rise)
+    by_move new (Fewer stays stay bound is) = rw is (rise-filter stays w.objects rise)
     by_move new (More object fresh admitted makes is) =
         rw is (rise-with_object object w.objects (unused w.objects object.file object.id (fresh answers)) rise)
 

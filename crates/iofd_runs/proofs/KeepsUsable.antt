@@ -13,8 +13,7 @@ use Rattle.iofd_words.specs.Attachments.{is_attached_to, with_attachment}
 use Rattle.iofd_words.specs.Bounds.{Bounds}
 use Rattle.iofd_words.specs.Checks.{narrows_without, refusal, unusable_in}
 use Rattle.iofd_words.specs.Files.{device_of}
-use Rattle.iofd_words.specs.Objects.{is_hwpt_over, is_object, kind_of}
-use Rattle.iofd_words.specs.Objects.{with_object}
+use Rattle.iofd_words.specs.Objects.{is_hwpt_over, is_object, kind_of, with_object}
 use Rattle.iofd_words.specs.Ranges.{meets_some}
 use Rattle.iofd_words.specs.Settings.{DeviceSettings, Settings}
 use Rattle.iofd_words.specs.Span.{meets}
@@ -45,7 +44,9 @@ use Rattle.iofd_rows.specs.Reached.{ends_in, keeps_of}
 use Rattle.iofd_runs.proofs.KeepsDebts.{IsSound, keeps_sound, tabled_sound}
 use Rattle.iofd_runs.proofs.OwnIds.{unused}
 use Rattle.iofd_runs.specs.InUsable.{AreasUsable, is_in_usable}
-use Rattle.iofd_runs.proofs.Moves.{AllowedMove, Allows, AttachmentsMove, Fewer, FewerAllowed, FewerAttachments, IsWide, More, Moves, ObjectsMove, OneAttachment, Same, SameAllowed, SameAttachments, all_areas, changed_moves}
+use Rattle.iofd_runs.proofs.Moves.{AllowedMove, Allows, AttachmentsMove, Fewer, FewerAllowed, FewerAttachments, IsWide}
+use Rattle.iofd_runs.proofs.Moves.{More, Moves, ObjectsMove, OneAttachment, Same, SameAllowed, SameAttachments}
+use Rattle.iofd_runs.proofs.Moves.{all_areas, changed_moves}
 
 -- ---- attachments whose page table stays
 
@@ -246,7 +247,7 @@ module _ {A : Type 0} (at : ℕ) (w : World) (e : Event A) (answer : Reply) (non
     by_objects : (new : World) → ObjectsMove w e answer new
         → meets_some (unusable w.settings new.objects w.attachments f i) span ≡ false
     by_objects new (Same is) = rw is stands.clear
-    by_objects new (Fewer stays stay is) =
+    by_objects new (Fewer stays stay bound is) =
         rw is (usable_left w.settings w.objects w.attachments w.attachments stays f i span sound.own_ids
         (λ a within. within) stands.clear)
     by_objects new (More object fresh admitted makes is) =
@@ -266,11 +267,12 @@ module _ {A : Type 0} (at : ℕ) (w : World) (e : Event A) (answer : Reply) (non
           (and_true (is_attached_to new.objects f i a) _ keeps).0,
         ))
         clear)
-    by_attachments new (OneAttachment a bound binding of_file free served is) clear =
+    by_attachments new (OneAttachment a bound binding still of_file free served is) clear =
         let s = served none answers sound.own_ids in
         rw is (usable_attachment w.settings new.objects w.attachments a s.device s.ioas s.width s.automatic s.table
         s.known f i span
-        (λ here. (or_false (meets (beyond s.device.width) span) _ (stands.wide a.file s.ioas (beyond s.device.width ∷ reserved_by s.device) s.wide here)).1) clear)
+        (λ here. (or_false (meets (beyond s.device.width) span) _ (stands.wide a.file s.ioas
+        (beyond s.device.width ∷ reserved_by s.device) s.wide here)).1) clear)
 
     still_clear : (new : World) → Moves at w e answer new
         → meets_some (unusable w.settings new.objects new.attachments f i) span ≡ false
@@ -299,7 +301,8 @@ module _ {A : Type 0} (at : ℕ) (w : World) (e : Event A) (answer : Reply) (non
       ∙ clear_if (gone f i).0 (unusable w.settings new.objects new.attachments f i) (allowed_of w.allowed f i) []
       (λ here. refl) (λ here. old_ranges new m f i))
   ranges_still new m (Allows file ioas ranges passed alike is) f i =
-      rw (alike.objects, alike.attachments, is) (allowed_clear w file ioas ranges f i (passed none).usable (u.ranges f i))
+      rw (alike.objects, alike.attachments, is)
+      (allowed_clear w file ioas ranges f i (passed none).usable (u.ranges f i))
 
   usable_keeps : AreasUsable (changed at w e answer)
   usable_keeps =

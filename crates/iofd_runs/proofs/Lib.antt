@@ -1,5 +1,6 @@
 pub mod AttachMoves
 pub mod AttachedPages
+pub mod BoundStay
 pub mod Branches
 pub mod CopiedPages
 pub mod CopySource

@@ -1,8 +1,8 @@
--- How each event moves the rows of the world, once for each: what holds of rows is proved by group, and not by event. In
--- a group rows stay the same, or some go, or one comes, and what is known of that one stands beside it. What is known only
--- where nothing refuses the event, or of a lawful answer alone, is said so: the groups hold of all events and answers.
-use Rattle.std.proofs.Common.{Bool, List, None, cond, Option, Some, [], ap, eqb, false, is_none, is_some, map, not, refl}
-use Rattle.std.proofs.Common.{subst, sym, true, ℕ, ◌&&◌, ◌++◌, ◌/◌, ◌∙◌, ◌∷◌, ◌≡◌}
+-- How each event moves the rows of the world, said once for each: what holds of rows is then proved by group, and not
+-- by event. In a group rows stay, or some go, or one comes, with what is known of that one. What is known only where
+-- nothing refuses the event, or of a lawful answer alone, is said so: each group holds of every event and answer.
+use Rattle.std.proofs.Common.{Bool, List, None, cond, Option, Some, [], ap, eqb, false, is_none, is_some, map, not}
+use Rattle.std.proofs.Common.{refl, subst, sym, true, ℕ, ◌&&◌, ◌++◌, ◌/◌, ◌∙◌, ◌∷◌, ◌≡◌}
 use Rattle.std.specs.List.{filter, list_all, list_any}
 use Rattle.std.proofs.lemmas.Bool.{eqb-true}
 use Rattle.iofd_rows.proofs.Allowed.{allowed_without, allowed_closed}
@@ -15,26 +15,26 @@ use Rattle.iofd_runs.proofs.Known.{bound_known, is_known}
 use Rattle.iofd_runs.proofs.MappedAt.{LiesAt, copy_lies_at, lies_at}
 use Rattle.iofd_runs.proofs.NotRefused.{AllowPassed, PlacePassed, UserMapPassed, alloc_passed, allow_passed}
 use Rattle.iofd_runs.proofs.NotRefused.{attach_passed, bind_passed, copy_place, hwpt_passed, join_passed, map_passed}
-use Rattle.iofd_runs.proofs.NotRefused.{map_place, user_map_passed}
+use Rattle.iofd_runs.proofs.NotRefused.{map_place, user_map_passed, close_passed, destroy_passed, unbind_passed}
 use Rattle.iofd_runs.proofs.TableEvents.{HwptsStay, MakesNone, TakesNone, closed_stay, destroyed_stay, detached_stay}
 use Rattle.iofd_runs.proofs.TableEvents.{finds_table, leaving_live, paid_live, unbound_stay}
 use Rattle.iofd_runs.proofs.Served.{IsServed, joined_served, made_served}
-use Rattle.iofd_words.specs.After.{attached, changed, copy_changes, detached}
-use Rattle.iofd_words.specs.After.{hwpt_changes, joined, made_hwpt, map_changes, mapped_area, memory_object, settle}
-use Rattle.iofd_words.specs.After.{with_hwpt, without_areas}
+use Rattle.iofd_words.specs.After.{attached, changed, copy_changes, detached, hwpt_changes, joined, made_hwpt}
+use Rattle.iofd_words.specs.After.{map_changes, mapped_area, memory_object, settle, with_hwpt, without_areas}
+use Rattle.iofd_words.specs.After.{device_flushed, unmapped}
 use Rattle.iofd_words.specs.Allowed.{AllowedRanges, allowed_of, with_allowed}
 use Rattle.iofd_words.specs.Answers.{Answers, IsHwptFor, IsHwptOf}
-use Rattle.iofd_words.specs.Areas.{is_of, is_touched, with_area, with_phase}
-use Rattle.iofd_words.specs.Attachments.{attachment_of, with_attachment}
+use Rattle.iofd_words.specs.Areas.{is_of, is_touched, with_area, with_phase, all_paid, paid}
+use Rattle.iofd_words.specs.Attachments.{attachment_of, with_attachment, without_attachment}
 use Rattle.iofd_words.specs.Bounds.{Bounds}
 use Rattle.iofd_words.specs.Checks.{lacks_room_for_hwpt, narrows, narrows_by_width, narrows_without, refusal}
 use Rattle.iofd_words.specs.Usable.{beyond, reserved_by}
 use Rattle.iofd_words.specs.Pages.{is_above_user}
 use Rattle.iofd_words.specs.Copies.{placed_as}
 use Rattle.iofd_words.specs.Files.{device_of, user_of}
-use Rattle.iofd_words.specs.Frames.{is_free, without_frame}
+use Rattle.iofd_words.specs.Frames.{is_free, without_frame, FrameWrite}
 use Rattle.iofd_words.specs.Objects.{automatic_hwpt, binding_of, is_bound_as, is_bound_device, is_fresh, is_full}
-use Rattle.iofd_words.specs.Objects.{is_hwpt, kind_of, settings_under, with_object}
+use Rattle.iofd_words.specs.Objects.{is_hwpt, kind_of, settings_under, with_object, has_hwpt}
 use Rattle.iofd_words.specs.Settings.{DeviceSettings}
 use Rattle.iofd_words.specs.Span.{size_of, span_from}
 use Rattle.iofd_words.specs.TablePlaces.{is_live}
@@ -59,17 +59,18 @@ use Rattle.iofd_words.specs.declared.rows.ObjectKind.{ObjectKind}
 use Rattle.iofd_words.specs.declared.rows.ObjectKind.TheVariants as kind
 use Rattle.iofd_words.specs.declared.rows.Phase.{Phase}
 use Rattle.iofd_words.specs.declared.rows.UserPage.{UserPage}
-use Rattle.iofd_rows.proofs.Found.{all_filter, all_map}
+use Rattle.iofd_rows.proofs.Found.{all_filter, all_map, find-with_object}
 use Rattle.iofd_rows.proofs.OwnMemory.{all-with_area}
-use Rattle.iofd_runs.proofs.PagesToPin.{ArePresent, PagesAlike, alike_objects, alike_paid, alike_phases, moved_new, none_comes, none_over}
+use Rattle.iofd_runs.proofs.PagesToPin.{ArePresent, PagesAlike, alike_objects, alike_paid, alike_phases, moved_new}
+use Rattle.iofd_runs.proofs.PagesToPin.{none_comes, none_over}
 use Rattle.iofd_runs.proofs.AttachedPages.{attached_present, none_new, table_present}
 use Rattle.iofd_runs.proofs.CopiedPages.{added_page, copied_present}
 use Rattle.iofd_runs.proofs.MappedPages.{mapped_present}
 use Rattle.iofd_rows.proofs.PageTables.{hwpt-filter, hwpt-unbound, same_hwpt}
 use Rattle.iofd_rows.specs.Pinned.{ArePinned}
-use Rattle.iofd_words.specs.Areas.{all_paid}
-use Rattle.iofd_words.specs.Objects.{has_hwpt}
-use Rattle.iofd_words.specs.Areas.{paid}
+use Rattle.iofd_runs.proofs.BoundStay.{BoundStay, closed_bound, destroyed_bound, detached_bound}
+use Rattle.iofd_rows.proofs.Bound.{attachments-unbound}
+use Rattle.iofd_words.specs.declared.width.Width.{Width}
 
 -- ---- what an event may make of the rows
 
@@ -88,10 +89,11 @@ pub record IsAdmitted (w : World) (object : Object) : Type 0 where
   pub unbound : (device : DeviceNo) → is_bound_as device object.kind ≡ true → binding_of w.objects device ≡ None
   pub wide : IsWide w object.file object.kind
 
--- objects: the same, fewer, or one more, under a fresh id
+-- objects: the same, fewer, by which no attached device is unbound, or one more, under a fresh id
 pub data ObjectsMove {A : Type 0} (w : World) (e : Event A) (answer : Reply) (new : World) : Type 0 where
   Same : new.objects ≡ w.objects → ObjectsMove w e answer new
   Fewer : (stays : Object → Bool) → (TakesNone w e → HwptsStay w.objects (filter stays w.objects))
+      → (refusal w e ≡ None → BoundStay w (filter stays w.objects))
       → new.objects ≡ filter stays w.objects → ObjectsMove w e answer new
   More : (object : Object) → (Answers w e answer → is_fresh w.objects object.file object.id ≡ true)
       → (refusal w e ≡ None → IsAdmitted w object) → (MakesNone w e → is_hwpt object.kind ≡ false)
@@ -129,12 +131,13 @@ pub data AreasMove {A : Type 0} (at : ℕ) (w : World) (e : Event A) (answer : R
       → SameTranslations w new → new.areas ≡ with_area (mapped_area number file request iova) w.areas
       → MemoryUnder at w e file request iova number new.memory → AreasMove at w e answer new
 
--- attachments: the same, fewer, or one more, of a device that is bound to its file and wasn't attached
+-- attachments: the same, fewer, or one more, of a device that is bound to its file, and stays so, and wasn't attached
 pub data AttachmentsMove {A : Type 0} (w : World) (e : Event A) (answer : Reply) (new : World) : Type 0 where
   SameAttachments : new.attachments ≡ w.attachments → AttachmentsMove w e answer new
   FewerAttachments : (stays : Attachment → Bool) → new.attachments ≡ filter stays w.attachments
       → AttachmentsMove w e answer new
-  OneAttachment : (a : Attachment) (bound : Object) → binding_of w.objects a.device ≡ Some bound → bound.file ≡ a.file
+  OneAttachment : (a : Attachment) (bound : Object) → binding_of w.objects a.device ≡ Some bound
+      → binding_of new.objects a.device ≡ Some bound → bound.file ≡ a.file
       → (refusal w e ≡ None → is_some (attachment_of w.attachments a.device) ≡ false)
       → (refusal w e ≡ None → Answers w e answer → have_own_ids w.objects ≡ true → IsServed w new.objects a)
       → new.attachments ≡ with_attachment a w.attachments → AttachmentsMove w e answer new
@@ -245,12 +248,21 @@ hwpt_moves w device ioas id object d bound known named None is answers new same 
     no_table : finds_table w.objects ioas (binding_of w.objects device) (device_of w.settings device) ≡ true → ⊥
     no_table finds = let found = rw (bound, known, named, is) at finds in cc
 
+-- it binds no device
+hwpt_binds : (device : DeviceNo) (file : FileNo) (ioas id : ObjId) (width : Width) (o : Option Object)
+    (objects : List Object)
+    → binding_of (with_hwpt file ioas id width o objects) device ≡ binding_of objects device
+hwpt_binds device file ioas id width (Some automatic) objects = refl
+hwpt_binds device file ioas id width None objects =
+    find-with_object (λ o. is_bound_as device o.kind)
+    (record { file = file; id = id; kind = kind.Hwpt ioas width true }) objects refl
+
 -- ---- each event
 
 module _ {A : Type 0} (at : ℕ) (w : World) (e : Event A) (answer : Reply) (new : World) where
   moves : ObjectsMove w e answer new → AreasMove at w e answer new → AttachmentsMove w e answer new
-      → MemoryMoves w e answer new → PinsMove at w e new → AllowedMove w e new → FilesMove w new → new.settings ≡ w.settings
-      → new.table_frames ≡ w.table_frames → Moves at w e answer new
+      → MemoryMoves w e answer new → PinsMove at w e new → AllowedMove w e new → FilesMove w new
+      → new.settings ≡ w.settings → new.table_frames ≡ w.table_frames → Moves at w e answer new
   moves objects areas attachments memory pins allowed files settings tables =
       record {
         objects = objects;
@@ -278,6 +290,33 @@ object_moves at w e answer objects move same =
     moves at w e answer (record w { objects = objects }) move (SameAreas refl refl) (SameAttachments refl)
     (SameMemory refl refl) (SamePins refl (alike_objects w objects same)) (SameAllowed refl) (StayOpen refl) refl refl
 
+-- users' pages and what is written change
+memory_moves : {A : Type 0} (at : ℕ) (w : World) (e : Event A) (answer : Reply) (pages : List UserPage)
+    (writes : List FrameWrite) → MemoryMoves w e answer (record w { user_pages = pages; writes = writes })
+    → Moves at w e answer (record w { user_pages = pages; writes = writes })
+memory_moves at w e answer pages writes move =
+    moves at w e answer (record w { user_pages = pages; writes = writes }) (Same refl) (SameAreas refl refl)
+    (SameAttachments refl) move (SamePins refl (λ page. refl)) (SameAllowed refl) (StayOpen refl) refl refl
+
+-- what devices reach changes, and pins follow or stay
+abbrev same_rest : World → World → World
+same_rest w new = record w {
+  objects = new.objects;
+  memory = new.memory;
+  areas = new.areas;
+  pins = new.pins;
+  attachments = new.attachments;
+}
+
+reach_moves : {A : Type 0} (at : ℕ) (w : World) (e : Event A) (answer : Reply) (new : World) → new ≡ same_rest w new
+    → ObjectsMove w e answer new → AreasMove at w e answer new → AttachmentsMove w e answer new → PinsMove at w e new
+    → Moves at w e answer new
+reach_moves at w e answer new is objects areas attachments pins =
+    moves at w e answer new objects areas attachments
+    (SameMemory (ap (λ (x : World). x.user_pages) is) (ap (λ (x : World). x.writes) is)) pins
+    (SameAllowed (ap (λ (x : World). x.allowed) is)) (StayOpen (ap (λ (x : World). x.closed) is))
+    (ap (λ (x : World). x.settings) is) (ap (λ (x : World). x.table_frames) is)
+
 pub changed_moves : {A : Type 0} → (at : ℕ) (w : World) (e : Event A) (answer : Reply)
     → Moves at w e answer (changed at w e answer)
 unfolding changed settle without_areas attached detached joined Answers
@@ -293,46 +332,53 @@ changed_moves at w (event.IoasAlloc file) (reply.Id id) =
     })
     (λ makes. refl) refl) (λ own ioas. same_hwpt _ w.objects own ioas refl)
 changed_moves at w (event.AllowIovas file ioas ranges) reply.Done =
-    moves at w _ _ _ (Same refl) (SameAreas refl refl) (SameAttachments refl) (SameMemory refl refl) (SamePins refl (λ page. refl))
-    (Allows file ioas ranges (λ none. allow_passed (view w) file ioas ranges none) (record { objects = refl; attachments = refl }) refl) (StayOpen refl) refl refl
+    moves at w _ _ _ (Same refl) (SameAreas refl refl) (SameAttachments refl) (SameMemory refl refl)
+    (SamePins refl (λ page. refl))
+    (Allows file ioas ranges (λ none. allow_passed (view w) file ioas ranges none)
+    (record { objects = refl; attachments = refl }) refl) (StayOpen refl) refl refl
 changed_moves {A = A} at w (event.Map file request) (reply.Iova iova) =
     let e : Event A = event.Map file request in
     by_found (λ user. Moves at w e (reply.Iova iova) (map_changes at w file request iova user))
     (user_of w.settings file) (stays at w e (reply.Iova iova)) (λ user is.
-    moves at w _ _ _ (Same refl)
+    reach_moves at w e (reply.Iova iova) (map_changes at w file request iova (Some user)) refl (Same refl)
     (OneArea at file request iova (λ none. map_place (view w) file request none)
-    (λ none answers. lies_at w file request iova none answers) (λ makes. makes) (record { objects = refl; attachments = refl }) refl
+    (λ none answers. lies_at w file request iova none answers) (λ makes. makes)
+    (record { objects = refl; attachments = refl }) refl
     (NewMemory user is (λ none. (map_passed (view w) file request none).in_user) refl refl))
-    (SameAttachments refl) (SameMemory refl refl)
+    (SameAttachments refl)
     (Settled refl (λ none p page within before. mapped_present at w file request iova user page none is p.made
-    (none_over at w.areas w.memory p.made p.sizes) within before)) (SameAllowed refl) (StayOpen refl) refl refl)
+    (none_over at w.areas w.memory p.made p.sizes) within before)))
 changed_moves {A = A} at w (event.Copy file request) (reply.Iova iova) =
     let e : Event A = event.Copy file request in
     by_found (λ source. Moves at w e (reply.Iova iova) (copy_changes w file request iova source))
     (source_area w file request) (stays at w e (reply.Iova iova)) (λ source is.
     let source_of = source_is w file request source is in
-    moves at w _ _ _ (Same refl)
+    reach_moves at w e (reply.Iova iova) (copy_changes w file request iova (Some source)) refl (Same refl)
     (OneArea source.memory file (placed_as request) iova (λ none. copy_place (view w) file request none)
-    (λ none answers. copy_lies_at w file request iova none answers) (λ makes. makes) (record { objects = refl; attachments = refl }) refl
+    (λ none answers. copy_lies_at w file request iova none answers) (λ makes. makes)
+    (record { objects = refl; attachments = refl }) refl
     (SharedMemory source source_of.within source_of.of_file
     (λ none. copied_size w file request iova source none source_of) refl refl))
-    (SameAttachments refl) (SameMemory refl refl)
+    (SameAttachments refl)
     (Settled refl (λ none p page within before. copied_present at w file request iova source page p none is
-    (added_page w (mapped_area source.memory file (placed_as request) iova) page within before))) (SameAllowed refl) (StayOpen refl) refl refl)
+    (added_page w (mapped_area source.memory file (placed_as request) iova) page within before))))
 changed_moves at w (event.Unmap file request) (reply.Bytes count) =
-    moves at w _ _ _ (Same refl) (FewerAreas (is_touched file request) refl refl) (SameAttachments refl)
-    (SameMemory refl refl)
+    reach_moves at w (event.Unmap file request) (reply.Bytes count)
+    (settle w (without_areas (is_touched file request) w)) refl (Same refl)
+    (FewerAreas (is_touched file request) refl refl) (SameAttachments refl)
     (Settled refl (λ none p page within before. absurd (none_comes w (is_touched file request) w.objects page
-    (λ own ioas has. has) within before))) (SameAllowed refl) (StayOpen refl) refl refl
+    (λ own ioas has. has) within before)))
 changed_moves at w (event.Unmap file request) (reply.Pending errno) =
-    moves at w _ _ _ (Same refl)
+    reach_moves at w (event.Unmap file request) (reply.Pending errno)
+    (unmapped w file request (reply.Pending errno)) refl (Same refl)
     (OtherPhases _ (λ a live. leaving_live (is_touched file request a) _ a.phase live) refl refl)
-    (SameAttachments refl) (SameMemory refl refl) (SamePins refl (alike_phases w _)) (SameAllowed refl) (StayOpen refl) refl refl
+    (SameAttachments refl) (SamePins refl (alike_phases w _))
 changed_moves {A = A} at w (event.HwptAlloc file request) (reply.Id id) =
     let e : Event A = event.HwptAlloc file request in
     by_found (λ settings. Moves at w e (reply.Id id) (hwpt_changes w file request.ioas id settings))
     (settings_under w.settings w.objects file request.device) (stays at w e (reply.Id id)) (λ settings is.
-    moves at w _ _ _ (More (made_hwpt file request.ioas id settings) (λ answers. answers)
+    reach_moves at w e (reply.Id id) (hwpt_changes w file request.ioas id (Some settings)) refl
+    (More (made_hwpt file request.ioas id settings) (λ answers. answers)
     (λ none. let passed = hwpt_passed (view w) file request none in
     record {
       roomy = passed.roomy;
@@ -341,33 +387,31 @@ changed_moves {A = A} at w (event.HwptAlloc file request) (reply.Id id) =
       wide = ([], sym (ap (narrows_by_width (view w) file request.ioas) is) ∙ passed.wide);
     })
     (λ makes. absurd makes) refl)
-    (SameAreas refl refl) (SameAttachments refl) (SameMemory refl refl)
+    (SameAreas refl refl) (SameAttachments refl)
     (Settled refl (λ none p page within before. table_present at w file request.ioas id settings.width false page p
     (hwpt_passed (view w) file request none).present
-    (moved_new w w.areas _ page (λ objects number. refl) within before))) (SameAllowed refl)
-    (StayOpen refl) refl refl)
+    (moved_new w w.areas _ page (λ objects number. refl) within before))))
 changed_moves at w (event.Destroy file id) reply.Done =
-    moves at w _ _ _ (Fewer _ (λ takes. destroyed_stay w file id takes) refl) (FewerAreas (is_of file id) refl refl)
-    (SameAttachments refl) (SameMemory refl refl)
+    moves at w _ _ _ (Fewer _ (λ takes. destroyed_stay w file id takes)
+    (λ none. destroyed_bound w file id (destroy_passed (view w) file id none).no_device) refl)
+    (FewerAreas (is_of file id) refl refl) (SameAttachments refl) (SameMemory refl refl)
     (Settled refl (λ none p page within before. absurd (none_comes w (is_of file id) _ page
     (λ own ioas has. hwpt-filter _ w.objects own ioas has) within before)))
     (FewerAllowed _ (λ f i. (_, allowed_without file id w.allowed f i)) refl) (StayOpen refl) refl refl
 changed_moves at w (event.Close file) reply.Done =
-    moves at w _ _ _ (Fewer _ (λ takes. closed_stay w file takes) refl)
+    moves at w _ _ _ (Fewer _ (λ takes. closed_stay w file takes)
+    (λ none. closed_bound w file (close_passed (view w) file none).no_device) refl)
     (FewerAreas (λ (a : Area). eqb a.file.0 file.0) refl refl) (FewerAttachments _ refl) (SameMemory refl refl)
     (Settled refl (λ none p page within before. absurd (none_comes w (λ (a : Area). eqb a.file.0 file.0) _ page
-    (λ own ioas has. hwpt-filter _ w.objects own ioas has) within before))) (FewerAllowed _ (λ f i. (_, allowed_closed file w.allowed f i)) refl)
-    (Closes file refl refl refl) refl refl
+    (λ own ioas has. hwpt-filter _ w.objects own ioas has) within before)))
+    (FewerAllowed _ (λ f i. (_, allowed_closed file w.allowed f i)) refl) (Closes file refl refl refl) refl refl
 changed_moves at w (event.UserMap user va) (reply.Frame frame) =
-    moves at w _ _ _ (Same refl) (SameAreas refl refl) (SameAttachments refl)
+    memory_moves at w (event.UserMap user va) (reply.Frame frame) _ _
     (OnePage user va frame (λ none. user_map_passed (view w) user va none) (λ answers. answers) refl refl refl)
-    (SamePins refl (λ page. refl)) (SameAllowed refl) (StayOpen refl) refl refl
 changed_moves at w (event.UserUnmap user va) reply.Done =
-    moves at w _ _ _ (Same refl) (SameAreas refl refl) (SameAttachments refl) (FewerPages _ refl refl) (SamePins refl (λ page. refl))
-    (SameAllowed refl) (StayOpen refl) refl refl
+    memory_moves at w (event.UserUnmap user va) reply.Done _ _ (FewerPages _ refl refl)
 changed_moves at w (event.UserWrite user va bytes) reply.Done =
-    moves at w _ _ _ (Same refl) (SameAreas refl refl) (SameAttachments refl) (Written tt refl) (SamePins refl (λ page. refl))
-    (SameAllowed refl) (StayOpen refl) refl refl
+    memory_moves at w (event.UserWrite user va bytes) reply.Done _ _ (Written tt refl)
 changed_moves at w (event.Bind file device) (reply.Id id) =
     object_moves at w (event.Bind file device) (reply.Id id) _
     (More (record { file = file; id = id; kind = kind.Device device }) (λ answers. answers)
@@ -380,51 +424,57 @@ changed_moves at w (event.Bind file device) (reply.Id id) =
     })
     (λ makes. refl) refl) (λ own ioas. same_hwpt _ w.objects own ioas refl)
 changed_moves at w (event.Unbind file id) reply.Done =
-    object_moves at w (event.Unbind file id) reply.Done _ (Fewer _ (λ takes. unbound_stay w file id) refl)
+    object_moves at w (event.Unbind file id) reply.Done _ (Fewer _ (λ takes. unbound_stay w file id)
+    (λ none own once bound. attachments-unbound w file id own once (unbind_passed (view w) file id none).unattached
+    bound) refl)
     (hwpt-unbound w.objects file id)
 changed_moves {A = A} at w (event.Attach device pt_id) (reply.Id id) =
     let e : Event A = event.Attach device pt_id in
     by_target w device pt_id id (Moves at w e (reply.Id id)) (λ nowhere. stays at w e (reply.Id id))
     (λ object d bound known space made.
     let automatic = automatic_hwpt w.objects object.file pt_id d.width in
-    moves at w e (reply.Id id) (settle w (attached w device pt_id id object d)) (hwpt_moves w device pt_id id object d bound known space automatic refl made _ refl)
+    reach_moves at w e (reply.Id id) (settle w (attached w device pt_id id object d)) refl
+    (hwpt_moves w device pt_id id object d bound known space automatic refl made _ refl)
     (OtherPhases _ (λ a live. paid_live device a.phase live) refl refl)
-    (OneAttachment (record { device = device; file = object.file; hwpt = id }) object bound refl
+    (OneAttachment (record { device = device; file = object.file; hwpt = id }) object bound
+    (hwpt_binds device object.file pt_id id d.width automatic w.objects ∙ bound) refl
     (λ none. (attach_passed (view w) device pt_id object bound space none).unattached)
     (λ none answers own. made_served w device object.file pt_id id d automatic own known refl (made answers)
     (sym (ap (narrows (view w) object.file pt_id) known)
     ∙ (attach_passed (view w) device pt_id object bound space none).wide)) refl)
-    (SameMemory refl refl)
     (Settled refl (λ none p page within before. attached_present at w device pt_id id object d.width automatic page p
-    none bound space (moved_new w (all_paid device w.areas) _ page (alike_paid w device) within before))) (SameAllowed refl) (StayOpen refl) refl refl)
+    none bound space (moved_new w (all_paid device w.areas) _ page (alike_paid w device) within before))))
     (λ object d ioas width automatic bound known table same.
-    moves at w _ _ _ (Same refl) (OtherPhases _ (λ a live. paid_live device a.phase live) refl refl)
-    (OneAttachment (record { device = device; file = object.file; hwpt = id }) object bound refl
+    reach_moves at w e (reply.Id id) (joined w device id object) refl (Same refl)
+    (OtherPhases _ (λ a live. paid_live device a.phase live) refl refl)
+    (OneAttachment (record { device = device; file = object.file; hwpt = id }) object bound bound refl
     (λ none. (join_passed (view w) device pt_id ioas width automatic object bound table none).unattached)
-    (λ none answers own. joined_served w device object ioas id d width automatic known
-    (rw (same answers) table) (join_passed (view w) device pt_id ioas width automatic object bound table none)) refl)
-    (SameMemory refl refl) (SamePins refl (alike_phases w (λ a. paid device a.phase))) (SameAllowed refl) (StayOpen refl) refl refl)
+    (λ none answers own. joined_served w device object ioas id d width automatic known (rw (same answers) table)
+    (join_passed (view w) device pt_id ioas width automatic object bound table none)) refl)
+    (SamePins refl (alike_phases w (λ a. paid device a.phase))))
 changed_moves {A = A} at w (event.Detach device) reply.Done =
     let e : Event A = event.Detach device in
     by_attachment w device (Moves at w e reply.Done) (stays at w e reply.Done) (λ a is.
-    moves at w _ _ _ (Fewer _ (λ takes. detached_stay w device a is takes) refl)
+    reach_moves at w e reply.Done (settle w (detached w device a)) refl
+    (Fewer _ (λ takes. detached_stay w device a is takes)
+    (λ none. detached_bound w a (without_attachment device w.attachments)) refl)
     (OtherPhases _ (λ area live. paid_live device area.phase live) refl refl) (FewerAttachments _ refl)
-    (SameMemory refl refl)
     (Settled refl (λ none p page within before. absurd (none_new w _ page
     (λ own ioas has. hwpt-filter _ w.objects own ioas has)
-    (moved_new w (all_paid device w.areas) _ page (alike_paid w device) within before)))) (SameAllowed refl) (StayOpen refl) refl refl)
+    (moved_new w (all_paid device w.areas) _ page (alike_paid w device) within before)))))
 changed_moves at w (event.Flush device) reply.Done =
-    moves at w _ _ _ (Same refl) (OtherPhases _ (λ a live. paid_live device a.phase live) refl refl)
-    (SameAttachments refl) (SameMemory refl refl) (SamePins refl (alike_phases w (λ a. paid device a.phase))) (SameAllowed refl) (StayOpen refl) refl refl
+    reach_moves at w (event.Flush device) reply.Done (device_flushed w device reply.Done) refl (Same refl)
+    (OtherPhases _ (λ a live. paid_live device a.phase live) refl refl) (SameAttachments refl)
+    (SamePins refl (alike_phases w (λ a. paid device a.phase)))
 changed_moves at w (event.DeviceWrite device iova bytes) (reply.Passed frame) =
-    moves at w _ _ _ (Same refl) (SameAreas refl refl) (SameAttachments refl) (Written tt refl) (SamePins refl (λ page. refl))
-    (SameAllowed refl) (StayOpen refl) refl refl
+    memory_moves at w (event.DeviceWrite device iova bytes) (reply.Passed frame) _ _ (Written tt refl)
 changed_moves at w e answer = stays at w e answer
 
 -- ---- all areas
 
 -- what holds of areas whatever their phase, and of the one that comes
-pub all_areas : {A : Type 0} (p : Area → Bool) → ((phase : Phase) (a : Area) → p a ≡ true → p (with_phase phase a) ≡ true)
+pub all_areas : {A : Type 0} (p : Area → Bool)
+    → ((phase : Phase) (a : Area) → p a ≡ true → p (with_phase phase a) ≡ true)
     → (at : ℕ) (w : World) (e : Event A) (answer : Reply) (new : World) → AreasMove at w e answer new
     → ((number : ℕ) (file : FileNo) (request : MapRequest) (iova : Iova)
     → (refusal w e ≡ None → PlacePassed (view w) file request)

@@ -17,6 +17,6 @@ keeps_own_ids at w e answer none answers own =
   where
     by_move : (new : World) → ObjectsMove w e answer new → have_own_ids new.objects ≡ true
     by_move new (Same is) = rw is own
-    by_move new (Fewer stays stay is) = rw is (own_ids-filter stays w.objects own)
+    by_move new (Fewer stays stay bound is) = rw is (own_ids-filter stays w.objects own)
     by_move new (More object fresh admitted makes is) =
         rw is (own_ids-with_object object w.objects (unused w.objects object.file object.id (fresh answers)) own)

@@ -1,13 +1,12 @@
 -- Which pages are to be pinned after an event: the same as before it, or others too, which their users have.
-use Rattle.std.proofs.Common.{◌≡◌, ℕ, Bool, true, false, ◌&&◌, not, eqb, ltb}
-use Rattle.std.proofs.Common.{is_some, List, [], ◌∷◌, map, refl, ap, sym, ◌∙◌, arith}
+use Rattle.std.proofs.Common.{◌≡◌, ℕ, Bool, true, false, ◌&&◌, not, eqb, ltb, is_some, List, [], ◌∷◌, map, refl, ap}
+use Rattle.std.proofs.Common.{sym, ◌∙◌, arith}
 use Rattle.std.specs.List.{filter, list_all, list_any}
 use Rattle.std.proofs.lemmas.Bool.Decides.{nat_tests}
-use Rattle.iofd_words.specs.Areas.{paid, with_phase}
+use Rattle.iofd_words.specs.Areas.{paid, with_phase, all_paid}
 use Rattle.iofd_words.specs.Objects.{has_hwpt}
 use Rattle.iofd_rows.specs.Pinned.{has_object}
-use Rattle.iofd_words.specs.Pins.{ObjectPage, frame_now, is_page, is_translated}
-use Rattle.iofd_words.specs.Pins.{pinned_pages}
+use Rattle.iofd_words.specs.Pins.{ObjectPage, frame_now, is_page, is_translated, pinned_pages}
 use Rattle.iofd_words.specs.World.{World}
 use Rattle.iofd_words.specs.declared.numbers.FileNo.{FileNo}
 use Rattle.iofd_words.specs.declared.numbers.ObjId.{ObjId}
@@ -20,7 +19,6 @@ use Rattle.iofd_rows.proofs.Bools.{and_rest, and_true, both_true, clash}
 use Rattle.iofd_rows.proofs.ListTests.{false_else}
 use Rattle.iofd_rows.proofs.ObjectPages.{in_pinned, is_listed, listed_fewer, translated-map}
 use Rattle.iofd_rows.proofs.ObjectPages.{translated_fewer}
-use Rattle.iofd_words.specs.Areas.{all_paid}
 use Rattle.iofd_words.specs.declared.numbers.DeviceNo.{DeviceNo}
 
 -- the pages that are to be pinned in a world

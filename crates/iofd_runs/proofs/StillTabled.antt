@@ -8,8 +8,7 @@ use Rattle.iofd_words.specs.After.{changed}
 use Rattle.iofd_words.specs.Answers.{Answers}
 use Rattle.iofd_words.specs.Areas.{all_paid, areas_of, is_of, paid, with_phase}
 use Rattle.iofd_words.specs.Levels.{levels_of}
-use Rattle.iofd_words.specs.Objects.{is_hwpt, kind_of}
-use Rattle.iofd_words.specs.Objects.{with_object}
+use Rattle.iofd_words.specs.Objects.{is_hwpt, kind_of, with_object}
 use Rattle.iofd_words.specs.TablePlaces.{TablePlace, has_table, is_live, is_place, is_table_of, live_pages, pages_in}
 use Rattle.iofd_words.specs.TablePlaces.{place_of, places_from}
 use Rattle.iofd_words.specs.Tables.{MovesTables, are_rising, is_among, is_orphan, kept_tables, may_go, missing_tables}
@@ -36,7 +35,8 @@ use Rattle.iofd_runs.proofs.MissingTables.{all_needed, has_needed, is_owned, nee
 use Rattle.iofd_runs.proofs.OwnIds.{unused}
 use Rattle.iofd_runs.proofs.SameTables.{same_tables}
 use Rattle.iofd_runs.specs.Tabled.{AreTabled}
-use Rattle.iofd_runs.proofs.Moves.{AreasMove, Fewer, FewerAreas, More, ObjectsMove, OneArea, OtherPhases, Same, SameAreas, changed_moves}
+use Rattle.iofd_runs.proofs.Moves.{AreasMove, Fewer, FewerAreas, More, ObjectsMove, OneArea, OtherPhases, Same}
+use Rattle.iofd_runs.proofs.Moves.{SameAreas, changed_moves}
 use Rattle.iofd_runs.proofs.TableEvents.{HwptsStay, paid_live, stay_same, stay_with}
 pub use Rattle.iofd_runs.proofs.TableEvents.{MakesNone, TakesNone, finds_table, leaves_table}
 
@@ -154,7 +154,8 @@ live_phases phase areas lived area within live =
     )
 
 pub live_paid : (device : DeviceNo) (areas : List Area) → LiveIn areas (all_paid device areas)
-live_paid device areas = live_phases (λ area. paid device area.phase) areas (λ area live. paid_live device area.phase live)
+live_paid device areas =
+    live_phases (λ area. paid device area.phase) areas (λ area live. paid_live device area.phase live)
 
 -- ---- objects
 
@@ -188,7 +189,7 @@ none_after at w e answer makes none =
   where
     hwpts : (new : World) → ObjectsMove w e answer new → HwptsIn w.objects new.objects
     hwpts new (Same is) = rw is (hwpts_same w.objects)
-    hwpts new (Fewer stays stay is) = rw is (hwpts_fewer stays w.objects)
+    hwpts new (Fewer stays stay bound is) = rw is (hwpts_fewer stays w.objects)
     hwpts new (More object fresh admitted other is) = rw is (hwpts_other object w.objects (other makes))
 
     lived : (new : World) → AreasMove at w e answer new → LiveIn w.areas new.areas
@@ -275,7 +276,7 @@ owned_after at w e answer answers takes all =
   where
     by_move : (new : World) → ObjectsMove w e answer new → HwptsStay w.objects new.objects
     by_move new (Same is) = rw is (stay_same w.objects)
-    by_move new (Fewer stays stay is) = rw is (stay takes)
+    by_move new (Fewer stays stay bound is) = rw is (stay takes)
     by_move new (More object fresh admitted other is) =
         rw is (stay_with object w.objects (unused w.objects object.file object.id (fresh answers)))
 

@@ -7,7 +7,7 @@ use Rattle.iofd_words.specs.Areas.{leaving, paid}
 use Rattle.iofd_words.specs.Attachments.{attachment_of, without_attachment}
 use Rattle.iofd_words.specs.Files.{device_of}
 use Rattle.iofd_words.specs.Objects.{automatic_hwpt, binding_of, is_bound_device, is_hwpt, is_ioas, is_object, kind_of}
-use Rattle.iofd_words.specs.Objects.{with_object}
+use Rattle.iofd_words.specs.Objects.{with_object, without_device_object, without_object}
 use Rattle.iofd_words.specs.Settings.{DeviceSettings}
 use Rattle.iofd_words.specs.TablePlaces.{is_live}
 use Rattle.iofd_words.specs.World.{World}
@@ -28,7 +28,6 @@ use Rattle.iofd_rows.proofs.Found.{all_weaker, found_passes}
 use Rattle.iofd_rows.proofs.ListTests.{filter_all}
 use Rattle.iofd_rows.proofs.Moves.{device_is}
 use Rattle.iofd_rows.proofs.Named.{file_is, id_is, kind_before, kind_kept}
-use Rattle.iofd_words.specs.Objects.{without_device_object, without_object}
 
 -- ---- no page table and no live area comes
 
