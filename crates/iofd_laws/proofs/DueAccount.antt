@@ -2,7 +2,7 @@
 use Rattle.std.proofs.Common.{◌≡◌, ℕ, ◌+◌, ◌/◌, ◌<◌, ◌≤◌, Bool, true, false, cond, ◌&&◌, ◌||◌, not, eqb, ltb, is_none}
 use Rattle.std.proofs.Common.{is_some, Option, Some, None, List, [], ◌∷◌, ◌++◌, length, refl, ap, sym, subst, ◌∙◌}
 use Rattle.std.proofs.Common.{arith, inl, inr}
-use Rattle.std.specs.List.{count_by, filter, find, flat_map, list_all, list_any, range_with_len}
+use Rattle.std.specs.List.{count_by, filter, find, flat_map, list_any, range_with_len}
 use Rattle.std.proofs.lemmas.Bool.Decides.{nat_tests}
 use Rattle.std.proofs.lemmas.Bool.{not-false}
 use Rattle.std.proofs.lemmas.List.FromFn.{length-map-range_with_len}
@@ -77,6 +77,7 @@ use Rattle.iofd_laws.proofs.KeepsLimits.{copied_world, has_pin, held_settle, lis
 use Rattle.iofd_laws.proofs.KeepsLimits.{moved_world, number_of_page, of_user, page_of_object}
 use Rattle.iofd_laws.proofs.RefusingRow.{row_passed, some_row}
 use Rattle.iofd_runs.proofs.Branches.{by_target}
+use Rattle.iofd_runs.proofs.MappedPages.{find_new}
 
 never : false ≡ true → ⊥
 never is = cc
@@ -297,16 +298,6 @@ of_area_pinned w area more page listed over table =
     ∙ both_true _ _ listed (translated-with_area w.objects area w.areas page.memory
     ∙ or_left _ (is_translated w.objects w.areas page.memory) (both_true _ _ over table))
 
--- the new memory object is found by its number, which none that stands has
-found_last : (at : ℕ) (memory : List MemoryObject) (m : MemoryObject)
-    → list_all (λ (o : MemoryObject). ltb o.number at) memory ≡ true → eqb m.number at ≡ true
-    → find (λ (o : MemoryObject). eqb o.number at) (memory ++ m ∷ []) ≡ Some m
-found_last at [] m made is = rw is refl
-found_last at (o ∷ memory) m made is =
-    let parts = and_true (ltb o.number at) (list_all (λ (o : MemoryObject). ltb o.number at) memory) made in
-    let unlike : eqb o.number at ≡ false = grind (arith, nat_tests) in
-    rw unlike (found_last at memory m parts.1 is)
-
 -- the pages that a MAP needs are in its user's memory
 pages_there : (w : World) (file : FileNo) (request : MapRequest) (user : UserNo) → user_of w.settings file ≡ Some user
     → has_hwpt w.objects file request.ioas ≡ true → lacks_mapped_page (view w) file request ≡ false
@@ -342,7 +333,7 @@ module _ (at : ℕ) (w : World) (file : FileNo) (request : MapRequest) (iova : I
       subst (λ (page : ObjectPage). is_some (frame_now new.memory new.user_pages page) ≡ true) same
       (ap (λ (o : Option MemoryObject). is_some (elim o as (λ _. Option FrameNo)
       [ Some m ↦ frame_at w.user_pages m.user (page_of m.va + i) | None ↦ None ]))
-      (found_last at w.memory object p.made itself) ∙ there)
+      (find_new at w.memory object p.made itself) ∙ there)
 
   new_pinned : (page : ObjectPage) → IsIn (pages_of object) page → has_pin (settle w new) page ≡ true
   new_pinned page within =

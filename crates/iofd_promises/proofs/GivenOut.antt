@@ -19,7 +19,7 @@ use Rattle.iofd_words.specs.declared.rows.UserPage.{UserPage}
 use Rattle.iofd_rows.proofs.Bools.{and_true, not_true, or_false}
 use Rattle.iofd_rows.proofs.Unusable.{each_not}
 use Rattle.iofd_promises.specs.Owners.{IsNobodys}
-use Rattle.iofd_promises.proofs.KeepsBytes.{never_written}
+use Rattle.iofd_laws.proofs.OwnFrames.{never_written}
 use Rattle.iofd_promises.proofs.Lists.{all_apart, one_place}
 use Rattle.iofd_promises.proofs.Rows.{within}
 

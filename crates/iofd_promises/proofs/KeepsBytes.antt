@@ -1,13 +1,12 @@
 -- Which writes a step adds: a user's, a device's, and none else; a frame that is given out loses its own.
-use Rattle.std.proofs.Common.{◌≡◌, ◌≢◌, ℕ, zero, suc, false, List, [], ◌∷◌, map, Contains, ap, ◌∙◌, arith, refl, true}
+use Rattle.std.proofs.Common.{◌≡◌, ◌≢◌, ℕ, false, List, ap, ◌∙◌, refl, true}
 use Rattle.iofd_words.specs.After.{changed}
-use Rattle.iofd_words.specs.Answers.{Answers, write_reply}
-use Rattle.iofd_words.specs.Policy.{Outcome, Passes, Denied, outcomes}
+use Rattle.iofd_words.specs.Answers.{Answers}
+use Rattle.iofd_words.specs.Policy.{outcomes}
 use Rattle.iofd_words.specs.World.{World}
 use Rattle.iofd_words.specs.declared.event.Event.{Event}
 use Rattle.iofd_words.specs.declared.event.Event.TheVariants as event
 use Rattle.iofd_words.specs.declared.fault.AccessKind.TheVariants.{Write}
-use Rattle.iofd_words.specs.declared.numbers.DeviceNo.{DeviceNo}
 use Rattle.iofd_words.specs.declared.numbers.FrameNo.{FrameNo}
 use Rattle.iofd_words.specs.declared.reply.Reply.{Reply}
 use Rattle.iofd_words.specs.declared.reply.Reply.TheVariants as reply
@@ -15,6 +14,7 @@ use Rattle.iofd_words.specs.Frames.{FrameWrite}
 use Rattle.iofd_runs.proofs.Moves.{FewerPages, MemoryMoves, OnePage, SameMemory, Written, Writes}
 use Rattle.iofd_promises.proofs.Bytes.{reads_given, reads_not_given}
 use Rattle.iofd_promises.specs.Bytes.{reads, changes_bytes}
+use Rattle.iofd_laws.proofs.OwnFrames.{never_written}
 
 -- a write that is carried out changes bytes
 writes_change : {A : Type 0} → (e : Event A) (answer : Reply) → Writes e answer → changes_bytes e answer ≡ true
@@ -36,15 +36,6 @@ keeps_byte w new e answer frame place (FewerPages stays pages is) none others =
     ap (λ (writes : List FrameWrite). reads writes frame place) is
 keeps_byte w new e answer frame place (Written written pages) none others =
     let changes = writes_change e answer written in cc
-
--- a write is not answered with a frame that is given out
-pub never_written : (w : World) (device : DeviceNo) (address : ℕ) (os : List Outcome) (frame : FrameNo)
-    → Contains (map (write_reply w device address) os) (reply.Frame frame) → ⊥
-never_written w device address [] frame (k, within, is) = absurd (omega (arith, within))
-never_written w device address (Passes f ∷ os) frame (zero, within, is) = cc
-never_written w device address (Denied reason ∷ os) frame (zero, within, is) = cc
-never_written w device address (o ∷ os) frame (suc k, within, is) =
-    never_written w device address os frame (k, omega (arith, within), is)
 
 -- what a user is given reads zero
 pub gives_zero : {A : Type 0} → (at : ℕ) (w : World) (e : Event A) (frame : FrameNo) (place : ℕ)

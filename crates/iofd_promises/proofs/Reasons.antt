@@ -53,7 +53,7 @@ known_set : (w : World) (device : DeviceNo) (d : DeviceSettings) → IsSetFor w 
 known_set w device d (n, number, is) =
     let next : device.0 ≡ suc n = omega (arith, number) in ap (numbered w.settings.devices) next ∙ is
 
-bits_end : (width : Width) → 2 ^ bits_of width ≡ end_of width
+pub bits_end : (width : Width) → 2 ^ bits_of width ≡ end_of width
 bits_end Bits39 = refl
 bits_end Bits48 = refl
 

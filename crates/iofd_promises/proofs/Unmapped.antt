@@ -1,7 +1,7 @@
 -- What an UNMAP names, waits for and takes away, and what a flush pays.
-use Rattle.std.proofs.Common.{◌≡◌, ◌≢◌, ◌≤◌, ℕ, suc, ◌+◌, ◌-◌, Bool, true, false, cond, ◌&&◌, ◌||◌, not, eqb, leb, List}
-use Rattle.std.proofs.Common.{[], ◌∷◌, length, Contains, refl, ap, sym, ◌∙◌, subst, arith, inl, inr}
-use Rattle.std.specs.List.{list_any, sum_by}
+use Rattle.std.proofs.Common.{◌≡◌, ◌≢◌, ◌≤◌, ℕ, suc, ◌+◌, ◌-◌, Bool, true, false, cond, ◌&&◌, not, eqb, leb, List}
+use Rattle.std.proofs.Common.{[], ◌∷◌, length, Contains, refl, ap, sym, ◌∙◌, subst, arith, inl}
+use Rattle.std.specs.List.{sum_by}
 use Rattle.std.proofs.lemmas.Bool.{eqb-true}
 use Rattle.std.proofs.lemmas.Bool.Decides.{nat_tests}
 use Rattle.std.proofs.lemmas.List.Sums.{sum_by-cons}
@@ -27,6 +27,7 @@ use Rattle.iofd_runs.proofs.StillTabled.{in_kept}
 use Rattle.iofd_promises.specs.Unmaps.{AllLeave, AllPaid, LeavesBy, Owes, PaidBy, bytes_named, is_named, last_named}
 use Rattle.iofd_promises.proofs.Rows.{contains, within}
 use Rattle.iofd_promises.proofs.Spaces.{device_translates, translates_device}
+use Rattle.iofd_laws.proofs.FreeFrames.{some_in}
 
 -- ---- what it names
 
@@ -153,15 +154,6 @@ pub record Owed (w : World) (file : FileNo) (request : UnmapRequest) : Type 0 wh
   pub named : is_named file request area ≡ true
   pub device : DeviceNo
   pub owes : Owes w area device area.phase
-
-some_in : {X : Type 0} (p : X → Bool) (xs : List X) → list_any p xs ≡ true → (x : X) × IsIn xs x × (p x ≡ true)
-some_in p [] some = cc
-some_in {X = X} p (x ∷ xs) some = by_test (p x) refl some (some_in p xs)
-  where
-    by_test : (b : Bool) → p x ≡ b → (b || list_any p xs) ≡ true
-        → (list_any p xs ≡ true → (y : X) × IsIn xs y × (p y ≡ true)) → (y : X) × IsIn (x ∷ xs) y × (p y ≡ true)
-    by_test true is some later = (x, inl refl, is)
-    by_test false is some later = let (y, there, passes) = later some in (y, inr there, passes)
 
 pub somebody_owes : (w : World) (file : FileNo) (request : UnmapRequest)
     → is_waiting w.areas (devices_of w.objects w.attachments file request.ioas) file request ≡ true

@@ -1,10 +1,10 @@
 -- Devices that are attached stay bound to their files where objects go.
-use Rattle.std.proofs.Common.{◌≡◌, Bool, true, ◌&&◌, not, eqb, List, refl}
-use Rattle.std.specs.List.{filter}
+use Rattle.std.proofs.Common.{◌≡◌, Bool, true, ◌&&◌, not, eqb, List, refl, false}
+use Rattle.std.specs.List.{filter, list_any}
 use Rattle.iofd_words.specs.After.{goes_with}
 use Rattle.iofd_words.specs.Attachments.{has_device_on}
-use Rattle.iofd_words.specs.Objects.{is_automatic, is_bound_as, is_object}
-use Rattle.iofd_words.specs.Objects.{without_object}
+use Rattle.iofd_words.specs.Objects.{is_automatic, is_bound_as, is_object, without_object, is_bound_device, kind_of}
+use Rattle.iofd_words.specs.Objects.{objects_of}
 use Rattle.iofd_words.specs.World.{World}
 use Rattle.iofd_words.specs.declared.numbers.FileNo.{FileNo}
 use Rattle.iofd_words.specs.declared.numbers.ObjId.{ObjId}
@@ -17,10 +17,6 @@ use Rattle.iofd_rows.proofs.Bound.{no_device_either, stays-filter}
 use Rattle.iofd_rows.specs.Debts.{attach_once}
 use Rattle.iofd_rows.specs.Ids.{have_own_ids}
 use Rattle.iofd_words.specs.Checks.{is_device_object}
-use Rattle.std.specs.List.{list_any}
-use Rattle.iofd_words.specs.Objects.{is_automatic, is_bound_as, is_bound_device, is_object, kind_of, objects_of}
-use Rattle.iofd_words.specs.Objects.{without_object}
-use Rattle.std.proofs.Common.{false, true, Bool, ◌&&◌, not, eqb, List, ◌≡◌}
 
 abbrev pub BoundStay : World → List Object → Type 0
 BoundStay w left = have_own_ids w.objects ≡ true → attach_once w.attachments ≡ true

@@ -51,8 +51,8 @@ not_lacking w file request user is has lacks =
 eqb_same : (n : ℕ) → eqb n n ≡ true
 eqb_same n = grind (arith, nat_tests)
 
--- numbers below are others'
-find_new : (at : ℕ) (memory : List MemoryObject) (m : MemoryObject)
+-- the new memory object is found by its number, which none that stands has
+pub find_new : (at : ℕ) (memory : List MemoryObject) (m : MemoryObject)
     → list_all (λ (o : MemoryObject). ltb o.number at) memory ≡ true → eqb m.number at ≡ true
     → find (λ (o : MemoryObject). eqb o.number at) (memory ++ m ∷ []) ≡ Some m
 find_new at [] m made is = rw is refl
