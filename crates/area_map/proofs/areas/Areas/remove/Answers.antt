@@ -2,9 +2,9 @@ use Rattle.std.proofs.Common.{◌≡◌, ◌-◌, List, length, not, arith}
 use Rattle.std.proofs.Math.Nat.{le_refl}
 use Rattle.iofd_words.specs.Span.{lies_in}
 use Rattle.iofd_words.specs.declared.rows.Area.{Area}
-use Rattle.area_map_rows.specs.Rows.{in_rows, LeaveIn}
+use Rattle.area_map_rows.specs.Rows.{in_rows}
 use Rattle.area_map_rows.proofs.Kept.{kept-filter}
-use Rattle.area_map.specs.Kept.{room_of}
+use Rattle.area_map.specs.Kept.{leaving_span, room_of}
 use Rattle.area_map.proofs.RowsKept.{rows_without, spare_stays}
 use Rattle.area_map.proofs.areas.Areas.remove.Goals as goal
 
@@ -22,7 +22,7 @@ invariant_of-self g c =
     let count = c.remove.ensures.count in
     let left : c.self.inside.count - c.remove.result ≡ length (in_rows new) = omega (arith, counted, count) in
     let told = rw c.deref.ensures.value at c.without-self-inside.ensures in
-    let leave : LeaveIn c.without-self-inside.result (in_rows new) =
+    let leave : c.without-self-inside.result ≡ leaving_span (in_rows new) =
     told (in_rows rows) c.self.invariant.0.leave c.remove.ensures.areas in (
       rows_without c.args.span rows new c.self.inside.count (c.self.inside.count - c.remove.result)
           c.self.inside.leaving c.without-self-inside.result c.self.invariant.0 c.remove.ensures.rows

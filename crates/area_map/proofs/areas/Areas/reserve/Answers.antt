@@ -40,5 +40,5 @@ returns-clause-room g c =
 pub returns-clause-unchanged : goal.returns-clause-unchanged
 returns-clause-unchanged g c =
     rw (← c.self.view_is) (table-same c.reserve.result (in_rows c.self.inside.rows.items)
-    (in_rows c.reserve.new.rows.items) c.self.inside.spare c.reserve.new.spare (ap in_rows c.reserve.ensures.rows)
+    (in_rows c.reserve.new.rows.items) c.self.inside.spare c.reserve.new.spare c.self.inside.leaving (ap in_rows c.reserve.ensures.rows)
     c.reserve.ensures.err c.reserve.ensures.unchanged)
