@@ -105,7 +105,8 @@ module _ (limits : List ℕ) (objects : List MemoryEntry) (less more : List User
       (λ here. ap (λ k. get_or before.holds k 0) (sym (eqb-true frame.0 f here)) ∙ none)
       counts)
 
-  pub hold_there : (holds : List ℕ) → IsBacked (record { pages = more; limits = limits; objects = objects; room = 0 }) holds
+  pub hold_there : (holds : List ℕ) → IsBacked (record { pages = more; limits = limits; objects = objects; room = 0 })
+      holds
       → 0 < get_or holds frame.0 0
   hold_there holds backed =
       let counts = one.counts (λ p. eqb p.frame.0 frame.0) in

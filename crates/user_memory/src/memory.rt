@@ -19,7 +19,8 @@ ghost use Rattle.user_memory.specs.Changes.{HasLess, HasObject, HasPins, HasShar
 ghost use Rattle.user_memory.specs.Changes.{never, once};
 ghost use Rattle.user_memory.specs.Invariant.{ObjectsTell};
 ghost use Rattle.user_memory.specs.Memory.{IsBacked, are_of, areas_over, has_memory, has_room, held_by};
-ghost use Rattle.user_memory.specs.Memory.{lacks_page, new_pages, newly_pinned, pinned_frame, rows_at, rows_of, table_pins};
+ghost use Rattle.user_memory.specs.Memory.{lacks_page, new_pages, newly_pinned, pinned_frame, rows_at, rows_of};
+ghost use Rattle.user_memory.specs.Memory.{table_pins};
 
 use crate::adding;
 use frame_memory::{Pool, UserMap};

@@ -32,7 +32,8 @@ returns-in_err-reserve_frames-clause-err g c =
     let after = memory_of rows limits grown in
     let V : Memory → Type 0 = λ m. SameObjects m (with_room room after) in
     after_error c.from_residual.result (SameObjects c.args.self.now (with_room room after))
-    (subst V c.self.view_is (same_with room room (memory_of rows limits c.self.inside.objects.objects) after (grown_same rows limits c.self.inside.objects.objects grown c.reserve_frames.ensures.objects
+    (subst V c.self.view_is (same_with room room (memory_of rows limits c.self.inside.objects.objects) after
+    (grown_same rows limits c.self.inside.objects.objects grown c.reserve_frames.ensures.objects
     c.reserve_frames.ensures.rows c.reserve_frames.ensures.pins c.reserve_frames.ensures.invariant)))
 
 pub pin_by_table-requires : goal.pin_by_table-requires
@@ -106,7 +107,8 @@ returns-clause-pins g c =
     let room = c.self.inside.users.room in
     let made = memory_of rows after c.pin_by_table.new.self.objects in
     let V : Memory → Type 0 = λ m. HasPins (λ n. times_of n ns) m (with_room room made) in
-    subst V c.self.view_is (pins_with room room (memory_of rows limits old) made (λ n. times_of n ns) (subst N (sym c.pin_by_table.ensures.objects)
+    subst V c.self.view_is (pins_with room room (memory_of rows limits old) made (λ n. times_of n ns) (subst N (sym
+    c.pin_by_table.ensures.objects)
     (pin_more_pins rows limits after old grown grows told ns ready c.reserve_frames.ensures.rows
     (subst Areas (sym c.self.view_is) c.requires.areas))))
 

@@ -44,7 +44,8 @@ returns-clause-less g c =
     let room = c.self.inside.users.room in
     let made = memory_of rows limits c.remove_area.new.self.objects in
     let V : Memory → Type 0 = λ m. HasLess (once n) never m (with_room room made) in
-    subst V c.self.view_is (less_with room room (memory_of rows limits old) made (once n) never (subst N (sym c.remove_area.ensures.objects)
+    subst V c.self.view_is (less_with room room (memory_of rows limits old) made (once n) never (subst N (sym
+    c.remove_area.ensures.objects)
     (remove_less rows old c.self.invariant.told n (subst P (sym c.self.view_is) c.requires) limits limits)))
 
 pub returns-clause-settles : goal.returns-clause-settles
@@ -60,7 +61,8 @@ returns-clause-settles g c = λ pool.
     let made = memory_of rows limits new in
     let V : Memory → Type 0 = λ m. Settles m (with_room room made) pool pool in
     subst V c.self.view_is
-    (settles_with room room (memory_of rows limits old) made pool pool (settle rows limits limits old new pool pool refl c.self.invariant.told.memory.rising
+    (settles_with room room (memory_of rows limits old) made pool pool (settle rows limits limits old new pool pool
+    refl c.self.invariant.told.memory.rising
     (subst S (sym c.remove_area.ensures.objects)
     (remove_steps rows old c.self.invariant.told n (subst P (sym c.self.view_is) c.requires)))
     refl (λ frame. ap (λ k. get_or pool.holds frame 0 + k) (sym (c.remove_area.ensures.pins.pins frame))) refl

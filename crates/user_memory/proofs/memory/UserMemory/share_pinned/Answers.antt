@@ -33,7 +33,8 @@ returns-in_err-reserve_frames-clause-err g c =
     let after = memory_of rows limits grown in
     let V : Memory → Type 0 = λ m. SameObjects m (with_room room after) in
     after_error c.from_residual.result (SameObjects c.args.self.now (with_room room after))
-    (subst V c.self.view_is (same_with room room (memory_of rows limits c.self.inside.objects.objects) after (grown_same rows limits c.self.inside.objects.objects grown c.reserve_frames.ensures.objects
+    (subst V c.self.view_is (same_with room room (memory_of rows limits c.self.inside.objects.objects) after
+    (grown_same rows limits c.self.inside.objects.objects grown c.reserve_frames.ensures.objects
     c.reserve_frames.ensures.rows c.reserve_frames.ensures.pins c.reserve_frames.ensures.invariant)))
 
 pub add_area-requires : goal.add_area-requires

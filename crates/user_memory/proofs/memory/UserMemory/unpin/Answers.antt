@@ -47,7 +47,8 @@ returns-clause-less g c =
     let room = c.self.inside.users.room in
     let made = memory_of rows after c.unpin_by_table.new.self.objects in
     let V : Memory → Type 0 = λ m. HasLess never (once n) m (with_room room made) in
-    subst V c.self.view_is (less_with room room (memory_of rows before old) made never (once n) (subst N (sym c.unpin_by_table.ensures.objects)
+    subst V c.self.view_is (less_with room room (memory_of rows before old) made never (once n) (subst N (sym
+    c.unpin_by_table.ensures.objects)
     (unpin_less rows before after old c.self.invariant.told n (subst P (sym c.self.view_is) c.requires.pins))))
 
 pub returns-clause-settles : goal.returns-clause-settles
@@ -65,7 +66,8 @@ returns-clause-settles g c =
     let made = memory_of rows after new in
     let V : Memory → Type 0 = λ m. Settles m (with_room room made) c.args.pool.now c.unpin_by_table.new.pool in
     subst V c.self.view_is
-    (settles_with room room (memory_of rows before old) made c.args.pool.now c.unpin_by_table.new.pool (settle rows before after old new c.args.pool.now c.unpin_by_table.new.pool
+    (settles_with room room (memory_of rows before old) made c.args.pool.now c.unpin_by_table.new.pool (settle rows
+    before after old new c.args.pool.now c.unpin_by_table.new.pool
     (limits_stay c.self.inside.accounts c.unpin_by_table.new.accounts moves.count moves.limits)
     c.self.invariant.told.memory.rising
     (subst S (sym c.unpin_by_table.ensures.objects) (unpin_steps rows old c.self.invariant.told n)) holds.count
