@@ -94,7 +94,8 @@ with_swap : (hull : Option Bounds) (a b : Area)
     → with_leaving (with_leaving hull a) b ≡ with_leaving (with_leaving hull b) a
 with_swap hull a b = by_tests (is_leaving a.phase) (is_leaving b.phase)
   where
-    by_tests : (p q : Bool) → cond q (joined (cond p (joined hull a.span) hull) b.span) (cond p (joined hull a.span) hull)
+    by_tests : (p q : Bool)
+        → cond q (joined (cond p (joined hull a.span) hull) b.span) (cond p (joined hull a.span) hull)
         ≡ cond p (joined (cond q (joined hull b.span) hull) a.span) (cond q (joined hull b.span) hull)
     by_tests true true = joined_swap hull a.span b.span
     by_tests true false = refl

@@ -1,6 +1,6 @@
 //! The map of areas.
 
-ghost use Rattle.std.specs.Prelude.{◌≡◌, ◌==◌, ◌↔◌, ◌+◌, ◌<◌, ◌≤◌, [], find, length};
+ghost use Rattle.std.specs.Prelude.{◌≡◌, ◌==◌, ◌↔◌, ◌+◌, ◌*◌, ◌<◌, ◌≤◌, [], find, length};
 ghost use Rattle.std.specs.Prelude.{map, nat_le, is_ok, IsOk, IfOk};
 ghost use Rattle.std.specs.Prelude.{MatchOption, IfErr, IfSome, IfNone, OnOk, OnErr, IsOkUnless};
 ghost use Rattle.std.specs.Option.{option_copied};
@@ -22,8 +22,9 @@ use std::marker::Model;
 
 /// The areas of one I/O address space: what IOMMU_IOAS_MAP and IOMMU_IOAS_COPY made and IOMMU_IOAS_UNMAP
 /// hasn't taken away (uapi header, `linux/iommufd.h`). No two overlap, and there are at most 65,535. A
-/// contract sees their list by rising start, for how many more there is memory, and the span that `pay` goes over: the
-/// least that holds all leaving areas, and none where none is leaving.
+/// contract sees their list by rising start, for how many more there is memory, the span that `pay` goes over (the
+/// least that holds all leaving areas, and none where none is leaving), and how many rows keep them: no two neighbours
+/// together fill half a row at most, so there are few.
 #[derive(Drop)]
 pub struct Areas<A: Allocator = Global> {
     // By rising start. Each has areas, and memory for one more than it has.
@@ -52,6 +53,7 @@ impl<A: Allocator> Model for Areas<A> {
       areas = in_rows map.rows.items;
       room = room_of map.spare;
       leaving = map.leaving;
+      rows = length map.rows.items;
     } };
 
     ghost invariant = { λ map. AreInRows map.rows.items map.count map.leaving
@@ -79,6 +81,7 @@ impl<A: Allocator> Areas<A> {
         ensures value { result ≡ length self.now.areas }
         ensures kept { AreKept self.now.areas }
         ensures leaving { self.now.leaving ≡ leaving_span self.now.areas }
+        ensures rows { 17 * self.now.rows ≤ 2 * length self.now.areas + 17 }
     {
         self.count
     }
@@ -186,6 +189,7 @@ impl<A: Allocator> Areas<A> {
         ensures ok { OnOk result (self.new.areas ≡ with_area area self.old.areas) }
         ensures err { OnErr result (self.new.areas ≡ self.old.areas) }
         ensures leaving { self.new.leaving ≡ leaving_span self.new.areas }
+        ensures rows { 17 * self.new.rows ≤ 2 * length self.new.areas + 17 }
         ensures room { self.old.room ≤ self.new.room + 1 }
         ensures err_room { OnErr result (self.old.room ≤ self.new.room) }
     {
@@ -220,6 +224,7 @@ impl<A: Allocator> Areas<A> {
         A: Copy,
         ensures areas { self.new.areas ≡ self.old.areas }
         ensures leaving { self.new.leaving ≡ self.old.leaving }
+        ensures rows { self.new.rows ≡ self.old.rows }
         ensures ok { OnOk result (0 < self.new.room) }
         ensures full { OnErr result (self.old.room ≡ 0) }
         ensures room { self.old.room ≤ self.new.room }
@@ -257,6 +262,7 @@ impl<A: Allocator> Areas<A> {
     pub fn mark_leaving(&mut self, span: Span, owed: &DeviceSet)
         ensures areas { self.new.areas ≡ map (marked span owed.now) self.old.areas }
         ensures leaving { self.new.leaving ≡ leaving_span self.new.areas }
+        ensures rows { 17 * self.new.rows ≤ 2 * length self.new.areas + 17 }
         ensures room { self.new.room ≡ self.old.room }
     {
         changes::change(&mut self.rows, &Change::Leave(owed.copied()), span);
@@ -267,6 +273,7 @@ impl<A: Allocator> Areas<A> {
     pub fn pay(&mut self, device: DeviceNo)
         ensures areas { self.new.areas ≡ map (without_debt device) self.old.areas }
         ensures leaving { self.new.leaving ≡ leaving_span self.new.areas }
+        ensures rows { 17 * self.new.rows ≤ 2 * length self.new.areas + 17 }
         ensures room { self.new.room ≡ self.old.room }
     {
         if let Some(hull) = self.leaving {
@@ -287,6 +294,7 @@ impl<A: Allocator> Areas<A> {
     pub fn set_tries(&mut self, span: Span, tries: u8)
         ensures areas { self.new.areas ≡ map (tried span tries) self.old.areas }
         ensures leaving { self.new.leaving ≡ leaving_span self.new.areas }
+        ensures rows { 17 * self.new.rows ≤ 2 * length self.new.areas + 17 }
         ensures room { self.new.room ≡ self.old.room }
     {
         changes::change(&mut self.rows, &Change::SetTries(tries), span);
@@ -296,6 +304,7 @@ impl<A: Allocator> Areas<A> {
     pub fn remove(&mut self, span: Span)
         ensures areas { self.new.areas ≡ areas_outside span self.old.areas }
         ensures leaving { self.new.leaving ≡ leaving_span self.new.areas }
+        ensures rows { 17 * self.new.rows ≤ 2 * length self.new.areas + 17 }
         ensures room { self.old.room ≤ self.new.room }
     {
         self.count -= removal::remove(&mut self.rows, &mut self.blocks, span);

@@ -6,6 +6,7 @@ use Rattle.area_map.specs.Kept.{with_leaving}
 use Rattle.area_map.proofs.Hull.{span_marked}
 use Rattle.area_map_rows.proofs.Kept.{kept-map}
 use Rattle.area_map_rows.proofs.Rows.{in_rows-map_map}
+use Rattle.area_map.proofs.Joined.{few_rows}
 use Rattle.area_map.proofs.RowsInBlocks.{blocks_mapped}
 use Rattle.area_map.proofs.RowsKept.{AreRows-map, rows_mapped, mapped_back}
 use Rattle.area_map.proofs.areas.Areas.mark_leaving.Goals as goal
@@ -62,3 +63,6 @@ within-requires-clause-rows g c =
 
 pub returns-clause-leaving : goal.returns-clause-leaving
 returns-clause-leaving g c = (invariant_of-self g c).0.leave
+
+pub returns-clause-rows : goal.returns-clause-rows
+returns-clause-rows g c = few_rows _ (invariant_of-self g c).0.joined

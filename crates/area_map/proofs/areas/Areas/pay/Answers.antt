@@ -1,9 +1,11 @@
-use Rattle.std.proofs.Common.{List, sym, refl, ap, arith}
+use Rattle.std.proofs.Common.{◌*◌, ◌+◌, ◌≤◌, List, length, subst, sym, refl, ap, arith}
 use Rattle.iofd_words.specs.declared.rows.Area.{Area}
 use Rattle.area_map_rows.specs.Areas.{without_debt}
 use Rattle.area_map_rows.specs.Rows.{in_rows}
+use Rattle.area_map.specs.AreaTable.{AreaTable}
 use Rattle.area_map.proofs.Hull.{leave_in, span_paid}
 use Rattle.area_map_rows.proofs.Rows.{in_rows-map_map}
+use Rattle.area_map.proofs.Joined.{few_rows}
 use Rattle.area_map.proofs.RowsInBlocks.{blocks_mapped}
 use Rattle.area_map.proofs.RowsKept.{rows_mapped, mapped_back, live_all}
 use Rattle.area_map.proofs.areas.Areas.pay.Goals as goal
@@ -55,3 +57,11 @@ change-requires-clause-lie g c =
 
 pub returns-in-Some-clause-leaving : goal.returns-in-Some-clause-leaving
 returns-in-Some-clause-leaving g c = (invariant_of-self g c).0.leave
+
+pub returns-in-Some-clause-rows : goal.returns-in-Some-clause-rows
+returns-in-Some-clause-rows g c = few_rows _ (invariant_of-self g c).0.joined
+
+pub returns-in_default-clause-rows : goal.returns-in_default-clause-rows
+returns-in_default-clause-rows g c =
+    let Few : AreaTable → Type 0 = λ v. 17 * v.rows ≤ 2 * length v.areas + 17 in
+    subst Few c.self.view_is (few_rows c.self.inside.rows.items c.self.invariant.0.joined)

@@ -4,6 +4,7 @@ use Rattle.area_map_rows.specs.Areas.{tried}
 use Rattle.area_map_rows.specs.Rows.{in_rows}
 use Rattle.area_map.proofs.Hull.{span_tried}
 use Rattle.area_map_rows.proofs.Rows.{in_rows-map_map}
+use Rattle.area_map.proofs.Joined.{few_rows}
 use Rattle.area_map.proofs.RowsInBlocks.{blocks_mapped}
 use Rattle.area_map.proofs.RowsKept.{rows_mapped, mapped_back}
 use Rattle.area_map.proofs.areas.Areas.set_tries.Goals as goal
@@ -41,3 +42,6 @@ returns-clause-room g c = ap (λ table. table.room) c.self.view_is
 
 pub returns-clause-leaving : goal.returns-clause-leaving
 returns-clause-leaving g c = (invariant_of-self g c).0.leave
+
+pub returns-clause-rows : goal.returns-clause-rows
+returns-clause-rows g c = few_rows _ (invariant_of-self g c).0.joined
