@@ -1,6 +1,7 @@
 pub mod RowsAdded
 pub mod RowsRemoved
 pub mod Hull
+pub mod Joined
 pub mod RowsKept
 pub mod RowsInBlocks
 pub mod RowsSame

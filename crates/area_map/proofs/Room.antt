@@ -1,6 +1,7 @@
 -- How much room a spare row gives.
-use Rattle.std.proofs.Common.{◌≡◌, ◌<◌, ◌≤◌, true, false, refl, ap, Option, Some, None, IsSome, List, arith}
+use Rattle.std.proofs.Common.{◌≡◌, ℕ, ◌<◌, ◌≤◌, true, false, refl, ap, Option, Some, None, IsSome, List, arith}
 use Rattle.std.proofs.Common.{Result, Ok, Err, OnOk, OnErr, is_err}
+use Rattle.iofd_words.specs.Bounds.{Bounds}
 use Rattle.iofd_words.specs.declared.rows.Area.{Area}
 use Rattle.area_map.specs.AreaTable.{AreaTable}
 use Rattle.area_map.specs.Kept.{room_of}
@@ -41,9 +42,15 @@ room-one None some = absurd (cc)
 room-one (Some row) some = refl
 
 -- an error leaves what is seen, where no row was spare and none is
-pub table-same : {T E : Type 0} (r : Result T E) (xs ys : List Area) (old new : Option (List Area)) → ys ≡ xs
+pub table-same : {T E : Type 0} (r : Result T E) (xs ys : List Area) (old new : Option (List Area))
+    (hull : Option Bounds) (more many : ℕ) → ys ≡ xs → more ≡ many
     → OnErr r (old ≡ None) → OnErr r (new ≡ None)
     → OnErr r
-    (◌≡◌ {A = AreaTable} (record { areas = ys; room = room_of new }) (record { areas = xs; room = room_of old }))
-table-same (Ok x) xs ys old new same none gone = tt
-table-same (Err e) xs ys old new same none gone = rw (same, none, gone) refl
+    (◌≡◌ {A = AreaTable} (record { areas = ys; room = room_of new; leaving = hull; rows = more }) (record {
+      areas = xs;
+      room = room_of old;
+      leaving = hull;
+      rows = many;
+    }))
+table-same (Ok x) xs ys old new hull more many same rows none gone = tt
+table-same (Err e) xs ys old new hull more many same rows none gone = rw (same, rows, none, gone) refl

@@ -8,15 +8,16 @@ use Rattle.iofd_words.specs.declared.numbers.DeviceNo.{DeviceNo}
 use Rattle.iofd_words.specs.declared.rows.Area.{Area}
 use Rattle.iofd_words.specs.Areas.{areas_meet}
 use Rattle.area_map_rows.specs.Areas.{areas_outside, with_area, without_debt}
-use Rattle.area_map_rows.specs.Rows.{in_rows, AreRows, LeavesIn, LeaveIn}
-use Rattle.area_map.specs.Kept.{AreInRows, IsSpare}
+use Rattle.area_map_rows.specs.Rows.{in_rows, AreRows, LeaveIn}
+use Rattle.area_map.specs.Kept.{AreInRows, AreJoined, IsSpare, leaving_span, with_leaving}
 use Rattle.area_map_rows.proofs.Added.{with_area-apart, length-with_area}
 use Rattle.area_map_rows.proofs.Kept.{kept-map, kept-filter}
 use Rattle.area_map_rows.proofs.Rows.{in_rows-map_map, written_back}
 use Rattle.area_map_rows.proofs.RowsChanged.{live_paid}
-use Rattle.area_map.proofs.Hull.{leave-with}
+use Rattle.area_map.proofs.Hull.{span_with}
+use Rattle.area_map.proofs.Joined.{joined-map}
 
-AreRows-map : (f : Area → Area) (rows : List (List Area)) → AreRows rows → AreRows (map (map f) rows)
+pub AreRows-map : (f : Area → Area) (rows : List (List Area)) → AreRows rows → AreRows (map (map f) rows)
 AreRows-map f [] each = tt
 AreRows-map f (row ∷ rows) each =
     let same = length-map row f in
@@ -24,12 +25,13 @@ AreRows-map f (row ∷ rows) each =
 
 pub rows_mapped : (f : Area → Area) → ((a : Area) → (f a).span ≡ a.span)
     → (rows : List (List Area)) (count : ℕ) (old new : Option Bounds)
-    → AreInRows rows count old → LeaveIn new (map f (in_rows rows)) → AreInRows (map (map f) rows) count new
+    → AreInRows rows count old → new ≡ leaving_span (map f (in_rows rows)) → AreInRows (map (map f) rows) count new
 rows_mapped f same rows count old new kept leave =
     let mapped = in_rows-map_map f rows in
     record {
       kept = rw mapped (kept-map f same (in_rows rows) kept.kept);
       each = AreRows-map f rows kept.each;
+      joined = joined-map f rows kept.joined;
       counted = rw mapped (kept.counted ∙ sym (length-map (in_rows rows) f));
       leave = rw mapped leave;
     }
@@ -41,10 +43,10 @@ mapped_back f rows new n same long = written_back rows new (map (map f) rows) n 
 
 -- with one more area
 pub rows_with : (a : Area) (rows new : List (List Area)) (count : ℕ) (old hull : Option Bounds)
-    → AreInRows rows count old → AreRows new → in_rows new ≡ with_area a (in_rows rows)
-    → a.span.first ≤ a.span.last → areas_meet a.span (in_rows rows) ≡ false → count < 65535 → LeavesIn hull a
-    → LeaveIn hull (in_rows rows) → AreInRows new (count + 1) hull
-rows_with a rows new count old hull kept each added ordered alone few leaves leave =
+    → AreInRows rows count old → AreRows new → AreJoined new → in_rows new ≡ with_area a (in_rows rows)
+    → a.span.first ≤ a.span.last → areas_meet a.span (in_rows rows) ≡ false → count < 65535
+    → hull ≡ with_leaving old a → AreInRows new (count + 1) hull
+rows_with a rows new count old hull kept each joined added ordered alone few leaves =
     let more = length-with_area a (in_rows rows) in
     let counted = kept.counted in
     record {
@@ -53,8 +55,9 @@ rows_with a rows new count old hull kept each added ordered alone few leaves lea
         few = omega arith;
       });
       each = each;
+      joined = joined;
       counted = rw added (omega (arith, more, counted));
-      leave = rw added (leave-with hull a (in_rows rows) leaves leave);
+      leave = rw added (leaves ∙ span_with a (in_rows rows) old kept.leave);
     }
 
 -- where none is leaving no debt changes
@@ -73,12 +76,13 @@ spare_stays (Some row) count left capacity place fewer same is = (is.0, omega (a
 
 -- without the areas of a span
 pub rows_without : (span : Bounds) (rows new : List (List Area)) (count left : ℕ) (old hull : Option Bounds)
-    → AreInRows rows count old → AreRows new
-    → in_rows new ≡ areas_outside span (in_rows rows) → left ≡ length (in_rows new) → LeaveIn hull (in_rows new)
+    → AreInRows rows count old → AreRows new → AreJoined new
+    → in_rows new ≡ areas_outside span (in_rows rows) → left ≡ length (in_rows new) → hull ≡ leaving_span (in_rows new)
     → AreInRows new left hull
-rows_without span rows new count left old hull kept each gone counted leave = record {
+rows_without span rows new count left old hull kept each joined gone counted leave = record {
   kept = rw gone (kept-filter (λ a. not (lies_in a.span span)) (in_rows rows) kept.kept);
   each = each;
+  joined = joined;
   counted = counted;
   leave = leave;
 }

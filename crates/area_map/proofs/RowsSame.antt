@@ -3,12 +3,14 @@ use Rattle.std.proofs.Common.{◌≡◌, ◌∙◌, ◌==◌, ℕ, suc, zero, �
 use Rattle.std.proofs.Common.{length, set, take, drop, refl, sym, ap, arith}
 use Rattle.std.specs.List.{filter, insert, remove}
 use Rattle.std.proofs.lemmas.Bool.Decides.{nat_tests}
-use Rattle.std.proofs.lemmas.List.{drop_all, drop-set-lt, length-set, length-take-le, take_at, take-append-le}
-use Rattle.std.proofs.lemmas.List.{take-set, take-take}
+use Rattle.std.proofs.lemmas.List.{drop_all, drop-set-lt, length-append, length-drop, length-set, length-take}
+use Rattle.std.proofs.lemmas.List.{length-take-le, take_at, take-append-drop, take-append-le, take-set, take-take}
+use Rattle.std.proofs.lemmas.List.Elements.{filter-append}
 use Rattle.std.proofs.lemmas.Slice.{take-put_mid_below, drop-put_mid}
 use borrow.Rule.Slice.PartMut.{put_mid}
 use Rattle.iofd_words.specs.declared.rows.Area.{Area}
 use Rattle.area_map_rows.specs.Rows.{AreRows}
+use Rattle.area_map_rows.proofs.Rows.{AreRows-drop}
 use Rattle.area_map.specs.Blocks.{IsSameBut}
 
 pub same_less : (m n : ℕ) (xs ys : List (List Area)) → m ≤ n → take n xs ≡ take n ys → take m xs ≡ take m ys
@@ -69,6 +71,42 @@ same_dropped from count rows new each few fewer same =
       behind = same_past count rows (filter (λ (row : List Area). not (length row == 0)) new) few
           (omega (arith, less, fewer));
     }
+
+-- those from a place on stay, at the end
+filled_all : (rows : List (List Area)) → AreRows rows → filter (λ (row : List Area). not (length row == 0)) rows ≡ rows
+filled_all [] each = refl
+filled_all (row ∷ rows) each =
+    let some = each.0 in
+    let test : (length row == 0) ≡ false = grind (arith, nat_tests) in
+    rw test (ap (λ zs. row ∷ zs) (filled_all rows each.2))
+
+pub filled_parts : (n : ℕ) (rows new : List (List Area)) → AreRows rows → drop n new ≡ drop n rows
+    → filter (λ (row : List Area). not (length row == 0)) new
+    ≡ filter (λ (row : List Area). not (length row == 0)) (take n new) ++ drop n rows
+filled_parts n rows new each behind =
+    let filled = λ (row : List Area). not (length row == 0) in
+    ap (filter filled) (sym (take-append-drop n new)) ∙ filter-append filled (take n new) (drop n new)
+    ∙ ap (λ zs. filter filled (take n new) ++ zs)
+    (ap (filter filled) behind ∙ filled_all (drop n rows) (AreRows-drop rows n each))
+
+pub filled_count : (n : ℕ) (rows new : List (List Area)) → AreRows rows → drop n new ≡ drop n rows
+    → length (filter (λ (row : List Area). not (length row == 0)) new)
+    ≡ length (filter (λ (row : List Area). not (length row == 0)) (take n new)) + (length rows - n)
+filled_count n rows new each behind =
+    let front = filter (λ (row : List Area). not (length row == 0)) (take n new) in
+    ap length (filled_parts n rows new each behind) ∙ length-append front (drop n rows)
+    ∙ ap (λ k. length front + k) (length-drop n rows)
+
+-- and so do those before one
+pub filled_front : (from to : ℕ) (rows new : List (List Area)) → AreRows rows → take from new ≡ take from rows
+    → from ≤ to → from ≤ length rows
+    → from ≤ length (filter (λ (row : List Area). not (length row == 0)) (take to new))
+filled_front from to rows new each same order within =
+    let front = filter (λ (row : List Area). not (length row == 0)) (take to new) in
+    let kept = same_filled from rows (take to new) each (take-take from to new order ∙ same) in
+    let whole = length-take from front in
+    let long = ap length kept ∙ length-take-le from rows within in
+    omega (arith, whole, long)
 
 -- two rows become one
 pub before_join : (rows : List (List Area)) (i : ℕ) (row : List Area) → i + 1 < length rows

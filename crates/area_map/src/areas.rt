@@ -1,6 +1,6 @@
 //! The map of areas.
 
-ghost use Rattle.std.specs.Prelude.{◌≡◌, ◌==◌, ◌↔◌, ◌+◌, ◌<◌, ◌≤◌, [], find, length};
+ghost use Rattle.std.specs.Prelude.{◌≡◌, ◌==◌, ◌↔◌, ◌+◌, ◌*◌, ◌<◌, ◌≤◌, [], find, length};
 ghost use Rattle.std.specs.Prelude.{map, nat_le, is_ok, IsOk, IfOk};
 ghost use Rattle.std.specs.Prelude.{MatchOption, IfErr, IfSome, IfNone, OnOk, OnErr, IsOkUnless};
 ghost use Rattle.std.specs.Option.{option_copied};
@@ -10,6 +10,7 @@ ghost use Rattle.area_map_rows.specs.Areas.{without_debt, areas_within, areas_ou
 ghost use Rattle.area_map_rows.specs.Areas.{tried};
 ghost use Rattle.iofd_words.specs.Areas.{areas_meet, has_no_room, is_cut, area_at};
 ghost use Rattle.area_map.specs.Insertion.{insert_refusal};
+ghost use Rattle.area_map.specs.Kept.{leaving_span};
 
 use crate::blocks::Blocks;
 use crate::insertion::MOST_AREAS;
@@ -21,7 +22,9 @@ use std::marker::Model;
 
 /// The areas of one I/O address space: what IOMMU_IOAS_MAP and IOMMU_IOAS_COPY made and IOMMU_IOAS_UNMAP
 /// hasn't taken away (uapi header, `linux/iommufd.h`). No two overlap, and there are at most 65,535. A
-/// contract sees their list by rising start, and for how many more there is memory.
+/// contract sees their list by rising start, for how many more there is memory, the span that `pay` goes over (the
+/// least that holds all leaving areas, and none where none is leaving), and how many rows keep them: no two neighbours
+/// together fill half a row at most, so there are few.
 #[derive(Drop)]
 pub struct Areas<A: Allocator = Global> {
     // By rising start. Each has areas, and memory for one more than it has.
@@ -32,7 +35,7 @@ pub struct Areas<A: Allocator = Global> {
     spare: Option<Row<A>>,
     // How many areas there are.
     count: usize,
-    // Each leaving area lies in this span; without a span none is leaving.
+    // The least span that holds all leaving areas; none where none is leaving.
     leaving: Option<Span>,
 }
 
@@ -46,7 +49,12 @@ impl<A: Allocator> Model for Areas<A> {
 
     ghost Value = { AreaTable };
 
-    ghost view = { λ map. record { areas = in_rows map.rows.items; room = room_of map.spare } };
+    ghost view = { λ map. record {
+      areas = in_rows map.rows.items;
+      room = room_of map.spare;
+      leaving = map.leaving;
+      rows = length map.rows.items;
+    } };
 
     ghost invariant = { λ map. AreInRows map.rows.items map.count map.leaving
         × IsSpare map.spare (vec_len map.rows) (vec_capacity map.rows)
@@ -72,6 +80,8 @@ impl<A: Allocator> Areas<A> {
     pub fn len(&self) -> usize
         ensures value { result ≡ length self.now.areas }
         ensures kept { AreKept self.now.areas }
+        ensures leaving { self.now.leaving ≡ leaving_span self.now.areas }
+        ensures rows { 17 * self.now.rows ≤ 2 * length self.now.areas + 17 }
     {
         self.count
     }
@@ -178,6 +188,8 @@ impl<A: Allocator> Areas<A> {
 
         ensures ok { OnOk result (self.new.areas ≡ with_area area self.old.areas) }
         ensures err { OnErr result (self.new.areas ≡ self.old.areas) }
+        ensures leaving { self.new.leaving ≡ leaving_span self.new.areas }
+        ensures rows { 17 * self.new.rows ≤ 2 * length self.new.areas + 17 }
         ensures room { self.old.room ≤ self.new.room + 1 }
         ensures err_room { OnErr result (self.old.room ≤ self.new.room) }
     {
@@ -211,6 +223,8 @@ impl<A: Allocator> Areas<A> {
     where
         A: Copy,
         ensures areas { self.new.areas ≡ self.old.areas }
+        ensures leaving { self.new.leaving ≡ self.old.leaving }
+        ensures rows { self.new.rows ≡ self.old.rows }
         ensures ok { OnOk result (0 < self.new.room) }
         ensures full { OnErr result (self.old.room ≡ 0) }
         ensures room { self.old.room ≤ self.new.room }
@@ -247,15 +261,19 @@ impl<A: Allocator> Areas<A> {
     /// invalidation": until its flush a device may still use what it cached.)
     pub fn mark_leaving(&mut self, span: Span, owed: &DeviceSet)
         ensures areas { self.new.areas ≡ map (marked span owed.now) self.old.areas }
+        ensures leaving { self.new.leaving ≡ leaving_span self.new.areas }
+        ensures rows { 17 * self.new.rows ≤ 2 * length self.new.areas + 17 }
         ensures room { self.new.room ≡ self.old.room }
     {
         changes::change(&mut self.rows, &Change::Leave(owed.copied()), span);
-        self.leaving = leaving::joined(self.leaving, span);
+        self.leaving = leaving::with_areas(self.leaving, lookups::within(&self.rows, span));
     }
 
     /// Takes the device out of the debt of each leaving area. Nothing else changes. It takes no memory.
     pub fn pay(&mut self, device: DeviceNo)
         ensures areas { self.new.areas ≡ map (without_debt device) self.old.areas }
+        ensures leaving { self.new.leaving ≡ leaving_span self.new.areas }
+        ensures rows { 17 * self.new.rows ≤ 2 * length self.new.areas + 17 }
         ensures room { self.new.room ≡ self.old.room }
     {
         if let Some(hull) = self.leaving {
@@ -275,6 +293,8 @@ impl<A: Allocator> Areas<A> {
     /// takes no memory.
     pub fn set_tries(&mut self, span: Span, tries: u8)
         ensures areas { self.new.areas ≡ map (tried span tries) self.old.areas }
+        ensures leaving { self.new.leaving ≡ leaving_span self.new.areas }
+        ensures rows { 17 * self.new.rows ≤ 2 * length self.new.areas + 17 }
         ensures room { self.new.room ≡ self.old.room }
     {
         changes::change(&mut self.rows, &Change::SetTries(tries), span);
@@ -283,6 +303,8 @@ impl<A: Allocator> Areas<A> {
     /// Takes away the areas that lie in the span. The other areas stay. It takes no memory.
     pub fn remove(&mut self, span: Span)
         ensures areas { self.new.areas ≡ areas_outside span self.old.areas }
+        ensures leaving { self.new.leaving ≡ leaving_span self.new.areas }
+        ensures rows { 17 * self.new.rows ≤ 2 * length self.new.areas + 17 }
         ensures room { self.old.room ≤ self.new.room }
     {
         self.count -= removal::remove(&mut self.rows, &mut self.blocks, span);

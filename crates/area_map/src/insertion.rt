@@ -7,7 +7,7 @@ ghost use Rattle.std.specs.List.{prefix_len};
 ghost use Rattle.area_map_rows.specs.Areas.{AreApart, with_area};
 ghost use Rattle.area_map_rows.specs.Rows.{in_rows, AreRows, end_of};
 ghost use Rattle.area_map.specs.Blocks.{AreBlocks, IsSameBut};
-ghost use Rattle.area_map.specs.Kept.{IsSpare, room_of, takes_row};
+ghost use Rattle.area_map.specs.Kept.{AreJoined, IsSpare, room_of, takes_row};
 ghost use Rattle.iofd_words.specs.Areas.{areas_meet};
 
 use crate::blocks::{self, Blocks};
@@ -98,6 +98,7 @@ pub fn add<A: Allocator>(
 )
     requires apart { AreApart (in_rows rows.old.items) }
     requires rows { AreRows rows.old.items }
+    requires joined { AreJoined rows.old.items }
     requires blocks { AreBlocks blocks.old rows.old.items }
     requires spare { IsSpare spare.old (vec_len rows.old) (vec_capacity rows.old) }
     requires room { takes_row rows.old.items index ≡ true → IsSome spare.old }
@@ -106,6 +107,7 @@ pub fn add<A: Allocator>(
     requires alone { areas_meet area.span (in_rows rows.old.items) ≡ false }
     ensures areas { in_rows rows.new.items ≡ with_area area (in_rows rows.old.items) }
     ensures rows { AreRows rows.new.items }
+    ensures joined { AreJoined rows.new.items }
     ensures spare { IsSpare spare.new (vec_len rows.new) (vec_capacity rows.new) }
     ensures blocks { AreBlocks blocks.new rows.new.items }
     ensures places { vec_len rows.new + room_of spare.new ≡ vec_len rows.old + room_of spare.old }
@@ -125,6 +127,7 @@ fn add_area<A: Allocator>(
 ) -> usize
     requires apart { AreApart (in_rows rows.old.items) }
     requires rows { AreRows rows.old.items }
+    requires joined { AreJoined rows.old.items }
     requires spare { IsSpare spare.old (vec_len rows.old) (vec_capacity rows.old) }
     requires room { takes_row rows.old.items index ≡ true → IsSome spare.old }
     requires place { index ≡ min (prefix_len (λ row. nat_lt (end_of row) area.span.first) rows.old.items)
@@ -132,6 +135,7 @@ fn add_area<A: Allocator>(
     requires alone { areas_meet area.span (in_rows rows.old.items) ≡ false }
     ensures areas { in_rows rows.new.items ≡ with_area area (in_rows rows.old.items) }
     ensures rows { AreRows rows.new.items }
+    ensures joined { AreJoined rows.new.items }
     ensures spare { IsSpare spare.new (vec_len rows.new) (vec_capacity rows.new) }
     ensures places { vec_len rows.new + room_of spare.new ≡ vec_len rows.old + room_of spare.old }
     ensures others { IsSameBut index result rows.old.items rows.new.items }
@@ -181,6 +185,8 @@ fn split_place(index: usize, count: usize) -> usize
     requires { index < count }
     ensures some { 0 < result }
     ensures few { result < 32 }
+    ensures half { 16 ≤ result }
+    ensures middle { index + 1 < count → result ≡ 16 }
 {
     if index + 1 < count { ROW / 2 } else { ROW - 1 }
 }
@@ -191,10 +197,12 @@ fn split<A: Allocator>(rows: &mut Vec<Row<A>, A>, spare: &mut Option<Row<A>>, in
     requires full { length (get_or rows.old.items index []) ≡ 32 }
     requires before { AreRows (take index rows.old.items) }
     requires behind { AreRows (drop (index + 1) rows.old.items) }
+    requires joined { AreJoined rows.old.items }
     requires spare { IsSpare spare.old (vec_len rows.old) (vec_capacity rows.old) }
     requires some { IsSome spare.old }
     ensures areas { in_rows rows.new.items ≡ in_rows rows.old.items }
     ensures rows { AreRows rows.new.items }
+    ensures joined { AreJoined rows.new.items }
     ensures spare { spare.new ≡ None }
     ensures len { vec_len rows.new ≡ vec_len rows.old + 1 }
     ensures before { take index rows.new.items ≡ take index rows.old.items }

@@ -1,28 +1,35 @@
 //! Rows of few areas become one, so that rows take little more memory than their areas.
 
-ghost use Rattle.std.specs.Prelude.{◌≡◌, ◌+◌, ◌-◌, ◌<◌, ◌≤◌, ◌++◌, [], IsTrue, false};
+ghost use Rattle.std.specs.Prelude.{◌≡◌, ◌+◌, ◌-◌, ◌<◌, ◌≤◌, ◌++◌, [], IsTrue, false, ℕ, nat_le};
 ghost use Rattle.std.specs.Prelude.{get_or, length, set};
 ghost use Rattle.std.specs.Prelude.{take, vec_len, vec_capacity};
 ghost use Rattle.area_map_rows.specs.Rows.{in_rows, AreRows};
+ghost use Rattle.area_map.specs.Kept.{AreJoined, AreJoinedBut};
 
 use area_map_rows::{ROW, Row};
 use std::alloc::Allocator;
 
-/// Joins the row at this place with those beside it where they have few areas, and so the row behind it with the next.
-/// Says whether it joined some.
-pub fn join_around<A: Allocator>(rows: &mut Vec<Row<A>, A>, index: usize) -> bool
-    requires { AreRows rows.old.items }
+/// Joins the rows from the one before this place on, up to another place, where two neighbours have few areas: so no
+/// two do. Says whether it joined some.
+pub fn join_between<A: Allocator>(rows: &mut Vec<Row<A>, A>, from: usize, to: usize) -> bool
+    requires order { from ≤ to }
+    requires rows { AreRows rows.old.items }
+    requires joined { AreJoinedBut (from - 1) to rows.old.items }
     ensures areas { in_rows rows.new.items ≡ in_rows rows.old.items }
     ensures rows { AreRows rows.new.items }
+    ensures joined { AreJoined rows.new.items }
     ensures len { vec_len rows.new ≤ vec_len rows.old }
     ensures capacity { vec_capacity rows.new ≡ vec_capacity rows.old }
-    ensures before { take (index - 1) rows.new.items ≡ take (index - 1) rows.old.items }
+    ensures before { take (from - 1) rows.new.items ≡ take (from - 1) rows.old.items }
     ensures none { result ≡ false → rows.new.items ≡ rows.old.items }
 {
     let count = rows.len();
-    join(rows, index.saturating_add(1));
-    join(rows, index);
-    join(rows, index.saturating_sub(1));
+    let low = from.saturating_sub(1);
+    let mut index = to;
+    while low < index {
+        index -= 1;
+        join(rows, index);
+    }
     rows.len() < count
 }
 
@@ -35,6 +42,8 @@ fn join<A: Allocator>(rows: &mut Vec<Row<A>, A>, index: usize)
     ensures capacity { vec_capacity rows.new ≡ vec_capacity rows.old }
     ensures before { take index rows.new.items ≡ take index rows.old.items }
     ensures none { vec_len rows.old ≤ vec_len rows.new → rows.new.items ≡ rows.old.items }
+    ensures joined { (low : ℕ) → low ≤ index → AreJoinedBut low (index + 1) rows.old.items
+        → AreJoinedBut low index rows.new.items }
 {
     if !are_few(rows, index) {
         return;
@@ -47,6 +56,8 @@ fn join<A: Allocator>(rows: &mut Vec<Row<A>, A>, index: usize)
 fn are_few<A: Allocator>(rows: &[Row<A>], index: usize) -> bool
     ensures two { IsTrue result → index + 1 < length rows.now }
     ensures few { IsTrue result → length (get_or rows.now index []) + length (get_or rows.now (index + 1) []) ≤ 16 }
+    ensures many { result ≡ false → index + 1 < length rows.now
+        → 16 < length (get_or rows.now index []) + length (get_or rows.now (index + 1) []) }
 {
     let count = rows.len();
     if count < 2 || index > count - 2 {
@@ -57,7 +68,7 @@ fn are_few<A: Allocator>(rows: &[Row<A>], index: usize) -> bool
 
 // Whether the two fill half a row at most.
 fn fill_half<A: Allocator>(row: &Row<A>, next: &Row<A>) -> bool
-    ensures { IsTrue result → length row.now + length next.now ≤ 16 }
+    ensures { result ≡ nat_le (length row.now + length next.now) 16 }
 {
     let (first, second) = (row.len(), next.len());
     first <= ROW / 2 && second <= ROW / 2 - first

@@ -1,3 +1,4 @@
+pub mod AllowedRows
 pub mod Added
 pub mod Bounded
 pub mod Covering

@@ -1,9 +1,10 @@
 //! The ranges to which the addresses that the server chooses are bounded, by address space.
 
-ghost use Rattle.std.specs.Prelude.{ℕ, ◌≡◌, ◌<◌, [], MatchOption, IfOk, OnOk, OnErr, length, filter};
+ghost use Rattle.std.specs.Prelude.{ℕ, ◌≡◌, ◌<◌, [], None, MatchOption, IfOk, OnOk, OnErr, length, filter};
 ghost use Rattle.std.specs.Prelude.{find, not, ◌==◌};
 ghost use Rattle.std.specs.Prelude.{◌&&◌, ◌||◌, ◌++◌, ◌∷◌, ◌≤◌};
 ghost use Rattle.std.specs.Prelude.{vec_len, vec_capacity};
+ghost use Rattle.std.specs.List.{list_any};
 ghost use Rattle.std.specs.Option.{option_copied};
 ghost use Rattle.iofd_words.specs.Allowed.{allowed_of, is_allowed_in, without_allowed};
 ghost use Rattle.iofd_words.specs.Ranges.{AreMerged, in_spans};
@@ -175,15 +176,14 @@ impl<A: Allocator> AllowedTable<A> {
         self.rows.iter().find(|row| row.is_at(file, ioas))
     }
 
-    /// Puts the row in the place of the one that its address space had, if any. It fails only where memory does, and
-    /// then the rows are as they were.
+    /// Puts the row in the place of the one that its address space had, if any: then it takes no memory. NoMemory
+    /// comes only where it had none, and leaves the rows as they were.
     pub fn set(&mut self, row: AllowedRow<A>) -> Result<(), NoMemory>
         ensures rows { OnOk result (self.new ≡ without_allowed row.file row.ioas self.old ++ row ∷ []) }
+        ensures memory { OnErr result (find (is_allowed_in row.file row.ioas) self.old ≡ None) }
         ensures err { OnErr result (self.new ≡ self.old) }
     {
-        if self.rows.reserve(1).is_err() {
-            return Err(NoMemory);
-        }
+        reserve_for(&mut self.rows, row.file, row.ioas)?;
         put(&mut self.rows, row);
         Ok(())
     }
@@ -203,9 +203,35 @@ impl<A: Allocator> AllowedTable<A> {
     }
 }
 
+// Takes memory for one more row, if this address space has none and there is no place for it.
+fn reserve_for<A: Allocator>(
+    rows: &mut Vec<AllowedRow<A>, A>,
+    file: FileNo,
+    ioas: ObjId,
+) -> Result<(), NoMemory>
+    ensures items { rows.new.items ≡ rows.old.items }
+    ensures ok { OnOk result (length (without_allowed file ioas rows.old.items) < vec_capacity rows.new) }
+    ensures memory { OnErr result (find (is_allowed_in file ioas) rows.old.items ≡ None) }
+{
+    if has_row(rows, file, ioas) {
+        return Ok(());
+    }
+    if rows.reserve(1).is_err() {
+        return Err(NoMemory);
+    }
+    Ok(())
+}
+
+// Whether this address space has a row.
+fn has_row<A: Allocator>(rows: &[AllowedRow<A>], file: FileNo, ioas: ObjId) -> bool
+    ensures { result ≡ list_any (is_allowed_in file ioas) rows.now }
+{
+    rows.iter().any(|row| row.is_at(file, ioas))
+}
+
 // Puts the row behind the others, of which the one of its address space goes. There is room for it.
 fn put<A: Allocator>(rows: &mut Vec<AllowedRow<A>, A>, row: AllowedRow<A>)
-    requires { vec_len rows.old < vec_capacity rows.old }
+    requires { length (without_allowed row.file row.ioas rows.old.items) < vec_capacity rows.old }
     ensures { rows.new.items ≡ without_allowed row.file row.ioas rows.old.items ++ row ∷ [] }
 {
     take_away(rows, row.file, row.ioas);

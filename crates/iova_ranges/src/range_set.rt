@@ -113,6 +113,7 @@ impl<A: Allocator> RangeSet<A> {
         ensures err { OnErr result (self.new.spans ≡ self.old.spans) }
         ensures full { OnErr result (self.old.room ≡ 0) }
         ensures apart { OnErr result (IsTrue (not (touches_one self.old.spans span))) }
+        ensures count { length self.new.spans ≤ length self.old.spans + 1 }
         ensures room { self.old.room ≤ self.new.room + 1 }
     {
         adding::add(&mut self.merged, span)
@@ -127,6 +128,7 @@ impl<A: Allocator> RangeSet<A> {
         ensures err { OnErr result (self.new.spans ≡ self.old.spans) }
         ensures full { OnErr result (self.old.room ≡ 0) }
         ensures split { OnErr result (IsTrue (splits_one self.old.spans span)) }
+        ensures count { length self.new.spans ≤ length self.old.spans + 1 }
         ensures room { self.old.room ≤ self.new.room + 1 }
     {
         removing::remove(&mut self.merged, span)

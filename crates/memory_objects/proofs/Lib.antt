@@ -1,6 +1,7 @@
 pub mod AreaCounts
 pub mod Counted
 pub mod FramesSeen
+pub mod Gone
 pub mod Invariants
 pub mod Ledger
 pub mod Moved

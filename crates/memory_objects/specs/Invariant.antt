@@ -1,7 +1,7 @@
 -- What holds of all memory objects at any time.
-use Rattle.std.specs.Prelude.{ℕ, ◌≡◌, ◌+◌, true, List, ◌==◌, ◌&&◌, ◌||◌, not, nat_le, length}
+use Rattle.std.specs.Prelude.{ℕ, ◌≡◌, ◌+◌, ◌≤◌, true, List, ◌==◌, ◌&&◌, ◌||◌, not, nat_le, length}
 use Rattle.std.specs.List.{list_all}
-use Rattle.memory_objects.specs.Objects.{MemoryEntry, are_rising, standing}
+use Rattle.memory_objects.specs.Objects.{MemoryEntry, are_freed, are_rising, is_freed, standing}
 use Rattle.pinned_pages.specs.Pages.{pinned_count}
 
 pub record MemoryInvariant (objects : List MemoryEntry) : Type 0 where
@@ -13,8 +13,16 @@ pub record MemoryInvariant (objects : List MemoryEntry) : Type 0 where
   pub areas : list_all (λ object. nat_le 1 object.areas
       && nat_le object.pages.pages.table_pins object.areas) objects ≡ true
 
--- so many entries by rising number, of which so many are gone
+-- what stays of objects that are gone: no more entries than there are objects, so that at most half of all entries are
+-- gone, and no memory for frames
+pub record GoneAreFew (objects gone : List MemoryEntry) : Type 0 where
+  pub few : length gone ≤ length objects
+  pub freed : list_all is_freed gone ≡ true
+
+-- so many entries by rising number, of which so many are gone, at most half of them
 pub record AreEntries (entries : List MemoryEntry) (all gone : ℕ) : Type 0 where
   pub rising : are_rising entries ≡ true
   pub count : length (standing entries) + gone ≡ all
+  pub few : gone + gone ≤ all
+  pub freed : are_freed entries ≡ true
   pub kept : MemoryInvariant (standing entries)

@@ -17,14 +17,25 @@ use Rattle.memory_objects.specs.declared.entry.Entry.{Entry}
 abbrev pub MemoryEntry : Type 0
 MemoryEntry = Entry MemoryPages
 
--- the objects by rising number, and for how many more there is room
+-- the objects by rising number, for how many more there is room, and the entries that stay of objects that are gone
 pub record ObjectTable : Type 0 where
   pub objects : List MemoryEntry
   pub room : ℕ
+  pub gone : List MemoryEntry
 
 -- those over which an area lies; the others are gone
 abbrev pub standing : List MemoryEntry → List MemoryEntry
 standing entries = filter (λ object. not (object.areas == 0)) entries
+
+abbrev pub gone_among : List MemoryEntry → List MemoryEntry
+gone_among entries = filter (λ object. object.areas == 0) entries
+
+-- those that are gone keep no memory for frames
+abbrev pub is_freed : MemoryEntry → Bool
+is_freed object = object.pages.capacity == 0
+
+abbrev pub are_freed : List MemoryEntry → Bool
+are_freed entries = list_all is_freed (gone_among entries)
 
 -- each object has a lower number than those that follow it
 abbrev pub are_rising : List MemoryEntry → Bool

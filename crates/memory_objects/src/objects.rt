@@ -8,7 +8,7 @@ ghost use Rattle.std.specs.Option.{option_map};
 ghost use Rattle.mem_account.specs.Accounts.{has_room, is_user};
 ghost use Rattle.memory_objects.specs.Backed.{AccountsMove, AreBacked, CanPin, Fits, HoldsMove};
 ghost use Rattle.pinned_pages.specs.Holds.{times};
-ghost use Rattle.memory_objects.specs.Invariant.{MemoryInvariant};
+ghost use Rattle.memory_objects.specs.Invariant.{GoneAreFew, MemoryInvariant};
 ghost use Rattle.memory_objects.specs.Objects.{MemoryGrows, SamePins, all_pass, all_pinned, all_unpinned, are_below};
 ghost use Rattle.memory_objects.specs.Objects.{can_pin, frame_now_in, has_memory, have_areas, have_pins, is_of};
 ghost use Rattle.memory_objects.specs.Objects.{is_pinned_anew, is_unpinned, new_count_in, new_pages, object_at};
@@ -25,7 +25,8 @@ use std::alloc::{Allocator, Global};
 use std::marker::Model;
 
 /// The memory objects of all users, each with its pages, their pins, and how many areas lie over it. A contract sees
-/// them by rising number, and for how many more there is room.
+/// them by rising number, for how many more there is room, and what stays of objects that are gone: entries without
+/// memory for frames, never more of them than there are objects.
 ///
 /// Several calls take a list of numbers, as those of the areas of one address space: an object's number stands there
 /// once for each area meant that lies over it, and a number of no object says nothing. An object is found by one look
@@ -41,13 +42,14 @@ pub struct MemoryObjects<A: Allocator = Global> {
 impl<A: Allocator> Model for MemoryObjects<A> {
     ghost use Rattle.std.specs.Prelude.{◌-◌, length, vec_capacity, vec_len};
     ghost use Rattle.memory_objects.specs.Invariant.{AreEntries};
-    ghost use Rattle.memory_objects.specs.Objects.{ObjectTable, standing};
+    ghost use Rattle.memory_objects.specs.Objects.{ObjectTable, gone_among, standing};
 
     ghost Value = { ObjectTable };
 
     ghost view = { λ m. record {
       objects = standing m.entries.items;
       room = vec_capacity m.entries - length (standing m.entries.items);
+      gone = gone_among m.entries.items;
     } };
 
     ghost invariant = { λ m. AreEntries m.entries.items (vec_len m.entries) m.gone };
@@ -56,7 +58,8 @@ impl<A: Allocator> Model for MemoryObjects<A> {
 impl<A: Allocator> MemoryObjects<A> {
     /// No objects. It takes no memory.
     pub fn new(alloc: A) -> MemoryObjects<A>
-        ensures { result.objects ≡ [] }
+        ensures objects { result.objects ≡ [] }
+        ensures gone { result.gone ≡ [] }
     {
         MemoryObjects {
             entries: Vec::new(alloc),
@@ -66,7 +69,8 @@ impl<A: Allocator> MemoryObjects<A> {
 
     /// How many objects there are.
     pub fn len(&self) -> usize
-        ensures { result ≡ length self.now.objects }
+        ensures count { result ≡ length self.now.objects }
+        ensures gone { GoneAreFew self.now.objects self.now.gone }
     {
         self.entries.len() - self.gone
     }
@@ -136,6 +140,7 @@ impl<A: Allocator> MemoryObjects<A> {
         ensures ok { OnOk result (0 < self.new.room) }
         ensures full { OnErr result (self.old.room ≡ 0) }
         ensures room { self.old.room ≤ self.new.room }
+        ensures gone { GoneAreFew self.new.objects self.new.gone }
         ensures unchanged { OnErr result (self.new ≡ self.old) }
     {
         if self.entries.reserve(1).is_ok() {
@@ -165,6 +170,7 @@ impl<A: Allocator> MemoryObjects<A> {
         ensures pinned { (user : ℕ) → pinned_by self.new.objects user
             ≡ pinned_by self.old.objects user + (if pages.pages.user.0 == user then pinned_count pages.pages else 0) }
         ensures room { self.old.room ≡ self.new.room + 1 }
+        ensures gone { GoneAreFew self.new.objects self.new.gone }
         ensures invariant { MemoryInvariant self.new.objects }
     {
         self.gone = removal::make_way(&mut self.entries, self.gone, number);
@@ -182,6 +188,7 @@ impl<A: Allocator> MemoryObjects<A> {
         ensures rows { rows_of self.new.objects ≡ rows_of self.old.objects }
         ensures pins { SamePins self.old.objects self.new.objects }
         ensures room { self.new.room ≡ self.old.room }
+        ensures gone { GoneAreFew self.new.objects self.new.gone }
         ensures invariant { MemoryInvariant self.new.objects }
     {
         removal::add_area(&mut self.entries, number);
@@ -194,6 +201,7 @@ impl<A: Allocator> MemoryObjects<A> {
         ensures objects { self.new.objects ≡ without_areas (number ∷ []) self.old.objects }
         ensures pins { SamePins self.old.objects self.new.objects }
         ensures room { self.old.room ≤ self.new.room }
+        ensures gone { GoneAreFew self.new.objects self.new.gone }
         ensures invariant { MemoryInvariant self.new.objects }
     {
         self.gone = removal::remove_area(&mut self.entries, self.gone, number);
@@ -246,6 +254,7 @@ impl<A: Allocator> MemoryObjects<A> {
         ensures rows { rows_of self.new.objects ≡ rows_of self.old.objects }
         ensures pins { SamePins self.old.objects self.new.objects }
         ensures room { self.new.room ≡ self.old.room }
+        ensures gone { GoneAreFew self.new.objects self.new.gone }
         ensures invariant { MemoryInvariant self.new.objects }
     {
         reserving::reserve_all(&mut self.entries, numbers)
@@ -277,6 +286,7 @@ impl<A: Allocator> MemoryObjects<A> {
         ensures accounts { AccountsMove self.old.objects self.new.objects accounts.old accounts.new }
         ensures backed { AreBacked self.old.objects pool.old.holds accounts.old
             → AreBacked self.new.objects pool.new.holds accounts.new }
+        ensures gone { GoneAreFew self.new.objects self.new.gone }
         ensures invariant { MemoryInvariant self.new.objects }
     {
         pinning::pin_all(&mut self.entries, numbers, users, pool, accounts);
@@ -303,6 +313,7 @@ impl<A: Allocator> MemoryObjects<A> {
         ensures pool { HoldsMove self.old.objects self.new.objects pool.old pool.new }
         ensures accounts { AccountsMove self.old.objects self.new.objects accounts.old accounts.new }
         ensures backed { AreBacked self.new.objects pool.new.holds accounts.new }
+        ensures gone { GoneAreFew self.new.objects self.new.gone }
         ensures invariant { MemoryInvariant self.new.objects }
     {
         pinning::unpin_all(&mut self.entries, numbers, pool, accounts);

@@ -2,7 +2,8 @@
 
 ghost use Rattle.std.specs.Prelude.{◌≡◌, ◌∷◌, [], IsTrue, vec_len, vec_capacity};
 ghost use Rattle.memory_objects.specs.Backed.{AccountsMove, AreBacked, CanPin, HoldsMove};
-ghost use Rattle.memory_objects.specs.Objects.{all_pinned, all_unpinned, are_rising, have_pins, standing};
+ghost use Rattle.memory_objects.specs.Objects.{all_pinned, all_unpinned, are_rising, gone_among, have_pins};
+ghost use Rattle.memory_objects.specs.Objects.{standing};
 
 use crate::entry::Entry;
 use crate::lookups;
@@ -23,6 +24,7 @@ fn pin_one<A: Allocator, B: Allocator, C: Allocator, D: Allocator>(
     requires can { CanPin (standing entries.old.items) (number ∷ []) users.now.pages pool.old.holds accounts.old }
     ensures entries { standing entries.new.items
         ≡ all_pinned users.now.pages (number ∷ []) (standing entries.old.items) }
+    ensures gone { gone_among entries.new.items ≡ gone_among entries.old.items }
     ensures rising { IsTrue (are_rising entries.new.items) }
     ensures pool { HoldsMove (standing entries.old.items) (standing entries.new.items) pool.old pool.new }
     ensures accounts { AccountsMove (standing entries.old.items) (standing entries.new.items)
@@ -49,6 +51,7 @@ pub(crate) fn pin_all<A: Allocator, B: Allocator, C: Allocator, D: Allocator>(
     requires can { CanPin (standing entries.old.items) numbers.now users.now.pages pool.old.holds accounts.old }
     ensures entries { standing entries.new.items
         ≡ all_pinned users.now.pages numbers.now (standing entries.old.items) }
+    ensures gone { gone_among entries.new.items ≡ gone_among entries.old.items }
     ensures rising { IsTrue (are_rising entries.new.items) }
     ensures pool { HoldsMove (standing entries.old.items) (standing entries.new.items) pool.old pool.new }
     ensures accounts { AccountsMove (standing entries.old.items) (standing entries.new.items)
@@ -72,6 +75,7 @@ fn unpin_one<A: Allocator, B: Allocator, C: Allocator>(
     requires pins { IsTrue (have_pins (number ∷ []) (standing entries.old.items)) }
     requires backed { AreBacked (standing entries.old.items) pool.old.holds accounts.old }
     ensures entries { standing entries.new.items ≡ all_unpinned (number ∷ []) (standing entries.old.items) }
+    ensures gone { gone_among entries.new.items ≡ gone_among entries.old.items }
     ensures rising { IsTrue (are_rising entries.new.items) }
     ensures pool { HoldsMove (standing entries.old.items) (standing entries.new.items) pool.old pool.new }
     ensures accounts { AccountsMove (standing entries.old.items) (standing entries.new.items)
@@ -96,6 +100,7 @@ pub(crate) fn unpin_all<A: Allocator, B: Allocator, C: Allocator>(
     requires pins { IsTrue (have_pins numbers.now (standing entries.old.items)) }
     requires backed { AreBacked (standing entries.old.items) pool.old.holds accounts.old }
     ensures entries { standing entries.new.items ≡ all_unpinned numbers.now (standing entries.old.items) }
+    ensures gone { gone_among entries.new.items ≡ gone_among entries.old.items }
     ensures rising { IsTrue (are_rising entries.new.items) }
     ensures pool { HoldsMove (standing entries.old.items) (standing entries.new.items) pool.old pool.new }
     ensures accounts { AccountsMove (standing entries.old.items) (standing entries.new.items)

@@ -4,8 +4,8 @@
 ghost use Rattle.std.specs.Prelude.{◌≡◌, ◌∷◌, ◌<◌, ◌≤◌, ◌+◌, ◌^◌, [], true, IsTrue};
 ghost use Rattle.std.specs.Prelude.{IfSome, if◌then◌else◌, length};
 ghost use Rattle.std.specs.Prelude.{vec_len, vec_capacity};
-ghost use Rattle.memory_objects.specs.Objects.{are_below, are_rising, object_at, standing, with_area};
-ghost use Rattle.memory_objects.specs.Objects.{without_areas};
+ghost use Rattle.memory_objects.specs.Objects.{are_below, are_freed, are_rising, gone_among, have_areas, object_at};
+ghost use Rattle.memory_objects.specs.Objects.{standing, with_area, without_areas};
 
 use crate::entry::Entry;
 use crate::lookups;
@@ -17,6 +17,7 @@ pub(crate) fn add_area<A: Allocator>(entries: &mut Vec<Entry<Pages<A>>, A>, numb
     requires rising { IsTrue (are_rising entries.old.items) }
     requires few { IfSome (object_at (standing entries.old.items) number) (λ object. object.areas + 1 < 2 ^ 64) }
     ensures entries { standing entries.new.items ≡ with_area number (standing entries.old.items) }
+    ensures gone { gone_among entries.new.items ≡ gone_among entries.old.items }
     ensures rising { IsTrue (are_rising entries.new.items) }
     ensures len { vec_len entries.new ≡ vec_len entries.old }
     ensures capacity { vec_capacity entries.new ≡ vec_capacity entries.old }
@@ -31,10 +32,13 @@ pub(crate) fn add_area<A: Allocator>(entries: &mut Vec<Entry<Pages<A>>, A>, numb
 /// memory.
 fn drop_area<A: Allocator>(entries: &mut Vec<Entry<Pages<A>>, A>, number: u64) -> bool
     requires rising { IsTrue (are_rising entries.old.items) }
+    requires pins { IsTrue (have_areas (number ∷ []) (standing entries.old.items)) }
+    requires freed { IsTrue (are_freed entries.old.items) }
     ensures entries { standing entries.new.items ≡ without_areas (number ∷ []) (standing entries.old.items) }
     ensures rising { IsTrue (are_rising entries.new.items) }
     ensures gone { length (standing entries.old.items)
         ≡ length (standing entries.new.items) + (if result then 1 else 0) }
+    ensures freed { IsTrue (are_freed entries.new.items) }
     ensures len { vec_len entries.new ≡ vec_len entries.old }
     ensures capacity { vec_capacity entries.new ≡ vec_capacity entries.old }
 {
@@ -55,6 +59,7 @@ pub(crate) fn sweep<A: Allocator>(entries: &mut Vec<Entry<Pages<A>>, A>)
     requires { IsTrue (are_rising entries.old.items) }
     ensures entries { entries.new.items ≡ standing entries.old.items }
     ensures same { standing entries.new.items ≡ standing entries.old.items }
+    ensures none { gone_among entries.new.items ≡ [] }
     ensures len { vec_len entries.new ≡ length (standing entries.old.items) }
     ensures rising { IsTrue (are_rising entries.new.items) }
     ensures capacity { vec_capacity entries.new ≡ vec_capacity entries.old }
@@ -71,9 +76,14 @@ pub(crate) fn remove_area<A: Allocator>(
 ) -> usize
     requires rising { IsTrue (are_rising entries.old.items) }
     requires gone { length (standing entries.old.items) + gone ≡ vec_len entries.old }
+    requires few { gone + gone ≤ vec_len entries.old }
+    requires freed { IsTrue (are_freed entries.old.items) }
+    requires pins { IsTrue (have_areas (number ∷ []) (standing entries.old.items)) }
     ensures entries { standing entries.new.items ≡ without_areas (number ∷ []) (standing entries.old.items) }
     ensures rising { IsTrue (are_rising entries.new.items) }
     ensures gone { length (standing entries.new.items) + result ≡ vec_len entries.new }
+    ensures few { result + result ≤ vec_len entries.new }
+    ensures freed { IsTrue (are_freed entries.new.items) }
     ensures fewer { length (standing entries.new.items) ≤ length (standing entries.old.items) }
     ensures capacity { vec_capacity entries.new ≡ vec_capacity entries.old }
 {
@@ -98,11 +108,15 @@ pub(crate) fn make_way<A: Allocator>(
 ) -> usize
     requires rising { IsTrue (are_rising entries.old.items) }
     requires gone { length (standing entries.old.items) + gone ≡ vec_len entries.old }
+    requires few { gone + gone ≤ vec_len entries.old }
+    requires freed { IsTrue (are_freed entries.old.items) }
     requires room { length (standing entries.old.items) < vec_capacity entries.old }
     requires below { IsTrue (are_below (standing entries.old.items) number) }
     ensures entries { standing entries.new.items ≡ standing entries.old.items }
     ensures rising { IsTrue (are_rising entries.new.items) }
     ensures gone { length (standing entries.new.items) + result ≡ vec_len entries.new }
+    ensures few { result + result ≤ vec_len entries.new }
+    ensures freed { IsTrue (are_freed entries.new.items) }
     ensures room { vec_len entries.new < vec_capacity entries.new }
     ensures below { IsTrue (are_below entries.new.items number) }
     ensures capacity { vec_capacity entries.new ≡ vec_capacity entries.old }

@@ -1,8 +1,8 @@
 //! Memory for the frames of several memory objects.
 
 ghost use Rattle.std.specs.Prelude.{◌≡◌, false, IsTrue, OnOk, OnErr, vec_len, vec_capacity};
-ghost use Rattle.memory_objects.specs.Objects.{MemoryGrows, all_pass, are_rising, has_memory, object_at, passes};
-ghost use Rattle.memory_objects.specs.Objects.{standing};
+ghost use Rattle.memory_objects.specs.Objects.{MemoryGrows, all_pass, are_rising, gone_among, has_memory};
+ghost use Rattle.memory_objects.specs.Objects.{object_at, passes, standing};
 
 use crate::entry::Entry;
 use crate::lookups;
@@ -19,6 +19,7 @@ fn reserve_one<A: Allocator>(
     ensures objects { MemoryGrows (standing entries.old.items) (standing entries.new.items) }
     ensures ok { OnOk result (IsTrue (passes has_memory (object_at (standing entries.new.items) number))) }
     ensures err { OnErr result (passes has_memory (object_at (standing entries.old.items) number) ≡ false) }
+    ensures gone { gone_among entries.new.items ≡ gone_among entries.old.items }
     ensures rising { IsTrue (are_rising entries.new.items) }
     ensures len { vec_len entries.new ≡ vec_len entries.old }
     ensures capacity { vec_capacity entries.new ≡ vec_capacity entries.old }
@@ -41,6 +42,7 @@ pub(crate) fn reserve_all<A: Allocator>(
     ensures objects { MemoryGrows (standing entries.old.items) (standing entries.new.items) }
     ensures ok { OnOk result (IsTrue (all_pass has_memory (standing entries.new.items) numbers.now)) }
     ensures err { OnErr result (all_pass has_memory (standing entries.old.items) numbers.now ≡ false) }
+    ensures gone { gone_among entries.new.items ≡ gone_among entries.old.items }
     ensures rising { IsTrue (are_rising entries.new.items) }
     ensures len { vec_len entries.new ≡ vec_len entries.old }
     ensures capacity { vec_capacity entries.new ≡ vec_capacity entries.old }

@@ -38,16 +38,18 @@ follow old new before after count each = record {
 pub pins_follow : (rows : List UserPage) (old_limits new_limits : List ℕ) (old new : List MemoryEntry)
     (before after : FramePool) → length after.holds ≡ length before.holds
     → ((frame : ℕ) → get_or after.holds frame 0 + pins_on old frame ≡ get_or before.holds frame 0 + pins_on new frame)
-    → HoldsFollow (record { pages = rows; limits = old_limits; objects = old }) (record {
+    → HoldsFollow (record { pages = rows; limits = old_limits; objects = old; room = 0 }) (record {
       pages = rows;
       limits = new_limits;
       objects = new;
+      room = 0;
     }) before after
 pins_follow rows old_limits new_limits old new before after count each =
-    follow (record { pages = rows; limits = old_limits; objects = old }) (record {
+    follow (record { pages = rows; limits = old_limits; objects = old; room = 0 }) (record {
       pages = rows;
       limits = new_limits;
       objects = new;
+      room = 0;
     }) before after count
     (λ frame. let e = each frame in omega (arith, e))
 
@@ -78,18 +80,20 @@ taken_sum false held at pages less pins here some is = omega (arith, is)
 module _ (limits : List ℕ) (objects : List MemoryEntry) (less more : List UserPage) (user : UserNo) (page : ℕ)
     (frame : FrameNo) (one : HasOneMore less more (user_page user page frame)) where
   pub given_follow : (before after : FramePool) → least_free before.holds ≡ Some frame.0 → after ≡ given before frame.0
-      → HoldsFollow (record { pages = less; limits = limits; objects = objects }) (record {
+      → HoldsFollow (record { pages = less; limits = limits; objects = objects; room = 0 }) (record {
         pages = more;
         limits = limits;
         objects = objects;
+        room = 0;
       }) before after
   given_follow before after free is =
       let there = position-Some (λ count. eqb count 0) before.holds frame.0 0 free in
       let none = eqb-true (get_or before.holds frame.0 0) 0 there.1 in
-      follow (record { pages = less; limits = limits; objects = objects }) (record {
+      follow (record { pages = less; limits = limits; objects = objects; room = 0 }) (record {
         pages = more;
         limits = limits;
         objects = objects;
+        room = 0;
       }) before after
       (ap (λ (p : FramePool). length p.holds) is ∙ length-set before.holds frame.0 1)
       (λ f.
@@ -101,7 +105,8 @@ module _ (limits : List ℕ) (objects : List MemoryEntry) (less more : List User
       (λ here. ap (λ k. get_or before.holds k 0) (sym (eqb-true frame.0 f here)) ∙ none)
       counts)
 
-  pub hold_there : (holds : List ℕ) → IsBacked (record { pages = more; limits = limits; objects = objects }) holds
+  pub hold_there : (holds : List ℕ) → IsBacked (record { pages = more; limits = limits; objects = objects; room = 0 })
+      holds
       → 0 < get_or holds frame.0 0
   hold_there holds backed =
       let counts = one.counts (λ p. eqb p.frame.0 frame.0) in
@@ -112,20 +117,22 @@ module _ (limits : List ℕ) (objects : List MemoryEntry) (less more : List User
       omega (arith, some, least)
 
   pub taken_follow : (before after : FramePool)
-      → IsBacked (record { pages = more; limits = limits; objects = objects }) before.holds
+      → IsBacked (record { pages = more; limits = limits; objects = objects; room = 0 }) before.holds
       → after ≡ with_holds before frame.0 (get_or before.holds frame.0 0 - 1)
-      → HoldsFollow (record { pages = more; limits = limits; objects = objects }) (record {
+      → HoldsFollow (record { pages = more; limits = limits; objects = objects; room = 0 }) (record {
         pages = less;
         limits = limits;
         objects = objects;
+        room = 0;
       }) before after
   taken_follow before after backed is =
       let some = hold_there before.holds backed in
       let within = held_within before.holds frame.0 some in
-      follow (record { pages = more; limits = limits; objects = objects }) (record {
+      follow (record { pages = more; limits = limits; objects = objects; room = 0 }) (record {
         pages = less;
         limits = limits;
         objects = objects;
+        room = 0;
       }) before after
       (ap (λ (p : FramePool). length p.holds) is ∙ length-set before.holds frame.0 (get_or before.holds frame.0 0 - 1))
       (λ f.
@@ -263,24 +270,26 @@ room_for_pins m holds count backed kept few_pages few_objects few =
 -- the same, as the call that takes a page away tells it
 pub unmap_follow : (limits : List ℕ) (objects : List MemoryEntry) (less more : List UserPage) (user : UserNo) (page : ℕ)
     (before after : FramePool) → IsSome (frame_at more user page)
-    → IsBacked (record { pages = more; limits = limits; objects = objects }) before.holds
+    → IsBacked (record { pages = more; limits = limits; objects = objects; room = 0 }) before.holds
     → IfSome (frame_at more user page) (λ frame. HasOneMore less more (user_page user page frame))
     → IfSome (frame_at more user page) (λ frame. after ≡ with_holds before frame.0 (get_or before.holds frame.0 0 - 1))
-    → HoldsFollow (record { pages = more; limits = limits; objects = objects }) (record {
+    → HoldsFollow (record { pages = more; limits = limits; objects = objects; room = 0 }) (record {
       pages = less;
       limits = limits;
       objects = objects;
+      room = 0;
     }) before after
 unmap_follow limits objects less more user page before after = by_frame (frame_at more user page)
   where
     by_frame : (f : Option FrameNo) → IsSome f
-        → IsBacked (record { pages = more; limits = limits; objects = objects }) before.holds
+        → IsBacked (record { pages = more; limits = limits; objects = objects; room = 0 }) before.holds
         → IfSome f (λ frame. HasOneMore less more (user_page user page frame))
         → IfSome f (λ frame. after ≡ with_holds before frame.0 (get_or before.holds frame.0 0 - 1))
-        → HoldsFollow (record { pages = more; limits = limits; objects = objects }) (record {
+        → HoldsFollow (record { pages = more; limits = limits; objects = objects; room = 0 }) (record {
           pages = less;
           limits = limits;
           objects = objects;
+          room = 0;
         }) before after
     by_frame None some backed one is = cc
     by_frame (Some frame) some backed one is =

@@ -10,6 +10,7 @@ pub mod Pinned
 pub mod PinnedFrames
 pub mod PinsNamed
 pub mod Removed
+pub mod Rooms
 pub mod Settled
 pub mod Shared
 pub mod Users

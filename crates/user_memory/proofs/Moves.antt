@@ -199,10 +199,11 @@ module _ (rows : List UserPage) (old_limits new_limits : List ℕ) (old : List M
       by_object (Some o) = refl
 
   pub unpin_less : 1 ≤ pins_in (object_at old n)
-      → HasLess never (once n) (record { pages = rows; limits = old_limits; objects = old }) (record {
+      → HasLess never (once n) (record { pages = rows; limits = old_limits; objects = old; room = 0 }) (record {
         pages = rows;
         limits = new_limits;
         objects = all_unpinned (n ∷ []) old;
+        room = 0;
       })
   unpin_less some = record {
     rows = rows_unpinned (n ∷ []) old ∙ sym (rows_stay old (all_unpinned (n ∷ []) old) areas_unpinned old

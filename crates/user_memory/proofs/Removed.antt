@@ -121,10 +121,11 @@ module _ (rows : List UserPage) (old : List MemoryEntry) (told : ObjectsTell old
           by_test false none = omega arith
 
   pub remove_less : (old_limits new_limits : List ℕ)
-      → HasLess (once n) never (record { pages = rows; limits = old_limits; objects = old }) (record {
+      → HasLess (once n) never (record { pages = rows; limits = old_limits; objects = old; room = 0 }) (record {
         pages = rows;
         limits = new_limits;
         objects = without_areas (n ∷ []) old;
+        room = 0;
       })
   remove_less old_limits new_limits = record {
     rows = rows_left (n ∷ []) old (without_areas (n ∷ []) old) (λ k. left_at (n ∷ []) old k told.memory.rising) old

@@ -165,7 +165,7 @@ left_at numbers (o ∷ objects) n rising =
 -- ---- all objects
 
 abbrev pub memory_of : List UserPage → List ℕ → List MemoryEntry → Memory
-memory_of rows limits objects = record { pages = rows; limits = limits; objects = objects }
+memory_of rows limits objects = record { pages = rows; limits = limits; objects = objects; room = 0 }
 
 same_cond : (p q r s : Bool) (x y z : Option FrameNo) → p ≡ q → r ≡ s → y ≡ z
     → cond p (cond r x y) None ≡ cond q (cond s x z) None

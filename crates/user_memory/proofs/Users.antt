@@ -56,7 +56,7 @@ user_known accounts user some = by_test (is_user accounts user) (rw (limit_told 
 module _ (rows : List UserPage) (accounts : List Account) (objects : List MemoryEntry) (user : UserNo)
     (told : AccountsTell accounts objects) where
   abbrev pub seen : Memory
-  seen = record { pages = rows; limits = limits_of accounts; objects = objects }
+  seen = record { pages = rows; limits = limits_of accounts; objects = objects; room = 0 }
 
   pub held_seen : is_user accounts user.0 ≡ true → held_by accounts user.0 ≡ memory.held_by seen user
   held_seen known = told.held user.0 known ∙ sym (held_told seen user told.told)

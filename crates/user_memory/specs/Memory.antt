@@ -13,11 +13,13 @@ use Rattle.iofd_words.specs.declared.rows.UserPage.{UserPage}
 use Rattle.memory_objects.specs.Objects as objects
 use Rattle.memory_objects.specs.Objects.{MemoryEntry}
 
--- the users' pages; how many pages each user may have pinned, from user 1 on; the memory objects by rising number
+-- the users' pages; how many pages each user may have pinned, from user 1 on; the memory objects by rising number; and
+-- for how many more pages of users there is memory
 pub record Memory : Type 0 where
   pub pages : List UserPage
   pub limits : List ℕ
   pub objects : List MemoryEntry
+  pub room : ℕ
 
 -- ---- memory objects
 
@@ -74,6 +76,10 @@ lacks_page m number = not (objects.passes (objects.can_pin m.pages) (objects.obj
 -- how many pages pinning it pins anew
 abbrev pub new_pages : Memory → ℕ → ℕ
 new_pages m number = objects.new_count_in (objects.object_at m.objects number)
+
+-- pinning it takes no memory: there is some for the frames of its pages, or they are pinned already
+abbrev pub has_memory : Memory → ℕ → Bool
+has_memory m number = objects.passes objects.has_memory (objects.object_at m.objects number)
 
 -- the rows of the objects of these numbers
 abbrev pub rows_at : Memory → List ℕ → List MemoryObject

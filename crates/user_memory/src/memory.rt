@@ -18,8 +18,9 @@ ghost use Rattle.memory_objects.specs.Objects.{times_of};
 ghost use Rattle.user_memory.specs.Changes.{HasLess, HasObject, HasPins, HasShare, HoldsFollow, SameObjects, Settles};
 ghost use Rattle.user_memory.specs.Changes.{never, once};
 ghost use Rattle.user_memory.specs.Invariant.{ObjectsTell};
-ghost use Rattle.user_memory.specs.Memory.{IsBacked, are_of, areas_over, has_room, held_by, lacks_page, new_pages};
-ghost use Rattle.user_memory.specs.Memory.{newly_pinned, pinned_frame, rows_at, rows_of, table_pins};
+ghost use Rattle.user_memory.specs.Memory.{IsBacked, are_of, areas_over, has_memory, has_room, held_by};
+ghost use Rattle.user_memory.specs.Memory.{lacks_page, new_pages, newly_pinned, pinned_frame, rows_at, rows_of};
+ghost use Rattle.user_memory.specs.Memory.{table_pins};
 
 use crate::adding;
 use frame_memory::{Pool, UserMap};
@@ -29,8 +30,9 @@ use memory_objects::MemoryObjects;
 use std::alloc::{Allocator, Global};
 use std::marker::Model;
 
-/// The memory of all users. A contract sees the users' pages and limits, and the memory objects; what a user has
-/// pinned is counted by the pins. The frames are a pool's, which each call that changes them is lent.
+/// The memory of all users. A contract sees the users' pages and limits, for how many more pages there is room, and the
+/// memory objects; what a user has pinned is counted by the pins. The frames are a pool's, which each call that changes
+/// them is lent.
 #[derive(Drop)]
 pub struct UserMemory<A: Allocator = Global> {
     alloc: A,
@@ -50,6 +52,7 @@ impl<A: Allocator> Model for UserMemory<A> {
       pages = m.users.pages;
       limits = map (λ account. account.limit) m.accounts;
       objects = m.objects.objects;
+      room = m.users.room;
     } };
 
     ghost invariant = { λ m. AccountsTell m.accounts m.objects.objects };
@@ -89,6 +92,7 @@ impl<A: Allocator + Copy> UserMemory<A> {
         requires backed { IsBacked self.old pool.old.holds }
         ensures object { OnOk result (HasObject (if pinned then 1 else 0) row self.old self.new) }
         ensures settles { OnOk result (Settles self.old self.new pool.old pool.new) }
+        ensures room { self.new.room ≡ self.old.room }
         ensures err { OnErr result (self.new ≡ self.old) }
         ensures pool_err { OnErr result (pool.new ≡ pool.old) }
     {
@@ -218,7 +222,8 @@ impl<A: Allocator> UserMemory<A> {
     }
 
     /// Gives the user the page that holds this user address: the least free frame, which reads zero. The user hasn't
-    /// the page, and a frame is free. NoMemory comes only where a growth is refused; an error changes nothing.
+    /// the page, and a frame is free. NoMemory comes only where there was no room for one more page; an error changes
+    /// nothing.
     pub fn map_page<B: Allocator>(
         &mut self,
         pool: &mut Pool<B>,
@@ -236,6 +241,8 @@ impl<A: Allocator> UserMemory<A> {
         ensures objects { SameObjects self.old self.new }
         ensures pool { IfOk result (λ frame. pool.new ≡ given pool.old frame.0) }
         ensures holds { OnOk result (HoldsFollow self.old self.new pool.old pool.new) }
+        ensures room { self.old.room ≤ self.new.room + 1 }
+        ensures memory { OnErr result (self.old.room ≡ 0) }
         ensures err { OnErr result (self.new ≡ self.old) }
         ensures pool_err { OnErr result (pool.new ≡ pool.old) }
     {
@@ -255,6 +262,7 @@ impl<A: Allocator> UserMemory<A> {
         ensures limits { self.new.limits ≡ self.old.limits }
         ensures objects { SameObjects self.old self.new }
         ensures holds { HoldsFollow self.old self.new pool.old pool.new }
+        ensures room { self.old.room ≤ self.new.room }
         ensures bytes { pool.new.bytes ≡ pool.old.bytes }
     {
         // The page is there, so that nothing refuses it.
@@ -262,7 +270,8 @@ impl<A: Allocator> UserMemory<A> {
     }
 
     /// Puts a pin on each of these objects for each time that its number is there. They are all the user's, whose
-    /// pages are there, and who may have them pinned. An error changes nothing.
+    /// pages are there, and who may have them pinned. NoMemory comes only where an object that isn't pinned has no
+    /// memory for the frames of its pages; an error changes nothing.
     pub fn pin<B: Allocator>(
         &mut self,
         pool: &mut Pool<B>,
@@ -276,9 +285,11 @@ impl<A: Allocator> UserMemory<A> {
             + times_of number numbers.now ≤ areas_over self.old number }
         requires backed { IsBacked self.old pool.old.holds }
         ensures pins { OnOk result (HasPins (λ n. times_of n numbers.now) self.old self.new) }
+        ensures memory { OnErr result (list_all (has_memory self.old) numbers.now ≡ false) }
         ensures settles { OnOk result (Settles self.old self.new pool.old pool.new) }
         ensures pages { self.new.pages ≡ self.old.pages }
         ensures limits { self.new.limits ≡ self.old.limits }
+        ensures room { self.new.room ≡ self.old.room }
         ensures err { OnErr result (SameObjects self.old self.new) }
         ensures pool_err { OnErr result (pool.new ≡ pool.old) }
     {
@@ -292,7 +303,8 @@ impl<A: Allocator> UserMemory<A> {
 
     /// One area more lies over the object of this number, over which one lies already, with one pin more if `pinned`:
     /// then the object is the user's, its pages are there, and the user may have them pinned. It costs a few look-ups
-    /// by number, and memory only where the pin is the first one. An error changes nothing.
+    /// by number, and memory only where the pin is the first one: NoMemory comes only then, and only where the object
+    /// has no memory for the frames of its pages. An error changes nothing.
     pub fn share<B: Allocator>(
         &mut self,
         pool: &mut Pool<B>,
@@ -308,9 +320,12 @@ impl<A: Allocator> UserMemory<A> {
         requires backed { IsBacked self.old pool.old.holds }
         ensures share { OnOk result (HasShare (if pinned then 1 else 0) number self.old self.new) }
         ensures memory { OnErr result (pinned ≡ true) }
+        ensures first { OnErr result (table_pins self.old number ≡ 0) }
+        ensures lacking { OnErr result (has_memory self.old number ≡ false) }
         ensures settles { OnOk result (Settles self.old self.new pool.old pool.new) }
         ensures pages { self.new.pages ≡ self.old.pages }
         ensures limits { self.new.limits ≡ self.old.limits }
+        ensures room { self.new.room ≡ self.old.room }
         ensures err { OnErr result (SameObjects self.old self.new) }
         ensures pool_err { OnErr result (pool.new ≡ pool.old) }
     {
@@ -335,9 +350,11 @@ impl<A: Allocator> UserMemory<A> {
         requires room { has_room self.old user (new_pages self.old number) ≡ true }
         requires backed { IsBacked self.old pool.old.holds }
         ensures share { OnOk result (HasShare 1 number self.old self.new) }
+        ensures lacking { OnErr result (has_memory self.old number ≡ false) }
         ensures settles { OnOk result (Settles self.old self.new pool.old pool.new) }
         ensures pages { self.new.pages ≡ self.old.pages }
         ensures limits { self.new.limits ≡ self.old.limits }
+        ensures room { self.new.room ≡ self.old.room }
         ensures err { OnErr result (SameObjects self.old self.new) }
         ensures pool_err { OnErr result (pool.new ≡ pool.old) }
     {
@@ -356,6 +373,7 @@ impl<A: Allocator> UserMemory<A> {
         requires backed { IsBacked self.old pool.old.holds }
         ensures less { HasLess never (once number) self.old self.new }
         ensures settles { Settles self.old self.new pool.old pool.new }
+        ensures room { self.new.room ≡ self.old.room }
     {
         self.objects
             .unpin_by_table(&[number], pool, &mut self.accounts);
@@ -367,6 +385,7 @@ impl<A: Allocator> UserMemory<A> {
         requires { table_pins self.old number + 1 ≤ areas_over self.old number }
         ensures less { HasLess (once number) never self.old self.new }
         ensures settles { (pool : FramePool) → Settles self.old self.new pool pool }
+        ensures room { self.new.room ≡ self.old.room }
     {
         self.objects.remove_area(number);
     }

@@ -7,6 +7,8 @@ use Rattle.area_map_rows.specs.Areas.{with_area}
 use Rattle.std.specs.List.{prefix_len}
 use Rattle.area_map_rows.specs.Rows.{end_of}
 use Rattle.area_map.specs.Kept.{takes_row}
+use Rattle.area_map_rows.proofs.Added.{length-with_area}
+use Rattle.area_map.proofs.Joined.{joined-set}
 use Rattle.area_map.proofs.Room.{room-none, room-one}
 use Rattle.area_map.proofs.RowsAdded.{added_in_row, row-alone, full_row, added_row, back_with, rows-before, rows-behind}
 use Rattle.area_map_rows.proofs.Rows.{row-apart, row-few}
@@ -190,3 +192,23 @@ returns-then-add_to-clause-places g c =
 
 pub returns-else-add_to-clause-places : goal.returns-else-add_to-clause-places
 returns-else-add_to-clause-places g c = refl
+
+pub split-requires-clause-joined : goal.split-requires-clause-joined
+split-requires-clause-joined g c =
+    let long = rw c.deref_mut.ensures.value at c.deref_mut.ensures.len in
+    let rows : List (List Area) = c.args.rows.now.items in
+    let row : List Area = get_or rows c.args.index [] in
+    let more = length-with_area c.args.area row in
+    let written = back_with c.args.area c.args.rows.now.items c.add_to.new.rows c.args.index c.args.rows.now.len
+    (rw c.deref_mut.ensures.value at c.add_to.ensures.rows) long in
+    rw written (joined-set rows c.args.index (with_area c.args.area row) (omega (arith, more)) c.requires.joined)
+
+pub returns-else-add_to-clause-joined : goal.returns-else-add_to-clause-joined
+returns-else-add_to-clause-joined g c =
+    let long = rw c.deref_mut.ensures.value at c.deref_mut.ensures.len in
+    let rows : List (List Area) = c.args.rows.now.items in
+    let row : List Area = get_or rows c.args.index [] in
+    let more = length-with_area c.args.area row in
+    let written = back_with c.args.area c.args.rows.now.items c.add_to.new.rows c.args.index c.args.rows.now.len
+    (rw c.deref_mut.ensures.value at c.add_to.ensures.rows) long in
+    rw written (joined-set rows c.args.index (with_area c.args.area row) (omega (arith, more)) c.requires.joined)

@@ -1,7 +1,8 @@
-use Rattle.std.proofs.Common.{◌≡◌, ◌∙◌, ◌+◌, List, [], length, take, drop, set, get_or, refl, ap, arith}
+use Rattle.std.proofs.Common.{◌≡◌, ◌∙◌, suc, ◌+◌, ◌-◌, List, [], length, take, drop, set, get_or, refl, ap, arith}
 use Rattle.std.specs.List.{insert}
-use Rattle.std.proofs.lemmas.List.{take_at, length-set}
+use Rattle.std.proofs.lemmas.List.{take_at, length-drop, length-set, length-take-le}
 use Rattle.iofd_words.specs.declared.rows.Area.{Area}
+use Rattle.area_map.proofs.Joined.{joined-split}
 use Rattle.area_map.proofs.RowsAdded.{parts_in_rows, parts_are_rows}
 use Rattle.area_map.proofs.RowsSame.{before_split}
 use Rattle.area_map.proofs.insertion.split.Given as given
@@ -47,3 +48,20 @@ returns-in-Some-clause-before g c =
     let row = get_or c.args.rows.now.items c.args.index [] in
     rw (parted g c) (before_split c.args.rows.now.items c.args.index (take c.split_place-at.result row)
     (drop c.split_place-at.result row) c.requires.bound)
+
+pub returns-in-Some-clause-joined : goal.returns-in-Some-clause-joined
+returns-in-Some-clause-joined g c =
+    let rows : List (List Area) = c.args.rows.now.items in
+    let i = c.args.index in
+    let at = c.split_place-at.result in
+    let row : List Area = get_or rows i [] in
+    let next : i + 1 ≡ suc i = omega arith in
+    let full = c.requires.full in
+    let lower : length (take at row) ≡ at = length-take-le at row (omega (arith, full, c.split_place-at.ensures.few)) in
+    let upper : length (drop at row) ≡ 32 - at = length-drop at row ∙ ap (λ n. n - at) full in
+    let middle = c.split_place-at.ensures.middle in
+    let few = c.split_place-at.ensures.few in
+    let half = c.split_place-at.ensures.half in
+    rw (parted g c, next) (joined-split rows i (take at row) (drop at row) c.requires.bound c.requires.before
+    (rw next at c.requires.behind) (omega (arith, lower, upper, few)) (omega (arith, lower, half))
+    (λ within. let is = middle (omega (arith, within)) in omega (arith, upper, is)) c.requires.joined)

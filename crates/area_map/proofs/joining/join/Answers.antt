@@ -1,10 +1,11 @@
-use Rattle.std.proofs.Common.{◌≡◌, ◌∙◌, ◌+◌, ◌<◌, ◌++◌, List, [], length, get_or, set, refl, sym, ap, arith}
+use Rattle.std.proofs.Common.{◌≡◌, ◌∙◌, suc, ◌+◌, ◌<◌, ◌++◌, List, [], length, get_or, set, refl, sym, ap, arith}
 use Rattle.std.proofs.Math.Nat.{le_refl}
 use Rattle.std.specs.List.{remove}
 use Rattle.std.proofs.lemmas.List.{get_or_default, length-set}
 use Rattle.std.proofs.lemmas.List.Edits.{get_or-remove_below}
 use Rattle.iofd_words.specs.declared.rows.Area.{Area}
 use Rattle.area_map_rows.proofs.Rows.{written_back}
+use Rattle.area_map.proofs.Joined.{apart_back, join_back, join_front}
 use Rattle.area_map.proofs.RowsAdded.{in_rows-join, AreRows-join}
 use Rattle.area_map.proofs.RowsSame.{before_join}
 use Rattle.area_map.proofs.joining.join.Goals as goal
@@ -112,3 +113,34 @@ returns-clause-capacity g c = c.remove-next.ensures.capacity
 
 pub returns-clause-none : goal.returns-clause-none
 returns-clause-none g c = λ less. absurd (omega (arith, c.remove-next.ensures.len, less))
+
+pub returns-then-not-are_few-clause-joined : goal.returns-then-not-are_few-clause-joined
+returns-then-not-are_few-clause-joined g c = λ low order but.
+    let items : List (List Area) = c.args.rows.now.items in
+    let i = c.args.index in
+    let next : i + 1 ≡ suc i = omega arith in
+    let many : suc i < length items → 16 < length (get_or items i []) + length (get_or items (suc i) []) =
+    rw next at (rw c.deref.ensures.value at (c.if-not-are_few.ensures.many refl)) in
+    record { front = but.front; back = apart_back items i (rw next at but.back) many }
+
+pub returns-clause-joined : goal.returns-clause-joined
+returns-clause-joined g c = λ low order but.
+    let items : List (List Area) = c.args.rows.now.items in
+    let i = c.args.index in
+    let next : i + 1 ≡ suc i = omega arith in
+    let within : i + 1 < length items = rw c.deref.ensures.value at (c.if-not-are_few.ensures.two refl) in
+    let base = rw (c.deref_mut.ensures.value, c.remove-next.ensures.items) at c.take_over.ensures in
+    let same = get_or-remove_below items (i + 1) [] i (omega arith) within in
+    let moved = c.remove-next.ensures.value ∙ get_or_default items (i + 1) c.remove-next.result [] within in
+    let is = base ∙ ap (λ (row : List Area). set (remove items (i + 1)) i (row ++ c.remove-next.result)) same
+    ∙ ap (λ (row : List Area). set (remove items (i + 1)) i (get_or items i [] ++ row)) moved in
+    let left : length (remove items (i + 1)) ≡ c.remove-next.new.self.len =
+    ap length (sym c.remove-next.ensures.items) ∙ omega arith in
+    let long = length-set (remove items (i + 1)) i (get_or items i [] ++ get_or items (i + 1) []) ∙ left in
+    let written = written_back c.remove-next.new.self.items c.take_over.new.rows
+    (set (remove items (i + 1)) i (get_or items i [] ++ get_or items (i + 1) []))
+    c.remove-next.new.self.len is long in
+    rw (written, next) (record {
+      front = join_front items i low order (omega arith) but.front;
+      back = join_back items i (omega arith) (rw next at but.back);
+    })

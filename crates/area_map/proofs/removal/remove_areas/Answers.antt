@@ -1,11 +1,13 @@
-use Rattle.std.proofs.Common.{◌≡◌, ◌∙◌, List, length, map, refl, ap, arith}
+use Rattle.std.proofs.Common.{◌≡◌, ◌∙◌, ◌-◌, ◌==◌, not, take, drop, List, length, map, refl, ap, arith}
 use Rattle.std.proofs.Math.Nat.{le_refl}
+use Rattle.std.proofs.Math.Seq.{drop-append_seam}
+use Rattle.std.specs.List.{filter}
 use Rattle.std.proofs.lemmas.List.{length-map}
 use Rattle.iofd_words.specs.declared.rows.Area.{Area}
 use Rattle.area_map_rows.specs.Areas.{areas_outside}
 use Rattle.area_map_rows.proofs.Rows.{written_back}
 use Rattle.area_map.proofs.RowsRemoved.{outside_in_rows, few_outside, nonempty_in_rows, nonempty_rows}
-use Rattle.area_map.proofs.RowsSame.{same_dropped, slice_back}
+use Rattle.area_map.proofs.RowsSame.{filled_count, filled_front, filled_parts, same_dropped, slice_back}
 use Rattle.area_map.proofs.removal.remove_areas.Goals as goal
 
 pub returns-then-not-empty-clause-areas : goal.returns-then-not-empty-clause-areas
@@ -104,3 +106,55 @@ returns-clause-len g c = c.drop_empty.ensures.len
 
 pub returns-clause-capacity : goal.returns-clause-capacity
 returns-clause-capacity g c = c.drop_empty.ensures.capacity
+
+pub overflow_sub-result-2 : goal.overflow_sub-result-2
+overflow_sub-result-2 g c =
+    let part = c.remove_within-from in
+    let rows : List (List Area) = c.args.rows.now.items in
+    let is = rw c.deref_mut.ensures.value at part.ensures.rows in
+    let long : length part.new.rows ≡ c.args.rows.now.len =
+    ap length is ∙ length-map rows (areas_outside c.args.span) ∙ omega arith in
+    let back = slice_back rows part.new.rows c.args.rows.now.len long in
+    let others = rw c.deref_mut.ensures.value at part.ensures.others in
+    let count = filled_count part.result.1 rows part.new.rows c.requires.rows others.behind in
+    let left = ap length (rw back at c.drop_empty.ensures.rows) in
+    omega (arith, count, left)
+
+pub returns-clause-rest : goal.returns-clause-rest
+returns-clause-rest g c =
+    let part = c.remove_within-from in
+    let rows : List (List Area) = c.args.rows.now.items in
+    let is = rw c.deref_mut.ensures.value at part.ensures.rows in
+    let long : length part.new.rows ≡ c.args.rows.now.len =
+    ap length is ∙ length-map rows (areas_outside c.args.span) ∙ omega arith in
+    let back = slice_back rows part.new.rows c.args.rows.now.len long in
+    let others = rw c.deref_mut.ensures.value at part.ensures.others in
+    let count = filled_count part.result.1 rows part.new.rows c.requires.rows others.behind in
+    let left = ap length (rw back at c.drop_empty.ensures.rows) in
+    let bound = rw c.deref_mut.ensures.value at part.ensures.bound in
+    let front : List (List Area) = filter (λ (row : List Area). not (length row == 0)) (take part.result.1
+    part.new.rows)
+    in
+    let parts = rw back at c.drop_empty.ensures.rows ∙ filled_parts part.result.1 rows part.new.rows c.requires.rows
+    others.behind in
+    let end : c.len.result - (c.len-count.result - part.result.1) ≡ length front = omega (arith, count, left, bound) in
+    record {
+      place = part.result.1;
+      rest = rw (end, parts) (drop-append_seam front (drop part.result.1 rows));
+    }
+
+pub returns-clause-order : goal.returns-clause-order
+returns-clause-order g c =
+    let part = c.remove_within-from in
+    let rows : List (List Area) = c.args.rows.now.items in
+    let is = rw c.deref_mut.ensures.value at part.ensures.rows in
+    let long : length part.new.rows ≡ c.args.rows.now.len =
+    ap length is ∙ length-map rows (areas_outside c.args.span) ∙ omega arith in
+    let back = slice_back rows part.new.rows c.args.rows.now.len long in
+    let others = rw c.deref_mut.ensures.value at part.ensures.others in
+    let count = filled_count part.result.1 rows part.new.rows c.requires.rows others.behind in
+    let left = ap length (rw back at c.drop_empty.ensures.rows) in
+    let bound = rw c.deref_mut.ensures.value at part.ensures.bound in
+    let front = filled_front part.result.0 part.result.1 rows part.new.rows c.requires.rows others.before
+    part.ensures.order (omega (arith, bound, part.ensures.order)) in
+    omega (arith, count, left, bound, front)

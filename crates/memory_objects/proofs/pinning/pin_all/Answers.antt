@@ -10,6 +10,7 @@ use Rattle.memory_objects.proofs.pinning.pin_all.Goals as goal
 pub loop-number-init : goal.loop-number-init
 loop-number-init g c = record {
   entries = pinned_none c.args.users.now.pages (standing c.args.entries.now.items);
+  gone = refl;
   rising = c.requires.rising;
   can = c.requires.can;
   pool = holds_stay (standing c.args.entries.now.items) c.args.pool.now;
@@ -49,6 +50,7 @@ loop-number-preserved g c =
       entries = is ∙ ap (all_pinned rows (n ∷ [])) c.loop-number.invariant.entries
           ∙ pinned_next rows objects (take i numbers) n
           ∙ ap (λ ns. all_pinned rows ns objects) (sym (take_more numbers i 0 c.loop-number-test.true));
+      gone = c.pin_one.ensures.gone ∙ c.loop-number.invariant.gone;
       rising = c.pin_one.ensures.rising;
       can = subst C (sym is) (can_next before n (drop (i + 1) numbers) rows c.loop-number.pool c.pin_one.new.pool
           c.loop-number.accounts c.pin_one.new.accounts can (subst H is c.pin_one.ensures.pool)

@@ -9,6 +9,7 @@ use Rattle.memory_objects.proofs.pinning.unpin_all.Goals as goal
 pub loop-number-init : goal.loop-number-init
 loop-number-init g c = record {
   entries = unpinned_none (standing c.args.entries.now.items);
+  gone = refl;
   rising = c.requires.rising;
   pins = c.requires.pins;
   backed = c.requires.backed;
@@ -45,6 +46,7 @@ loop-number-preserved g c =
       entries = is ∙ ap (all_unpinned (n ∷ [])) c.loop-number.invariant.entries
           ∙ unpinned_next objects (take i numbers) n
           ∙ ap (λ ns. all_unpinned ns objects) (sym (take_more numbers i 0 c.loop-number-test.true));
+      gone = c.unpin_one.ensures.gone ∙ c.loop-number.invariant.gone;
       rising = c.unpin_one.ensures.rising;
       pins = subst L (sym is) (pins_next n (drop (i + 1) numbers) before pins);
       backed = subst B (sym is) (backed_moved (unpin_at n) (λ o. refl) before c.loop-number.pool c.unpin_one.new.pool

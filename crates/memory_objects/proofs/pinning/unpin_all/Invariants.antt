@@ -1,6 +1,6 @@
 use Rattle.std.proofs.Common.{◌≡◌, true, drop, take, vec_capacity, vec_len}
 use Rattle.memory_objects.specs.Backed.{AccountsMove, AreBacked, HoldsMove}
-use Rattle.memory_objects.specs.Objects.{all_unpinned, are_rising, have_pins, standing}
+use Rattle.memory_objects.specs.Objects.{all_unpinned, are_rising, gone_among, have_pins, standing}
 use Rattle.memory_objects.proofs.pinning.unpin_all.Given as goal
 
 -- the objects of the numbers so far are unpinned, and those of the others can be
@@ -8,6 +8,7 @@ abbrev pub invariant-loop-number : goal.invariant-loop-number
 invariant-loop-number g l = record {
   entries : (standing l.entries.items) ≡ all_unpinned (take l.number-index l.numbers)
       (standing l.initial.entries.items);
+  gone : gone_among l.entries.items ≡ gone_among l.initial.entries.items;
   rising : are_rising l.entries.items ≡ true;
   pins : have_pins (drop l.number-index l.numbers) (standing l.entries.items) ≡ true;
   backed : AreBacked (standing l.entries.items) l.pool.holds l.accounts;

@@ -8,6 +8,7 @@ use Rattle.memory_objects.proofs.Moved.{accounts_refunded, holds_taken}
 use Rattle.memory_objects.proofs.Unpinned.{its_frames, its_held, its_last, its_pins, its_user, none_unpinned}
 use Rattle.memory_objects.proofs.Unpinned.{set_unpinned}
 use Rattle.memory_objects.proofs.AreaCounts.{rising_left}
+use Rattle.memory_objects.proofs.Gone.{gone_set}
 use Rattle.memory_objects.proofs.Standing.{found_stands, place_in, rising_set, standing_at, standing_set, stands}
 use Rattle.memory_objects.proofs.pinning.unpin_one.Goals as goal
 
@@ -148,3 +149,16 @@ returns-in-Some-clause-rising g c =
     c.index_mut-entry.ensures.value in
     rising_set all c.in-Some.place x (record { number = x.number; areas = x.areas; pages = c.unpin_by_table.new.self })
     c.requires.rising here refl
+
+pub returns-in-Some-clause-gone : goal.returns-in-Some-clause-gone
+returns-in-Some-clause-gone g c =
+    let all = c.args.entries.now.items in
+    let x = c.index_mut-entry.result.now in
+    let here : slice_get all c.in-Some.place ≡ Some x =
+    slice_get_read all (length all) c.in-Some.place x refl (rw c.deref.ensures.value at c.in-Some.ensures.within)
+    c.index_mut-entry.ensures.value in
+    let found : object_at (standing all) c.args.number ≡ Some x =
+    sym (rw c.deref.ensures.value at c.in-Some.ensures.some) ∙ here in
+    let is = found_stands all c.args.number x found in
+    let y : MemoryEntry = record { number = x.number; areas = x.areas; pages = c.unpin_by_table.new.self } in
+    gone_set all c.in-Some.place x y here is is

@@ -5,6 +5,7 @@ use Rattle.std.proofs.lemmas.Option.{slice_get_read}
 use Rattle.memory_objects.specs.Objects.{object_at, standing, with_areas}
 use Rattle.memory_objects.proofs.AreaCounts.{area_added, no_area_added}
 use Rattle.memory_objects.proofs.AreaCounts.{rising_left}
+use Rattle.memory_objects.proofs.Gone.{gone_set}
 use Rattle.memory_objects.proofs.Standing.{found_stands, place_in, rising_set, standing_at, standing_set, stands}
 use Rattle.memory_objects.proofs.removal.add_area.Goals as goal
 
@@ -71,3 +72,20 @@ returns-in_default-clause-len g c = refl
 
 pub returns-in_default-clause-capacity : goal.returns-in_default-clause-capacity
 returns-in_default-clause-capacity g c = refl
+
+pub returns-in-Some-clause-gone : goal.returns-in-Some-clause-gone
+returns-in-Some-clause-gone g c =
+    let all = c.args.entries.now.items in
+    let x = c.index_mut-entry.result.now in
+    let here : slice_get all c.in-Some.place ≡ Some x =
+    slice_get_read all (length all) c.in-Some.place x refl (rw c.deref.ensures.value at c.in-Some.ensures.within)
+    c.index_mut-entry.ensures.value in
+    let found : object_at (standing all) c.args.number ≡ Some x =
+    sym (rw c.deref.ensures.value at c.in-Some.ensures.some) ∙ here in
+    let is = found_stands all c.args.number x found in
+    let y = with_areas (x.areas + 1) x in
+    let more : stands y ≡ true = grind (arith, nat_tests) in
+    gone_set all c.in-Some.place x y here is more
+
+pub returns-in_default-clause-gone : goal.returns-in_default-clause-gone
+returns-in_default-clause-gone g c = refl

@@ -1,11 +1,12 @@
 use Rattle.std.proofs.Common.{◌≡◌, ◌∙◌, ◌-◌, Some, true, not, length, set, refl, sym, ap, arith}
-use Rattle.std.specs.List.{slice_get}
+use Rattle.std.specs.List.{list_all, slice_get}
 use Rattle.std.proofs.lemmas.Bool.{eq-eqb, ne_eqb}
 use Rattle.std.proofs.lemmas.Bool.Decides.{nat_tests}
 use Rattle.std.proofs.lemmas.List.{length-set}
 use Rattle.std.proofs.lemmas.Option.{slice_get_read}
-use Rattle.memory_objects.specs.Objects.{MemoryEntry, object_at, standing, with_areas}
+use Rattle.memory_objects.specs.Objects.{MemoryEntry, is_freed, object_at, standing, with_areas}
 use Rattle.memory_objects.proofs.AreaCounts.{area_dropped, no_area_dropped, rising_left}
+use Rattle.memory_objects.proofs.Gone.{freed_set, gone_set, last_pins}
 use Rattle.memory_objects.proofs.Standing.{fewer_standing, found_stands, place_in, rising_set, standing_at}
 use Rattle.memory_objects.proofs.Standing.{standing_gone, standing_set, standing_twice, stands}
 use Rattle.memory_objects.proofs.removal.drop_area.Goals as goal
@@ -105,3 +106,32 @@ returns-clause-gone g c =
     let is = found_stands all c.args.number x (sym (rw c.deref.ensures.value at c.in-Some.ensures.some) ∙ here) in
     let y : MemoryEntry = record { number = x.number; areas = x.areas - 1; pages = c.free_frames.new.self } in
     fewer_standing all c.in-Some.place x y here is (ap not (eq-eqb (x.areas - 1) 0 c.if-entry-ne0.false))
+
+pub returns-then-entry-ne0-clause-freed : goal.returns-then-entry-ne0-clause-freed
+returns-then-entry-ne0-clause-freed g c =
+    let all = c.args.entries.now.items in
+    let x = c.index_mut-entry.result.now in
+    let here : slice_get all c.in-Some.place ≡ Some x =
+    slice_get_read all (length all) c.in-Some.place x refl (rw c.deref.ensures.value at c.in-Some.ensures.within)
+    c.index_mut-entry.ensures.value in
+    let found : object_at (standing all) c.args.number ≡ Some x =
+    sym (rw c.deref.ensures.value at c.in-Some.ensures.some) ∙ here in
+    let is = found_stands all c.args.number x found in
+    let y = with_areas (x.areas - 1) x in
+    let still : stands y ≡ true = ap not (ne_eqb (x.areas - 1) 0 c.if-entry-ne0.true) in
+    ap (list_all is_freed) (gone_set all c.in-Some.place x y here is still) ∙ c.requires.freed
+
+pub returns-clause-freed : goal.returns-clause-freed
+returns-clause-freed g c =
+    let all = c.args.entries.now.items in
+    let x = c.index_mut-entry.result.now in
+    let here : slice_get all c.in-Some.place ≡ Some x =
+    slice_get_read all (length all) c.in-Some.place x refl (rw c.deref.ensures.value at c.in-Some.ensures.within)
+    c.index_mut-entry.ensures.value in
+    let found : object_at (standing all) c.args.number ≡ Some x =
+    sym (rw c.deref.ensures.value at c.in-Some.ensures.some) ∙ here in
+    let is = found_stands all c.args.number x found in
+    let y : MemoryEntry = record { number = x.number; areas = x.areas - 1; pages = c.free_frames.new.self } in
+    let none = eq-eqb (x.areas - 1) 0 c.if-entry-ne0.false in
+    let unpinned = last_pins (standing all) c.args.number x c.requires.pins found none in
+    freed_set all c.in-Some.place x y here is (rw (c.free_frames.ensures.none unpinned) refl) c.requires.freed

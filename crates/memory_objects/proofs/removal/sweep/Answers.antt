@@ -1,7 +1,8 @@
 use Rattle.std.proofs.Common.{◌≡◌, ◌∙◌, List, length, true, ap, sym, subst, rules}
 use Rattle.std.proofs.lemmas.Fn.{filter_same}
-use Rattle.memory_objects.specs.Objects.{MemoryEntry, are_rising, standing}
+use Rattle.memory_objects.specs.Objects.{MemoryEntry, are_rising, gone_among, standing}
 use Rattle.memory_objects.proofs.AreaCounts.{rising_left}
+use Rattle.memory_objects.proofs.Gone.{none_gone}
 use Rattle.memory_objects.proofs.Standing.{standing_twice, stands}
 use Rattle.memory_objects.proofs.removal.sweep.Goals as goal
 
@@ -18,3 +19,6 @@ pub returns-clause-rising : goal.returns-clause-rising
 returns-clause-rising g c =
     let R : List MemoryEntry → Type 0 = λ xs. are_rising xs ≡ true in
     subst R (sym (returns-clause-entries g c)) (rising_left stands c.args.entries.now.items c.requires)
+
+pub returns-clause-none : goal.returns-clause-none
+returns-clause-none g c = ap gone_among (returns-clause-entries g c) ∙ none_gone c.args.entries.now.items

@@ -7,6 +7,7 @@ use Rattle.memory_objects.proofs.reserving.reserve_all.Goals as goal
 pub loop-number-init : goal.loop-number-init
 loop-number-init g c = record {
   objects = grows_none (standing c.args.entries.now.items);
+  gone = refl;
   rising = c.requires;
   memory = refl;
   len = refl;
@@ -41,6 +42,7 @@ loop-number-preserved g c =
     record {
       objects = grows_further (standing c.args.entries.now.items) before after c.loop-number.invariant.objects
           c.reserve_one.ensures.objects;
+      gone = c.reserve_one.ensures.gone ∙ c.loop-number.invariant.gone;
       rising = c.reserve_one.ensures.rising;
       memory = rw (all, kept, here) refl;
       len = c.reserve_one.ensures.len ∙ c.loop-number.invariant.len;

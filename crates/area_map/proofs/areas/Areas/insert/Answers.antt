@@ -1,5 +1,5 @@
-use Rattle.std.proofs.Common.{◌≡◌, ℕ, ◌+◌, ◌<◌, ◌≤◌, true, false, List, length, Option, Some, None, IfSome, IfNone}
-use Rattle.std.proofs.Common.{Result, Ok, Err, IsOkUnless, Fits, w64, refl, sym, ap, arith}
+use Rattle.std.proofs.Common.{◌≡◌, ℕ, ◌+◌, ◌*◌, ◌<◌, ◌≤◌, true, false, List, length, Option, Some, None, IfSome, IfNone}
+use Rattle.std.proofs.Common.{Result, Ok, Err, IsOkUnless, Fits, w64, refl, subst, sym, ap, arith}
 use Rattle.std.proofs.lemmas.Bool.Decides.{nat_tests}
 use Rattle.std.proofs.Math.Nat.{le_refl}
 use Rattle.iofd_words.specs.Bounds.{Bounds}
@@ -13,6 +13,7 @@ use Rattle.area_map_rows.specs.Rows.{in_rows}
 use Rattle.area_map.specs.AreaTable.{AreaTable}
 use Rattle.area_map.specs.Insertion.{insert_refusal}
 use Rattle.area_map.specs.Kept.{room_of}
+use Rattle.area_map.proofs.Joined.{few_rows}
 use Rattle.area_map.proofs.RowsKept.{rows_with}
 use Rattle.area_map.proofs.Room.{at_answer, at_error, room-most, room-none}
 use Rattle.area_map.proofs.areas.Areas.insert.Goals as goal
@@ -37,26 +38,29 @@ taken_as cause answer is told = rw is told
 
 -- which cause that is, where the areas that are seen are those of the rows
 overlaps : (span : Bounds) (seen : AreaTable) (rows now : List (List Area)) (room : ℕ)
-    → ◌≡◌ {A = AreaTable} (record { areas = in_rows rows; room = room }) seen → now ≡ rows
+    (hull : Option Bounds) (many : ℕ)
+    → ◌≡◌ {A = AreaTable} (record { areas = in_rows rows; room = room; leaving = hull; rows = many }) seen → now ≡ rows
     → true ≡ areas_meet span (in_rows now) → insert_refusal span seen.areas ≡ Some Overlap
-overlaps span seen rows now room is same meets =
+overlaps span seen rows now room hull many is same meets =
     let met : areas_meet span (in_rows rows) ≡ true = rw same at (sym meets) in
     rw (← is, met) refl
 
 has_most : (span : Bounds) (seen : AreaTable) (rows now : List (List Area)) (count room : ℕ)
-    → ◌≡◌ {A = AreaTable} (record { areas = in_rows rows; room = room }) seen → now ≡ rows
+    (hull : Option Bounds) (many : ℕ)
+    → ◌≡◌ {A = AreaTable} (record { areas = in_rows rows; room = room; leaving = hull; rows = many }) seen → now ≡ rows
     → false ≡ areas_meet span (in_rows now) → count ≡ length (in_rows rows) → 65535 ≤ count
     → insert_refusal span seen.areas ≡ Some Full
-has_most span seen rows now count room is same meets counted many =
+has_most span seen rows now count room hull many is same meets counted most =
     let met : areas_meet span (in_rows rows) ≡ false = rw same at (sym meets) in
     let full : has_no_room (in_rows rows) ≡ true = grind (arith, nat_tests) in
     rw (← is, met, full) refl
 
 has_place : (span : Bounds) (seen : AreaTable) (rows now : List (List Area)) (count room : ℕ)
-    → ◌≡◌ {A = AreaTable} (record { areas = in_rows rows; room = room }) seen → now ≡ rows
+    (hull : Option Bounds) (many : ℕ)
+    → ◌≡◌ {A = AreaTable} (record { areas = in_rows rows; room = room; leaving = hull; rows = many }) seen → now ≡ rows
     → false ≡ areas_meet span (in_rows now) → count ≡ length (in_rows rows) → count < 65535
     → insert_refusal span seen.areas ≡ None
-has_place span seen rows now count room is same meets counted few =
+has_place span seen rows now count room hull many is same meets counted few =
     let met : areas_meet span (in_rows rows) ≡ false = rw same at (sym meets) in
     let free : has_no_room (in_rows rows) ≡ false = grind (arith, nat_tests) in
     rw (← is, met, free) refl
@@ -123,10 +127,9 @@ invariant_of-self-2 g c =
     rw c.deref-2.ensures.value at (sym c.if-meets_behind.ensures) in
     let added = rw c.prepare.ensures.rows at c.add.ensures.areas in
     let hull = c.with_area-self-inside in
-    let leave = c.self.invariant.0.leave in (
+    let leaves = hull.ensures in (
       rows_with a rows c.add.new.rows.items c.self.inside.count c.self.inside.leaving hull.result c.self.invariant.0
-          c.add.ensures.rows added (omega arith) alone c.if-self-ge-MOST_AREAS.false hull.ensures.area
-          (hull.ensures.others (in_rows rows) leave),
+          c.add.ensures.rows c.add.ensures.joined added (omega arith) alone c.if-self-ge-MOST_AREAS.false leaves,
       c.add.ensures.spare,
       c.add.ensures.blocks,
       omega (arith, c.add.ensures.places, c.add.ensures.blocks_len, c.prepare.ensures.places),
@@ -167,14 +170,16 @@ meets_behind-requires-clause-bound g c =
 pub returns-then-meets_behind-clause-refused : goal.returns-then-meets_behind-clause-refused
 returns-then-meets_behind-clause-refused g c =
     let cause = overlaps c.args.area.span c.args.self.now c.self.inside.rows.items c.deref-2.result.now
-    (room_of c.self.inside.spare) c.self.view_is c.deref-2.ensures.value c.if-meets_behind.ensures in
+    (room_of c.self.inside.spare) c.self.inside.leaving (length c.self.inside.rows.items) c.self.view_is
+    c.deref-2.ensures.value c.if-meets_behind.ensures in
     refused_by (insert_refusal c.args.area.span c.args.self.now.areas) Overlap (Err c.refused.result) cause
     (ap Err c.refused.ensures)
 
 pub returns-then-meets_behind-clause-taken : goal.returns-then-meets_behind-clause-taken
 returns-then-meets_behind-clause-taken g c =
     let cause = overlaps c.args.area.span c.args.self.now c.self.inside.rows.items c.deref-2.result.now
-    (room_of c.self.inside.spare) c.self.view_is c.deref-2.ensures.value c.if-meets_behind.ensures in
+    (room_of c.self.inside.spare) c.self.inside.leaving (length c.self.inside.rows.items) c.self.view_is
+    c.deref-2.ensures.value c.if-meets_behind.ensures in
     not_taken (insert_refusal c.args.area.span c.args.self.now.areas) Overlap (Err c.refused.result) cause
 
 pub returns-then-meets_behind-clause-memory : goal.returns-then-meets_behind-clause-memory
@@ -192,7 +197,8 @@ returns-then-meets_behind-clause-err_room g c = le_refl c.args.self.now.room
 pub returns-then-self-ge-MOST_AREAS-clause-refused : goal.returns-then-self-ge-MOST_AREAS-clause-refused
 returns-then-self-ge-MOST_AREAS-clause-refused g c =
     let cause = has_most c.args.area.span c.args.self.now c.self.inside.rows.items c.deref-2.result.now
-    c.self.inside.count (room_of c.self.inside.spare) c.self.view_is c.deref-2.ensures.value
+    c.self.inside.count (room_of c.self.inside.spare) c.self.inside.leaving (length c.self.inside.rows.items)
+    c.self.view_is c.deref-2.ensures.value
     c.if-meets_behind.ensures c.self.invariant.0.counted c.if-self-ge-MOST_AREAS.true in
     refused_by (insert_refusal c.args.area.span c.args.self.now.areas) Full
     (Err c.refused-then-self-ge-MOST_AREAS.result) cause (ap Err c.refused-then-self-ge-MOST_AREAS.ensures)
@@ -200,7 +206,8 @@ returns-then-self-ge-MOST_AREAS-clause-refused g c =
 pub returns-then-self-ge-MOST_AREAS-clause-taken : goal.returns-then-self-ge-MOST_AREAS-clause-taken
 returns-then-self-ge-MOST_AREAS-clause-taken g c =
     let cause = has_most c.args.area.span c.args.self.now c.self.inside.rows.items c.deref-2.result.now
-    c.self.inside.count (room_of c.self.inside.spare) c.self.view_is c.deref-2.ensures.value
+    c.self.inside.count (room_of c.self.inside.spare) c.self.inside.leaving (length c.self.inside.rows.items)
+    c.self.view_is c.deref-2.ensures.value
     c.if-meets_behind.ensures c.self.invariant.0.counted c.if-self-ge-MOST_AREAS.true in
     not_taken (insert_refusal c.args.area.span c.args.self.now.areas) Full
     (Err c.refused-then-self-ge-MOST_AREAS.result) cause
@@ -220,14 +227,16 @@ returns-then-self-ge-MOST_AREAS-clause-err_room g c = le_refl c.args.self.now.ro
 pub returns-then-is_err-clause-refused : goal.returns-then-is_err-clause-refused
 returns-then-is_err-clause-refused g c =
     let cause = has_place c.args.area.span c.args.self.now c.self.inside.rows.items c.deref-2.result.now
-    c.self.inside.count (room_of c.self.inside.spare) c.self.view_is c.deref-2.ensures.value
+    c.self.inside.count (room_of c.self.inside.spare) c.self.inside.leaving (length c.self.inside.rows.items)
+    c.self.view_is c.deref-2.ensures.value
     c.if-meets_behind.ensures c.self.invariant.0.counted c.if-self-ge-MOST_AREAS.false in
     not_refused (insert_refusal c.args.area.span c.args.self.now.areas) (Err (Memory (record {}))) cause
 
 pub returns-then-is_err-clause-taken : goal.returns-then-is_err-clause-taken
 returns-then-is_err-clause-taken g c =
     let cause = has_place c.args.area.span c.args.self.now c.self.inside.rows.items c.deref-2.result.now
-    c.self.inside.count (room_of c.self.inside.spare) c.self.view_is c.deref-2.ensures.value
+    c.self.inside.count (room_of c.self.inside.spare) c.self.inside.leaving (length c.self.inside.rows.items)
+    c.self.view_is c.deref-2.ensures.value
     c.if-meets_behind.ensures c.self.invariant.0.counted c.if-self-ge-MOST_AREAS.false in
     taken_as (insert_refusal c.args.area.span c.args.self.now.areas) (Err (Memory (record {}))) cause refl
 
@@ -262,14 +271,16 @@ add-requires-clause-room g c = λ takes.
 pub returns-clause-refused : goal.returns-clause-refused
 returns-clause-refused g c =
     let cause = has_place c.args.area.span c.args.self.now c.self.inside.rows.items c.deref-2.result.now
-    c.self.inside.count (room_of c.self.inside.spare) c.self.view_is c.deref-2.ensures.value
+    c.self.inside.count (room_of c.self.inside.spare) c.self.inside.leaving (length c.self.inside.rows.items)
+    c.self.view_is c.deref-2.ensures.value
     c.if-meets_behind.ensures c.self.invariant.0.counted c.if-self-ge-MOST_AREAS.false in
     not_refused (insert_refusal c.args.area.span c.args.self.now.areas) (Ok tt) cause
 
 pub returns-clause-taken : goal.returns-clause-taken
 returns-clause-taken g c =
     let cause = has_place c.args.area.span c.args.self.now c.self.inside.rows.items c.deref-2.result.now
-    c.self.inside.count (room_of c.self.inside.spare) c.self.view_is c.deref-2.ensures.value
+    c.self.inside.count (room_of c.self.inside.spare) c.self.inside.leaving (length c.self.inside.rows.items)
+    c.self.view_is c.deref-2.ensures.value
     c.if-meets_behind.ensures c.self.invariant.0.counted c.if-self-ge-MOST_AREAS.false in
     taken_as (insert_refusal c.args.area.span c.args.self.now.areas) (Ok tt) cause tt
 
@@ -286,3 +297,25 @@ returns-clause-room g c =
 
 pub returns-clause-err_room : goal.returns-clause-err_room
 returns-clause-err_room g c = tt
+
+pub returns-clause-leaving : goal.returns-clause-leaving
+returns-clause-leaving g c = (invariant_of-self-2 g c).0.leave
+
+pub returns-clause-rows : goal.returns-clause-rows
+returns-clause-rows g c = few_rows c.add.new.rows.items (invariant_of-self-2 g c).0.joined
+
+pub add-requires-clause-joined : goal.add-requires-clause-joined
+add-requires-clause-joined g c = rw c.prepare.ensures.rows c.self.invariant.0.joined
+
+pub returns-then-meets_behind-clause-rows : goal.returns-then-meets_behind-clause-rows
+returns-then-meets_behind-clause-rows g c =
+    let Few : AreaTable → Type 0 = λ v. 17 * v.rows ≤ 2 * length v.areas + 17 in
+    subst Few c.self.view_is (few_rows c.self.inside.rows.items c.self.invariant.0.joined)
+
+pub returns-then-self-ge-MOST_AREAS-clause-rows : goal.returns-then-self-ge-MOST_AREAS-clause-rows
+returns-then-self-ge-MOST_AREAS-clause-rows g c =
+    let Few : AreaTable → Type 0 = λ v. 17 * v.rows ≤ 2 * length v.areas + 17 in
+    subst Few c.self.view_is (few_rows c.self.inside.rows.items c.self.invariant.0.joined)
+
+pub returns-then-is_err-clause-rows : goal.returns-then-is_err-clause-rows
+returns-then-is_err-clause-rows g c = few_rows c.prepare.new.rows.items (invariant_of-self g c).0.joined

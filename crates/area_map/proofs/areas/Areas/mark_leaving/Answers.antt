@@ -1,12 +1,14 @@
-use Rattle.std.proofs.Common.{List, refl, ap, arith}
+use Rattle.std.proofs.Common.{List, fold, map, refl, ap, arith}
 use Rattle.iofd_words.specs.declared.rows.Area.{Area}
-use Rattle.area_map_rows.specs.Areas.{marked}
+use Rattle.area_map_rows.specs.Areas.{areas_within, marked}
 use Rattle.area_map_rows.specs.Rows.{in_rows}
-use Rattle.area_map.specs.Kept.{joined}
-use Rattle.area_map.proofs.Hull.{leave-marked}
+use Rattle.area_map.specs.Kept.{with_leaving}
+use Rattle.area_map.proofs.Hull.{span_marked}
+use Rattle.area_map_rows.proofs.Kept.{kept-map}
 use Rattle.area_map_rows.proofs.Rows.{in_rows-map_map}
+use Rattle.area_map.proofs.Joined.{few_rows}
 use Rattle.area_map.proofs.RowsInBlocks.{blocks_mapped}
-use Rattle.area_map.proofs.RowsKept.{rows_mapped, mapped_back}
+use Rattle.area_map.proofs.RowsKept.{AreRows-map, rows_mapped, mapped_back}
 use Rattle.area_map.proofs.areas.Areas.mark_leaving.Goals as goal
 
 pub invariant_of-self : goal.invariant_of-self
@@ -15,11 +17,11 @@ invariant_of-self g c =
     let rows : List (List Area) = c.self.inside.rows.items in
     let written = mapped_back f rows c.change.new.rows c.self.inside.rows.len
     (rw (c.deref_mut.ensures.value, c.copied.ensures) at c.change.ensures) (omega arith) in (
-      rw (written, c.joined-self-inside.ensures)
+      rw (written, c.with_areas-self-inside.ensures, c.within.ensures, c.deref.ensures.value, written)
           (rows_mapped f (λ a. refl) rows c.self.inside.count c.self.inside.leaving
-          (joined c.self.inside.leaving c.args.span) c.self.invariant.0
-          (leave-marked c.self.inside.leaving c.args.span c.args.owed.now (in_rows rows)
-          c.self.invariant.0.leave)),
+          (fold with_leaving c.self.inside.leaving (areas_within c.args.span (in_rows (map (map f) rows))))
+          c.self.invariant.0 (rw (in_rows-map_map f rows) (span_marked c.args.span c.args.owed.now
+          c.self.inside.leaving (in_rows rows) c.self.invariant.0.leave))),
       c.self.invariant.1,
       rw written (blocks_mapped f (λ a. refl) c.self.inside.blocks rows c.self.invariant.2),
       c.self.invariant.3,
@@ -41,3 +43,26 @@ change-requires-clause-rows g c = rw c.deref_mut.ensures.value c.self.invariant.
 
 pub returns-clause-room : goal.returns-clause-room
 returns-clause-room g c = ap (λ table. table.room) c.self.view_is
+
+pub within-requires-clause-apart : goal.within-requires-clause-apart
+within-requires-clause-apart g c =
+    let f = marked c.args.span c.args.owed.now in
+    let rows : List (List Area) = c.self.inside.rows.items in
+    let written = mapped_back f rows c.change.new.rows c.self.inside.rows.len
+    (rw (c.deref_mut.ensures.value, c.copied.ensures) at c.change.ensures) (omega arith) in
+    rw (c.deref.ensures.value, written, in_rows-map_map f rows)
+    (kept-map f (λ a. refl) (in_rows rows) c.self.invariant.0.kept).apart
+
+pub within-requires-clause-rows : goal.within-requires-clause-rows
+within-requires-clause-rows g c =
+    let f = marked c.args.span c.args.owed.now in
+    let rows : List (List Area) = c.self.inside.rows.items in
+    let written = mapped_back f rows c.change.new.rows c.self.inside.rows.len
+    (rw (c.deref_mut.ensures.value, c.copied.ensures) at c.change.ensures) (omega arith) in
+    rw (c.deref.ensures.value, written) (AreRows-map f rows c.self.invariant.0.each)
+
+pub returns-clause-leaving : goal.returns-clause-leaving
+returns-clause-leaving g c = (invariant_of-self g c).0.leave
+
+pub returns-clause-rows : goal.returns-clause-rows
+returns-clause-rows g c = few_rows _ (invariant_of-self g c).0.joined

@@ -1,4 +1,4 @@
-use Rattle.std.proofs.Common.{refl, ap}
+use Rattle.std.proofs.Common.{length, refl, ap}
 use Rattle.std.proofs.lemmas.Result.{on_ok_weaker, on_err_weaker}
 use Rattle.area_map_rows.specs.Rows.{in_rows}
 use Rattle.area_map.specs.Kept.{room_of}
@@ -40,5 +40,7 @@ returns-clause-room g c =
 pub returns-clause-unchanged : goal.returns-clause-unchanged
 returns-clause-unchanged g c =
     rw (← c.self.view_is) (table-same c.reserve.result (in_rows c.self.inside.rows.items)
-    (in_rows c.reserve.new.rows.items) c.self.inside.spare c.reserve.new.spare (ap in_rows c.reserve.ensures.rows)
+    (in_rows c.reserve.new.rows.items) c.self.inside.spare c.reserve.new.spare c.self.inside.leaving (length
+    c.reserve.new.rows.items)
+    (length c.self.inside.rows.items) (ap in_rows c.reserve.ensures.rows) (ap length c.reserve.ensures.rows)
     c.reserve.ensures.err c.reserve.ensures.unchanged)

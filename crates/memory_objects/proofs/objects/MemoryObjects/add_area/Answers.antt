@@ -1,9 +1,11 @@
-use Rattle.std.proofs.Common.{◌∙◌, ◌+◌, ◌<◌, ◌^◌, IfSome, List, length, ap, sym, subst, arith}
+use Rattle.std.proofs.Common.{◌∙◌, ◌+◌, ◌<◌, ◌^◌, IfSome, List, length, vec_len, ap, sym, subst, arith}
+use Rattle.std.specs.List.{list_all}
 use Rattle.std.proofs.lemmas.List.{length-map}
 use Rattle.memory_objects.specs.Invariant.{MemoryInvariant}
-use Rattle.memory_objects.specs.Objects.{MemoryEntry, ObjectTable, object_at, standing, with_area}
+use Rattle.memory_objects.specs.Objects.{MemoryEntry, ObjectTable, is_freed, object_at, standing, with_area}
 use Rattle.memory_objects.proofs.AreaCounts.{more_at}
 use Rattle.memory_objects.proofs.PinsStay.{rows_with_area, same_with_area}
+use Rattle.memory_objects.proofs.Gone.{gone_are_few}
 use Rattle.memory_objects.proofs.Invariants.{kept_with_area}
 use Rattle.memory_objects.proofs.objects.MemoryObjects.add_area.Goals as goal
 
@@ -15,9 +17,15 @@ invariant_of-self g c =
     record {
       rising = c.add_area.ensures.rising;
       count = omega (arith, same, c.add_area.ensures.len, c.self.invariant.count);
+      few = omega (arith, c.add_area.ensures.len, c.self.invariant.few);
+      freed = ap (list_all is_freed) c.add_area.ensures.gone ∙ c.self.invariant.freed;
       kept = subst M (sym c.add_area.ensures.entries)
           (kept_with_area c.args.number (standing c.self.inside.entries.items) c.self.invariant.kept);
     }
+
+pub returns-clause-gone : goal.returns-clause-gone
+returns-clause-gone g c = gone_are_few c.add_area.new.entries.items (vec_len c.add_area.new.entries)
+    c.self.inside.gone c.add_area.new.entries.ok.0 (invariant_of-self g c)
 
 pub returns-clause-invariant : goal.returns-clause-invariant
 returns-clause-invariant g c = (invariant_of-self g c).kept

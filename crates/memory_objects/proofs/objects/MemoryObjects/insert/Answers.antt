@@ -1,7 +1,9 @@
-use Rattle.std.proofs.Common.{◌≡◌, ◌∙◌, ◌++◌, ◌∷◌, [], List, true, length, refl, ap, sym, subst, arith}
+use Rattle.std.proofs.Common.{◌≡◌, ◌∙◌, ◌++◌, ◌∷◌, [], List, true, length, vec_len, refl, ap, sym, subst, arith}
+use Rattle.std.specs.List.{list_all}
 use Rattle.std.proofs.lemmas.List.{length-append}
 use Rattle.memory_objects.specs.Invariant.{MemoryInvariant}
-use Rattle.memory_objects.specs.Objects.{MemoryEntry, ObjectTable, are_rising, standing}
+use Rattle.memory_objects.specs.Objects.{MemoryEntry, ObjectTable, are_rising, gone_among, is_freed, standing}
+use Rattle.memory_objects.proofs.Gone.{gone_are_few, gone_push}
 use Rattle.memory_objects.proofs.Invariants.{kept_appended, rising_appended}
 use Rattle.memory_objects.proofs.PinsStay.{frames_appended}
 use Rattle.memory_objects.proofs.Standing.{standing_push}
@@ -21,6 +23,9 @@ invariant_of-self g c =
       rising = subst R (sym c.push_reserved.ensures.items)
           (rising_appended before object c.make_way-self-inside.ensures.rising c.make_way-self-inside.ensures.below);
       count = omega (arith, more, c.push_reserved.ensures.len, c.make_way-self-inside.ensures.gone);
+      few = omega (arith, c.push_reserved.ensures.len, c.make_way-self-inside.ensures.few);
+      freed = ap (list_all is_freed) (ap gone_among c.push_reserved.ensures.items ∙ gone_push before object refl)
+          ∙ c.make_way-self-inside.ensures.freed;
       kept = subst M (sym is) (kept_appended (standing c.self.inside.entries.items) object c.self.invariant.kept
           (rw (← c.self.view_is) at c.requires.rises) refl c.requires.pins c.requires.unpinned);
     }
@@ -33,6 +38,16 @@ returns-clause-frames g c =
     ∙ ap (λ os. os ++ object ∷ []) c.make_way-self-inside.ensures.entries in
     λ n index. rw (is, ← c.self.view_is) (frames_appended (standing c.self.inside.entries.items) object
     (rw (← c.self.view_is) at c.requires.rises) n index)
+
+pub returns-clause-gone : goal.returns-clause-gone
+returns-clause-gone g c = gone_are_few c.push_reserved.new.self.items (vec_len c.push_reserved.new.self)
+    c.make_way-self-inside.result c.push_reserved.new.self.ok.0 (invariant_of-self g c)
+
+pub make_way-self-inside-requires-clause-few : goal.make_way-self-inside-requires-clause-few
+make_way-self-inside-requires-clause-few g c = c.self.invariant.few
+
+pub make_way-self-inside-requires-clause-freed : goal.make_way-self-inside-requires-clause-freed
+make_way-self-inside-requires-clause-freed g c = c.self.invariant.freed
 
 pub returns-clause-invariant : goal.returns-clause-invariant
 returns-clause-invariant g c = (invariant_of-self g c).kept

@@ -1,10 +1,12 @@
 use Rattle.memory_objects.proofs.FramesSeen.{frames_pinned, rows_pinned}
-use Rattle.std.proofs.Common.{◌∙◌, List, length, refl, sym, ap, subst, arith}
+use Rattle.std.proofs.Common.{◌∙◌, List, length, vec_len, refl, sym, ap, subst, arith}
+use Rattle.std.specs.List.{list_all}
 use Rattle.std.proofs.lemmas.List.{length-map}
 use Rattle.memory_objects.specs.Backed.{AccountsMove, AreBacked, CanPin, HoldsMove}
-use Rattle.memory_objects.specs.Objects.{MemoryEntry, ObjectTable, all_pinned, pinned_more, standing, times_of}
-use Rattle.memory_objects.specs.Objects.{with_pages}
+use Rattle.memory_objects.specs.Objects.{MemoryEntry, ObjectTable, all_pinned, is_freed, pinned_more}
+use Rattle.memory_objects.specs.Objects.{standing, times_of, with_pages}
 use Rattle.memory_objects.specs.Invariant.{MemoryInvariant}
+use Rattle.memory_objects.proofs.Gone.{gone_are_few}
 use Rattle.memory_objects.proofs.Invariants.{kept_pinned}
 use Rattle.memory_objects.proofs.Unpinned.{backed_moved}
 use Rattle.memory_objects.proofs.objects.MemoryObjects.pin_by_table.Goals as goal
@@ -19,10 +21,16 @@ invariant_of-self g c =
     record {
       rising = c.pin_all.ensures.rising;
       count = omega (arith, same, c.pin_all.ensures.len, c.self.invariant.count);
+      few = omega (arith, c.pin_all.ensures.len, c.self.invariant.few);
+      freed = ap (list_all is_freed) c.pin_all.ensures.gone ∙ c.self.invariant.freed;
       kept = subst M (sym c.pin_all.ensures.entries)
           (kept_pinned c.args.users.now.pages c.args.numbers.now old c.self.invariant.kept
           (rw (← c.self.view_is) at c.requires.areas));
     }
+
+pub returns-clause-gone : goal.returns-clause-gone
+returns-clause-gone g c = gone_are_few c.pin_all.new.entries.items (vec_len c.pin_all.new.entries)
+    c.self.inside.gone c.pin_all.new.entries.ok.0 (invariant_of-self g c)
 
 pub returns-clause-invariant : goal.returns-clause-invariant
 returns-clause-invariant g c = (invariant_of-self g c).kept

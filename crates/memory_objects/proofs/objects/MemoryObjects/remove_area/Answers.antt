@@ -1,6 +1,7 @@
-use Rattle.std.proofs.Common.{List, [], ◌∷◌, ap, sym, subst, arith}
+use Rattle.std.proofs.Common.{List, [], ◌∷◌, vec_len, ap, sym, subst, arith}
 use Rattle.memory_objects.specs.Invariant.{MemoryInvariant}
 use Rattle.memory_objects.specs.Objects.{MemoryEntry, ObjectTable, standing}
+use Rattle.memory_objects.proofs.Gone.{gone_are_few}
 use Rattle.memory_objects.proofs.Invariants.{kept_without}
 use Rattle.memory_objects.proofs.PinsStay.{same_without}
 use Rattle.memory_objects.proofs.objects.MemoryObjects.remove_area.Goals as goal
@@ -11,10 +12,17 @@ invariant_of-self g c =
     record {
       rising = c.remove_area-self-inside.ensures.rising;
       count = c.remove_area-self-inside.ensures.gone;
+      few = c.remove_area-self-inside.ensures.few;
+      freed = c.remove_area-self-inside.ensures.freed;
       kept = subst M (sym c.remove_area-self-inside.ensures.entries)
           (kept_without (c.args.number ∷ []) (standing c.self.inside.entries.items) c.self.invariant.kept
           (rw (← c.self.view_is) at c.requires));
     }
+
+pub returns-clause-gone : goal.returns-clause-gone
+returns-clause-gone g c = gone_are_few c.remove_area-self-inside.new.entries.items
+    (vec_len c.remove_area-self-inside.new.entries) c.remove_area-self-inside.result
+    c.remove_area-self-inside.new.entries.ok.0 (invariant_of-self g c)
 
 pub returns-clause-invariant : goal.returns-clause-invariant
 returns-clause-invariant g c = (invariant_of-self g c).kept

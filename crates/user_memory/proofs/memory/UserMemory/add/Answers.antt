@@ -16,6 +16,7 @@ use Rattle.user_memory.specs.Memory.{IsBacked, Memory}
 use Rattle.user_memory.proofs.Added.{add_object, add_settles, add_tell, added_is, charged_limits, may_pin, rises_told}
 use Rattle.user_memory.proofs.Settled.{memory_of}
 use Rattle.user_memory.proofs.Users.{limits_of, user_known}
+use Rattle.user_memory.proofs.Rooms.{backed_without, object_with, settles_with, with_room}
 use Rattle.user_memory.proofs.memory.UserMemory.add.Goals as goal
 
 pub object_pages-requires-clause-may : goal.object_pages-requires-clause-may
@@ -29,7 +30,8 @@ object_pages-requires-clause-may g c = λ pinned.
     may_pin c.self.inside.users.pages c.self.inside.accounts c.self.inside.objects.objects c.self.invariant
     c.args.pool.now.holds row c.requires.end
     (subst Present is (c.requires.present pinned)) (subst Room is (c.requires.room pinned))
-    (subst Backed is c.requires.backed)
+    (backed_without c.self.inside.users.room (memory_of c.self.inside.users.pages (limits_of c.self.inside.accounts)
+    c.self.inside.objects.objects) c.args.pool.now.holds (subst Backed is c.requires.backed))
     (omega (arith, c.len.ensures, c.len.type_inv))
     (omega (arith, c.len-2.ensures, c.len-2.type_inv, ap length c.reserve.ensures.objects))
 
@@ -79,11 +81,13 @@ returns-clause-object g c =
     let after = limits_of c.object_pages.new.accounts in
     let N : List MemoryEntry → Type 0 = λ xs. HasObject (cond c.args.pinned 1 0) row
     (memory_of rows (limits_of accounts) old) (memory_of rows after xs) in
-    let V : Memory → Type 0 =
-    λ m. HasObject (cond c.args.pinned 1 0) row m (memory_of rows after c.insert.new.self.objects) in
-    subst V c.self.view_is (subst N (sym is)
+    let room = c.self.inside.users.room in
+    let made = memory_of rows after c.insert.new.self.objects in
+    let V : Memory → Type 0 = λ m. HasObject (cond c.args.pinned 1 0) row m (with_room room made) in
+    subst V c.self.view_is (object_with room room (memory_of rows (limits_of accounts) old) made
+    (cond c.args.pinned 1 0) row (subst N (sym is)
     (add_object rows accounts old c.self.invariant row c.args.pinned c.in_ok-pages.pages.capacity present below
-    (limits_of accounts) after))
+    (limits_of accounts) after)))
 
 pub returns-clause-settles : goal.returns-clause-settles
 returns-clause-settles g c =
@@ -107,9 +111,11 @@ returns-clause-settles g c =
     let I : List MemoryEntry → Type 0 = λ xs. MemoryInvariant xs in
     let N : List MemoryEntry → Type 0 = λ xs. Settles (memory_of rows (limits_of accounts) old)
     (memory_of rows after xs) c.args.pool.now c.object_pages.new.pool in
-    let V : Memory → Type 0 =
-    λ m. Settles m (memory_of rows after c.insert.new.self.objects) c.args.pool.now c.object_pages.new.pool in
+    let room = c.self.inside.users.room in
+    let made = memory_of rows after c.insert.new.self.objects in
+    let V : Memory → Type 0 = λ m. Settles m (with_room room made) c.args.pool.now c.object_pages.new.pool in
     subst V c.self.view_is
+    (settles_with room room (memory_of rows (limits_of accounts) old) made c.args.pool.now c.object_pages.new.pool
     (subst N (sym is) (add_settles rows accounts old c.self.invariant row c.args.pinned c.in_ok-pages.pages.capacity
     present below after c.args.pool.now c.object_pages.new.pool same c.in_ok-pages.ensures.pool
-    (subst I is c.insert.ensures.invariant)))
+    (subst I is c.insert.ensures.invariant))))

@@ -14,6 +14,7 @@ use Rattle.user_memory.proofs.Pinned.{grown_pass, grown_same, grown_tell, grown_
 use Rattle.user_memory.proofs.Pinned.{pin_more_pins, pin_settles, pinnable, ready_old}
 use Rattle.user_memory.proofs.Settled.{memory_of}
 use Rattle.user_memory.proofs.Users.{limits_of, limits_stay}
+use Rattle.user_memory.proofs.Rooms.{backed_without, pins_with, same_with, settles_with, with_room}
 use Rattle.user_memory.proofs.memory.UserMemory.pin.Goals as goal
 
 pub invariant_of-self : goal.invariant_of-self
@@ -27,10 +28,13 @@ returns-in_err-reserve_frames-clause-err g c =
     let rows = c.self.inside.users.pages in
     let limits = limits_of c.self.inside.accounts in
     let grown = c.reserve_frames.new.self.objects in
-    let V : Memory → Type 0 = λ m. SameObjects m (memory_of rows limits grown) in
-    after_error c.from_residual.result (SameObjects c.args.self.now (memory_of rows limits grown))
-    (subst V c.self.view_is (grown_same rows limits c.self.inside.objects.objects grown c.reserve_frames.ensures.objects
-    c.reserve_frames.ensures.rows c.reserve_frames.ensures.pins c.reserve_frames.ensures.invariant))
+    let room = c.self.inside.users.room in
+    let after = memory_of rows limits grown in
+    let V : Memory → Type 0 = λ m. SameObjects m (with_room room after) in
+    after_error c.from_residual.result (SameObjects c.args.self.now (with_room room after))
+    (subst V c.self.view_is (same_with room room (memory_of rows limits c.self.inside.objects.objects) after
+    (grown_same rows limits c.self.inside.objects.objects grown c.reserve_frames.ensures.objects
+    c.reserve_frames.ensures.rows c.reserve_frames.ensures.pins c.reserve_frames.ensures.invariant)))
 
 pub pin_by_table-requires : goal.pin_by_table-requires
 pin_by_table-requires g c =
@@ -47,7 +51,8 @@ pin_by_table-requires g c =
     c.reserve_frames.new.self.objects user c.args.pool.now.holds
     c.reserve_frames.ensures.objects c.reserve_frames.ensures.invariant c.in_ok-reserve_frames.ensures.ok
     (subst Own is c.requires.own) (subst Present is c.requires.present) (subst Room is c.requires.room)
-    (subst Backed is c.requires.backed)
+    (backed_without c.self.inside.users.room (memory_of c.self.inside.users.pages (limits_of accounts)
+    c.self.inside.objects.objects) c.args.pool.now.holds (subst Backed is c.requires.backed))
     (omega (arith, c.len.ensures, c.len.type_inv)) (omega (arith, c.len-2.ensures, c.len-2.type_inv)) in
     pin_allowed c.self.inside.users.pages accounts c.self.inside.objects.objects c.self.invariant ns
     c.reserve_frames.new.self.objects c.args.pool.now.holds c.reserve_frames.ensures.objects may
@@ -99,11 +104,13 @@ returns-clause-pins g c =
     let Areas : Memory → Type 0 = λ m. (k : ℕ) → table_pins m k + times_of k ns ≤ areas_over m k in
     let N : List MemoryEntry → Type 0 =
     λ xs. HasPins (λ n. times_of n ns) (memory_of rows limits old) (memory_of rows after xs) in
-    let V : Memory → Type 0 =
-    λ m. HasPins (λ n. times_of n ns) m (memory_of rows after c.pin_by_table.new.self.objects) in
-    subst V c.self.view_is (subst N (sym c.pin_by_table.ensures.objects)
+    let room = c.self.inside.users.room in
+    let made = memory_of rows after c.pin_by_table.new.self.objects in
+    let V : Memory → Type 0 = λ m. HasPins (λ n. times_of n ns) m (with_room room made) in
+    subst V c.self.view_is (pins_with room room (memory_of rows limits old) made (λ n. times_of n ns) (subst N (sym
+    c.pin_by_table.ensures.objects)
     (pin_more_pins rows limits after old grown grows told ns ready c.reserve_frames.ensures.rows
-    (subst Areas (sym c.self.view_is) c.requires.areas)))
+    (subst Areas (sym c.self.view_is) c.requires.areas))))
 
 pub returns-clause-settles : goal.returns-clause-settles
 returns-clause-settles g c =
@@ -124,11 +131,19 @@ returns-clause-settles g c =
     let I : List MemoryEntry → Type 0 = λ xs. MemoryInvariant xs in
     let N : List MemoryEntry → Type 0 =
     λ xs. Settles (memory_of rows limits old) (memory_of rows after xs) c.args.pool.now c.pin_by_table.new.pool in
-    let V : Memory → Type 0 =
-    λ m. Settles m (memory_of rows after c.pin_by_table.new.self.objects) c.args.pool.now c.pin_by_table.new.pool in
+    let room = c.self.inside.users.room in
+    let made = memory_of rows after c.pin_by_table.new.self.objects in
+    let V : Memory → Type 0 = λ m. Settles m (with_room room made) c.args.pool.now c.pin_by_table.new.pool in
     let same_limits = limits_stay accounts c.pin_by_table.new.accounts c.pin_by_table.ensures.accounts.count
     c.pin_by_table.ensures.accounts.limits in
     subst V c.self.view_is
+    (settles_with room room (memory_of rows limits old) made c.args.pool.now c.pin_by_table.new.pool
     (subst N (sym is) (pin_settles rows limits after old grown grows told ns ready c.args.pool.now
     c.pin_by_table.new.pool same_limits c.self.invariant.told.memory c.reserve_frames.ensures.pins
-    (subst H is c.pin_by_table.ensures.pool) (subst I is c.pin_by_table.ensures.invariant)))
+    (subst H is c.pin_by_table.ensures.pool) (subst I is c.pin_by_table.ensures.invariant))))
+
+pub returns-in_err-reserve_frames-clause-memory : goal.returns-in_err-reserve_frames-clause-memory
+returns-in_err-reserve_frames-clause-memory g c =
+    let V : Memory → Type 0 = λ m. list_all (memory.has_memory m) c.args.numbers.now ≡ false in
+    after_error c.from_residual.result (list_all (memory.has_memory c.args.self.now) c.args.numbers.now ≡ false)
+    (subst V c.self.view_is c.in_err-reserve_frames.ensures.err)

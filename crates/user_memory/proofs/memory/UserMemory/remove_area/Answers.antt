@@ -8,6 +8,7 @@ use Rattle.user_memory.proofs.Moves.{accounts_stay, areas_there, has_user}
 use Rattle.user_memory.proofs.Removed.{remove_less, remove_steps, tests_stay}
 use Rattle.user_memory.proofs.Settled.{StepOf, memory_of, settle}
 use Rattle.user_memory.proofs.Users.{limits_of}
+use Rattle.user_memory.proofs.Rooms.{less_with, settles_with, with_room}
 use Rattle.user_memory.proofs.memory.UserMemory.remove_area.Goals as goal
 
 pub remove_area-requires : goal.remove_area-requires
@@ -40,9 +41,12 @@ returns-clause-less g c =
     let P : Memory → Type 0 = λ m. table_pins m n + 1 ≤ areas_over m n in
     let N : List MemoryEntry → Type 0 =
     λ xs. HasLess (once n) never (memory_of rows limits old) (memory_of rows limits xs) in
-    let V : Memory → Type 0 = λ m. HasLess (once n) never m (memory_of rows limits c.remove_area.new.self.objects) in
-    subst V c.self.view_is (subst N (sym c.remove_area.ensures.objects)
-    (remove_less rows old c.self.invariant.told n (subst P (sym c.self.view_is) c.requires) limits limits))
+    let room = c.self.inside.users.room in
+    let made = memory_of rows limits c.remove_area.new.self.objects in
+    let V : Memory → Type 0 = λ m. HasLess (once n) never m (with_room room made) in
+    subst V c.self.view_is (less_with room room (memory_of rows limits old) made (once n) never (subst N (sym
+    c.remove_area.ensures.objects)
+    (remove_less rows old c.self.invariant.told n (subst P (sym c.self.view_is) c.requires) limits limits)))
 
 pub returns-clause-settles : goal.returns-clause-settles
 returns-clause-settles g c = λ pool.
@@ -53,10 +57,13 @@ returns-clause-settles g c = λ pool.
     let n = c.args.number in
     let P : Memory → Type 0 = λ m. table_pins m n + 1 ≤ areas_over m n in
     let S : List MemoryEntry → Type 0 = λ xs. (k i : ℕ) → StepOf rows (object_at old k) (object_at xs k) i in
-    let V : Memory → Type 0 = λ m. Settles m (memory_of rows limits new) pool pool in
+    let room = c.self.inside.users.room in
+    let made = memory_of rows limits new in
+    let V : Memory → Type 0 = λ m. Settles m (with_room room made) pool pool in
     subst V c.self.view_is
-    (settle rows limits limits old new pool pool refl c.self.invariant.told.memory.rising
+    (settles_with room room (memory_of rows limits old) made pool pool (settle rows limits limits old new pool pool
+    refl c.self.invariant.told.memory.rising
     (subst S (sym c.remove_area.ensures.objects)
     (remove_steps rows old c.self.invariant.told n (subst P (sym c.self.view_is) c.requires)))
     refl (λ frame. ap (λ k. get_or pool.holds frame 0 + k) (sym (c.remove_area.ensures.pins.pins frame))) refl
-    c.remove_area.ensures.invariant)
+    c.remove_area.ensures.invariant))

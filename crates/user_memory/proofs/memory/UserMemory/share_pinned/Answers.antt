@@ -15,6 +15,7 @@ use Rattle.user_memory.proofs.Settled.{memory_of}
 use Rattle.user_memory.proofs.Shared.{one_lacks, one_new, pinned_more, pinned_settles, room_there, shared_allowed}
 use Rattle.user_memory.proofs.Shared.{shared_pass, shared_tell, shared_told}
 use Rattle.user_memory.proofs.Users.{limits_of, limits_stay}
+use Rattle.user_memory.proofs.Rooms.{backed_without, lacks_one, same_with, settles_with, share_with, with_room}
 use Rattle.user_memory.proofs.memory.UserMemory.share_pinned.Goals as goal
 
 pub invariant_of-self : goal.invariant_of-self
@@ -28,10 +29,13 @@ returns-in_err-reserve_frames-clause-err g c =
     let rows = c.self.inside.users.pages in
     let limits = limits_of c.self.inside.accounts in
     let grown = c.reserve_frames.new.self.objects in
-    let V : Memory → Type 0 = λ m. SameObjects m (memory_of rows limits grown) in
-    after_error c.from_residual.result (SameObjects c.args.self.now (memory_of rows limits grown))
-    (subst V c.self.view_is (grown_same rows limits c.self.inside.objects.objects grown c.reserve_frames.ensures.objects
-    c.reserve_frames.ensures.rows c.reserve_frames.ensures.pins c.reserve_frames.ensures.invariant))
+    let room = c.self.inside.users.room in
+    let after = memory_of rows limits grown in
+    let V : Memory → Type 0 = λ m. SameObjects m (with_room room after) in
+    after_error c.from_residual.result (SameObjects c.args.self.now (with_room room after))
+    (subst V c.self.view_is (same_with room room (memory_of rows limits c.self.inside.objects.objects) after
+    (grown_same rows limits c.self.inside.objects.objects grown c.reserve_frames.ensures.objects
+    c.reserve_frames.ensures.rows c.reserve_frames.ensures.pins c.reserve_frames.ensures.invariant)))
 
 pub add_area-requires : goal.add_area-requires
 add_area-requires g c =
@@ -66,7 +70,7 @@ pin_by_table-requires g c =
     let may = pinnable rows accounts old c.self.invariant (n ∷ []) grown user c.args.pool.now.holds grows
     c.reserve_frames.ensures.invariant c.in_ok-reserve_frames.ensures.ok
     (subst Own back c.requires.own) (one_lacks m n (subst Present back c.requires.present)) room
-    (subst Backed back c.requires.backed)
+    (backed_without c.self.inside.users.room m c.args.pool.now.holds (subst Backed back c.requires.backed))
     (omega (arith, c.len.ensures, c.len.type_inv)) (omega (arith, c.len-2.ensures, c.len-2.type_inv)) in
     shared_allowed n grown new is rows c.args.pool.now.holds accounts c.reserve_frames.ensures.invariant may
 
@@ -128,11 +132,14 @@ returns-clause-share g c =
     c.reserve_frames.ensures.invariant) c.add_area.ensures.invariant in
     let There : Memory → Type 0 = λ m. 1 ≤ areas_over m n in
     let N : List MemoryEntry → Type 0 = λ xs. HasShare 1 n (memory_of rows limits old) (memory_of rows after xs) in
-    let V : Memory → Type 0 = λ m. HasShare 1 n m (memory_of rows after c.pin_by_table.new.self.objects) in
-    subst V c.self.view_is (subst N (sym c.pin_by_table.ensures.objects)
+    let room = c.self.inside.users.room in
+    let shared = memory_of rows after c.pin_by_table.new.self.objects in
+    let V : Memory → Type 0 = λ m. HasShare 1 n m (with_room room shared) in
+    subst V c.self.view_is (share_with room room (memory_of rows limits old) shared 1 n
+    (subst N (sym c.pin_by_table.ensures.objects)
     (pinned_more rows limits after n old grown new grows is told ready c.reserve_frames.ensures.rows
     c.add_area.ensures.rows (subst There (sym c.self.view_is) c.requires.there)
-    c.reserve_frames.ensures.invariant))
+    c.reserve_frames.ensures.invariant)))
 
 pub returns-clause-settles : goal.returns-clause-settles
 returns-clause-settles g c =
@@ -158,12 +165,21 @@ returns-clause-settles g c =
     let I : List MemoryEntry → Type 0 = λ xs. MemoryInvariant xs in
     let N : List MemoryEntry → Type 0 =
     λ xs. Settles (memory_of rows limits old) (memory_of rows after xs) c.args.pool.now c.pin_by_table.new.pool in
-    let V : Memory → Type 0 =
-    λ m. Settles m (memory_of rows after c.pin_by_table.new.self.objects) c.args.pool.now c.pin_by_table.new.pool in
+    let room = c.self.inside.users.room in
+    let shared = memory_of rows after c.pin_by_table.new.self.objects in
+    let V : Memory → Type 0 = λ m. Settles m (with_room room shared) c.args.pool.now c.pin_by_table.new.pool in
     let same_limits = limits_stay accounts c.pin_by_table.new.accounts c.pin_by_table.ensures.accounts.count
     c.pin_by_table.ensures.accounts.limits in
     subst V c.self.view_is
+    (settles_with room room (memory_of rows limits old) shared c.args.pool.now c.pin_by_table.new.pool
     (subst N (sym made) (pinned_settles rows limits after n old grown new grows is told ready c.args.pool.now
     c.pin_by_table.new.pool same_limits c.self.invariant.told.memory c.reserve_frames.ensures.pins
     c.add_area.ensures.pins (subst H made c.pin_by_table.ensures.pool)
-    (subst I made c.pin_by_table.ensures.invariant)))
+    (subst I made c.pin_by_table.ensures.invariant))))
+
+pub returns-in_err-reserve_frames-clause-lacking : goal.returns-in_err-reserve_frames-clause-lacking
+returns-in_err-reserve_frames-clause-lacking g c =
+    let V : Memory → Type 0 = λ m. memory.has_memory m c.args.number ≡ false in
+    after_error c.from_residual.result (memory.has_memory c.args.self.now c.args.number ≡ false)
+    (subst V c.self.view_is (lacks_one c.self.inside.objects.objects c.args.number
+    c.in_err-reserve_frames.ensures.err))

@@ -8,6 +8,7 @@ use Rattle.user_memory.proofs.Moves.{accounts_moved, all_mapped, has_user, pins_
 use Rattle.user_memory.proofs.Moves.{unpin_steps}
 use Rattle.user_memory.proofs.Settled.{StepOf, memory_of, settle}
 use Rattle.user_memory.proofs.Users.{limits_of, limits_stay}
+use Rattle.user_memory.proofs.Rooms.{less_with, settles_with, with_room}
 use Rattle.user_memory.proofs.memory.UserMemory.unpin.Goals as goal
 
 pub unpin_by_table-requires-clause-pins : goal.unpin_by_table-requires-clause-pins
@@ -43,9 +44,12 @@ returns-clause-less g c =
     let P : Memory → Type 0 = λ m. 1 ≤ table_pins m n in
     let N : List MemoryEntry → Type 0 =
     λ xs. HasLess never (once n) (memory_of rows before old) (memory_of rows after xs) in
-    let V : Memory → Type 0 = λ m. HasLess never (once n) m (memory_of rows after c.unpin_by_table.new.self.objects) in
-    subst V c.self.view_is (subst N (sym c.unpin_by_table.ensures.objects)
-    (unpin_less rows before after old c.self.invariant.told n (subst P (sym c.self.view_is) c.requires.pins)))
+    let room = c.self.inside.users.room in
+    let made = memory_of rows after c.unpin_by_table.new.self.objects in
+    let V : Memory → Type 0 = λ m. HasLess never (once n) m (with_room room made) in
+    subst V c.self.view_is (less_with room room (memory_of rows before old) made never (once n) (subst N (sym
+    c.unpin_by_table.ensures.objects)
+    (unpin_less rows before after old c.self.invariant.told n (subst P (sym c.self.view_is) c.requires.pins))))
 
 pub returns-clause-settles : goal.returns-clause-settles
 returns-clause-settles g c =
@@ -58,10 +62,13 @@ returns-clause-settles g c =
     let moves = c.unpin_by_table.ensures.accounts in
     let holds = c.unpin_by_table.ensures.pool in
     let S : List MemoryEntry → Type 0 = λ xs. (k i : ℕ) → StepOf rows (object_at old k) (object_at xs k) i in
-    let V : Memory → Type 0 = λ m. Settles m (memory_of rows after new) c.args.pool.now c.unpin_by_table.new.pool in
+    let room = c.self.inside.users.room in
+    let made = memory_of rows after new in
+    let V : Memory → Type 0 = λ m. Settles m (with_room room made) c.args.pool.now c.unpin_by_table.new.pool in
     subst V c.self.view_is
-    (settle rows before after old new c.args.pool.now c.unpin_by_table.new.pool
+    (settles_with room room (memory_of rows before old) made c.args.pool.now c.unpin_by_table.new.pool (settle rows
+    before after old new c.args.pool.now c.unpin_by_table.new.pool
     (limits_stay c.self.inside.accounts c.unpin_by_table.new.accounts moves.count moves.limits)
     c.self.invariant.told.memory.rising
     (subst S (sym c.unpin_by_table.ensures.objects) (unpin_steps rows old c.self.invariant.told n)) holds.count
-    holds.holds holds.bytes c.unpin_by_table.ensures.invariant)
+    holds.holds holds.bytes c.unpin_by_table.ensures.invariant))
