@@ -29,7 +29,8 @@ use Rattle.page_table_words.specs.Rows.{TableRow}
 use Rattle.user_memory.specs.Memory.{Memory}
 use Rattle.hwpt_device_attach.proofs.Filled.{fails_both, tables_fewer}
 use Rattle.hwpt_device_attach.proofs.FilledInTurn.{Leads, as_many, more_filled}
-use Rattle.hwpt_device_attach.specs.Filling.{Adds, CanAdd, CanFill, Fills, IsFilled, filled, tables_for, with_tables_for}
+use Rattle.hwpt_device_attach.specs.Filling.{Adds, CanAdd, CanFill, Fills, IsFilled, filled, tables_for}
+use Rattle.hwpt_device_attach.specs.Filling.{with_tables_for}
 
 -- ---- its root
 

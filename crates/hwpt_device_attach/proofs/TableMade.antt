@@ -53,7 +53,8 @@ use Rattle.page_table_words.specs.Rows.{MappedPage}
 use Rattle.user_memory.specs.Memory as memory
 use Rattle.server_state.proofs.FreeAlike.{least_frames_alike}
 use Rattle.hwpt_device_attach.proofs.MayAdd.{free_there}
-use Rattle.hwpt_device_attach.proofs.PinnedFirst.{another, frames_pinned, free_pinned, leads_yet, pins_pinned, stand_yet}
+use Rattle.hwpt_device_attach.proofs.PinnedFirst.{another, frames_pinned, free_pinned, leads_yet, pins_pinned}
+use Rattle.hwpt_device_attach.proofs.PinnedFirst.{stand_yet}
 use Rattle.hwpt_device_attach.proofs.PinnedFirst.{users_pinned}
 use Rattle.hwpt_device_attach.proofs.RootAdded.{itself}
 use Rattle.hwpt_device_attach.proofs.TakenAlone.{counted_there, each_once, held_alone}

@@ -6,7 +6,8 @@ use Rattle.iofd_words.specs.declared.reply.Reply.TheVariants as reply
 use Rattle.iofd_words.specs.declared.rows.Attachment.{Attachment}
 use Rattle.server_state.proofs.Errors.{on_err_same}
 use Rattle.server_state.specs.Step.{MovingSteps}
-use Rattle.hwpt_device_attach.proofs.AttachedShown.{attach_roomy, may_come, never_loose, room_unseen, shows_new, shows_there}
+use Rattle.hwpt_device_attach.proofs.AttachedShown.{attach_roomy, may_come, never_loose, room_unseen, shows_new}
+use Rattle.hwpt_device_attach.proofs.AttachedShown.{shows_there}
 use Rattle.hwpt_device_attach.proofs.NeverRefused.{never_unset}
 use Rattle.hwpt_device_attach.proofs.attach.commit.Goals as goal
 

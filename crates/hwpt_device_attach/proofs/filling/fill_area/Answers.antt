@@ -5,7 +5,8 @@ use Rattle.frame_memory.specs.Pool.{free_count}
 use Rattle.page_table_set.specs.PageTables.{Hwpt}
 use Rattle.iofd_words.specs.Tables.{MissingTable}
 use Rattle.page_table_spans.specs.Spans.{IsOfPages}
-use Rattle.hwpt_device_attach.proofs.AreaFilled.{as_long, leaving_filled, live_filled, missing_is, of_pages, whole_pages}
+use Rattle.hwpt_device_attach.proofs.AreaFilled.{as_long, leaving_filled, live_filled, missing_is, of_pages}
+use Rattle.hwpt_device_attach.proofs.AreaFilled.{whole_pages}
 use Rattle.hwpt_device_attach.proofs.AreaFilled.{whole_size}
 use Rattle.hwpt_device_attach.proofs.filling.fill_area.Goals as goal
 

@@ -1,5 +1,6 @@
 use Rattle.std.proofs.Common.{sym, ◌∙◌}
-use Rattle.hwpt_device_attach.proofs.HwptMade.{alloc_may_come, alloc_roomy, never_missing, never_widthless, shows_allocated}
+use Rattle.hwpt_device_attach.proofs.HwptMade.{alloc_may_come, alloc_roomy, never_missing, never_widthless}
+use Rattle.hwpt_device_attach.proofs.HwptMade.{shows_allocated}
 use Rattle.hwpt_device_attach.proofs.HwptMade.{width_under}
 use Rattle.hwpt_device_attach.proofs.hwpt_alloc.commit.Goals as goal
 
