@@ -179,8 +179,8 @@ module _ {A : Type 0} where
       × Shows (with_tables [] given (changed {A = A} at w (event.Detach device) reply.Done)) new
 
   -- whether the page table goes is told before by its users: the device is the only one
-  pub last_tells : (at : ℕ) (w : World) (s : State A) (device : DeviceNo) (a : Attachment) (file : FileNo) (ioas : ObjId)
-      → IsTidy at w → Shows w s → attachment_of s.attachments.items device ≡ Some a
+  pub last_tells : (at : ℕ) (w : World) (s : State A) (device : DeviceNo) (a : Attachment) (file : FileNo)
+      (ioas : ObjId) → IsTidy at w → Shows w s → attachment_of s.attachments.items device ≡ Some a
       → space_of (objects_in s.objects) (attachment_of s.attachments.items device) ≡ Some (file, ioas)
       → (is_automatic_at (objects_in s.objects) a.file a.hwpt && has_one_user s.objects a.file a.hwpt)
       ≡ is_idle w.objects (without_attachment device w.attachments) a.file a.hwpt

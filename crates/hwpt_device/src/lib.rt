@@ -1,5 +1,5 @@
-//! The events of a device by itself: it is bound, unbound, detached and flushed. Each with the test that refuses it, and
-//! what it does.
+//! The events of a device by itself, which is bound, unbound, detached and flushed: each with the test that refuses it,
+//! and what it does.
 #![tactic(auto)]
 
 mod attachments;

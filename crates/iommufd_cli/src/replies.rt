@@ -42,8 +42,8 @@ impl Line {
         }
     }
 
-    /// Tells an answer to a look: the bytes in hex, the count or the id in decimal, `ok` alone where there is no id, the
-    /// fault, or the errno and the cause of a refusal. A line feed ends it.
+    /// Tells an answer to a look: the bytes in hex, the count or the id in decimal, `ok` alone where there is no id,
+    /// the fault, or the errno and the cause of a refusal. A line feed ends it.
     pub fn tell_answer(&mut self, answer: &Answer)
         ensures { self.new ≡ line (answer_text answer.now) }
     {

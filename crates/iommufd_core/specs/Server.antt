@@ -41,4 +41,5 @@ takes_memory objects attachments (event.DeviceWrite device iova bytes) = false
 abbrev pub MayWant : {A : Type 0} → Server A → Event A → Type 0
 MayWant s e =
     ((s.room ≡ 0) ⊎ (0 < length (ranges_of e)))
-    ⊎ ((refusal (world s.history) e ≡ None) × IsTrue (takes_memory (world s.history).objects (world s.history).attachments e))
+    ⊎ ((refusal (world s.history) e ≡ None)
+    × IsTrue (takes_memory (world s.history).objects (world s.history).attachments e))

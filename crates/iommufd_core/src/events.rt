@@ -93,7 +93,8 @@ fn commit<A: Allocator + Copy>(
     ensures ok { IfOk result (λ reply.
         MovingSteps at act.now.event act.now.via state.old reply taken.new.items given.new.items state.new) }
     ensures err { OnErr result (TidyShowsSame at state.old state.new) }
-    ensures memory { OnErr result (IsTrue (takes_memory (objects_in state.old.objects) state.old.attachments.items act.now.event)) }
+    ensures memory { OnErr result (IsTrue
+        (takes_memory (objects_in state.old.objects) state.old.attachments.items act.now.event)) }
 {
     match &act.event {
         Event::IoasAlloc(file) => ioas_alloc::commit(state, *file),

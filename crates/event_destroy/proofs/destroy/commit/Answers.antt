@@ -42,8 +42,8 @@ returns-in-Some-Hwpt-clause-ok g c = λ at via w tidy shows none may.
 pub unreachable-requires : goal.unreachable-requires
 unreachable-requires g c =
     let known = c.requires.granted.granted in
-    never_device known.world c.args.state.now c.args.file c.args.id _ known.shows known.none (sym c.in-Some-Device.ensures
-    ∙ ap Some c.in-Some-Device.field-0-is)
+    never_device known.world c.args.state.now c.args.file c.args.id _ known.shows known.none
+    (sym c.in-Some-Device.ensures ∙ ap Some c.in-Some-Device.field-0-is)
 
 pub unreachable-requires-in-None : goal.unreachable-requires-in-None
 unreachable-requires-in-None g c =

@@ -48,5 +48,6 @@ hwpt_of-requires g c = c.requires.known
 pub returns-in-AttachedTo : goal.returns-in-AttachedTo
 returns-in-AttachedTo g c =
     rw c.in-AttachedTo.is (λ at w records tidy shows none. one_attached _ _
-    (c.hwpt_of.ensures ∙ ap (λ (v : View). option_map (λ a. a.hwpt) (attachment_of v.attachments c.in-AttachedTo.device))
+    (c.hwpt_of.ensures
+    ∙ ap (λ (v : View). option_map (λ a. a.hwpt) (attachment_of v.attachments c.in-AttachedTo.device))
     (same_view w c.args.state.now shows tidy.tabled.owned)))
