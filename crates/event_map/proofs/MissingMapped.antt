@@ -7,6 +7,7 @@ use Rattle.std.proofs.lemmas.Bool.Decides.{nat_tests}
 use Rattle.std.proofs.lemmas.List.Concat.{flat_map-cons}
 use Rattle.page_table_set.specs.OverSpans.{hwpts_over, is_over, missing_in}
 use Rattle.page_table_set.specs.PageTables.{Hwpt}
+use Rattle.iofd_rows.proofs.Widths.{same_width}
 use Rattle.iofd_rows.proofs.Bools.{and_true, both_true, clash}
 use Rattle.iofd_runs.proofs.MissingTables.{all_needed, has_needed, missing_at, needed_places, none_lacking}
 use Rattle.iofd_runs.proofs.TableCounts.{lacking_mapped, pages_stay}
@@ -14,7 +15,6 @@ use Rattle.iofd_words.specs.Areas.{areas_of, is_of, with_area}
 use Rattle.iofd_words.specs.Objects.{is_hwpt, is_hwpt_over}
 use Rattle.iofd_words.specs.TablePlaces.{has_table, is_live, lacking, live_pages, pages_in, places_of}
 use Rattle.iofd_words.specs.Tables.{MissingTable, missing_of, missing_tables}
-use Rattle.iofd_words.specs.Width.{bits_of}
 use Rattle.iofd_words.specs.declared.numbers.FileNo.{FileNo}
 use Rattle.iofd_words.specs.declared.numbers.ObjId.{ObjId}
 use Rattle.iofd_words.specs.declared.rows.Area.{Area}
@@ -23,7 +23,6 @@ use Rattle.iofd_words.specs.declared.rows.ObjectKind.{ObjectKind}
 use Rattle.iofd_words.specs.declared.rows.ObjectKind.TheVariants as kind
 use Rattle.iofd_words.specs.declared.rows.TableFrame.{TableFrame}
 use Rattle.iofd_words.specs.declared.width.Width.{Width}
-use Rattle.iofd_words.specs.declared.width.Width.TheVariants.{Bits39, Bits48}
 use Rattle.event_map.specs.AreaMapped.{missing_for}
 use Rattle.server_state.proofs.PageTables.{over_is_table}
 use Rattle.server_state.specs.Tables.{has_own_width, is_hwpt_of, page_tables_among}
@@ -31,12 +30,6 @@ use Rattle.server_state.specs.Tables.{has_own_width, is_hwpt_of, page_tables_amo
 and_none : (a : Bool) → (a && false) ≡ false
 and_none true = refl
 and_none false = refl
-
-same_width : (a b : Width) → eqb (bits_of a) (bits_of b) ≡ true → a ≡ b
-same_width Bits39 Bits39 is = refl
-same_width Bits48 Bits48 is = refl
-same_width Bits39 Bits48 is = cc
-same_width Bits48 Bits39 is = cc
 
 module _ (areas : List Area) (rows : List TableFrame) (area : Area) (live : is_live area.phase ≡ true) where
   -- what an object lacks to map the area, where it is a page table

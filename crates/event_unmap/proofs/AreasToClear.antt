@@ -4,6 +4,7 @@ use Rattle.std.specs.List.{list_all, list_any}
 use Rattle.area_map_rows.specs.Areas.{areas_within}
 use Rattle.page_table_set.specs.OverSpans.{is_over}
 use Rattle.page_table_set.specs.PageTables.{Hwpt}
+use Rattle.iofd_rows.proofs.Widths.{same_width}
 use Rattle.iofd_rows.proofs.Bools.{and_true, both_true, clash, not_true, or_false, or_none}
 use Rattle.iofd_rows.proofs.Each.{IsIn, in_filter, of_any, of_each}
 use Rattle.iofd_rows.proofs.Found.{all_filter}
@@ -19,7 +20,6 @@ use Rattle.iofd_words.specs.Objects.{is_hwpt, is_hwpt_over}
 use Rattle.iofd_words.specs.Ranges.{meets_some}
 use Rattle.iofd_words.specs.Span.{lies_in, meets}
 use Rattle.iofd_words.specs.Usable.{beyond, beyond_table, unusable}
-use Rattle.iofd_words.specs.Width.{bits_of}
 use Rattle.iofd_words.specs.World.{World}
 use Rattle.iofd_words.specs.declared.numbers.FileNo.{FileNo}
 use Rattle.iofd_words.specs.declared.numbers.ObjId.{ObjId}
@@ -28,7 +28,6 @@ use Rattle.iofd_words.specs.declared.rows.Object.{Object}
 use Rattle.iofd_words.specs.declared.rows.ObjectKind.{ObjectKind}
 use Rattle.iofd_words.specs.declared.rows.ObjectKind.TheVariants as kind
 use Rattle.iofd_words.specs.declared.width.Width.{Width}
-use Rattle.iofd_words.specs.declared.width.Width.TheVariants.{Bits39, Bits48}
 use Rattle.server_state.proofs.TablesUnreached.{in_list}
 use Rattle.event_unmap.specs.Cleared.{CanClear, is_beyond}
 use Rattle.server_state.proofs.AreasBecome.{own_at}
@@ -39,12 +38,6 @@ use Rattle.server_state.specs.Shows.{Shows}
 use Rattle.server_state.specs.Step.{IsTidy}
 use Rattle.server_state.specs.Tables.{has_own_width, is_hwpt_of, page_tables_among}
 use Rattle.server_state.specs.declared.state.State.{State}
-
-same_width : (a b : Width) → eqb (bits_of a) (bits_of b) ≡ true → a ≡ b
-same_width Bits39 Bits39 is = refl
-same_width Bits48 Bits48 is = refl
-same_width Bits39 Bits48 is = cc
-same_width Bits48 Bits39 is = cc
 
 module _ {A : Type 0} (at : ℕ) (w : World) (s : State A) (file : FileNo) (ioas : ObjId) (span : Bounds)
     (tidy : IsTidy at w) (shows : Shows w s) where

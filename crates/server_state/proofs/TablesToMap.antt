@@ -7,6 +7,7 @@ use Rattle.std.proofs.lemmas.Bool.Decides.{nat_tests}
 use Rattle.std.proofs.lemmas.List.Sums.{count_by-le-length, length-filter, sum_by-cons}
 use Rattle.page_table_set.specs.OverSpans.{HaveSpan, hwpts_over, is_over, tables_lacked, tables_needed}
 use Rattle.page_table_set.specs.PageTables.{Hwpt}
+use Rattle.iofd_rows.proofs.Widths.{same_width}
 use Rattle.iofd_rows.proofs.Bools.{and_true, both_true, clash, or_false, or_none}
 use Rattle.iofd_rows.proofs.Each.{IsIn, in_filter, of_any, of_each}
 use Rattle.iofd_rows.proofs.ListTests.{false_else}
@@ -31,7 +32,6 @@ use Rattle.iofd_words.specs.declared.rows.TableFrame.{TableFrame}
 use Rattle.iofd_words.specs.declared.rows.ObjectKind.{ObjectKind}
 use Rattle.iofd_words.specs.declared.rows.ObjectKind.TheVariants as kind
 use Rattle.iofd_words.specs.declared.width.Width.{Width}
-use Rattle.iofd_words.specs.declared.width.Width.TheVariants.{Bits39, Bits48}
 use Rattle.server_state.proofs.FewTables.{few_tables}
 use Rattle.server_state.proofs.PageTables.{over_is_table, tables_known}
 use Rattle.server_state.proofs.TablesTold.{tables_told}
@@ -42,12 +42,6 @@ use Rattle.server_state.specs.Tables.{has_own_width, is_hwpt_of, page_tables_amo
 use Rattle.server_state.specs.declared.state.State.{State}
 
 -- ---- widths
-
-same_width : (a b : Width) → eqb (bits_of a) (bits_of b) ≡ true → a ≡ b
-same_width Bits39 Bits39 is = refl
-same_width Bits48 Bits48 is = refl
-same_width Bits39 Bits48 is = cc
-same_width Bits48 Bits39 is = cc
 
 -- a span that doesn't meet what lies beyond a width ends below its end
 ends_below : (width : Width) (span : Bounds) → meets (beyond width) span ≡ false → span.first < 2 ^ 64
