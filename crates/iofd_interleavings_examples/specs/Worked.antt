@@ -90,7 +90,11 @@ gets = Made (step (user_map 2 0x10000) (answers_frame 0))
 
 -- ---- a list of them
 
--- device 1 writes the last four bytes of the page out of its cache
+-- device 1 asks for the last four bytes of the page
+abbrev pub looks : Step Global
+looks = Looked (device_read 1 0x1ffc 4) (answer.Read (0 ∷ 0 ∷ 0 ∷ 0 ∷ []))
+
+-- it writes them out of its cache
 abbrev pub writes : Step Global
 writes = WriteHit (record { 0 = 0 }) (device 1) (iova 0x1ffc) (7 ∷ 8 ∷ 9 ∷ 10 ∷ []) entry
 
@@ -99,12 +103,7 @@ abbrev pub reads : Step Global
 reads = ReadHit (device 1) (iova 0x1ffe) 2 entry
 
 abbrev pub until_read : List (Step Global)
-until_read =
-    map Made beginning
-    ++ Looked (device_read 1 0x1ffc 4) (answer.Read (0 ∷ 0 ∷ 0 ∷ 0 ∷ []))
-    ∷ fills 1
-    ∷ writes
-    ∷ []
+until_read = map Made beginning ++ looks ∷ fills 1 ∷ writes ∷ []
 
 -- device 2 keeps the page twice; a drop of another page takes nothing away
 abbrev pub until_flush : List (Step Global)

@@ -9,4 +9,4 @@ pub use broken::{
     a_fill_after_the_flush_is_unsound, a_flush_that_keeps_its_cache_is_unsound,
     a_pin_that_goes_with_its_page_is_unsound, an_unmap_that_does_not_wait_is_unsound,
 };
-pub use worked::{worked_caches, worked_frames, worked_hits, worked_steps_are_steps};
+pub use worked::{worked_answers, worked_caches, worked_frames, worked_steps_are_steps};

@@ -4,11 +4,12 @@ ghost use Rattle.std.specs.Prelude.{◌≡◌, Some, List, [], ◌∷◌, map};
 ghost use Rattle.iofd_words.specs.Run.{world_of};
 ghost use Rattle.iofd_words.specs.declared.query.Answer.TheVariants as answer;
 ghost use Rattle.iofd_words.specs.declared.rows.Phase.TheVariants.{Live};
-ghost use Rattle.iofd_examples.specs.Words.{answers_id, attach, device, frame, iova, moving, passed, user};
+ghost use Rattle.iofd_examples.specs.Words.{answers_id, attach, device, device_write, frame, iova, moving, passed};
+ghost use Rattle.iofd_examples.specs.Words.{step, user};
 ghost use Rattle.iofd_interleavings.specs.DeviceAnswers.{OfRead, OfWrite, device_answer};
 ghost use Rattle.iofd_interleavings.specs.FramesApart.{GivesOut, IsPageAt, IsPinAt};
 ghost use Rattle.iofd_interleavings.specs.Steps.{AreSteps, Made, caches_after, records_after, world_after};
-ghost use Rattle.iofd_interleavings_examples.specs.Worked.{beginning, entry, reads, records, settings, shared};
+ghost use Rattle.iofd_interleavings_examples.specs.Worked.{beginning, entry, looks, reads, records, settings, shared};
 ghost use Rattle.iofd_interleavings_examples.specs.Worked.{until_flush, until_read, worked, writes};
 
 /// The worked steps are steps: looks, fills, a write hit, read hits before and while an UNMAP waits, drops, and records
@@ -28,8 +29,14 @@ pub fn worked_caches()
     ensures second { caches_after worked (device 2) ≡ [] }
 {}
 
-/// A write hit is told the frame, and a read hit answers two of the bytes that it wrote.
-pub fn worked_hits()
+/// What devices are answered: a look and a record as they were told, a write hit by the frame, and a read hit by two of
+/// the bytes that the write hit wrote.
+pub fn worked_answers()
+    ensures look { device_answer (world_of settings beginning) looks
+        ≡ Some (OfRead (device 1) (iova 0x1ffc) 4 (answer.Read (0 ∷ 0 ∷ 0 ∷ 0 ∷ []))) }
+    ensures record { device_answer (world_of settings beginning)
+        (Made (step (device_write 1 0x1ffc (7 ∷ 8 ∷ 9 ∷ 10 ∷ [])) (passed 0)))
+        ≡ Some (OfWrite (device 1) (iova 0x1ffc) (7 ∷ 8 ∷ 9 ∷ 10 ∷ []) (passed 0)) }
     ensures write { device_answer (world_of settings beginning) writes
         ≡ Some (OfWrite (device 1) (iova 0x1ffc) (7 ∷ 8 ∷ 9 ∷ 10 ∷ []) (passed 0)) }
     ensures read { device_answer (world_after settings until_read) reads

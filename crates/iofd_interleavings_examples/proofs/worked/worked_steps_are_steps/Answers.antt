@@ -14,7 +14,7 @@ use Rattle.iofd_words.specs.declared.query.Answer.TheVariants as answer
 use Rattle.iofd_examples.specs.Words.{device, device_read}
 use Rattle.iofd_interleavings.specs.Steps.{AreSteps, Dropped, Looked, opened, state_after}
 use Rattle.iofd_interleavings.proofs.RunsAreSteps.{steps_append}
-use Rattle.iofd_interleavings_examples.specs.Worked.{fills, flushes, gets, gives_up, reads, settings, takes}
+use Rattle.iofd_interleavings_examples.specs.Worked.{fills, flushes, gets, gives_up, looks, reads, settings, takes}
 use Rattle.iofd_interleavings_examples.specs.Worked.{until_flush, until_read, waits, writes}
 use Rattle.iofd_interleavings_examples.proofs.Begun.{begun, first_fills, second_fills, is_first, is_second}
 use Rattle.iofd_interleavings_examples.proofs.worked.worked_steps_are_steps.Goals as goal
@@ -32,7 +32,7 @@ unfolding AreSteps state_after world_of IsRun Lawful after with_tables answers_i
     attach_checks bind_checks close_checks copy_checks destroy_checks detach_checks device_write_checks flush_checks
     hwpt_alloc_checks ioas_alloc_checks map_checks unbind_checks unmap_checks user_map_checks user_unmap_checks
     user_write_checks changed settle without_areas attached detached joined outcomes access_outcomes number_at
-first = begun (Looked (device_read 1 0x1ffc 4) (answer.Read (0 ∷ 0 ∷ 0 ∷ 0 ∷ [])) ∷ fills 1 ∷ writes ∷ []) (
+first = begun (looks ∷ fills 1 ∷ writes ∷ []) (
   (0, omega arith, refl),
   (
     first_fills _,

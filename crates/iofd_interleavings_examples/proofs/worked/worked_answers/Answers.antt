@@ -11,7 +11,21 @@ use Rattle.iofd_words.specs.Policy.{access_outcomes, outcomes}
 use Rattle.iofd_words.specs.Run.{IsRun, Lawful, after, world_of}
 use Rattle.iofd_words.specs.Tables.{with_tables}
 use Rattle.iofd_interleavings.specs.Steps.{AreSteps, state_after}
-use Rattle.iofd_interleavings_examples.proofs.worked.worked_hits.Goals as goal
+use Rattle.iofd_interleavings_examples.proofs.worked.worked_answers.Goals as goal
+
+pub returns-clause-look : goal.returns-clause-look
+unfolding AreSteps state_after world_of IsRun Lawful after with_tables answers_in Answers allow_iovas_checks
+    attach_checks bind_checks close_checks copy_checks destroy_checks detach_checks device_write_checks flush_checks
+    hwpt_alloc_checks ioas_alloc_checks map_checks unbind_checks unmap_checks user_map_checks user_unmap_checks
+    user_write_checks changed settle without_areas attached detached joined outcomes access_outcomes number_at
+returns-clause-look c = refl
+
+pub returns-clause-record : goal.returns-clause-record
+unfolding AreSteps state_after world_of IsRun Lawful after with_tables answers_in Answers allow_iovas_checks
+    attach_checks bind_checks close_checks copy_checks destroy_checks detach_checks device_write_checks flush_checks
+    hwpt_alloc_checks ioas_alloc_checks map_checks unbind_checks unmap_checks user_map_checks user_unmap_checks
+    user_write_checks changed settle without_areas attached detached joined outcomes access_outcomes number_at
+returns-clause-record c = refl
 
 pub returns-clause-write : goal.returns-clause-write
 unfolding AreSteps state_after world_of IsRun Lawful after with_tables answers_in Answers allow_iovas_checks
