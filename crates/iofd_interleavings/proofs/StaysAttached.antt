@@ -3,18 +3,16 @@ use Rattle.std.proofs.Common.{◌≡◌, ℕ, Bool, true, false, not, eqb, cond,
 use Rattle.std.proofs.Common.{ap, ◌∙◌, subst, arith, inl, inr}
 use Rattle.std.specs.List.{filter, list_any}
 use Rattle.std.proofs.lemmas.Bool.Decides.{nat_tests}
-use Rattle.iofd_words.specs.After.{attach_changes, attached, changed, copy_changes, detach_changes, detached}
-use Rattle.iofd_words.specs.After.{hwpt_changes, joined, made_hwpt, map_changes, settle, target_changes, with_hwpt}
+use Rattle.iofd_words.specs.After.{attached, changed, copy_changes, detached}
+use Rattle.iofd_words.specs.After.{hwpt_changes, joined, made_hwpt, map_changes, settle, with_hwpt}
 use Rattle.iofd_words.specs.After.{without_areas}
-use Rattle.iofd_words.specs.Answers.{Answers, IsHwptOf, IsTarget}
+use Rattle.iofd_words.specs.Answers.{Answers}
 use Rattle.iofd_words.specs.Areas.{all_paid, areas_of, is_of}
-use Rattle.iofd_words.specs.Attachments.{attachment_of}
 use Rattle.iofd_words.specs.Checks.{is_used, refusal}
 use Rattle.iofd_words.specs.Copies.{source_in}
-use Rattle.iofd_words.specs.Files.{device_of, user_of}
+use Rattle.iofd_words.specs.Files.{user_of}
 use Rattle.iofd_words.specs.Objects.{automatic_hwpt, binding_of, has_hwpt, is_bound_as, is_bound_device, kind_of}
 use Rattle.iofd_words.specs.Objects.{objects_of, settings_under}
-use Rattle.iofd_words.specs.Settings.{DeviceSettings}
 use Rattle.iofd_words.specs.Turns.{is_turn_of}
 use Rattle.iofd_words.specs.View.{view}
 use Rattle.iofd_words.specs.World.{World}
@@ -23,7 +21,6 @@ use Rattle.iofd_words.specs.declared.event.Event.TheVariants as event
 use Rattle.iofd_words.specs.declared.numbers.DeviceNo.{DeviceNo}
 use Rattle.iofd_words.specs.declared.numbers.FileNo.{FileNo}
 use Rattle.iofd_words.specs.declared.numbers.ObjId.{ObjId}
-use Rattle.iofd_words.specs.declared.numbers.UserNo.{UserNo}
 use Rattle.iofd_words.specs.declared.reply.Reply.{Reply}
 use Rattle.iofd_words.specs.declared.reply.Reply.TheVariants as reply
 use Rattle.iofd_words.specs.declared.rows.Area.{Area}
@@ -40,6 +37,7 @@ use Rattle.iofd_rows.proofs.Moves.{owed_object}
 use Rattle.iofd_rows.proofs.Named.{file_is, id_is}
 use Rattle.iofd_rows.proofs.Owed.{EachOwed, IsDebtor, IsSpace, each_owed, space_of}
 use Rattle.iofd_runs.proofs.AttachMoves.{is_made, is_there, owed_attached, owed_detached}
+use Rattle.iofd_runs.proofs.Branches.{by_attachment, by_found, by_target}
 use Rattle.iofd_runs.proofs.NotRefused.{attach_passed, close_passed, destroy_passed, hwpt_passed, join_passed}
 use Rattle.iofd_runs.proofs.ObjectsGo.{owed_closed, owed_destroyed, owed_unbound}
 use Rattle.iofd_runs.proofs.OwnIds.{unused}
@@ -195,31 +193,21 @@ module _ (w : World) (device : DeviceNo) (file : FileNo) (ioas : ObjId) (tidy : 
         id = id;
         kind = kind.Ioas;
       }) (unused w.objects own id answers) (λ over is. cc) one)
-  stays_attached at (event.Map own request) (reply.Iova iova) none answers other = mapped (user_of w.settings own)
-    where
-      mapped : (user : Option UserNo) → Attached (map_changes at w own request iova user)
-      mapped None = is
-      mapped (Some user) = is
+  stays_attached at (event.Map own request) (reply.Iova iova) none answers other =
+      by_found (λ user. Attached (map_changes at w own request iova user)) (user_of w.settings own) is (λ user of. is)
   stays_attached at (event.Copy own request) (reply.Iova iova) none answers other =
-      copied (source_in (areas_of w.areas own request.src_ioas) request)
-    where
-      copied : (source : Option Area) → Attached (copy_changes w own request iova source)
-      copied None = is
-      copied (Some source) = is
+      by_found (λ source. Attached (copy_changes w own request iova source))
+      (source_in (areas_of w.areas own request.src_ioas) request) is (λ source of. is)
   stays_attached at (event.Unmap own request) (reply.Bytes count) none answers other = is
   stays_attached at (event.Unmap own request) (reply.Pending errno) none answers other = is
   stays_attached at (event.HwptAlloc own request) (reply.Id id) none answers other =
-      made (settings_under w.settings w.objects own request.device)
-    where
-      over_space : IsSpace w.objects own request.ioas
-      over_space = space_of w.objects own request.ioas (hwpt_passed (view w) own request none).space
-
-      made : (settings : Option DeviceSettings) → Attached (hwpt_changes w own request.ioas id settings)
-      made None = is
-      made (Some settings) =
-          the_one _ _ file ioas device.0 (owed_object w.objects w.attachments (owed_one file ioas device.0 ∷ [])
-          (made_hwpt own request.ioas id settings) (unused w.objects own id answers)
-          (λ over is. let same : request.ioas ≡ over = cc in rw (← same) over_space) one)
+      by_found (λ settings. Attached (hwpt_changes w own request.ioas id settings))
+      (settings_under w.settings w.objects own request.device) is
+      (λ settings of.
+      let over_space = space_of w.objects own request.ioas (hwpt_passed (view w) own request none).space in
+      the_one _ _ file ioas device.0 (owed_object w.objects w.attachments (owed_one file ioas device.0 ∷ [])
+      (made_hwpt own request.ioas id settings) (unused w.objects own id answers)
+      (λ over is. let same : request.ioas ≡ over = cc in rw (← same) over_space) one))
   stays_attached at (event.Destroy own id) reply.Done none answers other =
       let unused_one = (destroy_passed (view w) own id none).unused in
       let stays = false_else (is_of own id (owed_one file ioas device.0)) (λ names. not_destroyed w file own ioas id
@@ -244,40 +232,26 @@ module _ (w : World) (device : DeviceNo) (file : FileNo) (ioas : ObjId) (tidy : 
       the_one _ _ file ioas device.0
       (owed_unbound w.objects w.attachments (owed_one file ioas device.0 ∷ []) own id one)
   stays_attached at (event.Attach d pt_id) (reply.Id id) none answers other =
-      bound (binding_of w.objects d) refl (device_of w.settings d) answers
-    where
-      bound : (object : Option Object) → binding_of w.objects d ≡ object → (settings : Option DeviceSettings)
-          → IsHwptOf w pt_id id object settings → Attached (attach_changes w d pt_id id object settings)
-      bound None found settings never = absurd never
-      bound (Some object) found None never = absurd never
-      bound (Some object) found (Some settings) hwpt = by_kind (kind_of w.objects object.file pt_id) refl hwpt
-        where
-          by_kind : (k : Option ObjectKind) → kind_of w.objects object.file pt_id ≡ k
-              → IsTarget w object.file pt_id id settings.width k
-              → Attached (target_changes w d pt_id id object settings k)
-          by_kind (Some kind.Ioas) over made =
-              let automatic = automatic_hwpt w.objects object.file pt_id settings.width in
-              let table = is_made w object.file pt_id id settings.width automatic tidy.sound.own_ids refl made over
-              one.spaces in
-              let objects = with_hwpt object.file pt_id id settings.width automatic w.objects in
-              let free = (attach_passed (view w) d pt_id object found over none).unattached in
-              the_one_paid _ _ file ioas device d other
-              (owed_attached w.objects objects w.attachments (owed_one file ioas device.0 ∷ []) d object.file pt_id id
-              free table one)
-          by_kind (Some (kind.Hwpt over width automatic)) named same =
-              let table = is_there w.objects object.file over id width automatic (rw same named) one.spaces in
-              let free = (join_passed (view w) d pt_id over width automatic object found named none).unattached in
-              the_one_paid _ _ file ioas device d other
-              (owed_attached w.objects w.objects w.attachments (owed_one file ioas device.0 ∷ []) d object.file over id
-              free table one)
-          by_kind k over never = is
-  stays_attached at (event.Detach d) reply.Done none answers other = attached_or_not (attachment_of w.attachments d)
-    where
-      attached_or_not : (a : Option Attachment) → Attached (detach_changes w d a)
-      attached_or_not None = is
-      attached_or_not (Some a) =
-          the_one_paid _ _ file ioas device d other
-          (owed_detached w.objects w.attachments (owed_one file ioas device.0 ∷ []) d a one)
+      by_target w d pt_id id Attached (λ nowhere. is)
+      (λ object settings bound known over made.
+      let automatic = automatic_hwpt w.objects object.file pt_id settings.width in
+      let table = is_made w object.file pt_id id settings.width automatic tidy.sound.own_ids refl (made answers) over
+      one.spaces in
+      let objects = with_hwpt object.file pt_id id settings.width automatic w.objects in
+      let free = (attach_passed (view w) d pt_id object bound over none).unattached in
+      the_one_paid _ _ file ioas device d other
+      (owed_attached w.objects objects w.attachments (owed_one file ioas device.0 ∷ []) d object.file pt_id id free
+      table one))
+      (λ object settings over width automatic bound known named same.
+      let table = is_there w.objects object.file over id width automatic (rw (same answers) named) one.spaces in
+      let free = (join_passed (view w) d pt_id over width automatic object bound named none).unattached in
+      the_one_paid _ _ file ioas device d other
+      (owed_attached w.objects w.objects w.attachments (owed_one file ioas device.0 ∷ []) d object.file over id free
+      table one))
+  stays_attached at (event.Detach d) reply.Done none answers other =
+      by_attachment w d Attached is
+      (λ a of. the_one_paid _ _ file ioas device d other
+      (owed_detached w.objects w.attachments (owed_one file ioas device.0 ∷ []) d a one))
   stays_attached at (event.Flush d) reply.Done none answers other = is
   stays_attached at (event.DeviceWrite d iova bytes) (reply.Passed frame) none answers other = is
   stays_attached at e answer none answers other = is

@@ -3,19 +3,18 @@ use Rattle.std.proofs.Common.{◌≡◌, ℕ, Bool, true, false, not, eqb, cond,
 use Rattle.std.proofs.Common.{length, refl, sym, ap, ◌∙◌, subst, arith}
 use Rattle.std.specs.List.{filter}
 use Rattle.std.proofs.lemmas.Bool.Decides.{nat_tests}
-use Rattle.iofd_words.specs.After.{attach_changes, attached, changed, copy_changes, detach_changes, detached}
-use Rattle.iofd_words.specs.After.{hwpt_changes, joined, map_changes, mapped_area, settle, target_changes}
+use Rattle.iofd_words.specs.After.{attached, changed, copy_changes, detached}
+use Rattle.iofd_words.specs.After.{hwpt_changes, joined, map_changes, mapped_area, settle}
 use Rattle.iofd_words.specs.After.{without_areas}
 use Rattle.iofd_words.specs.Answers.{Answers}
 use Rattle.iofd_words.specs.Areas.{all_paid, areas_of, is_of, is_touched, is_waiting, leaving, owed_by, paid, touched}
 use Rattle.iofd_words.specs.Areas.{with_area, with_phase}
-use Rattle.iofd_words.specs.Attachments.{attachment_of, devices_of, is_attached_to}
+use Rattle.iofd_words.specs.Attachments.{devices_of, is_attached_to}
 use Rattle.iofd_words.specs.Checks.{refusal}
 use Rattle.iofd_words.specs.Copies.{placed_as, source_in}
 use Rattle.iofd_words.specs.DeviceSet.{has_device}
-use Rattle.iofd_words.specs.Files.{device_of, user_of}
-use Rattle.iofd_words.specs.Objects.{binding_of, is_hwpt_over, kind_of, settings_under}
-use Rattle.iofd_words.specs.Settings.{DeviceSettings}
+use Rattle.iofd_words.specs.Files.{user_of}
+use Rattle.iofd_words.specs.Objects.{is_hwpt_over, settings_under}
 use Rattle.iofd_words.specs.Turns.{is_turn_of}
 use Rattle.iofd_words.specs.View.{view}
 use Rattle.iofd_words.specs.World.{World}
@@ -25,12 +24,10 @@ use Rattle.iofd_words.specs.declared.event.UnmapRequest.{UnmapRequest}
 use Rattle.iofd_words.specs.declared.numbers.DeviceNo.{DeviceNo}
 use Rattle.iofd_words.specs.declared.numbers.FileNo.{FileNo}
 use Rattle.iofd_words.specs.declared.numbers.ObjId.{ObjId}
-use Rattle.iofd_words.specs.declared.numbers.UserNo.{UserNo}
 use Rattle.iofd_words.specs.declared.reply.Reply.{Reply}
 use Rattle.iofd_words.specs.declared.reply.Reply.TheVariants as reply
 use Rattle.iofd_words.specs.declared.rows.Area.{Area}
 use Rattle.iofd_words.specs.declared.rows.Attachment.{Attachment}
-use Rattle.iofd_words.specs.declared.rows.Object.{Object}
 use Rattle.iofd_words.specs.declared.rows.ObjectKind.{ObjectKind}
 use Rattle.iofd_words.specs.declared.rows.ObjectKind.TheVariants as kind
 use Rattle.iofd_words.specs.declared.rows.Phase.{Phase}
@@ -40,6 +37,7 @@ use Rattle.iofd_rows.proofs.Each.{IsIn, in_found, of_any}
 use Rattle.iofd_rows.proofs.ListTests.{any-filter, any_weaker, false_else}
 use Rattle.iofd_rows.proofs.Named.{file_is, id_is}
 use Rattle.iofd_rows.proofs.Owed.{IsDebtor, IsSpace}
+use Rattle.iofd_runs.proofs.Branches.{by_attachment, by_found, by_target}
 use Rattle.iofd_runs.proofs.NotRefused.{close_passed, destroy_passed}
 use Rattle.iofd_runs.proofs.StillTabled.{in_kept}
 use Rattle.iofd_laws.proofs.KeepsBound.{IsTidy}
@@ -173,24 +171,21 @@ module _ (w : World) (device : DeviceNo) (area : Area) (tidy : IsTidy w) (among 
   left goes stays = kept device area (filter (λ (a : Area). not (goes a)) w.areas)
       (in_kept (λ (a : Area). not (goes a)) w.areas area among (not_false _ stays)) may
 
+  -- one area comes
+  one_more : (new : Area) → IsKept device area (with_area new w.areas)
+  one_more new = kept device area (with_area new w.areas) (stays_in new w.areas area among) may
+
   pub stays_covered : {A : Type 0} → (at : ℕ) (e : Event A) (answer : Reply) → refusal w e ≡ None → Answers w e answer
       → is_turn_of device e ≡ false → Kept (changed at w e answer)
   unfolding changed settle without_areas attached detached joined Answers
   stays_covered at (event.IoasAlloc own) (reply.Id id) none answers other = same
-  stays_covered at (event.Map own request) (reply.Iova iova) none answers other = mapped (user_of w.settings own)
-    where
-      mapped : (user : Option UserNo) → Kept (map_changes at w own request iova user)
-      mapped None = same
-      mapped (Some user) = kept device area (with_area (mapped_area at own request iova) w.areas)
-          (stays_in (mapped_area at own request iova) w.areas area among) may
+  stays_covered at (event.Map own request) (reply.Iova iova) none answers other =
+      by_found (λ user. Kept (map_changes at w own request iova user)) (user_of w.settings own) same
+      (λ user is. one_more (mapped_area at own request iova))
   stays_covered at (event.Copy own request) (reply.Iova iova) none answers other =
-      copied (source_in (areas_of w.areas own request.src_ioas) request)
-    where
-      copied : (source : Option Area) → Kept (copy_changes w own request iova source)
-      copied None = same
-      copied (Some source) =
-          kept device area (with_area (mapped_area source.memory own (placed_as request) iova) w.areas)
-          (stays_in (mapped_area source.memory own (placed_as request) iova) w.areas area among) may
+      by_found (λ source. Kept (copy_changes w own request iova source))
+      (source_in (areas_of w.areas own request.src_ioas) request) same
+      (λ source is. one_more (mapped_area source.memory own (placed_as request) iova))
   stays_covered at (event.Unmap own request) (reply.Bytes count) none answers other =
       left (is_touched own request) (untouched w own request device area among may is answers.0)
   stays_covered at (event.Unmap own request) (reply.Pending errno) none answers other = record {
@@ -201,11 +196,8 @@ module _ (w : World) (device : DeviceNo) (area : Area) (tidy : IsTidy w) (among 
     may = left_to w own request device area may is;
   }
   stays_covered at (event.HwptAlloc own request) (reply.Id id) none answers other =
-      made (settings_under w.settings w.objects own request.device)
-    where
-      made : (settings : Option DeviceSettings) → Kept (hwpt_changes w own request.ioas id settings)
-      made None = same
-      made (Some settings) = same
+      by_found (λ settings. Kept (hwpt_changes w own request.ioas id settings))
+      (settings_under w.settings w.objects own request.device) same (λ settings is. same)
   stays_covered at (event.Destroy own id) reply.Done none answers other =
       left (is_of own id) (false_else (is_of own id area) (λ names. not_destroyed w area.file own area.ioas id device.0
       (destroy_passed (view w) own id none).unused space is
@@ -220,23 +212,11 @@ module _ (w : World) (device : DeviceNo) (area : Area) (tidy : IsTidy w) (among 
   stays_covered at (event.Bind own bound) (reply.Id id) none answers other = same
   stays_covered at (event.Unbind own id) reply.Done none answers other = same
   stays_covered at (event.Attach d pt_id) (reply.Id id) none answers other =
-      bound (binding_of w.objects d) (device_of w.settings d)
-    where
-      bound : (object : Option Object) (settings : Option DeviceSettings)
-          → Kept (attach_changes w d pt_id id object settings)
-      bound None settings = same
-      bound (Some object) None = same
-      bound (Some object) (Some settings) = by_kind (kind_of w.objects object.file pt_id)
-        where
-          by_kind : (k : Option ObjectKind) → Kept (target_changes w d pt_id id object settings k)
-          by_kind (Some kind.Ioas) = kept_paid device d area w.areas other among may
-          by_kind (Some (kind.Hwpt over width automatic)) = kept_paid device d area w.areas other among may
-          by_kind k = same
-  stays_covered at (event.Detach d) reply.Done none answers other = attached_or_not (attachment_of w.attachments d)
-    where
-      attached_or_not : (a : Option Attachment) → Kept (detach_changes w d a)
-      attached_or_not None = same
-      attached_or_not (Some a) = kept_paid device d area w.areas other among may
+      by_target w d pt_id id Kept (λ nowhere. same)
+      (λ object settings bound known space made. kept_paid device d area w.areas other among may)
+      (λ object settings over width automatic bound known named is. kept_paid device d area w.areas other among may)
+  stays_covered at (event.Detach d) reply.Done none answers other =
+      by_attachment w d Kept same (λ a is. kept_paid device d area w.areas other among may)
   stays_covered at (event.Flush d) reply.Done none answers other = kept_paid device d area w.areas other among may
   stays_covered at (event.DeviceWrite d iova bytes) (reply.Passed frame) none answers other = same
   stays_covered at e answer none answers other = same
