@@ -1,7 +1,7 @@
 //! Steps whose growths are refused, each with its reply.
 
 use crate::steps::{AGAIN, BARRED, FIRST, IN_USE, NARROW, NO_FRAME, SECOND, Step, UNKNOWN, WIDE};
-use iofd_words::{AccessKind, Fault, FaultReason, FrameNo, Iova, ObjId, Reply, SourceId};
+use iofd_words::{AccessKind, DeviceNo, Fault, FaultReason, FrameNo, Iova, ObjId, Reply, SourceId};
 
 /// Steps and their replies.
 pub(crate) type Script = &'static [(Step, Reply)];
@@ -62,7 +62,10 @@ pub(crate) const TWO_TABLES: Script = &[
     (Step::Table(2), Reply::Id(ObjId(4))),
     (Step::Attach(WIDE, 1), Reply::Id(ObjId(5))),
     (Step::Map(0x1000), Reply::Iova(Iova(0x1000))),
+    (Step::AttachedTo(NARROW), Reply::Done),
     (Step::Attach(NARROW, 4), Reply::Id(ObjId(4))),
+    (Step::AttachedTo(NARROW), Reply::Id(ObjId(4))),
+    (Step::AttachedTo(DeviceNo(3)), UNKNOWN),
     (Step::Write(NARROW, 0x1ffe), Reply::Passed(FrameNo(0))),
     (Step::Map(0x4000_0000), Reply::Iova(Iova(0x4000_0000))),
     (Step::Page(0x11000), Reply::Frame(FrameNo(12))),

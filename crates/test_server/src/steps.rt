@@ -71,6 +71,8 @@ pub(crate) enum Step {
     Cached(u32),
     /// The question for ranges, answered by the last address of the only one.
     Ranges,
+    /// The question to which page table the device is attached, answered by its id, or by Done where it isn't.
+    AttachedTo(DeviceNo),
 }
 
 fn map(iova: u64) -> MapRequest {
@@ -151,7 +153,7 @@ pub(crate) fn event<A: Allocator + Copy>(alloc: A, step: Step) -> Option<Event<A
         Step::Detach(device) => Event::Detach(device),
         Step::Destroy(file, id) => Event::Destroy(file, ObjId(id)),
         Step::Close(file) => Event::Close(file),
-        Step::Cached(_) | Step::Ranges => return None,
+        Step::Cached(_) | Step::Ranges | Step::AttachedTo(_) => return None,
     })
 }
 
@@ -220,11 +222,22 @@ fn ranged<A: Allocator + Copy>(core: &Core<A>) -> Option<Reply> {
     }
 }
 
-/// What one of the last two steps is answered; None where it wants for memory.
+/// The page table to which the device is attached.
+fn page_table_of<A: Allocator>(core: &Core<A>, device: DeviceNo) -> Reply {
+    match core.look(&Query::AttachedTo(device)) {
+        Answer::Attached(Some(id)) => Reply::Id(id),
+        Answer::Attached(None) => Reply::Done,
+        Answer::Refused(refusal) => Reply::Refused(refusal),
+        _ => BARRED,
+    }
+}
+
+/// What one of the last three steps is answered; None where it wants for memory.
 fn questioned<A: Allocator + Copy>(core: &mut Core<A>, step: Step) -> Option<Reply> {
     match step {
         Step::Cached(frame) => written(core, FrameNo(frame)),
         Step::Ranges => ranged(core),
+        Step::AttachedTo(device) => Some(page_table_of(core, device)),
         _ => None,
     }
 }
