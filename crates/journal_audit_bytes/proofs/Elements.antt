@@ -1,6 +1,6 @@
 -- Lists of elements: read, written, and read one after the other, as a loop does.
 use Rattle.std.proofs.Common.{◌≡◌, ℕ, zero, suc, ◌+◌, ◌-◌, ◌*◌, ◌/◌, ◌≤◌, ◌<◌, List, [], ◌∷◌, ◌++◌, length, drop, ltb}
-use Rattle.std.proofs.Common.{Option, Some, None, refl, sym, ap, subst, ◌∙◌, append_assoc, append-nil, arith}
+use Rattle.std.proofs.Common.{Option, Result, Ok, Err, Some, None, refl, sym, ap, subst, ◌∙◌, append_assoc, append-nil, arith}
 use Rattle.std.proofs.lemmas.Bool.{ltb-false}
 use Rattle.std.proofs.lemmas.List.{length-drop}
 use Rattle.std.specs.Int.{Width, w32, w64, byte_len, from_le_bytes}
@@ -8,7 +8,7 @@ use Rattle.std.proofs.Common.{take}
 use Rattle.journal_audit_bytes.specs.Format.{ElementsFit, elements_spelled, spelled}
 use Rattle.journal_audit_bytes.specs.declared.spelled.ReadError.{ReadError}
 use Rattle.journal_audit_bytes.specs.declared.spelled.ReadError.TheVariants.{Memory, Torn}
-use Rattle.journal_audit_bytes.specs.Reading.{◌>>=◌, Fails, elements_at, fields_at, number_at}
+use Rattle.journal_audit_bytes.specs.Reading.{◌>>=◌, Fails, OnMemory, elements_at, fields_at, number_at}
 use Rattle.journal_audit_bytes.proofs.Fields.{AreWide, IsBytes, Takes, Takes-then, bind_some, fields_again, fields_take, guard_none, some_is}
 
 pub elements_take : (n : ℕ) (ws : List Width) → AreWide ws → (bytes : List ℕ) (x : List (List ℕ) × List ℕ)
@@ -157,3 +157,8 @@ is_done ws front count i bytes total past before =
     sym before
     ∙ ap (λ (m : ℕ). with_front front (elements_at m ws bytes)) k
     ∙ ap (λ (es : List (List ℕ)). Some (es, bytes)) (append-nil front)
+
+pub on_memory : {X : Type 0} {P : Type 0} (r : Result X ReadError) → P → OnMemory r P
+on_memory (Ok x) holds = tt
+on_memory (Err Torn) holds = tt
+on_memory (Err Memory) holds = holds

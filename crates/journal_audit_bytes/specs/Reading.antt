@@ -32,6 +32,12 @@ abbrev pub Gives : {X Y : Type 0} → (X → Y) → Result X ReadError → Optio
 Gives view (Ok x) read = read ≡ Some (view x)
 Gives view (Err e) read = Fails e read
 
+-- where memory was refused
+abbrev pub OnMemory : {X : Type 0} → Result X ReadError → Type 0 → Type 0
+OnMemory (Ok x) P = Unit {0}
+OnMemory (Err Torn) P = Unit {0}
+OnMemory (Err Memory) P = P
+
 abbrev pub number_at : Width → List ℕ → Option (ℕ × List ℕ)
 number_at w bytes =
     if nat_lt (length bytes) (byte_len w) then None

@@ -1,9 +1,10 @@
 //! Lists behind their number.
 
-ghost use Rattle.std.specs.Prelude.{◌≡◌, ◌∷◌, []};
+ghost use Rattle.std.specs.Prelude.{◌≡◌, ◌*◌, ◌≤◌, ◌∷◌, [], length};
 ghost use Rattle.std.specs.Int.{w32, w64};
 ghost use Rattle.journal_audit_bytes.specs.Format.{burst, entries, frames};
-ghost use Rattle.journal_audit_bytes.specs.Reading.{Gives, elements_at, fields_at, list_at, of_frames, pairs, singles};
+ghost use Rattle.journal_audit_bytes.specs.Reading.{Gives, OnMemory, elements_at, fields_at, list_at};
+ghost use Rattle.journal_audit_bytes.specs.Reading.{of_frames, pairs, singles};
 
 use crate::numbers::{u8_at, u16_at, u32_at, u64_at};
 use crate::spelled::ReadError;
@@ -24,7 +25,8 @@ fn frames_from<A: Allocator>(
     count: usize,
     bytes: &[u8],
 ) -> Result<(Vec<FrameNo, A>, &[u8]), ReadError>
-    ensures { Gives (λ x. (of_frames x.0.items, x.1.now)) result (elements_at count (w32 ∷ []) bytes.now) }
+    ensures read { Gives (λ x. (of_frames x.0.items, x.1.now)) result (elements_at count (w32 ∷ []) bytes.now) }
+    ensures memory { OnMemory result (4 * count ≤ length bytes.now) }
 {
     if bytes.len() / 4 < count {
         return Err(ReadError::Torn);
@@ -64,7 +66,8 @@ fn entries_from<A: Allocator>(
     count: usize,
     bytes: &[u8],
 ) -> Result<(Vec<IovaRange, A>, &[u8]), ReadError>
-    ensures { Gives (λ x. (pairs x.0.items, x.1.now)) result (elements_at count (w64 ∷ w64 ∷ []) bytes.now) }
+    ensures read { Gives (λ x. (pairs x.0.items, x.1.now)) result (elements_at count (w64 ∷ w64 ∷ []) bytes.now) }
+    ensures memory { OnMemory result (16 * count ≤ length bytes.now) }
 {
     if bytes.len() / 16 < count {
         return Err(ReadError::Torn);
