@@ -330,3 +330,22 @@ pub is_found : {X : Type 0} (view : X → Raw × List ℕ) (passes : ℕ) (bytes
     → IfOk r (λ x. (text : List ℕ) × Spells passes (view x).0 text × (bytes ≡ text ++ (view x).1))
 is_found view passes bytes (Ok x) fits given = record_takes passes bytes (view x) fits given
 is_found view passes bytes (Err e) fits given = tt
+
+-- ---- one spelling
+
+one_tagged : (rows : List Row) (t : Tagged) (a b : List ℕ) → SpellsTagged rows t a → SpellsTagged rows t b → a ≡ b
+one_tagged rows t a b p q =
+    let same : p.row ≡ q.row = some_is p.row q.row (sym p.known ∙ q.known) in
+    p.bytes_are
+    ∙ ap (λ (row : Row). to_le_bytes w8 t.tag ++ (spelled row.numbers t.numbers ++ tail_spelled row.list t.list)) same
+    ∙ sym q.bytes_are
+
+pub one_spelling : (passes : ℕ) (r : Raw) (a b : List ℕ) → Spells passes r a → Spells passes r b → a ≡ b
+one_spelling passes r a b p q =
+    let lists : List ℕ = list_spelled frames r.taken ++ list_spelled frames r.given in
+    p.bytes_are
+    ∙ ap (λ (x : List ℕ). to_le_bytes w16 r.pass ++ (x ++ (p.reply ++ lists)))
+    (one_tagged event_rows r.event p.event q.event p.event_is q.event_is)
+    ∙ ap (λ (x : List ℕ). to_le_bytes w16 r.pass ++ (q.event ++ (x ++ lists)))
+    (one_tagged reply_rows r.reply p.reply q.reply p.reply_is q.reply_is)
+    ∙ sym q.bytes_are

@@ -150,6 +150,8 @@ pub fn read_record<A: Allocator + Copy>(
     // What is spelled so is read, unless memory was refused: the bytes are torn only where they begin with no record.
     ensures only { (r : Raw) (text rest : List ℕ) → Spells passes r text → bytes.now ≡ text ++ rest →
         Gives {Y = Raw × List ℕ} (λ x. (raw_of x.0, x.1.now)) result (Some (r, rest)) }
+    // A record has one spelling.
+    ensures one { (r : Raw) (a b : List ℕ) → Spells passes r a → Spells passes r b → a ≡ b }
 {
     record_at(alloc, passes, bytes)
 }
