@@ -1,6 +1,7 @@
 -- Lists of elements: read, written, and read one after the other, as a loop does.
 use Rattle.std.proofs.Common.{◌≡◌, ℕ, zero, suc, ◌+◌, ◌-◌, ◌*◌, ◌/◌, ◌≤◌, ◌<◌, List, [], ◌∷◌, ◌++◌, length, drop, ltb}
-use Rattle.std.proofs.Common.{Option, Result, Ok, Err, Some, None, refl, sym, ap, subst, ◌∙◌, append_assoc, append-nil, arith}
+use Rattle.std.proofs.Common.{Option, Result, Ok, Err, Some, None, refl, sym, ap, subst, ◌∙◌, append_assoc}
+use Rattle.std.proofs.Common.{append-nil, arith}
 use Rattle.std.proofs.lemmas.Bool.{ltb-false}
 use Rattle.std.proofs.lemmas.List.{length-drop}
 use Rattle.std.specs.Int.{Width, w32, w64, byte_len, from_le_bytes}
@@ -9,7 +10,8 @@ use Rattle.journal_audit_bytes.specs.Format.{ElementsFit, elements_spelled, spel
 use Rattle.journal_audit_bytes.specs.declared.spelled.ReadError.{ReadError}
 use Rattle.journal_audit_bytes.specs.declared.spelled.ReadError.TheVariants.{Memory, Torn}
 use Rattle.journal_audit_bytes.specs.Reading.{◌>>=◌, Fails, OnMemory, elements_at, fields_at, number_at}
-use Rattle.journal_audit_bytes.proofs.Fields.{AreWide, IsBytes, Takes, Takes-then, bind_some, fields_again, fields_take, guard_none, some_is}
+use Rattle.journal_audit_bytes.proofs.Fields.{AreWide, IsBytes, Takes, Takes-then, bind_some, fields_again}
+use Rattle.journal_audit_bytes.proofs.Fields.{fields_take, guard_none, some_is}
 
 pub elements_take : (n : ℕ) (ws : List Width) → AreWide ws → (bytes : List ℕ) (x : List (List ℕ) × List ℕ)
     → IsBytes bytes → elements_at n ws bytes ≡ Some x

@@ -1,12 +1,18 @@
 -- The two laws of a record: what is read is spelled so, and what is spelled so is read.
-use Rattle.std.proofs.Common.{◌≡◌, ℕ, ◌*◌, ◌^◌, ◌<◌, Bool, true, false, cond, eqb, ltb, List, [], ◌∷◌, ◌++◌, length, Option, Some, None, Result, Ok, Err, IfOk, refl, sym, ap, subst, ◌∙◌, append_assoc}
+use Rattle.std.proofs.Common.{◌≡◌, ℕ, ◌*◌, ◌^◌, ◌<◌, Bool, true, false, cond, eqb, ltb, List, [], ◌∷◌, ◌++◌, length}
+use Rattle.std.proofs.Common.{Option, Some, None, Result, Ok, Err, IfOk, refl, sym, ap, subst, ◌∙◌, append_assoc}
 use Rattle.std.specs.Int.{Width, w8, w16, w32, w64, byte_len, to_le_bytes}
 use Rattle.std.proofs.lemmas.Bool.{eqb-true, ltb-true, lt-ltb}
-use Rattle.journal_audit_bytes.specs.Format.{ElementsFit, ListFits, Listed, Raw, Row, Spells, SpellsTagged, Tagged, TailFits, elements_spelled, event_rows, frames, list_spelled, reply_rows, row_of, spelled, tail_spelled}
-use Rattle.journal_audit_bytes.specs.Reading.{◌>>=◌, Gives, elements_at, fields_at, fields_of_row, fields_of_tag, list_at, number_at, record_at, some_if, tagged_at, tail_at}
+use Rattle.journal_audit_bytes.specs.Format.{ElementsFit, ListFits, Listed, Raw, Row, Spells, SpellsTagged, Tagged}
+use Rattle.journal_audit_bytes.specs.Format.{TailFits, elements_spelled, event_rows, frames, list_spelled, reply_rows}
+use Rattle.journal_audit_bytes.specs.Format.{row_of, spelled, tail_spelled}
+use Rattle.journal_audit_bytes.specs.Reading.{◌>>=◌, Gives, elements_at, fields_at, fields_of_row, fields_of_tag}
+use Rattle.journal_audit_bytes.specs.Reading.{list_at, number_at, record_at, some_if, tagged_at, tail_at}
 use Rattle.journal_audit_bytes.specs.declared.spelled.ReadError.{ReadError}
 use Rattle.journal_audit_bytes.proofs.Elements.{elements_again, elements_take}
-use Rattle.journal_audit_bytes.proofs.Fields.{AreWide, IsBytes, IsWide, Takes, Takes-then, bind_some, fields_again, fields_take, number_again, number_takes, some_is, wide8, wide16, wide32, wide64}
+use Rattle.journal_audit_bytes.proofs.Fields.{AreWide, IsBytes, IsWide, Takes, Takes-then, bind_some, fields_again}
+use Rattle.journal_audit_bytes.proofs.Fields.{fields_take, number_again, number_takes, some_is, wide8, wide16, wide32}
+use Rattle.journal_audit_bytes.proofs.Fields.{wide64}
 
 guard_some : {A : Type 0} (b : Bool) (x y : A) → cond b (Some x) None ≡ Some y → (b ≡ true) × (x ≡ y)
 guard_some true x y is = (refl, cc)
@@ -55,7 +61,12 @@ plain_wide : {tag : ℕ} {ws : List Width} {allows : List ℕ → Bool} → AreW
 plain_wide wide = record { numbers = wide; list = tt }
 
 access_wide : {tag : ℕ} {allows : List ℕ → Bool} {may_be : ℕ → Bool}
-    → RowWide (record { tag = tag; numbers = w16 ∷ w64 ∷ []; list = Some (record { count = w8; may_be = may_be; element = w8 ∷ [] }); allows = allows })
+    → RowWide (record {
+      tag = tag;
+      numbers = w16 ∷ w64 ∷ [];
+      list = Some (record { count = w8; may_be = may_be; element = w8 ∷ [] });
+      allows = allows;
+    })
 access_wide = record { numbers = (wide16, (wide64, tt)); list = record { count = wide8; element = (wide8, tt) } }
 
 replies_wide : AllWide reply_rows
@@ -290,7 +301,8 @@ record_takes passes bytes x fits is =
     let later = Takes-then p.0.1 et.text e.0.1 (at.text ++ (taken ++ given)) v.0.1 et.takes behind in
     let whole = Takes-then bytes (to_le_bytes w16 p.0.0) p.0.1 (et.text ++ (at.text ++ (taken ++ given))) v.0.1
     pt.0 later in
-    subst (λ (y : Raw × List ℕ). (text : List ℕ) × Spells passes y.0 text × (bytes ≡ text ++ y.1)) (some_is made x v.2) (
+    subst (λ (y : Raw × List ℕ). (text : List ℕ) × Spells passes y.0 text × (bytes ≡ text ++ y.1))
+    (some_is made x v.2) (
       to_le_bytes w16 p.0.0 ++ (et.text ++ (at.text ++ (taken ++ given))),
       record {
         pass = ltb-true _ _ g.0;

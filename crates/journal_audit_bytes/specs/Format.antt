@@ -1,6 +1,7 @@
--- The bytes of a record: its pass; the tag of its event, and that event's fields; the tag of its reply, and that reply's
--- fields; the table frames taken, and those given back. All numbers are little-endian.
-use Rattle.std.specs.Prelude.{◌≡◌, ℕ, ◌^◌, ◌*◌, ◌<◌, nat_lt, Bool, true, ◌==◌, ◌&&◌, ◌||◌, Option, Some, None, List, []}
+-- The bytes of a record: its pass; the tag of its event, and that event's fields; the tag of its reply, and that
+-- reply's fields; the table frames taken, and those given back. All numbers are little-endian.
+use Rattle.std.specs.Prelude.{◌≡◌, ℕ, ◌^◌, ◌*◌, ◌<◌, nat_lt, Bool, true, ◌==◌, ◌&&◌, ◌||◌, Option, Some, None, List}
+use Rattle.std.specs.Prelude.{[]}
 use Rattle.std.specs.Prelude.{◌∷◌, ◌++◌, find, length, slice_index}
 use Rattle.std.specs.Int.{Width, w8, w16, w32, w64, byte_len, to_le_bytes}
 use Rattle.iofd_words.specs.Rights.{has_flag}

@@ -1,5 +1,5 @@
-//! The fields of each command.
-#![tactic(auto, unfolding(crate::specs::Reading::fields_of_tag, crate::specs::Reading::fields_of_row))]
+//! The fields of each command, read from the front of bytes, with the bytes after them.
+#![tactic(auto, unfolding(crate::specs::Format::is_kept, crate::specs::Reading::fields_of_tag, crate::specs::Reading::fields_of_row))]
 
 ghost use Rattle.std.specs.Prelude.{◌≡◌, ◌==◌, ◌&&◌, ◌||◌, nat_lt};
 ghost use Rattle.iofd_words.specs.Rights.{has_flag};
@@ -70,7 +70,6 @@ fn is_kept(flags: u32, iova: u64) -> bool
     flags < 8 && (MapFlags(flags).is_fixed() || iova == 0)
 }
 
-#[tactic(auto, unfolding(crate::specs::Reading::fields_of_tag, crate::specs::Reading::fields_of_row, crate::specs::Format::is_kept))]
 pub fn map_at<A: Allocator>(bytes: &[u8]) -> Result<(Event<A>, &[u8]), ReadError>
     ensures { Gives (λ x. (tagged_event x.0, x.1.now)) result (fields_of_tag event_rows 0x85 bytes.now) }
 {
@@ -93,7 +92,6 @@ pub fn map_at<A: Allocator>(bytes: &[u8]) -> Result<(Event<A>, &[u8]), ReadError
     Ok((Event::Map(FileNo(file), request), rest))
 }
 
-#[tactic(auto, unfolding(crate::specs::Reading::fields_of_tag, crate::specs::Reading::fields_of_row, crate::specs::Format::is_kept))]
 pub fn copy_at<A: Allocator>(bytes: &[u8]) -> Result<(Event<A>, &[u8]), ReadError>
     ensures { Gives (λ x. (tagged_event x.0, x.1.now)) result (fields_of_tag event_rows 0x83 bytes.now) }
 {

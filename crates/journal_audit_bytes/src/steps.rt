@@ -1,4 +1,4 @@
-//! The fields of each step.
+//! The fields of each step, read from the front of bytes, with the bytes after them.
 #![tactic(auto, unfolding(crate::specs::Reading::fields_of_tag, crate::specs::Reading::fields_of_row))]
 
 ghost use Rattle.std.specs.Prelude.{◌≡◌};

@@ -20,7 +20,7 @@ fn is_user_map<A: Allocator>(record: &SpelledRecord<A>, va: u64, frame: u32) -> 
         && record.given.as_slice().is_empty()
 }
 
-// Whether the front of the bytes is a UserMap at this address that was answered this frame, with so many bytes after it.
+// Whether the bytes begin with a UserMap at this address that was answered this frame, with so many bytes after it.
 fn reads<A: Allocator + Copy>(alloc: A, bytes: &[u8], va: u64, frame: u32, left: usize) -> bool {
     match read_record(alloc, 1, bytes) {
         Ok((record, rest)) => is_user_map(&record, va, frame) && rest.len() == left,

@@ -12,17 +12,19 @@ returns-then-bytes-count-clause-read g c = too_few_entries c.args.count c.args.b
 pub returns-in_err-start-clause-read : goal.returns-in_err-start-clause-read
 returns-in_err-start-clause-read g c =
     let p = err_from_is_err_and c.from_residual-in_err-start.result c.from_residual-in_err-start.ensures.1 in
-    rw (p.1, p.2) (ends_by c.in_err-start.field-0.0 (w64 ∷ w64 ∷ []) (pairs c.loop.ranges.items) c.args.count c.loop.counter
-    c.loop.rest.now (elements_at c.args.count (w64 ∷ w64 ∷ []) c.args.bytes.now) c.loop-test.true c.in_err-start.ensures
+    rw (p.1, p.2) (ends_by c.in_err-start.field-0.0 (w64 ∷ w64 ∷ []) (pairs c.loop.ranges.items) c.args.count
+    c.loop.counter c.loop.rest.now (elements_at c.args.count (w64 ∷ w64 ∷ []) c.args.bytes.now) c.loop-test.true c.in_err-start.ensures
     c.loop.invariant)
 
 pub loop-preserved : goal.loop-preserved
 loop-preserved g c =
-    let more : pairs c.push.new.self.items ≡ pairs c.loop.ranges.items ++ (c.in_ok-start.start ∷ c.in_ok-start.last ∷ []) ∷ [] =
+    let more : pairs c.push.new.self.items
+    ≡ pairs c.loop.ranges.items ++ (c.in_ok-start.start ∷ c.in_ok-start.last ∷ []) ∷ [] =
     rw c.in_ok-push.ensures.items (map_push _ c.loop.ranges.items _) in
     rw more (goes_on (w64 ∷ w64 ∷ []) (pairs c.loop.ranges.items) c.args.count c.loop.counter c.loop.rest.now
     (c.in_ok-start.start ∷ c.in_ok-start.last ∷ []) c.in_ok-start.after.now
-    (elements_at c.args.count (w64 ∷ w64 ∷ []) c.args.bytes.now) c.loop-test.true c.in_ok-start.ensures c.loop.invariant)
+    (elements_at c.args.count (w64 ∷ w64 ∷ []) c.args.bytes.now) c.loop-test.true c.in_ok-start.ensures
+    c.loop.invariant)
 
 pub returns-clause-read : goal.returns-clause-read
 returns-clause-read g c =

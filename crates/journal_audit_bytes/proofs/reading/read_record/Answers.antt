@@ -11,7 +11,8 @@ returns-clause-found g c =
 
 pub returns-clause-only : goal.returns-clause-only
 returns-clause-only g c =
-    λ r text rest spells is. subst (λ (o : Option (Raw × List ℕ)). Gives (λ x. (raw_of x.0, x.1.now)) c.record_at.result o)
+    λ r text rest spells is. subst
+    (λ (o : Option (Raw × List ℕ)). Gives (λ x. (raw_of x.0, x.1.now)) c.record_at.result o)
     (ap (record_at c.args.passes) is ∙ record_again c.args.passes r text rest spells) c.record_at.ensures
 
 pub returns-clause-one : goal.returns-clause-one
