@@ -1,6 +1,6 @@
-//! The two records of a journal, worked by hand: a user is given two pages.
+//! Records worked by hand: a user is given two pages, and one that has lists.
 
-use iofd_words::{Event, PassNo, UserNo};
+use iofd_words::{Event, FileNo, FrameNo, IovaRange, ObjId, PassNo, UserNo};
 use journal_audit_bytes::{ReadError, SpelledRecord, SpelledReply, read_record};
 use std::alloc::Allocator;
 
@@ -33,6 +33,50 @@ fn is_torn<A: Allocator + Copy>(alloc: A, passes: u16, bytes: &[u8]) -> bool {
         Ok(_) => false,
         Err(error) => error == ReadError::Torn,
     }
+}
+
+// Pass 0, an ALLOW_IOVAS of file 1 for address space 2 with the range 0x1000 to 0x1fff, Done; table frame 7 is taken.
+const WITH_LISTS: &[u8] =
+    b"\0\0\x82\x01\0\x02\0\0\0\x01\0\0\0\0\x10\0\0\0\0\0\0\xff\x1f\0\0\0\0\0\0\
+      \0\x01\0\x07\0\0\0\0\0";
+
+fn has_lists<A: Allocator>(record: &SpelledRecord<A>) -> bool {
+    let is_event = match &record.event {
+        Event::AllowIovas(file, ioas, ranges) => {
+            *file == FileNo(1) && *ioas == ObjId(2) && is_page_1(ranges.as_slice())
+        }
+        _ => false,
+    };
+    is_event
+        && record.reply == SpelledReply::Done
+        && is_frame_7(record.taken.as_slice())
+        && record.given.as_slice().is_empty()
+}
+
+fn is_frame_7(frames: &[FrameNo]) -> bool {
+    match frames {
+        [frame] => *frame == FrameNo(7),
+        _ => false,
+    }
+}
+
+fn is_page_1(ranges: &[IovaRange]) -> bool {
+    match ranges {
+        [range] => range.start == 0x1000 && range.last == 0x1fff,
+        _ => false,
+    }
+}
+
+fn reads_lists<A: Allocator + Copy>(alloc: A) -> bool {
+    match read_record(alloc, 1, WITH_LISTS) {
+        Ok((record, rest)) => has_lists(&record) && rest.is_empty(),
+        Err(_) => false,
+    }
+}
+
+#[test]
+fn lists_are_read(rt: HostRuntime) {
+    assert!(rt; reads_lists(rt.alloc()));
 }
 
 #[test]
