@@ -1,0 +1,4 @@
+pub mod Bursts
+pub mod Elements
+pub mod Fields
+pub mod Records

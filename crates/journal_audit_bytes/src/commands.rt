@@ -1,0 +1,117 @@
+//! The fields of each command, read from the front of bytes, with the bytes after them.
+#![tactic(auto, unfolding(crate::specs::Format::is_kept, crate::specs::Reading::fields_of_tag, crate::specs::Reading::fields_of_row))]
+
+ghost use Rattle.std.specs.Prelude.{◌≡◌, ◌==◌, ◌&&◌, ◌||◌, nat_lt};
+ghost use Rattle.iofd_words.specs.Rights.{has_flag};
+ghost use Rattle.journal_audit_bytes.specs.Format.{event_rows};
+ghost use Rattle.journal_audit_bytes.specs.Reading.{Gives, fields_of_tag, tagged_event};
+
+use crate::lists::entries_at;
+use crate::numbers::{u16_at, u32_at, u64_at};
+use crate::spelled::ReadError;
+use iofd_words::{
+    CopyRequest, Event, FileNo, HwptRequest, Iova, MapFlags, MapRequest, ObjId, UnmapRequest,
+};
+use std::alloc::Allocator;
+
+pub fn destroy_at<A: Allocator>(bytes: &[u8]) -> Result<(Event<A>, &[u8]), ReadError>
+    ensures { Gives (λ x. (tagged_event x.0, x.1.now)) result (fields_of_tag event_rows 0x80 bytes.now) }
+{
+    let (file, rest) = u16_at(bytes)?;
+    let (id, rest) = u32_at(rest)?;
+    Ok((Event::Destroy(FileNo(file), ObjId(id)), rest))
+}
+
+pub fn ioas_alloc_at<A: Allocator>(bytes: &[u8]) -> Result<(Event<A>, &[u8]), ReadError>
+    ensures { Gives (λ x. (tagged_event x.0, x.1.now)) result (fields_of_tag event_rows 0x81 bytes.now) }
+{
+    let (file, rest) = u16_at(bytes)?;
+    Ok((Event::IoasAlloc(FileNo(file)), rest))
+}
+
+pub fn unmap_at<A: Allocator>(bytes: &[u8]) -> Result<(Event<A>, &[u8]), ReadError>
+    ensures { Gives (λ x. (tagged_event x.0, x.1.now)) result (fields_of_tag event_rows 0x86 bytes.now) }
+{
+    let (file, rest) = u16_at(bytes)?;
+    let (ioas, rest) = u32_at(rest)?;
+    let (iova, rest) = u64_at(rest)?;
+    let (length, rest) = u64_at(rest)?;
+    let (ioas, iova) = (ObjId(ioas), Iova(iova));
+    let request = UnmapRequest { ioas, iova, length };
+    Ok((Event::Unmap(FileNo(file), request), rest))
+}
+
+pub fn hwpt_alloc_at<A: Allocator>(bytes: &[u8]) -> Result<(Event<A>, &[u8]), ReadError>
+    ensures { Gives (λ x. (tagged_event x.0, x.1.now)) result (fields_of_tag event_rows 0x89 bytes.now) }
+{
+    let (file, rest) = u16_at(bytes)?;
+    let (device, rest) = u32_at(rest)?;
+    let (ioas, rest) = u32_at(rest)?;
+    let (device, ioas) = (ObjId(device), ObjId(ioas));
+    Ok((
+        Event::HwptAlloc(FileNo(file), HwptRequest { device, ioas }),
+        rest,
+    ))
+}
+
+pub fn allow_iovas_at<A: Allocator>(alloc: A, bytes: &[u8]) -> Result<(Event<A>, &[u8]), ReadError>
+    ensures { Gives (λ x. (tagged_event x.0, x.1.now)) result (fields_of_tag event_rows 0x82 bytes.now) }
+{
+    let (file, rest) = u16_at(bytes)?;
+    let (ioas, rest) = u32_at(rest)?;
+    let (ranges, rest) = entries_at(alloc, rest)?;
+    Ok((Event::AllowIovas(FileNo(file), ObjId(ioas), ranges), rest))
+}
+
+// Whether a MAP or a COPY has no unknown flag, and no address that its flags don't fix but 0.
+fn is_kept(flags: u32, iova: u64) -> bool
+    ensures { result ≡ (nat_lt flags 8 && (has_flag flags 1 || iova == 0)) }
+{
+    flags < 8 && (MapFlags(flags).is_fixed() || iova == 0)
+}
+
+pub fn map_at<A: Allocator>(bytes: &[u8]) -> Result<(Event<A>, &[u8]), ReadError>
+    ensures { Gives (λ x. (tagged_event x.0, x.1.now)) result (fields_of_tag event_rows 0x85 bytes.now) }
+{
+    let (file, rest) = u16_at(bytes)?;
+    let (flags, rest) = u32_at(rest)?;
+    let (ioas, rest) = u32_at(rest)?;
+    let (user_va, rest) = u64_at(rest)?;
+    let (length, rest) = u64_at(rest)?;
+    let (iova, rest) = u64_at(rest)?;
+    if !is_kept(flags, iova) {
+        return Err(ReadError::Torn);
+    }
+    let request = MapRequest {
+        flags: MapFlags(flags),
+        ioas: ObjId(ioas),
+        user_va,
+        length,
+        iova: Iova(iova),
+    };
+    Ok((Event::Map(FileNo(file), request), rest))
+}
+
+pub fn copy_at<A: Allocator>(bytes: &[u8]) -> Result<(Event<A>, &[u8]), ReadError>
+    ensures { Gives (λ x. (tagged_event x.0, x.1.now)) result (fields_of_tag event_rows 0x83 bytes.now) }
+{
+    let (file, rest) = u16_at(bytes)?;
+    let (flags, rest) = u32_at(rest)?;
+    let (dst_ioas, rest) = u32_at(rest)?;
+    let (src_ioas, rest) = u32_at(rest)?;
+    let (length, rest) = u64_at(rest)?;
+    let (dst_iova, rest) = u64_at(rest)?;
+    let (src_iova, rest) = u64_at(rest)?;
+    if !is_kept(flags, dst_iova) {
+        return Err(ReadError::Torn);
+    }
+    let request = CopyRequest {
+        flags: MapFlags(flags),
+        dst_ioas: ObjId(dst_ioas),
+        src_ioas: ObjId(src_ioas),
+        length,
+        dst_iova: Iova(dst_iova),
+        src_iova: Iova(src_iova),
+    };
+    Ok((Event::Copy(FileNo(file), request), rest))
+}

@@ -1,0 +1,157 @@
+//! From bytes to a record.
+
+ghost use Rattle.std.specs.Prelude.{◌≡◌, ◌++◌, List, ℕ, Some, IfOk};
+ghost use Rattle.journal_audit_bytes.specs.Format.{Raw, Spells, event_rows, frames, reply_rows};
+ghost use Rattle.journal_audit_bytes.specs.Reading.{Gives, fields_of_tag, of_frames, raw_of, record_at, tagged_at};
+ghost use Rattle.journal_audit_bytes.specs.Reading.{tagged_event, tagged_reply};
+
+use crate::commands::{
+    allow_iovas_at, copy_at, destroy_at, hwpt_alloc_at, ioas_alloc_at, map_at, unmap_at,
+};
+use crate::lists::frames_at;
+use crate::numbers::{u8_at, u16_at, u32_at, u64_at};
+use crate::spelled::{ReadError, SpelledRecord, SpelledReply};
+use crate::steps::{
+    attach_at, bind_at, close_at, detach_at, device_write_at, flush_at, unbind_at, user_map_at,
+    user_unmap_at, user_write_at,
+};
+use iofd_words::{Event, PassNo};
+use std::alloc::Allocator;
+
+// The event of a tag, by the fields at the front.
+#[tactic(auto, unfolding(crate::specs::Reading::fields_of_tag))]
+fn event_of_tag<A: Allocator>(
+    alloc: A,
+    tag: u8,
+    bytes: &[u8],
+) -> Result<(Event<A>, &[u8]), ReadError>
+    ensures { Gives (λ x. (tagged_event x.0, x.1.now)) result (fields_of_tag event_rows tag bytes.now) }
+{
+    match tag {
+        0x01 => close_at(bytes),
+        0x02 => user_map_at(bytes),
+        0x03 => user_unmap_at(bytes),
+        0x04 => user_write_at(bytes),
+        0x05 => bind_at(bytes),
+        0x06 => unbind_at(bytes),
+        0x07 => attach_at(bytes),
+        0x08 => detach_at(bytes),
+        0x09 => flush_at(bytes),
+        0x0a => device_write_at(bytes),
+        0x80 => destroy_at(bytes),
+        0x81 => ioas_alloc_at(bytes),
+        0x82 => allow_iovas_at(alloc, bytes),
+        0x83 => copy_at(bytes),
+        0x85 => map_at(bytes),
+        0x86 => unmap_at(bytes),
+        0x89 => hwpt_alloc_at(bytes),
+        _ => Err(ReadError::Torn),
+    }
+}
+
+#[tactic(auto, unfolding(crate::specs::Reading::tagged_at))]
+fn event_at<A: Allocator>(alloc: A, bytes: &[u8]) -> Result<(Event<A>, &[u8]), ReadError>
+    ensures { Gives (λ x. (tagged_event x.0, x.1.now)) result (tagged_at event_rows bytes.now) }
+{
+    let (tag, rest) = u8_at(bytes)?;
+    event_of_tag(alloc, tag, rest)
+}
+
+// The reply of a tag, by the fields at the front.
+#[tactic(auto, unfolding(crate::specs::Reading::fields_of_tag, crate::specs::Reading::fields_of_row))]
+fn reply_of_tag(tag: u8, bytes: &[u8]) -> Result<(SpelledReply, &[u8]), ReadError>
+    ensures { Gives (λ x. (tagged_reply x.0, x.1.now)) result (fields_of_tag reply_rows tag bytes.now) }
+{
+    match tag {
+        0x00 => Ok((SpelledReply::Done, bytes)),
+        0x01 => {
+            let (id, rest) = u32_at(bytes)?;
+            Ok((SpelledReply::Id(id), rest))
+        }
+        0x02 => {
+            let (iova, rest) = u64_at(bytes)?;
+            Ok((SpelledReply::Iova(iova), rest))
+        }
+        0x03 => {
+            let (count, rest) = u64_at(bytes)?;
+            Ok((SpelledReply::Bytes(count), rest))
+        }
+        0x04 => {
+            let (errno, rest) = u8_at(bytes)?;
+            Ok((SpelledReply::Pending(errno), rest))
+        }
+        0x05 => {
+            let (frame, rest) = u32_at(bytes)?;
+            Ok((SpelledReply::Frame(frame), rest))
+        }
+        0x06 => {
+            let (frame, rest) = u32_at(bytes)?;
+            Ok((SpelledReply::Passed(frame), rest))
+        }
+        0x07 => {
+            let (reason, rest) = u8_at(bytes)?;
+            Ok((SpelledReply::Fault(reason), rest))
+        }
+        0x08 => {
+            let (number, rest) = u8_at(bytes)?;
+            Ok((SpelledReply::Refused(number), rest))
+        }
+        _ => Err(ReadError::Torn),
+    }
+}
+
+#[tactic(auto, unfolding(crate::specs::Reading::tagged_at))]
+fn reply_at(bytes: &[u8]) -> Result<(SpelledReply, &[u8]), ReadError>
+    ensures { Gives (λ x. (tagged_reply x.0, x.1.now)) result (tagged_at reply_rows bytes.now) }
+{
+    let (tag, rest) = u8_at(bytes)?;
+    reply_of_tag(tag, rest)
+}
+
+#[tactic(auto, unfolding(crate::specs::Reading::record_at))]
+fn record_at<A: Allocator + Copy>(
+    alloc: A,
+    passes: u16,
+    bytes: &[u8],
+) -> Result<(SpelledRecord<A>, &[u8]), ReadError>
+    ensures { Gives (λ x. (raw_of x.0, x.1.now)) result (record_at passes bytes.now) }
+{
+    let (pass, rest) = u16_at(bytes)?;
+    if pass >= passes {
+        return Err(ReadError::Torn);
+    }
+    let (event, rest) = event_at(alloc, rest)?;
+    let (reply, rest) = reply_at(rest)?;
+    let (taken, rest) = frames_at(alloc, rest)?;
+    let (given, rest) = frames_at(alloc, rest)?;
+    let pass = PassNo(pass);
+    let record = SpelledRecord {
+        pass,
+        event,
+        reply,
+        taken,
+        given,
+    };
+    Ok((record, rest))
+}
+
+/// The record at the front of the bytes, and the bytes after it, where there are so many passes. The error is Torn
+/// where the bytes begin with no record: they end within it, a tag is unknown, its pass isn't below the passes, an
+/// access has no byte or more than 64, flags have an unknown bit, or an address that they don't fix isn't 0. It is
+/// Memory where the memory for a list of the record was refused; a list for which the bytes are too few takes none.
+pub fn read_record<A: Allocator + Copy>(
+    alloc: A,
+    passes: u16,
+    bytes: &[u8],
+) -> Result<(SpelledRecord<A>, &[u8]), ReadError>
+    // What is read is spelled so.
+    ensures found { IfOk result
+        (λ x. (text : List ℕ) × Spells passes (raw_of x.0) text × (bytes.now ≡ text ++ x.1.now)) }
+    // What is spelled so is read, unless memory was refused: the bytes are torn only where they begin with no record.
+    ensures only { (r : Raw) (text rest : List ℕ) → Spells passes r text → bytes.now ≡ text ++ rest →
+        Gives {Y = Raw × List ℕ} (λ x. (raw_of x.0, x.1.now)) result (Some (r, rest)) }
+    // A record has one spelling.
+    ensures one { (r : Raw) (a b : List ℕ) → Spells passes r a → Spells passes r b → a ≡ b }
+{
+    record_at(alloc, passes, bytes)
+}

@@ -1,0 +1,98 @@
+//! The fields of each step, read from the front of bytes, with the bytes after them.
+#![tactic(auto, unfolding(crate::specs::Reading::fields_of_tag, crate::specs::Reading::fields_of_row))]
+
+ghost use Rattle.std.specs.Prelude.{◌≡◌};
+ghost use Rattle.journal_audit_bytes.specs.Format.{event_rows};
+ghost use Rattle.journal_audit_bytes.specs.Reading.{Gives, fields_of_tag, tagged_event};
+
+use crate::lists::burst_at;
+use crate::numbers::{u16_at, u32_at, u64_at};
+use crate::spelled::ReadError;
+use iofd_words::{DeviceNo, Event, FileNo, Iova, ObjId, UserNo};
+use std::alloc::Allocator;
+
+pub fn close_at<A: Allocator>(bytes: &[u8]) -> Result<(Event<A>, &[u8]), ReadError>
+    ensures { Gives (λ x. (tagged_event x.0, x.1.now)) result (fields_of_tag event_rows 0x01 bytes.now) }
+{
+    let (file, rest) = u16_at(bytes)?;
+    Ok((Event::Close(FileNo(file)), rest))
+}
+
+pub fn user_map_at<A: Allocator>(bytes: &[u8]) -> Result<(Event<A>, &[u8]), ReadError>
+    ensures { Gives (λ x. (tagged_event x.0, x.1.now)) result (fields_of_tag event_rows 0x02 bytes.now) }
+{
+    let (user, rest) = u16_at(bytes)?;
+    let (va, rest) = u64_at(rest)?;
+    Ok((Event::UserMap(UserNo(user), va), rest))
+}
+
+pub fn user_unmap_at<A: Allocator>(bytes: &[u8]) -> Result<(Event<A>, &[u8]), ReadError>
+    ensures { Gives (λ x. (tagged_event x.0, x.1.now)) result (fields_of_tag event_rows 0x03 bytes.now) }
+{
+    let (user, rest) = u16_at(bytes)?;
+    let (va, rest) = u64_at(rest)?;
+    Ok((Event::UserUnmap(UserNo(user), va), rest))
+}
+
+pub fn bind_at<A: Allocator>(bytes: &[u8]) -> Result<(Event<A>, &[u8]), ReadError>
+    ensures { Gives (λ x. (tagged_event x.0, x.1.now)) result (fields_of_tag event_rows 0x05 bytes.now) }
+{
+    let (file, rest) = u16_at(bytes)?;
+    let (device, rest) = u16_at(rest)?;
+    Ok((Event::Bind(FileNo(file), DeviceNo(device)), rest))
+}
+
+pub fn unbind_at<A: Allocator>(bytes: &[u8]) -> Result<(Event<A>, &[u8]), ReadError>
+    ensures { Gives (λ x. (tagged_event x.0, x.1.now)) result (fields_of_tag event_rows 0x06 bytes.now) }
+{
+    let (file, rest) = u16_at(bytes)?;
+    let (id, rest) = u32_at(rest)?;
+    Ok((Event::Unbind(FileNo(file), ObjId(id)), rest))
+}
+
+pub fn attach_at<A: Allocator>(bytes: &[u8]) -> Result<(Event<A>, &[u8]), ReadError>
+    ensures { Gives (λ x. (tagged_event x.0, x.1.now)) result (fields_of_tag event_rows 0x07 bytes.now) }
+{
+    let (device, rest) = u16_at(bytes)?;
+    let (pt_id, rest) = u32_at(rest)?;
+    Ok((Event::Attach(DeviceNo(device), ObjId(pt_id)), rest))
+}
+
+pub fn detach_at<A: Allocator>(bytes: &[u8]) -> Result<(Event<A>, &[u8]), ReadError>
+    ensures { Gives (λ x. (tagged_event x.0, x.1.now)) result (fields_of_tag event_rows 0x08 bytes.now) }
+{
+    let (device, rest) = u16_at(bytes)?;
+    Ok((Event::Detach(DeviceNo(device)), rest))
+}
+
+pub fn flush_at<A: Allocator>(bytes: &[u8]) -> Result<(Event<A>, &[u8]), ReadError>
+    ensures { Gives (λ x. (tagged_event x.0, x.1.now)) result (fields_of_tag event_rows 0x09 bytes.now) }
+{
+    let (device, rest) = u16_at(bytes)?;
+    Ok((Event::Flush(DeviceNo(device)), rest))
+}
+
+pub fn user_write_at<A: Allocator>(bytes: &[u8]) -> Result<(Event<A>, &[u8]), ReadError>
+    ensures { Gives (λ x. (tagged_event x.0, x.1.now)) result (fields_of_tag event_rows 0x04 bytes.now) }
+{
+    let (user, rest) = u16_at(bytes)?;
+    let (va, rest) = u64_at(rest)?;
+    match burst_at(rest) {
+        Ok((burst, rest)) => Ok((Event::UserWrite(UserNo(user), va, burst), rest)),
+        Err(error) => Err(error),
+    }
+}
+
+pub fn device_write_at<A: Allocator>(bytes: &[u8]) -> Result<(Event<A>, &[u8]), ReadError>
+    ensures { Gives (λ x. (tagged_event x.0, x.1.now)) result (fields_of_tag event_rows 0x0a bytes.now) }
+{
+    let (device, rest) = u16_at(bytes)?;
+    let (iova, rest) = u64_at(rest)?;
+    match burst_at(rest) {
+        Ok((burst, rest)) => Ok((
+            Event::DeviceWrite(DeviceNo(device), Iova(iova), burst),
+            rest,
+        )),
+        Err(error) => Err(error),
+    }
+}

@@ -1,0 +1,5 @@
+//! Tests of `journal_audit_bytes`, through public calls.
+#![tactic(auto)]
+
+#[cfg(test)]
+mod records;
