@@ -11,7 +11,7 @@ use Rattle.iofd_words.specs.Copies.{placed_as, source_in}
 use Rattle.iofd_words.specs.Files.{user_of, device_of}
 use Rattle.iofd_words.specs.Frames.{frame_at, with_write, without_frame, without_page}
 use Rattle.iofd_words.specs.Objects.{automatic_hwpt, binding_of, is_automatic, is_object, kind_of, settings_under}
-use Rattle.iofd_words.specs.Objects.{with_object, without_device_object, without_object}
+use Rattle.iofd_words.specs.Objects.{with_access, with_object, without_device_object, without_object}
 use Rattle.iofd_words.specs.Pages.{page_of, offset_of}
 use Rattle.iofd_words.specs.Pins.{pinned_pages, settled}
 use Rattle.iofd_words.specs.Rights.{is_writeable, rights_of}
@@ -148,6 +148,7 @@ abbrev pub target_changes : World → DeviceNo → ObjId → ObjId → Object �
 target_changes w device pt_id id bound settings (Some kind.Ioas) = settle w (attached w device pt_id id bound settings)
 target_changes w device pt_id id bound settings (Some (kind.Hwpt ioas width automatic)) = joined w device id bound
 target_changes w device pt_id id bound settings (Some (kind.Device other)) = w
+target_changes w device pt_id id bound settings (Some (kind.Access attached)) = w
 target_changes w device pt_id id bound settings None = w
 
 -- a device that is bound, and so is one of the settings, is attached; one that is attached is detached
@@ -267,6 +268,20 @@ device_written w iova bytes (reply.Passed frame) =
     record w { writes = record { frame = frame.0; offset = offset_of iova.0; bytes = bytes } ∷ w.writes }
 device_written w iova bytes answer = w
 
+-- a new access object is attached to nothing
+abbrev pub access_created : World → FileNo → Reply → World
+access_created w file (reply.Id id) =
+    record w { objects = with_object (record { file = file; id = id; kind = kind.Access None }) w.objects }
+access_created w file answer = w
+
+abbrev pub access_attached : World → FileNo → ObjId → ObjId → Reply → World
+access_attached w file id ioas reply.Done = record w { objects = with_access file id (Some ioas) w.objects }
+access_attached w file id ioas answer = w
+
+abbrev pub access_detached : World → FileNo → ObjId → Reply → World
+access_detached w file id reply.Done = record w { objects = with_access file id None w.objects }
+access_detached w file id answer = w
+
 -- the world after an event, at the record's position
 unfoldable pub changed : {A : Type 0} → ℕ → World → Event A → Reply → World
 changed at w (event.IoasAlloc file) answer = allocated w file answer
@@ -286,3 +301,6 @@ changed at w (event.Attach device pt_id) answer = device_attached w device pt_id
 changed at w (event.Detach device) answer = device_detached w device answer
 changed at w (event.Flush device) answer = device_flushed w device answer
 changed at w (event.DeviceWrite device iova bytes) answer = device_written w iova bytes answer
+changed at w (event.AccessCreate file) answer = access_created w file answer
+changed at w (event.AccessAttach file id ioas) answer = access_attached w file id ioas answer
+changed at w (event.AccessDetach file id) answer = access_detached w file id answer

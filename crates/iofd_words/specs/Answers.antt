@@ -1,7 +1,7 @@
 -- What an event that nothing refuses may answer. Where the server may choose (an id, a frame, whether a
 -- device that owes a flush is still let through), each lawful choice is an answer.
 use Rattle.std.specs.Prelude.{◌≡◌, ℕ, Bool, true, false, not, Option, Some, None, map, Contains, IsTrue}
-use Rattle.iofd_words.specs.Areas.{is_waiting, touched_bytes}
+use Rattle.iofd_words.specs.Areas.{is_waiting, pending_errno, touched_bytes, touched_tries}
 use Rattle.iofd_words.specs.Attachments.{devices_of}
 use Rattle.iofd_words.specs.Checks.{may_choose}
 use Rattle.iofd_words.specs.Copies.{placed_as}
@@ -23,7 +23,6 @@ use Rattle.iofd_words.specs.declared.numbers.FileNo.{FileNo}
 use Rattle.iofd_words.specs.declared.numbers.FrameNo.{FrameNo}
 use Rattle.iofd_words.specs.declared.numbers.Iova.{Iova}
 use Rattle.iofd_words.specs.declared.numbers.ObjId.{ObjId}
-use Rattle.iofd_words.specs.declared.refusal.Errno.TheVariants.{EAGAIN}
 use Rattle.iofd_words.specs.declared.reply.Reply.{Reply}
 use Rattle.iofd_words.specs.declared.reply.Reply.TheVariants as reply
 use Rattle.iofd_words.specs.declared.rows.Object.{Object}
@@ -42,6 +41,7 @@ abbrev pub IsTarget : World → FileNo → ObjId → ObjId → Width → Option 
 IsTarget w file pt_id id width (Some kind.Ioas) = IsHwptFor w file id (automatic_hwpt w.objects file pt_id width)
 IsTarget w file pt_id id width (Some (kind.Hwpt ioas of automatic)) = id ≡ pt_id
 IsTarget w file pt_id id width (Some (kind.Device bound)) = ⊥
+IsTarget w file pt_id id width (Some (kind.Access attached)) = ⊥
 IsTarget w file pt_id id width None = ⊥
 
 -- the page table of a device that is bound, and so is one of the settings
@@ -80,14 +80,15 @@ abbrev pub AnswersDone : Reply → Type 0
 AnswersDone reply.Done = Unit {0}
 AnswersDone answer = ⊥
 
--- an UNMAP waits as long as some device still has to flush; else it answers how many bytes it took away
+-- an UNMAP waits as long as some device still has to flush, and says after a hundred tries that this leads nowhere;
+-- else it answers how many bytes it took away
 abbrev pub UnmapAnswers : World → FileNo → UnmapRequest → Reply → Type 0
 UnmapAnswers w file request (reply.Bytes count) =
     IsTrue (not (is_waiting w.areas (devices_of w.objects w.attachments file request.ioas) file request))
     × (count ≡ touched_bytes w.areas file request)
 UnmapAnswers w file request (reply.Pending errno) =
     IsTrue (is_waiting w.areas (devices_of w.objects w.attachments file request.ioas) file request)
-    × (errno ≡ EAGAIN)
+    × (errno ≡ pending_errno (touched_tries w.areas file request))
 UnmapAnswers w file request answer = ⊥
 
 -- ---- the answers of each event
@@ -114,3 +115,6 @@ Answers w (event.Detach device) answer = AnswersDone answer
 Answers w (event.Flush device) answer = AnswersDone answer
 Answers w (event.DeviceWrite device iova bytes) answer =
     Contains (map (write_reply w device iova.0) (outcomes w device iova.0 Write)) answer
+Answers w (event.AccessCreate file) answer = AnswersId (λ id. IsTrue (is_fresh w.objects file id)) answer
+Answers w (event.AccessAttach file id ioas) answer = AnswersDone answer
+Answers w (event.AccessDetach file id) answer = AnswersDone answer

@@ -1,6 +1,7 @@
--- The areas of address spaces: live, or leaving until the devices that may have cached them have flushed.
-use Rattle.std.specs.Prelude.{ℕ, Bool, ◌==◌, ◌&&◌, not, nat_le, nat_lt, Option, List, [], ◌∷◌, length}
-use Rattle.std.specs.Prelude.{map, filter}
+-- The areas of address spaces: live, or leaving until the devices that may have cached them have flushed. UNMAPs that
+-- find them so are counted, up to a hundred, and are told then that asking again leads nowhere: this project's rule.
+use Rattle.std.specs.Prelude.{ℕ, ◌+◌, Bool, ◌==◌, ◌&&◌, not, nat_le, nat_lt, max, Option, List, [], ◌∷◌, length}
+use Rattle.std.specs.Prelude.{map, filter, fold}
 use Rattle.std.specs.Prelude.{find, sum_by, if◌then◌else◌}
 use Rattle.std.specs.List.{list_any}
 use Rattle.iofd_words.specs.Bounds.{Bounds}
@@ -10,6 +11,8 @@ use Rattle.iofd_words.specs.declared.numbers.FileNo.{FileNo}
 use Rattle.iofd_words.specs.declared.numbers.ObjId.{ObjId}
 use Rattle.iofd_words.specs.declared.numbers.DeviceNo.{DeviceNo}
 use Rattle.iofd_words.specs.declared.event.UnmapRequest.{UnmapRequest}
+use Rattle.iofd_words.specs.declared.refusal.Errno.{Errno}
+use Rattle.iofd_words.specs.declared.refusal.Errno.TheVariants.{EAGAIN, EDEADLOCK}
 use Rattle.iofd_words.specs.declared.rows.Area.{Area}
 use Rattle.iofd_words.specs.declared.rows.Phase.{Phase}
 use Rattle.iofd_words.specs.declared.rows.Phase.TheVariants.{Live, Leaving}
@@ -29,6 +32,23 @@ owed_by attached (Leaving owed tries) = owed
 abbrev pub leaving : List ℕ → Phase → Phase
 leaving attached Live = Leaving attached 0
 leaving attached (Leaving owed tries) = Leaving owed tries
+
+-- how many UNMAPs of a leaving area were answered EAGAIN; at most a hundred are counted
+abbrev pub tries_of : Phase → ℕ
+tries_of Live = 0
+tries_of (Leaving owed tries) = tries
+
+abbrev pub counted_tries : ℕ
+counted_tries = 100
+
+-- so many of them from now on
+abbrev pub with_tries : ℕ → Phase → Phase
+with_tries tries Live = Live
+with_tries tries (Leaving owed before) = Leaving owed tries
+
+-- one more, where so many are the most among the areas that an UNMAP names; as many as before where all are counted
+abbrev pub tried : ℕ → Phase → Phase
+tried most phase = if nat_lt most counted_tries then with_tries (most + 1) phase else phase
 
 -- the device has flushed
 abbrev pub paid : DeviceNo → Phase → Phase
@@ -103,12 +123,24 @@ abbrev pub is_waiting : List Area → List ℕ → FileNo → UnmapRequest → B
 is_waiting areas attached file request =
     list_any (λ area. not (length (owed_by attached area.phase) == 0)) (touched areas file request)
 
+-- the most tries that one of the touched areas has seen
+abbrev pub most_tries : List Area → ℕ
+most_tries areas = fold (λ most area. max most (tries_of area.phase)) 0 areas
+
+abbrev pub touched_tries : List Area → FileNo → UnmapRequest → ℕ
+touched_tries areas file request = most_tries (touched areas file request)
+
+-- what an UNMAP that waits answers: call again, or, after a hundred tries, that this leads nowhere
+abbrev pub pending_errno : ℕ → Errno
+pending_errno most = if nat_lt most counted_tries then EAGAIN else EDEADLOCK
+
 -- how many bytes go
 abbrev pub touched_bytes : List Area → FileNo → UnmapRequest → ℕ
 touched_bytes areas file request = sum_by (λ area. size_of area.span) (touched areas file request)
 
--- all touched areas are leaving
+-- all touched areas are leaving, and have seen one try more
 abbrev pub with_leaving : List Area → List ℕ → FileNo → UnmapRequest → List Area
 with_leaving areas attached file request =
-    map (λ area. with_phase (if is_touched file request area then leaving attached area.phase else area.phase) area)
-    areas
+    map (λ area. with_phase (if is_touched file request area
+    then tried (touched_tries areas file request) (leaving attached area.phase)
+    else area.phase) area) areas

@@ -24,6 +24,7 @@ abbrev pub ioas_of : ObjectKind → Option ObjId
 ioas_of kind.Ioas = None
 ioas_of (kind.Hwpt ioas width automatic) = Some ioas
 ioas_of (kind.Device device) = None
+ioas_of (kind.Access attached) = None
 
 abbrev pub ioas_of_attachment : List Object → Attachment → Option ObjId
 ioas_of_attachment objects a = elim (kind_of objects a.file a.hwpt) [ Some kind ↦ ioas_of kind | None ↦ None ]

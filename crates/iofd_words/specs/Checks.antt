@@ -13,7 +13,8 @@ use Rattle.iofd_words.specs.Bounds.{Bounds}
 use Rattle.iofd_words.specs.Copies.{is_writable, placed_as, source_in}
 use Rattle.iofd_words.specs.FirstTrue.{first_true}
 use Rattle.iofd_words.specs.Objects.{kind_of, has_ioas, has_hwpt, automatic_hwpt, is_full, is_hwpt_over, objects_of}
-use Rattle.iofd_words.specs.Objects.{is_bound_device, device_in, device_under, settings_under}
+use Rattle.iofd_words.specs.Objects.{access_ioas_of, device_in, device_under, has_access, has_access_to, is_access}
+use Rattle.iofd_words.specs.Objects.{is_bound_device, settings_under}
 use Rattle.iofd_words.specs.Pages.{is_whole, page_of, is_above_sum, is_above_user, crosses}
 use Rattle.iofd_words.specs.Pins.{ObjectPage, unpinned_pages}
 use Rattle.iofd_words.specs.Ranges.{meets_some}
@@ -21,7 +22,7 @@ use Rattle.iofd_words.specs.Rights.{is_fixed, is_readable, is_writeable}
 use Rattle.iofd_words.specs.Room.{fits, starts_to_try}
 use Rattle.iofd_words.specs.Settings.{DeviceSettings}
 use Rattle.iofd_words.specs.Span.{holds, span_from}
-use Rattle.iofd_words.specs.TablePlaces.{lacking, live_pages, pages_in, places_of}
+use Rattle.iofd_words.specs.TablePlaces.{is_live, lacking, live_pages, pages_in, places_of}
 use Rattle.iofd_words.specs.Usable.{allowed_spans, beyond, interrupt_range, occupied, reserved_by, unusable}
 use Rattle.iofd_words.specs.View.{View, view}
 use Rattle.iofd_words.specs.Width.{bits_of}
@@ -165,6 +166,7 @@ tables_lacked v file id pages kind.Ioas = 0
 tables_lacked v file id pages (kind.Hwpt ioas width automatic) =
     length (lacking (v.has_table file id) (places_of width pages))
 tables_lacked v file id pages (kind.Device device) = 0
+tables_lacked v file id pages (kind.Access attached) = 0
 
 -- all page tables of the address space together
 abbrev pub tables_to_map : View → FileNo → ObjId → Bounds → ℕ
@@ -205,12 +207,14 @@ lacks_attached_frames v file ioas None = false
 lacks_attached_frames v file ioas (Some device) =
     is_none (automatic_hwpt v.objects file ioas device.width) && lacks_new_tables v file ioas (Some device)
 
--- others stand on the object: page tables on an address space, devices on a page table
+-- others stand on the object: page tables and access objects on an address space, devices on a page table; an access
+-- object is in use as long as it is attached
 abbrev pub is_used : View → FileNo → ObjId → Option ObjectKind → Bool
 is_used v file id None = false
-is_used v file id (Some kind.Ioas) = has_hwpt v.objects file id
+is_used v file id (Some kind.Ioas) = has_hwpt v.objects file id || has_access_to v.objects file id
 is_used v file id (Some (kind.Hwpt ioas width automatic)) = has_device_on v.attachments file id
 is_used v file id (Some (kind.Device device)) = false
+is_used v file id (Some (kind.Access attached)) = is_some attached
 
 -- the device that the object binds is attached
 abbrev pub is_attached : View → Option ObjectKind → Bool
@@ -237,6 +241,11 @@ narrows v file ioas (Some device) = narrows_without v file ioas (beyond device.w
 abbrev pub narrows_by_width : View → FileNo → ObjId → Option DeviceSettings → Bool
 narrows_by_width v file ioas None = false
 narrows_by_width v file ioas (Some device) = narrows_without v file ioas (beyond device.width ∷ [])
+
+-- the address space gets no first page table as long as an area of it is leaving
+abbrev pub waits_for_leaving : View → FileNo → ObjId → Bool
+waits_for_leaving v file ioas =
+    not (has_hwpt v.objects file ioas) && list_any (λ area. not (is_live area.phase)) (v.areas_of file ioas)
 
 -- an attachment would have to make a page table, and the file has no room for it
 abbrev pub lacks_room_for_hwpt : View → FileNo → ObjId → Option DeviceSettings → Bool
@@ -276,7 +285,8 @@ user_access_checks v user va len =
 -- table
 abbrev pub target_checks : View → DeviceNo → ObjId → FileNo → Option ObjectKind → List (Cause × Bool)
 target_checks v device pt_id file (Some kind.Ioas) =
-    (cause.Narrow, narrows v file pt_id (device_of v.settings device))
+    (cause.Pending, waits_for_leaving v file pt_id)
+    ∷ (cause.Narrow, narrows v file pt_id (device_of v.settings device))
     ∷ (cause.Full, lacks_room_for_hwpt v file pt_id (device_of v.settings device))
     ∷ (cause.Absent, lacks_attached_page v file pt_id)
     ∷ (cause.Account, passes_limit_attached v file pt_id)
@@ -287,6 +297,7 @@ target_checks v device pt_id file (Some (kind.Hwpt ioas width automatic)) =
     ∷ (cause.Narrow, narrows v file ioas (device_of v.settings device))
     ∷ []
 target_checks v device pt_id file (Some (kind.Device bound)) = (cause.Id, true) ∷ []
+target_checks v device pt_id file (Some (kind.Access attached)) = (cause.Id, true) ∷ []
 target_checks v device pt_id file None = (cause.Id, true) ∷ []
 
 -- those of Attach, of a device that is bound to the file
@@ -372,6 +383,7 @@ hwpt_alloc_checks v file request =
     (cause.Id, not (v.is_open file))
     ∷ (cause.Id, is_none (device_under v.objects file request.device))
     ∷ (cause.Id, not (has_ioas v.objects file request.ioas))
+    ∷ (cause.Pending, waits_for_leaving v file request.ioas)
     ∷ (cause.Narrow, narrows_by_width v file request.ioas (settings_under v.settings v.objects file request.device))
     ∷ (cause.Full, is_full v.objects file)
     ∷ (cause.Absent, lacks_attached_page v file request.ioas)
@@ -390,7 +402,10 @@ destroy_checks v file id =
 unfoldable pub close_checks : View → FileNo → List (Cause × Bool)
 close_checks v file =
     (cause.Id, not (v.is_open file))
-    ∷ (cause.InUse, list_any (λ object. is_bound_device object.kind) (objects_of v.objects file))
+    ∷ (
+      cause.InUse,
+      list_any (λ object. is_bound_device object.kind || is_access object.kind) (objects_of v.objects file),
+    )
     ∷ []
 
 unfoldable pub user_map_checks : View → UserNo → ℕ → List (Cause × Bool)
@@ -447,6 +462,27 @@ flush_checks v device =
 unfoldable pub device_write_checks : View → DeviceNo → Iova → List ℕ → List (Cause × Bool)
 device_write_checks v device iova bytes = access_checks v device iova (length bytes)
 
+unfoldable pub access_create_checks : View → FileNo → List (Cause × Bool)
+access_create_checks v file =
+    (cause.Id, not (v.is_open file))
+    ∷ (cause.Full, is_full v.objects file)
+    ∷ []
+
+unfoldable pub access_attach_checks : View → FileNo → ObjId → ObjId → List (Cause × Bool)
+access_attach_checks v file id ioas =
+    (cause.Id, not (v.is_open file))
+    ∷ (cause.Id, not (has_access v.objects file id))
+    ∷ (cause.Id, not (has_ioas v.objects file ioas))
+    ∷ (cause.Bound, is_some (access_ioas_of v.objects file id))
+    ∷ []
+
+unfoldable pub access_detach_checks : View → FileNo → ObjId → List (Cause × Bool)
+access_detach_checks v file id =
+    (cause.Id, not (v.is_open file))
+    ∷ (cause.Id, not (has_access v.objects file id))
+    ∷ (cause.Unattached, is_none (access_ioas_of v.objects file id))
+    ∷ []
+
 -- the refusals of each event
 abbrev pub checks : {A : Type 0} → View → Event A → List (Cause × Bool)
 checks v (event.IoasAlloc file) = ioas_alloc_checks v file
@@ -466,6 +502,9 @@ checks v (event.Attach device pt_id) = attach_checks v device pt_id
 checks v (event.Detach device) = detach_checks v device
 checks v (event.Flush device) = flush_checks v device
 checks v (event.DeviceWrite device iova bytes) = device_write_checks v device iova bytes
+checks v (event.AccessCreate file) = access_create_checks v file
+checks v (event.AccessAttach file id ioas) = access_attach_checks v file id ioas
+checks v (event.AccessDetach file id) = access_detach_checks v file id
 
 -- the cause for which an event is refused, if any
 abbrev pub refusal : {A : Type 0} → World → Event A → Option Cause

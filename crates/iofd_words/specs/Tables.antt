@@ -42,6 +42,7 @@ missing_of_kind areas tables file id (kind.Hwpt ioas width automatic) =
     map (λ place. record { file = file; hwpt = id; place = place })
     (lacking (has_table tables file id) (places_of width (live_pages (areas_of areas file ioas))))
 missing_of_kind areas tables file id (kind.Device device) = []
+missing_of_kind areas tables file id (kind.Access attached) = []
 
 abbrev pub missing_of : List Area → List TableFrame → Object → List MissingTable
 missing_of areas tables object = missing_of_kind areas tables object.file object.id object.kind
@@ -94,6 +95,7 @@ abbrev pub is_below_root : ObjId → TableFrame → ObjectKind → Bool
 is_below_root ioas table kind.Ioas = false
 is_below_root ioas table (kind.Hwpt over width automatic) = over.0 == ioas.0 && not (table.level == levels_of width)
 is_below_root ioas table (kind.Device device) = false
+is_below_root ioas table (kind.Access attached) = false
 
 -- and no page of an area goes through it, whatever the area's phase
 abbrev pub is_idle : List Object → List Area → FileNo → ObjId → TableFrame → Bool

@@ -38,6 +38,7 @@ abbrev pub beyond_table : ObjectKind → List Bounds
 beyond_table kind.Ioas = []
 beyond_table (kind.Hwpt ioas width automatic) = beyond width ∷ []
 beyond_table (kind.Device device) = []
+beyond_table (kind.Access attached) = []
 
 -- of the page tables of an address space
 abbrev pub beyond_tables : List Object → FileNo → ObjId → List Bounds

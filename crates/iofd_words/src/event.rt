@@ -86,6 +86,12 @@ pub enum Event<A: Allocator = Global> {
     Flush(DeviceNo),
     /// A device writes memory.
     DeviceWrite(DeviceNo, Iova, Burst),
+    /// Makes an access object, which is attached to nothing.
+    AccessCreate(FileNo),
+    /// Attaches the access object of the first id to the address space of the second.
+    AccessAttach(FileNo, ObjId, ObjId),
+    /// Ends the attachment of the access object of this id.
+    AccessDetach(FileNo, ObjId),
 }
 
 impl<A: Allocator + Copy> Event<A> {
@@ -115,6 +121,9 @@ impl<A: Allocator + Copy> Event<A> {
             Event::Detach(device) => Event::Detach(*device),
             Event::Flush(device) => Event::Flush(*device),
             Event::DeviceWrite(device, iova, bytes) => Event::DeviceWrite(*device, *iova, *bytes),
+            Event::AccessCreate(file) => Event::AccessCreate(*file),
+            Event::AccessAttach(file, id, ioas) => Event::AccessAttach(*file, *id, *ioas),
+            Event::AccessDetach(file, id) => Event::AccessDetach(*file, *id),
         })
     }
 }

@@ -19,6 +19,11 @@ pub enum ObjectKind {
     },
     /// A bound device.
     Device(DeviceNo),
+    /// An access object, for the reads and writes of a driver in user space; attached to this address space, or to
+    /// none.
+    Access {
+        ioas: Option<ObjId>,
+    },
 }
 
 /// An object of a file. Ids are unique in a file.
@@ -45,8 +50,7 @@ pub struct MemoryObject {
 #[derive(Drop)]
 pub enum Phase {
     Live,
-    /// An UNMAP was called: these devices still have to flush. `tries` is for counting the calls that were
-    /// answered EAGAIN, and stays 0 until they are counted.
+    /// An UNMAP was called: these devices still have to flush, and so many calls, at most 100, were answered EAGAIN.
     Leaving { owed: DeviceSet, tries: u8 },
 }
 
