@@ -99,6 +99,7 @@ no_device : (device : DeviceNo) (k : ObjectKind) → is_bound_device k ≡ false
 no_device device kind.Ioas is = refl
 no_device device (kind.Hwpt ioas width automatic) is = refl
 no_device device (kind.Device bound) is = cc
+no_device device (kind.Access attached) is = refl
 
 pub no_device_either : (device : DeviceNo) (k : ObjectKind) (b : Bool) → is_bound_as device k ≡ true
     → not ((b && is_automatic k)) ≡ true
@@ -106,6 +107,7 @@ no_device_either device kind.Ioas b is = cc
 no_device_either device (kind.Hwpt ioas width automatic) b is = cc
 no_device_either device (kind.Device bound) true is = refl
 no_device_either device (kind.Device bound) false is = refl
+no_device_either device (kind.Access attached) b is = cc
 
 same_id : (file : FileNo) (id : ObjId) (first o : Object) → is_object file id first ≡ true
     → is_object first.file first.id o ≡ false → is_object file id o ≡ false
@@ -194,6 +196,7 @@ attachments-unbound w file id own once unattached bound =
         cc
     never a within kind.Ioas same unattached = cc
     never a within (kind.Hwpt ioas width automatic) same unattached = cc
+    never a within (kind.Access attached) same unattached = cc
 
     goes : (named device : Bool) → not (not (named && device)) ≡ true → named ≡ true
     goes true device is = refl

@@ -1,3 +1,4 @@
+pub mod Accesses
 pub mod Allowed
 pub mod Bools
 pub mod Bound

@@ -1,13 +1,15 @@
 -- What rows that come and go leave of the law of debts.
-use Rattle.std.proofs.Common.{◌≡◌, ℕ, Bool, true, false, cond, not, eqb, Some, List, [], ◌∷◌, refl, ap, ◌∙◌, subst}
+use Rattle.std.proofs.Common.{◌≡◌, ℕ, ◌+◌, Bool, true, false, cond, not, eqb, ltb, Option, Some, List, [], ◌∷◌, refl, ap}
+use Rattle.std.proofs.Common.{◌∙◌, subst}
 use Rattle.std.proofs.Common.{arith, inl, inr, ⊎_elim, ◌⊎◌}
 use Rattle.std.specs.List.{filter, list_any}
 use Rattle.std.proofs.lemmas.Bool.{eqb-true}
 use Rattle.std.proofs.lemmas.Bool.Decides.{nat_tests}
-use Rattle.iofd_words.specs.Areas.{all_paid, is_of, is_touched, leaving, paid, with_area, with_leaving, with_phase}
+use Rattle.iofd_words.specs.Areas.{all_paid, is_of, is_touched, leaving, paid, touched_tries, tried, with_area}
+use Rattle.iofd_words.specs.Areas.{with_leaving, with_phase, with_tries}
 use Rattle.iofd_words.specs.Attachments.{attachment_of, devices_of, ioas_of, is_attached_to, with_attachment}
 use Rattle.iofd_rows.specs.Debts.{attach_once, debtors_of}
-use Rattle.iofd_words.specs.Objects.{is_object, kind_of, with_object}
+use Rattle.iofd_words.specs.Objects.{is_access, is_object, kind_of, with_access, with_object}
 use Rattle.iofd_words.specs.declared.event.UnmapRequest.{UnmapRequest}
 use Rattle.iofd_words.specs.declared.numbers.DeviceNo.{DeviceNo}
 use Rattle.iofd_words.specs.declared.numbers.FileNo.{FileNo}
@@ -19,6 +21,7 @@ use Rattle.iofd_words.specs.declared.rows.ObjectKind.{ObjectKind}
 use Rattle.iofd_words.specs.declared.rows.ObjectKind.TheVariants as kind
 use Rattle.iofd_words.specs.declared.rows.Phase.{Phase}
 use Rattle.iofd_words.specs.declared.rows.Phase.TheVariants.{Live, Leaving}
+use Rattle.iofd_rows.proofs.Accesses.{in_reattached, kind_reattached}
 use Rattle.iofd_rows.proofs.Bools.{or_false, and_true, not_true}
 use Rattle.iofd_rows.proofs.Each.{IsIn, in_filter, in_found, in_map, in_with_area, in_with_object, of_any}
 use Rattle.iofd_rows.proofs.Named.{file_is, id_is, kind_before}
@@ -266,6 +269,43 @@ owed_fewer objects attachments areas q each = record {
   in_spaces = λ area within. each.in_spaces area (in_filter q areas area within).0;
 }
 
+-- an access object is attached or detached
+pub owed_reattached : (objects : List Object) (attachments : List Attachment) (areas : List Area) (file : FileNo)
+    (id : ObjId) (attached : Option ObjId) → EachOwed objects attachments areas
+    → EachOwed (with_access file id attached objects) attachments areas
+owed_reattached objects attachments areas file id attached each = record {
+  once = each.once;
+  debtors = λ area within device owes.
+      let debtor = each.debtors area within device owes in
+      record {
+        a = debtor.a;
+        found = debtor.found;
+        of_file = debtor.of_file;
+        width = debtor.width;
+        automatic = debtor.automatic;
+        table = kind_reattached file id attached objects debtor.a.file debtor.a.hwpt _ refl debtor.table;
+      };
+  tables = λ a within.
+      let by = each.tables a within in
+      record {
+        ioas = by.ioas;
+        width = by.width;
+        automatic = by.automatic;
+        table = kind_reattached file id attached objects a.file a.hwpt _ refl by.table;
+      };
+  spaces = λ object within ioas is.
+      let before = in_reattached file id attached objects object (no_access object.kind ioas is) within in
+      kind_reattached file id attached objects object.file ioas _ refl (each.spaces object before ioas is);
+  in_spaces = λ area within.
+      kind_reattached file id attached objects area.file area.ioas _ refl (each.in_spaces area within);
+}
+  where
+    no_access : (k : ObjectKind) (ioas : ObjId) → ioas_of k ≡ Some ioas → is_access k ≡ false
+    no_access kind.Ioas ioas is = refl
+    no_access (kind.Hwpt over width automatic) ioas is = refl
+    no_access (kind.Device device) ioas is = refl
+    no_access (kind.Access before) ioas is = cc
+
 -- the devices attached to an address space are its debtors
 devices_debtors : (objects : List Object) (attachments : List Attachment) (file : FileNo) (ioas : ObjId) (device : ℕ)
     → attach_once attachments ≡ true → IsIn (devices_of objects attachments file ioas) device
@@ -278,9 +318,21 @@ devices_debtors objects attachments file ioas device once within =
     (debtor_of objects attachments file ioas a.device.0 a (found_once attachments a once before) to)
 
 -- an area after an UNMAP that is pending
-abbrev unmapped : List ℕ → FileNo → UnmapRequest → Area → Area
-unmapped devices file request area =
-    with_phase (cond (is_touched file request area) (leaving devices area.phase) area.phase) area
+abbrev unmapped : ℕ → List ℕ → FileNo → UnmapRequest → Area → Area
+unmapped most devices file request area =
+    with_phase (cond (is_touched file request area) (tried most (leaving devices area.phase)) area.phase) area
+
+-- a try more is no debt
+pub debtors_tried : (most : ℕ) (phase : Phase) → debtors_of (tried most phase) ≡ debtors_of phase
+debtors_tried most phase = by_count (ltb most 100)
+  where
+    with_same : (tries : ℕ) (phase : Phase) → debtors_of (with_tries tries phase) ≡ debtors_of phase
+    with_same tries Live = refl
+    with_same tries (Leaving owed before) = refl
+
+    by_count : (b : Bool) → debtors_of (cond b (with_tries (most + 1) phase) phase) ≡ debtors_of phase
+    by_count true = with_same (most + 1) phase
+    by_count false = refl
 
 -- the areas that an UNMAP touches are leaving, and owed by those attached
 pub owed_leaving : (objects : List Object) (attachments : List Attachment) (areas : List Area) (file : FileNo)
@@ -290,7 +342,7 @@ owed_leaving objects attachments areas file request each = record {
   once = each.once;
   debtors = λ area within.
       let (old, before, same) =
-      in_map (unmapped (devices_of objects attachments file request.ioas) file request) areas area within in
+      in_map (unmapped most (devices_of objects attachments file request.ioas) file request) areas area within in
       subst (λ (area : Area). (device : ℕ) → IsIn (debtors_of area.phase) device
       → IsDebtor objects attachments area.file area.ioas device) same (λ device. by_phase old device
       (is_touched file request old) refl old.phase (each.debtors old before device));
@@ -298,17 +350,23 @@ owed_leaving objects attachments areas file request each = record {
   spaces = each.spaces;
   in_spaces = λ area within.
       let (old, before, same) =
-      in_map (unmapped (devices_of objects attachments file request.ioas) file request) areas area within in
+      in_map (unmapped most (devices_of objects attachments file request.ioas) file request) areas area within in
       subst (λ (area : Area). IsSpace objects area.file area.ioas) same (each.in_spaces old before);
 }
   where
+    most : ℕ
+    most = touched_tries areas file request
+
     by_phase : (area : Area) (device : ℕ) (touched : Bool) → is_touched file request area ≡ touched → (phase : Phase)
         → (IsIn (debtors_of phase) device → IsDebtor objects attachments area.file area.ioas device)
-        → IsIn (debtors_of (cond touched (leaving (devices_of objects attachments file request.ioas) phase) phase))
-        device → IsDebtor objects attachments area.file area.ioas device
+        → IsIn (debtors_of (cond touched (tried most (leaving (devices_of objects attachments file request.ioas) phase))
+        phase)) device → IsDebtor objects attachments area.file area.ioas device
     by_phase area device false is phase before owes = before owes
-    by_phase area device true is (Leaving owed tries) before owes = before owes
-    by_phase area device true is Live before owes =
+    by_phase area device true is (Leaving owed tries) before owes =
+        before (rw (debtors_tried most (Leaving owed tries)) at owes)
+    by_phase area device true is Live before tries =
+        let owes : IsIn (devices_of objects attachments file request.ioas) device =
+        rw (debtors_tried most (Leaving (devices_of objects attachments file request.ioas) 0)) at tries in
         let of_space = and_true (is_of file request.ioas area) _ is in
         let names = and_true (eqb area.file.0 file.0) (eqb area.ioas.0 request.ioas.0) of_space.0 in
         let debtor = devices_debtors objects attachments file request.ioas device each.once owes in

@@ -34,6 +34,7 @@ no_kind : (ioas : ObjId) (k : ObjectKind) → is_access_of ioas k ≡ false
 no_kind ioas kind.Ioas = refl
 no_kind ioas (kind.Hwpt over width automatic) = refl
 no_kind ioas (kind.Device device) = refl
+no_kind ioas (kind.Access attached) = refl
 
 no_object : (ioas : ObjId) (o : Option ObjectKind) → elim o [ Some k ↦ is_access_of ioas k | None ↦ false ] ≡ false
 no_object ioas (Some k) = no_kind ioas k

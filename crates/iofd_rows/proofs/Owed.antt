@@ -53,6 +53,7 @@ space_kind : (k : ObjectKind) → is_ioas k ≡ true → k ≡ kind.Ioas
 space_kind kind.Ioas is = refl
 space_kind (kind.Hwpt ioas width automatic) is = cc
 space_kind (kind.Device device) is = cc
+space_kind (kind.Access attached) is = cc
 
 pub space_of : (objects : List Object) (file : FileNo) (id : ObjId) → has_ioas objects file id ≡ true
     → IsSpace objects file id
@@ -66,11 +67,13 @@ table_kind : (k : ObjectKind) (ioas : ObjId) → ioas_of k ≡ Some ioas → (wi
 table_kind kind.Ioas ioas is = cc
 table_kind (kind.Hwpt over width automatic) ioas is = (width, automatic, cc)
 table_kind (kind.Device device) ioas is = cc
+table_kind (kind.Access attached) ioas is = cc
 
 over_kind : (k : ObjectKind) (ioas : ObjId) → is_hwpt_over ioas k ≡ true → ioas_of k ≡ Some ioas
 over_kind kind.Ioas ioas is = cc
 over_kind (kind.Hwpt over width automatic) ioas is = let same = id_is over ioas is in cc
 over_kind (kind.Device device) ioas is = cc
+over_kind (kind.Access attached) ioas is = cc
 
 ioas_by : (o : Option ObjectKind) (ioas : ObjId) → elim o [ Some k ↦ ioas_of k | None ↦ None ] ≡ Some ioas
     → (k : ObjectKind) × (o ≡ Some k) × (ioas_of k ≡ Some ioas)

@@ -70,6 +70,7 @@ hwpt-unbound objects device_file id file ioas =
     no_device k false table = refl
     no_device kind.Ioas true table = cc
     no_device (kind.Device device) true table = cc
+    no_device (kind.Access attached) true table = cc
 
 -- the same address spaces, by the numbers that name them
 pub hwpt_alike : (objects : List Object) (file own : FileNo) (ioas over : ObjId) → eqb file.0 own.0 ≡ true

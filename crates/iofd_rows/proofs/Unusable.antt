@@ -7,7 +7,7 @@ use Rattle.std.proofs.lemmas.List.Folds.{list_any-append}
 use Rattle.iofd_words.specs.Attachments.{is_attached_to}
 use Rattle.iofd_words.specs.Bounds.{Bounds}
 use Rattle.iofd_words.specs.Files.{device_of}
-use Rattle.iofd_words.specs.Objects.{is_hwpt_over, kind_of}
+use Rattle.iofd_words.specs.Objects.{is_access, is_hwpt_over, kind_of, with_access}
 use Rattle.iofd_words.specs.Ranges.{meets_some}
 use Rattle.iofd_words.specs.Settings.{Settings}
 use Rattle.iofd_words.specs.Span.{meets}
@@ -17,8 +17,10 @@ use Rattle.iofd_words.specs.declared.numbers.ObjId.{ObjId}
 use Rattle.iofd_words.specs.declared.rows.Attachment.{Attachment}
 use Rattle.iofd_words.specs.declared.rows.Object.{Object}
 use Rattle.iofd_words.specs.declared.rows.ObjectKind.{ObjectKind}
+use Rattle.iofd_words.specs.declared.rows.ObjectKind.TheVariants as kind
 use Rattle.iofd_rows.specs.Ids.{have_own_ids}
 use Rattle.iofd_rows.specs.Reached.{ends_in, keeps_of}
+use Rattle.iofd_rows.proofs.Accesses.{attached-reattached, in_reattached}
 use Rattle.iofd_rows.proofs.Bools.{and_true, both_false, both_true, clash, or_false}
 use Rattle.iofd_rows.proofs.Each.{IsIn, in_filter, of_any}
 use Rattle.iofd_rows.proofs.ListTests.{any-filter, false_else}
@@ -110,6 +112,28 @@ attached_left q objects file ioas a own is =
     let here : kind_of objects a.file a.hwpt ≡ Some k = rw (of_file, of_id, of_kind) at was in
     attached_of file ioas a (kind_of (filter q objects) a.file a.hwpt) (kind_of objects a.file a.hwpt) (found
     ∙ sym here) is
+
+-- where an access object is attached or detached
+pub usable_reattached : (settings : Settings) (objects : List Object) (attachments : List Attachment) (own : FileNo)
+    (id : ObjId) (attached : Option ObjId) (file : FileNo) (ioas : ObjId) (span : Bounds)
+    → meets_some (unusable settings objects attachments file ioas) span ≡ false
+    → meets_some (unusable settings (with_access own id attached objects) attachments file ioas) span ≡ false
+usable_reattached settings objects attachments own id attached file ioas span clear =
+    usable_still settings objects (with_access own id attached objects) attachments attachments file ioas span
+    (λ object within ends. in_reattached own id attached objects object
+    (no_access object.kind (and_true (eqb object.file.0 file.0) _ (and_true _ _ ends).0).1) within)
+    (λ a within keeps. (
+      within,
+      sym (attached-reattached own id attached objects file ioas a)
+          ∙ (and_true (is_attached_to (with_access own id attached objects) file ioas a) _ keeps).0,
+    ))
+    clear
+  where
+    no_access : (k : ObjectKind) → is_hwpt_over ioas k ≡ true → is_access k ≡ false
+    no_access kind.Ioas is = refl
+    no_access (kind.Hwpt over width automatic) is = refl
+    no_access (kind.Device device) is = refl
+    no_access (kind.Access before) is = cc
 
 -- where objects and attachments go, and nothing comes
 pub usable_left : (settings : Settings) (objects : List Object) (attachments others : List Attachment) (q : Object

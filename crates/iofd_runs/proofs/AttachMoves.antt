@@ -124,6 +124,7 @@ automatic_kind (kind.Hwpt over of automatic) ioas width is =
     let same = id_is over ioas both.0 in
     (of, rw (same, both.1) refl, sym (eqb-true (bits_of of) (bits_of width) parts.1))
 automatic_kind (kind.Device device) ioas width is = cc
+automatic_kind (kind.Access attached) ioas width is = cc
 
 pub is_made : (w : World) (file : FileNo) (ioas id : ObjId) (width : Width) (o : Option Object)
     → have_own_ids w.objects ≡ true → automatic_hwpt w.objects file ioas width ≡ o → IsHwptFor w file id o

@@ -61,4 +61,5 @@ module _ (w : World) (device : DeviceNo) (pt_id id : ObjId) (P : World → Type 
           by_kind (Some (kind.Hwpt ioas width automatic)) named here =
               to_table object settings ioas width automatic bound known named here
           by_kind (Some (kind.Device other)) named here = stays here
+          by_kind (Some (kind.Access attached)) named here = stays here
           by_kind None named here = stays here

@@ -11,7 +11,8 @@ use Rattle.iofd_words.specs.declared.numbers.FrameNo.{FrameNo}
 use Rattle.iofd_words.specs.declared.reply.Reply.{Reply}
 use Rattle.iofd_rows.specs.Ids.{AreBoundOnce}
 use Rattle.iofd_rows.proofs.BoundOnce.{once-filter, once-with_object}
-use Rattle.iofd_runs.proofs.Moves.{ObjectsMove, Same, Fewer, More, changed_moves}
+use Rattle.iofd_rows.proofs.Accesses.{once-reattached}
+use Rattle.iofd_runs.proofs.Moves.{ObjectsMove, Same, Fewer, More, changed_moves, Reattached}
 
 -- it holds of a world
 abbrev pub DevicesOnce : World → Type 0
@@ -27,6 +28,7 @@ keeps_once at w e answer none answers once = by_move (changed at w e answer) (ch
     by_move : (new : World) → ObjectsMove w e answer new → AreBoundOnce new.objects
     by_move new (Same is) = rw is once
     by_move new (Fewer stays stay bound is) = rw is (once-filter stays w.objects once)
+    by_move new (Reattached file id attached is) = rw is (once-reattached file id attached w.objects once)
     by_move new (More object fresh admitted makes is) =
         rw is (once-with_object object w.objects (admitted none).unbound once)
 

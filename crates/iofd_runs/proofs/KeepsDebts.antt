@@ -1,5 +1,5 @@
 -- Every event keeps each debtor attached to the address space of its area.
-use Rattle.std.proofs.Common.{◌≡◌, ℕ, true, not, None, List, refl}
+use Rattle.std.proofs.Common.{◌≡◌, ℕ, true, not, None, List, refl, Some}
 use Rattle.iofd_words.specs.After.{attached, changed, copy_changes, detached, hwpt_changes, joined, made_hwpt}
 use Rattle.iofd_words.specs.After.{map_changes, mapped_area, settle, with_hwpt, without_areas}
 use Rattle.iofd_words.specs.Answers.{Answers}
@@ -20,7 +20,7 @@ use Rattle.iofd_words.specs.declared.reply.Reply.{Reply}
 use Rattle.iofd_words.specs.declared.reply.Reply.TheVariants as reply
 use Rattle.iofd_words.specs.declared.rows.ObjectKind.TheVariants as kind
 use Rattle.iofd_runs.proofs.AttachMoves.{is_made, is_there, owed_attached, owed_detached}
-use Rattle.iofd_rows.proofs.Moves.{owed_area, owed_fewer, owed_flush, owed_leaving, owed_object}
+use Rattle.iofd_rows.proofs.Moves.{owed_area, owed_fewer, owed_flush, owed_leaving, owed_object, owed_reattached}
 use Rattle.iofd_runs.proofs.ObjectsGo.{owed_closed, owed_destroyed, owed_unbound}
 use Rattle.iofd_rows.proofs.Owed.{EachOwed, debts_attached, each_owed, space_of}
 use Rattle.iofd_runs.proofs.OwnIds.{keeps_own_ids, unused}
@@ -93,6 +93,13 @@ keeps_owed at w (event.Detach device) reply.Done none answers own each =
 keeps_owed at w (event.Flush device) reply.Done none answers own each =
     owed_flush w.objects w.attachments w.areas device each
 keeps_owed at w (event.DeviceWrite device iova bytes) (reply.Passed frame) none answers own each = each
+keeps_owed at w (event.AccessCreate file) (reply.Id id) none answers own each =
+    owed_object w.objects w.attachments w.areas (record { file = file; id = id; kind = kind.Access None })
+    (unused w.objects file id answers) (λ ioas is. cc) each
+keeps_owed at w (event.AccessAttach file id ioas) reply.Done none answers own each =
+    owed_reattached w.objects w.attachments w.areas file id (Some ioas) each
+keeps_owed at w (event.AccessDetach file id) reply.Done none answers own each =
+    owed_reattached w.objects w.attachments w.areas file id None each
 keeps_owed at w e answer none answers own each = each
 
 pub keeps_sound : {A : Type 0} → (at : ℕ) (w : World) (e : Event A) (answer : Reply) → refusal w e ≡ None

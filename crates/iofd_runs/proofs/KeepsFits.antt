@@ -8,7 +8,7 @@ use Rattle.iofd_words.specs.After.{changed, mapped_area, settle}
 use Rattle.iofd_words.specs.Answers.{Answers}
 use Rattle.iofd_words.specs.Attachments.{attachment_of, with_attachment}
 use Rattle.iofd_words.specs.Checks.{refusal}
-use Rattle.iofd_runs.specs.Fits.{RowsFit, begins_at_page, devices_rise, has_rights, is_of_pages}
+use Rattle.iofd_runs.specs.Fits.{RowsFit, begins_at_page, devices_rise, has_rights, is_of_pages, is_known_device}
 use Rattle.iofd_words.specs.Frames.{frame_at}
 use Rattle.iofd_words.specs.Pages.{is_above_user, is_whole, page_of}
 use Rattle.iofd_words.specs.Pins.{ObjectPage, frame_now, is_page, pin_now, settled}
@@ -28,14 +28,16 @@ use Rattle.iofd_words.specs.declared.rows.Attachment.{Attachment}
 use Rattle.iofd_words.specs.declared.rows.MemoryObject.{MemoryObject}
 use Rattle.iofd_words.specs.declared.rows.Pin.{Pin}
 use Rattle.iofd_words.specs.declared.rows.UserPage.{UserPage}
+use Rattle.iofd_words.specs.Files.{is_open}
 use Rattle.iofd_rows.proofs.Bools.{and_true, both_true}
 use Rattle.iofd_rows.proofs.Each.{of_each}
 use Rattle.iofd_rows.proofs.Found.{all_filter, found_passes}
+use Rattle.iofd_rows.proofs.Accesses.{all_reattached}
 use Rattle.iofd_runs.proofs.Known.{attached_one, bound_known, is_known, known_closed, known_one, are_attached}
 use Rattle.iofd_runs.proofs.Moves.{AttachmentsMove, Closes, Fewer, FewerAttachments, FewerPages, FilesMove, MemoryMoves}
 use Rattle.iofd_runs.proofs.Moves.{MemoryUnder, More, NewMemory, ObjectsMove, OneAttachment, OnePage, PinsMove, Same}
 use Rattle.iofd_runs.proofs.Moves.{SameAttachments, SameMemory, SamePins, Settled, SharedMemory, StayOpen, Written}
-use Rattle.iofd_runs.proofs.Moves.{changed_moves, all_areas}
+use Rattle.iofd_runs.proofs.Moves.{changed_moves, all_areas, Reattached}
 use Rattle.iofd_runs.proofs.NotRefused.{PlacePassed}
 
 -- ---- a span of a length has that many numbers
@@ -233,6 +235,10 @@ module _ {A : Type 0} (at : ℕ) (w : World) (e : Event A) (answer : Reply) (non
   objects_known new (Same is) (StayOpen closed) = rw (closed, is) fits.known
   objects_known new (Fewer stays stay bound is) (StayOpen closed) =
       rw (closed, is) (all_filter (is_known w.settings w.closed) stays w.objects fits.known)
+  objects_known new (Reattached file id attached is) (StayOpen closed) =
+      rw (closed, is) (all_reattached file id attached (is_known w.settings w.closed)
+      (λ o before after kind. ap (λ k. is_open w.settings w.closed o.file && is_known_device w.settings k) (sym kind))
+      w.objects ∙ fits.known)
   objects_known new (More object fresh admitted makes is) (StayOpen closed) =
       rw (closed, is) (known_one (is_known w.settings w.closed) object w.objects ((admitted none).known fits.known)
       fits.known)

@@ -11,8 +11,8 @@ use Rattle.iofd_words.specs.declared.numbers.FrameNo.{FrameNo}
 use Rattle.iofd_words.specs.declared.reply.Reply.{Reply}
 use Rattle.iofd_runs.specs.Rising.{objects_rise}
 use Rattle.iofd_runs.proofs.OwnIds.{unused}
-use Rattle.iofd_runs.proofs.RisingLists.{rise-filter, rise-with_object}
-use Rattle.iofd_runs.proofs.Moves.{ObjectsMove, Same, Fewer, More, changed_moves}
+use Rattle.iofd_runs.proofs.RisingLists.{rise-filter, rise-with_object, rise-reattached}
+use Rattle.iofd_runs.proofs.Moves.{ObjectsMove, Same, Fewer, More, changed_moves, Reattached}
 
 -- it holds of a world
 abbrev pub ObjectsRise : World → Type 0
@@ -28,6 +28,7 @@ keeps_rising at w e answer none answers rise = by_move (changed at w e answer) (
     by_move : (new : World) → ObjectsMove w e answer new → objects_rise new.objects ≡ true
     by_move new (Same is) = rw is rise
     by_move new (Fewer stays stay bound is) = rw is (rise-filter stays w.objects rise)
+    by_move new (Reattached file id attached is) = rw is (rise-reattached file id attached w.objects rise)
     by_move new (More object fresh admitted makes is) =
         rw is (rise-with_object object w.objects (unused w.objects object.file object.id (fresh answers)) rise)
 

@@ -39,14 +39,14 @@ use Rattle.iofd_rows.proofs.ListTests.{any-filter}
 use Rattle.iofd_rows.proofs.Moves.{KindsStay}
 use Rattle.iofd_rows.proofs.Named.{kind_before}
 use Rattle.iofd_rows.proofs.Owed.{EachOwed, HasTable, each_owed}
-use Rattle.iofd_rows.proofs.Unusable.{attached_of, each_not, none_of, usable_left, usable_still}
+use Rattle.iofd_rows.proofs.Unusable.{attached_of, each_not, none_of, usable_left, usable_still, usable_reattached}
 use Rattle.iofd_rows.specs.Reached.{ends_in, keeps_of}
 use Rattle.iofd_runs.proofs.KeepsDebts.{IsSound, keeps_sound, tabled_sound}
 use Rattle.iofd_runs.proofs.OwnIds.{unused}
 use Rattle.iofd_runs.specs.InUsable.{AreasUsable, is_in_usable}
 use Rattle.iofd_runs.proofs.Moves.{AllowedMove, Allows, AttachmentsMove, Fewer, FewerAllowed, FewerAttachments, IsWide}
 use Rattle.iofd_runs.proofs.Moves.{More, Moves, ObjectsMove, OneAttachment, Same, SameAllowed, SameAttachments}
-use Rattle.iofd_runs.proofs.Moves.{all_areas, changed_moves}
+use Rattle.iofd_runs.proofs.Moves.{all_areas, changed_moves, Reattached}
 
 -- ---- attachments whose page table stays
 
@@ -235,6 +235,7 @@ module _ {A : Type 0} (at : ℕ) (w : World) (e : Event A) (answer : Reply) (non
         → ((eqb file.0 f.0 && is_hwpt_over i k) && meets_some (beyond_table k) span) ≡ false
     ends_beyond file kind.Ioas wide = neither (eqb file.0 f.0)
     ends_beyond file (kind.Device device) wide = neither (eqb file.0 f.0)
+    ends_beyond file (kind.Access attached) wide = neither (eqb file.0 f.0)
     ends_beyond file (kind.Hwpt ioas width automatic) (spans, wide) =
         by_space (eqb file.0 f.0 && eqb ioas.0 i.0) refl
       where
@@ -250,6 +251,8 @@ module _ {A : Type 0} (at : ℕ) (w : World) (e : Event A) (answer : Reply) (non
     by_objects new (Fewer stays stay bound is) =
         rw is (usable_left w.settings w.objects w.attachments w.attachments stays f i span sound.own_ids
         (λ a within. within) stands.clear)
+    by_objects new (Reattached file id attached is) =
+        rw is (usable_reattached w.settings w.objects w.attachments file id attached f i span stands.clear)
     by_objects new (More object fresh admitted makes is) =
         rw is (usable_object w object f i span (each_owed w sound.debts)
         (unused w.objects object.file object.id (fresh answers))

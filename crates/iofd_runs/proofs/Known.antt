@@ -112,6 +112,7 @@ device_of_kind : (settings : Settings) (device : DeviceNo) (k : ObjectKind) → 
     → is_known_device settings k ≡ true → is_device settings device ≡ true
 device_of_kind settings device kind.Ioas is known = cc
 device_of_kind settings device (kind.Hwpt ioas width automatic) is known = cc
+device_of_kind settings device (kind.Access attached) is known = cc
 device_of_kind settings device (kind.Device bound) is known =
     let same = eqb-true bound.0 device.0 is in ap (λ n. is_some (numbered settings.devices n)) (sym same) ∙ known
 

@@ -81,6 +81,7 @@ abbrev pub needed_places : List Area → FileNo → ObjectKind → List TablePla
 needed_places areas file kind.Ioas = []
 needed_places areas file (kind.Hwpt ioas width automatic) = places_of width (live_pages (areas_of areas file ioas))
 needed_places areas file (kind.Device device) = []
+needed_places areas file (kind.Access attached) = []
 
 abbrev pub missing_at : FileNo → ObjId → TablePlace → MissingTable
 missing_at file id place = record { file = file; hwpt = id; place = place }
@@ -95,6 +96,7 @@ missing_is areas tables o = by_kind o.kind
     by_kind kind.Ioas = refl
     by_kind (kind.Hwpt ioas width automatic) = refl
     by_kind (kind.Device device) = refl
+    by_kind (kind.Access attached) = refl
 
 -- it has each of them
 abbrev pub has_needed : List Area → List TableFrame → Object → Bool
@@ -236,6 +238,7 @@ missing_owned objects (o ∷ left) areas tables named =
     by_kind kind.Ioas is = refl
     by_kind (kind.Hwpt ioas width automatic) is = all_same objects o.file o.id _ (rw is refl)
     by_kind (kind.Device device) is = refl
+    by_kind (kind.Access attached) is = refl
 
 pub new_owned : (objects : List Object) (areas : List Area) (tables : List TableFrame) (taken : List FrameNo)
     → have_own_ids objects ≡ true → list_all (is_owned objects)

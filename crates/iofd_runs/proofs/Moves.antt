@@ -16,6 +16,7 @@ use Rattle.iofd_runs.proofs.MappedAt.{LiesAt, copy_lies_at, lies_at}
 use Rattle.iofd_runs.proofs.NotRefused.{AllowPassed, PlacePassed, UserMapPassed, alloc_passed, allow_passed}
 use Rattle.iofd_runs.proofs.NotRefused.{attach_passed, bind_passed, copy_place, hwpt_passed, join_passed, map_passed}
 use Rattle.iofd_runs.proofs.NotRefused.{map_place, user_map_passed, close_passed, destroy_passed, unbind_passed}
+use Rattle.iofd_runs.proofs.NotRefused.{access_create_passed}
 use Rattle.iofd_runs.proofs.TableEvents.{HwptsStay, MakesNone, TakesNone, closed_stay, destroyed_stay, detached_stay}
 use Rattle.iofd_runs.proofs.TableEvents.{finds_table, leaving_live, paid_live, unbound_stay}
 use Rattle.iofd_runs.proofs.Served.{IsServed, joined_served, made_served}
@@ -34,7 +35,7 @@ use Rattle.iofd_words.specs.Copies.{placed_as}
 use Rattle.iofd_words.specs.Files.{device_of, user_of}
 use Rattle.iofd_words.specs.Frames.{is_free, without_frame, FrameWrite}
 use Rattle.iofd_words.specs.Objects.{automatic_hwpt, binding_of, is_bound_as, is_bound_device, is_fresh, is_full}
-use Rattle.iofd_words.specs.Objects.{is_hwpt, kind_of, settings_under, with_object, has_hwpt}
+use Rattle.iofd_words.specs.Objects.{is_hwpt, kind_of, settings_under, with_object, has_hwpt, with_access}
 use Rattle.iofd_words.specs.Settings.{DeviceSettings}
 use Rattle.iofd_words.specs.Span.{size_of, span_from}
 use Rattle.iofd_words.specs.TablePlaces.{is_live}
@@ -70,6 +71,7 @@ use Rattle.iofd_rows.proofs.PageTables.{hwpt-filter, hwpt-unbound, same_hwpt}
 use Rattle.iofd_rows.specs.Pinned.{ArePinned}
 use Rattle.iofd_runs.proofs.BoundStay.{BoundStay, closed_bound, destroyed_bound, detached_bound}
 use Rattle.iofd_rows.proofs.Bound.{attachments-unbound}
+use Rattle.iofd_rows.proofs.Accesses.{hwpt-reattached}
 use Rattle.iofd_words.specs.declared.width.Width.{Width}
 
 -- ---- what an event may make of the rows
@@ -80,6 +82,7 @@ IsWide w file kind.Ioas = Unit {0}
 IsWide w file (kind.Hwpt ioas width automatic) =
     (spans : List Bounds) × (narrows_without (view w) file ioas (beyond width ∷ spans) ≡ false)
 IsWide w file (kind.Device device) = Unit {0}
+IsWide w file (kind.Access attached) = Unit {0}
 
 -- what the refusals leave of an object that comes: there is room for it, its file is open, its device is one of the
 -- settings and isn't bound, if it binds one, and it is wide
@@ -89,7 +92,8 @@ pub record IsAdmitted (w : World) (object : Object) : Type 0 where
   pub unbound : (device : DeviceNo) → is_bound_as device object.kind ≡ true → binding_of w.objects device ≡ None
   pub wide : IsWide w object.file object.kind
 
--- objects: the same, fewer, by which no attached device is unbound, or one more, under a fresh id
+-- objects: the same, fewer, by which no attached device is unbound, one more, under a fresh id, or the same, where an
+-- access object is attached or detached
 pub data ObjectsMove {A : Type 0} (w : World) (e : Event A) (answer : Reply) (new : World) : Type 0 where
   Same : new.objects ≡ w.objects → ObjectsMove w e answer new
   Fewer : (stays : Object → Bool) → (TakesNone w e → HwptsStay w.objects (filter stays w.objects))
@@ -98,6 +102,8 @@ pub data ObjectsMove {A : Type 0} (w : World) (e : Event A) (answer : Reply) (ne
   More : (object : Object) → (Answers w e answer → is_fresh w.objects object.file object.id ≡ true)
       → (refusal w e ≡ None → IsAdmitted w object) → (MakesNone w e → is_hwpt object.kind ≡ false)
       → new.objects ≡ with_object object w.objects → ObjectsMove w e answer new
+  Reattached : (file : FileNo) (id : ObjId) (attached : Option ObjId)
+      → new.objects ≡ with_access file id attached w.objects → ObjectsMove w e answer new
 
 -- the memory object under a new area: a new one of the file's user, as a MAP makes it, or that of an area that a COPY
 -- names
@@ -205,6 +211,7 @@ no_device : (w : World) (k : ObjectKind) → is_bound_device k ≡ false → (de
 no_device w kind.Ioas other device binds = cc
 no_device w (kind.Hwpt ioas width automatic) other device binds = cc
 no_device w (kind.Device bound) other device binds = cc
+no_device w (kind.Access attached) other device binds = cc
 
 -- the device that is bound anew wasn't bound
 unbound_before : (w : World) (device other : DeviceNo) → is_some (binding_of w.objects device) ≡ false
@@ -371,7 +378,7 @@ changed_moves at w (event.Unmap file request) (reply.Bytes count) =
 changed_moves at w (event.Unmap file request) (reply.Pending errno) =
     reach_moves at w (event.Unmap file request) (reply.Pending errno)
     (unmapped w file request (reply.Pending errno)) refl (Same refl)
-    (OtherPhases _ (λ a live. leaving_live (is_touched file request a) _ a.phase live) refl refl)
+    (OtherPhases _ (λ a live. leaving_live (is_touched file request a) _ _ a.phase live) refl refl)
     (SameAttachments refl) (SamePins refl (alike_phases w _))
 changed_moves {A = A} at w (event.HwptAlloc file request) (reply.Id id) =
     let e : Event A = event.HwptAlloc file request in
@@ -468,6 +475,23 @@ changed_moves at w (event.Flush device) reply.Done =
     (SamePins refl (alike_phases w (λ a. paid device a.phase)))
 changed_moves at w (event.DeviceWrite device iova bytes) (reply.Passed frame) =
     memory_moves at w (event.DeviceWrite device iova bytes) (reply.Passed frame) _ _ (Written tt refl)
+changed_moves at w (event.AccessCreate file) (reply.Id id) =
+    object_moves at w (event.AccessCreate file) (reply.Id id) _
+    (More (record { file = file; id = id; kind = kind.Access None }) (λ answers. answers)
+    (λ none. let passed = access_create_passed (view w) file none in
+    record {
+      roomy = passed.roomy;
+      known = λ all. both_true _ _ passed.opened refl;
+      unbound = no_device w (kind.Access None) refl;
+      wide = tt;
+    })
+    (λ makes. refl) refl) (λ own ioas. same_hwpt _ w.objects own ioas refl)
+changed_moves at w (event.AccessAttach file id ioas) reply.Done =
+    object_moves at w (event.AccessAttach file id ioas) reply.Done _ (Reattached file id (Some ioas) refl)
+    (hwpt-reattached file id (Some ioas) w.objects)
+changed_moves at w (event.AccessDetach file id) reply.Done =
+    object_moves at w (event.AccessDetach file id) reply.Done _ (Reattached file id None refl)
+    (hwpt-reattached file id None w.objects)
 changed_moves at w e answer = stays at w e answer
 
 -- ---- all areas

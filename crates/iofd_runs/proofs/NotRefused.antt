@@ -17,11 +17,12 @@ use Rattle.iofd_words.specs.Checks.{map_checks, narrows, narrows_by_width, overl
 use Rattle.iofd_words.specs.Checks.{passes_limit_copied, passes_limit_mapped, refusal, source_of, target_checks}
 use Rattle.iofd_words.specs.Checks.{unbind_checks, unmap_checks, unusable_in, user_access_checks, user_map_checks}
 use Rattle.iofd_words.specs.Checks.{user_unmap_checks, user_write_checks}
+use Rattle.iofd_words.specs.Checks.{access_attach_checks, access_create_checks, access_detach_checks, waits_for_leaving}
 use Rattle.iofd_words.specs.Copies.{placed_as}
 use Rattle.iofd_words.specs.Files.{device_of, is_device, is_user}
 use Rattle.iofd_words.specs.FirstTrue.{first_true}
 use Rattle.iofd_words.specs.Objects.{device_under, has_ioas, is_bound_device, is_full, kind_of, objects_of}
-use Rattle.iofd_words.specs.Objects.{settings_under}
+use Rattle.iofd_words.specs.Objects.{settings_under, access_ioas_of, has_access, is_access}
 use Rattle.iofd_words.specs.Pages.{crosses, is_above_sum, is_above_user, is_whole, page_of}
 use Rattle.iofd_words.specs.Ranges.{meets_some}
 use Rattle.iofd_words.specs.Rights.{is_fixed, is_readable, is_writeable}
@@ -43,6 +44,7 @@ use Rattle.iofd_words.specs.declared.rows.ObjectKind.{ObjectKind}
 use Rattle.iofd_words.specs.declared.rows.ObjectKind.TheVariants as kind
 use Rattle.iofd_words.specs.declared.width.Width.{Width}
 use Rattle.iofd_rows.proofs.Bools.{and_true, or_false}
+use Rattle.iofd_rows.proofs.ListTests.{none_stronger, or_left, or_right}
 use Rattle.iofd_runs.proofs.Runs.{tests_false}
 
 -- nothing refuses the event in the world: no test of its table is true
@@ -85,11 +87,21 @@ destroy_passed v file id none =
 pub record ClosePassed (v : View) (file : FileNo) : Type 0 where
   pub opened : v.is_open file ≡ true
   pub no_device : list_any (λ (o : Object). is_bound_device o.kind) (objects_of v.objects file) ≡ false
+  pub no_access : list_any (λ (o : Object). is_access o.kind) (objects_of v.objects file) ≡ false
 
 pub close_passed : (v : View) (file : FileNo) → first_true (close_checks v file) ≡ None → ClosePassed v file
 unfolding close_checks
-close_passed v file none = let rows =
-    close_checks v file in record { opened = not_not _ (tests_false rows 0 none); no_device = tests_false rows 1 none }
+close_passed v file none =
+    let rows = close_checks v file in
+    let left = objects_of v.objects file in
+    let held = λ (o : Object). is_bound_device o.kind || is_access o.kind in
+    record {
+      opened = not_not _ (tests_false rows 0 none);
+      no_device = none_stronger (λ (o : Object). is_bound_device o.kind) held left
+          (λ o is. or_left _ _ is) (tests_false rows 1 none);
+      no_access = none_stronger (λ (o : Object). is_access o.kind) held left
+          (λ o is. or_right _ _ is) (tests_false rows 1 none);
+    }
 
 -- ---- page tables
 
@@ -97,6 +109,7 @@ pub record HwptPassed (v : View) (file : FileNo) (request : HwptRequest) : Type 
   pub opened : v.is_open file ≡ true
   pub device : is_none (device_under v.objects file request.device) ≡ false
   pub space : has_ioas v.objects file request.ioas ≡ true
+  pub settled : waits_for_leaving v file request.ioas ≡ false
   pub wide : narrows_by_width v file request.ioas (settings_under v.settings v.objects file request.device) ≡ false
   pub roomy : is_full v.objects file ≡ false
   pub present : lacks_attached_page v file request.ioas ≡ false
@@ -112,11 +125,12 @@ hwpt_passed v file request none =
       opened = not_not _ (tests_false rows 0 none);
       device = tests_false rows 1 none;
       space = not_not _ (tests_false rows 2 none);
-      wide = tests_false rows 3 none;
-      roomy = tests_false rows 4 none;
-      present = tests_false rows 5 none;
-      within_limit = tests_false rows 6 none;
-      frames = tests_false rows 7 none;
+      settled = tests_false rows 3 none;
+      wide = tests_false rows 4 none;
+      roomy = tests_false rows 5 none;
+      present = tests_false rows 6 none;
+      within_limit = tests_false rows 7 none;
+      frames = tests_false rows 8 none;
     }
 
 -- ---- allowed ranges
@@ -420,6 +434,7 @@ unbind_passed v file id none =
 -- of a device that is bound to the object's file, to an address space
 pub record AttachPassed (v : View) (device : DeviceNo) (pt_id : ObjId) (bound : Object) : Type 0 where
   pub unattached : is_some (attachment_of v.attachments device) ≡ false
+  pub settled : waits_for_leaving v bound.file pt_id ≡ false
   pub wide : narrows v bound.file pt_id (device_of v.settings device) ≡ false
   pub roomy : lacks_room_for_hwpt v bound.file pt_id (device_of v.settings device) ≡ false
   pub present : lacks_attached_page v bound.file pt_id ≡ false
@@ -461,11 +476,12 @@ attach_passed v device pt_id bound is space none =
     let rows = target_checks v device pt_id bound.file (Some kind.Ioas) in
     record {
       unattached = parts.0;
-      wide = tests_false rows 0 parts.1;
-      roomy = tests_false rows 1 parts.1;
-      present = tests_false rows 2 parts.1;
-      within_limit = tests_false rows 3 parts.1;
-      frames = tests_false rows 4 parts.1;
+      settled = tests_false rows 0 parts.1;
+      wide = tests_false rows 1 parts.1;
+      roomy = tests_false rows 2 parts.1;
+      present = tests_false rows 3 parts.1;
+      within_limit = tests_false rows 4 parts.1;
+      frames = tests_false rows 5 parts.1;
     }
 
 pub join_passed : (v : View) (device : DeviceNo) (pt_id ioas : ObjId) (width : Width) (automatic : Bool)
@@ -505,4 +521,51 @@ write_passed v device iova bytes none = let rows =
       bound = tests_false rows 0 none;
       short = tests_false rows 1 none;
       outside = tests_false rows 2 none;
+    }
+
+-- ---- access objects
+
+pub record AccessCreatePassed (v : View) (file : FileNo) : Type 0 where
+  pub opened : v.is_open file ≡ true
+  pub roomy : is_full v.objects file ≡ false
+
+pub access_create_passed : (v : View) (file : FileNo) → first_true (access_create_checks v file) ≡ None
+    → AccessCreatePassed v file
+unfolding access_create_checks
+access_create_passed v file none =
+    let rows = access_create_checks v file in
+    record { opened = not_not _ (tests_false rows 0 none); roomy = tests_false rows 1 none }
+
+pub record AccessAttachPassed (v : View) (file : FileNo) (id ioas : ObjId) : Type 0 where
+  pub opened : v.is_open file ≡ true
+  pub there : has_access v.objects file id ≡ true
+  pub space : has_ioas v.objects file ioas ≡ true
+  pub unattached : is_some (access_ioas_of v.objects file id) ≡ false
+
+pub access_attach_passed : (v : View) (file : FileNo) (id ioas : ObjId)
+    → first_true (access_attach_checks v file id ioas) ≡ None → AccessAttachPassed v file id ioas
+unfolding access_attach_checks
+access_attach_passed v file id ioas none =
+    let rows = access_attach_checks v file id ioas in
+    record {
+      opened = not_not _ (tests_false rows 0 none);
+      there = not_not _ (tests_false rows 1 none);
+      space = not_not _ (tests_false rows 2 none);
+      unattached = tests_false rows 3 none;
+    }
+
+pub record AccessDetachPassed (v : View) (file : FileNo) (id : ObjId) : Type 0 where
+  pub opened : v.is_open file ≡ true
+  pub there : has_access v.objects file id ≡ true
+  pub attached : is_none (access_ioas_of v.objects file id) ≡ false
+
+pub access_detach_passed : (v : View) (file : FileNo) (id : ObjId)
+    → first_true (access_detach_checks v file id) ≡ None → AccessDetachPassed v file id
+unfolding access_detach_checks
+access_detach_passed v file id none =
+    let rows = access_detach_checks v file id in
+    record {
+      opened = not_not _ (tests_false rows 0 none);
+      there = not_not _ (tests_false rows 1 none);
+      attached = tests_false rows 2 none;
     }

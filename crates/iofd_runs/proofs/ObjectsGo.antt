@@ -5,6 +5,7 @@ use Rattle.iofd_words.specs.Areas.{is_of}
 use Rattle.iofd_words.specs.Attachments.{has_device_on, ioas_of}
 use Rattle.iofd_words.specs.Checks.{is_used}
 use Rattle.iofd_words.specs.Objects.{is_bound_device, is_hwpt_over, is_object, kind_of, without_device_object}
+use Rattle.iofd_words.specs.Objects.{has_access_to}
 use Rattle.iofd_words.specs.View.{view}
 use Rattle.iofd_words.specs.World.{World}
 use Rattle.iofd_words.specs.declared.numbers.FileNo.{FileNo}
@@ -15,7 +16,7 @@ use Rattle.iofd_words.specs.declared.rows.Object.{Object}
 use Rattle.iofd_words.specs.declared.rows.ObjectKind.{ObjectKind}
 use Rattle.iofd_words.specs.declared.rows.ObjectKind.TheVariants as kind
 use Rattle.iofd_words.specs.declared.width.Width.{Width}
-use Rattle.iofd_rows.proofs.Bools.{and_true, both_true, not_true, not_false}
+use Rattle.iofd_rows.proofs.Bools.{and_true, both_true, not_true, not_false, or_false}
 use Rattle.iofd_rows.proofs.Each.{IsIn, found_kept, in_filter, in_found, of_any}
 use Rattle.iofd_rows.proofs.Moves.{once_filter}
 use Rattle.iofd_rows.proofs.Named.{file_is, id_is, kind_kept}
@@ -54,6 +55,7 @@ hwpt_over : (k : ObjectKind) (over id : ObjId) → ioas_of k ≡ Some over → e
 hwpt_over kind.Ioas over id is same = cc
 hwpt_over (kind.Hwpt ioas width automatic) over id is same = let here : ioas ≡ over = cc in rw here same
 hwpt_over (kind.Device device) over id is same = cc
+hwpt_over (kind.Access attached) over id is same = cc
 
 -- no page table is over it
 no_space : (w : World) (file : FileNo) (id : ObjId) (object : Object) (ioas : ObjId)
@@ -69,7 +71,7 @@ no_space w file id object ioas unused within over space = by_name (eqb object.fi
         let here : kind_of w.objects file id ≡ Some kind.Ioas =
         rw (← file_is object.file file names.0, ← id_is ioas id names.1) space in
         let no_hwpt : list_any (λ (o : Object). eqb o.file.0 file.0 && is_hwpt_over id o.kind) w.objects ≡ false =
-        sym (ap (is_used (view w) file id) here) ∙ unused in
+        (or_false _ (has_access_to w.objects file id) (sym (ap (is_used (view w) file id) here) ∙ unused)).0 in
         let hwpt = of_any (λ (o : Object). eqb o.file.0 file.0 && is_hwpt_over id o.kind) w.objects object within
         (both_true _ _ names.0 (hwpt_over object.kind ioas id over names.1)) in
         cc

@@ -97,6 +97,7 @@ over object a ioas is same =
         → (eqb object.file.0 a.file.0 && is_hwpt_over ioas k) ≡ true
     by_kind kind.Ioas same file = cc
     by_kind (kind.Device device) same file = cc
+    by_kind (kind.Access attached) same file = cc
     by_kind (kind.Hwpt own width automatic) same file =
         let is : own ≡ ioas = cc in rw (file, is) (search (arith, nat_tests))
 

@@ -1,13 +1,16 @@
 -- Objects that stand by rising file and id: after one more or fewer, and what a filter keeps of one more.
-use Rattle.std.proofs.Common.{◌≡◌, Bool, true, false, cond, List, [], ◌∷◌, refl, ap, sym, arith}
+use Rattle.std.proofs.Common.{◌≡◌, Bool, true, false, cond, List, [], ◌∷◌, refl, ap, sym, arith, Option, ◌∙◌}
 use Rattle.std.specs.List.{filter, list_all, list_any}
 use Rattle.std.proofs.lemmas.Bool.Decides.{nat_tests}
-use Rattle.iofd_words.specs.Objects.{comes_before, is_object, with_object}
+use Rattle.iofd_words.specs.Objects.{comes_before, is_object, with_object, with_access}
 use Rattle.iofd_words.specs.declared.rows.Object.{Object}
 use Rattle.iofd_rows.proofs.Bools.{or_false, and_true, both_true}
 use Rattle.iofd_rows.proofs.Found.{all_filter, all_weaker}
+use Rattle.iofd_rows.proofs.Accesses.{Attaches, IsReattached, Stays, all_reattached, reattached, reattached_is}
 use Rattle.iofd_runs.specs.Rising.{objects_rise}
 use Rattle.iofd_runs.proofs.Known.{known_one}
+use Rattle.iofd_words.specs.declared.numbers.FileNo.{FileNo}
+use Rattle.iofd_words.specs.declared.numbers.ObjId.{ObjId}
 
 -- ---- the order of two objects
 
@@ -54,6 +57,27 @@ rise-with_object object (o ∷ objects) free rise =
         both_true _ _ (both_true _ _ before (all_after object o objects before above)) rise
     by_order false after other above rest =
         both_true _ _ (known_one (comes_before o) object objects (before_or_after object o other after) above) rest
+
+-- ---- an access object is attached or detached
+
+pub rise-reattached : (file : FileNo) (id : ObjId) (attached : Option ObjId) (objects : List Object)
+    → objects_rise objects ≡ true → objects_rise (with_access file id attached objects) ≡ true
+rise-reattached file id attached objects rise = same objects ∙ rise
+  where
+    as_before : (o new : Object) (others : List Object) → IsReattached attached o new
+        → list_all (comes_before new) others ≡ list_all (comes_before o) others
+    as_before o new others (Stays is) = rw is refl
+    as_before o new others (Attaches before is made) = rw made refl
+
+    same : (xs : List Object) → objects_rise (with_access file id attached xs) ≡ objects_rise xs
+    same [] = refl
+    same (o ∷ xs) =
+        rw (
+          as_before o (reattached file id attached o) (with_access file id attached xs)
+              (reattached_is file id attached o),
+          all_reattached file id attached (comes_before o) (λ x before after is. refl) xs,
+          same xs,
+        ) refl
 
 -- ---- fewer objects
 

@@ -8,7 +8,7 @@ use Rattle.iofd_words.specs.After.{changed}
 use Rattle.iofd_words.specs.Answers.{Answers}
 use Rattle.iofd_words.specs.Areas.{all_paid, areas_of, is_of, paid, with_phase}
 use Rattle.iofd_words.specs.Levels.{levels_of}
-use Rattle.iofd_words.specs.Objects.{is_hwpt, kind_of, with_object}
+use Rattle.iofd_words.specs.Objects.{is_hwpt, kind_of, with_object, with_access}
 use Rattle.iofd_words.specs.TablePlaces.{TablePlace, has_table, is_live, is_place, is_table_of, live_pages, pages_in}
 use Rattle.iofd_words.specs.TablePlaces.{place_of, places_from}
 use Rattle.iofd_words.specs.Tables.{MovesTables, are_rising, is_among, is_orphan, kept_tables, may_go, missing_tables}
@@ -31,13 +31,14 @@ use Rattle.iofd_rows.proofs.Each.{IsIn, in_filter, in_map, in_with_object, of_al
 use Rattle.iofd_rows.proofs.Found.{all_weaker}
 use Rattle.iofd_rows.proofs.ListTests.{any-filter, any_of_all, or_left}
 use Rattle.iofd_rows.proofs.Named.{file_is, id_is, kind_only}
+use Rattle.iofd_rows.proofs.Accesses.{in_reattached}
 use Rattle.iofd_runs.proofs.MissingTables.{all_needed, has_needed, is_owned, needed_places, none_missing}
 use Rattle.iofd_runs.proofs.OwnIds.{unused}
 use Rattle.iofd_runs.proofs.SameTables.{same_tables}
 use Rattle.iofd_runs.specs.Tabled.{AreTabled}
 use Rattle.iofd_runs.proofs.Moves.{AreasMove, Fewer, FewerAreas, More, ObjectsMove, OneArea, OtherPhases, Same}
-use Rattle.iofd_runs.proofs.Moves.{SameAreas, changed_moves}
-use Rattle.iofd_runs.proofs.TableEvents.{HwptsStay, paid_live, stay_same, stay_with}
+use Rattle.iofd_runs.proofs.Moves.{SameAreas, changed_moves, Reattached}
+use Rattle.iofd_runs.proofs.TableEvents.{HwptsStay, paid_live, stay_same, stay_with, no_access, stay_reattached}
 pub use Rattle.iofd_runs.proofs.TableEvents.{MakesNone, TakesNone, finds_table, leaves_table}
 
 -- ---- what is in lists
@@ -112,6 +113,7 @@ still_none_missing objects left areas others tables hwpts lived none =
         → list_all (has_table tables o.file o.id) (needed_places others o.file k) ≡ true
     by_kind o kind.Ioas is within = refl
     by_kind o (kind.Device device) is within = refl
+    by_kind o (kind.Access attached) is within = refl
     by_kind o (kind.Hwpt ioas width automatic) is within =
         let had : list_all (has_table tables o.file o.id)
         (needed_places areas o.file (kind.Hwpt ioas width automatic)) ≡ true =
@@ -176,6 +178,12 @@ hwpts_other object objects other o within is =
     false_true : false ≡ true → ⊥
     false_true is = cc
 
+-- an access object is attached or detached
+pub hwpts_reattached : (file : FileNo) (id : ObjId) (attached : Option ObjId) (objects : List Object)
+    → HwptsIn objects (with_access file id attached objects)
+hwpts_reattached file id attached objects o within is =
+    in_reattached file id attached objects o (no_access o.kind is) within
+
 -- ---- after an event that makes no page table and no live area
 
 -- none is missing after it
@@ -190,6 +198,7 @@ none_after at w e answer makes none =
     hwpts : (new : World) → ObjectsMove w e answer new → HwptsIn w.objects new.objects
     hwpts new (Same is) = rw is (hwpts_same w.objects)
     hwpts new (Fewer stays stay bound is) = rw is (hwpts_fewer stays w.objects)
+    hwpts new (Reattached file id attached is) = rw is (hwpts_reattached file id attached w.objects)
     hwpts new (More object fresh admitted other is) = rw is (hwpts_other object w.objects (other makes))
 
     lived : (new : World) → AreasMove at w e answer new → LiveIn w.areas new.areas
@@ -218,6 +227,7 @@ none_kept left areas given tables own only none =
         → list_all (has_table (kept_tables given tables) o.file o.id) (needed_places areas o.file k) ≡ true
     by_kind o kind.Ioas is within = refl
     by_kind o (kind.Device device) is within = refl
+    by_kind o (kind.Access attached) is within = refl
     by_kind o (kind.Hwpt ioas width automatic) is within =
         all_weaker (has_table tables o.file o.id) (has_table (kept_tables given tables) o.file o.id)
         (needed_places areas o.file (kind.Hwpt ioas width automatic)) kept
@@ -277,6 +287,7 @@ owned_after at w e answer answers takes all =
     by_move : (new : World) → ObjectsMove w e answer new → HwptsStay w.objects new.objects
     by_move new (Same is) = rw is (stay_same w.objects)
     by_move new (Fewer stays stay bound is) = rw is (stay takes)
+    by_move new (Reattached file id attached is) = rw is (stay_reattached file id attached w.objects)
     by_move new (More object fresh admitted other is) =
         rw is (stay_with object w.objects (unused w.objects object.file object.id (fresh answers)))
 

@@ -216,6 +216,7 @@ module _ (v : View) (areas : List Area) (tables : List TableFrame) (area : Area)
           → length (missing_of (with_area area areas) tables o) ≡ cond (over o) (lacked o) 0
       by_kind kind.Ioas is all = rw is (ap (λ b. cond b 0 0) (sym (and_none (eqb o.file.0 area.file.0))))
       by_kind (kind.Device device) is all = rw is (ap (λ b. cond b 0 0) (sym (and_none (eqb o.file.0 area.file.0))))
+      by_kind (kind.Access attached) is all = rw is (ap (λ b. cond b 0 0) (sym (and_none (eqb o.file.0 area.file.0))))
       by_kind (kind.Hwpt ioas width automatic) is all =
           rw is (by_space ioas width (eqb o.file.0 area.file.0 && eqb ioas.0 area.ioas.0) refl (rw is at all))
 

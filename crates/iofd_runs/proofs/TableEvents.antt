@@ -1,13 +1,13 @@
 -- Events that make no page table and no live area, and events that take no page table away.
 use Rattle.std.proofs.Common.{◌≡◌, ℕ, Bool, true, false, cond, ◌&&◌, ◌||◌, not, eqb, is_some, Option}
-use Rattle.std.proofs.Common.{Some, None, List, refl, ap, sym, ◌∙◌, subst}
+use Rattle.std.proofs.Common.{Some, None, List, refl, ap, sym, ◌∙◌, subst, ltb, ◌+◌}
 use Rattle.std.specs.List.{filter, find, list_all, list_any}
 use Rattle.iofd_words.specs.After.{attached, goes_with}
-use Rattle.iofd_words.specs.Areas.{leaving, paid}
+use Rattle.iofd_words.specs.Areas.{leaving, paid, tried, with_tries}
 use Rattle.iofd_words.specs.Attachments.{attachment_of, without_attachment}
 use Rattle.iofd_words.specs.Files.{device_of}
 use Rattle.iofd_words.specs.Objects.{automatic_hwpt, binding_of, is_bound_device, is_hwpt, is_ioas, is_object, kind_of}
-use Rattle.iofd_words.specs.Objects.{with_object, without_device_object, without_object}
+use Rattle.iofd_words.specs.Objects.{with_object, without_device_object, without_object, is_access, with_access}
 use Rattle.iofd_words.specs.Settings.{DeviceSettings}
 use Rattle.iofd_words.specs.TablePlaces.{is_live}
 use Rattle.iofd_words.specs.World.{World}
@@ -28,6 +28,7 @@ use Rattle.iofd_rows.proofs.Found.{all_weaker, found_passes}
 use Rattle.iofd_rows.proofs.ListTests.{filter_all}
 use Rattle.iofd_rows.proofs.Moves.{device_is}
 use Rattle.iofd_rows.proofs.Named.{file_is, id_is, kind_before, kind_kept}
+use Rattle.iofd_rows.proofs.Accesses.{kind_reattached}
 
 -- ---- no page table and no live area comes
 
@@ -54,11 +55,23 @@ paid_live device Live live = refl
 paid_live device (Leaving owed tries) live = live
 
 -- nor where an UNMAP waits
-pub leaving_live : (touched : Bool) (attached : List ℕ) (phase : Phase)
-    → is_live (cond touched (leaving attached phase) phase) ≡ true → is_live phase ≡ true
-leaving_live false attached phase live = live
-leaving_live true attached Live live = refl
-leaving_live true attached (Leaving owed tries) live = live
+tried_live : (most : ℕ) (phase : Phase) → is_live (tried most phase) ≡ is_live phase
+tried_live most phase = by_count (ltb most 100)
+  where
+    with_same : (tries : ℕ) (phase : Phase) → is_live (with_tries tries phase) ≡ is_live phase
+    with_same tries Live = refl
+    with_same tries (Leaving owed before) = refl
+
+    by_count : (b : Bool) → is_live (cond b (with_tries (most + 1) phase) phase) ≡ is_live phase
+    by_count true = with_same (most + 1) phase
+    by_count false = refl
+
+pub leaving_live : (touched : Bool) (most : ℕ) (attached : List ℕ) (phase : Phase)
+    → is_live (cond touched (tried most (leaving attached phase)) phase) ≡ true → is_live phase ≡ true
+leaving_live false most attached phase live = live
+leaving_live true most attached Live live = refl
+leaving_live true most attached (Leaving owed tries) live =
+    sym (tried_live most (Leaving owed tries)) ∙ live
 
 -- ---- no page table goes
 
@@ -73,6 +86,18 @@ stay_same objects file id k is found = found
 pub stay_with : (object : Object) (objects : List Object) → list_any (is_object object.file object.id) objects ≡ false
     → HwptsStay objects (with_object object objects)
 stay_with object objects free file id k is found = kind_before object objects file id k free found
+
+-- a page table is no access object
+pub no_access : (k : ObjectKind) → is_hwpt k ≡ true → is_access k ≡ false
+no_access kind.Ioas is = refl
+no_access (kind.Hwpt ioas width automatic) is = refl
+no_access (kind.Device device) is = refl
+no_access (kind.Access attached) is = cc
+
+pub stay_reattached : (own : FileNo) (access : ObjId) (attached : Option ObjId) (objects : List Object)
+    → HwptsStay objects (with_access own access attached objects)
+stay_reattached own access attached objects file id k is found =
+    kind_reattached own access attached objects file id k (no_access k is) found
 
 pub stay_fewer : (q : Object → Bool) (objects : List Object)
     → ((object : Object) → is_hwpt object.kind ≡ true → kind_of objects object.file object.id ≡ Some object.kind
@@ -157,6 +182,7 @@ unbound_stay w file id =
     by_kind true (kind.Hwpt ioas width automatic) is = refl
     by_kind true kind.Ioas is = refl
     by_kind true (kind.Device device) is = cc
+    by_kind true (kind.Access attached) is = cc
     by_kind false k is = refl
 
 pub detached_stay : (w : World) (device : DeviceNo) (a : Attachment) → attachment_of w.attachments device ≡ Some a

@@ -34,6 +34,7 @@ abbrev pub is_known_device : Settings → ObjectKind → Bool
 is_known_device settings kind.Ioas = true
 is_known_device settings (kind.Hwpt ioas width automatic) = true
 is_known_device settings (kind.Device device) = is_device settings device
+is_known_device settings (kind.Access attached) = true
 
 pub record RowsFit (w : World) : Type 0 where
   pub pages : list_all is_of_pages w.areas ≡ true
