@@ -19,6 +19,7 @@ use Rattle.iofd_words.specs.Checks.{lacks_copied_page, lacks_mapped_page, map_ch
 use Rattle.iofd_words.specs.Checks.{passes_limit, passes_limit_attached, passes_limit_copied, passes_limit_mapped}
 use Rattle.iofd_words.specs.Checks.{refusal, target_checks, unbind_checks, unmap_checks, user_map_checks}
 use Rattle.iofd_words.specs.Checks.{user_unmap_checks, user_write_checks}
+use Rattle.iofd_words.specs.Checks.{access_create_checks, access_attach_checks, access_detach_checks}
 use Rattle.iofd_words.specs.Copies.{placed_as}
 use Rattle.iofd_words.specs.Files.{device_of, is_open, limit_of, user_of}
 use Rattle.iofd_words.specs.FirstTrue.{first_true}
@@ -508,6 +509,7 @@ no_automatic objects file ioas width none = by_found (automatic_hwpt objects fil
     is_over (kind.Hwpt over of automatic) is =
         (and_true (eqb over.0 ioas.0) automatic (and_true (eqb over.0 ioas.0 && automatic) _ is).0).0
     is_over (kind.Device device) is = cc
+    is_over (kind.Access attached) is = cc
 
     by_found : (o : Option Object) → automatic_hwpt objects file ioas width ≡ o → o ≡ None
     by_found None is = refl
@@ -530,6 +532,7 @@ under_known w file id fits some none = by_found (find (is_object file id) w.obje
         ] ≡ None → ⊥
     by_kind kind.Ioas known some none = cc
     by_kind (kind.Hwpt ioas width automatic) known some none = cc
+    by_kind (kind.Access attached) known some none = cc
     by_kind (kind.Device device) known some none =
         never (sym (ap (λ (o : Option DeviceSettings). is_some o) none) ∙ known)
 
@@ -565,7 +568,7 @@ module _ {A : Type 0} (at : ℕ) (w : World) (p : OwnedPins at w) (fits : RowsFi
           ∙ account_row (hwpt_alloc_checks (view w) file request) refused
 
       lacks : lacks_attached_page (view w) file request.ioas ≡ false
-      lacks = row_passed cause.Account is_account refl (hwpt_alloc_checks (view w) file request) 5 refused refl
+      lacks = row_passed cause.Account is_account refl (hwpt_alloc_checks (view w) file request) 6 refused refl
 
       by_device : (d : Option DeviceSettings) → settings_under w.settings w.objects file request.device ≡ d
           → PassesLimit {A = A} w (hwpt_changes w file request.ioas id d) (event.HwptAlloc file request)
@@ -591,7 +594,7 @@ module _ {A : Type 0} (at : ℕ) (w : World) (p : OwnedPins at w) (fits : RowsFi
       sym (or_none (passes_limit_attached (view w) bound.file pt_id))
       ∙ account_row (rows bound (Some kind.Ioas)) refused_space in
       let lacks : lacks_attached_page (view w) bound.file pt_id ≡ false =
-      row_passed cause.Account is_account refl (rows bound (Some kind.Ioas)) 3 refused_space refl in
+      row_passed cause.Account is_account refl (rows bound (Some kind.Ioas)) 4 refused_space refl in
       let none = not_true _ (and_true (not (has_hwpt w.objects bound.file pt_id)) _ row).0 in
       let of_file : file_of {A = A} w (event.Attach device pt_id) ≡ Some bound.file =
       ap (λ (o : Option Object). elim o as (λ _. Option FileNo) [ Some b ↦ Some b.file | None ↦ None ]) is in
@@ -620,7 +623,7 @@ module _ {A : Type 0} (at : ℕ) (w : World) (p : OwnedPins at w) (fits : RowsFi
       → PassesLimit {A = A} w (changed at w e answer) e
   unfolding changed Answers copy_checks ioas_alloc_checks allow_iovas_checks unmap_checks destroy_checks close_checks
       user_map_checks user_unmap_checks user_write_checks bind_checks unbind_checks detach_checks flush_checks
-      device_write_checks
+      device_write_checks access_create_checks access_attach_checks access_detach_checks
   over_limit (event.Map file request) (reply.Iova iova) refused answers =
       map_over at w file request iova p.pins refused
   over_limit (event.Copy file request) (reply.Iova iova) refused answers =

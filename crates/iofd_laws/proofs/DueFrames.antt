@@ -12,6 +12,7 @@ use Rattle.iofd_words.specs.Checks.{flush_checks, hwpt_alloc_checks, ioas_alloc_
 use Rattle.iofd_words.specs.Checks.{lacks_mapped_frames, lacks_new_tables, map_checks, mapped_start, refusal}
 use Rattle.iofd_words.specs.Checks.{tables_to_map, unbind_checks, unmap_checks, user_map_checks}
 use Rattle.iofd_words.specs.Checks.{user_unmap_checks, user_write_checks}
+use Rattle.iofd_words.specs.Checks.{access_create_checks, access_attach_checks, access_detach_checks}
 use Rattle.iofd_words.specs.Copies.{placed_as}
 use Rattle.iofd_words.specs.Files.{device_of, is_open, user_of}
 use Rattle.iofd_words.specs.FirstTrue.{first_true}
@@ -336,7 +337,8 @@ module _ {A : Type 0} (at : ℕ) (w : World) (has : HasTables w) (taken given : 
   pub due : (e : Event A) (answer : Reply) → refusal w e ≡ Some cause.Frames → chooses_address e ≡ false
       → Answers w e answer → MovesTables w (changed at w e answer) e answer taken given → ⊥
   unfolding Answers ioas_alloc_checks allow_iovas_checks unmap_checks destroy_checks close_checks user_unmap_checks
-      user_write_checks bind_checks unbind_checks detach_checks flush_checks device_write_checks
+      user_write_checks bind_checks unbind_checks detach_checks flush_checks device_write_checks access_create_checks
+      access_attach_checks access_detach_checks
   due (event.Map file request) (reply.Iova iova) refused fixed answers moves =
       by_flag (is_fixed request.flags) refl fixed answers
     where

@@ -10,6 +10,7 @@ use Rattle.iofd_words.specs.After.{settle, without_areas, attached, detached, jo
 use Rattle.iofd_words.specs.After.{mapped_area, with_hwpt}
 use Rattle.iofd_words.specs.Allowed.{AllowedRanges, with_allowed, without_allowed}
 use Rattle.iofd_words.specs.Areas.{all_paid, owed_by, paid, is_touched, leaving, with_area, with_phase}
+use Rattle.iofd_words.specs.Areas.{tried, touched_tries}
 use Rattle.iofd_words.specs.Attachments.{attachment_of, with_attachment, without_attachment, devices_of}
 use Rattle.iofd_words.specs.Checks.{refusal}
 use Rattle.iofd_words.specs.Copies.{placed_as}
@@ -17,7 +18,7 @@ use Rattle.iofd_words.specs.DeviceSet.{without_device}
 use Rattle.iofd_words.specs.Files.{user_of}
 use Rattle.iofd_laws.specs.Laws.{FileRows, IsOfAnother, file_of_device, rows_of}
 use Rattle.iofd_words.specs.Objects.{automatic_hwpt, binding_of, comes_before, objects_of, settings_under}
-use Rattle.iofd_words.specs.Objects.{with_object}
+use Rattle.iofd_words.specs.Objects.{with_object, with_access, is_access}
 use Rattle.iofd_words.specs.Run.{after, after_answer}
 use Rattle.iofd_words.specs.Tables.{with_tables}
 use Rattle.iofd_words.specs.View.{view}
@@ -42,6 +43,7 @@ use Rattle.iofd_rows.proofs.Bools.{and_true, not_false}
 use Rattle.iofd_laws.proofs.Bound.{AreBound}
 use Rattle.iofd_rows.proofs.Bound.{is_bound_to, is_of_file}
 use Rattle.iofd_rows.proofs.Found.{found_passes}
+use Rattle.iofd_rows.proofs.Accesses.{reattached, reattached_is, same_name}
 use Rattle.iofd_runs.proofs.CopySource.{source_area}
 use Rattle.iofd_runs.proofs.NotRefused.{detach_passed, flush_passed, passes}
 use Rattle.iofd_runs.proofs.Branches.{by_attachment, by_found, by_target}
@@ -265,6 +267,20 @@ attached_file w device object a b is found =
 
 -- ---- each event
 
+-- another file's access object is attached or detached
+accesses_stay : (own file : FileNo) (id : ObjId) (attached : Option ObjId) (objects : List Object) → own.0 ≢ file.0
+    → filter (λ (o : Object). eqb o.file.0 file.0) (with_access own id attached objects)
+    ≡ filter (λ (o : Object). eqb o.file.0 file.0) objects
+accesses_stay own file id attached objects differ =
+    filter_map_same (λ (o : Object). eqb o.file.0 file.0) (λ o. true) (reattached own id attached) objects (all objects)
+    (λ o. ap (λ (f : FileNo). eqb f.0 file.0)
+    (same_name attached o (reattached own id attached o) (reattached_is own id attached o)).0)
+    (λ o same _. rw (untouched own file o.file.0 (eqb o.id.0 id.0) (is_access o.kind) differ same) refl)
+  where
+    all : (xs : List Object) → list_all (λ (o : Object). true) xs ≡ true
+    all [] = refl
+    all (o ∷ xs) = all xs
+
 phase_stays : (a : Area) (touched : Bool) (new : Phase) → touched ≡ false → with_phase (cond touched new a.phase) a ≡ a
 phase_stays a touched new is = rw is refl
 
@@ -311,7 +327,8 @@ keeps_others at w (event.Unmap f request) (reply.Pending errno) file b none anot
     same_rows refl
     (filter_map_same _ (λ (a : Area). list_all (is_bound_to w.objects a.file) (owed_by [] a.phase))
     (λ (a : Area). with_phase (cond (is_touched f request a)
-    (leaving (devices_of w.objects w.attachments f request.ioas) a.phase) a.phase) a) w.areas
+    (tried (touched_tries w.areas f request) (leaving (devices_of w.objects w.attachments f request.ioas) a.phase))
+    a.phase) a) w.areas
     b.debts (λ a. refl) (λ a same _. phase_stays a (is_touched f request a) _
     (untouched f file a.file.0 _ _ (another f refl) same)))
     refl refl refl
@@ -371,6 +388,12 @@ keeps_others at w (event.Flush device) reply.Done file b none another =
     same_rows refl (areas_paid w device bound.0 file b bound.1 (elsewhere w device bound.0 file another bound.1)) refl
     refl refl
 keeps_others at w (event.DeviceWrite device iova bytes) (reply.Passed frame) file b none another = refl
+keeps_others at w (event.AccessCreate f) (reply.Id id) file b none another =
+    same_rows (objects-with_object _ w.objects file (other_file f file (another f refl))) refl refl refl refl
+keeps_others at w (event.AccessAttach f id ioas) reply.Done file b none another =
+    same_rows (accesses_stay f file id (Some ioas) w.objects (another f refl)) refl refl refl refl
+keeps_others at w (event.AccessDetach f id) reply.Done file b none another =
+    same_rows (accesses_stay f file id None w.objects (another f refl)) refl refl refl refl
 keeps_others at w e answer file b none another = refl
 
 pub after_keeps_others : {A : Type 0} (at : ℕ) (w : World) (r : Record A) (file : FileNo) → AreBound w

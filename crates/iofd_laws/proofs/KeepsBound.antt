@@ -4,7 +4,7 @@ use Rattle.std.proofs.lemmas.Bool.Decides.{nat_tests}
 use Rattle.iofd_words.specs.After.{changed}
 use Rattle.iofd_words.specs.Answers.{Answers}
 use Rattle.iofd_words.specs.Checks.{refusal}
-use Rattle.iofd_words.specs.Objects.{binding_of, with_object}
+use Rattle.iofd_words.specs.Objects.{binding_of, with_object, with_access, is_bound_as}
 use Rattle.iofd_words.specs.Settings.{Settings}
 use Rattle.iofd_words.specs.Tables.{with_tables}
 use Rattle.iofd_words.specs.World.{World, opening}
@@ -18,9 +18,10 @@ use Rattle.iofd_rows.proofs.Found.{all_filter}
 use Rattle.iofd_runs.proofs.KeepsDebts.{IsSound, keeps_sound, tabled_sound}
 use Rattle.iofd_laws.proofs.Bound.{AreBound, debts_follow}
 use Rattle.iofd_rows.proofs.Bound.{attachments_bound, attachments_stay, attachments-with_attachment, is_bound_to}
-use Rattle.iofd_rows.proofs.Bound.{is_of_file, stays_more}
+use Rattle.iofd_rows.proofs.Bound.{is_of_file, stays_more, find_stays}
+use Rattle.iofd_rows.proofs.Accesses.{found_reattached}
 use Rattle.iofd_runs.proofs.Moves.{AttachmentsMove, Fewer, FewerAttachments, More, ObjectsMove, OneAttachment, Same}
-use Rattle.iofd_runs.proofs.Moves.{SameAttachments, changed_moves}
+use Rattle.iofd_runs.proofs.Moves.{SameAttachments, changed_moves, Reattached}
 
 abbrev AttachmentsBound : World → Type 0
 AttachmentsBound w = attachments_bound w.objects w.attachments ≡ true
@@ -66,6 +67,10 @@ keeps_attachments at w e answer none tidy =
     by_objects new (Same is) = rw is tidy.attachments
     by_objects new (Fewer stays stay bound is) =
         rw is (bound none tidy.sound.own_ids tidy.sound.debts.once tidy.attachments)
+    by_objects new (Reattached file id attached is) =
+        rw is (attachments_stay w.objects (with_access file id attached w.objects) w.attachments
+        (find_stays w.objects (with_access file id attached w.objects) (λ device. found_reattached file id attached
+        (λ o. is_bound_as device o.kind) (λ o before is. ap (is_bound_as device) is) w.objects)) tidy.attachments)
     by_objects new (More object fresh admitted makes is) =
         rw is (attachments_stay w.objects (with_object object w.objects) w.attachments
         (stays_more object w.objects (admitted none).unbound) tidy.attachments)

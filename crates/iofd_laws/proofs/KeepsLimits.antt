@@ -606,6 +606,9 @@ keeps_limits at w (event.Detach device) reply.Done none p within =
     omega (arith, held, before)) within)
 keeps_limits at w (event.Flush device) reply.Done none p within = within
 keeps_limits at w (event.DeviceWrite device iova bytes) (reply.Passed frame) none p within = within
+keeps_limits at w (event.AccessCreate file) (reply.Id id) none p within = within
+keeps_limits at w (event.AccessAttach file id ioas) reply.Done none p within = within
+keeps_limits at w (event.AccessDetach file id) reply.Done none p within = within
 keeps_limits at w e answer none p within = within
 
 -- with what areas and pins keep

@@ -4,7 +4,7 @@ use Rattle.std.proofs.Common.{◌∷◌, map, Contains, refl, ap, sym, ◌∙◌
 use Rattle.std.specs.List.{filter, list_any}
 use Rattle.std.proofs.lemmas.Bool.Decides.{nat_tests}
 use Rattle.iofd_words.specs.After.{changed, settle, without_areas}
-use Rattle.iofd_words.specs.Areas.{is_touched, leaving, with_phase}
+use Rattle.iofd_words.specs.Areas.{is_touched, leaving, with_phase, tried, touched_tries, with_leaving}
 use Rattle.iofd_words.specs.Attachments.{devices_of}
 use Rattle.iofd_words.specs.Checks.{refusal}
 use Rattle.iofd_words.specs.Objects.{has_hwpt}
@@ -23,6 +23,7 @@ use Rattle.iofd_words.specs.declared.reply.Reply.{Reply}
 use Rattle.iofd_words.specs.declared.reply.Reply.TheVariants as reply
 use Rattle.iofd_words.specs.declared.rows.Area.{Area}
 use Rattle.iofd_words.specs.declared.rows.MemoryObject.{MemoryObject}
+use Rattle.iofd_words.specs.declared.rows.Phase.{Phase}
 use Rattle.iofd_laws.specs.Laws.{Outlives, object_numbered}
 use Rattle.iofd_rows.specs.Pinned.{ArePinned}
 use Rattle.iofd_rows.proofs.Bools.{and_true, both_true, not_false}
@@ -150,18 +151,19 @@ outlives_same w area within = record {
 -- it waits: the touched areas are leaving
 outlives_waiting : (w : World) (area : Area) (file : FileNo) (request : UnmapRequest) → IsIn w.areas area
     → is_touched file request area ≡ false
-    → Contains (map (λ (a : Area). with_phase
-    (cond (is_touched file request a) (leaving (devices_of w.objects w.attachments file request.ioas)
-    a.phase) a.phase) a) w.areas) area
+    → Contains (with_leaving w.areas (devices_of w.objects w.attachments file request.ioas) file request) area
 outlives_waiting w area file request within apart =
-    let phase = λ (a : Area). cond (is_touched file request a)
-    (leaving (devices_of w.objects w.attachments file request.ioas) a.phase) a.phase in
+    let phase = λ (a : Area). cond (is_touched file request a) (left a.phase) a.phase in
     contains _ area (subst (IsIn (map (λ (a : Area). with_phase (phase a) a) w.areas))
     (stays (is_touched file request area) apart)
     (in_mapped (λ (a : Area). with_phase (phase a) a) w.areas area within))
   where
-    stays : (b : Bool) → b ≡ false → with_phase
-        (cond b (leaving (devices_of w.objects w.attachments file request.ioas) area.phase) area.phase) area ≡ area
+    left : Phase → Phase
+    left phase =
+        tried (touched_tries w.areas file request)
+        (leaving (devices_of w.objects w.attachments file request.ioas) phase)
+
+    stays : (b : Bool) → b ≡ false → with_phase (cond b (left area.phase) area.phase) area ≡ area
     stays true is = cc
     stays false is = refl
 

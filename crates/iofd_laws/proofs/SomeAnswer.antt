@@ -13,11 +13,11 @@ use Rattle.iofd_rows.proofs.Unusable.{none_of}
 use Rattle.iofd_laws.proofs.FreshIds.{fresh_id}
 use Rattle.iofd_runs.proofs.Known.{bound_known}
 use Rattle.iofd_runs.proofs.NotRefused.{alloc_passed, attach_passed, bind_passed, copy_passed, hwpt_passed, map_passed}
-use Rattle.iofd_runs.proofs.NotRefused.{target_passed, user_map_passed}
+use Rattle.iofd_runs.proofs.NotRefused.{target_passed, user_map_passed, access_create_passed}
 use Rattle.iofd_runs.proofs.StillTabled.{in_kept}
 use Rattle.iofd_runs.proofs.PinnedAccess.{some_outcome}
 use Rattle.iofd_words.specs.Answers.{Answers, IsHwptFor, IsHwptOf, IsMappedAt, IsTarget, UnmapAnswers, write_reply}
-use Rattle.iofd_words.specs.Areas.{is_waiting, touched_bytes}
+use Rattle.iofd_words.specs.Areas.{is_waiting, touched_bytes, pending_errno, touched_tries}
 use Rattle.iofd_words.specs.Attachments.{devices_of}
 use Rattle.iofd_words.specs.Checks.{attach_checks, choices, has_choice, lacks_choice, lacks_room_for_hwpt, least}
 use Rattle.iofd_words.specs.Checks.{mapped_start, may_choose, refusal, taken_spans}
@@ -111,7 +111,7 @@ module _ (at : ℕ) (w : World) (pins : ArePinned at w) (fits : RowsFit w) where
     where
       by_test : (b : Bool) → is_waiting w.areas (devices_of w.objects w.attachments file request.ioas) file request ≡ b
           → (answer : Reply) × UnmapAnswers w file request answer
-      by_test true waits = (reply.Pending EAGAIN, (waits, refl))
+      by_test true waits = (reply.Pending (pending_errno (touched_tries w.areas file request)), (waits, refl))
       by_test false waits = (reply.Bytes (touched_bytes w.areas file request), (not_false _ waits, refl))
 
   -- the fixed address, or the least that may be chosen
@@ -162,6 +162,8 @@ module _ (at : ℕ) (w : World) (pins : ArePinned at w) (fits : RowsFit w) where
       by_kind bound d (Some (kind.Hwpt ioas width automatic)) is known table = (pt_id, refl)
       by_kind bound d (Some (kind.Device other)) is known named =
           let rest = (target_passed (view w) device pt_id bound (Some (kind.Device other)) is named none).1 in cc
+      by_kind bound d (Some (kind.Access attached)) is known named =
+          let rest = (target_passed (view w) device pt_id bound (Some (kind.Access attached)) is named none).1 in cc
       by_kind bound d None is known named =
           let rest = (target_passed (view w) device pt_id bound None is named none).1 in cc
 
@@ -212,3 +214,8 @@ module _ (at : ℕ) (w : World) (pins : ArePinned at w) (fits : RowsFit w) where
   some_answer (event.DeviceWrite device iova bytes) none =
       first_of_map (write_reply w device iova.0) (outcomes w device iova.0 Write)
       (some_outcome at w device iova.0 Write pins fits)
+  some_answer (event.AccessCreate file) none =
+      let (id, fresh) = fresh_id w.objects file (access_create_passed (view w) file none).roomy in
+      (reply.Id id, fresh)
+  some_answer (event.AccessAttach file id ioas) none = (reply.Done, tt)
+  some_answer (event.AccessDetach file id) none = (reply.Done, tt)

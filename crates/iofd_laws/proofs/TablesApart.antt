@@ -183,6 +183,7 @@ module _ {A : Type 0} (w left : World) (e : Event A) (answer : Reply) (taken giv
   same_needed f (kind.Hwpt ioas width automatic) is =
       ap (λ areas. places_of width (live_pages areas)) (same_space f ioas is)
   same_needed f (kind.Device device) is = refl
+  same_needed f (kind.Access attached) is = refl
 
   same_has : (f : FileNo) (id : ObjId) (place : TablePlace) → eqb f.0 file.0 ≡ true
       → has_table kept f id place ≡ has_table w.table_frames f id place

@@ -8,7 +8,7 @@ use Rattle.iofd_words.specs.After.{changed}
 use Rattle.iofd_words.specs.Allowed.{AllowedRanges, with_allowed}
 use Rattle.iofd_words.specs.Checks.{allow_iovas_checks, bind_checks, close_checks, copy_checks, destroy_checks}
 use Rattle.iofd_words.specs.Checks.{hwpt_alloc_checks, ioas_alloc_checks, map_checks, refusal, unbind_checks}
-use Rattle.iofd_words.specs.Checks.{unmap_checks}
+use Rattle.iofd_words.specs.Checks.{unmap_checks, access_create_checks, access_attach_checks, access_detach_checks}
 use Rattle.iofd_words.specs.Files.{is_open, user_of}
 use Rattle.iofd_words.specs.FirstTrue.{first_true}
 use Rattle.iofd_words.specs.Run.{IsRun, world_of}
@@ -159,7 +159,7 @@ refuses w f file (row ∷ rows) is gone first =
 refuses_gone : {A : Type 0} → (w : World) (e : Event A) (file : FileNo) → file_named e ≡ Some file
     → is_open w.settings w.closed file ≡ false → refusal w e ≡ Some cause.Id
 unfolding ioas_alloc_checks allow_iovas_checks map_checks copy_checks unmap_checks hwpt_alloc_checks destroy_checks
-    close_checks bind_checks unbind_checks
+    close_checks bind_checks unbind_checks access_create_checks access_attach_checks access_detach_checks
 refuses_gone w (event.IoasAlloc f) file is gone = refuses w f file (ioas_alloc_checks (view w) f) is gone refl
 refuses_gone w (event.AllowIovas f ioas ranges) file is gone =
     refuses w f file (allow_iovas_checks (view w) f ioas ranges) is gone refl
@@ -172,6 +172,11 @@ refuses_gone w (event.Destroy f id) file is gone = refuses w f file (destroy_che
 refuses_gone w (event.Close f) file is gone = refuses w f file (close_checks (view w) f) is gone refl
 refuses_gone w (event.Bind f device) file is gone = refuses w f file (bind_checks (view w) f device) is gone refl
 refuses_gone w (event.Unbind f id) file is gone = refuses w f file (unbind_checks (view w) f id) is gone refl
+refuses_gone w (event.AccessCreate f) file is gone = refuses w f file (access_create_checks (view w) f) is gone refl
+refuses_gone w (event.AccessAttach f id ioas) file is gone =
+    refuses w f file (access_attach_checks (view w) f id ioas) is gone refl
+refuses_gone w (event.AccessDetach f id) file is gone =
+    refuses w f file (access_detach_checks (view w) f id) is gone refl
 refuses_gone w e file is gone = cc
 
 pub gone_refused : {A : Type 0} → (w : World) (e : Event A) (file : FileNo) → file_named e ≡ Some file → IsGone w file

@@ -1,12 +1,12 @@
 -- At most 65,535 objects a file and areas an address space, and ids within their bounds.
 use Rattle.std.proofs.Common.{◌≡◌, ◌<◌, ◌≤◌, ℕ, ◌+◌, Bool, true, false, cond, ◌&&◌, eqb, leb, ltb, List, [], ◌∷◌}
-use Rattle.std.proofs.Common.{length, map, refl, ap, sym, ◌∙◌, arith, inl, inr, not, None}
-use Rattle.std.specs.List.{filter, list_all}
+use Rattle.std.proofs.Common.{length, map, refl, ap, sym, ◌∙◌, arith, inl, inr, not, None, subst}
+use Rattle.std.specs.List.{filter, list_all, count_by}
 use Rattle.std.proofs.lemmas.Bool.{eqb-true}
 use Rattle.std.proofs.lemmas.Bool.Decides.{nat_tests}
 use Rattle.iofd_words.specs.After.{changed, mapped_area}
 use Rattle.iofd_words.specs.Areas.{areas_of, is_of, with_area, with_phase}
-use Rattle.iofd_words.specs.Objects.{comes_before, objects_of, with_object}
+use Rattle.iofd_words.specs.Objects.{comes_before, objects_of, with_object, with_access}
 use Rattle.iofd_words.specs.Run.{IsRun, world_of}
 use Rattle.iofd_words.specs.Settings.{Settings, is_between}
 use Rattle.iofd_words.specs.Tables.{with_tables}
@@ -17,14 +17,17 @@ use Rattle.iofd_words.specs.declared.rows.Object.{Object}
 use Rattle.iofd_words.specs.declared.rows.Phase.{Phase}
 use Rattle.iofd_rows.proofs.Bools.{and_true}
 use Rattle.iofd_rows.proofs.Each.{of_all, of_each}
+use Rattle.iofd_rows.proofs.Accesses.{reattached, reattached_is, same_name}
 use Rattle.iofd_runs.proofs.Runs.{run_keeps}
 use Rattle.iofd_promises.specs.Bounded.{how_many}
-use Rattle.iofd_promises.proofs.Comes.{Came, came}
+use Rattle.iofd_promises.proofs.Comes.{Came, came, HasNewId, WasAccess, WasThere}
 use Rattle.iofd_runs.proofs.Moves.{AreasMove, Fewer, FewerAreas, More, ObjectsMove, OneArea, OtherPhases, Same}
-use Rattle.iofd_runs.proofs.Moves.{SameAreas, changed_moves}
+use Rattle.iofd_runs.proofs.Moves.{SameAreas, changed_moves, Reattached}
 use Rattle.iofd_words.specs.Checks.{refusal}
 use Rattle.iofd_words.specs.declared.event.Event.{Event}
 use Rattle.iofd_words.specs.declared.reply.Reply.{Reply}
+use Rattle.iofd_words.specs.declared.numbers.ObjId.{ObjId}
+use Rattle.iofd_words.specs.declared.numbers.FileNo.{FileNo}
 
 -- ---- counts
 
@@ -105,6 +108,14 @@ few_by : {A : Type 0} (file : ℕ) (w : World) (e : Event A) (answer : Reply) (n
 few_by file w e answer new (Same is) none few = rw is few
 few_by file w e answer new (Fewer stays stay bound is) none few =
     let less = fewer (of_file file) stays w.objects in rw is (omega (arith, less, few))
+few_by file w e answer new (Reattached own id attached is) none few =
+    rw is (subst (λ n. n ≤ 65535) (sym (same_count w.objects)) few)
+  where
+    same_count : (xs : List Object) → how_many (of_file file) (with_access own id attached xs) ≡ how_many (of_file file) xs
+    same_count [] = refl
+    same_count (o ∷ xs) =
+        let name = same_name attached o (reattached own id attached o) (reattached_is own id attached o) in
+        rw (ap (λ (f : FileNo). eqb f.0 file) name.0, same_count xs) refl
 few_by file w e answer new (More object fresh admitted makes is) none few =
     rw is (by_file (eqb object.file.0 file) refl (one_object (of_file file) object w.objects))
   where
@@ -189,8 +200,10 @@ abbrev pub has_good_id : Object → Bool
 has_good_id object = leb 1 object.id.0 && leb object.id.0 0x7fff_ffff
 
 good_by : (old : List Object) (x : Object) → Came old x → list_all has_good_id old ≡ true → has_good_id x ≡ true
-good_by old x (inl before) all = of_each has_good_id old x all before
-good_by old x (inr fresh) all = (and_true (is_between 1 0x7fff_ffff x.id.0) _ fresh).0
+good_by old x (WasThere before) all = of_each has_good_id old x all before
+good_by old x (HasNewId fresh) all = (and_true (is_between 1 0x7fff_ffff x.id.0) _ fresh).0
+good_by old x (WasAccess a before file_is id_is access) all =
+    ap (λ (i : ObjId). leb 1 i.0 && leb i.0 0x7fff_ffff) id_is ∙ of_each has_good_id old a all before
 
 pub good_ids : {A : Type 0} (settings : Settings) (records : List (Record A)) → IsRun settings records
     → list_all has_good_id (world_of settings records).objects ≡ true

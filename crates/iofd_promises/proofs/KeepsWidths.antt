@@ -1,5 +1,5 @@
 -- In each world of a run an attached device's page table is of the device's width.
-use Rattle.std.proofs.Common.{◌≡◌, ℕ, true, None, List, ◌∙◌, ◌⊎◌, inl, inr, ⊎_elim, subst, Bool, Some}
+use Rattle.std.proofs.Common.{◌≡◌, ℕ, true, None, List, ◌∙◌, ◌⊎◌, inl, inr, ⊎_elim, subst, Bool, Some, refl}
 use Rattle.iofd_words.specs.After.{changed}
 use Rattle.iofd_words.specs.Answers.{Answers}
 use Rattle.iofd_words.specs.Checks.{refusal}
@@ -76,8 +76,9 @@ keeps_widths settings at w e answer none answers s = record {
     by_row a (inl old) = λ d ioas width automatic known table.
         let had = (each_owed w s.sound.debts).tables a old in
         s.widths a old d ioas width automatic known
-        (same_kind w.objects (changed at w e answer).objects a.file a.hwpt _ _ s.sound.own_ids
-        (came at w e answer none answers) had.table table)
+        (same_kind w.objects (changed at w e answer).objects a.file a.hwpt (kind.Hwpt had.ioas had.width had.automatic) _
+        s.sound.own_ids
+        (came at w e answer none answers) refl had.table table)
     by_row a (inr new) = λ d ioas width automatic known table. new d ioas width automatic (rw s.opened known) table
 
 pub tabled_widths : (settings : Settings) (w : World) (taken given : List FrameNo) → WidthSound settings w

@@ -44,6 +44,7 @@ table_over kind.Ioas ioas is = cc
 table_over (kind.Hwpt over width automatic) ioas is =
     let same = id_is over ioas is in (width, automatic, ap (λ (i : ObjId). kind.Hwpt i width automatic) same)
 table_over (kind.Device device) ioas is = cc
+table_over (kind.Access attached) ioas is = cc
 
 itself : (n : ℕ) → eqb n n ≡ true
 itself n = search (arith, nat_tests)

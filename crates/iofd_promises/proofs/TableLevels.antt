@@ -139,6 +139,7 @@ owned_kind objects t is = by_kind (kind_of objects t.file t.hwpt) refl is
     by_kind (Some kind.Ioas) named is = cc
     by_kind (Some (kind.Hwpt ioas width automatic)) named is = (ioas, width, automatic, named)
     by_kind (Some (kind.Device device)) named is = cc
+    by_kind (Some (kind.Access attached)) named is = cc
 
 record LevelSound (w : World) : Type 0 where
   pub tables : HasTables w
@@ -170,7 +171,7 @@ keeps_levels at w e answer taken given none answers moves s = record {
         let (i, v, p, had) =
         owned_kind w.objects t (of_each (is_owned w.objects) w.table_frames t s.tables.tables.owned there) in
         s.levels t there ioas width automatic (same_kind w.objects left.objects t.file t.hwpt _ _ s.tables.own_ids
-        (came at w e answer none answers) had table)
+        (came at w e answer none answers) refl had table)
 
 level_sound : {A : Type 0} (settings : Settings) (records : List (Record A)) → IsRun settings records
     → LevelSound (world_of settings records)

@@ -1,12 +1,14 @@
 -- What an UNMAP names, waits for and takes away, and what a flush pays.
 use Rattle.std.proofs.Common.{◌≡◌, ◌≢◌, ◌≤◌, ℕ, suc, ◌+◌, ◌-◌, Bool, true, false, cond, ◌&&◌, not, eqb, leb, List}
 use Rattle.std.proofs.Common.{[], ◌∷◌, length, Contains, refl, ap, sym, ◌∙◌, subst, arith, inl}
-use Rattle.std.specs.List.{sum_by}
+use Rattle.std.proofs.Common.{inr, ⊎_elim, ◌⊎◌, ◌<◌, ltb, max, map}
+use Rattle.std.specs.List.{sum_by, fold}
 use Rattle.std.proofs.lemmas.Bool.{eqb-true}
 use Rattle.std.proofs.lemmas.Bool.Decides.{nat_tests}
 use Rattle.std.proofs.lemmas.List.Sums.{sum_by-cons}
 use Rattle.iofd_words.specs.Areas.{all_paid, areas_of, is_cut, is_everything, is_of, is_touched, is_waiting, leaving}
 use Rattle.iofd_words.specs.Areas.{owed_by, paid, touched, touched_bytes, unmapped_span, with_leaving, with_phase}
+use Rattle.iofd_words.specs.Areas.{tried, tries_of, touched_tries, pending_errno, with_tries}
 use Rattle.iofd_words.specs.Attachments.{devices_of}
 use Rattle.iofd_words.specs.DeviceSet.{without_device}
 use Rattle.iofd_words.specs.Span.{lies_in, meets, size_of, span_from}
@@ -25,9 +27,11 @@ use Rattle.iofd_rows.proofs.Unusable.{each_not}
 use Rattle.iofd_rows.specs.Ids.{have_own_ids}
 use Rattle.iofd_runs.proofs.StillTabled.{in_kept}
 use Rattle.iofd_promises.specs.Unmaps.{AllLeave, AllPaid, LeavesBy, Owes, PaidBy, bytes_named, is_named, last_named}
+use Rattle.iofd_promises.specs.Unmaps.{AreMost, tries_after, tries_seen}
 use Rattle.iofd_promises.proofs.Rows.{contains, within}
 use Rattle.iofd_promises.proofs.Spaces.{device_translates, translates_device}
 use Rattle.iofd_laws.proofs.FreeFrames.{some_in}
+use Rattle.iofd_words.specs.declared.refusal.Errno.TheVariants.{EAGAIN, EDEADLOCK}
 
 -- ---- what it names
 
@@ -179,45 +183,146 @@ somebody_owes w file request waits =
 
 -- ---- areas leave
 
-leaves : (w : World) (area : Area) (phase : Phase) → have_own_ids w.objects ≡ true
-    → LeavesBy w area phase (leaving (devices_of w.objects w.attachments area.file area.ioas) phase)
-leaves w area Live own = (
-  (λ device. (
-    (λ has. device_translates w area.file area.ioas device (within _ device.0 has)),
-    (λ by. contains _ device.0 (translates_device w area.file area.ioas device own by)),
-  )),
-  refl,
-)
-leaves w area (Leaving owed tries) own = refl
+-- a phase after one try more
+tried_leaving : (most : ℕ) (owed : List ℕ) (tries : ℕ)
+    → tried most (Leaving owed tries) ≡ Leaving owed (tries_after most tries)
+tried_leaving most owed tries = by_count (ltb most 100)
+  where
+    by_count : (b : Bool) → cond b (with_tries (most + 1) (Leaving owed tries)) (Leaving owed tries)
+        ≡ Leaving owed (cond b (most + 1) tries)
+    by_count true = refl
+    by_count false = refl
 
-pub all_leave : (w : World) (file : FileNo) (request : UnmapRequest) (areas : List Area) → have_own_ids w.objects ≡ true
-    → AllLeave w file request areas (with_leaving areas
-    (devices_of w.objects w.attachments file request.ioas) file request)
-all_leave w file request [] own = tt
-all_leave w file request (area ∷ areas) own = (
+leaves : (w : World) (area : Area) (most : ℕ) (phase : Phase) → have_own_ids w.objects ≡ true
+    → LeavesBy w area most phase (tried most
+    (leaving (devices_of w.objects w.attachments area.file area.ioas) phase))
+leaves w area most Live own =
+    rw (tried_leaving most (devices_of w.objects w.attachments area.file area.ioas) 0) (
+      (λ device. (
+        (λ has. device_translates w area.file area.ioas device (within _ device.0 has)),
+        (λ by. contains _ device.0 (translates_device w area.file area.ioas device own by)),
+      )),
+      refl,
+    )
+leaves w area most (Leaving owed tries) own = tried_leaving most owed tries
+
+-- the areas, where so many tries are the most
+abbrev left_areas : World → FileNo → UnmapRequest → ℕ → List Area → List Area
+left_areas w file request most areas =
+    map (λ (area : Area). with_phase (cond (is_touched file request area)
+    (tried most (leaving (devices_of w.objects w.attachments file request.ioas) area.phase)) area.phase) area) areas
+
+all_left : (w : World) (file : FileNo) (request : UnmapRequest) (most : ℕ) (areas : List Area)
+    → have_own_ids w.objects ≡ true → AllLeave w file request most areas (left_areas w file request most areas)
+all_left w file request most [] own = tt
+all_left w file request most (area ∷ areas) own = (
   refl,
   leave (is_touched file request area) refl,
   stay (is_touched file request area) refl,
-  all_leave w file request areas own,
+  all_left w file request most areas own,
 )
   where
+    left : ObjId → FileNo → Phase
+    left i f = tried most (leaving (devices_of w.objects w.attachments f i) area.phase)
+
     leave : (b : Bool) → is_touched file request area ≡ b → is_named file request area ≡ true
-        → LeavesBy w area area.phase (cond b (leaving (devices_of w.objects w.attachments file request.ioas) area.phase)
-        area.phase)
+        → LeavesBy w area most area.phase (cond b (left request.ioas file) area.phase)
     leave true is named =
         let (of_file, of_space) = space_of_touched file request area named in
-        subst (λ (i : ObjId). LeavesBy w area area.phase
-        (leaving (devices_of w.objects w.attachments file i) area.phase)) of_space
-        (subst (λ (f : FileNo). LeavesBy w area area.phase
-        (leaving (devices_of w.objects w.attachments f area.ioas) area.phase)) of_file
-        (leaves w area area.phase own))
+        subst (λ (i : ObjId). LeavesBy w area most area.phase (left i file)) of_space
+        (subst (λ (f : FileNo). LeavesBy w area most area.phase (left area.ioas f)) of_file
+        (leaves w area most area.phase own))
     leave false is named = absurd (clash _ is (touched_named file request area ∙ named))
 
     stay : (b : Bool) → is_touched file request area ≡ b → is_named file request area ≡ false
-        → with_phase (cond b (leaving (devices_of w.objects w.attachments file request.ioas) area.phase) area.phase)
-        area ≡ area
+        → with_phase (cond b (left request.ioas file) area.phase) area ≡ area
     stay true is other = absurd (clash _ (touched_named file request area ∙ other) is)
     stay false is other = refl
+
+pub all_leave : (w : World) (file : FileNo) (request : UnmapRequest) → have_own_ids w.objects ≡ true
+    → AllLeave w file request (touched_tries w.areas file request) w.areas (with_leaving w.areas
+    (devices_of w.objects w.attachments file request.ioas) file request)
+all_leave w file request own = all_left w file request (touched_tries w.areas file request) w.areas own
+
+-- ---- how many tries are the most
+
+seen_is : (phase : Phase) → tries_of phase ≡ tries_seen phase
+seen_is Live = refl
+seen_is (Leaving owed tries) = refl
+
+-- the most of some areas, and so many: each area has at most that, and one has it or they are as many as given
+record MostFrom (areas : List Area) (given most : ℕ) : Type 0 where
+  above : given ≤ most
+  each : (area : Area) → IsIn areas area → tries_of area.phase ≤ most
+  one : (most ≡ given) ⊎ ((area : Area) × IsIn areas area × (tries_of area.phase ≡ most))
+
+most_from : (areas : List Area) (given : ℕ)
+    → MostFrom areas given (fold (λ most (area : Area). max most (tries_of area.phase)) given areas)
+most_from [] given = record { above = omega arith; each = λ area within. absurd within; one = inl refl }
+most_from (a ∷ areas) given = by_rest _ (most_from areas (max given (tries_of a.phase)))
+  where
+    by_rest : (most : ℕ) → MostFrom areas (max given (tries_of a.phase)) most → MostFrom (a ∷ areas) given most
+    by_rest most rest = record {
+      above = let up = rest.above in omega (arith, up);
+      each = λ area within. ⊎_elim
+          (λ (here : a ≡ area). let up = rest.above in
+          let of_a : tries_of a.phase ≤ most = omega (arith, up) in
+          subst (λ (x : Area). tries_of x.phase ≤ most) here of_a)
+          (λ (later : IsIn areas area). rest.each area later) within;
+      one = ⊎_elim
+          (λ (same : most ≡ max given (tries_of a.phase)). by_max (leb given (tries_of a.phase)) refl same)
+          (λ (found : (area : Area) × IsIn areas area × (tries_of area.phase ≡ most)).
+          inr (found.0, inr found.1, found.2)) rest.one;
+    }
+      where
+        by_max : (b : Bool) → leb given (tries_of a.phase) ≡ b → most ≡ max given (tries_of a.phase)
+            → (most ≡ given) ⊎ ((area : Area) × IsIn (a ∷ areas) area × (tries_of area.phase ≡ most))
+        by_max true above same =
+            inr (a, inl refl, (let at : tries_of a.phase ≡ most = search (above, same, arith, nat_tests) in at))
+        by_max false below same = inl (search (below, same, arith, nat_tests))
+
+pub are_most : (w : World) (file : FileNo) (request : UnmapRequest) (area : Area) → IsIn w.areas area
+    → is_named file request area ≡ true → AreMost w file request (touched_tries w.areas file request)
+are_most w file request area there named = by_most _ (most_from (touched w.areas file request) 0)
+  where
+    kept : (x : Area) → IsIn w.areas x → is_named file request x ≡ true → IsIn (touched w.areas file request) x
+    kept x among is = in_kept (is_touched file request) w.areas x among (touched_named file request x ∙ is)
+
+    by_most : (most : ℕ) → MostFrom (touched w.areas file request) 0 most → AreMost w file request most
+    by_most most from =
+        let upper : (x : Area) → Contains w.areas x → is_named file request x ≡ true → tries_seen x.phase ≤ most =
+        λ x has is. subst (λ n. n ≤ most) (seen_is x.phase) (from.each x (kept x (within w.areas x has) is)) in
+        ⊎_elim
+        (λ (none : most ≡ 0). record {
+          each = upper;
+          seen_by = area;
+          there = contains w.areas area there;
+          named = named;
+          seen = let few = upper area (contains w.areas area there) named in omega (arith, few, none);
+        })
+        (λ (found : (x : Area) × IsIn (touched w.areas file request) x × (tries_of x.phase ≡ most)).
+        let (among, is) = in_filter (is_touched file request) w.areas found.0 found.1 in
+        record {
+          each = upper;
+          seen_by = found.0;
+          there = contains w.areas found.0 among;
+          named = sym (touched_named file request found.0) ∙ is;
+          seen = sym (seen_is found.0.phase) ∙ found.2;
+        }) from.one
+
+pub pending_again : (most : ℕ) → most < 100 → pending_errno most ≡ EAGAIN
+pending_again most few = by_test (ltb most 100) refl
+  where
+    by_test : (b : Bool) → ltb most 100 ≡ b → cond b EAGAIN EDEADLOCK ≡ EAGAIN
+    by_test true is = refl
+    by_test false is = absurd (search (few, is, arith, nat_tests))
+
+pub pending_in_vain : (most : ℕ) → 100 ≤ most → pending_errno most ≡ EDEADLOCK
+pending_in_vain most many = by_test (ltb most 100) refl
+  where
+    by_test : (b : Bool) → ltb most 100 ≡ b → cond b EAGAIN EDEADLOCK ≡ EDEADLOCK
+    by_test true is = absurd (search (many, is, arith, nat_tests))
+    by_test false is = refl
 
 -- ---- a flush
 

@@ -39,3 +39,6 @@ file_named (event.Attach device pt_id) = None
 file_named (event.Detach device) = None
 file_named (event.Flush device) = None
 file_named (event.DeviceWrite device iova bytes) = None
+file_named (event.AccessCreate file) = Some file
+file_named (event.AccessAttach file id ioas) = Some file
+file_named (event.AccessDetach file id) = Some file

@@ -1,11 +1,13 @@
 -- What an UNMAP takes away, what it waits for, and what a flush pays.
-use Rattle.std.specs.Prelude.{◌≡◌, ◌≢◌, ◌≤◌, ◌↔◌, ℕ, ◌+◌, ◌-◌, ◌^◌, ◌==◌}
-use Rattle.std.specs.Prelude.{◌&&◌, nat_le, Bool, true, false, List, []}
+use Rattle.std.specs.Prelude.{◌≡◌, ◌≢◌, ◌≤◌, ◌<◌, ◌↔◌, ℕ, ◌+◌, ◌-◌, ◌^◌, ◌==◌}
+use Rattle.std.specs.Prelude.{◌&&◌, nat_le, nat_lt, Bool, true, false, List, []}
 use Rattle.std.specs.Prelude.{◌∷◌, Contains, if◌then◌else◌}
 use Rattle.iofd_words.specs.World.{World}
 use Rattle.iofd_words.specs.declared.event.UnmapRequest.{UnmapRequest}
 use Rattle.iofd_words.specs.declared.numbers.DeviceNo.{DeviceNo}
 use Rattle.iofd_words.specs.declared.numbers.FileNo.{FileNo}
+use Rattle.iofd_words.specs.declared.refusal.Errno.{Errno}
+use Rattle.iofd_words.specs.declared.refusal.Errno.TheVariants.{EAGAIN, EDEADLOCK}
 use Rattle.iofd_words.specs.declared.rows.Area.{Area}
 use Rattle.iofd_words.specs.declared.rows.Phase.{Phase}
 use Rattle.iofd_words.specs.declared.rows.Phase.TheVariants.{Live, Leaving}
@@ -58,33 +60,58 @@ pub record TakesAway (old new : World) (file : FileNo) (request : UnmapRequest) 
   pub others : (area : Area) → is_named file request area ≡ false →
       Contains old.areas area ↔ Contains new.areas area
 
--- it leaves now, and those owe it a flush that owed it one
-abbrev pub LeavesBy : World → Area → Phase → Phase → Type 0
-LeavesBy w area Live Live = ⊥
-LeavesBy w area Live (Leaving owed tries) =
-    ((device : DeviceNo) → Contains owed device.0 ↔ TranslatesBy w device area.file area.ioas) × (tries ≡ 0)
-LeavesBy w area (Leaving owed tries) phase = phase ≡ Leaving owed tries
+-- how many UNMAPs that waited for an area are counted with it: none as long as it is mapped
+abbrev pub tries_seen : Phase → ℕ
+tries_seen Live = 0
+tries_seen (Leaving owed tries) = tries
+
+-- so many are the most of all areas that an UNMAP names
+pub record AreMost (w : World) (file : FileNo) (request : UnmapRequest) (most : ℕ) : Type 0 where
+  pub each : (area : Area) → Contains w.areas area → is_named file request area ≡ true
+      → tries_seen area.phase ≤ most
+  pub seen_by : Area
+  pub there : Contains w.areas seen_by
+  pub named : is_named file request seen_by ≡ true
+  pub seen : tries_seen seen_by.phase ≡ most
+
+-- how many are counted with an area that had so many, after an UNMAP that waits: one more than the most, as long as
+-- they are fewer than a hundred
+abbrev pub tries_after : ℕ → ℕ → ℕ
+tries_after most tries = if nat_lt most 100 then most + 1 else tries
+
+-- it leaves now, those owe it a flush that owed it one, and one UNMAP more is counted
+abbrev pub LeavesBy : World → Area → ℕ → Phase → Phase → Type 0
+LeavesBy w area most Live Live = ⊥
+LeavesBy w area most Live (Leaving owed tries) =
+    ((device : DeviceNo) → Contains owed device.0 ↔ TranslatesBy w device area.file area.ioas)
+    × (tries ≡ tries_after most 0)
+LeavesBy w area most (Leaving owed tries) phase = phase ≡ Leaving owed (tries_after most tries)
 
 -- area by area: one that the UNMAP names is the same row but for its phase, and leaves; each other is the same row
-abbrev pub AllLeave : World → FileNo → UnmapRequest → List Area → List Area → Type 0
-AllLeave w file request [] [] = Unit {0}
-AllLeave w file request [] (left ∷ rest) = ⊥
-AllLeave w file request (area ∷ areas) [] = ⊥
-AllLeave w file request (area ∷ areas) (left ∷ rest) =
+abbrev pub AllLeave : World → FileNo → UnmapRequest → ℕ → List Area → List Area → Type 0
+AllLeave w file request most [] [] = Unit {0}
+AllLeave w file request most [] (left ∷ rest) = ⊥
+AllLeave w file request most (area ∷ areas) [] = ⊥
+AllLeave w file request most (area ∷ areas) (left ∷ rest) =
     (left ≡ record area { phase = left.phase })
-    × (is_named file request area ≡ true → LeavesBy w area area.phase left.phase)
+    × (is_named file request area ≡ true → LeavesBy w area most area.phase left.phase)
     × (is_named file request area ≡ false → left ≡ area)
-    × AllLeave w file request areas rest
+    × AllLeave w file request most areas rest
 
--- what an UNMAP that waits leaves: some device owes an area that it names
-pub record Waits (old new : World) (file : FileNo) (request : UnmapRequest) : Type 0 where
+-- what an UNMAP that waits answers and leaves: some device owes an area that it names, and it is to be called again,
+-- or, after a hundred times, told that it needn't
+pub record Waits (old new : World) (file : FileNo) (request : UnmapRequest) (errno : Errno) : Type 0 where
   pub whole : AreWhole old file request
   pub area : Area
   pub there : Contains old.areas area
   pub named : is_named file request area ≡ true
   pub device : DeviceNo
   pub owes : Owes old area device area.phase
-  pub areas : AllLeave old file request old.areas new.areas
+  pub most : ℕ
+  pub are_most : AreMost old file request most
+  pub again : most < 100 → errno ≡ EAGAIN
+  pub in_vain : 100 ≤ most → errno ≡ EDEADLOCK
+  pub areas : AllLeave old file request most old.areas new.areas
 
 -- ---- a flush
 

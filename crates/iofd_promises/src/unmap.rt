@@ -10,7 +10,6 @@ ghost use Rattle.iofd_words.specs.declared.numbers.DeviceNo.{DeviceNo};
 ghost use Rattle.iofd_words.specs.declared.numbers.FileNo.{FileNo};
 ghost use Rattle.iofd_words.specs.declared.record.Record.{Record};
 ghost use Rattle.iofd_words.specs.declared.refusal.Errno.{Errno};
-ghost use Rattle.iofd_words.specs.declared.refusal.Errno.TheVariants.{EAGAIN};
 ghost use Rattle.iofd_words.specs.declared.reply.Reply.TheVariants as reply;
 
 use std::alloc::Allocator;
@@ -25,15 +24,17 @@ pub fn bytes_are_answered_where_nobody_owes<A: Allocator>()
         TakesAway (world_of settings before) (world_of settings (before ++ r ∷ [])) file request count }
 {}
 
-/// An UNMAP is called again, with EAGAIN, only where some device owes an area that it names a flush. Each such area
-/// leaves then, owed by whoever owed it; every other area, and all other rows but tables, stand as they were.
+/// An UNMAP waits only where some device owes an area that it names a flush. Each such area leaves then, owed by whoever
+/// owed it; every other area, and all other rows but tables, stand as they were. The answer is EAGAIN where none of the
+/// areas has seen a hundred such answers, and each has seen one more than the most then; else it is EDEADLOCK, and
+/// nothing more is counted.
 pub fn an_unmap_waits_for_who_owes<A: Allocator>()
     ensures waits { (settings : Settings) (before : List (Record A)) (r : Record A) (file : FileNo)
         (request : UnmapRequest)
         (errno : Errno) →
         IsRun settings (before ++ r ∷ []) → r.event ≡ event.Unmap file request →
         r.reply ≡ reply.Pending errno →
-        (errno ≡ EAGAIN) × Waits (world_of settings before) (world_of settings (before ++ r ∷ [])) file request }
+        Waits (world_of settings before) (world_of settings (before ++ r ∷ [])) file request errno }
     ensures others { (settings : Settings) (before : List (Record A)) (r : Record A) (file : FileNo)
         (request : UnmapRequest)
         (errno : Errno) →

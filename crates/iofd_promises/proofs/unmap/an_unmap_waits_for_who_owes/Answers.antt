@@ -1,18 +1,19 @@
-use Rattle.std.proofs.Common.{◌≡◌, refl}
+use Rattle.std.proofs.Common.{◌≡◌, refl, ◌∙◌}
 use Rattle.iofd_words.specs.After.{changed}
+use Rattle.iofd_words.specs.Areas.{touched_tries}
 use Rattle.iofd_words.specs.Answers.{Answers}
 use Rattle.iofd_words.specs.Run.{world_of}
 use Rattle.iofd_words.specs.Tables.{with_tables}
 use Rattle.iofd_words.specs.View.{view}
 use Rattle.iofd_words.specs.declared.event.Event.TheVariants as event
-use Rattle.iofd_words.specs.declared.refusal.Errno.TheVariants.{EAGAIN}
 use Rattle.iofd_words.specs.declared.reply.Reply.TheVariants as reply
 use Rattle.iofd_runs.proofs.NotRefused.{unmap_passed}
 use Rattle.iofd_promises.specs.Unmaps.{SameOthers, Waits}
 use Rattle.iofd_promises.proofs.Facts.{usable_of}
 use Rattle.iofd_promises.proofs.Rows.{contains, within}
 use Rattle.iofd_promises.proofs.Steps.{by_event, run_before}
-use Rattle.iofd_promises.proofs.Unmapped.{all_leave, somebody_owes, uncut_whole}
+use Rattle.iofd_promises.proofs.Unmapped.{all_leave, are_most, pending_again, pending_in_vain, somebody_owes}
+use Rattle.iofd_promises.proofs.Unmapped.{uncut_whole}
 use Rattle.iofd_promises.proofs.unmap.an_unmap_waits_for_who_owes.Goals as goal
 
 pub returns-clause-waits : goal.returns-clause-waits
@@ -20,21 +21,23 @@ unfolding changed with_tables Answers
 returns-clause-waits g c = λ settings before r file request errno run of_event answered.
     let w = world_of settings before in
     let own = (usable_of settings before (run_before settings before _ run)).sound.own_ids in
-    by_event settings before r run (λ new. (errno ≡ EAGAIN) × Waits w new file request) (event.Unmap file request)
+    by_event settings before r run (λ new. Waits w new file request errno) (event.Unmap file request)
     (reply.Pending errno) refl of_event answered (λ none answers.
-    let owed = somebody_owes w file request answers.0 in (
-      answers.1,
-      record {
-        whole = λ area has named. uncut_whole w file request area (unmap_passed (view w) file request none).uncut
-            (within w.areas area has) named;
-        area = owed.area;
-        there = contains w.areas owed.area owed.there;
-        named = owed.named;
-        device = owed.device;
-        owes = owed.owes;
-        areas = all_leave w file request w.areas own;
-      },
-    ))
+    let owed = somebody_owes w file request answers.0 in
+    record {
+      whole = λ area has named. uncut_whole w file request area (unmap_passed (view w) file request none).uncut
+          (within w.areas area has) named;
+      area = owed.area;
+      there = contains w.areas owed.area owed.there;
+      named = owed.named;
+      device = owed.device;
+      owes = owed.owes;
+      most = touched_tries w.areas file request;
+      are_most = are_most w file request owed.area owed.there owed.named;
+      again = λ few. answers.1 ∙ pending_again _ few;
+      in_vain = λ many. answers.1 ∙ pending_in_vain _ many;
+      areas = all_leave w file request own;
+    })
 
 pub returns-clause-others : goal.returns-clause-others
 unfolding changed with_tables
