@@ -12,7 +12,7 @@ use Rattle.iofd_words.specs.Checks.{is_used, refusal}
 use Rattle.iofd_words.specs.Copies.{source_in}
 use Rattle.iofd_words.specs.Files.{user_of}
 use Rattle.iofd_words.specs.Objects.{automatic_hwpt, binding_of, has_hwpt, is_bound_as, is_bound_device, kind_of}
-use Rattle.iofd_words.specs.Objects.{objects_of, settings_under}
+use Rattle.iofd_words.specs.Objects.{objects_of, settings_under, has_access_to}
 use Rattle.iofd_words.specs.Turns.{is_turn_of}
 use Rattle.iofd_words.specs.View.{view}
 use Rattle.iofd_words.specs.World.{World}
@@ -30,10 +30,10 @@ use Rattle.iofd_words.specs.declared.rows.ObjectKind.{ObjectKind}
 use Rattle.iofd_words.specs.declared.rows.ObjectKind.TheVariants as kind
 use Rattle.iofd_words.specs.declared.rows.Phase.TheVariants.{Leaving}
 use Rattle.iofd_rows.specs.Debts.{debtors_of}
-use Rattle.iofd_rows.proofs.Bools.{and_true, clash, not_false}
+use Rattle.iofd_rows.proofs.Bools.{and_true, clash, not_false, or_false}
 use Rattle.iofd_rows.proofs.Each.{IsIn, in_found, of_any, of_each}
 use Rattle.iofd_rows.proofs.ListTests.{false_else}
-use Rattle.iofd_rows.proofs.Moves.{owed_object}
+use Rattle.iofd_rows.proofs.Moves.{owed_object, owed_reattached}
 use Rattle.iofd_rows.proofs.Named.{file_is, id_is}
 use Rattle.iofd_rows.proofs.Owed.{EachOwed, IsDebtor, IsSpace, each_owed, space_of}
 use Rattle.iofd_runs.proofs.AttachMoves.{is_made, is_there, owed_attached, owed_detached}
@@ -128,6 +128,7 @@ has_table objects attachments file ioas device is =
       | Some kind.Ioas ↦ None
       | Some (kind.Hwpt ioas width automatic) ↦ Some ioas
       | Some (kind.Device d) ↦ None
+      | Some (kind.Access attached) ↦ None
       | None ↦ None
     ]) is.table))
 
@@ -141,7 +142,7 @@ not_destroyed w file own ioas id device none space is names =
     let here : kind_of w.objects own id ≡ Some kind.Ioas = rw (← files, ← spaces) space in
     let used : has_hwpt w.objects own id ≡ true =
     rw (← files, ← spaces) (has_table w.objects w.attachments file ioas device is) in
-    clash _ (sym (ap (is_used (view w) own id) here) ∙ none) used
+    clash _ (or_false _ (has_access_to w.objects own id) (sym (ap (is_used (view w) own id) here) ∙ none)).0 used
 
 -- its file has a bound device, and so isn't closed
 pub not_closed : (w : World) (file own : FileNo) (ioas : ObjId) (device : ℕ)
@@ -157,6 +158,7 @@ not_closed w file own ioas device bound none is = false_else (eqb file.0 own.0) 
     binds d kind.Ioas by = cc
     binds d (kind.Hwpt over width automatic) by = cc
     binds d (kind.Device other) by = refl
+    binds d (kind.Access attached) by = cc
 
     never : eqb file.0 own.0 ≡ true → ⊥
     never same = by_object (binding_of w.objects (record { 0 = is.a.device.0 })) refl
@@ -254,4 +256,16 @@ module _ (w : World) (device : DeviceNo) (file : FileNo) (ioas : ObjId) (tidy : 
       (owed_detached w.objects w.attachments (owed_one file ioas device.0 ∷ []) d a one))
   stays_attached at (event.Flush d) reply.Done none answers other = is
   stays_attached at (event.DeviceWrite d iova bytes) (reply.Passed frame) none answers other = is
+  stays_attached at (event.AccessCreate own) (reply.Id id) none answers other =
+      the_one _ _ file ioas device.0 (owed_object w.objects w.attachments (owed_one file ioas device.0 ∷ []) (record {
+        file = own;
+        id = id;
+        kind = kind.Access None;
+      }) (unused w.objects own id answers) (λ over is. cc) one)
+  stays_attached at (event.AccessAttach own id to) reply.Done none answers other =
+      the_one _ _ file ioas device.0
+      (owed_reattached w.objects w.attachments (owed_one file ioas device.0 ∷ []) own id (Some to) one)
+  stays_attached at (event.AccessDetach own id) reply.Done none answers other =
+      the_one _ _ file ioas device.0
+      (owed_reattached w.objects w.attachments (owed_one file ioas device.0 ∷ []) own id None one)
   stays_attached at e answer none answers other = is

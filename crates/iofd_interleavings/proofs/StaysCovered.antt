@@ -1,6 +1,6 @@
 -- An area that an attached device may use stays, and the device may use it still, where the event is no turn of it.
 use Rattle.std.proofs.Common.{◌≡◌, ℕ, Bool, true, false, not, eqb, cond, ◌&&◌, Option, Some, None, List, [], ◌∷◌}
-use Rattle.std.proofs.Common.{length, refl, sym, ap, ◌∙◌, subst, arith}
+use Rattle.std.proofs.Common.{length, refl, sym, ap, ◌∙◌, subst, arith, ◌+◌, ltb}
 use Rattle.std.specs.List.{filter}
 use Rattle.std.proofs.lemmas.Bool.Decides.{nat_tests}
 use Rattle.iofd_words.specs.After.{attached, changed, copy_changes, detached}
@@ -8,7 +8,7 @@ use Rattle.iofd_words.specs.After.{hwpt_changes, joined, map_changes, mapped_are
 use Rattle.iofd_words.specs.After.{without_areas}
 use Rattle.iofd_words.specs.Answers.{Answers}
 use Rattle.iofd_words.specs.Areas.{all_paid, areas_of, is_of, is_touched, is_waiting, leaving, owed_by, paid, touched}
-use Rattle.iofd_words.specs.Areas.{with_area, with_phase}
+use Rattle.iofd_words.specs.Areas.{with_area, with_phase, tried, touched_tries, with_tries}
 use Rattle.iofd_words.specs.Attachments.{devices_of, is_attached_to}
 use Rattle.iofd_words.specs.Checks.{refusal}
 use Rattle.iofd_words.specs.Copies.{placed_as, source_in}
@@ -137,17 +137,36 @@ untouched w own request device area among may is waits =
         (owes (devices_of w.objects w.attachments own request.ioas) device area.phase has may))
 
 -- an UNMAP that is pending leaves the area to the devices that are attached
+may_tried : (device : DeviceNo) (most : ℕ) (phase : Phase)
+    → may_use device (tried most phase) ≡ may_use device phase
+may_tried device most phase = by_count (ltb most 100)
+  where
+    with_same : (tries : ℕ) (phase : Phase) → may_use device (with_tries tries phase) ≡ may_use device phase
+    with_same tries Live = refl
+    with_same tries (Leaving owed before) = refl
+
+    by_count : (b : Bool) → may_use device (cond b (with_tries (most + 1) phase) phase) ≡ may_use device phase
+    by_count true = with_same (most + 1) phase
+    by_count false = refl
+
 left_to : (w : World) (own : FileNo) (request : UnmapRequest) (device : DeviceNo) (area : Area)
     → may_use device area.phase ≡ true → IsDebtor w.objects w.attachments area.file area.ioas device.0
-    → may_use device (cond (is_touched own request area)
-    (leaving (devices_of w.objects w.attachments own request.ioas) area.phase) area.phase) ≡ true
+    → may_use device (cond (is_touched own request area) (tried (touched_tries w.areas own request)
+    (leaving (devices_of w.objects w.attachments own request.ioas) area.phase)) area.phase) ≡ true
 left_to w own request device area may is = by_test (is_touched own request area) refl area.phase may
   where
+    most : ℕ
+    most = touched_tries w.areas own request
+
+    attached : List ℕ
+    attached = devices_of w.objects w.attachments own request.ioas
+
     by_test : (b : Bool) → is_touched own request area ≡ b → (phase : Phase) → may_use device phase ≡ true
-        → may_use device (cond b (leaving (devices_of w.objects w.attachments own request.ioas) phase) phase) ≡ true
+        → may_use device (cond b (tried most (leaving attached phase)) phase) ≡ true
     by_test false touches phase may = may
-    by_test true touches (Leaving owed tries) may = may
+    by_test true touches (Leaving owed tries) may = may_tried device most (Leaving owed tries) ∙ may
     by_test true touches Live may =
+        may_tried device most (Leaving attached 0) ∙
         let names = and_true (eqb area.file.0 own.0) (eqb area.ioas.0 request.ioas.0)
         (and_true (is_of own request.ioas area) _ touches).0 in
         subst (λ (f : FileNo). has_device (devices_of w.objects w.attachments f request.ioas) device.0 ≡ true)
@@ -189,10 +208,11 @@ module _ (w : World) (device : DeviceNo) (area : Area) (tidy : IsTidy w) (among 
   stays_covered at (event.Unmap own request) (reply.Bytes count) none answers other =
       left (is_touched own request) (untouched w own request device area among may is answers.0)
   stays_covered at (event.Unmap own request) (reply.Pending errno) none answers other = record {
-    phase = cond (is_touched own request area)
-        (leaving (devices_of w.objects w.attachments own request.ioas) area.phase) area.phase;
+    phase = cond (is_touched own request area) (tried (touched_tries w.areas own request)
+        (leaving (devices_of w.objects w.attachments own request.ioas) area.phase)) area.phase;
     among = in_mapped (λ (a : Area). with_phase (cond (is_touched own request a)
-        (leaving (devices_of w.objects w.attachments own request.ioas) a.phase) a.phase) a) w.areas area among;
+        (tried (touched_tries w.areas own request)
+        (leaving (devices_of w.objects w.attachments own request.ioas) a.phase)) a.phase) a) w.areas area among;
     may = left_to w own request device area may is;
   }
   stays_covered at (event.HwptAlloc own request) (reply.Id id) none answers other =
@@ -219,4 +239,7 @@ module _ (w : World) (device : DeviceNo) (area : Area) (tidy : IsTidy w) (among 
       by_attachment w d Kept same (λ a is. kept_paid device d area w.areas other among may)
   stays_covered at (event.Flush d) reply.Done none answers other = kept_paid device d area w.areas other among may
   stays_covered at (event.DeviceWrite d iova bytes) (reply.Passed frame) none answers other = same
+  stays_covered at (event.AccessCreate own) (reply.Id id) none answers other = same
+  stays_covered at (event.AccessAttach own id to) reply.Done none answers other = same
+  stays_covered at (event.AccessDetach own id) reply.Done none answers other = same
   stays_covered at e answer none answers other = same
