@@ -130,5 +130,8 @@ module _ {A : Type 0} where
   IsAnswered s (step.DeviceRead device iova len) text after = IsAsked s (query.DeviceRead device iova len) text after
   IsAnswered s (step.DeviceWrite device iova bytes) text after =
       IsApplied s (event.DeviceWrite device iova bytes) text after
+  IsAnswered s (step.AccessCreate file) text after = IsApplied s (event.AccessCreate file) text after
+  IsAnswered s (step.AccessAttach file id ioas) text after = IsApplied s (event.AccessAttach file id ioas) text after
+  IsAnswered s (step.AccessDetach file id) text after = IsApplied s (event.AccessDetach file id) text after
   IsAnswered s step.FreeFrames text after = IsAsked s query.FreeFrames text after
   IsAnswered s (step.Held user) text after = IsAsked s (query.Held user) text after

@@ -64,6 +64,9 @@ pub fn answer_step<A: Allocator + Copy>(
         Step::DeviceWrite(device, iova, bytes) => {
             Event::DeviceWrite(*device, *iova, bytes.burst())
         }
+        Step::AccessCreate(file) => Event::AccessCreate(*file),
+        Step::AccessAttach(file, id, ioas) => Event::AccessAttach(*file, *id, *ioas),
+        Step::AccessDetach(file, id) => Event::AccessDetach(*file, *id),
         Step::FreeFrames => return answer_query(core, &Query::FreeFrames, out),
         Step::Held(user) => return answer_query(core, &Query::Held(*user), out),
     };

@@ -35,6 +35,9 @@ takes_memory objects attachments (event.Attach device pt_id) = true
 takes_memory objects attachments (event.Detach device) = takes_its_table objects attachments device
 takes_memory objects attachments (event.Flush device) = false
 takes_memory objects attachments (event.DeviceWrite device iova bytes) = false
+takes_memory objects attachments (event.AccessCreate file) = true
+takes_memory objects attachments (event.AccessAttach file id ioas) = false
+takes_memory objects attachments (event.AccessDetach file id) = false
 
 -- the only time at which memory may be wanting: there is no place for the record, or for the list that the event
 -- carries, or nothing refuses the event and it is one that may take memory

@@ -8,6 +8,7 @@ ghost use Rattle.server_state.specs.Seen.{seen};
 ghost use Rattle.iommufd_core.specs.Server.{takes_memory};
 ghost use Rattle.server_state.specs.Step.{Answered, IsCalled, IsGrantedFor, IsKnown, MovingSteps, TidyShowsSame};
 
+use access_pins::{attach as access_attach, create, detach as access_detach};
 use event_destroy::{close, destroy};
 use event_device_access::device_write;
 use event_ioas::{allow_iovas, ioas_alloc};
@@ -75,6 +76,9 @@ fn refusal<A: Allocator + Copy>(state: &State<A>, event: &Event<A>) -> Option<Ca
         Event::DeviceWrite(device, iova, bytes) => {
             device_write::refusal(state, *device, *iova, bytes)
         }
+        Event::AccessCreate(file) => create::refusal(state, *file),
+        Event::AccessAttach(file, id, ioas) => access_attach::refusal(state, *file, *id, *ioas),
+        Event::AccessDetach(file, id) => access_detach::refusal(state, *file, *id),
     }
 }
 
@@ -118,5 +122,10 @@ fn commit<A: Allocator + Copy>(
         Event::DeviceWrite(device, iova, bytes) => {
             Ok(device_write::commit(state, *device, *iova, bytes, act.via))
         }
+        Event::AccessCreate(file) => create::commit(state, *file),
+        Event::AccessAttach(file, id, ioas) => {
+            Ok(access_attach::commit(state, *file, *id, *ioas))
+        }
+        Event::AccessDetach(file, id) => Ok(access_detach::commit(state, *file, *id)),
     }
 }

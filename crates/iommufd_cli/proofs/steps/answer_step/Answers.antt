@@ -1,6 +1,7 @@
 use Rattle.iommufd_cli.proofs.steps.answer_step.Goals as goal
 use Rattle.iommufd_cli.proofs.steps.answer_step.Goals.{in-Close, in-UserMap, in-UserUnmap, in-UserWrite, in-Bind}
 use Rattle.iommufd_cli.proofs.steps.answer_step.Goals.{in-Unbind, in-Attach, in-Detach, in-Flush, in-DeviceWrite}
+use Rattle.iommufd_cli.proofs.steps.answer_step.Goals.{in-AccessCreate, in-AccessAttach, in-AccessDetach}
 
 pub returns-in-Ioctl : goal.returns-in-Ioctl
 returns-in-Ioctl g c = rw c.in-Ioctl.is c.answer_ioctl.ensures
@@ -30,4 +31,7 @@ returns g c = elim c.match-step.branch [
   | in-Flush w ↦ rw w.in-Flush.is (rw w.event-is at c.answer_event.ensures)
   | in-DeviceWrite w ↦ rw w.in-DeviceWrite.is
       (rw (w.event-is, w.burst-in-DeviceWrite.ensures) at c.answer_event.ensures)
+  | in-AccessCreate w ↦ rw w.in-AccessCreate.is (rw w.event-is at c.answer_event.ensures)
+  | in-AccessAttach w ↦ rw w.in-AccessAttach.is (rw w.event-is at c.answer_event.ensures)
+  | in-AccessDetach w ↦ rw w.in-AccessDetach.is (rw w.event-is at c.answer_event.ensures)
 ]

@@ -43,9 +43,22 @@ returns-in-Bind-clause-ok g c = if_ok c.commit-in-Bind.result _ _
     (steps c.args.at) (λ w. tt)))
     c.commit-in-Bind.ensures.ok
 
+pub returns-in-AccessCreate-clause-ok : goal.returns-in-AccessCreate-clause-ok
+returns-in-AccessCreate-clause-ok g c = if_ok c.commit-in-AccessCreate.result _ _
+    (λ reply steps. subst (λ (e : Event _). MovingSteps c.args.at e c.args.act.now.via c.args.state.now reply
+    c.args.taken.now.items c.args.given.now.items c.commit-in-AccessCreate.new.state) (sym c.in-AccessCreate.is)
+    (none_chosen c.args.at _ c.args.act.now.via c.args.state.now c.commit-in-AccessCreate.new.state reply c.args.taken.now.items
+    c.args.given.now.items c.requires.none_taken c.requires.none_given (λ w. tt) (λ w. tt)
+    (steps c.args.at) (λ w. tt)))
+    c.commit-in-AccessCreate.ensures.ok
+
 pub returns-in-Bind-clause-err : goal.returns-in-Bind-clause-err
 returns-in-Bind-clause-err g c =
     on_err c.commit-in-Bind.result _ _ (λ same w tidy shows. same w shows) c.commit-in-Bind.ensures.err
+
+pub returns-in-AccessCreate-clause-err : goal.returns-in-AccessCreate-clause-err
+returns-in-AccessCreate-clause-err g c =
+    on_err c.commit-in-AccessCreate.result _ _ (λ same w tidy shows. same w shows) c.commit-in-AccessCreate.ensures.err
 
 pub returns-in-Unmap-clause-ok : goal.returns-in-Unmap-clause-ok
 returns-in-Unmap-clause-ok g c =
@@ -78,6 +91,22 @@ returns-in-Unbind-clause-ok g c =
     (none_chosen c.args.at _ c.args.act.now.via c.args.state.now c.commit-in-Unbind.new.state c.commit-in-Unbind.result
     c.args.taken.now.items c.args.given.now.items c.requires.none_taken c.requires.none_given (λ w. tt)
     (λ w. tt) (c.commit-in-Unbind.ensures c.args.at) (λ w. tt))
+
+pub returns-in-AccessAttach-clause-ok : goal.returns-in-AccessAttach-clause-ok
+returns-in-AccessAttach-clause-ok g c =
+    subst (λ (e : Event _). MovingSteps c.args.at e c.args.act.now.via c.args.state.now c.commit-in-AccessAttach.result
+    c.args.taken.now.items c.args.given.now.items c.commit-in-AccessAttach.new.state) (sym c.in-AccessAttach.is)
+    (none_chosen c.args.at _ c.args.act.now.via c.args.state.now c.commit-in-AccessAttach.new.state c.commit-in-AccessAttach.result
+    c.args.taken.now.items c.args.given.now.items c.requires.none_taken c.requires.none_given (λ w. tt)
+    (λ w. tt) (c.commit-in-AccessAttach.ensures c.args.at) (λ w. tt))
+
+pub returns-in-AccessDetach-clause-ok : goal.returns-in-AccessDetach-clause-ok
+returns-in-AccessDetach-clause-ok g c =
+    subst (λ (e : Event _). MovingSteps c.args.at e c.args.act.now.via c.args.state.now c.commit-in-AccessDetach.result
+    c.args.taken.now.items c.args.given.now.items c.commit-in-AccessDetach.new.state) (sym c.in-AccessDetach.is)
+    (none_chosen c.args.at _ c.args.act.now.via c.args.state.now c.commit-in-AccessDetach.new.state c.commit-in-AccessDetach.result
+    c.args.taken.now.items c.args.given.now.items c.requires.none_taken c.requires.none_given (λ w. tt)
+    (λ w. tt) (c.commit-in-AccessDetach.ensures c.args.at) (λ w. tt))
 
 pub returns-in-Flush-clause-ok : goal.returns-in-Flush-clause-ok
 returns-in-Flush-clause-ok g c =
@@ -231,6 +260,10 @@ pub commit-requires-in-Bind : goal.commit-requires-in-Bind
 commit-requires-in-Bind g c =
     granted_as c.args.at _ _ c.args.act.now.via c.args.state.now c.in-Bind.is c.requires.granted
 
+pub commit-requires-in-AccessCreate : goal.commit-requires-in-AccessCreate
+commit-requires-in-AccessCreate g c =
+    granted_as c.args.at _ _ c.args.act.now.via c.args.state.now c.in-AccessCreate.is c.requires.granted
+
 pub commit-requires-in-Unmap : goal.commit-requires-in-Unmap
 commit-requires-in-Unmap g c =
     granted_as c.args.at _ _ c.args.act.now.via c.args.state.now c.in-Unmap.is c.requires.granted
@@ -250,6 +283,14 @@ commit-requires-in-UserWrite g c =
 pub commit-requires-in-Unbind : goal.commit-requires-in-Unbind
 commit-requires-in-Unbind g c =
     granted_as c.args.at _ _ c.args.act.now.via c.args.state.now c.in-Unbind.is c.requires.granted
+
+pub commit-requires-in-AccessAttach : goal.commit-requires-in-AccessAttach
+commit-requires-in-AccessAttach g c =
+    granted_as c.args.at _ _ c.args.act.now.via c.args.state.now c.in-AccessAttach.is c.requires.granted
+
+pub commit-requires-in-AccessDetach : goal.commit-requires-in-AccessDetach
+commit-requires-in-AccessDetach g c =
+    granted_as c.args.at _ _ c.args.act.now.via c.args.state.now c.in-AccessDetach.is c.requires.granted
 
 pub commit-requires-in-Flush : goal.commit-requires-in-Flush
 commit-requires-in-Flush g c =
@@ -285,6 +326,10 @@ returns-in-UserMap-clause-memory g c =
 pub returns-in-Bind-clause-memory : goal.returns-in-Bind-clause-memory
 returns-in-Bind-clause-memory g c =
     on_err_same c.commit-in-Bind.result _ (takes_as c.args.state.now _ _ c.in-Bind.is refl)
+
+pub returns-in-AccessCreate-clause-memory : goal.returns-in-AccessCreate-clause-memory
+returns-in-AccessCreate-clause-memory g c =
+    on_err_same c.commit-in-AccessCreate.result _ (takes_as c.args.state.now _ _ c.in-AccessCreate.is refl)
 
 pub returns-in-Attach-clause-memory : goal.returns-in-Attach-clause-memory
 returns-in-Attach-clause-memory g c =
