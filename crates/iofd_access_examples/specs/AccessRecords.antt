@@ -1,6 +1,6 @@
 -- For which causes events are refused where access objects are. File 1 has the address spaces 1 and 2, the device 3 and
 -- the access objects 4, attached to the first, and 5, attached to none; file 2 the address space 1 and the access
--- object 2, attached to it; file 3 the access object 1, attached to none. File 4 has nothing, and file 5 isn't there.
+-- object 2, attached to it; file 3 the access object 4, attached to none. File 4 has nothing, and file 5 isn't there.
 use Rattle.std.specs.Prelude.{Some, false, [], ◌∷◌}
 use Rattle.iofd_access_examples.specs.AccessScript.{attached}
 use Rattle.iofd_examples.specs.Words.{Refusals, access_attach, access_create, access_detach, access_row, allow_iovas}
@@ -33,7 +33,7 @@ attachments =
     ∷ (access_attach 1 5 9, cause.Id ∷ [])
     ∷ (access_attach 1 5 3, cause.Id ∷ [])
     ∷ (access_attach 1 5 4, cause.Id ∷ [])
-    ∷ (access_attach 3 1 2, cause.Id ∷ [])
+    ∷ (access_attach 3 4 1, cause.Id ∷ [])
     ∷ (access_attach 1 9 9, cause.Id ∷ cause.Id ∷ [])
     -- one that is attached, to where it is, to another address space, to none
     ∷ (access_attach 1 4 1, cause.Bound ∷ [])
@@ -48,7 +48,7 @@ detachments =
     (access_detach 1 4, [])
     ∷ (access_detach 2 2, [])
     ∷ (access_detach 1 5, cause.Unattached ∷ [])
-    ∷ (access_detach 3 1, cause.Unattached ∷ [])
+    ∷ (access_detach 3 4, cause.Unattached ∷ [])
     ∷ (access_detach 1 9, cause.Id ∷ cause.Unattached ∷ [])
     ∷ (access_detach 1 1, cause.Id ∷ cause.Unattached ∷ [])
     ∷ (access_detach 1 3, cause.Id ∷ cause.Unattached ∷ [])
@@ -66,7 +66,7 @@ ends =
     ∷ (destroy 1 5, [])
     ∷ (destroy 2 1, cause.InUse ∷ [])
     ∷ (destroy 2 2, cause.InUse ∷ [])
-    ∷ (destroy 3 1, [])
+    ∷ (destroy 3 4, [])
     ∷ (destroy 5 1, cause.Id ∷ cause.Id ∷ [])
     -- a file with a device and access objects, with an attached one, with one that isn't, with none
     ∷ (close 1, cause.InUse ∷ [])

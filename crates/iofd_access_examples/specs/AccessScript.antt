@@ -29,7 +29,7 @@ settings =
       passes = 1;
     }
 
--- each file has ids of its own; a new access object is attached to nothing
+-- each file has ids of its own, files 1 and 3 of the same number; a new access object is attached to nothing
 abbrev pub beginning : List (Record Global)
 beginning =
     step (ioas_alloc 1) (answers_id 1)
@@ -39,7 +39,7 @@ beginning =
     ∷ step (access_create 1) (answers_id 4)
     ∷ step (access_create 1) (answers_id 5)
     ∷ step (access_create 2) (answers_id 2)
-    ∷ step (access_create 3) (answers_id 1)
+    ∷ step (access_create 3) (answers_id 4)
     ∷ step (access_attach 1 4 1) reply.Done
     ∷ step (access_attach 2 2 1) reply.Done
     ∷ []
@@ -49,7 +49,7 @@ attached =
     record (opening settings) {
       objects =
           ioas_row 1 1 ∷ ioas_row 1 2 ∷ device_row 1 3 1 ∷ access_row 1 4 (Some (id 1)) ∷ access_row 1 5 None
-          ∷ ioas_row 2 1 ∷ access_row 2 2 (Some (id 1)) ∷ access_row 3 1 None
+          ∷ ioas_row 2 1 ∷ access_row 2 2 (Some (id 1)) ∷ access_row 3 4 None
           ∷ [];
     }
 
@@ -87,7 +87,7 @@ changing =
     ∷ step (destroy 1 1) reply.Done
     ∷ step (access_detach 2 2) reply.Done
     ∷ step (destroy 2 2) reply.Done
-    ∷ step (destroy 3 1) reply.Done
+    ∷ step (destroy 3 4) reply.Done
     ∷ step (close 3) reply.Done
     ∷ step (close 2) reply.Done
     ∷ []
