@@ -1,5 +1,5 @@
-# The orders of refusals of bind, attach and HWPT_ALLOC in a file that is full of objects, the first the device; and the
-# room that an object makes when it goes.
+# The orders of refusals of bind, attach, HWPT_ALLOC and access in a file that is full of objects, the first the device;
+# and the room that an object makes when it goes.
 #
 #     awk -v part=script -f ../steps.awk -f order_of_refusals_full_of_objects.awk      # the script
 #     awk -v part=expected -f ../steps.awk -f order_of_refusals_full_of_objects.awk    # its replies
@@ -46,6 +46,7 @@ BEGIN {
     table(1, 3, "98 Narrow")
     table(1, 4, "98 Narrow")
     table(1, 2, "28 Full")
+    step("access 1", "28 Full")
     # An object less makes room for one, of its id.
     seventh = little(8, 4) little(7, 4)
     step("ioctl 1 3b80 " seventh, "0 " seventh)

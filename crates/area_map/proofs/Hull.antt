@@ -10,8 +10,8 @@ use Rattle.iofd_words.specs.declared.numbers.DeviceNo.{DeviceNo}
 use Rattle.iofd_words.specs.declared.rows.Area.{Area}
 use Rattle.iofd_words.specs.declared.rows.Phase.{Phase}
 use Rattle.iofd_words.specs.declared.rows.Phase.TheVariants.{Live, Leaving}
-use Rattle.iofd_words.specs.Areas.{leaving, paid}
-use Rattle.area_map_rows.specs.Areas.{areas_outside, areas_within, marked, without_debt, tried, tried_phase, with_area}
+use Rattle.iofd_words.specs.Areas.{leaving, paid, with_tries}
+use Rattle.area_map_rows.specs.Areas.{areas_outside, areas_within, marked, without_debt, tried, with_area}
 use Rattle.area_map_rows.specs.Rows.{is_leaving, LeavesIn, LeaveIn}
 use Rattle.area_map.specs.Kept.{joined, leaving_span, with_leaving}
 
@@ -144,7 +144,7 @@ pub span_paid : (device : DeviceNo) (hull : Option Bounds) (xs : List Area) → 
 span_paid device hull xs is =
     is ∙ sym (span_map (without_debt device) (λ a. refl) (λ a. paid_leaves device a.phase) xs None)
 
-tried_leaves : (tries : ℕ) (phase : Phase) → is_leaving (tried_phase tries phase) ≡ is_leaving phase
+tried_leaves : (tries : ℕ) (phase : Phase) → is_leaving (with_tries tries phase) ≡ is_leaving phase
 tried_leaves tries Live = refl
 tried_leaves tries (Leaving owed old) = refl
 

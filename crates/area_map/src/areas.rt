@@ -6,9 +6,8 @@ ghost use Rattle.std.specs.Prelude.{MatchOption, IfErr, IfSome, IfNone, OnOk, On
 ghost use Rattle.std.specs.Option.{option_copied};
 ghost use Rattle.area_map_rows.specs.Areas.{AreKept, with_area, area_of, is_covered, IsCovered, HasGap, marked};
 ghost use Rattle.area_map_rows.specs.Areas.{HasNoneFree, IsFirstFree};
-ghost use Rattle.area_map_rows.specs.Areas.{without_debt, areas_within, areas_outside, most_tries};
-ghost use Rattle.area_map_rows.specs.Areas.{tried};
-ghost use Rattle.iofd_words.specs.Areas.{areas_meet, has_no_room, is_cut, area_at};
+ghost use Rattle.area_map_rows.specs.Areas.{without_debt, areas_within, areas_outside, tried};
+ghost use Rattle.iofd_words.specs.Areas.{areas_meet, has_no_room, is_cut, area_at, most_tries};
 ghost use Rattle.area_map.specs.Insertion.{insert_refusal};
 ghost use Rattle.area_map.specs.Kept.{leaving_span};
 
@@ -256,8 +255,8 @@ impl<A: Allocator> Areas<A> {
         totals::spans(alloc, self.iter(), self.count)
     }
 
-    /// Makes each live area that lies in the span leaving: it owes a flush to each of these devices, and no
-    /// further call has come. Every other area stays, a leaving one too. It takes no memory. (VT-d, "IOTLB
+    /// Makes each live area that lies in the span leaving: it owes a flush to each of these devices, and
+    /// no try was counted. Every other area stays, a leaving one too. It takes no memory. (VT-d, "IOTLB
     /// invalidation": until its flush a device may still use what it cached.)
     pub fn mark_leaving(&mut self, span: Span, owed: &DeviceSet)
         ensures areas { self.new.areas ≡ map (marked span owed.now) self.old.areas }
@@ -281,16 +280,14 @@ impl<A: Allocator> Areas<A> {
         }
     }
 
-    /// The greatest number of further calls that a leaving area in the span has seen; 0 where none is
-    /// leaving. It takes no memory.
+    /// The most tries that a leaving area in the span has seen; 0 where none is leaving. It takes no memory.
     pub fn most_tries(&self, span: Span) -> u8
         ensures { result ≡ most_tries (areas_within span self.now.areas) }
     {
         totals::most_tries(self.within(span))
     }
 
-    /// Gives each leaving area that lies in the span this number of further calls. Nothing else changes. It
-    /// takes no memory.
+    /// Each leaving area that lies in the span has seen so many tries. Nothing else changes. It takes no memory.
     pub fn set_tries(&mut self, span: Span, tries: u8)
         ensures areas { self.new.areas ≡ map (tried span tries) self.old.areas }
         ensures leaving { self.new.leaving ≡ leaving_span self.new.areas }

@@ -1,16 +1,14 @@
 -- Lists of areas: which areas a span names, and what a step makes of them.
 use Rattle.std.specs.Prelude.{ℕ, ◌+◌, ◌^◌, ◌<◌, ◌≤◌, ◌≡◌, Bool, true, false, ◌==◌}
 use Rattle.std.specs.Prelude.{◌&&◌, not, nat_lt, nat_le, Option}
-use Rattle.std.specs.Prelude.{Some, None, List, [], ◌∷◌, length, filter, sum_by, fold}
-use Rattle.std.specs.Prelude.{max, find, if◌then◌else◌}
+use Rattle.std.specs.Prelude.{Some, None, List, [], ◌∷◌, length, filter, sum_by}
+use Rattle.std.specs.Prelude.{find, if◌then◌else◌}
 use Rattle.std.specs.List.{list_any}
-use Rattle.iofd_words.specs.Areas.{area_at, areas_meet, leaving, most_areas, paid}
+use Rattle.iofd_words.specs.Areas.{area_at, areas_meet, leaving, most_areas, paid, with_tries}
 use Rattle.iofd_words.specs.Bounds.{Bounds}
 use Rattle.iofd_words.specs.Span.{lies_in, holds, size_of, span_from}
 use Rattle.iofd_words.specs.declared.numbers.DeviceNo.{DeviceNo}
 use Rattle.iofd_words.specs.declared.rows.Area.{Area}
-use Rattle.iofd_words.specs.declared.rows.Phase.{Phase}
-use Rattle.iofd_words.specs.declared.rows.Phase.TheVariants.{Live, Leaving}
 use Rattle.area_map_rows.specs.declared.marking.Change.{Change}
 use Rattle.area_map_rows.specs.declared.marking.Change.TheVariants.{Leave, Pay, SetTries}
 
@@ -103,24 +101,10 @@ marked span owed area = record area { phase = if lies_in area.span span then lea
 abbrev pub without_debt : DeviceNo → Area → Area
 without_debt device area = record area { phase = paid device area.phase }
 
--- how many further calls an area on its way out has seen
-abbrev pub tries_of : Phase → ℕ
-tries_of Live = 0
-tries_of (Leaving owed tries) = tries
-
--- the greatest number of them
-abbrev pub most_tries : List Area → ℕ
-most_tries areas = fold (λ most area. max most (tries_of area.phase)) 0 areas
-
--- the phase with this number of further calls, if it is leaving
-abbrev pub tried_phase : ℕ → Phase → Phase
-tried_phase tries Live = Live
-tried_phase tries (Leaving owed old) = Leaving owed tries
-
--- the area with this number of further calls, if it is leaving and lies in the span
+-- the area with so many tries, if it is leaving and lies in the span
 abbrev pub tried : Bounds → ℕ → Area → Area
 tried span tries area =
-    record area { phase = if lies_in area.span span then tried_phase tries area.phase else area.phase }
+    record area { phase = if lies_in area.span span then with_tries tries area.phase else area.phase }
 
 -- the area after a change of a span's areas
 abbrev pub changed : Change → Bounds → Area → Area

@@ -1,7 +1,8 @@
 //! Areas on their way out: what they owe to devices.
 
 ghost use Rattle.std.specs.Prelude.{◌≡◌, map, vec_capacity};
-ghost use Rattle.area_map_rows.specs.Areas.{changed, marked, without_debt, tries_of, tried};
+ghost use Rattle.area_map_rows.specs.Areas.{changed, marked, without_debt, tried};
+ghost use Rattle.iofd_words.specs.Areas.{tries_of};
 
 use iofd_words::{Area, DeviceNo, DeviceSet, Phase, Span};
 use std::alloc::Allocator;
@@ -13,7 +14,7 @@ pub enum Change {
     Leave(DeviceSet),
     /// The device is out of the debt of each leaving area. They all lie in the span.
     Pay(DeviceNo),
-    /// Each leaving area that lies in the span has this number of further calls.
+    /// Each leaving area that lies in the span has seen so many tries.
     SetTries(u8),
 }
 
@@ -60,18 +61,18 @@ fn pay_one(area: &mut Area, device: DeviceNo)
     }
 }
 
-// Gives the area this number of further calls, if it is leaving and lies in the span.
-fn set_tries_of(area: &mut Area, span: Span, calls: u8)
-    ensures { area.new ≡ tried span calls area.old }
+// Gives the area so many tries, if it is leaving and lies in the span.
+fn set_tries_of(area: &mut Area, span: Span, count: u8)
+    ensures { area.new ≡ tried span count area.old }
 {
     if area.span.lies_in(span)
         && let Phase::Leaving { tries, .. } = &mut area.phase
     {
-        *tries = calls;
+        *tries = count;
     }
 }
 
-/// How many further calls came; none of a live area.
+/// How many tries the area has seen; none of a live one.
 pub fn tries_of(phase: &Phase) -> u8
     ensures { result ≡ tries_of phase.now }
 {

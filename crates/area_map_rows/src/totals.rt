@@ -2,8 +2,8 @@
 
 ghost use Rattle.std.specs.Prelude.{◌≡◌, ◌<◌, ◌≤◌, ◌^◌, IfOk, OnErr, length, map};
 ghost use Rattle.iofd_words.specs.Span.{size_of};
-ghost use Rattle.area_map_rows.specs.Areas.{bytes_of, most_tries};
-ghost use Rattle.iofd_words.specs.Areas.{most_areas};
+ghost use Rattle.area_map_rows.specs.Areas.{bytes_of};
+ghost use Rattle.iofd_words.specs.Areas.{most_areas, most_tries};
 
 use crate::iter::Iter;
 use crate::marking;
@@ -47,7 +47,7 @@ pub fn spans<A: Allocator, B: Allocator>(
     Ok(spans)
 }
 
-/// The greatest number of further calls that one of the areas has seen.
+/// The most tries that one of the areas has seen.
 pub fn most_tries<A: Allocator>(areas: Iter<'_, A>) -> u8
     ensures { result ≡ most_tries areas.entry }
 {

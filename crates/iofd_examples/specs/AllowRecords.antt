@@ -28,6 +28,10 @@ refusals =
       allow_iovas 1 5 (from_to 0x5000 0x5fff ∷ from_to 0x1000 0x1fff ∷ from_to 0x1800 0x27ff ∷ []),
       cause.List ∷ [],
     )
+    ∷ (
+      allow_iovas 1 5 (from_to 0x1000 0x1fff ∷ from_to 0x5000 0x5fff ∷ from_to 0x1800 0x27ff ∷ []),
+      cause.List ∷ [],
+    )
     -- what can't be used
     ∷ (allow_iovas 2 1 (from_to 0x7000 0x7fff ∷ from_to 0x9000 0x9fff ∷ []), [])
     ∷ (allow_iovas 2 1 (from_to 0x7000 0x8000 ∷ []), cause.Narrow ∷ [])

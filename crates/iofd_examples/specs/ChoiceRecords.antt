@@ -193,8 +193,8 @@ abbrev pub second_leaves : World
 second_leaves =
     record none_owes {
       areas =
-          area_row 1 1 0x1000 0x1fff 3 3 (Leaving [] 0)
-          ∷ area_row 1 1 0x3000 0x3fff 4 2 (Leaving (1 ∷ []) 0) ∷ [];
+          area_row 1 1 0x1000 0x1fff 3 3 (Leaving [] 3)
+          ∷ area_row 1 1 0x3000 0x3fff 4 2 (Leaving (1 ∷ []) 3) ∷ [];
     }
 
 abbrev pub first_goes : List (Record Global)

@@ -52,7 +52,7 @@ beginning =
     ∷ []
 
 -- the areas by their phases
-abbrev with_phases : Phase → Phase → World
+abbrev pub with_phases : Phase → Phase → World
 with_phases first second =
     record {
       settings = settings;
@@ -92,7 +92,7 @@ first_leaves =
     ∷ []
 
 abbrev pub owing : World
-owing = with_phases (Leaving (1 ∷ 2 ∷ 3 ∷ []) 0) Live
+owing = with_phases (Leaving (1 ∷ 2 ∷ 3 ∷ []) 1) Live
 
 abbrev pub detaching : List (Record Global)
 detaching = moving (detach 3) reply.Done [] (5 ∷ 6 ∷ 7 ∷ 8 ∷ []) ∷ []
@@ -108,17 +108,17 @@ without_third first second =
     }
 
 abbrev pub detached : World
-detached = without_third (Leaving (1 ∷ 2 ∷ []) 0) Live
+detached = without_third (Leaving (1 ∷ 2 ∷ []) 1) Live
 
--- the second area leaves too
+-- the second area leaves too; both have seen one try more than the one that had seen most
 abbrev pub both_leave : List (Record Global)
 both_leave = step (unmap_in 1 1 0 0x4000) (reply.Pending EAGAIN) ∷ []
 
 abbrev pub leaving : World
-leaving = without_third (Leaving (1 ∷ 2 ∷ []) 0) (Leaving (1 ∷ 2 ∷ []) 0)
+leaving = without_third (Leaving (1 ∷ 2 ∷ []) 2) (Leaving (1 ∷ 2 ∷ []) 2)
 
 -- the second device pays. The third is attached again: it has nothing cached, and its page table has a root alone, as
--- no area is live. The UNMAP that is called again asks nothing new
+-- no area is live. The UNMAP that is called again asks nothing new, and is counted
 abbrev pub paying : List (Record Global)
 paying =
     step (flush 2) reply.Done
@@ -133,13 +133,13 @@ with_root first second =
     }
 
 abbrev pub one_owes : World
-one_owes = with_root (Leaving (1 ∷ []) 0) (Leaving (1 ∷ []) 0)
+one_owes = with_root (Leaving (1 ∷ []) 3) (Leaving (1 ∷ []) 3)
 
 abbrev pub last_flush : List (Record Global)
 last_flush = step (flush 1) reply.Done ∷ []
 
 abbrev pub none_owes : World
-none_owes = with_root (Leaving [] 0) (Leaving [] 0)
+none_owes = with_root (Leaving [] 3) (Leaving [] 3)
 
 -- every address is named; tables below the root may go
 abbrev pub everything_goes : List (Record Global)

@@ -4,8 +4,8 @@
 use Rattle.std.specs.Prelude.{ℕ, ◌+◌, ◌*◌, [], ◌∷◌, ◌++◌, map}
 use Rattle.std.specs.List.{range_with_len}
 use Rattle.iofd_examples.specs.ReadyWorld.{ready}
-use Rattle.iofd_examples.specs.Words.{Refusals, area_row, attach, bind, copy_in, file, hwpt_alloc, ioas_alloc, ioas_row}
-use Rattle.iofd_examples.specs.Words.{map_in}
+use Rattle.iofd_examples.specs.Words.{Refusals, access_create, area_row, attach, bind, copy_in, file, hwpt_alloc}
+use Rattle.iofd_examples.specs.Words.{ioas_alloc, ioas_row, map_in}
 use Rattle.iofd_words.specs.World.{World}
 use Rattle.iofd_words.specs.declared.refusal.Cause.TheVariants as cause
 use Rattle.iofd_words.specs.declared.rows.Phase.TheVariants.{Live}
@@ -28,6 +28,8 @@ objects_at_limit =
     ∷ (attach 1 5, cause.Narrow ∷ cause.Full ∷ [])
     ∷ (attach 1 7, cause.Full ∷ cause.Absent ∷ [])
     ∷ (attach 9 8, [])
+    ∷ (access_create 1, cause.Full ∷ [])
+    ∷ (access_create 2, [])
     ∷ []
 
 -- where the file is closed too, which no run leaves
@@ -35,7 +37,7 @@ abbrev pub closed_at_limit : World
 closed_at_limit = record (with_objects_more 65521) { closed = file 1 ∷ [] }
 
 abbrev pub of_closed : Refusals
-of_closed = (ioas_alloc 1, cause.Id ∷ cause.Full ∷ []) ∷ []
+of_closed = (ioas_alloc 1, cause.Id ∷ cause.Full ∷ []) ∷ (access_create 1, cause.Id ∷ cause.Full ∷ []) ∷ []
 
 abbrev pub objects_below_limit : Refusals
 objects_below_limit =
@@ -43,6 +45,7 @@ objects_below_limit =
     ∷ (bind 1 4, [])
     ∷ (hwpt_alloc 1 2 1, [])
     ∷ (attach 1 1, [])
+    ∷ (access_create 1, [])
     ∷ []
 
 -- address space 1 of file 1 has one area

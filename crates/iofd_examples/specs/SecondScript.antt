@@ -201,12 +201,12 @@ unmapping =
     ∷ step (device_write 1 0x1000 (0x77 ∷ [])) (passed 0)
     ∷ []
 
--- the areas, by the first one's phase
+-- the areas, by what the first one owes; one UNMAP of it has waited
 abbrev pub leaving_areas : List ℕ → World
 leaving_areas owed =
     record shared {
       areas =
-          area_row 1 1 0x1000 0x2fff 10 3 (Leaving owed 0) ∷ area_row 2 1 0x1000 0x1fff 11 1 Live
+          area_row 1 1 0x1000 0x2fff 10 3 (Leaving owed 1) ∷ area_row 2 1 0x1000 0x1fff 11 1 Live
           ∷ area_row 1 5 0x3000 0x4fff 10 1 Live ∷ area_row 1 5 0x7000 0x7fff 24 1 Live
           ∷ area_row 1 5 0xb000 0xbfff 25 1 Live
           ∷ area_row 1 5 0xd000 0xefff 26 1 Live ∷ area_row 1 5 0x10000 0x11fff 27 1 Live

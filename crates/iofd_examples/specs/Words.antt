@@ -135,6 +135,16 @@ flush d = event.Flush (device d)
 abbrev pub device_write : ℕ → ℕ → List ℕ → Event Global
 device_write d at bytes = event.DeviceWrite (device d) (iova at) bytes
 
+-- the access object's id, and the address space's
+abbrev pub access_create : ℕ → Event Global
+access_create f = event.AccessCreate (file f)
+
+abbrev pub access_attach : ℕ → ℕ → ℕ → Event Global
+access_attach f n ioas = event.AccessAttach (file f) (id n) (id ioas)
+
+abbrev pub access_detach : ℕ → ℕ → Event Global
+access_detach f n = event.AccessDetach (file f) (id n)
+
 -- ---- records
 
 -- one that takes frames for tables and gives frames of tables back
@@ -174,6 +184,10 @@ hwpt_row f n ioas width automatic = record { file = file f; id = id n; kind = ki
 
 abbrev pub device_row : ℕ → ℕ → ℕ → Object
 device_row f n d = record { file = file f; id = id n; kind = kind.Device (device d) }
+
+-- attached to this address space, or to none
+abbrev pub access_row : ℕ → ℕ → Option ObjId → Object
+access_row f n attached = record { file = file f; id = id n; kind = kind.Access attached }
 
 abbrev pub memory_row : ℕ → ℕ → ℕ → ℕ → Bool → MemoryObject
 memory_row n u va count writable = record { number = n; user = user u; va = va; count = count; writable = writable }

@@ -244,7 +244,8 @@ step_names =
     ∷ (step.UserUnmap, codes "uunmap") ∷ (step.UserRead, codes "uread")
     ∷ (step.UserWrite, codes "uwrite") ∷ (step.Bind, codes "bind") ∷ (step.Unbind, codes "unbind")
     ∷ (step.Attach, codes "attach") ∷ (step.Detach, codes "detach") ∷ (step.Flush, codes "flush")
-    ∷ (step.DeviceRead, codes "dread") ∷ (step.DeviceWrite, codes "dwrite") ∷ (step.FreeFrames, codes "free")
+    ∷ (step.DeviceRead, codes "dread") ∷ (step.DeviceWrite, codes "dwrite") ∷ (step.AccessCreate, codes "access")
+    ∷ (step.AccessAttach, codes "aattach") ∷ (step.AccessDetach, codes "adetach") ∷ (step.FreeFrames, codes "free")
     ∷ (step.Held, codes "held") ∷ []
 
 head_plain : (word : List ℕ) → is_some (head_keyword word) ≡ true → is_plain word ≡ true

@@ -60,6 +60,9 @@ step_keyword word = first_true (
     ∷ (step.Flush, bytes_eq word (codes "flush"))
     ∷ (step.DeviceRead, bytes_eq word (codes "dread"))
     ∷ (step.DeviceWrite, bytes_eq word (codes "dwrite"))
+    ∷ (step.AccessCreate, bytes_eq word (codes "access"))
+    ∷ (step.AccessAttach, bytes_eq word (codes "aattach"))
+    ∷ (step.AccessDetach, bytes_eq word (codes "adetach"))
     ∷ (step.FreeFrames, bytes_eq word (codes "free"))
     ∷ (step.Held, bytes_eq word (codes "held"))
     ∷ [])
@@ -118,6 +121,19 @@ step_row step.DeviceRead = record {
 step_row step.DeviceWrite = record {
   kinds = Decimal 16 ∷ Hex 64 ∷ Access ∷ [];
   makes = λ device iova bytes. made.DeviceWrite (record { 0 = device }) (record { 0 = iova }) bytes;
+}
+-- file
+step_row step.AccessCreate =
+    record { kinds = Decimal 16 ∷ []; makes = λ file. made.AccessCreate (record { 0 = file }) }
+-- file, id of an access object, id of an address space
+step_row step.AccessAttach = record {
+  kinds = Decimal 16 ∷ Decimal 32 ∷ Decimal 32 ∷ [];
+  makes = λ file id ioas. made.AccessAttach (record { 0 = file }) (record { 0 = id }) (record { 0 = ioas });
+}
+-- file, id of an access object
+step_row step.AccessDetach = record {
+  kinds = Decimal 16 ∷ Decimal 32 ∷ [];
+  makes = λ file id. made.AccessDetach (record { 0 = file }) (record { 0 = id });
 }
 step_row step.FreeFrames = record { kinds = []; makes = made.FreeFrames }
 -- user

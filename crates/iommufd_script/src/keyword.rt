@@ -30,6 +30,9 @@ pub enum StepKeyword {
     Flush,
     DeviceRead,
     DeviceWrite,
+    AccessCreate,
+    AccessAttach,
+    AccessDetach,
     FreeFrames,
     Held,
 }
@@ -68,6 +71,7 @@ pub fn step_keyword(word: &[u8]) -> Option<StepKeyword>
         4 => step_keyword_of_4(word),
         5 => step_keyword_of_5(word),
         6 => step_keyword_of_6(word),
+        7 => step_keyword_of_7(word),
         _ => None,
     }
 }
@@ -127,6 +131,22 @@ fn step_keyword_of_6(word: &[u8]) -> Option<StepKeyword>
         Some(StepKeyword::Detach)
     } else if is_word(word, b"dwrite") {
         Some(StepKeyword::DeviceWrite)
+    } else if is_word(word, b"access") {
+        Some(StepKeyword::AccessCreate)
+    } else {
+        None
+    }
+}
+
+// The same of a word of seven letters.
+fn step_keyword_of_7(word: &[u8]) -> Option<StepKeyword>
+    requires { length word.now ≡ 7 }
+    ensures { result ≡ step_keyword word.now }
+{
+    if is_word(word, b"aattach") {
+        Some(StepKeyword::AccessAttach)
+    } else if is_word(word, b"adetach") {
+        Some(StepKeyword::AccessDetach)
     } else {
         None
     }

@@ -49,6 +49,12 @@ pub enum Step<'a> {
     DeviceRead(DeviceNo, Iova, u8),
     /// A device writes these bytes.
     DeviceWrite(DeviceNo, Iova, AccessBytes<'a>),
+    /// Makes an access object of a file, which is attached to nothing.
+    AccessCreate(FileNo),
+    /// Attaches the access object of the first id to the address space of the second.
+    AccessAttach(FileNo, ObjId, ObjId),
+    /// Ends the attachment of the access object of this id.
+    AccessDetach(FileNo, ObjId),
     /// How many frames are free.
     FreeFrames,
     /// How many pinned pages a user has.

@@ -183,6 +183,33 @@ fn dwrite<'a>(fields: Fields<'a>) -> Option<Step<'a>>
     fields.end(Step::DeviceWrite(DeviceNo(device), Iova(iova), bytes))
 }
 
+// `access <file>`
+fn access<'a>(fields: Fields<'a>) -> Option<Step<'a>>
+    ensures { result ≡ step_at step.AccessCreate fields.entry }
+{
+    let (file, fields) = fields.decimal_u16()?;
+    fields.end(Step::AccessCreate(FileNo(file)))
+}
+
+// `aattach <file> <id> <ioas>`
+fn aattach<'a>(fields: Fields<'a>) -> Option<Step<'a>>
+    ensures { result ≡ step_at step.AccessAttach fields.entry }
+{
+    let (file, fields) = fields.decimal_u16()?;
+    let (id, fields) = fields.decimal_u32()?;
+    let (ioas, fields) = fields.decimal_u32()?;
+    fields.end(Step::AccessAttach(FileNo(file), ObjId(id), ObjId(ioas)))
+}
+
+// `adetach <file> <id>`
+fn adetach<'a>(fields: Fields<'a>) -> Option<Step<'a>>
+    ensures { result ≡ step_at step.AccessDetach fields.entry }
+{
+    let (file, fields) = fields.decimal_u16()?;
+    let (id, fields) = fields.decimal_u32()?;
+    fields.end(Step::AccessDetach(FileNo(file), ObjId(id)))
+}
+
 // `held <user>`
 fn held<'a>(fields: Fields<'a>) -> Option<Step<'a>>
     ensures { result ≡ step_at step.Held fields.entry }
@@ -210,6 +237,9 @@ fn step<'a>(keyword: StepKeyword, fields: Fields<'a>) -> Option<Step<'a>>
         StepKeyword::Flush => flush(fields),
         StepKeyword::DeviceRead => dread(fields),
         StepKeyword::DeviceWrite => dwrite(fields),
+        StepKeyword::AccessCreate => access(fields),
+        StepKeyword::AccessAttach => aattach(fields),
+        StepKeyword::AccessDetach => adetach(fields),
         StepKeyword::FreeFrames => fields.end(Step::FreeFrames),
         StepKeyword::Held => held(fields),
     }

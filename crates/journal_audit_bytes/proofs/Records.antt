@@ -69,6 +69,18 @@ access_wide : {tag : ℕ} {allows : List ℕ → Bool} {may_be : ℕ → Bool}
     })
 access_wide = record { numbers = (wide16, (wide64, tt)); list = record { count = wide8; element = (wide8, tt) } }
 
+ranges_wide : {tag : ℕ} {allows : List ℕ → Bool} {may_be : ℕ → Bool}
+    → RowWide (record {
+      tag = tag;
+      numbers = w16 ∷ w32 ∷ [];
+      list = Some (record { count = w32; may_be = may_be; element = w64 ∷ w64 ∷ [] });
+      allows = allows;
+    })
+ranges_wide = record {
+  numbers = (wide16, (wide32, tt));
+  list = record { count = wide32; element = (wide64, (wide64, tt)) };
+}
+
 replies_wide : AllWide reply_rows
 replies_wide = (
   plain_wide tt,
@@ -107,7 +119,7 @@ events_wide =
     let mapped : AreWide (w16 ∷ w32 ∷ w32 ∷ w64 ∷ w64 ∷ w64 ∷ []) =
     (wide16, (wide32, (wide32, (wide64, (wide64, (wide64, tt)))))) in
     let unmapped : AreWide (w16 ∷ w32 ∷ w64 ∷ w64 ∷ []) = (wide16, (wide32, (wide64, (wide64, tt)))) in
-    let made : AreWide (w16 ∷ w32 ∷ w32 ∷ []) = (wide16, (wide32, (wide32, tt))) in (
+    let two_ids : AreWide (w16 ∷ w32 ∷ w32 ∷ []) = (wide16, (wide32, (wide32, tt))) in (
       plain_wide file,
       (
         plain_wide user_va,
@@ -128,12 +140,24 @@ events_wide =
                       (
                         access_wide,
                         (
-                          plain_wide id,
+                          plain_wide file,
                           (
-                            plain_wide file,
+                            plain_wide two_ids,
                             (
-                              record { numbers = id; list = record { count = wide32; element = (wide64, (wide64, tt)) } },
-                              (plain_wide copied, (plain_wide mapped, (plain_wide unmapped, (plain_wide made, tt)))),
+                              plain_wide id,
+                              (
+                                plain_wide id,
+                                (
+                                  plain_wide file,
+                                  (
+                                    ranges_wide,
+                                    (
+                                      plain_wide copied,
+                                      (plain_wide mapped, (plain_wide unmapped, (plain_wide two_ids, tt))),
+                                    ),
+                                  ),
+                                ),
+                              ),
                             ),
                           ),
                         ),

@@ -104,6 +104,12 @@ event_rows =
     ∷ plain 0x09 (w16 ∷ [])
     -- DeviceWrite: device, address, bytes
     ∷ access 0x0a
+    -- AccessCreate: file
+    ∷ plain 0x0b (w16 ∷ [])
+    -- AccessAttach: file, id, address space
+    ∷ plain 0x0c (w16 ∷ w32 ∷ w32 ∷ [])
+    -- AccessDetach: file, id
+    ∷ plain 0x0d (w16 ∷ w32 ∷ [])
     -- DESTROY: file, id
     ∷ plain 0x80 (w16 ∷ w32 ∷ [])
     -- IOAS_ALLOC: file

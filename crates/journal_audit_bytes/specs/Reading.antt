@@ -129,6 +129,9 @@ tagged_event (event.Detach device) = plainly 0x08 (device.0 ∷ [])
 tagged_event (event.Flush device) = plainly 0x09 (device.0 ∷ [])
 tagged_event (event.DeviceWrite device iova bytes) =
     record { tag = 0x0a; numbers = device.0 ∷ iova.0 ∷ []; list = singles bytes }
+tagged_event (event.AccessCreate file) = plainly 0x0b (file.0 ∷ [])
+tagged_event (event.AccessAttach file id ioas) = plainly 0x0c (file.0 ∷ id.0 ∷ ioas.0 ∷ [])
+tagged_event (event.AccessDetach file id) = plainly 0x0d (file.0 ∷ id.0 ∷ [])
 tagged_event (event.Destroy file id) = plainly 0x80 (file.0 ∷ id.0 ∷ [])
 tagged_event (event.IoasAlloc file) = plainly 0x81 (file.0 ∷ [])
 tagged_event (event.AllowIovas file ioas ranges) =

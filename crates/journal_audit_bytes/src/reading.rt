@@ -12,8 +12,8 @@ use crate::lists::frames_at;
 use crate::numbers::{u8_at, u16_at, u32_at, u64_at};
 use crate::spelled::{ReadError, SpelledRecord, SpelledReply};
 use crate::steps::{
-    attach_at, bind_at, close_at, detach_at, device_write_at, flush_at, unbind_at, user_map_at,
-    user_unmap_at, user_write_at,
+    access_attach_at, access_create_at, access_detach_at, attach_at, bind_at, close_at, detach_at,
+    device_write_at, flush_at, unbind_at, user_map_at, user_unmap_at, user_write_at,
 };
 use iofd_words::{Event, PassNo};
 use std::alloc::Allocator;
@@ -38,6 +38,9 @@ fn event_of_tag<A: Allocator>(
         0x08 => detach_at(bytes),
         0x09 => flush_at(bytes),
         0x0a => device_write_at(bytes),
+        0x0b => access_create_at(bytes),
+        0x0c => access_attach_at(bytes),
+        0x0d => access_detach_at(bytes),
         0x80 => destroy_at(bytes),
         0x81 => ioas_alloc_at(bytes),
         0x82 => allow_iovas_at(alloc, bytes),

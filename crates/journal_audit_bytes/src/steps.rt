@@ -96,3 +96,30 @@ pub fn device_write_at<A: Allocator>(bytes: &[u8]) -> Result<(Event<A>, &[u8]), 
         Err(error) => Err(error),
     }
 }
+
+pub fn access_create_at<A: Allocator>(bytes: &[u8]) -> Result<(Event<A>, &[u8]), ReadError>
+    ensures { Gives (λ x. (tagged_event x.0, x.1.now)) result (fields_of_tag event_rows 0x0b bytes.now) }
+{
+    let (file, rest) = u16_at(bytes)?;
+    Ok((Event::AccessCreate(FileNo(file)), rest))
+}
+
+pub fn access_attach_at<A: Allocator>(bytes: &[u8]) -> Result<(Event<A>, &[u8]), ReadError>
+    ensures { Gives (λ x. (tagged_event x.0, x.1.now)) result (fields_of_tag event_rows 0x0c bytes.now) }
+{
+    let (file, rest) = u16_at(bytes)?;
+    let (id, rest) = u32_at(rest)?;
+    let (ioas, rest) = u32_at(rest)?;
+    Ok((
+        Event::AccessAttach(FileNo(file), ObjId(id), ObjId(ioas)),
+        rest,
+    ))
+}
+
+pub fn access_detach_at<A: Allocator>(bytes: &[u8]) -> Result<(Event<A>, &[u8]), ReadError>
+    ensures { Gives (λ x. (tagged_event x.0, x.1.now)) result (fields_of_tag event_rows 0x0d bytes.now) }
+{
+    let (file, rest) = u16_at(bytes)?;
+    let (id, rest) = u32_at(rest)?;
+    Ok((Event::AccessDetach(FileNo(file), ObjId(id)), rest))
+}

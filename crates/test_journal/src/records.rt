@@ -1,4 +1,4 @@
-//! Records worked by hand: a user is given two pages, and one that has lists.
+//! Records worked by hand: a user is given two pages, an access object comes and goes, and one that has lists.
 
 use iofd_words::{Event, FileNo, FrameNo, IovaRange, ObjId, PassNo, UserNo};
 use journal_audit_bytes::{ReadError, SpelledRecord, SpelledReply, read_record};
@@ -74,6 +74,51 @@ fn reads_lists<A: Allocator + Copy>(alloc: A) -> bool {
     }
 }
 
+// Pass 0: an AccessCreate of file 1 that was answered id 2, an AccessAttach of it to address space 3, Done, and an
+// AccessDetach of it, Done.
+const OF_ACCESSES: &[u8] = b"\0\0\x0b\x01\0\x01\x02\0\0\0\0\0\0\0\
+      \0\0\x0c\x01\0\x02\0\0\0\x03\0\0\0\0\0\0\0\0\
+      \0\0\x0d\x01\0\x02\0\0\0\0\0\0\0\0";
+
+// Whether it is the one of the three records at this place.
+fn is_of_accesses<A: Allocator>(record: &SpelledRecord<A>, place: u8) -> bool {
+    match &record.event {
+        Event::AccessCreate(file) => {
+            place == 0 && *file == FileNo(1) && record.reply == SpelledReply::Id(2)
+        }
+        Event::AccessAttach(file, id, ioas) => {
+            place == 1 && *file == FileNo(1) && *id == ObjId(2) && *ioas == ObjId(3)
+        }
+        Event::AccessDetach(file, id) => place == 2 && *file == FileNo(1) && *id == ObjId(2),
+        _ => false,
+    }
+}
+
+// Whether the bytes begin with that record, with so many bytes after it.
+fn reads_access<A: Allocator + Copy>(alloc: A, bytes: &[u8], place: u8, left: usize) -> bool {
+    match read_record(alloc, 1, bytes) {
+        Ok((record, rest)) => is_of_accesses(&record, place) && rest.len() == left,
+        Err(_) => false,
+    }
+}
+
+#[test]
+fn records_of_accesses_are_read(rt: HostRuntime) {
+    assert!(rt; reads_access(rt.alloc(), OF_ACCESSES, 0, 32));
+    assert!(rt; reads_access(rt.alloc(), &OF_ACCESSES[14..], 1, 14));
+    assert!(rt; reads_access(rt.alloc(), &OF_ACCESSES[32..], 2, 0));
+}
+
+// The records begin at 0, 14 and 32, and the last ends at 46.
+#[test]
+fn cuts_of_accesses_are_torn(rt: HostRuntime) {
+    for end in 14..32 {
+        assert!(rt; is_torn(rt.alloc(), 1, &OF_ACCESSES[14..end]), "{end}");
+    }
+    assert!(rt; is_torn(rt.alloc(), 1, &OF_ACCESSES[..13]));
+    assert!(rt; is_torn(rt.alloc(), 1, &OF_ACCESSES[32..45]));
+}
+
 #[test]
 fn lists_are_read(rt: HostRuntime) {
     assert!(rt; reads_lists(rt.alloc()));
@@ -93,5 +138,5 @@ fn cuts_are_torn(rt: HostRuntime) {
     // Pass 0 where there is none, pass 512 where there is one, and an unknown tag.
     assert!(rt; is_torn(rt.alloc(), 0, RECORDS));
     assert!(rt; is_torn(rt.alloc(), 1, &RECORDS[1..]));
-    assert!(rt; is_torn(rt.alloc(), 1, b"\0\0\x0b\x01\0\0\0\0\0\0"));
+    assert!(rt; is_torn(rt.alloc(), 1, b"\0\0\x7f\x01\0\0\0\0\0\0"));
 }

@@ -1,7 +1,7 @@
 use Rattle.area_map_rows.proofs.Numbers.{greater}
 use Rattle.std.proofs.Common.{◌≡◌, ◌∙◌, ℕ, List, fold, length, max, sym, ap, arith}
 use Rattle.iofd_words.specs.declared.rows.Area.{Area}
-use Rattle.area_map_rows.specs.Areas.{most_tries, tries_of}
+use Rattle.iofd_words.specs.Areas.{most_tries, tries_of}
 use Rattle.area_map_rows.proofs.totals.most_tries.Goals as goal
 
 pub loop-area-init : goal.loop-area-init

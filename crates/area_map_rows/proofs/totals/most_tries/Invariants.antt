@@ -1,6 +1,6 @@
 use Rattle.std.proofs.Common.{◌≡◌, ℕ, max, fold}
 use Rattle.iofd_words.specs.declared.rows.Area.{Area}
-use Rattle.area_map_rows.specs.Areas.{most_tries, tries_of}
+use Rattle.iofd_words.specs.Areas.{most_tries, tries_of}
 use Rattle.area_map_rows.proofs.totals.most_tries.Given as goal
 
 abbrev pub invariant-loop-area : goal.invariant-loop-area

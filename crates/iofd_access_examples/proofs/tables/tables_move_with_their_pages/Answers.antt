@@ -1,0 +1,69 @@
+use Rattle.std.proofs.Common.{refl}
+use Rattle.iofd_words.specs.After.{changed, settle, without_areas}
+use Rattle.iofd_words.specs.Answers.{Answers}
+use Rattle.iofd_words.specs.Checks.{close_checks, map_checks, unmap_checks}
+use Rattle.iofd_words.specs.Levels.{number_at}
+use Rattle.iofd_words.specs.Run.{Lawful, after}
+use Rattle.iofd_words.specs.Tables.{with_tables}
+use Rattle.iofd_access_examples.proofs.Never.{never}
+use Rattle.iofd_access_examples.proofs.tables.tables_move_with_their_pages.Goals as goal
+
+pub returns-clause-elsewhere : goal.returns-clause-elsewhere
+unfolding Lawful after with_tables close_checks map_checks unmap_checks Answers changed settle without_areas number_at
+returns-clause-elsewhere c = (
+  (refl, record { enough = refl; free = refl; different = refl; gone = refl; may = refl; rising = refl }),
+  tt,
+)
+
+pub returns-clause-one_alone : goal.returns-clause-one_alone
+unfolding Lawful after with_tables close_checks map_checks unmap_checks Answers changed settle without_areas number_at
+returns-clause-one_alone c = (
+  λ h. let is = h.1.enough in cc,
+  tt,
+)
+
+pub returns-clause-map_gives : goal.returns-clause-map_gives
+unfolding Lawful after with_tables close_checks map_checks unmap_checks Answers changed settle without_areas number_at
+returns-clause-map_gives c = (
+  λ h. never h.1.may,
+  (
+    λ h. never h.1.may,
+    tt,
+  ),
+)
+
+pub returns-clause-given : goal.returns-clause-given
+unfolding Lawful after with_tables close_checks map_checks unmap_checks Answers changed settle without_areas number_at
+returns-clause-given c = (
+  ((refl, refl), record { enough = refl; free = refl; different = refl; gone = refl; may = refl; rising = refl }),
+  (
+    ((refl, refl), record { enough = refl; free = refl; different = refl; gone = refl; may = refl; rising = refl }),
+    (
+      ((refl, refl), record { enough = refl; free = refl; different = refl; gone = refl; may = refl; rising = refl }),
+      tt,
+    ),
+  ),
+)
+
+pub returns-clause-not_given : goal.returns-clause-not_given
+unfolding Lawful after with_tables close_checks map_checks unmap_checks Answers changed settle without_areas number_at
+returns-clause-not_given c = (
+  λ h. never h.1.may,
+  (
+    λ h. never h.1.may,
+    (
+      λ h. never h.1.may,
+      (
+        λ h. never h.1.may,
+        tt,
+      ),
+    ),
+  ),
+)
+
+pub returns-clause-root_stays : goal.returns-clause-root_stays
+unfolding Lawful after with_tables close_checks map_checks unmap_checks Answers changed settle without_areas number_at
+returns-clause-root_stays c = (
+  λ h. never h.1.gone,
+  tt,
+)

@@ -1,0 +1,24 @@
+//! More worked records of the definitions in `iofd_words`, as in `iofd_examples`: of access objects, of UNMAPs that are
+//! counted, of page tables that wait for leaving areas, of tables and of ranges. Each is the contract of a function
+//! that does nothing; nothing here runs.
+#![tactic(auto)]
+
+mod accesses;
+mod leaving;
+mod ranges;
+mod tables;
+mod unmaps;
+
+pub use accesses::{
+    access_objects_are_refused, access_records_are_lawful, access_script_is_a_run,
+    access_script_leaves_its_worlds,
+};
+pub use leaving::{first_page_tables_wait_for_leaving_areas, page_tables_are_made_or_wait};
+pub use ranges::{
+    addresses_are_chosen_in_the_list, every_address_is_named,
+    least_address_lies_behind_what_is_kept, usable_ranges_are_merged,
+};
+pub use tables::{
+    table_script_is_a_run, table_script_leaves_its_worlds, tables_move_with_their_pages,
+};
+pub use unmaps::{other_answers_are_unlawful, unmaps_are_counted, unmaps_of_two_areas_are_counted};
