@@ -14,7 +14,7 @@ use Rattle.iofd_interleavings.specs.Caches.{IsBacked, may_use}
 use Rattle.iofd_interleavings_examples.specs.Worked.{entry}
 
 -- the only area is leaving, and device 2 alone owes it
-pub not_owed : (w : World) (area : Area) → w.areas ≡ area ∷ [] → area.phase ≡ Leaving (2 ∷ []) 0
+pub not_owed : (w : World) (area : Area) → w.areas ≡ area ∷ [] → area.phase ≡ Leaving (2 ∷ []) 1
     → IsBacked w (device 1) entry → ⊥
 not_owed w area only phase backed =
     let same = contained_in_one area backed.area

@@ -21,21 +21,21 @@ pub fn a_flush_that_keeps_its_cache_is_unsound()
     ensures lawful { Lawful (length (records_after before_flush)) (world_after settings before_flush)
         (step (flush 1) reply.Done) }
     ensures cached { caches_after before_flush (device 1) ≡ entry ∷ [] }
-    ensures leaves { world_after settings (before_flush ++ flushes 1 ∷ []) ≡ shared (Leaving (2 ∷ []) 0) }
+    ensures leaves { world_after settings (before_flush ++ flushes 1 ∷ []) ≡ shared (Leaving (2 ∷ []) 1) }
 {}
 
 /// A fill from a leaving area that the device doesn't owe. The device is attached and the page is pinned; but the area
 /// is leaving, and device 2 alone owes it.
 pub fn a_fill_after_the_flush_is_unsound()
     ensures breaks { Breaks before_fill (fills 1) after_fill }
-    ensures world { world_after settings before_fill ≡ shared (Leaving (2 ∷ []) 0) }
+    ensures world { world_after settings before_fill ≡ shared (Leaving (2 ∷ []) 1) }
     ensures late { IsFill (world_after settings before_fill) (device 1) entry → ⊥ }
 {}
 
 /// An UNMAP that answers bytes while a device owes. Nothing refuses it; but device 1 owes the area a flush.
 pub fn an_unmap_that_does_not_wait_is_unsound()
     ensures breaks { Breaks before_unmap takes after_unmap }
-    ensures world { world_after settings before_unmap ≡ shared (Leaving (1 ∷ []) 0) }
+    ensures world { world_after settings before_unmap ≡ shared (Leaving (1 ∷ []) 1) }
     ensures passes { refusal (world_after settings before_unmap) (unmap_in 1 1 0x1000 0x1000) ≡ None }
     ensures early { Lawful (length (records_after before_unmap)) (world_after settings before_unmap)
         (step (unmap_in 1 1 0x1000 0x1000) (reply.Bytes 0x1000)) → ⊥ }

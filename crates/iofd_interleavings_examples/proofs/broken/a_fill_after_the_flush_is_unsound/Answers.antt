@@ -65,7 +65,7 @@ returns-clause-breaks c = record {
     ),
   );
   unsound = record {
-    sound = λ sound. not_owed _ (area_row 1 1 0x1000 0x1fff 2 3 (Leaving (2 ∷ []) 0)) refl refl
+    sound = λ sound. not_owed _ (area_row 1 1 0x1000 0x1fff 2 3 (Leaving (2 ∷ []) 1)) refl refl
         (sound entry (0, omega arith, refl));
     hit = record { cached = (0, omega arith, refl); page = refl; right = refl; inside = refl };
     denied = refl;
@@ -87,4 +87,4 @@ unfolding AreSteps state_after world_of IsRun Lawful after with_tables answers_i
     hwpt_alloc_checks ioas_alloc_checks map_checks unbind_checks unmap_checks user_map_checks user_unmap_checks
     user_write_checks changed settle without_areas attached detached joined outcomes access_outcomes number_at
 returns-clause-late c = λ fill.
-    not_owed _ (area_row 1 1 0x1000 0x1fff 2 3 (Leaving (2 ∷ []) 0)) refl refl fill.backed
+    not_owed _ (area_row 1 1 0x1000 0x1fff 2 3 (Leaving (2 ∷ []) 1)) refl refl fill.backed

@@ -62,7 +62,7 @@ returns-clause-breaks c = record {
     ),
   );
   unsound = record {
-    sound = λ sound. not_owed _ (area_row 1 1 0x1000 0x1fff 2 3 (Leaving (2 ∷ []) 0)) refl refl
+    sound = λ sound. not_owed _ (area_row 1 1 0x1000 0x1fff 2 3 (Leaving (2 ∷ []) 1)) refl refl
         (sound entry (0, omega arith, refl));
     hit = record { cached = (0, omega arith, refl); page = refl; right = refl; inside = refl };
     denied = refl;
