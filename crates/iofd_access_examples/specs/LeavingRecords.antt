@@ -1,8 +1,8 @@
 -- No first page table is made as long as an area of the address space is leaving: refusals in the world that stands
 -- ready, of which areas have begun to leave. Whoever was attached to file 1's then is detached since, so that nobody
--- owes. Its devices 1 and 3 have width 39, its device 2 width 48, and 3 keeps 5000 to 5fff. File 2 has a page table over
--- its address space 1, which device 5 is attached to and owes a flush, and none over 11; 9 isn't attached, and 8 keeps
--- 9000 to 9fff.
+-- owes. Its devices 1 and 3 have width 39, its device 2 width 48, and 3 keeps 5000 to 5fff. File 2 has a page table
+-- over its address space 1, which device 5 is attached to and owes a flush, and none over 11; 9 isn't attached, and 8
+-- keeps 9000 to 9fff.
 use Rattle.std.specs.Prelude.{List, [], ◌∷◌, ◌++◌}
 use Rattle.std.specs.declared.alloc.Global.{Global}
 use Rattle.iofd_examples.specs.ReadyWorld.{ready}
