@@ -170,6 +170,14 @@ module _ {V A : Type 0} (files : List (FileObjects V A)) (file : FileNo) (place 
       by_mark false e = rw (rows_of-inside, e)
       by_mark true e = rw (rows_of-inside, length-file_rows file.0 f e, e)
 
+  pub count-inside : length (rows_of (table_of files) file) ≡ cond f.is_open (slab_len f.objects) 0
+  count-inside = by_mark f.is_open refl
+    where
+      by_mark : (b : Bool) → f.is_open ≡ b
+          → length (rows_of (table_of files) file) ≡ cond f.is_open (slab_len f.objects) 0
+      by_mark false e = rw (rows_of-inside, e)
+      by_mark true e = rw (rows_of-inside, length-file_rows file.0 f e, e)
+
   pub is_held-inside : f.is_open ≡ true → list_any (λ row. keeps_file_open row.kind) (rows_of (table_of files) file)
       ≡ list_any (λ e. keeps_file_open e.1.kind) (entries f.objects)
   is_held-inside e =

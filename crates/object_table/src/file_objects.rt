@@ -133,6 +133,13 @@ impl<V, A: Allocator> FileObjects<V, A> {
         self.is_open && self.objects.len() >= GREATEST_COUNT
     }
 
+    /// How many objects the file has; none where it is closed.
+    pub(crate) fn count(&self) -> usize
+        ensures { result ≡ (if self.now.is_open then slab_len self.now.objects else 0) }
+    {
+        if self.is_open { self.objects.len() } else { 0 }
+    }
+
     /// Whether an object keeps the file from being closed.
     pub(crate) fn is_held(&self) -> bool
         ensures { result ≡ list_any (λ e. keeps_file_open e.1.kind) (entries self.now.objects) }

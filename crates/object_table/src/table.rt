@@ -107,6 +107,17 @@ impl<V, A: Allocator> ObjectTable<V, A> {
         }
     }
 
+    /// How many objects the file has: at most 65,535, and none where it is closed or unknown. It doesn't count them.
+    pub fn count(&self, file: FileNo) -> usize
+        ensures count { result ≡ length (rows_of self.now file) }
+        ensures few { result ≤ greatest_count }
+    {
+        match place_of(file, self.files.len()) {
+            Some(place) => self.files[place].count(),
+            None => 0,
+        }
+    }
+
     /// Whether an object keeps the file from being closed, a device or an access. None does so in a closed or
     /// unknown file. It looks at every object of the file.
     pub fn is_held(&self, file: FileNo) -> bool
