@@ -7,3 +7,4 @@ pub mod RowsInBlocks
 pub mod RowsSame
 pub mod OneRow
 pub mod Room
+pub mod SomeLeaving

@@ -1,13 +1,15 @@
 //! The map of areas.
 
 ghost use Rattle.std.specs.Prelude.{◌≡◌, ◌==◌, ◌↔◌, ◌+◌, ◌*◌, ◌<◌, ◌≤◌, [], find, length};
-ghost use Rattle.std.specs.Prelude.{map, nat_le, is_ok, IsOk, IfOk};
+ghost use Rattle.std.specs.Prelude.{map, nat_le, not, is_ok, IsOk, IfOk};
 ghost use Rattle.std.specs.Prelude.{MatchOption, IfErr, IfSome, IfNone, OnOk, OnErr, IsOkUnless};
+ghost use Rattle.std.specs.List.{list_any};
 ghost use Rattle.std.specs.Option.{option_copied};
 ghost use Rattle.area_map_rows.specs.Areas.{AreKept, with_area, area_of, is_covered, IsCovered, HasGap, marked};
 ghost use Rattle.area_map_rows.specs.Areas.{HasNoneFree, IsFirstFree};
 ghost use Rattle.area_map_rows.specs.Areas.{without_debt, areas_within, areas_outside, tried};
 ghost use Rattle.iofd_words.specs.Areas.{areas_meet, has_no_room, is_cut, area_at, most_tries};
+ghost use Rattle.iofd_words.specs.TablePlaces.{is_live};
 ghost use Rattle.area_map.specs.Insertion.{insert_refusal};
 ghost use Rattle.area_map.specs.Kept.{leaving_span};
 
@@ -97,6 +99,13 @@ impl<A: Allocator> Areas<A> {
         ensures { result ≡ has_no_room self.now.areas }
     {
         self.count >= MOST_AREAS
+    }
+
+    /// Whether some area is leaving. It looks at no area.
+    pub fn has_leaving(&self) -> bool
+        ensures { result ≡ list_any (λ area. not (is_live area.phase)) self.now.areas }
+    {
+        self.leaving.is_some()
     }
 
     /// The area that holds the address, of any phase. It takes no memory.
