@@ -23,7 +23,7 @@ use Rattle.object_table.specs.declared.kind.Kind.TheVariants as tablekind
 
 module _ {A : Type 0} where
   -- no row is at this id
-  not_there : (rows : List (Row (Held A))) (file : FileNo) (id : ObjId) (change : Row (Held A) → Row (Held A))
+  pub not_there : (rows : List (Row (Held A))) (file : FileNo) (id : ObjId) (change : Row (Held A) → Row (Held A))
       → list_any (is_object file id) (map object_of rows) ≡ false → changed_at file id change rows ≡ rows
   not_there [] file id change none = refl
   not_there (row ∷ rows) file id change none = let rest = not_there rows file id change in grind (arith, nat_tests)
@@ -33,7 +33,7 @@ module _ {A : Type 0} where
   none_own [] file kind id none = refl
   none_own (row ∷ rows) file kind id none = let rest = none_own rows file kind id in grind (arith, nat_tests)
 
-  same_at : (row : Row (Held A)) (file : FileNo) (id : ObjId) (objects : List Object) → is_at file id row ≡ true
+  pub same_at : (row : Row (Held A)) (file : FileNo) (id : ObjId) (objects : List Object) → is_at file id row ≡ true
       → list_any (is_object row.file row.id) objects ≡ list_any (is_object file id) objects
   same_at row file id [] is = refl
   same_at row file id (o ∷ objects) is = let rest = same_at row file id objects is in grind (arith, nat_tests)
@@ -120,7 +120,7 @@ module _ {A : Type 0} where
           let no = none_own rows file kind id (sym (same_at row file id (map object_of rows) here) ∙ none) in cc
       by_tests false k here none is later = rw here (later is)
 
-  areas_here : (rows : List (Row (Held A))) (file : FileNo) (id : ObjId) (old new : Held A)
+  pub areas_here : (rows : List (Row (Held A))) (file : FileNo) (id : ObjId) (old new : Held A)
       → option_map (λ (row : Row (Held A)). row.value) (find (is_at file id) rows) ≡ Some old
       → areas_at (changed_at file id (with_value new) rows) file id ≡ areas_in new
   areas_here [] file id old new found = cc
@@ -134,7 +134,7 @@ module _ {A : Type 0} where
       by_test true is later = grind (arith, nat_tests)
       by_test false is later = let rest = later (rw is at found) in grind (arith, nat_tests)
 
-  areas_elsewhere : (rows : List (Row (Held A))) (file : FileNo) (id : ObjId) (new : Held A) (f : FileNo) (i : ObjId)
+  pub areas_elsewhere : (rows : List (Row (Held A))) (file : FileNo) (id : ObjId) (new : Held A) (f : FileNo) (i : ObjId)
       → is_space file id f i ≡ false → areas_at (changed_at file id (with_value new) rows) f i ≡ areas_at rows f i
   areas_elsewhere [] file id new f i other = refl
   areas_elsewhere (row ∷ rows) file id new f i other =
@@ -166,7 +166,7 @@ module _ {A : Type 0} where
           rw (is, proper) (later (rw (not_first row rows file kind id is) at found))
 
   -- what an object holds isn't how many use it
-  users_kept : (rows : List (Row (Held A))) (file : FileNo) (id : ObjId) (new : Held A) (f : FileNo) (i : ObjId)
+  pub users_kept : (rows : List (Row (Held A))) (file : FileNo) (id : ObjId) (new : Held A) (f : FileNo) (i : ObjId)
       → users_at (changed_at file id (with_value new) rows) f i ≡ users_at rows f i
   users_kept [] file id new f i = refl
   users_kept (row ∷ rows) file id new f i =
@@ -228,6 +228,7 @@ module _ {A : Type 0} where
       differ is = cc
   no_areas row (held.Hwpt ioas width automatic) is proper other = refl
   no_areas row (held.Device device) is proper other = refl
+  no_areas row (held.Access attached) is proper other = refl
 
   absent : (rows : List (Row (Held A))) (file : FileNo) (ioas : ObjId) → list_all is_proper rows ≡ true
       → find (is_own file tablekind.Ioas ioas) rows ≡ None → areas_at rows file ioas ≡ []
@@ -283,6 +284,7 @@ module _ {A : Type 0} where
       cc
   no_ioas row (held.Hwpt ioas width automatic) is proper other = refl
   no_ioas row (held.Device device) is proper other = refl
+  no_ioas row (held.Access attached) is proper other = refl
 
   none_held : (rows : List (Row (Held A))) (file : FileNo) (ioas : ObjId) → list_all is_proper rows ≡ true
       → find (is_own file tablekind.Ioas ioas) rows ≡ None → has_ioas (map object_of rows) file ioas ≡ false

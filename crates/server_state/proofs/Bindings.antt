@@ -29,6 +29,7 @@ tells device object is = by_kind object.kind is
     by_kind kind.Ioas is = cc
     by_kind (kind.Hwpt ioas width automatic) is = cc
     by_kind (kind.Device bound) is = refl
+    by_kind (kind.Access attached) is = cc
 
 pub bindings_rise : (bindings : List Object) → are_bindings bindings ≡ true
     → rises (λ (o : Object). is_bound_device o.kind) (λ (o : Object). bound_number o.kind) bindings ≡ true

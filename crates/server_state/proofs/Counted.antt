@@ -12,8 +12,9 @@ use Rattle.iofd_rows.proofs.Named.{file_is, id_is}
 use Rattle.iofd_rows.specs.Debts.{attach_once, is_over_space}
 use Rattle.iofd_rows.specs.Ids.{have_own_ids}
 use Rattle.iofd_words.specs.Attachments.{attachment_of, ioas_of, with_attachment, without_attachment}
-use Rattle.iofd_words.specs.Objects.{comes_before, has_hwpt, has_ioas, is_full, is_hwpt, is_hwpt_over, is_ioas}
-use Rattle.iofd_words.specs.Objects.{is_object, kind_of, with_object, without_object}
+use Rattle.iofd_words.specs.Objects.{access_ioas, comes_before, has_access_to, has_hwpt, has_ioas, is_access_to}
+use Rattle.iofd_words.specs.Objects.{is_full, is_hwpt, is_hwpt_over, is_ioas, is_object, kind_of, with_object}
+use Rattle.iofd_words.specs.Objects.{without_object}
 use Rattle.iofd_words.specs.declared.numbers.FileNo.{FileNo}
 use Rattle.iofd_words.specs.declared.numbers.ObjId.{ObjId}
 use Rattle.iofd_words.specs.declared.numbers.DeviceNo.{DeviceNo}
@@ -32,7 +33,7 @@ use Rattle.server_state.proofs.Objects.{kind_at, kind_of_rows}
 use Rattle.server_state.proofs.DevicesOn.{devices-with, devices-without, on_by}
 use Rattle.server_state.specs.Held.{areas_at, is_proper, kind_in, object_of, table_kind}
 use Rattle.server_state.specs.Spaces.{is_space}
-use Rattle.server_state.specs.Users.{AreCounted, devices_on, tables_over, users_at}
+use Rattle.server_state.specs.Users.{AreCounted, accesses_to, devices_on, tables_over, users_at}
 use Rattle.server_state.specs.declared.held.Held.{Held}
 
 turned : (a b c d : ℕ) → ◌≡◌ {A = ℕ} (cond (eqb a b && eqb c d) 1 0) (cond (eqb b a && eqb d c) 1 0)
@@ -79,6 +80,11 @@ over_spaces objects f i over none = among objects over
         fails : (b : Bool) → (b && false) ≡ false
         fails true = refl
         fails false = refl
+    not_over file (kind.Access attached) is = fails (eqb file.0 f.0)
+      where
+        fails : (b : Bool) → (b && false) ≡ false
+        fails true = refl
+        fails false = refl
     not_over file (kind.Hwpt own width automatic) is = by_names (eqb file.0 f.0) (eqb own.0 i.0) refl refl
       where
         by_names : (b c : Bool) → eqb file.0 f.0 ≡ b → eqb own.0 i.0 ≡ c → (b && c) ≡ false
@@ -117,7 +123,7 @@ space_under objects file id ioas width automatic over is = by_object (find (is_o
         [ Some own ↦ has_ioas objects x.file own | None ↦ true ]) of_kind) ∙ passes.0 in
         sym (ap (λ (f : FileNo). has_ioas objects f ioas) (file_is x.file file names.0)) ∙ there
 
-count-with : (p : Object → Bool) (object : Object) (objects : List Object)
+pub count-with : (p : Object → Bool) (object : Object) (objects : List Object)
     → count_by p (with_object object objects) ≡ cond (p object) 1 0 + count_by p objects
 count-with p object [] = count-cons p object []
 count-with p object (o ∷ objects) =
@@ -134,7 +140,7 @@ pub over-with : (object : Object) (objects : List Object) (f : FileNo) (i : ObjI
 over-with object objects f i =
     count-with (λ (o : Object). eqb o.file.0 f.0 && is_hwpt_over i o.kind) object objects
 
-no_one : (b : Bool) → ◌≡◌ {A = ℕ} (cond (b && false) 1 0) 0
+pub no_one : (b : Bool) → ◌≡◌ {A = ℕ} (cond (b && false) 1 0) 0
 no_one true = refl
 no_one false = refl
 
@@ -142,6 +148,7 @@ pub other_over : (file : FileNo) (k : ObjectKind) (f : FileNo) (i : ObjId) → i
 other_over file kind.Ioas f i is = no_one (eqb file.0 f.0)
 other_over file (kind.Hwpt ioas width automatic) f i is = cc
 other_over file (kind.Device device) f i is = no_one (eqb file.0 f.0)
+other_over file (kind.Access attached) f i is = no_one (eqb file.0 f.0)
 
 -- an object that is no page table comes
 pub over-beside : (object : Object) (objects : List Object) (f : FileNo) (i : ObjId) → is_hwpt object.kind ≡ false
@@ -156,47 +163,61 @@ not_there : (objects : List Object) (file : FileNo) (id : ObjId) → list_any (i
 not_there [] file id none = refl
 not_there (o ∷ objects) file id none = let rest = not_there objects file id in grind (arith, nat_tests)
 
-same_named : (object : Object) (file : FileNo) (id : ObjId) (objects : List Object) → is_object file id object ≡ true
+pub same_named : (object : Object) (file : FileNo) (id : ObjId) (objects : List Object) → is_object file id object ≡ true
     → list_any (is_object object.file object.id) objects ≡ list_any (is_object file id) objects
 same_named object file id [] is = refl
 same_named object file id (o ∷ objects) is =
     let rest = same_named object file id objects is in grind (arith, nat_tests)
 
+-- how many objects of a file are of kinds that pass a test
+abbrev pub count_kinds : (ObjectKind → Bool) → FileNo → List Object → ℕ
+count_kinds test f objects = count_by (λ (o : Object). eqb o.file.0 f.0 && test o.kind) objects
+
 -- one goes
-pub over-without : (objects : List Object) (file : FileNo) (id : ObjId) (k : ObjectKind) (f : FileNo) (i : ObjId)
-    → have_own_ids objects ≡ true → kind_of objects file id ≡ Some k
-    → tables_over (without_object file id objects) f i + over_by file k f i ≡ tables_over objects f i
-over-without [] file id k f i ids is = cc
-over-without (object ∷ objects) file id k f i ids is =
+pub kinds-without : (test : ObjectKind → Bool) (objects : List Object) (file : FileNo) (id : ObjId) (k : ObjectKind)
+    (f : FileNo) → have_own_ids objects ≡ true → kind_of objects file id ≡ Some k
+    → count_kinds test f (without_object file id objects) + cond (eqb file.0 f.0 && test k) 1 0
+    ≡ count_kinds test f objects
+kinds-without test [] file id k f ids is = cc
+kinds-without test (object ∷ objects) file id k f ids is =
     let owns = and_true (not (list_any (is_object object.file object.id) objects)) (have_own_ids objects) ids in
     by_test (is_object file id object) refl (not_true _ owns.0) is
-    (λ later. over-without objects file id k f i owns.1 later)
+    (λ later. kinds-without test objects file id k f owns.1 later)
   where
+    passes : Object → Bool
+    passes o = eqb o.file.0 f.0 && test o.kind
+
+    one_by : FileNo → ObjectKind → ℕ
+    one_by own kind = cond (eqb own.0 f.0 && test kind) 1 0
+
     by_test : (b : Bool) → is_object file id object ≡ b
         → list_any (is_object object.file object.id) objects ≡ false
         → elim (cond b (Some object) (find (is_object file id) objects)) as (λ _. Option ObjectKind)
         [ Some o ↦ Some o.kind | None ↦ None ] ≡ Some k
         → (kind_of objects file id ≡ Some k
-        → tables_over (without_object file id objects) f i + over_by file k f i ≡ tables_over objects f i)
-        → tables_over (cond (not b) (object ∷ without_object file id objects) (without_object file id objects)) f i
-        + over_by file k f i ≡ tables_over (object ∷ objects) f i
+        → count_by passes (without_object file id objects) + one_by file k ≡ count_by passes objects)
+        → count_by passes (cond (not b) (object ∷ without_object file id objects) (without_object file id objects))
+        + one_by file k ≡ count_by passes (object ∷ objects)
     by_test true named none is later =
         let gone = not_there objects file id (sym (same_named object file id objects named) ∙ none) in
         let names = and_true (eqb object.file.0 file.0) (eqb object.id.0 id.0) named in
         let of_kind : object.kind ≡ k = cc in
-        let one : over_by object.file object.kind f i ≡ over_by file k f i =
-        ap (λ (x : FileNo). over_by x object.kind f i) (file_is object.file file names.0)
-        ∙ ap (λ (x : ObjectKind). over_by file x f i) of_kind in
-        let all = count-cons (λ (o : Object). eqb o.file.0 f.0 && is_hwpt_over i o.kind) object objects in
-        let same : tables_over (without_object file id objects) f i ≡ tables_over objects f i =
-        ap (λ (l : List Object). tables_over l f i) gone in
+        let one : one_by object.file object.kind ≡ one_by file k =
+        ap (λ (x : FileNo). one_by x object.kind) (file_is object.file file names.0) ∙ ap (one_by file) of_kind in
+        let all = count-cons passes object objects in
+        let same : count_by passes (without_object file id objects) ≡ count_by passes objects =
+        ap (count_by passes) gone in
         omega (arith, all, same, one)
     by_test false named none is later =
         let rest = later is in
-        let all = count-cons (λ (o : Object). eqb o.file.0 f.0 && is_hwpt_over i o.kind) object objects in
-        let left = count-cons (λ (o : Object). eqb o.file.0 f.0 && is_hwpt_over i o.kind) object
-        (without_object file id objects) in
+        let all = count-cons passes object objects in
+        let left = count-cons passes object (without_object file id objects) in
         omega (arith, rest, all, left)
+
+pub over-without : (objects : List Object) (file : FileNo) (id : ObjId) (k : ObjectKind) (f : FileNo) (i : ObjId)
+    → have_own_ids objects ≡ true → kind_of objects file id ≡ Some k
+    → tables_over (without_object file id objects) f i + over_by file k f i ≡ tables_over objects f i
+over-without objects file id k f i ids is = kinds-without (is_hwpt_over i) objects file id k f ids is
 
 itself : (n : ℕ) → eqb n n ≡ true
 itself n = grind (arith, nat_tests)
@@ -233,6 +254,45 @@ few_over objects file i room =
         by_tests true true rest = omega (arith, rest)
         by_tests true false rest = omega (arith, rest)
         by_tests false c rest = omega (arith, rest)
+
+-- ---- how many access objects are attached to an address space
+
+-- 1 where an object of this file and kind is one
+abbrev pub to_by : FileNo → ObjectKind → FileNo → ObjId → ℕ
+to_by file k f i = cond (eqb file.0 f.0 && is_access_to i k) 1 0
+
+pub has_to : (objects : List Object) (f : FileNo) (i : ObjId)
+    → has_access_to objects f i ≡ ltb 0 (accesses_to objects f i)
+has_to objects f i = any_count (λ (o : Object). eqb o.file.0 f.0 && is_access_to i o.kind) objects
+
+-- what is no access object, or one that isn't attached
+pub unattached : (file : FileNo) (k : ObjectKind) (f : FileNo) (i : ObjId) → access_ioas k ≡ None → to_by file k f i ≡ 0
+unattached file k f i none =
+    ap (λ (o : Option ObjId). let n : ℕ = cond (eqb file.0 f.0 && elim o as (λ _. Bool)
+    [ Some attached ↦ eqb attached.0 i.0 | None ↦ false ]) 1 0 in n) none
+    ∙ no_one (eqb file.0 f.0)
+
+-- it comes
+pub to-beside : (object : Object) (objects : List Object) (f : FileNo) (i : ObjId) → access_ioas object.kind ≡ None
+    → accesses_to (with_object object objects) f i ≡ accesses_to objects f i
+to-beside object objects f i other =
+    let all = count-with (λ (o : Object). eqb o.file.0 f.0 && is_access_to i o.kind) object objects in
+    let none = unattached object.file object.kind f i other in
+    omega (arith, all, none)
+
+-- and goes
+pub to-left : (objects : List Object) (file : FileNo) (id : ObjId) (k : ObjectKind) (f : FileNo) (i : ObjId)
+    → have_own_ids objects ≡ true → kind_of objects file id ≡ Some k → access_ioas k ≡ None
+    → accesses_to (without_object file id objects) f i ≡ accesses_to objects f i
+to-left objects file id k f i ids is other =
+    let all = kinds-without (is_access_to i) objects file id k f ids is in
+    let none = unattached file k f i other in
+    omega (arith, all, none)
+
+-- all users of an object
+abbrev pub counts_of : List Object → List Attachment → FileNo → ObjId → ℕ
+counts_of objects attachments f i =
+    tables_over objects f i + accesses_to objects f i + devices_on attachments f i
 
 -- ---- how many are counted
 
@@ -299,7 +359,7 @@ module _ {A : Type 0} where
       by_tests true false is none later = rw is (later none)
       by_tests false false is none later = rw is (later none)
 
-  users_here : (rows : List (Row (Held A))) (file : FileNo) (id : ObjId) (n : ℕ) (row : Row (Held A))
+  pub users_here : (rows : List (Row (Held A))) (file : FileNo) (id : ObjId) (n : ℕ) (row : Row (Held A))
       → find (is_at file id) rows ≡ Some row → users_at (changed_at file id (with_users n) rows) file id ≡ n
   users_here [] file id n found is = cc
   users_here (row ∷ rows) file id n found is =
@@ -311,7 +371,7 @@ module _ {A : Type 0} where
       by_test true here is later = rw (here, users_at) refl
       by_test false here is later = rw (here, users_at) (later is)
 
-  users_elsewhere : (rows : List (Row (Held A))) (file : FileNo) (id : ObjId) (n : ℕ) (f : FileNo) (i : ObjId)
+  pub users_elsewhere : (rows : List (Row (Held A))) (file : FileNo) (id : ObjId) (n : ℕ) (f : FileNo) (i : ObjId)
       → is_space file id f i ≡ false → users_at (changed_at file id (with_users n) rows) f i ≡ users_at rows f i
   users_elsewhere [] file id n f i other = refl
   users_elsewhere (row ∷ rows) file id n f i other =
@@ -417,6 +477,7 @@ module _ {A : Type 0} where
       by_kind (Some kind.Ioas) is = refl
       by_kind (Some (kind.Hwpt over width automatic)) is = cc
       by_kind (Some (kind.Device device)) is = cc
+      by_kind (Some (kind.Access attached)) is = cc
 
   -- ---- what is counted stays right
 
@@ -467,7 +528,7 @@ module _ {A : Type 0} where
       (counted : AreCounted objects attachments rows) where
     -- the users of a row that is found
     pub users_of_row : (file : FileNo) (id : ObjId) (row : Row (Held A)) → find (is_at file id) rows ≡ Some row
-        → row.users ≡ tables_over objects file id + devices_on attachments file id
+        → row.users ≡ tables_over objects file id + accesses_to objects file id + devices_on attachments file id
     users_of_row file id row found = sym (ap users_from found) ∙ counted file id
 
     -- a page table is over its own address space
@@ -482,12 +543,13 @@ module _ {A : Type 0} where
         (changed_at file ioas (with_users (row.users + 1)) rows)
     table_comes file ioas id width automatic row found =
         let object : Object = record { file = file; id = id; kind = kind.Hwpt ioas width automatic } in
-        one_more rows file ioas row (λ f i. tables_over objects f i + devices_on attachments f i)
-        (λ f i. tables_over (with_object object objects) f i + devices_on attachments f i) found counted
+        one_more rows file ioas row (counts_of objects attachments)
+        (counts_of (with_object object objects) attachments) found counted
         (λ f i.
         let all = over-with object objects f i in
+        let same = to-beside object objects f i refl in
         let one = over_own file ioas width automatic f i in
-        omega (arith, all, one))
+        omega (arith, all, same, one))
 
     -- one fewer where one goes
     pub table_goes : (file : FileNo) (ioas id : ObjId) (width : Width) (automatic : Bool) (row : Row (Held A))
@@ -495,20 +557,21 @@ module _ {A : Type 0} where
         → find (is_at file ioas) rows ≡ Some row → AreCounted (without_object file id objects) attachments
         (changed_at file ioas (with_users (row.users - 1)) rows)
     table_goes file ioas id width automatic row ids is_kind found =
-        one_fewer rows file ioas row (λ f i. tables_over objects f i + devices_on attachments f i)
-        (λ f i. tables_over (without_object file id objects) f i + devices_on attachments f i) found counted
+        one_fewer rows file ioas row (counts_of objects attachments)
+        (counts_of (without_object file id objects) attachments) found counted
         (λ f i.
         let all = over-without objects file id (kind.Hwpt ioas width automatic) f i ids is_kind in
+        let same = to-left objects file id (kind.Hwpt ioas width automatic) f i ids is_kind refl in
         let one = over_own file ioas width automatic f i in
-        omega (arith, all, one))
+        omega (arith, all, same, one))
 
     -- one more where a device comes to a page table
     pub device_comes : (a : Attachment) (row : Row (Held A)) → find (is_at a.file a.hwpt) rows ≡ Some row
         → AreCounted objects (with_attachment a attachments)
         (changed_at a.file a.hwpt (with_users (row.users + 1)) rows)
     device_comes a row found =
-        one_more rows a.file a.hwpt row (λ f i. tables_over objects f i + devices_on attachments f i)
-        (λ f i. tables_over objects f i + devices_on (with_attachment a attachments) f i) found counted
+        one_more rows a.file a.hwpt row (counts_of objects attachments)
+        (counts_of objects (with_attachment a attachments)) found counted
         (λ f i.
         let all = devices-with a attachments f i in
         let one : on_by a f i ≡ cond (is_space a.file a.hwpt f i) 1 0 = turned a.file.0 f.0 a.hwpt.0 i.0 in
@@ -520,8 +583,8 @@ module _ {A : Type 0} where
         → AreCounted objects (without_attachment device attachments)
         (changed_at a.file a.hwpt (with_users (row.users - 1)) rows)
     device_goes device a row once is found =
-        one_fewer rows a.file a.hwpt row (λ f i. tables_over objects f i + devices_on attachments f i)
-        (λ f i. tables_over objects f i + devices_on (without_attachment device attachments) f i) found counted
+        one_fewer rows a.file a.hwpt row (counts_of objects attachments)
+        (counts_of objects (without_attachment device attachments)) found counted
         (λ f i.
         let all = devices-without attachments device a f i once is in
         let one : on_by a f i ≡ cond (is_space a.file a.hwpt f i) 1 0 = turned a.file.0 f.0 a.hwpt.0 i.0 in

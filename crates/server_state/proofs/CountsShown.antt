@@ -21,7 +21,8 @@ use Rattle.iofd_words.specs.declared.rows.ObjectKind.TheVariants as kind
 use Rattle.iofd_words.specs.declared.width.Width.{Width}
 use Rattle.object_table.specs.Table.{Row, Table, changed_at, destroy_refusal, is_at, is_own, own, removed, with_users}
 use Rattle.object_table.specs.declared.kind.Kind.TheVariants as of_kind
-use Rattle.server_state.proofs.Counted.{areas-counted, device_comes, device_goes, objects-counted, over_spaces, own_row}
+use Rattle.server_state.proofs.AccessSpaces.{none_to, spaces-without}
+use Rattle.server_state.proofs.Counted.{areas-counted, counts_of, device_comes, device_goes, objects-counted, over_spaces, own_row}
 use Rattle.server_state.proofs.Counted.{proper-counted, some_over, space_row, space_under, still_none, table_goes}
 use Rattle.server_state.proofs.Counted.{users-removed, users_of_row, where_found}
 use Rattle.server_state.proofs.DevicesOn.{devices-without, on_by}
@@ -29,7 +30,7 @@ use Rattle.server_state.proofs.ObjectsGone.{may_go, objects-removed}
 use Rattle.server_state.proofs.TableRows.{areas_removed}
 use Rattle.server_state.specs.Held.{areas_at, is_proper, object_of, objects_in}
 use Rattle.server_state.specs.Shows.{ObjectsShown}
-use Rattle.server_state.specs.Users.{AreCounted, devices_on, tables_over, users_at}
+use Rattle.server_state.specs.Users.{AreCounted, accesses_to, devices_on, users_at}
 use Rattle.server_state.specs.declared.held.Held.{Held}
 
 pub on_own : (a : Attachment) → on_by a a.file a.hwpt ≡ 1
@@ -52,13 +53,14 @@ module _ {A : Type 0} (settings : Settings) (closed : List FileNo) (objects : Li
         ∙ sym (ap (λ (l : List (Row (Held A))). areas_at l f i) rows ∙ areas-counted table.rows file id n f i);
     files = λ number. rw files (shown.files number);
     counted = counted;
+    accesses = shown.accesses;
   }
 
   module _ (a : Attachment) (ioas : ObjId) (width : Width) (automatic : Bool)
       (is_kind : kind_of objects a.file a.hwpt ≡ Some (kind.Hwpt ioas width automatic))
       (others_same : new ≡ record table { rows = new.rows }) where
     -- a device comes to the page table
-    pub device_joins : tables_over objects a.file a.hwpt + devices_on attachments a.file a.hwpt < 4294967295
+    pub device_joins : counts_of objects attachments a.file a.hwpt < 4294967295
         → IfSome (own table a.file of_kind.Hwpt a.hwpt) (λ row. row.users < 4294967295
         → new.rows ≡ changed_at a.file a.hwpt (with_users (row.users + 1)) table.rows)
         → ObjectsShown settings closed objects (with_attachment a attachments) areas new
@@ -131,6 +133,9 @@ module _ {A : Type 0} (settings : Settings) (closed : List FileNo) (objects : Li
     kind_base : kind_of (objects_in base) file id ≡ Some (kind.Hwpt ioas width automatic)
     kind_base = ap (λ (l : List Object). kind_of l file id) (sym objects_base) ∙ is_kind
 
+    none_attached : accesses_to objects file id ≡ 0
+    none_attached = none_to objects file id (kind.Hwpt ioas width automatic) shown.accesses is_kind refl
+
     -- nobody uses the page table
     none_base : users_at base.rows file id ≡ 0
     none_base =
@@ -138,7 +143,8 @@ module _ {A : Type 0} (settings : Settings) (closed : List FileNo) (objects : Li
         let above = over_spaces objects file id over
         (ap (λ (o : Option ObjectKind). elim o [ Some k ↦ is_ioas k | None ↦ false ]) is_kind) in
         ap (λ (l : List (Row (Held A))). users_at l file id) base_rows
-        ∙ still_none table.rows file id ioas its_space.0 its_space.2 (omega (arith, here, above, unused))
+        ∙ still_none table.rows file id ioas its_space.0 its_space.2
+        (omega (arith, here, above, none_attached, unused))
 
     rows : new.rows ≡ removed file id base.rows
     rows = goes (may_go base file id (kind.Hwpt ioas width automatic) proper_base kind_base none_base)
@@ -160,4 +166,6 @@ module _ {A : Type 0} (settings : Settings) (closed : List FileNo) (objects : Li
           ∙ ap (λ (l : List (Row (Held A))). users_at l f i) base_rows
           ∙ table_goes objects attachments table.rows shown.counted file ioas id width automatic its_space.0 ids is_kind
           its_space.2 f i;
+      accesses = spaces-without objects file id (kind.Hwpt ioas width automatic) ids is_kind none_attached
+          shown.accesses;
     }

@@ -127,6 +127,7 @@ on_tables objects (a ∷ attachments) f i all other =
     no_space (Some kind.Ioas) is = refl
     no_space (Some (kind.Hwpt ioas width automatic)) is = cc
     no_space (Some (kind.Device device)) is = refl
+    no_space (Some (kind.Access attached)) is = refl
 
     not_on : (b : Bool) → is_on f i a ≡ b → is_by_table objects a ≡ true → b ≡ false
     not_on false is by_table = refl

@@ -143,6 +143,7 @@ module _ (tables objects : List Object) (are : tables ≡ page_tables_among obje
           (IsOneOf (beyond_tables objects file ioas) span)
       by_kind kind.Ioas o is over met among = cc
       by_kind (kind.Device device) o is over met among = cc
+      by_kind (kind.Access attached) o is over met among = cc
       by_kind (kind.Hwpt own width automatic) None is over met among = cc
       by_kind (kind.Hwpt own width automatic) (Some one) is over met among =
           let same : one ≡ beyond width = cc in

@@ -74,6 +74,7 @@ spaces_alike w new objects tables pool frames are alike stand =
         same : eqb ioas.0 ioas.0 ≡ true
         same = grind (arith, nat_tests)
     by_kind file page (kind.Device device) has = refl
+    by_kind file page (kind.Access attached) has = refl
 
     each : (h : Hwpt) → IsIn tables h → (page : ℕ) → leads_of new h.object page ≡ leads_of w h.object page
     each h within page =

@@ -1,3 +1,6 @@
+pub mod AccessSpaces
+pub mod AccessesHeld
+pub mod AccessesShown
 pub mod AreasBecome
 pub mod AreasHeld
 pub mod Bindings
@@ -33,6 +36,7 @@ pub mod TablesToMap
 pub mod TablesTold
 pub mod TablesUnreached
 pub mod TakenShown
+pub mod Tries
 pub mod Users
 pub mod UsersTold
 pub mod ViewShown

@@ -94,6 +94,7 @@ module _ {A : Type 0} where
       by_held (Some (held.Ioas areas)) is = cc
       by_held (Some (held.Hwpt ioas width automatic)) is = refl
       by_held (Some (held.Device device)) is = refl
+      by_held (Some (held.Access attached)) is = refl
 
   -- ---- how many there are
 

@@ -2,11 +2,11 @@
 use Rattle.std.proofs.Common.{ℕ, ◌+◌}
 use Rattle.std.proofs.Common.{◌≡◌, ◌<◌, ◌^◌, is_some, Vec, Bool, true, false, cond, leb, Option, Some, None, List, []}
 use Rattle.std.proofs.Common.{◌∷◌, map, refl, sym, ◌∙◌, ap, arith}
-use Rattle.std.specs.List.{find, list_all}
+use Rattle.std.specs.List.{find, list_all, list_any}
 use Rattle.std.specs.Option.{option_map}
 use Rattle.std.proofs.lemmas.Bool.Decides.{nat_tests}
-use Rattle.iofd_words.specs.Objects.{binding_of, comes_before, is_bound_as, is_fresh, is_hwpt, kind_of}
-use Rattle.iofd_words.specs.Objects.{with_object}
+use Rattle.iofd_words.specs.Objects.{access_ioas, binding_of, comes_before, is_bound_as, is_fresh, is_hwpt, is_object}
+use Rattle.iofd_words.specs.Objects.{kind_of, with_object}
 use Rattle.iofd_words.specs.World.{World}
 use Rattle.iofd_words.specs.declared.numbers.DeviceNo.{DeviceNo}
 use Rattle.iofd_words.specs.declared.numbers.FileNo.{FileNo}
@@ -18,12 +18,13 @@ use Rattle.iofd_rows.proofs.PageTables.{same_hwpt}
 use Rattle.user_memory_rows.proofs.FramesFollow.{pins_moved, translated_same}
 use Rattle.server_state.proofs.Objects.{kind_at, kind_of_rows}
 use Rattle.server_state.proofs.PageTables.{over_no_other}
-use Rattle.server_state.proofs.Counted.{over-beside, users-inserted}
+use Rattle.server_state.proofs.AccessSpaces.{spaces-with, unnamed}
+use Rattle.server_state.proofs.Counted.{over-beside, to-beside, users-inserted}
 use Rattle.server_state.specs.Devices.{are_bindings}
 use Rattle.server_state.specs.Held.{is_proper, areas_at, areas_in, object_of}
 use Rattle.server_state.specs.Shows.{Shows}
 use Rattle.server_state.specs.Tables.{page_tables_among}
-use Rattle.server_state.specs.Users.{devices_on, users_at}
+use Rattle.server_state.specs.Users.{accesses_to, devices_on, tables_over, users_at}
 use Rattle.server_state.specs.declared.held.Held.{Held}
 use Rattle.server_state.specs.declared.state.State.{State}
 use Rattle.object_table.specs.Table.{Row, Table, inserted, is_at, stands_before}
@@ -81,14 +82,14 @@ module _ {A : Type 0} where
   pub shows_inserted : (w : World) (s : State A) (row : Row (Held A)) (table : Table (Held A)) (bindings : Vec Object A)
       → Shows w s → is_proper row ≡ true → row.users ≡ 0 → areas_in row.value ≡ []
       → find (is_at row.file row.id) s.objects.rows ≡ None
-      → is_hwpt (object_of row).kind ≡ false
+      → is_hwpt (object_of row).kind ≡ false → access_ioas (object_of row).kind ≡ None
       → table.rows ≡ inserted row s.objects.rows → table.files ≡ s.objects.files
       → ((device : DeviceNo) → binding_of (with_object (object_of row) w.objects) device ≡ find
       (λ object. is_bound_as device object.kind) bindings.items)
       → are_bindings bindings.items ≡ true
       → Shows (record w { objects = with_object (object_of row) w.objects })
       (record s { objects = table; bindings = bindings })
-  shows_inserted w s row table bindings shows proper no_users none unused no_table rows files bound rising =
+  shows_inserted w s row table bindings shows proper no_users none unused no_table unattached rows files bound rising =
       record {
         settings = shows.settings;
         objects = record {
@@ -100,8 +101,14 @@ module _ {A : Type 0} where
           files = λ number. rw files (shows.objects.files number);
           counted = λ f i. ap (λ l. users_at l f i) rows ∙ users-inserted row s.objects.rows f i no_users unused
               ∙ shows.objects.counted f i
-              ∙ sym (ap (λ (n : ℕ). n + devices_on w.attachments f i)
-              (over-beside (object_of row) w.objects f i no_table));
+              ∙ sym (ap (λ (n : ℕ). n + accesses_to (with_object (object_of row) w.objects) f i
+              + devices_on w.attachments f i) (over-beside (object_of row) w.objects f i no_table)
+              ∙ ap (λ (n : ℕ). tables_over w.objects f i + n + devices_on w.attachments f i)
+              (to-beside (object_of row) w.objects f i unattached));
+          accesses = spaces-with (object_of row) w.objects
+              (ap (list_any (is_object row.file row.id)) shows.objects.rows
+              ∙ unnamed s.objects.rows row.file row.id unused)
+              unattached shows.objects.accesses;
         };
         devices = record { bindings = bound; rising = rising; attached = shows.devices.attached };
         limits = shows.limits;

@@ -24,11 +24,13 @@ pub over_is_table : (ioas : ObjId) (k : ObjectKind) → is_hwpt_over ioas k ≡ 
 over_is_table ioas kind.Ioas is = cc
 over_is_table ioas (kind.Hwpt own width automatic) is = refl
 over_is_table ioas (kind.Device device) is = cc
+over_is_table ioas (kind.Access attached) is = cc
 
 pub over_no_other : (ioas : ObjId) (k : ObjectKind) → is_hwpt k ≡ false → is_hwpt_over ioas k ≡ false
 over_no_other ioas kind.Ioas is = refl
 over_no_other ioas (kind.Hwpt own width automatic) is = cc
 over_no_other ioas (kind.Device device) is = refl
+over_no_other ioas (kind.Access attached) is = refl
 
 any_swapped : (test : Object → Bool) (objects : List Object)
     → list_any (λ (o : Object). is_hwpt o.kind && test o) objects

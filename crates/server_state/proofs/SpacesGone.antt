@@ -5,7 +5,8 @@ use Rattle.std.specs.List.{find, filter, list_all, list_any}
 use Rattle.std.proofs.lemmas.Bool.Decides.{nat_tests}
 use Rattle.iofd_words.specs.Areas.{areas_of, is_of}
 use Rattle.iofd_rows.specs.Ids.{have_own_ids}
-use Rattle.iofd_words.specs.Objects.{is_bound_device, is_hwpt, is_object, kind_of, objects_of, without_object}
+use Rattle.iofd_words.specs.Objects.{access_ioas, is_bound_device, is_hwpt, is_object, kind_of, objects_of}
+use Rattle.iofd_words.specs.Objects.{without_object}
 use Rattle.iofd_words.specs.declared.numbers.FileNo.{FileNo}
 use Rattle.iofd_words.specs.declared.numbers.ObjId.{ObjId}
 use Rattle.iofd_words.specs.declared.rows.Area.{Area}
@@ -19,9 +20,9 @@ use Rattle.iofd_rows.proofs.ListTests.{false_else, filter_all}
 use Rattle.iofd_rows.proofs.Named.{file_is, id_is, kind_only}
 use Rattle.iofd_runs.proofs.OwnIds.{any_found}
 use Rattle.server_state.specs.Held.{areas_at, kind_in, object_of}
-use Rattle.server_state.proofs.Counted.{other_over, over-without, users-removed}
+use Rattle.server_state.proofs.Counted.{other_over, over-without, to-left, users-removed}
 use Rattle.server_state.specs.Spaces.{is_space}
-use Rattle.server_state.specs.Users.{AreCounted, devices_on, tables_over, users_at}
+use Rattle.server_state.specs.Users.{AreCounted, accesses_to, devices_on, tables_over, users_at}
 use Rattle.server_state.specs.declared.held.Held.{Held}
 use Rattle.object_table.specs.Table.{Row, is_of_file, removed}
 
@@ -149,17 +150,19 @@ module _ {A : Type 0} where
           rw (file_is f file names.0, id_is i id names.1) (areas_here areas file id ∙ sym (rows_here rows file id))
       by_space false is = areas_elsewhere areas file id f i is ∙ same f i ∙ sym (rows_elsewhere rows file id f i is)
 
-  -- its counts go with an object on which no page table stands, and by which no device translates
+  -- its counts go with an object on which no page table stands, to which no access object is attached, and by which no
+  -- device translates
   pub other_goes : (objects : List Object) (attachments : List Attachment) (rows : List (Row (Held A)))
       → AreCounted objects attachments rows → (file : FileNo) (id : ObjId) (k : ObjectKind)
-      → have_own_ids objects ≡ true → kind_of objects file id ≡ Some k → is_hwpt k ≡ false
-      → tables_over objects file id ≡ 0 → devices_on attachments file id ≡ 0
+      → have_own_ids objects ≡ true → kind_of objects file id ≡ Some k → is_hwpt k ≡ false → access_ioas k ≡ None
+      → tables_over objects file id ≡ 0 → accesses_to objects file id ≡ 0 → devices_on attachments file id ≡ 0
       → AreCounted (without_object file id objects) attachments (removed file id rows)
-  other_goes objects attachments rows counted file id k ids is_kind other none no_device f i =
+  other_goes objects attachments rows counted file id k ids is_kind other unattached none no_access no_device f i =
       let unused : users_at rows file id ≡ 0 =
-      let here = counted file id in omega (arith, here, none, no_device) in
+      let here = counted file id in omega (arith, here, none, no_access, no_device) in
       let same = users-removed rows file id unused f i in
       let all = over-without objects file id k f i ids is_kind in
+      let left = to-left objects file id k f i ids is_kind unattached in
       let not_over = other_over file k f i other in
       let was = counted f i in
-      omega (arith, same, all, not_over, was)
+      omega (arith, same, all, left, not_over, was)

@@ -25,6 +25,7 @@ module _ {A : Type 0} where
   no_space (Some (held.Ioas areas)) none = cc
   no_space (Some (held.Hwpt ioas width automatic)) none = refl
   no_space (Some (held.Device device)) none = refl
+  no_space (Some (held.Access attached)) none = refl
 
   -- what is no address space has no areas
   pub areas_of_other : (rows : List (Row (Held A))) (file : FileNo) (id : ObjId)

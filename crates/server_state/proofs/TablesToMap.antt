@@ -87,6 +87,7 @@ module _ (objects : List Object) (tables : List Hwpt)
           → meets_some (beyond_table k) span ≡ false → span.last < 2 ^ bits_of h.table.width
       by_kind kind.Ioas is over apart = cc
       by_kind (kind.Device device) is over apart = cc
+      by_kind (kind.Access attached) is over apart = cc
       by_kind (kind.Hwpt space own automatic) is over apart =
           subst (λ (width : Width). span.last < 2 ^ bits_of width)
           (its_width h space own automatic is (of_each has_own_width tables h widths within))
@@ -140,6 +141,7 @@ module _ (objects : List Object) (tables : List Hwpt)
             → checks.tables_lacked v file h.object.id (pages_in span) k ≡ tables_lacked rows span h
         by_kind kind.Ioas is = let none = ap (is_hwpt_over ioas) is in absurd (clash _ none names.1)
         by_kind (kind.Device device) is = let none = ap (is_hwpt_over ioas) is in absurd (clash _ none names.1)
+        by_kind (kind.Access attached) is = let none = ap (is_hwpt_over ioas) is in absurd (clash _ none names.1)
         by_kind (kind.Hwpt space width automatic) is =
             ap (λ (w : Width). length (lacking (v.has_table file h.object.id) (places_of w (pages_in span))))
             (its_width h space width automatic is own)

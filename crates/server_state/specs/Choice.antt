@@ -91,6 +91,9 @@ IsChosen w (event.Detach device) via answer = Unit {0}
 IsChosen w (event.Flush device) via answer = Unit {0}
 IsChosen w (event.DeviceWrite device iova bytes) via answer =
     WriteChosen (without_cache (outcomes w device iova.0 Write)) via (write_reply w device iova.0) answer
+IsChosen w (event.AccessCreate file) via answer = Unit {0}
+IsChosen w (event.AccessAttach file id ioas) via answer = Unit {0}
+IsChosen w (event.AccessDetach file id) via answer = Unit {0}
 
 -- ---- frames of tables
 

@@ -11,6 +11,7 @@ abbrev pub bound_number : ObjectKind → ℕ
 bound_number kind.Ioas = 0
 bound_number (kind.Hwpt ioas width automatic) = 0
 bound_number (kind.Device device) = device.0
+bound_number (kind.Access attached) = 0
 
 -- a device is bound by each, and none has a higher number than those behind it
 abbrev pub are_bindings : List Object → Bool

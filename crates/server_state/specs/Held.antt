@@ -19,6 +19,7 @@ abbrev pub table_kind : ObjectKind → Kind
 table_kind kind.Ioas = table.Ioas
 table_kind (kind.Hwpt ioas width automatic) = table.Hwpt
 table_kind (kind.Device device) = table.Device
+table_kind (kind.Access attached) = table.Access
 
 module _ {A : Type 0} where
   -- what the object is
@@ -26,18 +27,21 @@ module _ {A : Type 0} where
   kind_in (held.Ioas areas) = kind.Ioas
   kind_in (held.Hwpt ioas width automatic) = kind.Hwpt ioas width automatic
   kind_in (held.Device device) = kind.Device device
+  kind_in (held.Access attached) = kind.Access attached
 
   -- the areas of an address space; no other object has any
   abbrev pub areas_in : Held A → List Area
   areas_in (held.Ioas areas) = areas.areas
   areas_in (held.Hwpt ioas width automatic) = []
   areas_in (held.Device device) = []
+  areas_in (held.Access attached) = []
 
   -- for how many more areas it has room
   abbrev pub room_in : Held A → ℕ
   room_in (held.Ioas areas) = areas.room
   room_in (held.Hwpt ioas width automatic) = 0
   room_in (held.Device device) = 0
+  room_in (held.Access attached) = 0
 
   abbrev pub object_of : Row (Held A) → Object
   object_of row = record { file = row.file; id = row.id; kind = kind_in row.value }

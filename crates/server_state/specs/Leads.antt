@@ -46,6 +46,7 @@ abbrev pub leads_by_kind : List Pin → List Area → FileNo → ObjectKind → 
 leads_by_kind pins areas file kind.Ioas page = None
 leads_by_kind pins areas file (kind.Hwpt ioas width automatic) page = space_leads pins areas file ioas page
 leads_by_kind pins areas file (kind.Device device) page = None
+leads_by_kind pins areas file (kind.Access attached) page = None
 
 abbrev pub leads_of : World → Object → ℕ → Option MappedPage
 leads_of w object page = leads_by_kind w.pins w.areas object.file object.kind page

@@ -1,3 +1,4 @@
+pub mod Accesses
 pub mod Choice
 pub mod Devices
 pub mod Held

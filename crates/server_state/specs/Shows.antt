@@ -19,7 +19,7 @@ use Rattle.server_state.specs.Held.{object_of, is_proper, areas_at}
 use Rattle.server_state.specs.declared.held.Held.{Held}
 use Rattle.server_state.specs.Leads.{leads_of}
 use Rattle.server_state.specs.Tables.{has_own_width, page_tables_among}
-use Rattle.server_state.specs.Users.{AreCounted}
+use Rattle.server_state.specs.Users.{AccessSpaces, AreCounted}
 use Rattle.server_state.specs.declared.state.State.{State}
 use Rattle.frame_memory.specs.Pool.{FramePool}
 use Rattle.page_table_set.specs.PageTables.{AllStand, PageTables, objects_of}
@@ -34,9 +34,10 @@ pub record ObjectsShown {A : Type 0} (settings : Settings) (closed : List FileNo
   -- each address space has its areas; no other object has any
   pub spaces : (f : FileNo) (ioas : ObjId) → areas_of areas f ioas ≡ areas_at table.rows f ioas
   pub files : (number : FileNo) → is_open table number ≡ file.is_open settings closed number
-  -- each address space is counted as many users as page tables stand over it, and each page table as many as devices
-  -- translate by it; no other object has any
+  -- each address space is counted as many users as page tables stand over it and access objects are attached to it, and
+  -- each page table as many as devices translate by it; no other object has any
   pub counted : AreCounted objects attachments table.rows
+  pub accesses : AccessSpaces objects
 
 -- by which object a device is bound, and by which page table it translates
 pub record DevicesShown (objects : List Object) (attachments : List Attachment) (kept_bindings : List Object)

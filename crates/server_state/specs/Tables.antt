@@ -28,6 +28,7 @@ abbrev pub is_hwpt_of : Width → ObjectKind → Bool
 is_hwpt_of width kind.Ioas = false
 is_hwpt_of width (kind.Hwpt ioas own automatic) = bits_of own == bits_of width
 is_hwpt_of width (kind.Device device) = false
+is_hwpt_of width (kind.Access attached) = false
 
 -- its tables translate addresses of its object's width
 abbrev pub has_own_width : Hwpt → Bool

@@ -3,9 +3,9 @@
 ghost use Rattle.std.specs.Prelude.{◌≡◌, ◌<◌, ◌==◌, not, true, None, [], length, map};
 ghost use Rattle.std.specs.Prelude.{OnErr, OnOk, MatchOption};
 ghost use Rattle.std.specs.List.{list_any};
-ghost use Rattle.area_map_rows.specs.Areas.{AreKept, areas_outside, areas_within, marked, with_area};
+ghost use Rattle.area_map_rows.specs.Areas.{AreKept, areas_outside, areas_within, marked, tried, with_area};
 ghost use Rattle.area_map.specs.Insertion.{insert_refusal};
-ghost use Rattle.iofd_words.specs.Areas.{all_paid, owed_by};
+ghost use Rattle.iofd_words.specs.Areas.{all_paid, most_tries, owed_by};
 ghost use Rattle.iofd_words.specs.Objects.{has_ioas, is_ioas};
 ghost use Rattle.server_state.specs.Held.{areas_at, areas_in, kind_in, objects_in, room_at, room_in};
 ghost use Rattle.server_state.specs.Spaces.{IsOrderly, IsWith, HasAreas};
@@ -149,6 +149,47 @@ fn mark_held<A: Allocator>(held: &mut Held<A>, span: Span, owed: &DeviceSet)
 {
     if let Held::Ioas(areas) = held {
         areas.mark_leaving(span, owed);
+    }
+}
+
+/// The most tries that an area of the address space in the span has seen; 0 where there is none.
+pub fn most_tries<A: Allocator>(
+    table: &ObjectTable<Held<A>, A>,
+    file: FileNo,
+    ioas: ObjId,
+    span: Span,
+) -> u8
+    ensures { result ≡ most_tries (areas_within span (own_areas table.now file ioas)) }
+{
+    match own_areas(table, file, ioas) {
+        Some(areas) => areas.most_tries(span),
+        None => 0,
+    }
+}
+
+/// Each leaving area of the address space that lies in the span has seen so many tries.
+#[tactic(auto, using(crate::proofs::AreasHeld::areas_absent))]
+pub fn set_tries<A: Allocator>(
+    table: &mut ObjectTable<Held<A>, A>,
+    file: FileNo,
+    ioas: ObjId,
+    span: Span,
+    tries: u8,
+)
+    ensures { IsOrderly table.old
+        → HasAreas file ioas (map (tried span tries) (areas_at table.old.rows file ioas)) table.old table.new }
+{
+    match table.get_mut(file, Kind::Ioas, ioas) {
+        Ok(held) => set_tries_held(held, span, tries),
+        Err(_) => (),
+    }
+}
+
+fn set_tries_held<A: Allocator>(held: &mut Held<A>, span: Span, tries: u8)
+    ensures { IsWith (map (tried span tries) (areas_in held.old)) held.old held.new }
+{
+    if let Held::Ioas(areas) = held {
+        areas.set_tries(span, tries);
     }
 }
 

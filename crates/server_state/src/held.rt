@@ -17,4 +17,6 @@ pub enum Held<A: Allocator = Global> {
     },
     /// A bound device.
     Device(DeviceNo),
+    /// An access object, with the address space of its file that it is attached to.
+    Access(Option<ObjId>),
 }

@@ -2,6 +2,7 @@
 //! The definitions say when a state shows a world, and what a step makes of it.
 #![tactic(auto)]
 
+pub mod access_changes;
 pub mod accesses;
 pub mod accounts;
 pub mod addresses;

@@ -1,6 +1,6 @@
 //! Look-ups in what is kept.
 
-ghost use Rattle.std.specs.Prelude.{◌≡◌, false, true, find, MatchOption};
+ghost use Rattle.std.specs.Prelude.{◌≡◌, ◌||◌, false, true, find, MatchOption};
 ghost use Rattle.std.specs.Option.{option_copied, option_map};
 ghost use Rattle.iofd_words.specs.Attachments as attachments;
 ghost use Rattle.iofd_words.specs.Objects as objects;
@@ -34,6 +34,7 @@ fn kind_in<A: Allocator>(held: &Held<A>) -> ObjectKind
             automatic: *automatic,
         },
         Held::Device(device) => ObjectKind::Device(*device),
+        Held::Access(ioas) => ObjectKind::Access { ioas: *ioas },
     }
 }
 
@@ -134,10 +135,20 @@ fn is_table_over<A: Allocator>(
 }
 
 impl<A: Allocator> State<A> {
-    /// Whether the file's address space of this id has a hardware page table.
+    /// Whether the file's address space of this id has a hardware page table. It goes over the page tables.
     pub fn has_hwpt(&self, file: FileNo, ioas: ObjId) -> bool
         requires { IsKnown self.now }
         ensures { result ≡ objects.has_hwpt (objects_in self.now.objects) file ioas }
+    {
+        self.page_tables.has_over(file, ioas)
+    }
+
+    /// Whether the file's address space of this id has users: page tables that stand over it, or access objects that
+    /// are attached to it. They are counted with it.
+    pub fn has_users(&self, file: FileNo, ioas: ObjId) -> bool
+        requires { IsKnown self.now }
+        ensures { result ≡ (objects.has_hwpt (objects_in self.now.objects) file ioas
+            || objects.has_access_to (objects_in self.now.objects) file ioas) }
     {
         match self.objects.users(file, Kind::Ioas, ioas) {
             Ok(users) => users > 0,

@@ -1,5 +1,5 @@
 use Rattle.server_state.proofs.UsersTold.{none_told, users_told}
-use Rattle.server_state.proofs.state.State.has_hwpt.Goals as goal
+use Rattle.server_state.proofs.state.State.has_users.Goals as goal
 
 pub returns-in-Ok : goal.returns-in-Ok
 returns-in-Ok g c = users_told c.args.self.now c.args.file c.args.ioas c.requires c.in-Ok.users c.in-Ok.ensures.ok
