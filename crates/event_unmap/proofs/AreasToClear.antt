@@ -76,6 +76,7 @@ module _ {A : Type 0} (at : ℕ) (w : World) (s : State A) (file : FileNo) (ioas
           → meets_some (beyond_table k) a.span ≡ false → meets (beyond h.table.width) a.span ≡ false
       by_kind kind.Ioas is over apart = cc
       by_kind (kind.Device device) is over apart = cc
+      by_kind (kind.Access attached) is over apart = cc
       by_kind (kind.Hwpt space own automatic) is over apart =
           let width : own ≡ h.table.width = same_width own h.table.width (sym (ap (is_hwpt_of h.table.width) is)
           ∙ of_each has_own_width s.page_tables.tables h shows.tables.widths there) in

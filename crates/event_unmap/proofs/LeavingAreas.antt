@@ -1,11 +1,12 @@
 -- As the areas that lie in a span go, or begin to leave, the pages of its live areas have no live area any more, and
 -- every other page has the one that it had.
-use Rattle.std.proofs.Common.{◌≡◌, ℕ, ◌+◌, ◌*◌, ◌<◌, ◌≤◌, Bool, true, false, cond, ◌&&◌, not, is_some, Option, Some}
+use Rattle.std.proofs.Common.{◌≡◌, ℕ, ◌+◌, ◌*◌, ◌<◌, ◌≤◌, Bool, true, false, cond, ◌&&◌, not, is_some, ltb, Option, Some}
 use Rattle.std.proofs.Common.{None, List, [], ◌∷◌, map, refl, ap, ◌∙◌, arith}
 use Rattle.std.specs.List.{filter}
 use Rattle.std.proofs.lemmas.Bool.Decides.{nat_tests}
-use Rattle.area_map_rows.specs.Areas.{AreApart, AreApartFrom, areas_outside, areas_within, marked}
-use Rattle.iofd_words.specs.Areas.{leaving}
+use Rattle.area_map_rows.specs.Areas.{AreApart, AreApartFrom, areas_outside, areas_within}
+use Rattle.event_unmap.specs.Waiting.{waiting}
+use Rattle.iofd_words.specs.Areas.{leaving, tried, with_tries}
 use Rattle.iofd_words.specs.Bounds.{Bounds}
 use Rattle.iofd_words.specs.Pins.{ObjectPage}
 use Rattle.iofd_words.specs.Span.{holds, lies_in}
@@ -17,26 +18,37 @@ use Rattle.iofd_words.specs.declared.rows.Phase.TheVariants.{Live, Leaving}
 use Rattle.server_state.specs.Leads.{lead_by, leads_in, live_area_at}
 
 -- what leaves is live no more
-left_live : (owed : List ℕ) (phase : Phase) → is_live (leaving owed phase) ≡ false
-left_live owed Live = refl
-left_live owed (Leaving still tries) = refl
+left_live : (most : ℕ) (owed : List ℕ) (phase : Phase) → is_live (tried most (leaving owed phase)) ≡ false
+left_live most owed phase = by_count (ltb most 100)
+  where
+    marked_so : (phase : Phase) → is_live (leaving owed phase) ≡ false
+    marked_so Live = refl
+    marked_so (Leaving still tries) = refl
+
+    counted_so : (phase : Phase) → is_live (with_tries (most + 1) (leaving owed phase)) ≡ false
+    counted_so Live = refl
+    counted_so (Leaving still tries) = refl
+
+    by_count : (b : Bool) → is_live (cond b (with_tries (most + 1) (leaving owed phase)) (leaving owed phase)) ≡ false
+    by_count true = counted_so phase
+    by_count false = marked_so phase
 
 module _ (page : ℕ) where
   abbrev has_live : Area → Bool
   has_live area = is_live area.phase && holds area.span (page * 4096)
 
   -- an area that leaves is found no more than one that is gone
-  pub marked_found : (span : Bounds) (owed : List ℕ) (areas : List Area)
-      → live_area_at page (map (marked span owed) areas) ≡ live_area_at page (areas_outside span areas)
-  marked_found span owed [] = refl
-  marked_found span owed (a ∷ areas) = by_test (lies_in a.span span) (marked_found span owed areas)
+  pub waiting_found : (span : Bounds) (most : ℕ) (owed : List ℕ) (areas : List Area)
+      → live_area_at page (map (waiting span most owed) areas) ≡ live_area_at page (areas_outside span areas)
+  waiting_found span most owed [] = refl
+  waiting_found span most owed (a ∷ areas) = by_test (lies_in a.span span) (waiting_found span most owed areas)
     where
-      by_test : (b : Bool) → live_area_at page (map (marked span owed) areas) ≡ live_area_at page
+      by_test : (b : Bool) → live_area_at page (map (waiting span most owed) areas) ≡ live_area_at page
           (areas_outside span areas)
-          → live_area_at page (record a { phase = cond b (leaving owed a.phase) a.phase }
-          ∷ map (marked span owed) areas) ≡ live_area_at page (cond (not b) (a ∷ areas_outside span areas)
+          → live_area_at page (record a { phase = cond b (tried most (leaving owed a.phase)) a.phase }
+          ∷ map (waiting span most owed) areas) ≡ live_area_at page (cond (not b) (a ∷ areas_outside span areas)
           (areas_outside span areas))
-      by_test true rest = rw (left_live owed a.phase) rest
+      by_test true rest = rw (left_live most owed a.phase) rest
       by_test false rest = ap (λ (o : Option Area). cond (has_live a) (Some a) o) rest
 
   -- areas that begin behind the page don't hold it
@@ -93,9 +105,9 @@ module _ (page : ℕ) where
       ap (lead_by frame_of page) (found_outside span 0 areas apart)
       ∙ nowhere frame_of (is_some (live_area_at page (areas_within span areas))) (live_area_at page areas)
 
-  pub leads_marked : (frame_of : ObjectPage → Option FrameNo) (span : Bounds) (owed : List ℕ) (areas : List Area)
-      → AreApart areas
-      → leads_in frame_of (map (marked span owed) areas) page ≡ cond
+  pub leads_waiting : (frame_of : ObjectPage → Option FrameNo) (span : Bounds) (most : ℕ) (owed : List ℕ)
+      (areas : List Area) → AreApart areas
+      → leads_in frame_of (map (waiting span most owed) areas) page ≡ cond
       (is_some (live_area_at page (areas_within span areas))) None (leads_in frame_of areas page)
-  leads_marked frame_of span owed areas apart =
-      ap (lead_by frame_of page) (marked_found span owed areas) ∙ leads_outside frame_of span areas apart
+  leads_waiting frame_of span most owed areas apart =
+      ap (lead_by frame_of page) (waiting_found span most owed areas) ∙ leads_outside frame_of span areas apart

@@ -7,3 +7,4 @@ pub mod SpacesCleared
 pub mod Touched
 pub mod UnmapRows
 pub mod Unmapped
+pub mod TriesCounted

@@ -76,6 +76,8 @@ spaces_cleared w new file ioas gone objects tables pool frames are left stand =
         same = grind (arith, nat_tests)
     by_kind f page (kind.Device device) has =
         nowhere ((eqb f.0 file.0 && is_hwpt_over ioas (kind.Device device)) && is_some (live_area_at page gone))
+    by_kind f page (kind.Access attached) has =
+        nowhere ((eqb f.0 file.0 && is_hwpt_over ioas (kind.Access attached)) && is_some (live_area_at page gone))
 
     each : (h : Hwpt) → IsIn tables h → (page : ℕ)
         → leads_of new h.object page ≡ cleared file ioas gone (leads_of w) h.object page

@@ -3,10 +3,11 @@ use Rattle.std.proofs.Common.{◌≡◌, ℕ, ◌+◌, ◌≤◌, Bool, true, fa
 use Rattle.std.proofs.Common.{refl, ap, arith}
 use Rattle.std.specs.List.{filter, list_any}
 use Rattle.std.proofs.lemmas.Bool.Decides.{nat_tests}
-use Rattle.area_map_rows.specs.Areas.{AreApartFrom, areas_outside, areas_within, marked}
+use Rattle.area_map_rows.specs.Areas.{AreApartFrom, areas_outside, areas_within}
 use Rattle.iofd_rows.proofs.Bools.{or_false}
-use Rattle.iofd_words.specs.Areas.{areas_of, is_cut, is_of, is_touched, is_waiting, leaving, owed_by, touched}
-use Rattle.iofd_words.specs.Areas.{unmapped_span, with_leaving, with_phase}
+use Rattle.event_unmap.specs.Waiting.{waiting}
+use Rattle.iofd_words.specs.Areas.{areas_of, is_cut, is_of, is_touched, is_waiting, leaving, owed_by, touched, tried}
+use Rattle.iofd_words.specs.Areas.{unmapped_span, with_phase}
 use Rattle.iofd_words.specs.Bounds.{Bounds}
 use Rattle.iofd_words.specs.Span.{lies_in, meets}
 use Rattle.iofd_words.specs.declared.event.UnmapRequest.{UnmapRequest}
@@ -32,11 +33,11 @@ module _ (span : Bounds) where
       let same : meets a.span span ≡ lies_in a.span span = grind (arith, nat_tests) in
       (same, alike (a.span.last + 1) areas apart.2 parts.1)
 
-  pub met_marked : (attached : List ℕ) (areas : List Area) → AreAlike areas
-      → map (λ (a : Area). with_phase (cond (meets a.span span) (leaving attached a.phase) a.phase) a) areas ≡ map
-      (marked span attached) areas
-  met_marked attached [] are = refl
-  met_marked attached (a ∷ areas) are = rw (are.0, met_marked attached areas are.1) refl
+  pub met_waiting : (most : ℕ) (attached : List ℕ) (areas : List Area) → AreAlike areas
+      → map (λ (a : Area). with_phase (cond (meets a.span span) (tried most (leaving attached a.phase)) a.phase) a)
+      areas ≡ map (waiting span most attached) areas
+  met_waiting most attached [] are = refl
+  met_waiting most attached (a ∷ areas) are = rw (are.0, met_waiting most attached areas are.1) refl
 
   pub unmet_outside : (areas : List Area) → AreAlike areas
       → filter (λ (a : Area). not (meets a.span span)) areas ≡ areas_outside span areas
@@ -62,37 +63,48 @@ module _ (file : FileNo) (request : UnmapRequest) where
   waits_filtered attached [] = refl
   waits_filtered attached (a ∷ areas) = let rest = waits_filtered attached areas in grind (arith, nat_tests)
 
-  pub leaving_own : (attached : List ℕ) (areas : List Area)
-      → areas_of (with_leaving areas attached file request) file request.ioas
-      ≡ map (λ (a : Area). with_phase (cond (meets a.span (unmapped_span request)) (leaving attached a.phase) a.phase)
-      a) (areas_of areas file request.ioas)
-  leaving_own attached [] = refl
-  leaving_own attached (a ∷ areas) = by_test (is_of file request.ioas a) (leaving_own attached areas)
+  -- all touched areas are leaving, and so many tries were the most
+  abbrev pub left_at : ℕ → List ℕ → Area → Area
+  left_at most attached a =
+      with_phase (cond (is_touched file request a) (tried most (leaving attached a.phase)) a.phase) a
+
+  -- the same of those of the address space
+  abbrev met_at : ℕ → List ℕ → Area → Area
+  met_at most attached a =
+      with_phase (cond (meets a.span (unmapped_span request)) (tried most (leaving attached a.phase)) a.phase) a
+
+  pub leaving_own : (most : ℕ) (attached : List ℕ) (areas : List Area)
+      → areas_of (map (left_at most attached) areas) file request.ioas
+      ≡ map (met_at most attached) (areas_of areas file request.ioas)
+  leaving_own most attached [] = refl
+  leaving_own most attached (a ∷ areas) = by_test (is_of file request.ioas a) (leaving_own most attached areas)
     where
-      by_test : (b : Bool) → areas_of (with_leaving areas attached file request) file request.ioas ≡ map
-          (λ (a : Area). with_phase (cond (meets a.span (unmapped_span request)) (leaving attached a.phase) a.phase) a)
-          (areas_of areas file request.ioas)
-          → cond b (with_phase (cond (b && meets a.span (unmapped_span request)) (leaving attached a.phase) a.phase) a
-          ∷ areas_of (with_leaving areas attached file request) file request.ioas) (areas_of
-          (with_leaving areas attached file request) file request.ioas)
-          ≡ map (λ (a : Area). with_phase (cond (meets a.span (unmapped_span request)) (leaving attached a.phase)
-          a.phase) a) (cond b (a ∷ areas_of areas file request.ioas) (areas_of areas file request.ioas))
-      by_test true rest = ap (λ (l : List Area). with_phase
-          (cond (meets a.span (unmapped_span request)) (leaving attached a.phase) a.phase) a ∷ l) rest
+      by_test : (b : Bool)
+          → areas_of (map (left_at most attached) areas) file request.ioas
+          ≡ map (met_at most attached) (areas_of areas file request.ioas)
+          → cond b (with_phase (cond (b && meets a.span (unmapped_span request))
+          (tried most (leaving attached a.phase)) a.phase) a
+          ∷ areas_of (map (left_at most attached) areas) file request.ioas)
+          (areas_of (map (left_at most attached) areas) file request.ioas)
+          ≡ map (met_at most attached) (cond b (a ∷ areas_of areas file request.ioas)
+          (areas_of areas file request.ioas))
+      by_test true rest = ap (λ (l : List Area). met_at most attached a ∷ l) rest
       by_test false rest = rest
 
-  pub leaving_other : (attached : List ℕ) (areas : List Area) (f : FileNo) (i : ObjId)
+  pub leaving_other : (most : ℕ) (attached : List ℕ) (areas : List Area) (f : FileNo) (i : ObjId)
       → is_space file request.ioas f i ≡ false
-      → areas_of (with_leaving areas attached file request) f i ≡ areas_of areas f i
-  leaving_other attached [] f i other = refl
-  leaving_other attached (a ∷ areas) f i other =
-      by_test (is_of f i a) (λ is. apart file request.ioas f i a other is) refl (leaving_other attached areas f i other)
+      → areas_of (map (left_at most attached) areas) f i ≡ areas_of areas f i
+  leaving_other most attached [] f i other = refl
+  leaving_other most attached (a ∷ areas) f i other =
+      by_test (is_of f i a) (λ is. apart file request.ioas f i a other is) refl
+      (leaving_other most attached areas f i other)
     where
       by_test : (b : Bool) → (is_of f i a ≡ true → is_of file request.ioas a ≡ false) → is_of f i a ≡ b
-          → areas_of (with_leaving areas attached file request) f i ≡ areas_of areas f i
+          → areas_of (map (left_at most attached) areas) f i ≡ areas_of areas f i
           → cond b (with_phase (cond (is_of file request.ioas a && meets a.span (unmapped_span request))
-          (leaving attached a.phase) a.phase) a ∷ areas_of (with_leaving areas attached file request) f i)
-          (areas_of (with_leaving areas attached file request) f i)
+          (tried most (leaving attached a.phase)) a.phase) a
+          ∷ areas_of (map (left_at most attached) areas) f i)
+          (areas_of (map (left_at most attached) areas) f i)
           ≡ cond b (a ∷ areas_of areas f i) (areas_of areas f i)
       by_test true away is rest = let outside = away is in rw (outside, rest) refl
       by_test false away is rest = rest

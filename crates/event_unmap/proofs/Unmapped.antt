@@ -1,8 +1,8 @@
 -- The world after an UNMAP is shown.
-use Rattle.std.proofs.Common.{◌≡◌, ℕ, ◌+◌, ◌*◌, ◌<◌, ◌≤◌, leb, Bool, true, false, cond, not, eqb, Option, None, is_some}
+use Rattle.std.proofs.Common.{◌≡◌, ℕ, ◌+◌, ◌*◌, ◌<◌, ◌≤◌, leb, Bool, true, false, not, eqb, Option, None, is_some}
 use Rattle.std.proofs.Common.{List, [], ◌∷◌, get_or, length, map, refl, subst, sym, ◌∙◌, ap, arith}
 use Rattle.std.specs.List.{filter, list_all, list_any}
-use Rattle.area_map_rows.specs.Areas.{AreApart, AreKept, areas_outside, areas_within, bytes_of, marked}
+use Rattle.area_map_rows.specs.Areas.{AreApart, AreKept, areas_outside, areas_within, bytes_of}
 use Rattle.std.proofs.lemmas.Bool.Decides.{nat_tests}
 use Rattle.std.proofs.lemmas.List.Sums.{sum_by-cons}
 use Rattle.area_map_rows.proofs.Kept.{length-filter-le}
@@ -11,8 +11,8 @@ use Rattle.iofd_rows.proofs.Found.{all_filter}
 use Rattle.iofd_runs.proofs.NotRefused.{unmap_passed}
 use Rattle.iofd_words.specs.After.{changed, settle, unmapped, without_areas}
 use Rattle.iofd_words.specs.Answers.{Answers, UnmapAnswers}
-use Rattle.iofd_words.specs.Areas.{areas_of, is_cut, is_of, is_touched, is_waiting, leaving, owed_by, touched}
-use Rattle.iofd_words.specs.Areas.{touched_bytes, unmapped_span, with_leaving, with_phase}
+use Rattle.iofd_words.specs.Areas.{areas_of, is_cut, is_of, is_touched, is_waiting, most_tries, owed_by, pending_errno}
+use Rattle.iofd_words.specs.Areas.{touched, touched_bytes, touched_tries, unmapped_span, with_leaving}
 use Rattle.iofd_words.specs.Attachments.{devices_of}
 use Rattle.iofd_words.specs.Bounds.{Bounds}
 use Rattle.iofd_runs.specs.Fits.{devices_rise, is_of_pages}
@@ -45,14 +45,15 @@ use Rattle.server_state.proofs.Orderly.{orderly}
 use Rattle.server_state.proofs.AreasBecome.{areas_become, own_at}
 use Rattle.server_state.proofs.MemoryReleased.{AreFewer, AreShown, may_release, pins_changed, shown_after}
 use Rattle.page_table_set.specs.PageTables.{AllStand, PageTables}
-use Rattle.event_unmap.proofs.LeavingAreas.{leads_marked, leads_outside}
+use Rattle.event_unmap.proofs.LeavingAreas.{leads_outside, leads_waiting}
 use Rattle.event_unmap.proofs.PinsLeft.{leads_left, released_over}
 use Rattle.event_unmap.proofs.SpacesCleared.{left_space, space_left, spaces_cleared}
 use Rattle.server_state.proofs.TablesUnreached.{frames_cleared}
-use Rattle.event_unmap.proofs.Touched.{AreAlike, alike, leaving_other, leaving_own, left_other, left_own, met_marked}
-use Rattle.event_unmap.proofs.Touched.{met_within, touched_own, unmet_outside, waits_filtered}
+use Rattle.event_unmap.proofs.Touched.{AreAlike, alike, leaving_other, leaving_own, left_at, left_other, left_own}
+use Rattle.event_unmap.proofs.Touched.{met_waiting, met_within, touched_own, unmet_outside, waits_filtered}
 use Rattle.server_state.specs.Held.{areas_at, objects_in}
 use Rattle.event_unmap.specs.Cleared.{Clears, cleared}
+use Rattle.event_unmap.specs.Waiting.{waiting}
 use Rattle.server_state.proofs.TablesFollow.{tables_follow}
 use Rattle.server_state.specs.Leads.{leads_in, leads_of, space_leads}
 use Rattle.server_state.specs.Shows.{Shows, TablesShown}
@@ -110,6 +111,23 @@ module _ {A : Type 0} where
           ∙ ap (list_any (λ (a : Area). not (eqb (length (owed_by devices a.phase)) 0)))
           (met_within (unmapped_span request) (areas_of w.areas file request.ioas) are))
 
+      -- the touched areas are those of the address space that lie in the span
+      pub touched_within : (span : Bounds) → span ≡ unmapped_span request
+          → touched w.areas file request ≡ areas_within span (own_areas s.objects file request.ioas)
+      touched_within span is_span = rw (is_span, own_shown) (touched_own file request w.areas
+          ∙ met_within (unmapped_span request) (areas_of w.areas file request.ioas) are)
+
+      -- how many tries the touched areas have seen
+      abbrev most : ℕ
+      most = touched_tries w.areas file request
+
+      -- what is answered after so many
+      pub errno_shown : (span : Bounds) → span ≡ unmapped_span request
+          → pending_errno (most_tries (areas_within span (own_areas s.objects file request.ioas)))
+          ≡ pending_errno most
+      errno_shown span is_span =
+          ap (λ (l : List Area). pending_errno (most_tries l)) (sym (touched_within span is_span))
+
       -- ---- the touched areas' pages lead nowhere
 
       -- no two areas have an address in common
@@ -136,11 +154,11 @@ module _ {A : Type 0} where
             (space_left w file request.ioas (areas_within (unmapped_span request) (areas_of w.areas file request.ioas))
             (with_leaving w.areas owed file request)
             (λ page.
-            ap (λ (l : List Area). leads_in (pinned_frame w.pins) l page) (leaving_own file request owed w.areas
-            ∙ met_marked (unmapped_span request) owed (areas_of w.areas file request.ioas) are)
-            ∙ leads_marked page (pinned_frame w.pins) (unmapped_span request) owed
+            ap (λ (l : List Area). leads_in (pinned_frame w.pins) l page) (leaving_own file request most owed w.areas
+            ∙ met_waiting (unmapped_span request) most owed (areas_of w.areas file request.ioas) are)
+            ∙ leads_waiting page (pinned_frame w.pins) (unmapped_span request) most owed
             (areas_of w.areas file request.ioas) apart)
-            (leaving_other file request owed w.areas))
+            (leaving_other file request most owed w.areas))
 
         -- as they go
         leads_gone : (f : FileNo) (i : ObjId) (page : ℕ)
@@ -177,7 +195,8 @@ module _ {A : Type 0} where
         pub shows_pending : (attached : List ℕ) (t : Table (Held A)) (kept_tables : PageTables)
             → attached ≡ devices_of w.objects w.attachments file request.ioas
             → (IsOrderly s.objects → HasAreas file request.ioas
-            (map (marked span attached) (areas_at s.objects.rows file request.ioas)) s.objects t)
+            (map (waiting span (most_tries (areas_within span (own_areas s.objects file request.ioas))) attached)
+            (areas_at s.objects.rows file request.ioas)) s.objects t)
             → kept_tables ≡ s.page_tables
             → Shows (record w {
               areas = with_leaving w.areas (devices_of w.objects w.attachments file request.ioas) file
@@ -186,9 +205,14 @@ module _ {A : Type 0} where
         shows_pending attached t kept_tables is_attached marks same_tables =
             let devices = devices_of w.objects w.attachments file request.ioas in
             let has : HasAreas file request.ioas (map
-            (marked (unmapped_span request) (devices_of w.objects w.attachments file request.ioas))
+            (waiting (unmapped_span request) most (devices_of w.objects w.attachments file request.ioas))
             (areas_at s.objects.rows file request.ioas)) s.objects t =
-            rw (is_span, is_attached) at (marks (orderly at w s tidy shows)) in
+            subst (λ (each : Area → Area). HasAreas file request.ioas
+            (map each (areas_at s.objects.rows file request.ioas)) s.objects t)
+            (ap (λ (l : List Area). waiting span (most_tries l) attached) (sym (touched_within span is_span))
+            ∙ ap (λ (own : Bounds). waiting own most attached) is_span
+            ∙ ap (waiting (unmapped_span request) most) is_attached)
+            (marks (orderly at w s tidy shows)) in
             let new : World = record w {
               areas = with_leaving w.areas
                   (devices_of w.objects w.attachments file request.ioas) file request;
@@ -212,15 +236,16 @@ module _ {A : Type 0} where
                 proper = has.proper;
                 spaces =
                     areas_become (with_leaving w.areas devices file request) w s file request.ioas
-                    (map (marked (unmapped_span request) devices) (areas_at s.objects.rows file request.ioas)) t
+                    (map (waiting (unmapped_span request) most devices) (areas_at s.objects.rows file request.ioas)) t
                     shows has
-                    (leaving_own file request devices w.areas
-                    ∙ met_marked (unmapped_span request) devices (areas_of w.areas file request.ioas) are
-                    ∙ ap (map (marked (unmapped_span request) devices))
+                    (leaving_own file request most devices w.areas
+                    ∙ met_waiting (unmapped_span request) most devices (areas_of w.areas file request.ioas) are
+                    ∙ ap (map (waiting (unmapped_span request) most devices))
                     (shows.objects.spaces file request.ioas))
-                    (leaving_other file request devices w.areas);
+                    (leaving_other file request most devices w.areas);
                 files = λ number. rw has.files (shows.objects.files number);
                 counted = λ f i. has.users f i ∙ shows.objects.counted f i;
+                accesses = shows.objects.accesses;
               };
               devices = shows.devices;
               limits = shows.limits;
@@ -228,8 +253,7 @@ module _ {A : Type 0} where
               users = shows.users;
               pins =
                   pins_changed w.objects w.areas w.memory w.pins s.memory
-                  (λ (area : Area). with_phase (cond (is_touched file request area)
-                  (leaving devices area.phase) area.phase) area)
+                  (left_at file request most devices)
                   (λ area. refl) (λ area. refl) (λ area. refl) shows.pins;
               frames = cleared_shown;
               tables = subst (λ (kept : PageTables). TablesShown
@@ -239,12 +263,7 @@ module _ {A : Type 0} where
                   }) kept clears) (sym same_tables) tables;
             }
 
-      -- the touched areas are those of the address space that lie in the span
-      pub touched_within : (span : Bounds) → span ≡ unmapped_span request
-          → touched w.areas file request ≡ areas_within span (own_areas s.objects file request.ioas)
-      touched_within span is_span = rw (is_span, own_shown) (touched_own file request w.areas
-          ∙ met_within (unmapped_span request) (areas_of w.areas file request.ioas) are)
-
+      -- and so are their bytes
       pub bytes_shown : (span : Bounds) → span ≡ unmapped_span request
           → touched_bytes w.areas file request ≡ bytes_of (areas_within span (own_areas s.objects file request.ioas))
       bytes_shown span is_span = ap bytes_of (touched_within span is_span)
@@ -363,6 +382,7 @@ module _ {A : Type 0} where
                       (left_other file request w.areas);
                   files = λ number. rw has.files (shows.objects.files number);
                   counted = λ f i. has.users f i ∙ shows.objects.counted f i;
+                  accesses = shows.objects.accesses;
                 };
                 devices = shows.devices;
                 users = shown.users;

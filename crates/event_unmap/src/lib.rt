@@ -4,3 +4,4 @@
 mod clearing;
 mod devices;
 pub mod unmap;
+mod waiting;

@@ -11,9 +11,9 @@ ghost use Rattle.iofd_words.specs.declared.event.Event.TheVariants as event;
 ghost use Rattle.server_state.specs.Seen.{seen};
 ghost use Rattle.server_state.specs.Step.{IsGranted, Steps};
 
-use crate::{clearing, devices};
+use crate::{clearing, devices, waiting};
 use area_map::{Areas, Iter};
-use iofd_words::{Cause, Errno, FileNo, Reply, Span, UnmapRequest};
+use iofd_words::{Cause, FileNo, Reply, Span, UnmapRequest};
 use server_state::addresses::is_above_sum;
 use server_state::{State, area_changes, lookups, release};
 use std::alloc::Allocator;
@@ -61,8 +61,8 @@ fn refusal_by_areas<A: Allocator>(
 
 /// What it does where nothing refuses it. In the page tables of the address space the pages of the areas that it names
 /// lead nowhere from then on; their tables stay. Where a device still has to flush before all these areas may go, they
-/// are on their way out, and the reply is EAGAIN. Else they go, with their memory objects and pins, and the reply is
-/// how many bytes they had. It takes no memory.
+/// are on their way out, with a try more, and the reply is EAGAIN, or EDEADLOCK after a hundred tries. Else they go,
+/// with their memory objects and pins, and the reply is how many bytes they had. It takes no memory.
 pub fn commit<A: Allocator>(state: &mut State<A>, file: FileNo, request: UnmapRequest) -> Reply
     requires { IsGranted (event.Unmap file request) state.old }
     ensures { (at : ℕ) → Steps at (event.Unmap file request) state.old result state.new }
@@ -86,8 +86,7 @@ pub fn commit<A: Allocator>(state: &mut State<A>, file: FileNo, request: UnmapRe
         &mut state.pool,
     );
     if area_changes::some_waits(areas.again(), &attached) {
-        area_changes::mark_leaving(&mut state.objects, file, ioas, span, &attached);
-        return Reply::Pending(Errno::EAGAIN);
+        return waiting::wait(&mut state.objects, file, ioas, span, &attached);
     }
     let bytes = bytes_of(areas.again());
     release::remove(areas, translated, &mut state.memory, &mut state.pool);

@@ -7,7 +7,8 @@ use Rattle.iofd_words.specs.Span.{lies_in}
 use Rattle.iofd_words.specs.declared.reply.Reply.TheVariants as reply
 use Rattle.iofd_words.specs.declared.rows.Area.{Area}
 use Rattle.event_unmap.proofs.AreasToClear.{can_clear_within}
-use Rattle.event_unmap.proofs.Unmapped.{attached_is, bytes_fit, bytes_shown, may_remove, names_span, never_strange}
+use Rattle.event_unmap.proofs.Unmapped.{attached_is, bytes_fit, bytes_shown, errno_shown, may_remove, names_span}
+use Rattle.event_unmap.proofs.Unmapped.{never_strange}
 use Rattle.event_unmap.proofs.Unmapped.{shows_pending, shows_removed, unmapped_pins, waits_shown}
 use Rattle.server_state.specs.Mapping.{own_areas}
 use Rattle.event_unmap.proofs.unmap.commit.Goals as goal
@@ -41,12 +42,16 @@ returns-then-some_waits g c = λ at w tidy shows none.
     c.in-Some-attached_to.attached c.in-Some.ensures.value devices in
     let told = rw (c.again-2.ensures, c.areas_within-areas.ensures.areas) at c.some_waits.ensures in
     let clears = rw (c.again.ensures, c.areas_within-areas.ensures.areas) at c.clear.ensures.cleared in (
-      (waits ∙ sym told ∙ c.if-some_waits.true, refl),
-      shows_pending at w c.args.state.now c.args.file c.args.request tidy shows none own.kept
+      rw c.wait.ensures.told (
+        waits ∙ sym told ∙ c.if-some_waits.true,
+        errno_shown at w c.args.state.now c.args.file c.args.request tidy shows none own.kept
+            c.in-Some.span c.in-Some.ensures.value,
+      ),
+      rw c.wait.ensures.told (shows_pending at w c.args.state.now c.args.file c.args.request tidy shows none own.kept
           c.in-Some.span c.in-Some.ensures.value
           c.clear.new.pool c.clear.ensures.bytes clears
-          c.in-Some-attached_to.attached c.mark_leaving.new.table c.clear.new.page_tables devices
-          c.mark_leaving.ensures c.clear.ensures.same,
+          c.in-Some-attached_to.attached c.wait.new.table c.clear.new.page_tables devices
+          c.wait.ensures.areas c.clear.ensures.same),
     )
 
 pub bytes_of-bytes-requires-clause-few : goal.bytes_of-bytes-requires-clause-few
