@@ -1,15 +1,18 @@
 -- How many rows of a file pass a test, after the rows of one file went: so its counts of users go with it.
-use Rattle.std.proofs.Common.{◌≡◌, ℕ, ◌+◌, Bool, true, false, cond, ◌&&◌, not, eqb, List, [], ◌∷◌, refl, ap, ◌∙◌, arith}
-use Rattle.std.specs.List.{count_by, filter}
+use Rattle.std.proofs.Common.{◌≡◌, ℕ, ◌+◌, Bool, true, false, cond, ◌&&◌, not, eqb, Option, Some, None, List, [], ◌∷◌}
+use Rattle.std.proofs.Common.{refl, sym, ap, ◌∙◌, arith}
+use Rattle.std.specs.List.{count_by, filter, find}
 use Rattle.std.proofs.lemmas.Bool.Decides.{nat_tests}
-use Rattle.iofd_words.specs.Objects.{is_hwpt_over}
+use Rattle.iofd_words.specs.Objects.{is_access_to, is_hwpt_over, is_ioas, is_object}
 use Rattle.iofd_words.specs.declared.numbers.FileNo.{FileNo}
 use Rattle.iofd_words.specs.declared.numbers.ObjId.{ObjId}
 use Rattle.iofd_words.specs.declared.rows.Attachment.{Attachment}
 use Rattle.iofd_words.specs.declared.rows.Object.{Object}
+use Rattle.iofd_words.specs.declared.rows.ObjectKind.{ObjectKind}
 use Rattle.user_memory_rows.proofs.PinsFollow.{count-cons}
 use Rattle.object_table.specs.Table.{Row, is_of_file}
-use Rattle.server_state.specs.Users.{AreCounted, devices_on, tables_over, users_at}
+use Rattle.server_state.proofs.Counted.{counts_of}
+use Rattle.server_state.specs.Users.{AccessSpaces, AreCounted, accesses_to, devices_on, tables_over, users_at}
 use Rattle.server_state.specs.declared.held.Held.{Held}
 
 -- 1 where the row is of this file and passes
@@ -69,6 +72,32 @@ over-closed : (objects : List Object) (file f : FileNo) (i : ObjId)
 over-closed objects file f i =
     count-closed (λ (o : Object). o.file) (λ (o : Object). is_hwpt_over i o.kind) objects file f
 
+-- the access objects that are attached to it
+to-closed : (objects : List Object) (file f : FileNo) (i : ObjId)
+    → accesses_to (filter (λ (o : Object). not (eqb o.file.0 file.0)) objects) f i
+    ≡ cond (eqb f.0 file.0) 0 (accesses_to objects f i)
+to-closed objects file f i =
+    count-closed (λ (o : Object). o.file) (λ (o : Object). is_access_to i o.kind) objects file f
+
+-- an object of another file is found
+found_other : (objects : List Object) (file f : FileNo) (i : ObjId) → eqb f.0 file.0 ≡ false
+    → find (is_object f i) (filter (λ (o : Object). not (eqb o.file.0 file.0)) objects) ≡ find (is_object f i) objects
+found_other [] file f i other = refl
+found_other (o ∷ objects) file f i other =
+    let rest = found_other objects file f i other in grind (arith, nat_tests)
+
+-- access objects are attached to address spaces alone, still
+pub spaces_left : (objects : List Object) → AccessSpaces objects → (file : FileNo)
+    → AccessSpaces (filter (λ (o : Object). not (eqb o.file.0 file.0)) objects)
+spaces_left objects spaces file f i no_space = to-closed objects file f i ∙ by_file (eqb f.0 file.0) refl
+  where
+    by_file : (b : Bool) → eqb f.0 file.0 ≡ b → ◌≡◌ {A = ℕ} (cond b 0 (accesses_to objects f i)) 0
+    by_file true is = refl
+    by_file false is =
+        spaces f i (ap (λ (o : Option Object). elim (elim o as (λ _. Option ObjectKind)
+        [ Some x ↦ Some x.kind | None ↦ None ]) as (λ _. Bool) [ Some k ↦ is_ioas k | None ↦ false ])
+        (sym (found_other objects file f i is)) ∙ no_space)
+
 -- the devices that translate by a page table
 devices-closed : (attachments : List Attachment) (file f : FileNo) (i : ObjId)
     → devices_on (filter (λ (a : Attachment). not (eqb a.file.0 file.0)) attachments) f i
@@ -94,14 +123,17 @@ module _ {A : Type 0} where
       (filter (λ row. not (is_of_file file row)) rows)
   file_goes objects attachments rows counted file f i =
       users-closed rows file f i ∙ ap (cond (eqb f.0 file.0) 0) (counted f i)
-      ∙ both (eqb f.0 file.0) (over-closed objects file f i) (devices-closed attachments file f i)
+      ∙ all (eqb f.0 file.0) (over-closed objects file f i) (to-closed objects file f i)
+      (devices-closed attachments file f i)
     where
-      both : (b : Bool) → tables_over (filter (λ (o : Object). not (eqb o.file.0 file.0)) objects) f i
+      all : (b : Bool) → tables_over (filter (λ (o : Object). not (eqb o.file.0 file.0)) objects) f i
           ≡ cond b 0 (tables_over objects f i)
+          → accesses_to (filter (λ (o : Object). not (eqb o.file.0 file.0)) objects) f i
+          ≡ cond b 0 (accesses_to objects f i)
           → devices_on (filter (λ (a : Attachment). not (eqb a.file.0 file.0)) attachments) f i
           ≡ cond b 0 (devices_on attachments f i)
-          → cond b 0 (tables_over objects f i + devices_on attachments f i)
-          ≡ tables_over (filter (λ (o : Object). not (eqb o.file.0 file.0)) objects) f i
-          + devices_on (filter (λ (a : Attachment). not (eqb a.file.0 file.0)) attachments) f i
-      both true over on = omega (arith, over, on)
-      both false over on = omega (arith, over, on)
+          → cond b 0 (counts_of objects attachments f i)
+          ≡ counts_of (filter (λ (o : Object). not (eqb o.file.0 file.0)) objects)
+          (filter (λ (a : Attachment). not (eqb a.file.0 file.0)) attachments) f i
+      all true over to on = omega (arith, over, to, on)
+      all false over to on = omega (arith, over, to, on)

@@ -1,5 +1,5 @@
 -- An object that was destroyed: an address space with its areas, or a page table with pins.
-use Rattle.std.proofs.Common.{◌≡◌, ℕ, Bool, true, false, cond, ◌&&◌, ltb, not, eqb, is_none, Option, Some, None, List}
+use Rattle.std.proofs.Common.{◌≡◌, ℕ, Bool, true, false, cond, ◌&&◌, ltb, not, eqb, is_none, is_some, Option, Some, None, List}
 use Rattle.std.proofs.Common.{[], map, refl, sym, ◌∙◌, ap, subst, arith, ◌+◌}
 use Rattle.iofd_words.specs.Allowed.{AllowedRanges, allowed_of, without_allowed}
 use Rattle.iofd_words.specs.Answers.{Answers}
@@ -8,7 +8,7 @@ use Rattle.iofd_runs.proofs.NotRefused.{destroy_passed}
 use Rattle.iofd_runs.proofs.OwnIds.{own_ids-filter}
 use Rattle.frame_memory.specs.Pool.{FramePool}
 use Rattle.user_memory_rows.proofs.FramesFollow.{translated_same}
-use Rattle.user_memory_rows.proofs.Gone.{objects_left, over_parts, table_lost, translated_parts}
+use Rattle.user_memory_rows.proofs.Gone.{objects_left, over_parts, released_none, table_lost, translated_parts}
 use Rattle.user_memory_rows.proofs.Gone.{translated_space}
 use Rattle.user_memory_rows.specs.Moves.{IsReleased, MayRelease, if_translated}
 use Rattle.user_memory_rows.specs.Shown.{over, tables_in, translated}
@@ -22,8 +22,8 @@ use Rattle.iofd_words.specs.Areas.{areas_of, is_of}
 use Rattle.iofd_words.specs.Checks.{destroy_checks, is_device_object, is_used}
 use Rattle.iofd_rows.specs.Ids.{have_own_ids}
 use Rattle.iofd_words.specs.FirstTrue.{first_true}
-use Rattle.iofd_words.specs.Objects.{has_hwpt, is_bound_as, is_bound_device, is_hwpt, is_hwpt_over, is_object, kind_of}
-use Rattle.iofd_words.specs.Objects.{without_object}
+use Rattle.iofd_words.specs.Objects.{has_access_to, has_hwpt, has_ioas, is_bound_as, is_bound_device, is_hwpt}
+use Rattle.iofd_words.specs.Objects.{is_hwpt_over, is_ioas, is_object, kind_of, without_object}
 use Rattle.iofd_words.specs.Pins.{pinned_frame}
 use Rattle.iofd_words.specs.View.{view}
 use Rattle.iofd_words.specs.World.{World}
@@ -38,7 +38,7 @@ use Rattle.iofd_words.specs.declared.rows.ObjectKind.{ObjectKind}
 use Rattle.iofd_words.specs.declared.rows.ObjectKind.TheVariants as kind
 use Rattle.iofd_words.specs.declared.width.Width.{Width}
 use Rattle.iofd_rows.proofs.Allowed.{allowed_without, is_of_space}
-use Rattle.iofd_rows.proofs.Bools.{and_true, clash}
+use Rattle.iofd_rows.proofs.Bools.{and_true, clash, or_false}
 use Rattle.iofd_rows.proofs.Each.{IsIn, in_filter, of_all}
 use Rattle.iofd_rows.proofs.Found.{all_filter}
 use Rattle.iofd_rows.proofs.ListTests.{false_else, filter_all}
@@ -46,8 +46,10 @@ use Rattle.iofd_rows.proofs.Named.{file_is, id_is, kind_only}
 use Rattle.iofd_rows.proofs.PageTables.{hwpt_alike}
 use Rattle.server_state.proofs.AreasBecome.{own_at}
 use Rattle.server_state.proofs.DevicesOn.{none_on, on_tables}
-use Rattle.server_state.proofs.Counted.{none_over}
+use Rattle.server_state.proofs.AccessSpaces.{spaces-without}
+use Rattle.server_state.proofs.Counted.{has_to, none_over, over_spaces}
 use Rattle.server_state.proofs.Objects.{has_table}
+use Rattle.server_state.proofs.TableRows.{areas_of_other as no_space_no_areas}
 use Rattle.server_state.proofs.Orderly.{orderly}
 use Rattle.server_state.proofs.MemoryReleased.{AreFewer, may_release, may_release_over, shown_over, tables_lead}
 use Rattle.server_state.proofs.MemoryReleased.{tables_stand}
@@ -58,7 +60,7 @@ use Rattle.server_state.proofs.ObjectsGone.{may_go, objects-removed}
 use Rattle.server_state.specs.Held.{is_proper, areas_at, object_of, objects_in}
 use Rattle.server_state.specs.Mapping.{own_areas, untranslated_pins}
 use Rattle.server_state.specs.Shows.{ObjectsShown, Shows}
-use Rattle.server_state.specs.Users.{AreCounted, devices_on, tables_over, users_at}
+use Rattle.server_state.specs.Users.{AccessSpaces, AreCounted, accesses_to, devices_on, tables_over, users_at}
 use Rattle.server_state.specs.Step.{IsTidy}
 use Rattle.server_state.specs.TableGone.{HasLostTable, IsTableGone}
 use Rattle.server_state.specs.Tables.{has_own_width, page_tables_among}
@@ -176,6 +178,14 @@ module _ (w : World) (file : FileNo) (id : ObjId) (ids : have_own_ids w.objects 
                 ∙ hwpt_alike w.objects f file i ioas names.0 names.1
             by_space false is = other_table f i is
 
+-- none is attached to an address space that no access object has
+none_attached : (objects : List Object) (f : FileNo) (i : ObjId) → has_access_to objects f i ≡ false
+    → accesses_to objects f i ≡ 0
+none_attached objects f i none = zero (accesses_to objects f i) (sym (has_to objects f i) ∙ none)
+  where
+    zero : (n : ℕ) → ltb 0 n ≡ false → n ≡ 0
+    zero n is = search (is, arith, nat_tests)
+
 -- an object that is no page table leaves the page tables
 no_table_goes : (objects : List Object) (file : FileNo) (id : ObjId) → have_own_ids objects ≡ true → (k : ObjectKind)
     → kind_of objects file id ≡ Some k → is_hwpt k ≡ false
@@ -226,6 +236,7 @@ module _ {A : Type 0} where
       never is = cc
   no_areas_in (Some (held.Hwpt over of by)) ioas width automatic is = refl
   no_areas_in (Some (held.Device device)) ioas width automatic is = refl
+  no_areas_in (Some (held.Access attached)) ioas width automatic is = refl
 
   -- a page table has no areas
   pub no_areas : (w : World) (s : State A) (file : FileNo) (id ioas : ObjId) (width : Width) (automatic : Bool)
@@ -239,9 +250,10 @@ module _ {A : Type 0} where
   objects_gone : (w : World) (s : State A) (file : FileNo) (id : ObjId) (table : Table (Held A)) → Shows w s
       → table.rows ≡ removed file id s.objects.rows → table.files ≡ s.objects.files
       → AreCounted (without_object file id w.objects) w.attachments table.rows
+      → AccessSpaces (without_object file id w.objects)
       → ObjectsShown w.settings w.closed (without_object file id w.objects) w.attachments
       (filter (λ (area : Area). not (is_of file id area)) w.areas) table
-  objects_gone w s file id table shows rows files counted = record {
+  objects_gone w s file id table shows rows files counted spaces = record {
     rows = ap (without_object file id) shows.objects.rows ∙ sym (objects-removed s.objects.rows file id)
         ∙ ap (map object_of) (sym rows);
     proper = rw rows (all_filter is_proper (λ row. not (is_at file id row)) s.objects.rows shows.objects.proper);
@@ -249,6 +261,7 @@ module _ {A : Type 0} where
         ∙ ap (λ l. areas_at l f i) (sym rows);
     files = λ number. rw files (shows.objects.files number);
     counted = counted;
+    accesses = spaces;
   }
 
   -- the object is gone, where page tables have these rows in the pool before memory objects are let go of
@@ -321,6 +334,7 @@ module _ {A : Type 0} where
       unbound kind.Ioas device other = refl
       unbound (kind.Hwpt ioas width automatic) device other = refl
       unbound (kind.Device bound) device other = cc
+      unbound (kind.Access attached) device other = refl
 
   -- what the record takes and gives, and what is shown after it
   abbrev Moves : ℕ → World → FileNo → ObjId → Option FrameNo → List FrameNo → State A → Type 0
@@ -331,7 +345,7 @@ module _ {A : Type 0} where
       × AreFramesChosen w (changed {A = A} at w (event.Destroy file id) reply.Done) [] given
       × Shows (with_tables [] given (changed {A = A} at w (event.Destroy file id) reply.Done)) new
 
-  -- ---- the three ways
+  -- ---- the four ways
 
   -- the object's kind, in the world that is shown
   kind_shown : (w : World) (s : State A) (file : FileNo) (id : ObjId) (k : ObjectKind) → Shows w s
@@ -345,11 +359,15 @@ module _ {A : Type 0} where
     space_kind : kind_of w.objects file id ≡ Some kind.Ioas
     space_kind = kind_shown w s file id kind.Ioas shows is_kind
 
+    -- no page table stands over it, and no access object is attached to it
+    alone : (has_hwpt w.objects file id ≡ false) × (has_access_to w.objects file id ≡ false)
+    alone = or_false (has_hwpt w.objects file id) (has_access_to w.objects file id)
+        (unused w file id kind.Ioas none space_kind)
+
     goes : AreFewer (over (own_areas s.objects file id)) never w (without_object file id w.objects)
         (filter (λ (area : Area). not (is_of file id area)) w.areas)
     goes =
-        space_fewer w file id tidy.ids space_kind (unused w file id kind.Ioas none space_kind)
-        (own_areas s.objects file id)
+        space_fewer w file id tidy.ids space_kind alone.0 (own_areas s.objects file id)
         (own_at s.objects file id (orderly at w s tidy shows) ∙ sym (shows.objects.spaces file id))
 
     pub space_may : MayRelease (over (own_areas s.objects file id)) never s.memory s.pool.holds
@@ -359,7 +377,10 @@ module _ {A : Type 0} where
         (filter (λ (area : Area). not (is_of file id area)) w.areas) goes
 
     nothing_over : tables_over w.objects file id ≡ 0
-    nothing_over = none_over w.objects file id (unused w file id kind.Ioas none space_kind)
+    nothing_over = none_over w.objects file id alone.0
+
+    nothing_to : accesses_to w.objects file id ≡ 0
+    nothing_to = none_attached w.objects file id alone.1
 
     -- and no device translates by it
     nothing_on : devices_on w.attachments file id ≡ 0
@@ -383,9 +404,10 @@ module _ {A : Type 0} where
         (objects_gone w s file id table shows row_gone files
         (λ f i. ap (λ (l : List (Row (Held A))). users_at l f i) row_gone
         ∙ other_goes w.objects w.attachments s.objects.rows shows.objects.counted file id kind.Ioas tidy.ids space_kind
-        refl nothing_over nothing_on f i))
+        refl refl nothing_over nothing_to nothing_on f i)
+        (spaces-without w.objects file id kind.Ioas tidy.ids space_kind nothing_to shows.objects.accesses))
         shows.frames shows.tables.stand (shows.tables.tables ∙ sym same_among) shows.tables.widths
-        (others_stay w file id tidy.ids space_kind (unused w file id kind.Ioas none space_kind)
+        (others_stay w file id tidy.ids space_kind alone.0
         (own_areas s.objects file id) (own_at s.objects file id (orderly at w s tidy shows)
         ∙ sym (shows.objects.spaces file id)))
         goes released forgets
@@ -394,8 +416,9 @@ module _ {A : Type 0} where
         row_gone =
             let here = shows.objects.counted file id in
             let over = nothing_over in
+            let to = nothing_to in
             let on = nothing_on in
-            rows (may_go s.objects file id kind.Ioas shows.objects.proper is_kind (omega (arith, here, over, on)))
+            rows (may_go s.objects file id kind.Ioas shows.objects.proper is_kind (omega (arith, here, over, to, on)))
 
     pub space_moves : (via : Option FrameNo) (given : List FrameNo) (new : State A) → given ≡ []
         → Shows (gone w file id) new → Moves at w file id via given new
@@ -405,6 +428,101 @@ module _ {A : Type 0} where
         (still {A = A} at (event.Destroy file id) via reply.Done new w tidy tt tt after tt
         (ap (λ (o : Option ObjectKind). elim o as (λ _. Bool) [ Some k ↦ is_hwpt k | None ↦ false ])
         space_kind))
+
+  -- an access object
+  module _ (at : ℕ) (w : World) (s : State A) (file : FileNo) (id : ObjId) (attached : Option ObjId) (tidy : IsTidy at w)
+      (shows : Shows w s) (none : first_true (destroy_checks (view w) file id) ≡ None)
+      (is_kind : kind_of (objects_in s.objects) file id ≡ Some (kind.Access attached)) where
+    access_kind : kind_of w.objects file id ≡ Some (kind.Access attached)
+    access_kind = kind_shown w s file id (kind.Access attached) shows is_kind
+
+    -- it isn't attached
+    detached : attached ≡ None
+    detached = by_space attached (unused w file id (kind.Access attached) none access_kind)
+      where
+        by_space : (o : Option ObjId) → is_some o ≡ false → o ≡ None
+        by_space None is = refl
+        by_space (Some ioas) is = cc
+
+    no_space : has_ioas w.objects file id ≡ false
+    no_space = ap (λ (o : Option ObjectKind). elim o as (λ _. Bool) [ Some k ↦ is_ioas k | None ↦ false ]) access_kind
+
+    no_areas_there : areas_of w.areas file id ≡ []
+    no_areas_there = shows.objects.spaces file id
+        ∙ no_space_no_areas s.objects.rows file id
+        (ap (λ (l : List Object). has_ioas l file id) (sym shows.objects.rows) ∙ no_space)
+
+    areas_same : filter (λ (area : Area). not (is_of file id area)) w.areas ≡ w.areas
+    areas_same = areas_stay w.areas file id no_areas_there
+
+    tables_same : (f : FileNo) (i : ObjId)
+        → has_hwpt (without_object file id w.objects) f i ≡ has_hwpt w.objects f i
+    tables_same f i = any_without (λ (o : Object). eqb o.file.0 f.0 && is_hwpt_over i o.kind) w.objects file id
+        (kind.Access attached) tidy.ids access_kind (λ object of_file of_kind. rw of_kind (fails (eqb object.file.0 f.0)))
+      where
+        fails : (b : Bool) → (b && false) ≡ false
+        fails true = refl
+        fails false = refl
+
+    nothing_less : AreFewer never never w (without_object file id w.objects)
+        (filter (λ (area : Area). not (is_of file id area)) w.areas)
+    nothing_less = record {
+      over_left = λ n. let same = ap (λ (l : List Area). over l n) areas_same in omega (arith, same);
+      translated_left = λ n. let same =
+          ap (λ (l : List Area). translated (without_object file id w.objects) l n) areas_same
+          ∙ translated_same w.objects (without_object file id w.objects) w.areas tables_same n in
+          omega (arith, same);
+    }
+
+    none_over_it : tables_over w.objects file id ≡ 0
+    none_over_it = over_spaces w.objects file id tidy.debts.spaces no_space
+
+    none_to_it : accesses_to w.objects file id ≡ 0
+    none_to_it = shows.objects.accesses file id no_space
+
+    none_on_it : devices_on w.attachments file id ≡ 0
+    none_on_it = on_tables w.objects w.attachments file id tidy.debts.tables
+        (ap (λ (o : Option ObjectKind). elim o as (λ _. Bool) [ Some k ↦ is_hwpt k | None ↦ false ]) access_kind)
+
+    pub access_destroyed : (table : Table (Held A)) (allowed : List AllowedRanges)
+        → (destroy_refusal s.objects file tablekind.Access id ≡ None → table.rows ≡ removed file id s.objects.rows)
+        → table.files ≡ s.objects.files → allowed ≡ without_allowed file id s.allowed
+        → Shows (gone w file id) (record s { objects = table; allowed = allowed })
+    unfolding settle without_areas
+    access_destroyed table allowed rows files forgets =
+        shows_destroyed at w s file id (kind.Access attached) table never never s.memory s.pool s.pool
+        allowed w.table_frames s.page_tables tidy shows none access_kind refl
+        (objects_gone w s file id table shows row_gone files
+        (λ f i. ap (λ (l : List (Row (Held A))). users_at l f i) row_gone
+        ∙ other_goes w.objects w.attachments s.objects.rows shows.objects.counted file id (kind.Access attached) tidy.ids
+        access_kind refl detached none_over_it none_to_it none_on_it f i)
+        (spaces-without w.objects file id (kind.Access attached) tidy.ids access_kind none_to_it shows.objects.accesses))
+        shows.frames shows.tables.stand
+        (shows.tables.tables
+        ∙ sym (no_table_goes w.objects file id tidy.ids (kind.Access attached) access_kind refl))
+        shows.tables.widths (λ f i has. ap (λ (l : List Area). areas_of l f i) areas_same) nothing_less
+        (released_none never never s.memory s.pool
+        (may_release at w s tidy shows never never (without_object file id w.objects)
+        (filter (λ (area : Area). not (is_of file id area)) w.areas) nothing_less))
+        forgets
+      where
+        row_gone : table.rows ≡ removed file id s.objects.rows
+        row_gone =
+            let here = shows.objects.counted file id in
+            let over = none_over_it in
+            let to = none_to_it in
+            let on = none_on_it in
+            rows (may_go s.objects file id (kind.Access attached) shows.objects.proper is_kind
+            (omega (arith, here, over, to, on)))
+
+    pub access_moves : (via : Option FrameNo) (given : List FrameNo) (new : State A) → given ≡ []
+        → Shows (gone w file id) new → Moves at w file id via given new
+    unfolding changed Answers
+    access_moves via given new is after =
+        subst (λ (fs : List FrameNo). Moves at w file id via fs new) (sym is)
+        (still {A = A} at (event.Destroy file id) via reply.Done new w tidy tt tt after tt
+        (ap (λ (o : Option ObjectKind). elim o as (λ _. Bool) [ Some k ↦ is_hwpt k | None ↦ false ])
+        access_kind))
 
   -- a page table
   module _ (at : ℕ) (w : World) (s : State A) (file : FileNo) (id ioas : ObjId) (width : Width) (automatic : Bool)

@@ -12,7 +12,7 @@ use Rattle.user_memory_rows.specs.Shown.{over, tables_in, translated}
 use Rattle.user_memory.specs.Memory.{Memory}
 use Rattle.server_state.proofs.Orderly.{orderly}
 use Rattle.server_state.proofs.MemoryReleased.{AreFewer, may_release, shown_after, tables_lead, tables_stand}
-use Rattle.event_destroy.proofs.CountsClosed.{file_goes}
+use Rattle.event_destroy.proofs.CountsClosed.{file_goes, spaces_left}
 use Rattle.event_destroy.proofs.GivesBackMoves.{gives_back}
 use Rattle.event_destroy.proofs.TablesGone.{file_counted, of_file, orphans_are, rows_named}
 use Rattle.server_state.proofs.TablesUnreached.{none_reach}
@@ -43,7 +43,7 @@ use Rattle.iofd_words.specs.Areas.{areas_of}
 use Rattle.iofd_words.specs.Checks.{close_checks}
 use Rattle.iofd_words.specs.Files as files
 use Rattle.iofd_words.specs.FirstTrue.{first_true}
-use Rattle.iofd_words.specs.Objects.{has_hwpt, is_bound_as, is_bound_device, objects_of}
+use Rattle.iofd_words.specs.Objects.{has_hwpt, is_access, is_bound_as, is_bound_device, objects_of}
 use Rattle.iofd_words.specs.Pins.{pinned_frame}
 use Rattle.iofd_words.specs.View.{view}
 use Rattle.iofd_words.specs.declared.event.Event.TheVariants as event
@@ -57,10 +57,11 @@ use Rattle.iofd_words.specs.declared.rows.Object.{Object}
 use Rattle.iofd_words.specs.declared.rows.ObjectKind.{ObjectKind}
 use Rattle.iofd_words.specs.declared.rows.ObjectKind.TheVariants as kind
 use Rattle.iofd_rows.proofs.Allowed.{allowed_closed}
-use Rattle.iofd_rows.proofs.Bools.{and_true, both_true, clash}
+use Rattle.iofd_rows.proofs.Bools.{and_true, both_true, clash, or_false}
 use Rattle.iofd_rows.proofs.Found.{all_filter, find-filter}
 use Rattle.iofd_rows.proofs.ListTests.{any-filter, none_stronger}
-use Rattle.server_state.proofs.SpacesGone.{device_rows}
+use Rattle.event_destroy.specs.Held.{keeps_open}
+use Rattle.server_state.proofs.SpacesGone.{kind_rows}
 use Rattle.server_state.specs.Held.{is_proper, areas_at, kind_in, object_of, objects_in, table_kind}
 use Rattle.server_state.specs.Users.{users_at}
 use Rattle.server_state.specs.Shows.{Shows}
@@ -130,20 +131,32 @@ areas_other : (areas : List Area) (file f : FileNo) (i : ObjId) → eqb f.0 file
 areas_other [] file f i other = refl
 areas_other (area ∷ areas) file f i other = let rest = areas_other areas file f i other in grind (arith, nat_tests)
 
--- an object under its kind keeps the file open where it is a device
-keeps_open : (a : Kind) (k : ObjectKind) → is_same_kind a (table_kind k) ≡ true → keeps_file_open a ≡ is_bound_device k
-keeps_open tablekind.Ioas kind.Ioas same = refl
-keeps_open tablekind.Hwpt kind.Ioas same = cc
-keeps_open tablekind.Device kind.Ioas same = cc
-keeps_open tablekind.Access kind.Ioas same = cc
-keeps_open tablekind.Ioas (kind.Hwpt ioas width automatic) same = cc
-keeps_open tablekind.Hwpt (kind.Hwpt ioas width automatic) same = refl
-keeps_open tablekind.Device (kind.Hwpt ioas width automatic) same = cc
-keeps_open tablekind.Access (kind.Hwpt ioas width automatic) same = cc
-keeps_open tablekind.Ioas (kind.Device device) same = cc
-keeps_open tablekind.Hwpt (kind.Device device) same = cc
-keeps_open tablekind.Device (kind.Device device) same = refl
-keeps_open tablekind.Access (kind.Device device) same = cc
+-- an object under its kind keeps the file open where it is a device or an access object
+kept_open : (a : Kind) (k : ObjectKind) → is_same_kind a (table_kind k) ≡ true → keeps_file_open a ≡ keeps_open k
+kept_open tablekind.Ioas kind.Ioas same = refl
+kept_open tablekind.Hwpt kind.Ioas same = cc
+kept_open tablekind.Device kind.Ioas same = cc
+kept_open tablekind.Access kind.Ioas same = cc
+kept_open tablekind.Ioas (kind.Hwpt ioas width automatic) same = cc
+kept_open tablekind.Hwpt (kind.Hwpt ioas width automatic) same = refl
+kept_open tablekind.Device (kind.Hwpt ioas width automatic) same = cc
+kept_open tablekind.Access (kind.Hwpt ioas width automatic) same = cc
+kept_open tablekind.Ioas (kind.Device device) same = cc
+kept_open tablekind.Hwpt (kind.Device device) same = cc
+kept_open tablekind.Device (kind.Device device) same = refl
+kept_open tablekind.Access (kind.Device device) same = cc
+kept_open tablekind.Ioas (kind.Access attached) same = cc
+kept_open tablekind.Hwpt (kind.Access attached) same = cc
+kept_open tablekind.Device (kind.Access attached) same = cc
+kept_open tablekind.Access (kind.Access attached) same = refl
+
+neither : {X : Type 0} (p q : X → Bool) (xs : List X) → list_any p xs ≡ false → list_any q xs ≡ false
+    → list_any (λ x. p x || q x) xs ≡ false
+neither p q [] none others = refl
+neither p q (x ∷ xs) none others =
+    let first = or_false (p x) (list_any p xs) none in
+    let second = or_false (q x) (list_any q xs) others in
+    rw (first.0, second.0) (neither p q xs first.1 second.1)
 
 module _ {A : Type 0} where
   -- ---- the table's rows of other files
@@ -180,18 +193,18 @@ module _ {A : Type 0} where
 
   held_open : (rows : List (Row (Held A))) (file : FileNo) → list_all is_proper rows ≡ true
       → list_any (λ row. keeps_file_open row.kind) (filter (is_of_file file) rows) ≡ list_any
-      (λ row. is_bound_device (kind_in row.value)) (filter (is_of_file file) rows)
+      (λ row. keeps_open (kind_in row.value)) (filter (is_of_file file) rows)
   held_open [] file proper = refl
   held_open (row ∷ rows) file proper =
       let parts = and_true (is_proper row) (list_all is_proper rows) proper in
-      by_file (is_of_file file row) (keeps_open row.kind (kind_in row.value) parts.0) (held_open rows file parts.1)
+      by_file (is_of_file file row) (kept_open row.kind (kind_in row.value) parts.0) (held_open rows file parts.1)
     where
-      by_file : (b : Bool) → keeps_file_open row.kind ≡ is_bound_device (kind_in row.value)
+      by_file : (b : Bool) → keeps_file_open row.kind ≡ keeps_open (kind_in row.value)
           → list_any (λ (row : Row (Held A)). keeps_file_open row.kind) (filter (is_of_file file) rows) ≡ list_any
-          (λ (row : Row (Held A)). is_bound_device (kind_in row.value)) (filter (is_of_file file) rows)
+          (λ (row : Row (Held A)). keeps_open (kind_in row.value)) (filter (is_of_file file) rows)
           → list_any (λ (row : Row (Held A)). keeps_file_open row.kind)
           (cond b (row ∷ filter (is_of_file file) rows) (filter (is_of_file file) rows)) ≡ list_any
-          (λ (row : Row (Held A)). is_bound_device (kind_in row.value))
+          (λ (row : Row (Held A)). keeps_open (kind_in row.value))
           (cond b (row ∷ filter (is_of_file file) rows) (filter (is_of_file file) rows))
       by_file true here rest = rw (here, rest) refl
       by_file false here rest = rest
@@ -206,9 +219,11 @@ module _ {A : Type 0} where
 
     may_close : close_refusal s.objects file ≡ None
     may_close =
-        let no = held_open s.objects.rows file shows.objects.proper ∙ sym (device_rows s.objects.rows file)
-        ∙ ap (λ (l : List Object). list_any (λ object. is_bound_device object.kind) (objects_of l file))
-        (sym shows.objects.rows) ∙ no_device in
+        let no = held_open s.objects.rows file shows.objects.proper ∙ sym (kind_rows keeps_open s.objects.rows file)
+        ∙ ap (λ (l : List Object). list_any (λ object. keeps_open object.kind) (objects_of l file))
+        (sym shows.objects.rows)
+        ∙ neither (λ (o : Object). is_bound_device o.kind) (λ (o : Object). is_access o.kind)
+        (objects_of w.objects file) no_device (close_passed (view w) file none).no_access in
         rw (opened, no) refl
 
     -- the same files are open, but for this one
@@ -247,6 +262,7 @@ module _ {A : Type 0} where
         bound kind.Ioas is = cc
         bound (kind.Hwpt ioas width automatic) is = cc
         bound (kind.Device d) is = refl
+        bound (kind.Access attached) is = cc
 
     -- ---- what goes of the counts
 
@@ -395,6 +411,7 @@ module _ {A : Type 0} where
                 files = λ number. ap (λ (t : Table (Held A)). is_open t number) is ∙ files_left number;
                 counted = λ f i. ap (λ (t : Table (Held A)). users_at t.rows f i) is
                     ∙ file_goes w.objects w.attachments s.objects.rows shows.objects.counted file f i;
+                accesses = spaces_left w.objects shows.objects.accesses file;
               };
               devices = record {
                 bindings = λ device. bound_left device ∙ shows.devices.bindings device;

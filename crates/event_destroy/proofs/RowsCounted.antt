@@ -275,6 +275,7 @@ module _ {A : Type 0} where
         no_areas (held.Ioas areas) never = absurd (never areas refl)
         no_areas (held.Hwpt ioas width automatic) never = refl
         no_areas (held.Device device) never = refl
+        no_areas (held.Access attached) never = refl
 
         empty : areas_in row.value ≡ []
         empty = no_areas row.value other

@@ -1,1 +1,2 @@
 pub mod FileAreas
+pub mod Held

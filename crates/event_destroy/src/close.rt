@@ -6,7 +6,7 @@ ghost use Rattle.std.specs.Prelude.{IsTrue, vec_capacity, vec_len};
 ghost use Rattle.std.specs.List.{list_any};
 ghost use Rattle.iofd_words.specs.Checks.{close_checks};
 ghost use Rattle.iofd_words.specs.FirstTrue.{first_true};
-ghost use Rattle.iofd_words.specs.Objects.{objects_of, is_bound_device};
+ghost use Rattle.iofd_words.specs.Objects.{objects_of};
 ghost use Rattle.iofd_words.specs.declared.event.Event.TheVariants as event;
 ghost use Rattle.iofd_words.specs.declared.numbers.FrameNo.{FrameNo};
 ghost use Rattle.page_table_set.specs.PageTables.{IfAllStand, objects_of as objects_kept};
@@ -14,6 +14,7 @@ ghost use Rattle.page_table_set.specs.Removed.{rows_of_file};
 ghost use Rattle.object_table.specs.Table.{close_refusal, closed, rows_of};
 ghost use Rattle.server_state.specs.Held.{kind_in, objects_in};
 ghost use Rattle.event_destroy.specs.FileAreas.{areas_of_rows, translated_of};
+ghost use Rattle.event_destroy.specs.Held.{keeps_open};
 ghost use Rattle.user_memory_rows.specs.Moves.{IsReleased, MayRelease};
 ghost use Rattle.user_memory_rows.specs.Shown.{over};
 ghost use Rattle.server_state.specs.Seen.{seen};
@@ -36,23 +37,23 @@ pub fn refusal<A: Allocator>(state: &State<A>, file: FileNo) -> Option<Cause>
     if !state.objects.is_open(file) {
         return Some(Cause::Id);
     }
-    if has_device(&state.objects, file) {
+    if is_held(&state.objects, file) {
         return Some(Cause::InUse);
     }
     None
 }
 
-/// Whether a device is bound to the file.
-fn has_device<A: Allocator>(table: &ObjectTable<Held<A>, A>, file: FileNo) -> bool
-    ensures { result ≡ list_any (λ object. is_bound_device object.kind) (objects_of (objects_in table.now) file) }
+/// Whether a device is bound to the file, or it has an access object.
+fn is_held<A: Allocator>(table: &ObjectTable<Held<A>, A>, file: FileNo) -> bool
+    ensures { result ≡ list_any (λ object. keeps_open object.kind) (objects_of (objects_in table.now) file) }
 {
-    table.iter(file).any(|object| is_device(object.value))
+    table.iter(file).any(|object| keeps_open(object.value))
 }
 
-fn is_device<A: Allocator>(held: &Held<A>) -> bool
-    ensures { result ≡ is_bound_device (kind_in held.now) }
+fn keeps_open<A: Allocator>(held: &Held<A>) -> bool
+    ensures { result ≡ keeps_open (kind_in held.now) }
 {
-    matches!(held, Held::Device(_))
+    matches!(held, Held::Device(_) | Held::Access(_))
 }
 
 /// What it does where nothing refuses it: the file's objects, allowed ranges and attachments go, and its areas with

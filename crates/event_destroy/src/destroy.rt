@@ -36,16 +36,17 @@ pub fn refusal<A: Allocator>(state: &State<A>, file: FileNo, id: ObjId) -> Optio
     None
 }
 
-/// Whether others stand on the file's object of this id and kind: page tables on an address space, devices on a page
-/// table.
+/// Whether the file's object of this id and kind is in use: page tables and access objects stand on an address space,
+/// devices on a page table, and an access object is attached.
 fn is_used<A: Allocator>(state: &State<A>, file: FileNo, id: ObjId, kind: ObjectKind) -> bool
     requires { IsKnown state.now }
     ensures { result ≡ is_used (seen state.now) file id (Some kind) }
 {
     match kind {
-        ObjectKind::Ioas => state.has_hwpt(file, id),
+        ObjectKind::Ioas => state.has_users(file, id),
         ObjectKind::Hwpt { .. } => state.has_device_on(file, id),
         ObjectKind::Device(_) => false,
+        ObjectKind::Access { ioas } => ioas.is_some(),
     }
 }
 
@@ -57,7 +58,8 @@ fn is_device(kind: ObjectKind) -> bool
 
 /// What it does where nothing refuses it. An address space goes with its allowed ranges, and with its areas and their
 /// memory objects, of which no page is pinned. A page table gives the frames of its tables back, which are listed by
-/// rising number, and with the last one over an address space the pins of its areas' pages go.
+/// rising number, and with the last one over an address space the pins of its areas' pages go. An access object that
+/// isn't attached goes, and nothing with it.
 ///
 /// The only error is want of memory for that list, where it is a page table. It leaves the world as it was.
 pub fn commit<A: Allocator>(
@@ -91,6 +93,9 @@ pub fn commit<A: Allocator>(
         }
         Some(ObjectKind::Hwpt { ioas, .. }) => {
             release::remove_page_table(state, file, id, ioas, given);
+        }
+        Some(ObjectKind::Access { .. }) => {
+            release::remove_object(&mut state.objects, file, Kind::Access, id);
         }
         // It was refused.
         Some(ObjectKind::Device(_)) => unreachable!(),

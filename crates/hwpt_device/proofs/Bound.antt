@@ -112,7 +112,7 @@ module _ {A : Type 0} where
         users = 0;
         value =
             held.Device device;
-      }) table bindings shows refl refl refl unused refl rows files
+      }) table bindings shows refl refl refl unused refl refl rows files
       (λ d. bound_by w.objects s.bindings.items file id device shows.devices.bindings free d
       ∙ ap (find (λ (object : Object). is_bound_as d object.kind)) (sym came))
       (ap are_bindings came

@@ -108,6 +108,7 @@ bindings_stay objects others a device =
     stays (kind.Hwpt ioas width automatic) named bound = cc
     stays (kind.Device d) true bound = refl
     stays (kind.Device d) false bound = refl
+    stays (kind.Access attached) named bound = cc
 
 -- ---- other address spaces
 
@@ -117,6 +118,7 @@ same_space kind.Ioas over ioas of is = cc
 same_space (kind.Hwpt i width automatic) over ioas of is =
     let same : i ≡ ioas = cc in let number = ap (λ (j : ObjId). j.0) same in grind (arith, nat_tests)
 same_space (kind.Device device) over ioas of is = cc
+same_space (kind.Access attached) over ioas of is = cc
 
 -- an object over another address space is not the page table of the attachment
 other_stays : (w : World) (others : List Attachment) (a : Attachment) (ioas over : ObjId) (file : FileNo)

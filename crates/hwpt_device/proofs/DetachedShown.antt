@@ -51,8 +51,8 @@ use Rattle.server_state.specs.Tables.{has_own_width, page_tables_among}
 use Rattle.server_state.specs.declared.held.Held.{Held}
 use Rattle.server_state.specs.declared.state.State.{State}
 use Rattle.server_state.proofs.AreasBecome.{own_at}
-use Rattle.server_state.proofs.Counted.{over_spaces, own_row, users_of_row}
-use Rattle.server_state.specs.Users.{devices_on, tables_over}
+use Rattle.server_state.proofs.Counted.{counts_of, over_spaces, own_row, users_of_row}
+use Rattle.server_state.specs.Users.{AccessSpaces, accesses_to, devices_on, tables_over}
 use Rattle.server_state.proofs.CountsShown.{device_leaves, on_own}
 use Rattle.server_state.proofs.DevicesOn.{devices-without, has_devices, none_on}
 use Rattle.iofd_words.specs.Attachments.{has_device_on}
@@ -208,10 +208,11 @@ module _ {A : Type 0} where
           let no_space : has_ioas w.objects a.file a.hwpt ≡ false =
           ap (λ (o : Option ObjectKind). elim o [ Some k ↦ is_ioas k | None ↦ false ]) kind_w in
           let none = over_spaces w.objects a.file a.hwpt tidy.debts.spaces no_space in
+          let none_to = shows.objects.accesses a.file a.hwpt no_space in
           let all = devices-without w.attachments device a a.file a.hwpt tidy.debts.once end.found in
           let one = on_own a in
           let on : row.users ≡ devices_on (without_attachment device w.attachments) a.file a.hwpt + 1 =
-          omega (arith, many, none, all, one) in
+          omega (arith, many, none, none_to, all, one) in
           ap (λ (o : Option (Row (Held A))). elim o as (λ _. Bool) [ Some r ↦ eqb r.users 1 | None ↦ false ]) found
           ∙ ap (λ (n : ℕ). eqb n 1) on
           ∙ one_or_more (devices_on (without_attachment device w.attachments) a.file a.hwpt)
@@ -271,13 +272,17 @@ module _ {A : Type 0} where
     kind_less width automatic kind_w =
         sym (ap (λ (objects : List Object). kind_of objects a.file a.hwpt) less_shown.rows) ∙ kind_w
 
-    -- no page table stands over a page table
-    none_over_it : tables_over w.objects a.file a.hwpt ≡ 0
-    none_over_it =
+    no_space : has_ioas w.objects a.file a.hwpt ≡ false
+    no_space =
         let (width, automatic, kind_w) = of_world in
-        let no_space : has_ioas w.objects a.file a.hwpt ≡ false =
-        ap (λ (o : Option ObjectKind). elim o [ Some k ↦ is_ioas k | None ↦ false ]) kind_w in
-        over_spaces w.objects a.file a.hwpt tidy.debts.spaces no_space
+        ap (λ (o : Option ObjectKind). elim o [ Some k ↦ is_ioas k | None ↦ false ]) kind_w
+
+    -- no page table stands over a page table, and no access object is attached to one
+    none_over_it : tables_over w.objects a.file a.hwpt ≡ 0
+    none_over_it = over_spaces w.objects a.file a.hwpt tidy.debts.spaces no_space
+
+    none_to_it : accesses_to w.objects a.file a.hwpt ≡ 0
+    none_to_it = shows.objects.accesses a.file a.hwpt no_space
 
     -- whether a device is left on it is told by its users
     users_tell : has_no_user less a.file a.hwpt
@@ -289,8 +294,9 @@ module _ {A : Type 0} where
         let many = users_of_row w.objects (without_attachment device w.attachments) less.rows less_shown.counted
         a.file a.hwpt row there in
         let none = none_over_it in
+        let none_to = none_to_it in
         let on : row.users ≡ devices_on (without_attachment device w.attachments) a.file a.hwpt =
-        omega (arith, many, none) in
+        omega (arith, many, none, none_to) in
         ap (λ (o : Option (Row (Held A))). elim o as (λ _. Bool) [ Some r ↦ eqb r.users 0 | None ↦ true ]) found
         ∙ none_or_some row.users
         ∙ ap (λ (n : ℕ). not (ltb 0 n)) on
@@ -386,8 +392,9 @@ module _ {A : Type 0} where
           spaces = less_shown.spaces;
           files = less_shown.files;
           counted = λ f i. less_shown.counted f i
-              ∙ ap (λ (l : List Object). tables_over l f i + devices_on (without_attachment device w.attachments) f i)
+              ∙ ap (λ (l : List Object). counts_of l (without_attachment device w.attachments) f i)
               (sym stays);
+          accesses = subst AccessSpaces (sym stays) less_shown.accesses;
         })
         fewer shows.frames
         (record {

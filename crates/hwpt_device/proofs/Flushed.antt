@@ -120,6 +120,7 @@ module _ {A : Type 0} where
           spaces = areas_paid w s device file ioas table tidy.debts shows space has;
           files = λ number. rw has.files (shows.objects.files number);
           counted = λ f i. has.users f i ∙ shows.objects.counted f i;
+          accesses = shows.objects.accesses;
         };
         devices = shows.devices;
         limits = shows.limits;

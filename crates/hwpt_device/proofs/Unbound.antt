@@ -1,14 +1,14 @@
 -- A device that is bound no more: its object goes, and by which object it is bound.
 use Rattle.std.proofs.Common.{◌≡◌, ℕ, Bool, true, false, cond, ◌&&◌, ◌||◌, not, eqb, Option, Some, None, List, [], ◌∷◌}
-use Rattle.std.proofs.Common.{◌+◌, leb, map, refl, sym, ◌∙◌, ap, Vec, arith}
+use Rattle.std.proofs.Common.{leb, map, refl, subst, sym, ◌∙◌, ap, Vec, arith}
 use Rattle.std.specs.List.{filter, find, list_all}
 use Rattle.std.proofs.lemmas.Bool.{and_parts}
 use Rattle.std.proofs.lemmas.Bool.Decides.{nat_tests}
 use Rattle.iofd_words.specs.Areas.{areas_of}
 use Rattle.iofd_words.specs.Checks.{is_device_object, unbind_checks}
 use Rattle.iofd_words.specs.FirstTrue.{first_true}
-use Rattle.iofd_words.specs.Objects.{binding_of, is_bound_as, is_bound_device, is_hwpt, is_ioas, is_object, kind_of}
-use Rattle.iofd_words.specs.Objects.{without_device_object, without_object}
+use Rattle.iofd_words.specs.Objects.{binding_of, has_ioas, is_bound_as, is_bound_device, is_hwpt, is_ioas, is_object}
+use Rattle.iofd_words.specs.Objects.{kind_of, without_device_object, without_object}
 use Rattle.iofd_words.specs.View.{view}
 use Rattle.iofd_words.specs.World.{World}
 use Rattle.iofd_words.specs.declared.numbers.DeviceNo.{DeviceNo}
@@ -34,14 +34,15 @@ use Rattle.object_table.specs.declared.kind.Kind.TheVariants as of_kind
 use Rattle.server_state.proofs.Bindings.{are_parts}
 use Rattle.server_state.proofs.ObjectsGone.{may_go, objects-removed}
 use Rattle.server_state.proofs.TablesAmong.{among_stay}
-use Rattle.server_state.proofs.Counted.{over_spaces}
+use Rattle.server_state.proofs.AccessSpaces.{spaces-without}
+use Rattle.server_state.proofs.Counted.{counts_of, over_spaces}
 use Rattle.server_state.proofs.DevicesOn.{on_tables}
 use Rattle.server_state.proofs.TableRows.{areas_of_other}
 use Rattle.server_state.specs.Devices.{are_bindings, bound_number}
 use Rattle.server_state.specs.Held.{areas_at, is_proper, object_of, objects_in}
 use Rattle.server_state.specs.Shows.{Shows}
 use Rattle.server_state.specs.Step.{IsTidy}
-use Rattle.server_state.specs.Users.{devices_on, tables_over, users_at}
+use Rattle.server_state.specs.Users.{AccessSpaces, users_at}
 use Rattle.server_state.specs.declared.held.Held.{Held}
 use Rattle.server_state.specs.declared.state.State.{State}
 
@@ -117,6 +118,7 @@ stay_tables file id object table = by_kind object.kind (is_object file id object
     by_kind kind.Ioas true table = refl
     by_kind (kind.Hwpt ioas width automatic) true table = refl
     by_kind (kind.Device device) true table = cc
+    by_kind (kind.Access attached) true table = refl
 
 -- ---- by which object a device is bound
 
@@ -144,6 +146,7 @@ others_kept device d bindings other =
     apart kind.Ioas bound = cc
     apart (kind.Hwpt ioas width automatic) bound = cc
     apart (kind.Device own) bound = grind (arith, nat_tests)
+    apart (kind.Access attached) bound = cc
 
 -- and the device of the object that goes isn't
 unbound : (objects bindings : List Object) (file : FileNo) (id : ObjId) (device : DeviceNo)
@@ -184,13 +187,14 @@ module _ {A : Type 0} where
       let of_world = in_world w s file id (Some (kind.Device device)) shows is_kind in
       let left_objects = without_device_object file id w.objects in
       let no_space = ap (λ (o : Option ObjectKind). elim o [ Some k ↦ is_ioas k | None ↦ false ]) is_kind in
-      let no_space_w = ap (λ (o : Option ObjectKind). elim o [ Some k ↦ is_ioas k | None ↦ false ]) of_world in
+      let no_space_w : has_ioas w.objects file id ≡ false = ap (λ (o : Option ObjectKind). elim o [ Some k ↦ is_ioas k | None ↦ false ]) of_world in
       let none_over = over_spaces w.objects file id tidy.debts.spaces no_space_w in
       let none_on = on_tables w.objects w.attachments file id tidy.debts.tables
       (ap (λ (o : Option ObjectKind). elim o [ Some k ↦ is_hwpt k | None ↦ false ]) of_world) in
       let counted = shows.objects.counted file id in
+      let none_to = shows.objects.accesses file id no_space_w in
       let rows = goes (may_go s.objects file id (kind.Device device) shows.objects.proper is_kind
-      (omega (arith, counted, none_over, none_on))) in
+      (omega (arith, counted, none_over, none_to, none_on))) in
       let empty = shows.objects.spaces file id ∙ areas_of_other s.objects.rows file id no_space in
       record {
         settings = shows.settings;
@@ -208,9 +212,11 @@ module _ {A : Type 0} where
           files = λ number. rw files (shows.objects.files number);
           counted = λ f i. ap (λ (l : List (Row (Held A))). users_at l f i) rows
               ∙ other_goes w.objects w.attachments s.objects.rows shows.objects.counted file id (kind.Device device)
-              tidy.ids of_world refl none_over none_on f i
-              ∙ ap (λ (l : List Object). tables_over l f i + devices_on w.attachments f i)
+              tidy.ids of_world refl refl none_over none_to none_on f i
+              ∙ ap (λ (l : List Object). counts_of l w.attachments f i)
               (sym (only_device w.objects file id device tidy.ids of_world));
+          accesses = subst AccessSpaces (sym (only_device w.objects file id device tidy.ids of_world))
+              (spaces-without w.objects file id (kind.Device device) tidy.ids of_world none_to shows.objects.accesses);
         };
         devices = record {
           bindings =

@@ -45,6 +45,7 @@ pub fn commit<A: Allocator>(state: &mut State<A>, file: FileNo, id: ObjId) -> Re
         // It was refused.
         Some(ObjectKind::Ioas) => unreachable!(),
         Some(ObjectKind::Hwpt { .. }) => unreachable!(),
+        Some(ObjectKind::Access { .. }) => unreachable!(),
         None => unreachable!(),
     }
     Reply::Done

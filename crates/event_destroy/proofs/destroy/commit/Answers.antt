@@ -1,4 +1,5 @@
 use Rattle.std.proofs.Common.{Some, sym, ◌∙◌, ap}
+use Rattle.event_destroy.proofs.Destroyed.{access_destroyed, access_moves}
 use Rattle.event_destroy.proofs.Destroyed.{may_unpin, never_device, never_none, shows_lost, space_destroyed, space_may}
 use Rattle.event_destroy.proofs.Destroyed.{space_moves}
 use Rattle.event_destroy.proofs.destroy.commit.Goals as goal
@@ -38,6 +39,15 @@ returns-in-Some-Hwpt-clause-ok g c = λ at via w tidy shows none may.
     c.remove_page_table.ensures.state c.remove.ensures via c.reserve_given.new.given.items
     c.remove_page_table.new.given.items
     (c.reserve_given.ensures.same ∙ c.requires.none) c.remove_page_table.ensures.given
+
+pub returns-in-Some-Access-clause-ok : goal.returns-in-Some-Access-clause-ok
+returns-in-Some-Access-clause-ok g c = λ at via w tidy shows none may.
+    let is_kind = sym c.in-Some-Access.ensures ∙ ap Some c.in-Some-Access.field-0-is in
+    access_moves at w c.args.state.now c.args.file c.args.id _ tidy shows none is_kind via c.reserve_given.new.given.items
+    _ (c.reserve_given.ensures.same ∙ c.requires.none)
+    (access_destroyed at w c.args.state.now c.args.file c.args.id _ tidy shows none is_kind
+    c.remove_object-in-Some-Access.new.table c.remove.new.self
+    c.remove_object-in-Some-Access.ensures.rows c.remove_object-in-Some-Access.ensures.files c.remove.ensures)
 
 pub unreachable-requires : goal.unreachable-requires
 unreachable-requires g c =

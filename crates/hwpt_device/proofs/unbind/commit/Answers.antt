@@ -26,6 +26,12 @@ unreachable-requires-in-Some-Hwpt g c =
     never_other known.world c.args.state.now c.args.file c.args.id _ known.shows known.none
     (sym c.in-Some-Hwpt.ensures ∙ ap Some c.in-Some-Hwpt.field-0-is) refl
 
+pub unreachable-requires-in-Some-Access : goal.unreachable-requires-in-Some-Access
+unreachable-requires-in-Some-Access g c =
+    let known = c.requires.granted in
+    never_other known.world c.args.state.now c.args.file c.args.id _ known.shows known.none
+    (sym c.in-Some-Access.ensures ∙ ap Some c.in-Some-Access.field-0-is) refl
+
 pub unreachable-requires-in-None : goal.unreachable-requires-in-None
 unreachable-requires-in-None g c =
     let known = c.requires.granted in
