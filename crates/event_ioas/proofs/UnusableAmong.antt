@@ -241,6 +241,7 @@ beyond_end (kind.Hwpt ioas width automatic) r own fits =
     far : (e a b m : ℕ) → a < b → b ≤ m → ((leb e b && leb b m) || false) ≡ ((leb e b && leb a m) || false)
     far e a b m own fits = grind (arith, nat_tests)
 beyond_end (kind.Device device) r own fits = refl
+beyond_end (kind.Access attached) r own fits = refl
 
 beyond_further : (k : ObjectKind) (r last : Bounds) → r.last ≤ last.last → last.first < last.last
     → last.last ≤ 0xffff_ffff_ffff_ffff → meets_some (beyond_table k) r ≡ true → meets_some (beyond_table k) last ≡ true
@@ -252,6 +253,7 @@ beyond_further (kind.Hwpt ioas width automatic) r last further own fits ends =
         → ((leb e d && leb c m) || false) ≡ true
     far e a b c d m further own fits ends = grind (arith, nat_tests)
 beyond_further (kind.Device device) r last further own fits ends = cc
+beyond_further (kind.Access attached) r last further own fits ends = cc
 
 -- page tables that translate the last address of the last one translate all of them
 pub lacks_last : (tables : List Hwpt) (file : FileNo) (ioas : ObjId) (ranges : List Bounds) (last : Bounds)

@@ -77,6 +77,7 @@ module _ {A : Type 0} where
               (shows.objects.spaces file ioas) (λ f i other. refl);
           files = λ number. rw has.files (shows.objects.files number);
           counted = λ f i. has.users f i ∙ shows.objects.counted f i;
+          accesses = shows.objects.accesses;
         };
         devices = shows.devices;
         users = shows.users;
@@ -141,6 +142,7 @@ module _ {A : Type 0} where
             (λ f i other. with_area_other added w.areas f i (not_of added f i other));
         files = λ number. rw has.files (shows.objects.files number);
         counted = λ f i. has.users f i ∙ shows.objects.counted f i;
+        accesses = shows.objects.accesses;
       }
 
 -- ---- where nothing refuses its place

@@ -201,6 +201,8 @@ module _ {A : Type 0} (at : ℕ) (w : World) (s : State A) (tidy : IsTidy at w) 
         same = grind (arith, nat_tests)
     by_kind f page (kind.Device device) over =
         rw (and_none (eqb f.0 file.0) (is_some (live_area_at page (new_area ∷ [])))) refl
+    by_kind f page (kind.Access attached) over =
+        rw (and_none (eqb f.0 file.0) (is_some (live_area_at page (new_area ∷ [])))) refl
 
     leads_alike : (h : Hwpt) → IsIn tables h → (page : ℕ)
         → leads_of left h.object page ≡ area_leads after new_area (leads_of w) h.object page

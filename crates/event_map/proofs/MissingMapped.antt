@@ -38,6 +38,7 @@ module _ (areas : List Area) (rows : List TableFrame) (area : Area) (live : is_l
   lacked_by file id (kind.Hwpt ioas width automatic) =
       map (missing_at file id) (lacking (has_table rows file id) (places_of width (pages_in area.span)))
   lacked_by file id (kind.Device device) = []
+  lacked_by file id (kind.Access attached) = []
 
   abbrev lacks : Object → List MissingTable
   lacks o = lacked_by o.file o.id o.kind
@@ -84,6 +85,7 @@ module _ (areas : List Area) (rows : List TableFrame) (area : Area) (live : is_l
           → missing_of (with_area area areas) rows o ≡ cond (over o) (lacks o) []
       by_kind kind.Ioas is all = rw is (ap (λ b. cond b [] []) (sym (and_none (eqb o.file.0 area.file.0))))
       by_kind (kind.Device device) is all = rw is (ap (λ b. cond b [] []) (sym (and_none (eqb o.file.0 area.file.0))))
+      by_kind (kind.Access attached) is all = rw is (ap (λ b. cond b [] []) (sym (and_none (eqb o.file.0 area.file.0))))
       by_kind (kind.Hwpt ioas width automatic) is all =
           rw is (by_space ioas width (eqb o.file.0 area.file.0 && eqb ioas.0 area.ioas.0) refl (rw is at all))
 
@@ -117,6 +119,7 @@ module _ (areas : List Area) (rows : List TableFrame) (area : Area) (live : is_l
           → lacked_by h.object.file h.object.id k ≡ missing_in rows area.span h
       by_kind kind.Ioas is hwpt = cc
       by_kind (kind.Device device) is hwpt = cc
+      by_kind (kind.Access attached) is hwpt = cc
       by_kind (kind.Hwpt ioas width automatic) is hwpt =
           let same = same_width width h.table.width (sym (ap (is_hwpt_of h.table.width) is) ∙ own) in
           ap (λ (of : Width). map (missing_at h.object.file h.object.id)

@@ -12,6 +12,7 @@ use Rattle.iofd_words.specs.declared.rows.Object.{Object}
 use Rattle.iofd_words.specs.declared.width.Width.{Width}
 use Rattle.object_table.specs.Table.{Row, Table, inserted, row_at}
 use Rattle.object_table.specs.declared.kind.Kind.TheVariants as of_kind
+use Rattle.server_state.proofs.AccessSpaces.{spaces-with}
 use Rattle.server_state.proofs.AreasBecome.{own_at}
 use Rattle.server_state.proofs.Counted.{areas-counted, objects-counted, proper-counted, table_comes, users-inserted}
 use Rattle.server_state.proofs.ObjectsMoved.{areas-inserted, fresh_id, objects-inserted, proper-inserted}
@@ -70,6 +71,8 @@ module _ {A : Type 0} (at : ℕ) (w : World) (s : State A) (tidy : IsTidy at w) 
           ∙ ap (λ (l : List (Row (Held A))). users_at l f i) one.changed
           ∙ table_comes w.objects w.attachments s.objects.rows shows.objects.counted file ioas id width automatic one.of
           one.found f i;
+      accesses = spaces-with (made_object file ioas id width automatic) w.objects
+          (unused w.objects file id fresh_there) refl shows.objects.accesses;
     }
 
     orderly_made : IsOrderly new

@@ -56,7 +56,8 @@ use Rattle.iofd_words.specs.Limits.{first_outside}
 use Rattle.iofd_words.specs.Settings.{Settings}
 use Rattle.object_table.specs.Table.{Table, changed_at, own, with_users}
 use Rattle.object_table.specs.declared.kind.Kind.TheVariants as of_kind
-use Rattle.server_state.proofs.Counted.{few_over, over-with, over_spaces}
+use Rattle.server_state.proofs.AccessSpaces.{none_to}
+use Rattle.server_state.proofs.Counted.{few_standing, over-with, over_spaces}
 use Rattle.server_state.proofs.CountsShown.{device_joins}
 use Rattle.server_state.proofs.DevicesOn.{few_on}
 use Rattle.server_state.specs.Users.{devices_on}
@@ -165,6 +166,11 @@ space_named w device pt_id bound width none binding absent = by_kind (kind_of w.
       where
         never : {X : Type 0} {x : X} → Some x ≡ None → ⊥
         never is = cc
+    by_kind (Some (kind.Access other)) named absent =
+        absurd (never (target_passed (view w) device pt_id bound (Some (kind.Access other)) binding named none).1)
+      where
+        never : {X : Type 0} {x : X} → Some x ≡ None → ⊥
+        never is = cc
     by_kind None named absent = absurd (never (target_passed (view w) device pt_id bound None binding named none).1)
       where
         never : {X : Type 0} {x : X} → Some x ≡ None → ⊥
@@ -182,6 +188,7 @@ finds w pt_id id bound d (Some kind.Ioas) found = by_found (automatic_hwpt w.obj
     by_found None is = cc
     by_found (Some object) is = refl
 finds w pt_id id bound d (Some (kind.Device other)) found = refl
+finds w pt_id id bound d (Some (kind.Access other)) found = refl
 finds w pt_id id bound d None found = refl
 
 -- an automatic page table that is found is one
@@ -210,6 +217,7 @@ automatic_is objects file ioas id width ids is =
     by_kind kind.Ioas is = cc
     by_kind (kind.Hwpt over of automatic) is = (over, of, automatic, refl)
     by_kind (kind.Device device) is = cc
+    by_kind (kind.Access attached) is = cc
 
 -- the page table that is there for an attachment is one
 there_is : (objects : List Object) (file : FileNo) (pt_id id : ObjId) (width : Width) (k : Option ObjectKind)
@@ -221,6 +229,8 @@ there_is objects file pt_id id width (Some (kind.Hwpt ioas of automatic)) ids is
     (ioas, of, automatic, ap (λ (i : ObjId). kind_of objects file i) (sym same) ∙ is)
 there_is objects file pt_id id width (Some kind.Ioas) ids is found = automatic_is objects file pt_id id width ids found
 there_is objects file pt_id id width (Some (kind.Device device)) ids is found =
+    automatic_is objects file pt_id id width ids found
+there_is objects file pt_id id width (Some (kind.Access attached)) ids is found =
     automatic_is objects file pt_id id width ids found
 there_is objects file pt_id id width None ids is found = automatic_is objects file pt_id id width ids found
 
@@ -311,10 +321,11 @@ module _ {A : Type 0} where
       let no_space : has_ioas w.objects file id ≡ false =
       ap (λ (o : Option ObjectKind). elim o as (λ _. Bool) [ Some k ↦ is_ioas k | None ↦ false ]) is_kind in
       let none_over = over_spaces w.objects file id tidy.debts.spaces no_space in
+      let none_attached = shows.objects.accesses file id no_space in
       let few = devices_few at w s file id tidy shows inside in
       device_joins w.settings w.closed w.objects w.attachments w.areas s.objects table shows.objects
       (record { device = device; file = file; hwpt = id }) ioas of automatic is_kind others
-      (omega (arith, none_over, few)) counts
+      (omega (arith, none_over, none_attached, few)) counts
 
   -- ---- by a page table that is there
 
@@ -441,6 +452,11 @@ module _ {A : Type 0} where
           objects added (subst (ArePinned (at + 1)) is next)))
       by_kind d known binding_w (Some (kind.Device other)) named found =
           absurd (never (target_passed (view w) device pt_id bound (Some (kind.Device other)) binding_w named none).1)
+        where
+          never : {X : Type 0} {x : X} → Some x ≡ None → ⊥
+          never is = cc
+      by_kind d known binding_w (Some (kind.Access other)) named found =
+          absurd (never (target_passed (view w) device pt_id bound (Some (kind.Access other)) binding_w named none).1)
         where
           never : {X : Type 0} {x : X} → Some x ≡ None → ⊥
           never is = cc
@@ -620,13 +636,16 @@ module _ {A : Type 0} where
       let (answers, to) = is_target w device pt_id id bound d (Some kind.Ioas) binding_w known space target in
       let object = made_object bound.file pt_id id width true in
       let over = over-with object w.objects bound.file id in
-      let few_tables = few_over w.objects bound.file id roomy.roomy in
+      let few_tables = few_standing w.objects bound.file id roomy.roomy in
       let one = at_most_one (eqb bound.file.0 bound.file.0 && is_hwpt_over id object.kind) in
       let few_devices = devices_few at w s bound.file id tidy shows inside in
+      let is_new = kind_new object w.objects (unused w.objects bound.file id fresh) in
+      let none_attached =
+      none_to (with_object object w.objects) bound.file id object.kind with.objects.accesses is_new refl in
       let objects =
       device_joins w.settings w.closed (with_object object w.objects) w.attachments w.areas made.objects new
-      with.objects a pt_id width true (kind_new object w.objects (unused w.objects bound.file id fresh)) others
-      (omega (arith, over, few_tables, one, few_devices)) counts in
+      with.objects a pt_id width true is_new others
+      (omega (arith, over, none_attached, few_tables, one, few_devices)) counts in
       let left : World = device_attached w device pt_id (reply.Id id) in
       let left_is : left ≡ record table { attachments = with_attachment a w.attachments } = to ∙ is in
       let owned = owned_after {A = A} at w (event.Attach device pt_id) (reply.Id id) answers tt tidy.tabled.owned in

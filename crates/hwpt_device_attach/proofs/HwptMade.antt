@@ -125,6 +125,7 @@ module _ {A : Type 0} where
       by_kind : (k : ObjectKind) → is_known_device w.settings k ≡ true → device_in k ≡ Some device → ⊥
       by_kind kind.Ioas known is = cc
       by_kind (kind.Hwpt ioas width automatic) known is = cc
+      by_kind (kind.Access attached) known is = cc
       by_kind (kind.Device bound) known is =
           let same : bound ≡ device = cc in
           by_settings (device_of w.settings device) (rw same at known)

@@ -46,6 +46,7 @@ module _ {A : Type 0} where
           spaces = λ f i. shows.objects.spaces f i ∙ ap (λ (l : List (Row (Held A))). areas_at l f i) (sym rows);
           files = λ number. rw files (shows.objects.files number);
           counted = λ f i. ap (λ (l : List (Row (Held A))). users_at l f i) rows ∙ shows.objects.counted f i;
+          accesses = shows.objects.accesses;
         };
         devices = shows.devices;
         users = shows.users;

@@ -13,7 +13,7 @@ use Rattle.iofd_words.specs.declared.rows.ObjectKind.TheVariants as kind
 use Rattle.iofd_words.specs.declared.width.Width.{Width}
 use Rattle.object_table.specs.Table.{Row, Table, changed_at, is_at, own, with_users}
 use Rattle.object_table.specs.declared.kind.Kind.TheVariants as of_kind
-use Rattle.server_state.proofs.Counted.{few_over, space_row, users_of_row, where_found}
+use Rattle.server_state.proofs.Counted.{few_standing, space_row, users_of_row, where_found}
 use Rattle.server_state.proofs.DevicesOn.{on_tables}
 use Rattle.server_state.specs.Shows.{Shows}
 use Rattle.server_state.specs.Step.{IsTidy}
@@ -38,7 +38,7 @@ module _ {A : Type 0} where
       let (row, is_own, there) = space_row s.objects.rows file ioas shows.objects.proper
       (ap (λ (l : List Object). has_ioas l file ioas) (sym shows.objects.rows) ∙ roomy.space) in
       let many = users_of_row w.objects w.attachments s.objects.rows shows.objects.counted file ioas row there in
-      let few = few_over w.objects file ioas roomy.roomy in
+      let few = few_standing w.objects file ioas roomy.roomy in
       let none = on_tables w.objects w.attachments file ioas tidy.debts.tables
       (no_table (kind_of w.objects file ioas) roomy.space) in
       record {
@@ -55,3 +55,4 @@ module _ {A : Type 0} where
       no_table (Some kind.Ioas) is = refl
       no_table (Some (kind.Hwpt over of automatic)) is = cc
       no_table (Some (kind.Device device)) is = refl
+      no_table (Some (kind.Access attached)) is = refl

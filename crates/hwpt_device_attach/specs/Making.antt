@@ -37,6 +37,8 @@ named_table objects file pt_id width (Some kind.Ioas) =
     option_map (λ object. object.id) (automatic_hwpt objects file pt_id width)
 named_table objects file pt_id width (Some (kind.Device device)) =
     option_map (λ object. object.id) (automatic_hwpt objects file pt_id width)
+named_table objects file pt_id width (Some (kind.Access attached)) =
+    option_map (λ object. object.id) (automatic_hwpt objects file pt_id width)
 named_table objects file pt_id width None = option_map (λ object. object.id) (automatic_hwpt objects file pt_id width)
 
 abbrev pub table_there : List Object → FileNo → ObjId → Width → Option ObjId

@@ -14,7 +14,7 @@ ghost use Rattle.server_state.specs.Seen.{seen};
 ghost use Rattle.server_state.specs.Step.{IsGranted, IsKnown, MovingSteps, ShowsSame};
 
 use crate::making::width_of;
-use crate::{attachments, making, narrow};
+use crate::{attachments, making, narrow, waiting};
 use iofd_words::{
     Attachment, Cause, Config, DeviceNo, FileNo, FrameNo, NoMemory, ObjId, ObjectKind, Reply, Width,
 };
@@ -57,7 +57,7 @@ fn refusal_by_target<A: Allocator + Copy>(
         Some(ObjectKind::Hwpt { ioas, width, .. }) => {
             refusal_by_table(state, device, file, ioas, width)
         }
-        Some(ObjectKind::Device(_)) | None => Some(Cause::Id),
+        Some(ObjectKind::Device(_) | ObjectKind::Access { .. }) | None => Some(Cause::Id),
     }
 }
 
@@ -103,6 +103,9 @@ fn refusal_by_space<A: Allocator + Copy>(
     requires { IsKnown state.now }
     ensures { result ≡ first_true (target_checks (seen state.now) device ioas file (Some ObjectKind.Ioas)) }
 {
+    if waiting::waits_for_leaving(state, file, ioas) {
+        return Some(Cause::Pending);
+    }
     if narrow::narrows(state, device, file, ioas) {
         return Some(Cause::Narrow);
     }

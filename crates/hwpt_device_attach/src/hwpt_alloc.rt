@@ -11,7 +11,7 @@ ghost use Rattle.server_state.specs.Held.{objects_in};
 ghost use Rattle.server_state.specs.Seen.{seen};
 ghost use Rattle.server_state.specs.Step.{IsGranted, IsKnown, MovingSteps, ShowsSame};
 
-use crate::{making, narrow};
+use crate::{making, narrow, waiting};
 use iofd_words::{
     Cause, DeviceNo, FileNo, FrameNo, HwptRequest, NoMemory, ObjId, ObjectKind, Reply,
 };
@@ -37,6 +37,9 @@ pub fn refusal<A: Allocator + Copy>(
     };
     if !has_ioas(&state.objects, file, request.ioas) {
         return Some(Cause::Id);
+    }
+    if waiting::waits_for_leaving(state, file, request.ioas) {
+        return Some(Cause::Pending);
     }
     if narrow::narrows_by_width(state, device, file, request.ioas) {
         return Some(Cause::Narrow);

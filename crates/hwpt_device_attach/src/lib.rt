@@ -9,3 +9,4 @@ pub mod hwpt_alloc;
 mod making;
 mod narrow;
 mod pins;
+mod waiting;

@@ -42,7 +42,7 @@ unattached_there (o ∷ objects) file id attached none =
     by_test false is none later = rw (is, later none) refl
 
 -- an access object, if one has this name
-access_of : (o : Option ObjectKind) → elim o as (λ _. Bool) [ Some k ↦ is_access k | None ↦ false ] ≡ true
+pub access_of : (o : Option ObjectKind) → elim o as (λ _. Bool) [ Some k ↦ is_access k | None ↦ false ] ≡ true
     → (attached : Option ObjId) × (o ≡ Some (kind.Access attached))
 access_of None is = cc
 access_of (Some kind.Ioas) is = cc

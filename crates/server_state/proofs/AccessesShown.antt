@@ -126,38 +126,6 @@ to_none file f i = by_file (eqb file.0 f.0)
     by_file true = refl
     by_file false = refl
 
--- there are no more of them than objects of the file
-pub few_users : (objects : List Object) (f : FileNo) (i : ObjId)
-    → tables_over objects f i + accesses_to objects f i ≤ length (objects_of objects f)
-few_users [] f i = omega arith
-few_users (o ∷ objects) f i =
-    rw (
-      count-cons (λ (x : Object). eqb x.file.0 f.0 && is_hwpt_over i x.kind) o objects,
-      count-cons (λ (x : Object). eqb x.file.0 f.0 && is_access_to i x.kind) o objects,
-    ) (by_file (eqb o.file.0 f.0) (few_users objects f i))
-  where
-    at_most_one : (k : ObjectKind) → cond (is_hwpt_over i k) 1 0 + cond (is_access_to i k) 1 0 ≤ 1
-    at_most_one kind.Ioas = omega arith
-    at_most_one (kind.Hwpt ioas width automatic) = by_id (eqb ioas.0 i.0)
-      where
-        by_id : (b : Bool) → cond b 1 0 + 0 ≤ 1
-        by_id true = omega arith
-        by_id false = omega arith
-    at_most_one (kind.Device device) = omega arith
-    at_most_one (kind.Access None) = omega arith
-    at_most_one (kind.Access (Some ioas)) = by_id (eqb ioas.0 i.0)
-      where
-        by_id : (b : Bool) → 0 + cond b 1 0 ≤ 1
-        by_id true = omega arith
-        by_id false = omega arith
-
-    by_file : (b : Bool) → tables_over objects f i + accesses_to objects f i ≤ length (objects_of objects f)
-        → (cond (b && is_hwpt_over i o.kind) 1 0 + tables_over objects f i)
-        + (cond (b && is_access_to i o.kind) 1 0 + accesses_to objects f i)
-        ≤ length (cond b (o ∷ objects_of objects f) (objects_of objects f))
-    by_file true rest = let one = at_most_one o.kind in omega (arith, rest, one)
-    by_file false rest = omega (arith, rest)
-
 -- ---- the whole
 
 module _ {A : Type 0} (at : ℕ) (w : World) (s : State A) (file : FileNo) (id : ObjId) (before : Option ObjId)

@@ -13,8 +13,8 @@ use Rattle.iofd_rows.specs.Debts.{attach_once, is_over_space}
 use Rattle.iofd_rows.specs.Ids.{have_own_ids}
 use Rattle.iofd_words.specs.Attachments.{attachment_of, ioas_of, with_attachment, without_attachment}
 use Rattle.iofd_words.specs.Objects.{access_ioas, comes_before, has_access_to, has_hwpt, has_ioas, is_access_to}
-use Rattle.iofd_words.specs.Objects.{is_full, is_hwpt, is_hwpt_over, is_ioas, is_object, kind_of, with_object}
-use Rattle.iofd_words.specs.Objects.{without_object}
+use Rattle.iofd_words.specs.Objects.{is_full, is_hwpt, is_hwpt_over, is_ioas, is_object, kind_of, objects_of}
+use Rattle.iofd_words.specs.Objects.{with_object, without_object}
 use Rattle.iofd_words.specs.declared.numbers.FileNo.{FileNo}
 use Rattle.iofd_words.specs.declared.numbers.ObjId.{ObjId}
 use Rattle.iofd_words.specs.declared.numbers.DeviceNo.{DeviceNo}
@@ -231,30 +231,6 @@ some_over objects file id ioas width automatic ids is =
     let one : over_by file (kind.Hwpt ioas width automatic) file ioas ≡ 1 = rw (itself file.0, itself ioas.0) refl in
     omega (arith, all, one)
 
--- a file that isn't full has fewer page tables than it may have objects
-pub few_over : (objects : List Object) (file : FileNo) (i : ObjId) → is_full objects file ≡ false
-    → tables_over objects file i < 65535
-few_over objects file i room =
-    let few = within objects in
-    let below = short (length (filter (λ (o : Object). eqb o.file.0 file.0) objects)) room in
-    omega (arith, few, below)
-  where
-    short : (n : ℕ) → leb 65535 n ≡ false → n < 65535
-    short n is = grind (arith, nat_tests)
-
-    within : (xs : List Object) → tables_over xs file i ≤ length (filter (λ (o : Object). eqb o.file.0 file.0) xs)
-    within [] = omega arith
-    within (x ∷ xs) =
-        rw (count-cons (λ (o : Object). eqb o.file.0 file.0 && is_hwpt_over i o.kind) x xs)
-        (by_tests (eqb x.file.0 file.0) (is_hwpt_over i x.kind) (within xs))
-      where
-        by_tests : (b c : Bool) → tables_over xs file i ≤ length (filter (λ (o : Object). eqb o.file.0 file.0) xs)
-            → cond (b && c) 1 0 + tables_over xs file i ≤ length (cond b
-            (x ∷ filter (λ (o : Object). eqb o.file.0 file.0) xs) (filter (λ (o : Object). eqb o.file.0 file.0) xs))
-        by_tests true true rest = omega (arith, rest)
-        by_tests true false rest = omega (arith, rest)
-        by_tests false c rest = omega (arith, rest)
-
 -- ---- how many access objects are attached to an address space
 
 -- 1 where an object of this file and kind is one
@@ -288,6 +264,49 @@ to-left objects file id k f i ids is other =
     let all = kinds-without (is_access_to i) objects file id k f ids is in
     let none = unattached file k f i other in
     omega (arith, all, none)
+
+-- page tables and access objects on an address space are objects of its file
+pub few_users : (objects : List Object) (f : FileNo) (i : ObjId)
+    → tables_over objects f i + accesses_to objects f i ≤ length (objects_of objects f)
+few_users [] f i = omega arith
+few_users (o ∷ objects) f i =
+    rw (
+      count-cons (λ (x : Object). eqb x.file.0 f.0 && is_hwpt_over i x.kind) o objects,
+      count-cons (λ (x : Object). eqb x.file.0 f.0 && is_access_to i x.kind) o objects,
+    ) (by_file (eqb o.file.0 f.0) (few_users objects f i))
+  where
+    at_most_one : (k : ObjectKind) → cond (is_hwpt_over i k) 1 0 + cond (is_access_to i k) 1 0 ≤ 1
+    at_most_one kind.Ioas = omega arith
+    at_most_one (kind.Hwpt ioas width automatic) = by_id (eqb ioas.0 i.0)
+      where
+        by_id : (b : Bool) → cond b 1 0 + 0 ≤ 1
+        by_id true = omega arith
+        by_id false = omega arith
+    at_most_one (kind.Device device) = omega arith
+    at_most_one (kind.Access None) = omega arith
+    at_most_one (kind.Access (Some ioas)) = by_id (eqb ioas.0 i.0)
+      where
+        by_id : (b : Bool) → 0 + cond b 1 0 ≤ 1
+        by_id true = omega arith
+        by_id false = omega arith
+
+    by_file : (b : Bool) → tables_over objects f i + accesses_to objects f i ≤ length (objects_of objects f)
+        → (cond (b && is_hwpt_over i o.kind) 1 0 + tables_over objects f i)
+        + (cond (b && is_access_to i o.kind) 1 0 + accesses_to objects f i)
+        ≤ length (cond b (o ∷ objects_of objects f) (objects_of objects f))
+    by_file true rest = let one = at_most_one o.kind in omega (arith, rest, one)
+    by_file false rest = omega (arith, rest)
+
+-- so they are few where the file isn't full
+pub few_standing : (objects : List Object) (f : FileNo) (i : ObjId) → is_full objects f ≡ false
+    → tables_over objects f i + accesses_to objects f i < 65535
+few_standing objects f i room =
+    let few = few_users objects f i in
+    let below = short (length (objects_of objects f)) room in
+    omega (arith, few, below)
+  where
+    short : (n : ℕ) → leb 65535 n ≡ false → n < 65535
+    short n is = grind (arith, nat_tests)
 
 -- all users of an object
 abbrev pub counts_of : List Object → List Attachment → FileNo → ObjId → ℕ

@@ -98,7 +98,7 @@ module _ {A : Type 0} where
 
   -- ---- how many there are
 
-  same_count : (rows : List (Row (Held A))) (file : FileNo)
+  pub same_count : (rows : List (Row (Held A))) (file : FileNo)
       → length (objects_of (map object_of rows) file) ≡ length (filter (is_of_file file) rows)
   same_count [] file = refl
   same_count (row ∷ rows) file = let rest = same_count rows file in grind (arith, nat_tests)

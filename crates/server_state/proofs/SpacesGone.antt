@@ -5,7 +5,7 @@ use Rattle.std.specs.List.{find, filter, list_all, list_any}
 use Rattle.std.proofs.lemmas.Bool.Decides.{nat_tests}
 use Rattle.iofd_words.specs.Areas.{areas_of, is_of}
 use Rattle.iofd_rows.specs.Ids.{have_own_ids}
-use Rattle.iofd_words.specs.Objects.{access_ioas, is_bound_device, is_hwpt, is_object, kind_of, objects_of}
+use Rattle.iofd_words.specs.Objects.{access_ioas, is_hwpt, is_object, kind_of, objects_of}
 use Rattle.iofd_words.specs.Objects.{without_object}
 use Rattle.iofd_words.specs.declared.numbers.FileNo.{FileNo}
 use Rattle.iofd_words.specs.declared.numbers.ObjId.{ObjId}
@@ -118,12 +118,22 @@ areas_elsewhere (area ∷ areas) file id f i other =
     let rest = areas_elsewhere areas file id f i other in grind (arith, nat_tests)
 
 module _ {A : Type 0} where
-  -- the bound devices of a file
-  pub device_rows : (rows : List (Row (Held A))) (file : FileNo)
-      → list_any (λ (object : Object). is_bound_device object.kind) (objects_of (map object_of rows) file) ≡ list_any
-      (λ (row : Row (Held A)). is_bound_device (kind_in row.value)) (filter (is_of_file file) rows)
-  device_rows [] file = refl
-  device_rows (row ∷ rows) file = let rest = device_rows rows file in grind (arith, nat_tests)
+  -- a file's objects of kinds that pass a test
+  pub kind_rows : (test : ObjectKind → Bool) (rows : List (Row (Held A))) (file : FileNo)
+      → list_any (λ (object : Object). test object.kind) (objects_of (map object_of rows) file) ≡ list_any
+      (λ (row : Row (Held A)). test (kind_in row.value)) (filter (is_of_file file) rows)
+  kind_rows test [] file = refl
+  kind_rows test (row ∷ rows) file = by_file (is_of_file file row) (kind_rows test rows file)
+    where
+      by_file : (b : Bool)
+          → list_any (λ (object : Object). test object.kind) (objects_of (map object_of rows) file)
+          ≡ list_any (λ (row : Row (Held A)). test (kind_in row.value)) (filter (is_of_file file) rows)
+          → list_any (λ (object : Object). test object.kind)
+          (cond b (object_of row ∷ objects_of (map object_of rows) file) (objects_of (map object_of rows) file))
+          ≡ list_any (λ (row : Row (Held A)). test (kind_in row.value))
+          (cond b (row ∷ filter (is_of_file file) rows) (filter (is_of_file file) rows))
+      by_file true rest = ap (λ b. test (kind_in row.value) || b) rest
+      by_file false rest = rest
 
   -- ---- one row goes
 
