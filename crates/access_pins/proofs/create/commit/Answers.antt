@@ -1,0 +1,28 @@
+use Rattle.std.proofs.Common.{◌∙◌, refl}
+use Rattle.access_pins.proofs.Created.{create_taken}
+use Rattle.iofd_rows.proofs.Found.{find-with_object}
+use Rattle.iofd_words.specs.After.{changed}
+use Rattle.iofd_words.specs.Answers.{Answers}
+use Rattle.iofd_words.specs.Objects.{is_bound_as}
+use Rattle.server_state.proofs.ObjectsMoved.{fresh_id, shows_inserted}
+use Rattle.access_pins.proofs.create.commit.Goals as goal
+
+pub unreachable-requires : goal.unreachable-requires
+unreachable-requires g c =
+    let known = c.requires.granted in
+    create_taken known.world c.args.state.now c.args.file c.in-Err-Refused.field-0 c.in-Err-Refused.field-0-0
+    known.shows known.none c.in-Err-Refused.field-0-is c.in-Err-Refused.ensures.why
+
+pub returns-clause-ok : goal.returns-clause-ok
+unfolding changed Answers
+returns-clause-ok g c = λ at w tidy shows none.
+    let inserted = c.insert_reserved-id.ensures in
+    let reserved = c.reserve.ensures in
+    let unused = rw reserved.rows at inserted.unused in (
+      rw shows.objects.rows (fresh_id c.args.state.now.objects.rows c.args.file c.insert_reserved-id.result
+          inserted.in_range.0 inserted.in_range.1 unused),
+      shows_inserted w c.args.state.now _ c.insert_reserved-id.new.self c.args.state.now.bindings shows refl
+          refl refl unused refl refl (rw reserved.rows at inserted.rows) (inserted.files ∙ reserved.files)
+          (λ device. find-with_object (λ object. is_bound_as device object.kind) _ w.objects refl
+          ∙ shows.devices.bindings device) shows.devices.rising,
+    )
