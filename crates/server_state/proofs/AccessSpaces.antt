@@ -1,5 +1,5 @@
 -- Access objects are attached to address spaces alone, whatever objects come or go.
-use Rattle.std.proofs.Common.{◌≡◌, ℕ, ◌+◌, Bool, true, false, cond, ◌&&◌, eqb, Option, Some, None, List, [], ◌∷◌, refl}
+use Rattle.std.proofs.Common.{◌≡◌, ◌+◌, Bool, true, false, cond, eqb, Option, Some, None, List, [], ◌∷◌, refl}
 use Rattle.std.proofs.Common.{sym, ◌∙◌, ap, map, arith}
 use Rattle.std.specs.List.{find, list_any}
 use Rattle.std.proofs.lemmas.Bool.Decides.{nat_tests}

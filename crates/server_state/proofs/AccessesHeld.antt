@@ -1,12 +1,12 @@
 -- What an access object that is attached or detached leaves of the rows of the table.
-use Rattle.std.proofs.Common.{◌≡◌, ℕ, ◌+◌, ◌-◌, ◌<◌, Bool, true, false, cond, ◌&&◌, ◌||◌, not, eqb, Option, Some, None, List, []}
+use Rattle.std.proofs.Common.{◌≡◌, ℕ, ◌+◌, ◌-◌, ◌<◌, Bool, true, false, cond, ◌||◌, not, eqb, Option, Some, None, List, []}
 use Rattle.std.proofs.Common.{◌∷◌, map, IfSome, refl, sym, ◌∙◌, ap, arith}
 use Rattle.std.specs.List.{find, list_all, list_any}
 use Rattle.std.specs.Option.{option_map}
 use Rattle.std.proofs.lemmas.Bool.Decides.{nat_tests}
 use Rattle.iofd_rows.proofs.Accesses.{test_reattached}
 use Rattle.iofd_rows.proofs.Bools.{and_true, not_true}
-use Rattle.iofd_rows.proofs.Named.{file_is, id_is, some_passes}
+use Rattle.iofd_rows.proofs.Named.{file_is, id_is}
 use Rattle.iofd_rows.specs.Ids.{have_own_ids}
 use Rattle.iofd_words.specs.Objects.{has_access, has_ioas, is_access, is_ioas, is_object, kind_of, with_access}
 use Rattle.iofd_words.specs.declared.numbers.FileNo.{FileNo}

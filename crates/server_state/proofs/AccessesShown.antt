@@ -1,34 +1,32 @@
 -- What is kept goes on to show the world as an access object is attached or detached.
-use Rattle.std.proofs.Common.{◌≡◌, ℕ, ◌+◌, ◌-◌, ◌<◌, ◌≤◌, Bool, true, false, cond, ◌&&◌, not, eqb, Option, Some}
-use Rattle.std.proofs.Common.{None, List, [], ◌∷◌, length, map, refl, sym, ◌∙◌, ap, arith}
-use Rattle.std.specs.List.{count_by, filter, find, list_any}
+use Rattle.std.proofs.Common.{◌≡◌, ℕ, ◌+◌, ◌-◌, ◌<◌, Bool, true, false, cond, ◌&&◌, not, eqb, Option, Some}
+use Rattle.std.proofs.Common.{None, List, [], ◌∷◌, refl, sym, ◌∙◌, ap, arith}
+use Rattle.std.specs.List.{count_by, find, list_any}
 use Rattle.std.proofs.lemmas.Bool.Decides.{nat_tests}
 use Rattle.iofd_rows.proofs.Accesses.{IsReattached, Stays, Attaches, count_reattached, found_reattached, hwpt-reattached}
 use Rattle.iofd_rows.proofs.Accesses.{reattached, reattached_is, test_reattached}
 use Rattle.iofd_rows.proofs.Bools.{and_true, clash, not_true}
 use Rattle.iofd_rows.proofs.Named.{file_is, id_is}
 use Rattle.iofd_rows.specs.Ids.{have_own_ids}
-use Rattle.iofd_words.specs.Objects.{binding_of, has_ioas, is_access, is_access_to, is_bound_as, is_hwpt, is_hwpt_over}
-use Rattle.iofd_words.specs.Objects.{is_ioas, is_object, kind_of, objects_of, with_access}
+use Rattle.iofd_words.specs.Objects.{has_ioas, is_access, is_access_to, is_bound_as, is_hwpt, is_hwpt_over}
+use Rattle.iofd_words.specs.Objects.{is_ioas, is_object, kind_of, with_access}
 use Rattle.iofd_words.specs.World.{World}
-use Rattle.iofd_words.specs.declared.numbers.DeviceNo.{DeviceNo}
 use Rattle.iofd_words.specs.declared.numbers.FileNo.{FileNo}
 use Rattle.iofd_words.specs.declared.numbers.ObjId.{ObjId}
 use Rattle.iofd_words.specs.declared.rows.Object.{Object}
 use Rattle.iofd_words.specs.declared.rows.ObjectKind.{ObjectKind}
 use Rattle.iofd_words.specs.declared.rows.ObjectKind.TheVariants as kind
-use Rattle.object_table.specs.Table.{Row, Table, is_of_file}
+use Rattle.object_table.specs.Table.{Table}
 use Rattle.user_memory_rows.proofs.FramesFollow.{pins_moved, translated_same}
 use Rattle.user_memory_rows.proofs.PinsFollow.{count-cons}
 use Rattle.server_state.proofs.AccessesHeld.{unattached_there}
 use Rattle.server_state.proofs.Counted.{counts_of, same_named, to_by}
 use Rattle.server_state.specs.Accesses.{HasAccess, one_at}
-use Rattle.server_state.specs.Held.{object_of}
 use Rattle.server_state.specs.Shows.{Shows}
 use Rattle.server_state.specs.Spaces.{is_space}
 use Rattle.server_state.specs.Step.{IsTidy}
 use Rattle.server_state.specs.Tables.{page_tables_among}
-use Rattle.server_state.specs.Users.{accesses_to, devices_on, tables_over, users_at}
+use Rattle.server_state.specs.Users.{accesses_to, tables_over, users_at}
 use Rattle.server_state.specs.declared.held.Held.{Held}
 use Rattle.server_state.specs.declared.state.State.{State}
 

@@ -4,7 +4,7 @@ use Rattle.std.proofs.Common.{◌≡◌, ℕ, ◌+◌, ◌-◌, ◌<◌, ◌≤�
 use Rattle.std.proofs.Common.{Some, None, List, [], ◌∷◌, length, map, refl, sym, ◌∙◌, ap, subst, arith}
 use Rattle.std.proofs.Common.{IfSome}
 use Rattle.std.specs.Option.{option_map}
-use Rattle.std.specs.List.{count_by, filter, find, list_all, list_any}
+use Rattle.std.specs.List.{count_by, find, list_all, list_any}
 use Rattle.std.proofs.lemmas.Bool.Decides.{nat_tests}
 use Rattle.iofd_rows.proofs.Bools.{and_true, not_true}
 use Rattle.iofd_rows.proofs.Found.{found_passes}

@@ -1,5 +1,5 @@
 -- The most tries of some areas, whichever words count them.
-use Rattle.std.proofs.Common.{◌≡◌, ℕ, max, List, [], ◌∷◌, refl, sym, ◌∙◌, ap}
+use Rattle.std.proofs.Common.{◌≡◌, ℕ, max, List, [], ◌∷◌, refl}
 use Rattle.std.specs.List.{fold}
 use Rattle.iofd_words.specs.Areas.{most_tries, tries_of}
 use Rattle.iofd_words.specs.declared.rows.Area.{Area}

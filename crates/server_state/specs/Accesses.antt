@@ -1,5 +1,5 @@
 -- An access object is attached to an address space, or detached from it.
-use Rattle.std.specs.Prelude.{◌≡◌, ℕ, true, Option, List, if◌then◌else◌}
+use Rattle.std.specs.Prelude.{◌≡◌, ℕ, true, Option, if◌then◌else◌}
 use Rattle.std.specs.List.{list_all}
 use Rattle.iofd_words.specs.Objects.{with_access}
 use Rattle.iofd_words.specs.declared.numbers.FileNo.{FileNo}
