@@ -3,12 +3,14 @@
 ghost use Rattle.std.specs.Prelude.{◌≡◌, ℕ, IfOk, OnErr};
 ghost use Rattle.iofd_words.specs.Checks.{access_create_checks};
 ghost use Rattle.iofd_words.specs.FirstTrue.{first_true};
+ghost use Rattle.iofd_words.specs.Objects as objects;
 ghost use Rattle.iofd_words.specs.declared.event.Event.TheVariants as event;
+ghost use Rattle.server_state.specs.Held.{objects_in};
 ghost use Rattle.server_state.specs.Seen.{seen};
 ghost use Rattle.server_state.specs.Step.{IsGranted, ShowsSame, Steps};
 
 use iofd_words::{CallError, Cause, FileNo, NoMemory, Reply};
-use object_table::Kind;
+use object_table::{Kind, ObjectTable};
 use server_state::{Held, State};
 use std::alloc::Allocator;
 
@@ -16,17 +18,25 @@ use std::alloc::Allocator;
 ///
 /// Refused by 11 (ENOENT, `Cause::Id`) where the file isn't open, then by 23 (ENOSPC, `Cause::Full`) where it has
 /// 65,535 objects.
-#[tactic(auto, using(server_state::proofs::Objects::fullness), unfolding(iofd_words::specs::Checks::access_create_checks))]
+#[tactic(auto, unfolding(iofd_words::specs::Checks::access_create_checks))]
 pub fn refusal<A: Allocator>(state: &State<A>, file: FileNo) -> Option<Cause>
     ensures { result ≡ first_true (access_create_checks (seen state.now) file) }
 {
     if !state.objects.is_open(file) {
         return Some(Cause::Id);
     }
-    if state.objects.is_full(file) {
+    if is_full(&state.objects, file) {
         return Some(Cause::Full);
     }
     None
+}
+
+/// Whether the file has as many objects as it may have.
+#[tactic(auto, using(server_state::proofs::Objects::fullness))]
+fn is_full<A: Allocator>(table: &ObjectTable<Held<A>, A>, file: FileNo) -> bool
+    ensures { result ≡ objects.is_full (objects_in table.now) file }
+{
+    table.is_full(file)
 }
 
 /// What it does where nothing refuses it: the file has one more object, an access object that is attached to nothing,

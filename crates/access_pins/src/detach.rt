@@ -16,8 +16,8 @@ use std::alloc::Allocator;
 
 /// Why it is refused, by the first row of the definitions that holds. None where nothing refuses it.
 ///
-/// Refused by 11 (ENOENT, `Cause::Id`) where the file isn't open or has no access object of this id, then by 28 (ENOENT,
-/// `Cause::Unattached`) where that isn't attached.
+/// Refused by 11 (ENOENT, `Cause::Id`) where the file isn't open or has no access object of this id, then by 28
+/// (ENOENT, `Cause::Unattached`) where that isn't attached.
 #[tactic(auto, unfolding(iofd_words::specs::Checks::access_detach_checks))]
 pub fn refusal<A: Allocator>(state: &State<A>, file: FileNo, id: ObjId) -> Option<Cause>
     ensures { result ≡ first_true (access_detach_checks (seen state.now) file id) }

@@ -1,6 +1,6 @@
 -- An object that was destroyed: an address space with its areas, or a page table with pins.
-use Rattle.std.proofs.Common.{◌≡◌, ℕ, Bool, true, false, cond, ◌&&◌, ltb, not, eqb, is_none, is_some, Option, Some, None, List}
-use Rattle.std.proofs.Common.{[], map, refl, sym, ◌∙◌, ap, subst, arith, ◌+◌}
+use Rattle.std.proofs.Common.{◌≡◌, ℕ, Bool, true, false, cond, ◌&&◌, ltb, not, eqb, is_none, is_some, Option, Some}
+use Rattle.std.proofs.Common.{None, List, [], map, refl, sym, ◌∙◌, ap, subst, arith, ◌+◌}
 use Rattle.iofd_words.specs.Allowed.{AllowedRanges, allowed_of, without_allowed}
 use Rattle.iofd_words.specs.Answers.{Answers}
 use Rattle.iofd_runs.proofs.KeepsPins.{keeps_pins}
@@ -430,8 +430,8 @@ module _ {A : Type 0} where
         space_kind))
 
   -- an access object
-  module _ (at : ℕ) (w : World) (s : State A) (file : FileNo) (id : ObjId) (attached : Option ObjId) (tidy : IsTidy at w)
-      (shows : Shows w s) (none : first_true (destroy_checks (view w) file id) ≡ None)
+  module _ (at : ℕ) (w : World) (s : State A) (file : FileNo) (id : ObjId) (attached : Option ObjId)
+      (tidy : IsTidy at w) (shows : Shows w s) (none : first_true (destroy_checks (view w) file id) ≡ None)
       (is_kind : kind_of (objects_in s.objects) file id ≡ Some (kind.Access attached)) where
     access_kind : kind_of w.objects file id ≡ Some (kind.Access attached)
     access_kind = kind_shown w s file id (kind.Access attached) shows is_kind
@@ -458,7 +458,8 @@ module _ {A : Type 0} where
     tables_same : (f : FileNo) (i : ObjId)
         → has_hwpt (without_object file id w.objects) f i ≡ has_hwpt w.objects f i
     tables_same f i = any_without (λ (o : Object). eqb o.file.0 f.0 && is_hwpt_over i o.kind) w.objects file id
-        (kind.Access attached) tidy.ids access_kind (λ object of_file of_kind. rw of_kind (fails (eqb object.file.0 f.0)))
+        (kind.Access attached) tidy.ids access_kind
+        (λ object of_file of_kind. rw of_kind (fails (eqb object.file.0 f.0)))
       where
         fails : (b : Bool) → (b && false) ≡ false
         fails true = refl
@@ -494,9 +495,10 @@ module _ {A : Type 0} where
         allowed w.table_frames s.page_tables tidy shows none access_kind refl
         (objects_gone w s file id table shows row_gone files
         (λ f i. ap (λ (l : List (Row (Held A))). users_at l f i) row_gone
-        ∙ other_goes w.objects w.attachments s.objects.rows shows.objects.counted file id (kind.Access attached) tidy.ids
-        access_kind refl detached none_over_it none_to_it none_on_it f i)
-        (spaces-without w.objects file id (kind.Access attached) tidy.ids access_kind none_to_it shows.objects.accesses))
+        ∙ other_goes w.objects w.attachments s.objects.rows shows.objects.counted file id (kind.Access attached)
+        tidy.ids access_kind refl detached none_over_it none_to_it none_on_it f i)
+        (spaces-without w.objects file id (kind.Access attached) tidy.ids access_kind none_to_it
+        shows.objects.accesses))
         shows.frames shows.tables.stand
         (shows.tables.tables
         ∙ sym (no_table_goes w.objects file id tidy.ids (kind.Access attached) access_kind refl))

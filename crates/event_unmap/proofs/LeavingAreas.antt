@@ -1,7 +1,7 @@
 -- As the areas that lie in a span go, or begin to leave, the pages of its live areas have no live area any more, and
 -- every other page has the one that it had.
-use Rattle.std.proofs.Common.{◌≡◌, ℕ, ◌+◌, ◌*◌, ◌<◌, ◌≤◌, Bool, true, false, cond, ◌&&◌, not, is_some, ltb, Option, Some}
-use Rattle.std.proofs.Common.{None, List, [], ◌∷◌, map, refl, ap, ◌∙◌, arith}
+use Rattle.std.proofs.Common.{◌≡◌, ℕ, ◌+◌, ◌*◌, ◌<◌, ◌≤◌, Bool, true, false, cond, ◌&&◌, not, is_some, ltb, Option}
+use Rattle.std.proofs.Common.{Some, None, List, [], ◌∷◌, map, refl, ap, ◌∙◌, arith}
 use Rattle.std.specs.List.{filter}
 use Rattle.std.proofs.lemmas.Bool.Decides.{nat_tests}
 use Rattle.area_map_rows.specs.Areas.{AreApart, AreApartFrom, areas_outside, areas_within}

@@ -187,7 +187,8 @@ module _ {A : Type 0} where
       let of_world = in_world w s file id (Some (kind.Device device)) shows is_kind in
       let left_objects = without_device_object file id w.objects in
       let no_space = ap (λ (o : Option ObjectKind). elim o [ Some k ↦ is_ioas k | None ↦ false ]) is_kind in
-      let no_space_w : has_ioas w.objects file id ≡ false = ap (λ (o : Option ObjectKind). elim o [ Some k ↦ is_ioas k | None ↦ false ]) of_world in
+      let no_space_w : has_ioas w.objects file id ≡ false =
+      ap (λ (o : Option ObjectKind). elim o [ Some k ↦ is_ioas k | None ↦ false ]) of_world in
       let none_over = over_spaces w.objects file id tidy.debts.spaces no_space_w in
       let none_on = on_tables w.objects w.attachments file id tidy.debts.tables
       (ap (λ (o : Option ObjectKind). elim o [ Some k ↦ is_hwpt k | None ↦ false ]) of_world) in

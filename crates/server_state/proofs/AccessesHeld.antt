@@ -1,6 +1,6 @@
 -- What an access object that is attached or detached leaves of the rows of the table.
-use Rattle.std.proofs.Common.{◌≡◌, ℕ, ◌+◌, ◌-◌, ◌<◌, Bool, true, false, cond, ◌||◌, not, eqb, Option, Some, None, List, []}
-use Rattle.std.proofs.Common.{◌∷◌, map, IfSome, refl, sym, ◌∙◌, ap, arith}
+use Rattle.std.proofs.Common.{◌≡◌, ℕ, ◌+◌, ◌-◌, ◌<◌, Bool, true, false, cond, ◌||◌, not, eqb, Option, Some, None, List}
+use Rattle.std.proofs.Common.{[], ◌∷◌, map, IfSome, refl, sym, ◌∙◌, ap, arith}
 use Rattle.std.specs.List.{find, list_all, list_any}
 use Rattle.std.specs.Option.{option_map}
 use Rattle.std.proofs.lemmas.Bool.Decides.{nat_tests}
@@ -17,8 +17,8 @@ use Rattle.iofd_words.specs.declared.rows.ObjectKind.TheVariants as kind
 use Rattle.object_table.specs.Table.{Row, Table, changed_at, is_at, is_own, is_same_kind, own, with_users, with_value}
 use Rattle.object_table.specs.declared.kind.Kind.TheVariants as of_kind
 use Rattle.server_state.proofs.AreasHeld.{areas_elsewhere, areas_here, not_there, own_is_first, same_at, users_kept}
-use Rattle.server_state.proofs.Counted.{areas-counted, objects-counted, own_row, proper-counted, space_row, users_elsewhere}
-use Rattle.server_state.proofs.Counted.{users_here, where_found}
+use Rattle.server_state.proofs.Counted.{areas-counted, objects-counted, own_row, proper-counted, space_row}
+use Rattle.server_state.proofs.Counted.{users_elsewhere, users_here, where_found}
 use Rattle.server_state.proofs.Objects.{kind_at, kind_of_rows}
 use Rattle.server_state.proofs.TableRows.{areas_of_other}
 use Rattle.server_state.specs.Accesses.{HasAccess, one_at}

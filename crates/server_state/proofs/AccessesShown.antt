@@ -3,8 +3,8 @@ use Rattle.std.proofs.Common.{◌≡◌, ℕ, ◌+◌, ◌-◌, ◌<◌, Bool, t
 use Rattle.std.proofs.Common.{None, List, [], ◌∷◌, refl, sym, ◌∙◌, ap, arith}
 use Rattle.std.specs.List.{count_by, find, list_any}
 use Rattle.std.proofs.lemmas.Bool.Decides.{nat_tests}
-use Rattle.iofd_rows.proofs.Accesses.{IsReattached, Stays, Attaches, count_reattached, found_reattached, hwpt-reattached}
-use Rattle.iofd_rows.proofs.Accesses.{reattached, reattached_is, test_reattached}
+use Rattle.iofd_rows.proofs.Accesses.{IsReattached, Stays, Attaches, count_reattached, found_reattached}
+use Rattle.iofd_rows.proofs.Accesses.{hwpt-reattached, reattached, reattached_is, test_reattached}
 use Rattle.iofd_rows.proofs.Bools.{and_true, clash, not_true}
 use Rattle.iofd_rows.proofs.Named.{file_is, id_is}
 use Rattle.iofd_rows.specs.Ids.{have_own_ids}

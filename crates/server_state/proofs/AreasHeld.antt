@@ -134,8 +134,9 @@ module _ {A : Type 0} where
       by_test true is later = grind (arith, nat_tests)
       by_test false is later = let rest = later (rw is at found) in grind (arith, nat_tests)
 
-  pub areas_elsewhere : (rows : List (Row (Held A))) (file : FileNo) (id : ObjId) (new : Held A) (f : FileNo) (i : ObjId)
-      → is_space file id f i ≡ false → areas_at (changed_at file id (with_value new) rows) f i ≡ areas_at rows f i
+  pub areas_elsewhere : (rows : List (Row (Held A))) (file : FileNo) (id : ObjId) (new : Held A) (f : FileNo)
+      (i : ObjId) → is_space file id f i ≡ false
+      → areas_at (changed_at file id (with_value new) rows) f i ≡ areas_at rows f i
   areas_elsewhere [] file id new f i other = refl
   areas_elsewhere (row ∷ rows) file id new f i other =
       let rest = areas_elsewhere rows file id new f i other in grind (arith, nat_tests)

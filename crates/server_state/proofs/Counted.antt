@@ -163,7 +163,8 @@ not_there : (objects : List Object) (file : FileNo) (id : ObjId) → list_any (i
 not_there [] file id none = refl
 not_there (o ∷ objects) file id none = let rest = not_there objects file id in grind (arith, nat_tests)
 
-pub same_named : (object : Object) (file : FileNo) (id : ObjId) (objects : List Object) → is_object file id object ≡ true
+pub same_named : (object : Object) (file : FileNo) (id : ObjId) (objects : List Object)
+    → is_object file id object ≡ true
     → list_any (is_object object.file object.id) objects ≡ list_any (is_object file id) objects
 same_named object file id [] is = refl
 same_named object file id (o ∷ objects) is =

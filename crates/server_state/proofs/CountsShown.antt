@@ -22,9 +22,9 @@ use Rattle.iofd_words.specs.declared.width.Width.{Width}
 use Rattle.object_table.specs.Table.{Row, Table, changed_at, destroy_refusal, is_at, is_own, own, removed, with_users}
 use Rattle.object_table.specs.declared.kind.Kind.TheVariants as of_kind
 use Rattle.server_state.proofs.AccessSpaces.{none_to, spaces-without}
-use Rattle.server_state.proofs.Counted.{areas-counted, counts_of, device_comes, device_goes, objects-counted, over_spaces, own_row}
-use Rattle.server_state.proofs.Counted.{proper-counted, some_over, space_row, space_under, still_none, table_goes}
-use Rattle.server_state.proofs.Counted.{users-removed, users_of_row, where_found}
+use Rattle.server_state.proofs.Counted.{areas-counted, counts_of, device_comes, device_goes, objects-counted}
+use Rattle.server_state.proofs.Counted.{over_spaces, own_row, proper-counted, some_over, space_row, space_under}
+use Rattle.server_state.proofs.Counted.{still_none, table_goes, users-removed, users_of_row, where_found}
 use Rattle.server_state.proofs.DevicesOn.{devices-without, on_by}
 use Rattle.server_state.proofs.ObjectsGone.{may_go, objects-removed}
 use Rattle.server_state.proofs.TableRows.{areas_removed}

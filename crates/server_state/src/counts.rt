@@ -1,5 +1,5 @@
-//! How many page tables stand over an address space, and how many devices translate by a page table, is counted with
-//! the object as its users.
+//! How many page tables stand over an address space and how many access objects are attached to it, and how many
+//! devices translate by a page table, is counted with the object as its users.
 
 ghost use Rattle.std.specs.Prelude.{◌≡◌, ◌<◌, ◌+◌, ◌-◌, IfSome, None};
 ghost use Rattle.object_table.specs.Table.{changed_at, own, with_users};

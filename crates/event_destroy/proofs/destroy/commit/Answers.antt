@@ -43,8 +43,8 @@ returns-in-Some-Hwpt-clause-ok g c = λ at via w tidy shows none may.
 pub returns-in-Some-Access-clause-ok : goal.returns-in-Some-Access-clause-ok
 returns-in-Some-Access-clause-ok g c = λ at via w tidy shows none may.
     let is_kind = sym c.in-Some-Access.ensures ∙ ap Some c.in-Some-Access.field-0-is in
-    access_moves at w c.args.state.now c.args.file c.args.id _ tidy shows none is_kind via c.reserve_given.new.given.items
-    _ (c.reserve_given.ensures.same ∙ c.requires.none)
+    access_moves at w c.args.state.now c.args.file c.args.id _ tidy shows none is_kind via
+    c.reserve_given.new.given.items _ (c.reserve_given.ensures.same ∙ c.requires.none)
     (access_destroyed at w c.args.state.now c.args.file c.args.id _ tidy shows none is_kind
     c.remove_object-in-Some-Access.new.table c.remove.new.self
     c.remove_object-in-Some-Access.ensures.rows c.remove_object-in-Some-Access.ensures.files c.remove.ensures)
