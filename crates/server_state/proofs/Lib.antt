@@ -36,7 +36,6 @@ pub mod TablesToMap
 pub mod TablesTold
 pub mod TablesUnreached
 pub mod TakenShown
-pub mod Tries
 pub mod Users
 pub mod UsersTold
 pub mod ViewShown

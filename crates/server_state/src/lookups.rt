@@ -135,7 +135,7 @@ fn is_table_over<A: Allocator>(
 }
 
 impl<A: Allocator> State<A> {
-    /// Whether the file's address space of this id has a hardware page table. It goes over the page tables.
+    /// Whether the file's address space of this id has a hardware page table. It goes over the file's page tables.
     pub fn has_hwpt(&self, file: FileNo, ioas: ObjId) -> bool
         requires { IsKnown self.now }
         ensures { result ≡ objects.has_hwpt (objects_in self.now.objects) file ioas }
