@@ -15,6 +15,7 @@ returns-clause-shows g c =
         spaces = λ file ioas. rw c.in_ok-new.ensures refl;
         files = λ number. rw (c.in_ok-new.ensures, c.files.ensures) (all_open g.row.A.Denot c.args.config.now number);
         counted = λ file id. rw c.in_ok-new.ensures refl;
+        accesses = λ file id none. refl;
       };
       devices = record {
         bindings = λ device. rw c.new-5.ensures.items refl;
