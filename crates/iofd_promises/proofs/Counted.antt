@@ -111,7 +111,8 @@ few_by file w e answer new (Fewer stays stay bound is) none few =
 few_by file w e answer new (Reattached own id attached is) none few =
     rw is (subst (λ n. n ≤ 65535) (sym (same_count w.objects)) few)
   where
-    same_count : (xs : List Object) → how_many (of_file file) (with_access own id attached xs) ≡ how_many (of_file file) xs
+    same_count : (xs : List Object)
+        → how_many (of_file file) (with_access own id attached xs) ≡ how_many (of_file file) xs
     same_count [] = refl
     same_count (o ∷ xs) =
         let name = same_name attached o (reattached own id attached o) (reattached_is own id attached o) in

@@ -155,7 +155,8 @@ module _ (file : FileNo) (id : ObjId) (attached : Option ObjId) where
       by_change new (Stays same) true named later = rw (same, named) refl
       by_change new (Stays same) false named later = rw (same, named) later
       by_change new (Attaches before was made) false named later = rw (made, named) later
-      by_change new (Attaches before was made) true named later = rw (made, named) (blind before attached ∙ ap p (sym was))
+      by_change new (Attaches before was made) true named later =
+          rw (made, named) (blind before attached ∙ ap p (sym was))
 
   -- an object of another kind was there
   pub in_reattached : (objects : List Object) (x : Object) → is_access x.kind ≡ false

@@ -1,5 +1,6 @@
 -- What rows that come and go leave of the law of debts.
-use Rattle.std.proofs.Common.{◌≡◌, ℕ, ◌+◌, Bool, true, false, cond, not, eqb, ltb, Option, Some, List, [], ◌∷◌, refl, ap}
+use Rattle.std.proofs.Common.{◌≡◌, ℕ, ◌+◌, Bool, true, false, cond, not, eqb, ltb, Option, Some, List, [], ◌∷◌, refl}
+use Rattle.std.proofs.Common.{ap}
 use Rattle.std.proofs.Common.{◌∙◌, subst}
 use Rattle.std.proofs.Common.{arith, inl, inr, ⊎_elim, ◌⊎◌}
 use Rattle.std.specs.List.{filter, list_any}

@@ -33,7 +33,7 @@ abbrev pub leaving : List ℕ → Phase → Phase
 leaving attached Live = Leaving attached 0
 leaving attached (Leaving owed tries) = Leaving owed tries
 
--- how many UNMAPs of a leaving area were answered EAGAIN; at most a hundred are counted
+-- what a leaving area counts of UNMAPs that waited for it (`tried`); at most a hundred
 abbrev pub tries_of : Phase → ℕ
 tries_of Live = 0
 tries_of (Leaving owed tries) = tries
@@ -123,7 +123,7 @@ abbrev pub is_waiting : List Area → List ℕ → FileNo → UnmapRequest → B
 is_waiting areas attached file request =
     list_any (λ area. not (length (owed_by attached area.phase) == 0)) (touched areas file request)
 
--- the most tries that one of the touched areas has seen
+-- the most tries that one of these areas counts
 abbrev pub most_tries : List Area → ℕ
 most_tries areas = fold (λ most area. max most (tries_of area.phase)) 0 areas
 
@@ -138,7 +138,7 @@ pending_errno most = if nat_lt most counted_tries then EAGAIN else EDEADLOCK
 abbrev pub touched_bytes : List Area → FileNo → UnmapRequest → ℕ
 touched_bytes areas file request = sum_by (λ area. size_of area.span) (touched areas file request)
 
--- all touched areas are leaving, and have seen one try more
+-- all touched areas are leaving, and count this try where one is counted
 abbrev pub with_leaving : List Area → List ℕ → FileNo → UnmapRequest → List Area
 with_leaving areas attached file request =
     map (λ area. with_phase (if is_touched file request area

@@ -50,7 +50,8 @@ pub struct MemoryObject {
 #[derive(Drop)]
 pub enum Phase {
     Live,
-    /// An UNMAP was called: these devices still have to flush, and so many calls, at most 100, were answered EAGAIN.
+    /// An UNMAP was called. These devices still have to flush; of the calls that waited so many are counted, at most
+    /// 100.
     Leaving { owed: DeviceSet, tries: u8 },
 }
 

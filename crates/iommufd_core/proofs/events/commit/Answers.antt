@@ -47,8 +47,8 @@ pub returns-in-AccessCreate-clause-ok : goal.returns-in-AccessCreate-clause-ok
 returns-in-AccessCreate-clause-ok g c = if_ok c.commit-in-AccessCreate.result _ _
     (λ reply steps. subst (λ (e : Event _). MovingSteps c.args.at e c.args.act.now.via c.args.state.now reply
     c.args.taken.now.items c.args.given.now.items c.commit-in-AccessCreate.new.state) (sym c.in-AccessCreate.is)
-    (none_chosen c.args.at _ c.args.act.now.via c.args.state.now c.commit-in-AccessCreate.new.state reply c.args.taken.now.items
-    c.args.given.now.items c.requires.none_taken c.requires.none_given (λ w. tt) (λ w. tt)
+    (none_chosen c.args.at _ c.args.act.now.via c.args.state.now c.commit-in-AccessCreate.new.state reply
+    c.args.taken.now.items c.args.given.now.items c.requires.none_taken c.requires.none_given (λ w. tt) (λ w. tt)
     (steps c.args.at) (λ w. tt)))
     c.commit-in-AccessCreate.ensures.ok
 
@@ -96,17 +96,17 @@ pub returns-in-AccessAttach-clause-ok : goal.returns-in-AccessAttach-clause-ok
 returns-in-AccessAttach-clause-ok g c =
     subst (λ (e : Event _). MovingSteps c.args.at e c.args.act.now.via c.args.state.now c.commit-in-AccessAttach.result
     c.args.taken.now.items c.args.given.now.items c.commit-in-AccessAttach.new.state) (sym c.in-AccessAttach.is)
-    (none_chosen c.args.at _ c.args.act.now.via c.args.state.now c.commit-in-AccessAttach.new.state c.commit-in-AccessAttach.result
-    c.args.taken.now.items c.args.given.now.items c.requires.none_taken c.requires.none_given (λ w. tt)
-    (λ w. tt) (c.commit-in-AccessAttach.ensures c.args.at) (λ w. tt))
+    (none_chosen c.args.at _ c.args.act.now.via c.args.state.now c.commit-in-AccessAttach.new.state
+    c.commit-in-AccessAttach.result c.args.taken.now.items c.args.given.now.items c.requires.none_taken
+    c.requires.none_given (λ w. tt) (λ w. tt) (c.commit-in-AccessAttach.ensures c.args.at) (λ w. tt))
 
 pub returns-in-AccessDetach-clause-ok : goal.returns-in-AccessDetach-clause-ok
 returns-in-AccessDetach-clause-ok g c =
     subst (λ (e : Event _). MovingSteps c.args.at e c.args.act.now.via c.args.state.now c.commit-in-AccessDetach.result
     c.args.taken.now.items c.args.given.now.items c.commit-in-AccessDetach.new.state) (sym c.in-AccessDetach.is)
-    (none_chosen c.args.at _ c.args.act.now.via c.args.state.now c.commit-in-AccessDetach.new.state c.commit-in-AccessDetach.result
-    c.args.taken.now.items c.args.given.now.items c.requires.none_taken c.requires.none_given (λ w. tt)
-    (λ w. tt) (c.commit-in-AccessDetach.ensures c.args.at) (λ w. tt))
+    (none_chosen c.args.at _ c.args.act.now.via c.args.state.now c.commit-in-AccessDetach.new.state
+    c.commit-in-AccessDetach.result c.args.taken.now.items c.args.given.now.items c.requires.none_taken
+    c.requires.none_given (λ w. tt) (λ w. tt) (c.commit-in-AccessDetach.ensures c.args.at) (λ w. tt))
 
 pub returns-in-Flush-clause-ok : goal.returns-in-Flush-clause-ok
 returns-in-Flush-clause-ok g c =
