@@ -22,7 +22,8 @@ const DENIED: Fault = Fault {
 /// longer after the flush.
 pub(crate) const ONE_TABLE: Script = &[
     (Step::Alloc(FIRST), Reply::Id(ObjId(1))),
-    (Step::Alloc(SECOND), Reply::Id(ObjId(1))),
+    (Step::Access(SECOND), Reply::Id(ObjId(1))),
+    (Step::Alloc(SECOND), Reply::Id(ObjId(2))),
     (Step::Page(0x10000), Reply::Frame(FrameNo(0))),
     (Step::Map(0x1000), Reply::Iova(Iova(0x1000))),
     (Step::Bind(NARROW), Reply::Id(ObjId(2))),
@@ -41,7 +42,8 @@ pub(crate) const ONE_TABLE: Script = &[
     (Step::GiveUp(0x11000), Reply::Done),
     (Step::Page(0x12000), Reply::Frame(FrameNo(4))),
     (Step::UserWrite, Reply::Done),
-    (Step::Destroy(SECOND, 2), UNKNOWN),
+    (Step::Destroy(SECOND, 3), UNKNOWN),
+    (Step::Close(SECOND), IN_USE),
     (Step::Destroy(SECOND, 1), Reply::Done),
     (Step::Destroy(FIRST, 1), IN_USE),
     (Step::Detach(NARROW), Reply::Done),

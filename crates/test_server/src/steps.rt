@@ -65,6 +65,8 @@ pub(crate) enum Step {
     Write(DeviceNo, u64),
     Flush(DeviceNo),
     Detach(DeviceNo),
+    /// The file gets an access object.
+    Access(FileNo),
     Destroy(FileNo, u32),
     Close(FileNo),
     /// The narrow device writes two bytes of the page at 0x1000 by this frame, which it has cached.
@@ -151,6 +153,7 @@ pub(crate) fn event<A: Allocator + Copy>(alloc: A, step: Step) -> Option<Event<A
         Step::Write(device, iova) => Event::DeviceWrite(device, Iova(iova), bytes),
         Step::Flush(device) => Event::Flush(device),
         Step::Detach(device) => Event::Detach(device),
+        Step::Access(file) => Event::AccessCreate(file),
         Step::Destroy(file, id) => Event::Destroy(file, ObjId(id)),
         Step::Close(file) => Event::Close(file),
         Step::Cached(_) | Step::Ranges | Step::AttachedTo(_) => return None,
