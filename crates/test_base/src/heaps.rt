@@ -1,6 +1,6 @@
 //! Want of memory: what takes some, in a heap.
 
-use crate::{frames, objects};
+use crate::{frames, objects, pins};
 use linked_list_allocator::LocalHeap;
 use std::alloc::Global;
 
@@ -10,6 +10,11 @@ fn come_again(alloc: Global) -> bool {
         Ok(heap) => frames::give_pages(alloc, &heap, &heap) && objects::come_and_go(&heap, &heap),
         Err(_) => false,
     }
+}
+
+#[test]
+fn pins_take_memory(rt: HostRuntime) {
+    assert!(rt; pins::come_once_there_is_memory(rt.alloc()));
 }
 
 #[test]

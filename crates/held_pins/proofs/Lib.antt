@@ -1,0 +1,9 @@
+pub mod Alike
+pub mod Asked
+pub mod Keys
+pub mod Lists
+pub mod Over
+pub mod Pins
+pub mod Results
+pub mod Rows
+pub mod Tied
