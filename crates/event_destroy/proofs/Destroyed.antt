@@ -295,7 +295,7 @@ module _ {A : Type 0} where
       let after = shown_over at w s tidy shows kept before shown areas pins
       (without_object file id w.objects) (filter (λ (area : Area). not (is_of file id area)) w.areas) fewer (at + 1)
       (gone w file id) memory pool next refl refl
-      (objects_left (is_of file id) w.areas w.memory) refl refl released in
+      (objects_left (is_of file id) w.areas w.memory) refl refl refl released in
       record {
         settings = shows.settings;
         objects = objects;
@@ -320,13 +320,13 @@ module _ {A : Type 0} where
               tables_lead at w s tidy shows kept before shown areas pins
               (without_object file id w.objects) (filter (λ (area : Area). not (is_of file id area)) w.areas) fewer
               (at + 1) (gone w file id) memory pool next refl refl
-              (objects_left (is_of file id) w.areas w.memory) refl refl released
+              (objects_left (is_of file id) w.areas w.memory) refl refl refl released
               pool kept tables.tables are
               (λ f i page has. ap (λ (l : List Area). leads_in (pinned_frame w.pins) l page) (stay f i has))
               (tables_stand at w s tidy shows kept before shown areas pins
               (without_object file id w.objects) (filter (λ (area : Area). not (is_of file id area)) w.areas)
               fewer (at + 1) (gone w file id) memory pool next refl refl
-              (objects_left (is_of file id) w.areas w.memory) refl refl released tables.tables stand);
+              (objects_left (is_of file id) w.areas w.memory) refl refl refl released tables.tables stand);
         };
       }
     where

@@ -345,7 +345,7 @@ module _ {A : Type 0} where
           (over (areas_of_rows (rows_of s.objects file)))
           (over (translated_of (objects_in s.objects) (rows_of s.objects file))) left stay fewer
           (at + 1) (changed {A = A} at w (event.Close file) reply.Done) memory between next refl refl
-          (objects_left is_in w.areas w.memory) refl refl released s.page_tables.tables shows.tables.stand
+          (objects_left is_in w.areas w.memory) refl refl refl released s.page_tables.tables shows.tables.stand
 
       -- and there is room for the frames of the file's page tables still
       pub can_remove : (room : ℕ) → IfAllStand s.pool s.page_tables.tables
@@ -396,7 +396,7 @@ module _ {A : Type 0} where
             (over (areas_of_rows (rows_of s.objects file)))
             (over (translated_of (objects_in s.objects) (rows_of s.objects file))) left stay fewer
             (at + 1) (changed {A = A} at w (event.Close file) reply.Done) memory between next refl refl
-            (objects_left is_in w.areas w.memory) refl refl released in
+            (objects_left is_in w.areas w.memory) refl refl refl released in
             let are : objects_kept tables ≡ page_tables_among left = ap (map (λ (h : Hwpt). h.object)) kept
             ∙ file_left w.objects s.page_tables.tables shows.tables.tables shows.tables.widths file in
             record {
@@ -441,7 +441,7 @@ module _ {A : Type 0} where
                     (over (areas_of_rows (rows_of s.objects file)))
                     (over (translated_of (objects_in s.objects) (rows_of s.objects file))) left stay fewer
                     (at + 1) (changed {A = A} at w (event.Close file) reply.Done) memory between next refl refl
-                    (objects_left is_in w.areas w.memory) refl refl released
+                    (objects_left is_in w.areas w.memory) refl refl refl released
                     pool (without_tables_of file w.table_frames) tables.tables are
                     (λ f i page has. ap (λ (l : List Area). leads_in (pinned_frame w.pins) l page)
                     (areas_kept f i has))

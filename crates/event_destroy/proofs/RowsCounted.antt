@@ -264,6 +264,7 @@ module _ {A : Type 0} where
           pins = λ n. let same = pins_same n in let most = closing.leaving.may.pins n in omega (arith, same, most);
           areas = λ n. let same = pins_same n in let others =
               over_same n in let most = closing.leaving.may.areas n in omega (arith, same, others, most);
+          access = closing.leaving.may.access;
           backed = closing.leaving.may.backed;
           invariant = closing.leaving.may.invariant;
           only = closing.leaving.may.only;

@@ -113,13 +113,13 @@ module _ {A : Type 0} (at : ℕ) (w : World) (s : State A) (tidy : IsTidy at w) 
   frames_mapped =
       frames_follow w.settings.pool w.writes w.table_frames s.memory after s.pool pool shows.frames
       comes.settles.holds comes.settles.bytes
-      (λ f named. settles_named s.memory after s.pool pool comes.settles f named)
+      (λ f named. settles_named s.memory after s.pool pool shows.pins.invariant.rising comes.settles f named)
 
   -- the same frames are free
   pub free_mapped : AreAlike pool.holds s.pool.holds
   free_mapped =
       free_alike s.memory after s.pool pool w.settings.pool w.writes w.table_frames shows.pins.invariant
-      (only_kept at w s.memory tidy.pins shows.pins) comes.stays comes.settles shows.frames frames_mapped
+      (only_kept at w s.memory tidy.pins tidy.unaccessed shows.pins) comes.stays comes.settles shows.frames frames_mapped
 
   -- ---- page tables
 
@@ -127,7 +127,7 @@ module _ {A : Type 0} (at : ℕ) (w : World) (s : State A) (tidy : IsTidy at w) 
   stand_pinned =
       tables_follow w.settings.pool w.writes w.writes w.table_frames (leads_of w) s.page_tables.tables s.memory after
       s.pool pool shows.tables.stand shows.frames frames_mapped
-      (λ f held named. settles_named s.memory after s.pool pool comes.settles f named)
+      (λ f held named. settles_named s.memory after s.pool pool shows.pins.invariant.rising comes.settles f named)
       (λ f held none. ap (λ (all : List (List ℕ)). get_or all f []) comes.settles.bytes)
 
   -- the pages of the areas that were there stay pinned where they were
@@ -142,7 +142,7 @@ module _ {A : Type 0} (at : ℕ) (w : World) (s : State A) (tidy : IsTidy at w) 
       let now = comes.grows a.memory in
       let some : 0 < table_pins s.memory a.memory = omega (arith, counted, was) in
       let still : 0 < table_pins after a.memory = omega (arith, some, now) in
-      pin_stays at w left s.memory after s.pool pool tidy.pins shows.pins comes.pins comes.settles (object_page page a)
+      pin_stays at w left s.memory after s.pool pool tidy.pins tidy.unaccessed shows.pins comes.pins comes.settles (object_page page a)
       (comes.same a of.0 page) some still
 
   -- ---- where pages lead

@@ -194,13 +194,13 @@ module _ (w : World) (file : FileNo) (request : MapRequest) (rows : PlacePassed 
 
 -- its address space takes the area
 module _ {A : Type 0} (w : World) (s : State A) (file : FileNo) (request : MapRequest) (tabled : AreTabled w)
-    (shows : Shows w s) (rows : PlacePassed (view w) file request) where
+    (without : w.access_pins ≡ []) (shows : Shows w s) (rows : PlacePassed (view w) file request) where
   pub area_taken : (number : ℕ) (iova : Iova) {X : Type 0} → IsMappedAt w file request (is_fixed request.flags) iova
       → (has_ioas (objects_in s.objects) file request.ioas ≡ true
       → insert_refusal (mapped_area number file request iova).span
       (areas_at s.objects.rows file request.ioas) ≡ None → X) → X
   area_taken number iova place result =
-      let back = sym (same_view w s shows tabled.owned) in
+      let back = sym (same_view w s shows tabled.owned without) in
       let passed = subst (λ (v : View). PlacePassed v file request) back rows in
       let lies = subst (λ (v : View). LiesAt v file request iova.0) back (placed_lies w file request iova rows place) in
       result passed.space (rw (lies.apart, passed.roomy) refl)

@@ -150,7 +150,8 @@ module _ {A : Type 0} (at : ℕ) (w : World) (s : State A) (tidy : IsTidy at w) 
     rows_now = ap (λ (fs : List FrameNo). w.table_frames ++ in_frames missing fs) (sym taken_is)
 
     none_reached : (f : ℕ) → 0 < tables_in w.table_frames f → reached after f ≡ 0
-    none_reached f some = none (reached after f) (settles_named s.memory after s.pool pool comes.settles f)
+    none_reached f some = none (reached after f)
+        (settles_named s.memory after s.pool pool shows.pins.invariant.rising comes.settles f)
         (unreached w s shows tidy.tabled.owned f some)
       where
         none : (n : ℕ) → (0 < n → 0 < reached s.memory f) → reached s.memory f ≡ 0 → n ≡ 0

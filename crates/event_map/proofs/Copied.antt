@@ -87,7 +87,7 @@ module _ {A : Type 0} where
     new_area = mapped_area source.memory file (placed_as request) iova
 
     next : OwnPins (at + 1) (copy_changes w file request iova (Some source))
-    next = copied_own at w file request iova source none over.found (record { pins = tidy.pins; own = tidy.own })
+    next = copied_own at w file request iova source none place over.found (record { pins = tidy.pins; own = tidy.own })
 
     shared : HasShare (if pinned then 1 else 0) source.memory s.memory after
     shared = subst (λ (n : ℕ). HasShare (if pinned then 1 else 0) n s.memory after) (sym over.same) has

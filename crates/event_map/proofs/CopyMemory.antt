@@ -44,7 +44,7 @@ module _ {A : Type 0} (at : ℕ) (w : World) (s : State A) (tidy : IsTidy at w) 
   copy_comes =
       record {
         pins =
-            shared_shown at (at + 1) w new_area pinned s.memory after s.pool pool tidy.pins next.pins
+            shared_shown at (at + 1) w new_area pinned s.memory after s.pool pool tidy.pins next.pins tidy.unaccessed
             shows.pins shows.users.pages
             (pinned_is ∙ ap (λ (objects : List Object). has_hwpt objects file request.dst_ioas)
             (sym shows.objects.rows)) has settles;

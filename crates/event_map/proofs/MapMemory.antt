@@ -27,10 +27,10 @@ use Rattle.iofd_words.specs.declared.rows.MemoryObject.{MemoryObject}
 use Rattle.iofd_words.specs.declared.rows.Object.{Object}
 use Rattle.event_map.proofs.AreaPinned.{Comes, world_with}
 use Rattle.user_memory_rows.proofs.Counts.{count_with_area}
-use Rattle.user_memory_rows.proofs.PinsFollow.{pins_follow}
+use Rattle.user_memory_rows.proofs.PinsFollow.{pins_follow, still_some}
 use Rattle.user_memory_rows.specs.Shown.{PinsShown, translated}
 use Rattle.user_memory.specs.Changes.{HasObject, Settles}
-use Rattle.user_memory.specs.Memory.{Memory, is_pinned, rows_of, table_pins}
+use Rattle.user_memory.specs.Memory.{Memory, access_pins, is_pinned, rows_of, table_pins}
 use Rattle.server_state.proofs.LeadsStay.{has_page}
 use Rattle.server_state.specs.Held.{objects_in}
 use Rattle.server_state.specs.Leads.{object_page}
@@ -101,7 +101,8 @@ module _ (at : ℕ) (w : World) (file : FileNo) (request : MapRequest) (iova : I
       → PinsShown w.objects (world.with_area area w.areas) (w.memory ++ object ∷ []) mapped_world.pins after
   unfolding settle
   mapped_shown kept after before_pool after_pool translated_is tidy shown next pages is_translated has settles =
-      pins_follow at (at + 1) w mapped_world kept after before_pool after_pool tidy.pins next.pins shown refl
+      pins_follow at (at + 1) w mapped_world kept after before_pool after_pool tidy.pins next.pins tidy.unaccessed refl
+      shown refl
       (λ u page. pages u page ∙ ap (λ p. frame_at p u page) (sym settles.pages))
       (ap (λ (rows : List MemoryObject). rows ++ object ∷ []) shown.rows ∙ sym has.rows)
       (λ n. has.areas n ∙ ap (λ k. k + cond (eqb at n) 1 0) (shown.areas n)
@@ -109,7 +110,7 @@ module _ (at : ℕ) (w : World) (file : FileNo) (request : MapRequest) (iova : I
       (λ n. has.pins n ∙ ap (λ k. k + cond (eqb at n) (cond translated_is 1 0) 0) (shown.tables n)
       ∙ ap (λ k. translated w.objects w.areas n + k) (one n)
       ∙ sym (count_with_area (λ (a : Area). eqb a.memory n && has_hwpt w.objects a.file a.ioas) area w.areas))
-      settles
+      has.access settles
     where
       one : (n : ℕ) → cond (eqb at n) (cond translated_is 1 0) 0 ≡ cond {A = ℕ} (eqb at n
           && has_hwpt w.objects file request.ioas) 1 0
@@ -131,16 +132,15 @@ module _ {A : Type 0} (at : ℕ) (w : World) (s : State A) (tidy : IsTidy at w) 
 
   stays_pinned : (page : ObjectPage) → is_pinned s.memory page ≡ true → is_pinned after page ≡ true
   stays_pinned page is =
-      let parts = and_true (has_page (rows_of s.memory) page) (ltb 0 (table_pins s.memory page.memory)) is in
+      let parts = and_true (has_page (rows_of s.memory) page) (ltb 0 (table_pins s.memory page.memory)
+      || ltb 0 (access_pins s.memory page)) is in
       let pins = has.pins page.memory in
-      let some = parts.1 in
-      let more : 0 < table_pins s.memory page.memory = search (some, arith, nat_tests) in
-      let still : 0 < table_pins after page.memory = omega (arith, pins, more) in
       both_true _ _
       (ap (λ (rows : List MemoryObject). has_page rows page) has.rows
       ∙ list_any-append (λ (row : MemoryObject). eqb page.memory row.number && ltb page.index row.count)
       (rows_of s.memory) (new_object ∷ []) ∙ or_left _ _ parts.0)
-      (search (still, arith, nat_tests))
+      (still_some (table_pins s.memory page.memory) (table_pins after page.memory) (access_pins s.memory page)
+      (access_pins after page) (omega (arith, pins)) (has.access page) parts.1)
 
   same_pages : (a : Area) → IsIn w.areas a → (page : ℕ)
       → has_page (rows_of after) (object_page page a) ≡ has_page (rows_of s.memory) (object_page page a)

@@ -1,6 +1,6 @@
 -- As areas go, or page tables do, the pages of the live areas that are left and that a page table translates stay
 -- pinned where they were: so they lead where they did.
-use Rattle.std.proofs.Common.{◌≡◌, ℕ, ◌<◌, Bool, true, ◌&&◌, not, eqb, ltb, Some, List, refl, ap, ◌∙◌, arith}
+use Rattle.std.proofs.Common.{◌≡◌, ℕ, ◌<◌, Bool, true, ◌&&◌, not, eqb, ltb, Some, List, refl, ap, ◌∙◌, arith, []}
 use Rattle.std.proofs.lemmas.Bool.Decides.{nat_tests}
 use Rattle.frame_memory.specs.Pool.{FramePool}
 use Rattle.iofd_rows.proofs.Bools.{and_true}
@@ -49,7 +49,7 @@ page_left areas pins old after less page some =
         rw kept is
 
 module _ (at : ℕ) (w new : World) (old after : Memory) (before pool : FramePool) (areas pins : ℕ → ℕ) (left : List Area)
-    (pinned : ArePinned at w) (was : PinsShown w.objects w.areas w.memory w.pins old)
+    (pinned : ArePinned at w) (without : w.access_pins ≡ []) (was : PinsShown w.objects w.areas w.memory w.pins old)
     (is : PinsShown new.objects new.areas new.memory new.pins after)
     (same_objects : new.objects ≡ w.objects) (same_areas : new.areas ≡ left)
     (fewer : AreFewer areas pins w w.objects left) (released : IsReleased areas pins old after before pool) where
@@ -70,7 +70,7 @@ module _ (at : ℕ) (w new : World) (old after : Memory) (before pool : FramePoo
           ∙ ap (λ l. translated w.objects l a.memory) same_areas in
           let areas_new : areas_over after a.memory ≡ over left a.memory =
           is.areas a.memory ∙ ap (λ l. over l a.memory) same_areas in
-          pin_stays at w new old after before pool pinned was is released.settles (object_page page a)
+          pin_stays at w new old after before pool pinned without was is released.settles (object_page page a)
           (page_left areas pins old after released.less (object_page page a) (omega (arith, areas_new, few, some)))
           (omega (arith, pins_old, more, some)) (omega (arith, pins_new, some))
 

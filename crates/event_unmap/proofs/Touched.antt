@@ -6,7 +6,8 @@ use Rattle.std.proofs.lemmas.Bool.Decides.{nat_tests}
 use Rattle.area_map_rows.specs.Areas.{AreApartFrom, areas_outside, areas_within}
 use Rattle.iofd_rows.proofs.Bools.{or_false}
 use Rattle.event_unmap.specs.Waiting.{waiting}
-use Rattle.iofd_words.specs.Areas.{areas_of, is_cut, is_of, is_touched, is_waiting, leaving, owed_by, touched, tried}
+use Rattle.iofd_words.specs.Areas.{areas_of, is_cut, is_held_back, is_of, is_touched, is_waiting, leaving, owed_by}
+use Rattle.iofd_words.specs.Areas.{touched, tried}
 use Rattle.iofd_words.specs.Areas.{unmapped_span, with_phase}
 use Rattle.iofd_words.specs.Bounds.{Bounds}
 use Rattle.iofd_words.specs.Span.{lies_in, meets}
@@ -14,6 +15,8 @@ use Rattle.iofd_words.specs.declared.event.UnmapRequest.{UnmapRequest}
 use Rattle.iofd_words.specs.declared.numbers.FileNo.{FileNo}
 use Rattle.iofd_words.specs.declared.numbers.ObjId.{ObjId}
 use Rattle.iofd_words.specs.declared.rows.Area.{Area}
+use Rattle.iofd_words.specs.declared.rows.Object.{Object}
+use Rattle.iofd_words.specs.Pins.{has_pin_in}
 use Rattle.server_state.specs.Spaces.{is_space}
 
 -- ---- where no area is cut
@@ -56,12 +59,21 @@ apart : (file : FileNo) (ioas : ObjId) (f : FileNo) (i : ObjId) (a : Area) → i
     → is_of f i a ≡ true → is_of file ioas a ≡ false
 apart file ioas f i a other is = grind (arith, nat_tests)
 
+-- without access pins devices alone hold areas back
+pub held_by_devices : (objects : List Object) (attached : List ℕ) (areas : List Area)
+    → list_any (is_held_back attached (has_pin_in objects [])) areas
+    ≡ list_any (λ (a : Area). not (eqb (length (owed_by attached a.phase)) 0)) areas
+held_by_devices objects attached [] = refl
+held_by_devices objects attached (a ∷ areas) =
+    let rest = held_by_devices objects attached areas in grind (arith, nat_tests)
+
 module _ (file : FileNo) (request : UnmapRequest) where
-  pub waits_filtered : (attached : List ℕ) (areas : List Area) → is_waiting areas attached file request
-      ≡ list_any (λ (a : Area). not (eqb (length (owed_by attached a.phase)) 0))
+  pub waits_filtered : (attached : List ℕ) (is_pinned : Area → Bool) (areas : List Area)
+      → is_waiting areas attached is_pinned file request ≡ list_any (is_held_back attached is_pinned)
       (filter (λ (a : Area). meets a.span (unmapped_span request)) (areas_of areas file request.ioas))
-  waits_filtered attached [] = refl
-  waits_filtered attached (a ∷ areas) = let rest = waits_filtered attached areas in grind (arith, nat_tests)
+  waits_filtered attached is_pinned [] = refl
+  waits_filtered attached is_pinned (a ∷ areas) =
+      let rest = waits_filtered attached is_pinned areas in grind (arith, nat_tests)
 
   -- all touched areas are leaving, and so many tries were the most
   abbrev pub left_at : ℕ → List ℕ → Area → Area

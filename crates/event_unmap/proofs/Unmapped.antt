@@ -10,8 +10,9 @@ use Rattle.iofd_rows.proofs.Bools.{and_true}
 use Rattle.iofd_rows.proofs.Found.{all_filter}
 use Rattle.iofd_runs.proofs.NotRefused.{unmap_passed}
 use Rattle.iofd_words.specs.After.{changed, settle, unmapped, without_areas}
-use Rattle.iofd_words.specs.Answers.{Answers, UnmapAnswers}
-use Rattle.iofd_words.specs.Areas.{areas_of, is_cut, is_of, is_touched, is_waiting, most_tries, owed_by, pending_errno}
+use Rattle.iofd_words.specs.Answers.{Answers, UnmapAnswers, waits}
+use Rattle.iofd_words.specs.Areas.{areas_of, is_cut, is_of, is_held_back, is_touched, most_tries, owed_by}
+use Rattle.iofd_words.specs.Areas.{pending_errno}
 use Rattle.iofd_words.specs.Areas.{touched, touched_bytes, touched_tries, unmapped_span, with_leaving}
 use Rattle.iofd_words.specs.Attachments.{devices_of}
 use Rattle.iofd_words.specs.Bounds.{Bounds}
@@ -27,10 +28,10 @@ use Rattle.user_memory_rows.specs.Moves.{IsReleased, MayRelease, if_translated}
 use Rattle.user_memory_rows.specs.Shown.{FramesShown, over, translated}
 use Rattle.user_memory_rows.proofs.FramesFollow.{frames_follow}
 use Rattle.user_memory_rows.proofs.Named.{settles_named}
-use Rattle.user_memory.specs.Memory.{Memory, reached}
+use Rattle.user_memory.specs.Memory.{Memory, reached, access_pins}
 use Rattle.iofd_words.specs.Pages.{is_above_sum, is_whole}
-use Rattle.iofd_words.specs.Pins.{pinned_frame}
-use Rattle.iofd_words.specs.Span.{lies_in, size_of}
+use Rattle.iofd_words.specs.Pins.{pinned_frame, has_pin_in}
+use Rattle.iofd_words.specs.Span.{lies_in, size_of, meets}
 use Rattle.iofd_words.specs.View.{view}
 use Rattle.iofd_words.specs.World.{World}
 use Rattle.iofd_words.specs.declared.event.Event.TheVariants as event
@@ -41,6 +42,7 @@ use Rattle.iofd_words.specs.declared.numbers.ObjId.{ObjId}
 use Rattle.iofd_words.specs.declared.rows.Area.{Area}
 use Rattle.iofd_words.specs.declared.rows.Attachment.{Attachment}
 use Rattle.iofd_words.specs.declared.rows.Object.{Object}
+use Rattle.iofd_words.specs.declared.rows.AccessPin.{AccessPin}
 use Rattle.server_state.proofs.Orderly.{orderly}
 use Rattle.server_state.proofs.AreasBecome.{areas_become, own_at}
 use Rattle.server_state.proofs.MemoryReleased.{AreFewer, AreShown, may_release, pins_changed, shown_after}
@@ -51,6 +53,7 @@ use Rattle.event_unmap.proofs.SpacesCleared.{left_space, space_left, spaces_clea
 use Rattle.server_state.proofs.TablesUnreached.{frames_cleared}
 use Rattle.event_unmap.proofs.Touched.{AreAlike, alike, leaving_other, leaving_own, left_at, left_other, left_own}
 use Rattle.event_unmap.proofs.Touched.{met_waiting, met_within, touched_own, unmet_outside, waits_filtered}
+use Rattle.event_unmap.proofs.Touched.{held_by_devices}
 use Rattle.server_state.specs.Held.{areas_at, objects_in}
 use Rattle.event_unmap.specs.Cleared.{Clears, cleared}
 use Rattle.event_unmap.specs.Waiting.{waiting}
@@ -103,13 +106,18 @@ module _ {A : Type 0} where
       -- whether a device has to flush before
       pub waits_shown : (span : Bounds) (attached : List ℕ) → span ≡ unmapped_span request
           → attached ≡ devices_of w.objects w.attachments file request.ioas
-          → is_waiting w.areas (devices_of w.objects w.attachments file request.ioas) file request ≡ some_waits span
-          attached (own_areas s.objects file request.ioas)
+          → waits w file request ≡ some_waits span attached (own_areas s.objects file request.ioas)
       waits_shown span attached is_span is_attached =
           let devices = devices_of w.objects w.attachments file request.ioas in
-          rw (is_span, is_attached, own_shown) (waits_filtered file request devices w.areas
+          let own = areas_of w.areas file request.ioas in
+          let met = filter (λ (a : Area). meets a.span (unmapped_span request)) own in
+          rw (is_span, is_attached, own_shown) (waits_filtered file request devices (has_pin_in w.objects w.access_pins)
+          w.areas
+          ∙ ap (λ (pins : List AccessPin). list_any (is_held_back devices (has_pin_in w.objects pins)) met)
+          tidy.unaccessed
+          ∙ held_by_devices w.objects devices met
           ∙ ap (list_any (λ (a : Area). not (eqb (length (owed_by devices a.phase)) 0)))
-          (met_within (unmapped_span request) (areas_of w.areas file request.ioas) are))
+          (met_within (unmapped_span request) own are))
 
       -- the touched areas are those of the address space that lie in the span
       pub touched_within : (span : Bounds) → span ≡ unmapped_span request
@@ -314,7 +322,8 @@ module _ {A : Type 0} where
               clears pool told.holds released
 
           named : (f : ℕ) → 0 < reached memory f → 0 < reached s.memory f
-          named f some = settles_named s.memory memory clears pool released.settles f some
+          named f some = settles_named s.memory memory clears pool shows.pins.invariant.rising released.settles
+              f some
 
           shown : AreShown new w.writes w.table_frames w.user_pages w.settings memory
               (record pool { bytes = s.pool.bytes })
@@ -323,7 +332,7 @@ module _ {A : Type 0} where
               shown_after at w s tidy shows (over going) (if_translated is_translated going) w.objects stay fewer
               (at + 1) (settle w (without_areas (is_touched file request) w)) memory
               (record pool { bytes = s.pool.bytes }) next refl refl
-              (objects_left (is_touched file request) w.areas w.memory) refl refl over_kept
+              (objects_left (is_touched file request) w.areas w.memory) refl refl refl over_kept
 
           frames_left : FramesShown w.settings.pool w.writes w.table_frames memory pool
           frames_left =
@@ -340,7 +349,7 @@ module _ {A : Type 0} where
               w.table_frames shows.tables.tables
               (λ f i page has.
               leads_left at w new s.memory memory clears pool (over going) (if_translated is_translated going) stay
-              tidy.pins shows.pins shown.pins refl refl fewer released f i page has
+              tidy.pins tidy.unaccessed shows.pins shown.pins refl refl fewer released f i page has
               ∙ leads_gone span is_span f i page)
               (tables_follow w.settings.pool w.writes w.writes w.table_frames
               (cleared file request.ioas gone (leads_of w)) s.page_tables.tables s.memory memory clears pool

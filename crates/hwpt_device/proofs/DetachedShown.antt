@@ -345,7 +345,7 @@ module _ {A : Type 0} where
           let has = all_have (all_paid device w.areas) w.memory next.used in
           let after =
           shown_over at w s tidy shows rows before frames areas_gone pins_gone left (all_paid device w.areas) fewer
-          (at + 1) (settle w (detached w device a)) memory pool next refl refl has refl refl released in
+          (at + 1) (settle w (detached w device a)) memory pool next refl refl has refl refl refl released in
           record {
             settings = shows.settings;
             limits = after.limits;
@@ -365,11 +365,11 @@ module _ {A : Type 0} where
               widths = tables.widths;
               stand =
                   tables_lead at w s tidy shows rows before frames areas_gone pins_gone left (all_paid device w.areas)
-                  fewer (at + 1) (settle w (detached w device a)) memory pool next refl refl has refl refl released
+                  fewer (at + 1) (settle w (detached w device a)) memory pool next refl refl has refl refl refl released
                   pool rows kept.tables tables.tables (λ f i page some. paid_leads w.pins device w.areas f i page)
                   (tables_stand at w s tidy shows rows before frames areas_gone pins_gone left
                   (all_paid device w.areas) fewer (at + 1) (settle w (detached w device a)) memory pool next refl refl
-                  has refl refl released kept.tables tables.stand);
+                  has refl refl refl released kept.tables tables.stand);
             };
           }
 

@@ -377,10 +377,11 @@ module _ {A : Type 0} where
       let seen = more_attached w s table attachments (record { device = device; file = bound.file; hwpt = id }) shows
       objects added in
       let left = grown w device bound.file pt_id id width (Some object) w.areas in
-      let pins = pins_follow at (at + 1) w left s.memory s.memory s.pool s.pool tidy.pins next shows.pins refl
+      let pins = pins_follow at (at + 1) w left s.memory s.memory s.pool s.pool tidy.pins next tidy.unaccessed refl shows.pins
+      refl
       shows.users.pages shows.pins.rows
-      shows.pins.areas shows.pins.tables
-      (settles_none s.memory s.pool shows.pins.invariant (only_kept at w s.memory tidy.pins shows.pins)) in
+      shows.pins.areas shows.pins.tables (λ page. refl)
+      (settles_none s.memory s.pool shows.pins.invariant (only_kept at w s.memory tidy.pins tidy.unaccessed shows.pins)) in
       record {
         settings = seen.settings;
         limits = seen.limits;

@@ -1,6 +1,6 @@
 -- Before a page table is added its pages are pinned: what is shown then, and that all other page tables stand.
-use Rattle.std.proofs.Common.{◌≡◌, ℕ, ◌+◌, ◌<◌, Bool, true, false, cond, ◌&&◌, eqb, ltb, get_or, inl, inr, is_some}
-use Rattle.std.proofs.Common.{Option, Some, None, List, [], ◌∷◌, map, refl, sym, ◌∙◌, ap, arith}
+use Rattle.std.proofs.Common.{◌≡◌, ℕ, ◌+◌, ◌<◌, Bool, true, false, cond, ◌&&◌, ◌||◌, eqb, ltb, get_or, inl, inr}
+use Rattle.std.proofs.Common.{is_some, Option, Some, None, List, [], ◌∷◌, map, refl, sym, ◌∙◌, ap, subst, arith}
 use Rattle.std.specs.List.{count_by, list_any}
 use Rattle.std.proofs.lemmas.Bool.Decides.{nat_tests}
 use Rattle.frame_memory.specs.Pool.{FramePool}
@@ -24,10 +24,11 @@ use Rattle.iofd_words.specs.declared.rows.Area.{Area}
 use Rattle.iofd_words.specs.declared.rows.MemoryObject.{MemoryObject}
 use Rattle.iofd_words.specs.declared.rows.Object.{Object}
 use Rattle.iofd_words.specs.declared.rows.UserPage.{UserPage}
+use Rattle.iofd_words.specs.declared.rows.AccessPin.{AccessPin}
 use Rattle.iofd_words.specs.declared.width.Width.{Width}
 use Rattle.user_memory_rows.proofs.FramesFollow.{frames_follow, translated_same}
 use Rattle.user_memory_rows.proofs.Named.{settles_named}
-use Rattle.user_memory_rows.proofs.PinsFollow.{only_kept, pins_follow}
+use Rattle.user_memory_rows.proofs.PinsFollow.{only_kept, pins_follow, still_some}
 use Rattle.user_memory_rows.specs.Moves.{ArePinnedMore}
 use Rattle.user_memory_rows.specs.Shown.{FramesShown, PinsShown, UsersShown, over, translated}
 use Rattle.server_state.proofs.FreeAlike.{AreAlike, free_alike}
@@ -39,7 +40,7 @@ use Rattle.server_state.specs.Step.{IsTidy}
 use Rattle.server_state.specs.Tables.{page_tables_among}
 use Rattle.server_state.specs.declared.state.State.{State}
 use Rattle.user_memory.specs.Changes.{HasPins}
-use Rattle.user_memory.specs.Memory.{Memory, is_pinned, rows_of, table_pins}
+use Rattle.user_memory.specs.Memory.{Memory, access_pins, is_pinned, rows_of, table_pins}
 use Rattle.hwpt_device_attach.proofs.FilledInTurn.{Leads}
 use Rattle.hwpt_device_attach.proofs.Gained.{same_tables, table_gained}
 use Rattle.hwpt_device_attach.specs.Making.{IsRoomy, made_object, with_table}
@@ -50,12 +51,12 @@ stays_pinned : (more : ℕ → ℕ) (old new : Memory) → HasPins more old new 
     → is_pinned old page ≡ true → is_pinned new page ≡ true
 stays_pinned more old new has page is =
     let parts = and_true (list_any (λ (row : MemoryObject). eqb page.memory row.number && ltb page.index row.count)
-    (rows_of old)) (ltb 0 (table_pins old page.memory)) is in
+    (rows_of old)) (ltb 0 (table_pins old page.memory) || ltb 0 (access_pins old page)) is in
     let pins = has.pins page.memory in
-    let some = parts.1 in
-    let still : ltb 0 (table_pins new page.memory) ≡ true = grind (arith, nat_tests) in
     both_true _ _ (ap (list_any (λ (row : MemoryObject). eqb page.memory row.number && ltb page.index row.count))
-    has.rows ∙ parts.0) still
+    has.rows ∙ parts.0)
+    (still_some (table_pins old page.memory) (table_pins new page.memory) (access_pins old page)
+    (access_pins new page) (omega (arith, pins)) (has.access page) parts.1)
 
 -- the first page table translates the areas of its address space, another no more
 pub gained : (objects : List Object) (areas : List Area) (file : FileNo) (ioas id : ObjId) (width : Width)
@@ -121,25 +122,28 @@ module _ {A : Type 0} (at : ℕ) (w : World) (s : State A) (tidy : IsTidy at w) 
     unfolding settle
     pins_pinned =
         let next : ArePinned (at + 1) (with_table w object) =
-        table_pinned at w file ioas id width automatic roomy.present tidy.pins in
-        pins_follow at (at + 1) w (with_table w object) s.memory after s.pool pool tidy.pins next shows.pins refl
+        table_pinned at w file ioas id width automatic roomy.present
+        (λ pin among. absurd (subst (λ (l : List AccessPin). IsIn l pin) tidy.unaccessed among)) tidy.pins in
+        pins_follow at (at + 1) w (with_table w object) s.memory after s.pool pool tidy.pins next tidy.unaccessed refl
+        shows.pins refl
         (λ u page. shows.users.pages u page ∙ ap (λ (rows : List UserPage). frame_at rows u page)
         (sym more.settles.pages))
         (shows.pins.rows ∙ sym more.pins.rows)
         (λ n. more.pins.areas n ∙ shows.pins.areas n)
         (λ n. more.pins.pins n ∙ ap (λ k. k + over (newly_translated w.objects file ioas (areas_of w.areas file ioas))
         n) (shows.pins.tables n) ∙ sym (gained w.objects w.areas file ioas id width automatic n))
-        more.settles
+        more.pins.access more.settles
 
     pub frames_pinned : FramesShown w.settings.pool w.writes w.table_frames after pool
     frames_pinned = frames_follow w.settings.pool w.writes w.table_frames s.memory after s.pool pool shows.frames
-        more.settles.holds more.settles.bytes (λ f named. settles_named s.memory after s.pool pool more.settles f named)
+        more.settles.holds more.settles.bytes
+        (λ f named. settles_named s.memory after s.pool pool shows.pins.invariant.rising more.settles f named)
 
     -- the same frames are free
     pub free_pinned : AreAlike pool.holds s.pool.holds
     free_pinned =
         free_alike s.memory after s.pool pool w.settings.pool w.writes w.table_frames shows.pins.invariant
-        (only_kept at w s.memory tidy.pins shows.pins)
+        (only_kept at w s.memory tidy.pins tidy.unaccessed shows.pins)
         (stays_pinned (over (newly_translated w.objects file ioas (areas_of w.areas file ioas))) s.memory after
         more.pins) more.settles shows.frames frames_pinned
 
@@ -149,7 +153,7 @@ module _ {A : Type 0} (at : ℕ) (w : World) (s : State A) (tidy : IsTidy at w) 
     stand_before =
         tables_follow w.settings.pool w.writes w.writes w.table_frames (leads_of w) tables s.memory after s.pool pool
         shows.tables.stand shows.frames frames_pinned
-        (λ f held named. settles_named s.memory after s.pool pool more.settles f named)
+        (λ f held named. settles_named s.memory after s.pool pool shows.pins.invariant.rising more.settles f named)
         (λ f held none. ap (λ (all : List (List ℕ)). get_or all f []) more.settles.bytes)
 
     pages_stay : (f : FileNo) (i : ObjId) (page : ℕ) → has_hwpt w.objects f i ≡ true
@@ -164,7 +168,7 @@ module _ {A : Type 0} (at : ℕ) (w : World) (s : State A) (tidy : IsTidy at w) 
         let now = more.pins.pins a.memory in
         let some : 0 < table_pins s.memory a.memory = omega (arith, counted, was) in
         let still : 0 < table_pins after a.memory = omega (arith, some, now) in
-        pin_stays at w (with_table w object) s.memory after s.pool pool tidy.pins shows.pins pins_pinned
+        pin_stays at w (with_table w object) s.memory after s.pool pool tidy.pins tidy.unaccessed shows.pins pins_pinned
         more.settles (object_page page a)
         (ap (λ (rows : List MemoryObject). has_page rows (object_page page a)) more.pins.rows) some still)
 

@@ -14,7 +14,7 @@ use Rattle.hwpt_device_attach.specs.Pinning.{Stays}
 module _ (m : Memory) (pool : FramePool) (known : PinsAreKnown m) where
   pinned_none : ArePinnedMore [] m m pool pool
   pinned_none = record {
-    pins = record { rows = refl; areas = λ number. refl; pins = λ number. omega arith };
+    pins = record { rows = refl; areas = λ number. refl; pins = λ number. omega arith; access = λ page. refl };
     settles = settles_none m pool known.invariant known.only;
   }
 
@@ -43,6 +43,7 @@ module _ (m : Memory) (pool : FramePool) (known : PinsAreKnown m) where
       frames = λ page. refl;
       areas = λ number. refl;
       pins = λ number. refl;
+      access = λ page. refl;
       named = λ frame. refl;
       kept = known.invariant;
     };

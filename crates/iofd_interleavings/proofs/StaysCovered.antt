@@ -6,9 +6,9 @@ use Rattle.std.proofs.lemmas.Bool.Decides.{nat_tests}
 use Rattle.iofd_words.specs.After.{attached, changed, copy_changes, detached}
 use Rattle.iofd_words.specs.After.{hwpt_changes, joined, map_changes, mapped_area, settle}
 use Rattle.iofd_words.specs.After.{without_areas}
-use Rattle.iofd_words.specs.Answers.{Answers}
+use Rattle.iofd_words.specs.Answers.{Answers, waits}
 use Rattle.iofd_words.specs.Areas.{all_paid, areas_of, is_of, is_touched, is_waiting, leaving, owed_by, paid, touched}
-use Rattle.iofd_words.specs.Areas.{with_area, with_phase, tried, touched_tries, with_tries}
+use Rattle.iofd_words.specs.Areas.{with_area, with_phase, tried, touched_tries, with_tries, is_held_back}
 use Rattle.iofd_words.specs.Attachments.{devices_of, is_attached_to}
 use Rattle.iofd_words.specs.Checks.{refusal}
 use Rattle.iofd_words.specs.Copies.{placed_as, source_in}
@@ -32,9 +32,10 @@ use Rattle.iofd_words.specs.declared.rows.ObjectKind.{ObjectKind}
 use Rattle.iofd_words.specs.declared.rows.ObjectKind.TheVariants as kind
 use Rattle.iofd_words.specs.declared.rows.Phase.{Phase}
 use Rattle.iofd_words.specs.declared.rows.Phase.TheVariants.{Live, Leaving}
+use Rattle.iofd_words.specs.Pins.{has_pin_in}
 use Rattle.iofd_rows.proofs.Bools.{and_true, both_true, clash, not_false, not_true}
 use Rattle.iofd_rows.proofs.Each.{IsIn, in_found, of_any}
-use Rattle.iofd_rows.proofs.ListTests.{any-filter, any_weaker, false_else}
+use Rattle.iofd_rows.proofs.ListTests.{any-filter, any_weaker, false_else, or_left}
 use Rattle.iofd_rows.proofs.Named.{file_is, id_is}
 use Rattle.iofd_rows.proofs.Owed.{IsDebtor, IsSpace}
 use Rattle.iofd_runs.proofs.Branches.{by_attachment, by_found, by_target}
@@ -117,9 +118,9 @@ owes attached device (Leaving owed tries) has may = not_none owed device.0 may
 
 untouched : (w : World) (own : FileNo) (request : UnmapRequest) (device : DeviceNo) (area : Area) → IsIn w.areas area
     → may_use device area.phase ≡ true → IsDebtor w.objects w.attachments area.file area.ioas device.0
-    → not (is_waiting w.areas (devices_of w.objects w.attachments own request.ioas) own request) ≡ true
+    → not (waits w own request) ≡ true
     → is_touched own request area ≡ false
-untouched w own request device area among may is waits =
+untouched w own request device area among may is done =
     false_else (is_touched own request area) (λ touches. never touches)
   where
     never : is_touched own request area ≡ true → ⊥
@@ -131,10 +132,10 @@ untouched w own request device area among may is waits =
         (file_is area.file own names.0)
         (subst (λ (i : ObjId). has_device (devices_of w.objects w.attachments area.file i) device.0 ≡ true)
         (id_is area.ioas request.ioas names.1) (attached_among w area.file area.ioas device.0 is)) in
-        clash _ (not_true _ waits) (of_any (λ (a : Area). not (eqb (length
-        (owed_by (devices_of w.objects w.attachments own request.ioas) a.phase)) 0)) (touched w.areas own request) area
+        clash _ (not_true _ done) (of_any (is_held_back (devices_of w.objects w.attachments own request.ioas)
+        (has_pin_in w.objects w.access_pins)) (touched w.areas own request) area
         (in_kept (is_touched own request) w.areas area among touches)
-        (owes (devices_of w.objects w.attachments own request.ioas) device area.phase has may))
+        (or_left _ _ (owes (devices_of w.objects w.attachments own request.ioas) device area.phase has may)))
 
 -- an UNMAP that is pending leaves the area to the devices that are attached
 may_tried : (device : DeviceNo) (most : ℕ) (phase : Phase)

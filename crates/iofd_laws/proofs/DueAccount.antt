@@ -9,8 +9,8 @@ use Rattle.std.proofs.lemmas.List.FromFn.{length-map-range_with_len}
 use Rattle.std.proofs.lemmas.List.Sums.{length-filter}
 use Rattle.iofd_words.specs.After.{attach_changes, attached, changed, copy_changes, hwpt_changes, map_changes}
 use Rattle.iofd_words.specs.After.{mapped_area, memory_object, settle, with_hwpt}
-use Rattle.iofd_words.specs.Answers.{Answers, IsHwptOf}
-use Rattle.iofd_words.specs.Areas.{all_paid, areas_of, is_of, with_area}
+use Rattle.iofd_words.specs.Answers.{Answers, IsHwptOf, IsHwptFor}
+use Rattle.iofd_words.specs.Areas.{all_paid, areas_of, is_of, with_area, paid}
 use Rattle.iofd_words.specs.Attachments.{attachment_of, with_attachment}
 use Rattle.iofd_words.specs.Checks.{allow_iovas_checks, attach_checks, bind_checks, bound_attach_checks, checks}
 use Rattle.iofd_words.specs.Checks.{close_checks, copy_checks, destroy_checks, detach_checks, device_write_checks}
@@ -25,10 +25,10 @@ use Rattle.iofd_words.specs.Files.{device_of, is_open, limit_of, user_of}
 use Rattle.iofd_words.specs.FirstTrue.{first_true}
 use Rattle.iofd_words.specs.Frames.{frame_at}
 use Rattle.iofd_words.specs.Objects.{automatic_hwpt, binding_of, device_in, device_under, has_hwpt, is_automatic_over}
-use Rattle.iofd_words.specs.Objects.{is_hwpt_over, is_object, kind_of, settings_under}
+use Rattle.iofd_words.specs.Objects.{is_hwpt_over, is_object, kind_of, settings_under, is_fresh, with_object}
 use Rattle.iofd_words.specs.Pages.{page_of}
 use Rattle.iofd_words.specs.Pins.{ObjectPage, frame_now, is_page, is_translated, pages_of, pinned_frame}
-use Rattle.iofd_words.specs.Pins.{unpinned_pages}
+use Rattle.iofd_words.specs.Pins.{unpinned_pages, is_accessed, is_pinned}
 use Rattle.iofd_words.specs.Settings.{DeviceSettings}
 use Rattle.iofd_words.specs.View.{view}
 use Rattle.iofd_words.specs.World.{World}
@@ -79,6 +79,9 @@ use Rattle.iofd_laws.proofs.KeepsLimits.{moved_world, number_of_page, of_user, p
 use Rattle.iofd_laws.proofs.RefusingRow.{row_passed, some_row}
 use Rattle.iofd_runs.proofs.Branches.{by_target}
 use Rattle.iofd_runs.proofs.MappedPages.{find_new}
+use Rattle.iofd_runs.proofs.Accessed.{accessed_grows}
+use Rattle.iofd_runs.proofs.Accessed.{EachHeld, accessed_objects, accessed_phases, each_held, held_phases}
+use Rattle.iofd_runs.proofs.HoldersStay.{more_holders}
 
 never : false ≡ true → ⊥
 never is = cc
@@ -279,16 +282,22 @@ of_owner w file user m is own =
 
 -- ---- a MAP
 
+either : (t a u b : Bool) → (t ≡ true → u ≡ true) → (a ≡ true → b ≡ true) → (t || a) ≡ true → (u || b) ≡ true
+either true a u b first second is = or_left u b (first refl)
+either false a u b first second is = or_right u b (second is)
+
 -- the pages that are to be pinned stay so with one more area
 with_area_still : (w : World) (area : Area) (more : List MemoryObject)
     → ((page : ObjectPage) → is_listed w.memory page ≡ true → is_listed more page ≡ true)
     → StayPinned w (record w { memory = more; areas = with_area area w.areas })
 with_area_still w area more listed = λ page within.
-    let parts = and_true (is_listed w.memory page) (is_translated w.objects w.areas page.memory)
+    let parts = and_true (is_listed w.memory page) (is_pinned w.objects w.areas w.access_pins page)
     (sym (in_pinned w.objects w.areas w.memory w.access_pins page) ∙ within) in
     in_pinned w.objects (with_area area w.areas) more w.access_pins page
-    ∙ both_true _ _ (listed page parts.0) (translated-with_area w.objects area w.areas page.memory
-    ∙ or_right (eqb area.memory page.memory && has_hwpt w.objects area.file area.ioas) _ parts.1)
+    ∙ both_true _ _ (listed page parts.0) (either _ _ _ _
+    (λ translated. translated-with_area w.objects area w.areas page.memory
+    ∙ or_right (eqb area.memory page.memory && has_hwpt w.objects area.file area.ioas) _ translated)
+    (accessed_grows w.objects area w.areas w.access_pins page) parts.1)
 
 -- a page of the area's memory object is to be pinned, where the address space has a page table
 of_area_pinned : (w : World) (area : Area) (more : List MemoryObject) (page : ObjectPage)
@@ -296,8 +305,8 @@ of_area_pinned : (w : World) (area : Area) (more : List MemoryObject) (page : Ob
     → list_any (is_page page) (pages_in (record w { memory = more; areas = with_area area w.areas })) ≡ true
 of_area_pinned w area more page listed over table =
     in_pinned w.objects (with_area area w.areas) more w.access_pins page
-    ∙ both_true _ _ listed (translated-with_area w.objects area w.areas page.memory
-    ∙ or_left _ (is_translated w.objects w.areas page.memory) (both_true _ _ over table))
+    ∙ both_true _ _ listed (or_left _ _ (translated-with_area w.objects area w.areas page.memory
+    ∙ or_left _ (is_translated w.objects w.areas page.memory) (both_true _ _ over table)))
 
 -- the pages that a MAP needs are in its user's memory
 pages_there : (w : World) (file : FileNo) (request : MapRequest) (user : UserNo) → user_of w.settings file ≡ Some user
@@ -445,7 +454,9 @@ module _ {A : Type 0} (at : ℕ) (w : World) (areas : List Area) (alike : AlikeA
     (file : FileNo) (ioas id : ObjId) (width : Width) (automatic : Bool) (attachments : List Attachment)
     (p : OwnedPins at w) (of_file : file_of w e ≡ Some file)
     (row : passes_limit_attached (view w) file ioas ≡ true)
-    (lacks : lacks_attached_page (view w) file ioas ≡ false) where
+    (lacks : lacks_attached_page (view w) file ioas ≡ false)
+    (covered : (page : ObjectPage) → is_accessed (with_table file ioas id width automatic w.objects) areas w.access_pins
+    page ≡ is_accessed w.objects w.areas w.access_pins page) where
   abbrev tables : List Object
   tables = with_table file ioas id width automatic w.objects
 
@@ -461,23 +472,25 @@ module _ {A : Type 0} (at : ℕ) (w : World) (areas : List Area) (alike : AlikeA
   table_made own over =
       hwpt-with_object (record { file = file; id = id; kind = kind.Hwpt ioas width automatic }) w.objects own over
 
-  pinned_by : (page : ObjectPage) → is_listed w.memory page ≡ true → is_translated tables w.areas page.memory ≡ true
+  pinned_by : (page : ObjectPage) → is_listed w.memory page ≡ true
+      → (is_translated tables w.areas page.memory || is_accessed w.objects w.areas w.access_pins page) ≡ true
       → list_any (is_page page) (pages_in first_table) ≡ true
-  pinned_by page listed translated =
+  pinned_by page listed pinned =
       in_pinned tables areas w.memory w.access_pins page
-      ∙ both_true _ _ listed (alike tables page.memory ∙ translated)
+      ∙ both_true _ _ listed (ap (λ b. b || is_accessed tables areas w.access_pins page) (alike tables page.memory)
+      ∙ ap (λ b. is_translated tables w.areas page.memory || b) (covered page) ∙ pinned)
 
   still : StayPinned w first_table
   still page within =
-      let parts = and_true (is_listed w.memory page) (is_translated w.objects w.areas page.memory)
+      let parts = and_true (is_listed w.memory page) (is_pinned w.objects w.areas w.access_pins page)
       (sym (in_pinned w.objects w.areas w.memory w.access_pins page) ∙ within) in
-      pinned_by page parts.0 (translated_within tables w.objects w.areas page.memory
-      (λ own over has. table_made own over ∙ or_right (eqb file.0 own.0 && eqb ioas.0 over.0) _ has) parts.1)
+      pinned_by page parts.0 (either _ _ _ _ (translated_within tables w.objects w.areas page.memory
+      (λ own over has. table_made own over ∙ or_right (eqb file.0 own.0 && eqb ioas.0 over.0) _ has)) (λ is. is) parts.1)
 
   come : (m : MemoryObject) (page : ObjectPage) → IsIn w.memory m → IsIn (pages_of m) page → in_space m ≡ true
       → list_any (is_page page) (pages_in first_table) ≡ true
   come m page among within joins =
-      pinned_by page (listed_page w.memory m page among within)
+      pinned_by page (listed_page w.memory m page among within) (or_left _ _
       (subst (λ (n : ℕ). is_translated tables w.areas n ≡ true) (sym (number_of_page m page within))
       (any_weaker (λ (a : Area). is_of file ioas a && eqb a.memory m.number)
       (λ (a : Area). eqb a.memory m.number && has_hwpt tables a.file a.ioas) w.areas
@@ -485,7 +498,7 @@ module _ {A : Type 0} (at : ℕ) (w : World) (areas : List Area) (alike : AlikeA
       let names = and_true (eqb a.file.0 file.0) (eqb a.ioas.0 ioas.0) parts.0 in
       both_true _ _ parts.1 (table_made a.file a.ioas ∙ or_left _ (has_hwpt w.objects a.file a.ioas)
       (both_true _ _ (flipped a.file.0 file.0 names.0) (flipped a.ioas.0 ioas.0 names.1))))
-      (sym (any-filter (λ (a : Area). eqb a.memory m.number) (is_of file ioas) w.areas) ∙ joins)))
+      (sym (any-filter (λ (a : Area). eqb a.memory m.number) (is_of file ioas) w.areas) ∙ joins))))
 
   table_over : PassesLimit {A = A} w (settle w first_table) e
   table_over =
@@ -552,16 +565,25 @@ under_known w file id fits some none = by_found (find (is_object file id) w.obje
         (is_known_device w.settings object.kind) (of_each (λ (o : Object). is_open w.settings w.closed o.file
         && is_known_device w.settings o.kind) w.objects object fits.known within)).1 some none
 
+-- access pins cover the same pages with a page table more, whatever the phases of areas are
+table_covers : (at : ℕ) (w : World) (areas : List Area) (object : Object)
+    → EachHeld w.objects areas w.access_pins → is_fresh w.objects object.file object.id ≡ true
+    → (page : ObjectPage) → is_accessed (with_object object w.objects) areas w.access_pins page
+    ≡ is_accessed w.objects areas w.access_pins page
+table_covers at w areas object held fresh page =
+    accessed_objects w.objects (with_object object w.objects) areas w.access_pins page
+    (more_holders object w.objects w.access_pins fresh) held
+
 -- ---- each event
 
 module _ {A : Type 0} (at : ℕ) (w : World) (p : OwnedPins at w) (fits : RowsFit w) where
-  hwpt_over : (file : FileNo) (request : HwptRequest) (id : ObjId)
+  hwpt_over : (file : FileNo) (request : HwptRequest) (id : ObjId) → is_fresh w.objects file id ≡ true
       → first_true (hwpt_alloc_checks (view w) file request) ≡ Some cause.Account
       → PassesLimit {A = A} w
       (hwpt_changes w file request.ioas id (settings_under w.settings w.objects file request.device))
       (event.HwptAlloc file request)
   unfolding hwpt_alloc_checks
-  hwpt_over file request id refused = by_device (settings_under w.settings w.objects file request.device) refl
+  hwpt_over file request id fresh refused = by_device (settings_under w.settings w.objects file request.device) refl
     where
       row : passes_limit_attached (view w) file request.ioas ≡ true
       row = sym (or_none (passes_limit_attached (view w) file request.ioas))
@@ -576,7 +598,7 @@ module _ {A : Type 0} (at : ℕ) (w : World) (p : OwnedPins at w) (fits : RowsFi
           (row_passed cause.Account is_account refl (hwpt_alloc_checks (view w) file request) 1 refused refl) is)
       by_device (Some d) is =
           table_over {A = A} at w w.areas (λ objects number. refl) (event.HwptAlloc file request) file request.ioas id
-          d.width false w.attachments p refl row lacks
+          d.width false w.attachments p refl row lacks (table_covers at w w.areas _ (each_held w.objects w.areas w.access_pins p.pins.held) fresh)
 
   attach_over : (device : DeviceNo) (pt_id id : ObjId)
       → first_true (attach_checks (view w) device pt_id) ≡ Some cause.Account
@@ -603,11 +625,27 @@ module _ {A : Type 0} (at : ℕ) (w : World) (p : OwnedPins at w) (fits : RowsFi
       (with_hwpt bound.file pt_id id d.width o w.objects) attachments)) (event.Attach device pt_id))
       (sym (no_automatic w.objects bound.file pt_id d.width none))
       (table_over {A = A} at w (all_paid device w.areas) (alike_paid w device) (event.Attach device pt_id)
-      bound.file pt_id id d.width true attachments p of_file row lacks))
+      bound.file pt_id id d.width true attachments p of_file row lacks
+      (paid_covers bound.file pt_id id d.width (fresh_of bound.file pt_id d.width _ (here made)
+      (no_automatic w.objects bound.file pt_id d.width none)))))
       (λ bound d ioas width automatic is known table same.
       let k : Option ObjectKind = Some (kind.Hwpt ioas width automatic) in
       absurd (never (account_row (rows bound k) (refused_of bound k is table))))
     where
+      fresh_of : (file : FileNo) (ioas : ObjId) (width : Width) (o : Option Object) → IsHwptFor w file id o → o ≡ None
+          → is_fresh w.objects file id ≡ true
+      fresh_of file ioas width o made none = subst (IsHwptFor w file id) none made
+
+      paid_covers : (file : FileNo) (ioas table : ObjId) (width : Width) → is_fresh w.objects file table ≡ true
+          → (page : ObjectPage)
+          → is_accessed (with_table file ioas table width true w.objects) (all_paid device w.areas) w.access_pins page
+          ≡ is_accessed w.objects w.areas w.access_pins page
+      paid_covers file ioas table width fresh page =
+          table_covers at w (all_paid device w.areas) _
+          (held_phases w.objects (λ a. paid device a.phase) w.areas w.access_pins
+          (each_held w.objects w.areas w.access_pins p.pins.held)) fresh page
+          ∙ accessed_phases w.objects (λ a. paid device a.phase) w.areas w.access_pins page
+
       rows : Object → Option ObjectKind → List (Cause × Bool)
       rows bound k = (cause.Bound, is_some (attachment_of w.attachments device))
           ∷ target_checks (view w) device pt_id bound.file k
@@ -636,7 +674,7 @@ module _ {A : Type 0} (at : ℕ) (w : World) (p : OwnedPins at w) (fits : RowsFi
           → PassesLimit {A = A} w (copy_changes w file request iova source) (event.Copy file request)
       by_source None is = absurd (never (sym found ∙ ap (λ (o : Option Area). is_none o) is))
       by_source (Some source) is = copy_over at w file request iova source p refused is
-  over_limit (event.HwptAlloc file request) (reply.Id id) refused answers = hwpt_over file request id refused
+  over_limit (event.HwptAlloc file request) (reply.Id id) refused answers = hwpt_over file request id answers refused
   over_limit (event.Attach device pt_id) (reply.Id id) refused answers = attach_over device pt_id id refused answers
   over_limit (event.Map file request) answer refused answers = absurd answers
   over_limit (event.Copy file request) answer refused answers = absurd answers

@@ -8,6 +8,7 @@ use Rattle.iofd_words.specs.After.{changed}
 use Rattle.iofd_words.specs.Checks.{refusal}
 use Rattle.iofd_words.specs.Objects.{has_hwpt, is_hwpt_over, objects_of}
 use Rattle.iofd_words.specs.Pins.{ObjectPage, is_page, is_translated, pinned_frame, pinned_pages}
+use Rattle.iofd_words.specs.Pins.{is_accessed, is_pinned}
 use Rattle.iofd_words.specs.Run.{after, after_answer}
 use Rattle.iofd_words.specs.Span.{size_of}
 use Rattle.iofd_words.specs.Tables.{with_tables}
@@ -39,6 +40,7 @@ use Rattle.iofd_rows.proofs.PageLists.{at_page}
 use Rattle.iofd_rows.proofs.PinsFollow.{pin_is_of}
 use Rattle.iofd_runs.proofs.Moves.{AreasMove, SameAreas, FewerAreas, OtherPhases, OneArea, NewMemory, SharedMemory}
 use Rattle.iofd_runs.proofs.Moves.{changed_moves, MemoryUnder}
+use Rattle.iofd_runs.proofs.PagesToPin.{AccessedAlike}
 
 flipped : (a b : ℕ) → eqb a b ≡ true → eqb b a ≡ true
 flipped a b is = grind (arith, nat_tests)
@@ -237,7 +239,7 @@ keeps_object at w e answer number some has =
         → list_any (λ (a : Area). eqb a.memory number) new.areas ≡ true
         → object_numbered new.memory number ≡ object_numbered w.memory number
     by_move new (SameAreas is same) has = rw same refl
-    by_move new (FewerAreas goes is left) has =
+    by_move new (FewerAreas goes is left free) has =
         rw left (gone_object goes w.areas w.memory number (rw is at has))
     by_move new (OtherPhases phase lives is same) has = rw same refl
     by_move new (OneArea own file request iova passed lies makes alike is under) has = by_memory under
@@ -277,8 +279,8 @@ pin_told at w page p =
     (λ within. at_page (λ q. is_some (pinned_frame w.pins q)) pages page p.pinned within)
 
 module _ {A : Type 0} (at : ℕ) (w : World) (r : Record A) (file : FileNo) (number : ℕ) (before : OwnPins at w)
-    (next : OwnPins (at + 1) (after at w r)) (b : AreBound w) (another : IsOfAnother w r.event file)
-    (has : has_memory file w number ≡ true) where
+    (next : OwnPins (at + 1) (after at w r)) (accessed : AccessedAlike w (after at w r)) (b : AreBound w)
+    (another : IsOfAnother w r.event file) (has : has_memory file w number ≡ true) where
   rows : rows_of file (after at w r) ≡ rows_of file w
   rows = after_keeps_others at w r file b another
 
@@ -323,9 +325,16 @@ module _ {A : Type 0} (at : ℕ) (w : World) (r : Record A) (file : FileNo) (num
       ∙ sym (listed_numbered new.memory page next.pins.numbers)
       in
       in_pinned w.objects w.areas w.memory w.access_pins page
-      ∙ ap (λ (here : Bool). here && is_translated w.objects w.areas number) listed
-      ∙ ap (λ (here : Bool). is_listed new.memory page && here) (sym same_translated)
+      ∙ ap (λ (here : Bool). here && is_pinned w.objects w.areas w.access_pins page) listed
+      ∙ by_listed page (is_listed new.memory page) refl
       ∙ sym (in_pinned new.objects new.areas new.memory new.access_pins page)
+    where
+      by_listed : (page : ObjectPage) (b : Bool) → is_listed (after at w r).memory page ≡ b
+          → (b && (is_translated w.objects w.areas number || is_accessed w.objects w.areas w.access_pins page))
+          ≡ (b && (is_translated (after at w r).objects (after at w r).areas number
+          || is_accessed (after at w r).objects (after at w r).areas (after at w r).access_pins page))
+      by_listed page false is = refl
+      by_listed page true is = rw (same_translated, accessed page is) refl
 
   pub after_same_memory : SameMemory number w (after at w r)
   after_same_memory = record {

@@ -8,7 +8,7 @@ use Rattle.iofd_words.specs.Areas.{is_touched, leaving, with_phase, tried, touch
 use Rattle.iofd_words.specs.Attachments.{devices_of}
 use Rattle.iofd_words.specs.Checks.{refusal}
 use Rattle.iofd_words.specs.Objects.{has_hwpt}
-use Rattle.iofd_words.specs.Pins.{ObjectPage, frame_now, is_page, is_translated, pinned_frame, pinned_pages}
+use Rattle.iofd_words.specs.Pins.{ObjectPage, frame_now, is_page, is_translated, pinned_frame, pinned_pages, is_pinned}
 use Rattle.iofd_words.specs.Run.{after, after_answer}
 use Rattle.iofd_words.specs.Tables.{with_tables}
 use Rattle.iofd_words.specs.World.{World}
@@ -28,7 +28,7 @@ use Rattle.iofd_laws.specs.Laws.{Outlives, object_numbered}
 use Rattle.iofd_rows.specs.Pinned.{ArePinned}
 use Rattle.iofd_rows.proofs.Bools.{and_true, both_true, not_false}
 use Rattle.iofd_rows.proofs.Each.{IsIn, of_any}
-use Rattle.iofd_rows.proofs.ListTests.{alike, any-filter, any_weaker, contains_first, contains_later}
+use Rattle.iofd_rows.proofs.ListTests.{alike, any-filter, any_weaker, contains_first, contains_later, or_left}
 use Rattle.iofd_rows.proofs.ObjectPages.{has_page, in_pinned, is_listed, listed_fewer, listed_is}
 use Rattle.iofd_rows.proofs.PinsFollow.{pin_is_of, settled_at, settled_frame}
 use Rattle.iofd_runs.proofs.StillTabled.{in_kept}
@@ -115,13 +115,15 @@ module _ (at : ℕ) (w : World) (area : Area) (within : IsIn w.areas area) (goes
       memory =
           filter (λ (m : MemoryObject). list_any (λ (a : Area). eqb a.memory m.number && not (goes a)) w.areas) w.memory
 
+      pinned : (areas : List Area) → IsIn areas area → is_pinned w.objects areas w.access_pins page ≡ true
+      pinned areas among = or_left _ _ (translates areas among table)
+
       same : list_any (is_page page) (pinned_pages w.objects w.areas w.memory w.access_pins) ≡ list_any (is_page page)
           (pinned_pages w.objects areas memory w.access_pins)
       same =
           in_pinned w.objects w.areas w.memory w.access_pins page
-          ∙ ap (λ (b : Bool). is_listed w.memory page && b) (translates w.areas within table
-          ∙ sym (translates areas left table))
-          ∙ ap (λ (b : Bool). b && is_translated w.objects areas area.memory) (sym (still_listed page refl))
+          ∙ ap (λ (b : Bool). is_listed w.memory page && b) (pinned w.areas within ∙ sym (pinned areas left))
+          ∙ ap (λ (b : Bool). b && is_pinned w.objects areas w.access_pins page) (sym (still_listed page refl))
           ∙ sym (in_pinned w.objects areas memory w.access_pins page)
 
   same_object : object_numbered (settle w (without_areas goes w)).memory

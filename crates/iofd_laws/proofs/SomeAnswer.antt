@@ -17,6 +17,7 @@ use Rattle.iofd_runs.proofs.NotRefused.{target_passed, user_map_passed, access_c
 use Rattle.iofd_runs.proofs.StillTabled.{in_kept}
 use Rattle.iofd_runs.proofs.PinnedAccess.{some_outcome}
 use Rattle.iofd_words.specs.Answers.{Answers, IsHwptFor, IsHwptOf, IsMappedAt, IsTarget, UnmapAnswers, write_reply}
+use Rattle.iofd_words.specs.Answers.{waits}
 use Rattle.iofd_words.specs.Areas.{is_waiting, touched_bytes, pending_errno, touched_tries}
 use Rattle.iofd_words.specs.Attachments.{devices_of}
 use Rattle.iofd_words.specs.Checks.{attach_checks, choices, has_choice, lacks_choice, lacks_room_for_hwpt, least}
@@ -107,9 +108,9 @@ module _ (at : ℕ) (w : World) (pins : ArePinned at w) (fits : RowsFit w) where
   -- an UNMAP waits, or it answers how many bytes go
   unmap_answer : (file : FileNo) (request : UnmapRequest) → (answer : Reply) × UnmapAnswers w file request answer
   unmap_answer file request =
-      by_test (is_waiting w.areas (devices_of w.objects w.attachments file request.ioas) file request) refl
+      by_test (waits w file request) refl
     where
-      by_test : (b : Bool) → is_waiting w.areas (devices_of w.objects w.attachments file request.ioas) file request ≡ b
+      by_test : (b : Bool) → waits w file request ≡ b
           → (answer : Reply) × UnmapAnswers w file request answer
       by_test true waits = (reply.Pending (pending_errno (touched_tries w.areas file request)), (waits, refl))
       by_test false waits = (reply.Bytes (touched_bytes w.areas file request), (not_false _ waits, refl))

@@ -160,7 +160,7 @@ few_areas_by : {A : Type 0} (file ioas at : ℕ) (w : World) (e : Event A) (answ
     → AreasMove at w e answer new → refusal w e ≡ None
     → how_many (of_space file ioas) w.areas ≤ 65535 → how_many (of_space file ioas) new.areas ≤ 65535
 few_areas_by file ioas at w e answer new (SameAreas is same) none few = rw is few
-few_areas_by file ioas at w e answer new (FewerAreas goes is left) none few =
+few_areas_by file ioas at w e answer new (FewerAreas goes is left free) none few =
     let less = fewer (of_space file ioas) (λ (a : Area). not (goes a)) w.areas in rw is (omega (arith, less, few))
 few_areas_by file ioas at w e answer new (OtherPhases phase lives is same) none few =
     let alike = same_count file ioas phase w.areas in rw is (omega (arith, alike, few))

@@ -27,7 +27,7 @@ use Rattle.iofd_words.specs.declared.rows.MemoryObject.{MemoryObject}
 use Rattle.iofd_words.specs.declared.rows.Phase.{Phase}
 use Rattle.iofd_words.specs.declared.rows.Phase.TheVariants.{Live, Leaving}
 use Rattle.iofd_rows.proofs.Bools.{and_true}
-use Rattle.iofd_rows.proofs.Each.{IsIn, of_each}
+use Rattle.iofd_rows.proofs.Each.{IsIn, of_each, area_added}
 use Rattle.iofd_rows.proofs.Named.{id_is}
 use Rattle.iofd_rows.specs.Pinned.{ArePinned}
 use Rattle.iofd_runs.proofs.CopySource.{source_area, source_is}
@@ -37,16 +37,6 @@ use Rattle.iofd_promises.specs.Reaches.{lets}
 use Rattle.iofd_promises.proofs.Rows.{contains, within}
 
 -- ---- one more row
-
-is_added : (area : Area) (areas : List Area) → IsIn (with_area area areas) area
-is_added area [] = inl refl
-is_added area (a ∷ areas) =
-    by_order (is_of area.file area.ioas a && ltb area.span.first a.span.first) (is_added area areas)
-  where
-    by_order : (b : Bool) → IsIn (with_area area areas) area
-        → IsIn (cond b (area ∷ a ∷ areas) (a ∷ with_area area areas)) area
-    by_order true rest = inl refl
-    by_order false rest = inr rest
 
 pub stays_in : (area : Area) (areas : List Area) (x : Area) → IsIn areas x → IsIn (with_area area areas) x
 stays_in area [] x there = absurd there
@@ -101,7 +91,7 @@ new_area : (w new : World) (memory : ℕ) (file : FileNo) (request : MapRequest)
     → eqb request.length 0 ≡ false → new.areas ≡ with_area (mapped_area memory file request iova) w.areas
     → NewArea w new file request.ioas iova request.length request.flags (mapped_area memory file request iova)
 new_area w new memory file request iova some is = record {
-  there = rw is (contains _ area (is_added area w.areas));
+  there = rw is (contains _ area (area_added area w.areas));
   of_file = refl;
   of_space = refl;
   first = refl;

@@ -1,14 +1,14 @@
 -- What an UNMAP names, waits for and takes away, and what a flush pays.
 use Rattle.std.proofs.Common.{◌≡◌, ◌≢◌, ◌≤◌, ℕ, suc, ◌+◌, ◌-◌, Bool, true, false, cond, ◌&&◌, not, eqb, leb, List}
 use Rattle.std.proofs.Common.{[], ◌∷◌, length, Contains, refl, ap, sym, ◌∙◌, subst, arith, inl}
-use Rattle.std.proofs.Common.{inr, ⊎_elim, ◌⊎◌, ◌<◌, ltb, max, map}
+use Rattle.std.proofs.Common.{inr, ⊎_elim, ◌⊎◌, ◌<◌, ltb, max, map, Option, Some, None, ◌||◌}
 use Rattle.std.specs.List.{sum_by, fold}
 use Rattle.std.proofs.lemmas.Bool.{eqb-true}
 use Rattle.std.proofs.lemmas.Bool.Decides.{nat_tests}
 use Rattle.std.proofs.lemmas.List.Sums.{sum_by-cons}
 use Rattle.iofd_words.specs.Areas.{all_paid, areas_of, is_cut, is_everything, is_of, is_touched, is_waiting, leaving}
 use Rattle.iofd_words.specs.Areas.{owed_by, paid, touched, touched_bytes, unmapped_span, with_leaving, with_phase}
-use Rattle.iofd_words.specs.Areas.{tried, tries_of, touched_tries, pending_errno, with_tries}
+use Rattle.iofd_words.specs.Areas.{tried, tries_of, touched_tries, pending_errno, with_tries, is_held_back}
 use Rattle.iofd_words.specs.Attachments.{devices_of}
 use Rattle.iofd_words.specs.DeviceSet.{without_device}
 use Rattle.iofd_words.specs.Span.{lies_in, meets, size_of, span_from}
@@ -20,18 +20,24 @@ use Rattle.iofd_words.specs.declared.numbers.ObjId.{ObjId}
 use Rattle.iofd_words.specs.declared.rows.Area.{Area}
 use Rattle.iofd_words.specs.declared.rows.Phase.{Phase}
 use Rattle.iofd_words.specs.declared.rows.Phase.TheVariants.{Live, Leaving}
-use Rattle.iofd_rows.proofs.Bools.{and_true, clash, not_false, not_true}
-use Rattle.iofd_rows.proofs.Each.{IsIn, in_filter}
-use Rattle.iofd_rows.proofs.Named.{file_is, id_is}
+use Rattle.iofd_words.specs.declared.rows.AccessPin.{AccessPin}
+use Rattle.iofd_words.specs.declared.rows.ObjectKind.{ObjectKind}
+use Rattle.iofd_words.specs.declared.rows.ObjectKind.TheVariants as kind
+use Rattle.iofd_rows.proofs.Bools.{and_true, clash, not_false, not_true, both_true, or_false}
+use Rattle.iofd_rows.proofs.Each.{IsIn, in_filter, of_any}
+use Rattle.iofd_rows.proofs.Named.{file_is, id_is, kind_only, object_of_kind, some_passes}
 use Rattle.iofd_rows.proofs.Unusable.{each_not}
 use Rattle.iofd_rows.specs.Ids.{have_own_ids}
 use Rattle.iofd_runs.proofs.StillTabled.{in_kept}
 use Rattle.iofd_promises.specs.Unmaps.{AllLeave, AllPaid, LeavesBy, Owes, PaidBy, bytes_named, is_named, last_named}
-use Rattle.iofd_promises.specs.Unmaps.{AreMost, tries_after, tries_seen}
+use Rattle.iofd_promises.specs.Unmaps.{AreMost, tries_after, tries_seen, ADevice, APin, HoldsBack, LiesIn}
 use Rattle.iofd_promises.proofs.Rows.{contains, within}
 use Rattle.iofd_promises.proofs.Spaces.{device_translates, translates_device}
 use Rattle.iofd_laws.proofs.FreeFrames.{some_in}
 use Rattle.iofd_words.specs.declared.refusal.Errno.TheVariants.{EAGAIN, EDEADLOCK}
+use Rattle.iofd_words.specs.Answers.{waits}
+use Rattle.iofd_words.specs.Pins.{has_pin_in, is_pin_in}
+use Rattle.iofd_words.specs.Objects.{is_access_to, kind_of}
 
 -- ---- what it names
 
@@ -133,15 +139,14 @@ space_of_touched file request area named =
     (file_is area.file file names.0, id_is area.ioas request.ioas names.1)
 
 pub nobody_owes : (w : World) (file : FileNo) (request : UnmapRequest) (area : Area) (device : DeviceNo)
-    → have_own_ids w.objects ≡ true → is_waiting w.areas
-    (devices_of w.objects w.attachments file request.ioas) file request ≡ false
+    → have_own_ids w.objects ≡ true → waits w file request ≡ false
     → IsIn w.areas area → is_named file request area ≡ true → Owes w area device area.phase → ⊥
-nobody_owes w file request area device own waits there named owes =
+nobody_owes w file request area device own done there named owes =
     let attached : List ℕ = devices_of w.objects w.attachments file request.ioas in
     let (of_file, of_space) = space_of_touched file request area named in
     let listed = in_kept (is_touched file request) w.areas area there (touched_named file request area ∙ named) in
-    let none = not_not _ (each_not (λ (a : Area). not (eqb (length (owed_by attached a.phase)) 0))
-    (touched w.areas file request) area waits listed) in
+    let none = not_not _ (or_false _ _ (each_not (is_held_back attached (has_pin_in w.objects w.access_pins))
+    (touched w.areas file request) area done listed)).0 in
     let here = owing w area area.phase device own owes in
     let moved = subst (λ (i : ObjId). IsIn (owed_by (devices_of w.objects w.attachments file i) area.phase) device.0)
     of_space (subst (λ (f : FileNo). IsIn (owed_by (devices_of w.objects w.attachments f area.ioas) area.phase)
@@ -152,34 +157,107 @@ nobody_owes w file request area device own waits there named owes =
     not_not true is = refl
     not_not false is = cc
 
-pub record Owed (w : World) (file : FileNo) (request : UnmapRequest) : Type 0 where
+-- ---- access pins
+
+-- the ioas that an attached access object has
+attached_to : (k : ObjectKind) (ioas : ObjId) → is_access_to ioas k ≡ true → k ≡ kind.Access (Some ioas)
+attached_to kind.Ioas ioas is = cc
+attached_to (kind.Hwpt over width automatic) ioas is = cc
+attached_to (kind.Device device) ioas is = cc
+attached_to (kind.Access None) ioas is = cc
+attached_to (kind.Access (Some own)) ioas is = ap (λ (i : ObjId). kind.Access (Some i)) (id_is own ioas is)
+
+-- a pin that meets the area lies in it
+lies : (w : World) (pin : AccessPin) (area : Area) → IsIn w.access_pins pin
+    → (is_pin_in w.objects pin area && meets area.span pin.span) ≡ true → LiesIn w pin area
+lies w pin area among both =
+    let parts = and_true (is_pin_in w.objects pin area) (meets area.span pin.span) both in
+    let own = and_true (eqb area.file.0 pin.file.0) _ parts.0 in
+    let ends = and_true (leb area.span.first pin.span.last) (leb pin.span.first area.span.last) parts.1 in
+    let (k, found, to) = some_passes (is_access_to area.ioas) (kind_of w.objects pin.file pin.access) own.1 in
+    let (x, first, there, of_file, of_id, of_kind) = object_of_kind w.objects pin.file pin.access k found in
+    record {
+      there = contains w.access_pins pin among;
+      of_file = sym (file_is area.file pin.file own.0);
+      access = x;
+      holds = contains w.objects x there;
+      access_file = of_file;
+      access_id = of_id;
+      attached = of_kind ∙ attached_to k area.ioas to;
+      first = let end = ends.1 in search (end, arith, nat_tests);
+      last = let end = ends.0 in search (end, arith, nat_tests);
+    }
+
+-- and one that lies in it meets it
+meets_it : (w : World) (pin : AccessPin) (area : Area) → have_own_ids w.objects ≡ true → LiesIn w pin area
+    → (is_pin_in w.objects pin area && meets area.span pin.span) ≡ true
+meets_it w pin area own lies_in =
+    let found : kind_of w.objects pin.file pin.access ≡ Some (kind.Access (Some area.ioas)) =
+    rw (← lies_in.access_file, ← lies_in.access_id) (kind_only w.objects lies_in.access own
+    (within w.objects lies_in.access lies_in.holds) ∙ ap Some lies_in.attached) in
+    let to : elim (kind_of w.objects pin.file pin.access) as (λ _. Bool)
+    [ Some k ↦ is_access_to area.ioas k | None ↦ false ] ≡ true =
+    ap (λ (o : Option ObjectKind). elim o as (λ _. Bool) [ Some k ↦ is_access_to area.ioas k | None ↦ false ]) found
+    ∙ itself area.ioas.0 in
+    let files : eqb area.file.0 pin.file.0 ≡ true =
+    ap (λ (f : FileNo). eqb area.file.0 f.0) lies_in.of_file ∙ itself area.file.0 in
+    both_true _ _ (both_true _ _ files to)
+    (spans_meet area.span.first area.span.last pin.span.first pin.span.last lies_in.first lies_in.last)
+  where
+    spans_meet : (a b c d : ℕ) → c ≤ b → a ≤ d → (leb a d && leb c b) ≡ true
+    spans_meet a b c d low high = search (low, high, arith, nat_tests)
+
+    itself : (n : ℕ) → eqb n n ≡ true
+    itself n = search (arith, nat_tests)
+
+pub no_pin_lies : (w : World) (file : FileNo) (request : UnmapRequest) (area : Area) (pin : AccessPin)
+    → have_own_ids w.objects ≡ true → waits w file request ≡ false → IsIn w.areas area
+    → is_named file request area ≡ true → LiesIn w pin area → ⊥
+no_pin_lies w file request area pin own done there named lies_in =
+    let listed = in_kept (is_touched file request) w.areas area there (touched_named file request area ∙ named) in
+    let free = (or_false _ _ (each_not (is_held_back (devices_of w.objects w.attachments file request.ioas)
+    (has_pin_in w.objects w.access_pins)) (touched w.areas file request) area done listed)).1 in
+    clash _ free (of_any (λ (p : AccessPin). is_pin_in w.objects p area && meets area.span p.span) w.access_pins pin
+    (within w.access_pins pin lies_in.there) (meets_it w pin area own lies_in))
+
+-- ---- what holds an area back
+
+pub record HeldBack (w : World) (file : FileNo) (request : UnmapRequest) : Type 0 where
   pub area : Area
   pub there : IsIn w.areas area
   pub named : is_named file request area ≡ true
-  pub device : DeviceNo
-  pub owes : Owes w area device area.phase
+  pub by : HoldsBack w area
 
-pub somebody_owes : (w : World) (file : FileNo) (request : UnmapRequest)
-    → is_waiting w.areas (devices_of w.objects w.attachments file request.ioas) file request ≡ true
-    → Owed w file request
-somebody_owes w file request waits =
-    let attached : List ℕ = devices_of w.objects w.attachments file request.ioas in
-    let (area, listed, some) =
-    some_in (λ (a : Area). not (eqb (length (owed_by attached a.phase)) 0)) (touched w.areas file request) waits in
+pub something_holds : (w : World) (file : FileNo) (request : UnmapRequest) → waits w file request ≡ true
+    → HeldBack w file request
+something_holds w file request waiting =
+    let (area, listed, some) = some_in (is_held_back (devices_of w.objects w.attachments file request.ioas)
+    (has_pin_in w.objects w.access_pins)) (touched w.areas file request) waiting in
     let (there, is) = in_filter (is_touched file request) w.areas area listed in
     let named : is_named file request area ≡ true = sym (touched_named file request area) ∙ is in
-    let (of_file, of_space) = space_of_touched file request area named in
-    let (d, owed) = some_owed (owed_by attached area.phase) some in
-    let moved = subst (λ (i : ObjId). IsIn (owed_by (devices_of w.objects w.attachments area.file i) area.phase) d)
-    (sym of_space) (subst (λ (f : FileNo). IsIn
-    (owed_by (devices_of w.objects w.attachments f request.ioas) area.phase) d) (sym of_file) owed) in
-    record {
-      area = area;
-      there = there;
-      named = named;
-      device = record { 0 = d };
-      owes = owes_by w area area.phase (record { 0 = d }) moved;
-    }
+    record { area = area; there = there; named = named; by = by_test area named _ refl some }
+  where
+    attached : List ℕ
+    attached = devices_of w.objects w.attachments file request.ioas
+
+    owed_one : (area : Area) → is_named file request area ≡ true
+        → not (eqb (length (owed_by attached area.phase)) 0) ≡ true → HoldsBack w area
+    owed_one area named some =
+        let (of_file, of_space) = space_of_touched file request area named in
+        let (d, owed) = some_owed (owed_by attached area.phase) some in
+        let moved = subst (λ (i : ObjId). IsIn (owed_by (devices_of w.objects w.attachments area.file i) area.phase) d)
+        (sym of_space) (subst (λ (f : FileNo). IsIn
+        (owed_by (devices_of w.objects w.attachments f request.ioas) area.phase) d) (sym of_file) owed) in
+        ADevice (record { 0 = d }) (owes_by w area area.phase (record { 0 = d }) moved)
+
+    by_test : (area : Area) → is_named file request area ≡ true → (b : Bool)
+        → not (eqb (length (owed_by attached area.phase)) 0) ≡ b
+        → (b || has_pin_in w.objects w.access_pins area) ≡ true → HoldsBack w area
+    by_test area named true is some = owed_one area named is
+    by_test area named false is some =
+        let (pin, among, both) = some_in (λ (p : AccessPin). is_pin_in w.objects p area && meets area.span p.span)
+        w.access_pins some in
+        APin pin (lies w pin area among both)
 
 -- ---- areas leave
 

@@ -1,6 +1,6 @@
 -- What an UNMAP takes away, what it waits for, and what a flush pays.
 use Rattle.std.specs.Prelude.{◌≡◌, ◌≢◌, ◌≤◌, ◌<◌, ◌↔◌, ℕ, ◌+◌, ◌-◌, ◌^◌, ◌==◌}
-use Rattle.std.specs.Prelude.{◌&&◌, nat_le, nat_lt, Bool, true, false, List, []}
+use Rattle.std.specs.Prelude.{◌&&◌, nat_le, nat_lt, Bool, true, false, Some, List, []}
 use Rattle.std.specs.Prelude.{◌∷◌, Contains, if◌then◌else◌}
 use Rattle.iofd_words.specs.World.{World}
 use Rattle.iofd_words.specs.declared.event.UnmapRequest.{UnmapRequest}
@@ -8,7 +8,10 @@ use Rattle.iofd_words.specs.declared.numbers.DeviceNo.{DeviceNo}
 use Rattle.iofd_words.specs.declared.numbers.FileNo.{FileNo}
 use Rattle.iofd_words.specs.declared.refusal.Errno.{Errno}
 use Rattle.iofd_words.specs.declared.refusal.Errno.TheVariants.{EAGAIN, EDEADLOCK}
+use Rattle.iofd_words.specs.declared.rows.AccessPin.{AccessPin}
 use Rattle.iofd_words.specs.declared.rows.Area.{Area}
+use Rattle.iofd_words.specs.declared.rows.Object.{Object}
+use Rattle.iofd_words.specs.declared.rows.ObjectKind.TheVariants as kind
 use Rattle.iofd_words.specs.declared.rows.Phase.{Phase}
 use Rattle.iofd_words.specs.declared.rows.Phase.TheVariants.{Live, Leaving}
 use Rattle.iofd_promises.specs.Reaches.{TranslatesBy}
@@ -47,14 +50,35 @@ abbrev pub Owes : World → Area → DeviceNo → Phase → Type 0
 Owes w area device Live = TranslatesBy w device area.file area.ioas
 Owes w area device (Leaving owed tries) = Contains owed device.0
 
+-- ---- which access pins lie in an area
+
+-- an access object that is attached to the area's address space holds the pin, and the two have an address in common
+pub record LiesIn (w : World) (pin : AccessPin) (area : Area) : Type 0 where
+  pub there : Contains w.access_pins pin
+  pub of_file : pin.file ≡ area.file
+  pub access : Object
+  pub holds : Contains w.objects access
+  pub access_file : access.file ≡ pin.file
+  pub access_id : access.id ≡ pin.access
+  pub attached : access.kind ≡ kind.Access (Some area.ioas)
+  pub first : pin.span.first ≤ area.span.last
+  pub last : area.span.first ≤ pin.span.last
+
+-- who holds an area back: a device that owes it a flush, or an access pin in it
+pub data HoldsBack (w : World) (area : Area) : Type 0 where
+  ADevice : (device : DeviceNo) → Owes w area device area.phase → HoldsBack w area
+  APin : (pin : AccessPin) → LiesIn w pin area → HoldsBack w area
+
 -- ---- answers
 
--- what an UNMAP that answers this count leaves: nobody owed an area that it named, and those areas, and no others,
--- are gone
+-- what an UNMAP that answers this count leaves: nobody owed an area that it named, no access pin lay in one, and those
+-- areas, and no others, are gone
 pub record TakesAway (old new : World) (file : FileNo) (request : UnmapRequest) (count : ℕ) : Type 0 where
   pub whole : AreWhole old file request
   pub owed : (area : Area) (device : DeviceNo) → Contains old.areas area → is_named file request area ≡ true
       → Owes old area device area.phase → ⊥
+  pub pinned : (area : Area) (pin : AccessPin) → Contains old.areas area → is_named file request area ≡ true
+      → LiesIn old pin area → ⊥
   pub count_is : count ≡ bytes_named file request old.areas
   pub gone : (area : Area) → Contains new.areas area → is_named file request area ≡ false
   pub others : (area : Area) → is_named file request area ≡ false →
@@ -98,15 +122,14 @@ AllLeave w file request most (area ∷ areas) (left ∷ rest) =
     × (is_named file request area ≡ false → left ≡ area)
     × AllLeave w file request most areas rest
 
--- what an UNMAP that waits answers and leaves: some device owes an area that it names, and it is to be called again,
--- or, after a hundred times, told that it needn't
+-- what an UNMAP that waits answers and leaves: something holds an area back that it names, and it is to be called
+-- again, or, after a hundred times, told that it needn't
 pub record Waits (old new : World) (file : FileNo) (request : UnmapRequest) (errno : Errno) : Type 0 where
   pub whole : AreWhole old file request
   pub area : Area
   pub there : Contains old.areas area
   pub named : is_named file request area ≡ true
-  pub device : DeviceNo
-  pub owes : Owes old area device area.phase
+  pub held_back : HoldsBack old area
   pub most : ℕ
   pub are_most : AreMost old file request most
   pub again : most < 100 → errno ≡ EAGAIN

@@ -14,8 +14,9 @@ ghost use Rattle.iofd_words.specs.declared.reply.Reply.TheVariants as reply;
 
 use std::alloc::Allocator;
 
-/// An UNMAP answers bytes only where no device owes an area that it names a flush and each of these areas lies wholly
-/// in it. The count is the sum of their lengths, they are gone, and every other area stands as it was.
+/// An UNMAP answers bytes only where no device owes an area that it names a flush, no access pin lies in one, and each
+/// of these areas lies wholly in it. The count is the sum of their lengths, they are gone, and every other area stands
+/// as it was.
 pub fn bytes_are_answered_where_nobody_owes<A: Allocator>()
     ensures { (settings : Settings) (before : List (Record A)) (r : Record A) (file : FileNo) (request : UnmapRequest)
         (count : ℕ) →
@@ -24,10 +25,10 @@ pub fn bytes_are_answered_where_nobody_owes<A: Allocator>()
         TakesAway (world_of settings before) (world_of settings (before ++ r ∷ [])) file request count }
 {}
 
-/// An UNMAP waits only where some device owes an area that it names a flush. Each such area leaves then, owed by whoever
-/// owed it; every other area, and all other rows but tables, stand as they were. The answer is EAGAIN where none of the
-/// areas has seen a hundred such answers, and each has seen one more than the most then; else it is EDEADLOCK, and
-/// nothing more is counted.
+/// An UNMAP waits only where some device owes an area that it names a flush, or an access pin lies in one. Each such
+/// area leaves then, owed by whoever owed it; every other area, and all other rows but tables, stand as they were. The
+/// answer is EAGAIN where none of the areas has seen a hundred such answers, and each has seen one more than the most
+/// then; else it is EDEADLOCK, and nothing more is counted.
 pub fn an_unmap_waits_for_who_owes<A: Allocator>()
     ensures waits { (settings : Settings) (before : List (Record A)) (r : Record A) (file : FileNo)
         (request : UnmapRequest)

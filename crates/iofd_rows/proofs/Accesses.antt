@@ -1,7 +1,7 @@
 -- An access object is attached or detached: it alone changes, and by its attachment alone. What tells no attachment of
 -- an access object from another stays, and so does each object of another kind.
 use Rattle.std.proofs.Common.{◌≡◌, ℕ, Bool, true, false, cond, ◌&&◌, eqb, Option, Some, None, List, [], ◌∷◌, map, refl}
-use Rattle.std.proofs.Common.{ap, sym, ◌∙◌, ◌≤◌, subst}
+use Rattle.std.proofs.Common.{ap, sym, ◌∙◌, ◌≤◌, subst, arith}
 use Rattle.std.specs.List.{count_by, find, list_all, list_any}
 use Rattle.iofd_rows.proofs.Each.{IsIn, in_map}
 use Rattle.iofd_rows.proofs.PageCounts.{count-cons}
@@ -15,6 +15,7 @@ use Rattle.iofd_words.specs.declared.rows.Attachment.{Attachment}
 use Rattle.iofd_words.specs.declared.rows.Object.{Object}
 use Rattle.iofd_words.specs.declared.rows.ObjectKind.{ObjectKind}
 use Rattle.iofd_words.specs.declared.rows.ObjectKind.TheVariants as kind
+use Rattle.std.proofs.lemmas.Bool.Decides.{nat_tests}
 
 -- the object with this attachment, if it is the access object that is meant
 abbrev pub reattached : FileNo → ObjId → Option ObjId → Object → Object
@@ -131,6 +132,43 @@ module _ (file : FileNo) (id : ObjId) (attached : Option ObjId) where
           let here : o.kind ≡ k = cc in ap is_access here ∙ other in
           let access = ap is_access was in
           cc
+
+  -- under another name the kind is the same
+  pub kind_elsewhere : (objects : List Object) (own : FileNo) (at : ObjId)
+      → (eqb own.0 file.0 && eqb at.0 id.0) ≡ false
+      → kind_of (with_access file id attached objects) own at ≡ kind_of objects own at
+  kind_elsewhere [] own at other = refl
+  kind_elsewhere (o ∷ objects) own at other =
+      by_name (is_object own at o) refl (is_object file id o) refl (kind_elsewhere objects own at other)
+    where
+      kind_from : Option Object → Option ObjectKind
+      kind_from found = elim found as (λ _. Option ObjectKind) [ Some x ↦ Some x.kind | None ↦ None ]
+
+      not_both : is_object own at o ≡ true → is_object file id o ≡ true → ⊥
+      not_both here there =
+          let never : (eqb own.0 file.0 && eqb at.0 id.0) ≡ true = grind (arith, nat_tests) in
+          let clash = sym never ∙ other in
+          cc
+
+      by_name : (b : Bool) → is_object own at o ≡ b → (c : Bool) → is_object file id o ≡ c
+          → kind_of (with_access file id attached objects) own at ≡ kind_of objects own at
+          → kind_from (cond (is_object own at (turned o)) (Some (turned o))
+          (find (is_object own at) (with_access file id attached objects)))
+          ≡ kind_from (cond b (Some o) (find (is_object own at) objects))
+      by_name b is false other_name rest =
+          let stays : turned o ≡ o = rw other_name refl in rw (stays, is) (by_first b rest)
+        where
+          by_first : (b : Bool)
+              → kind_of (with_access file id attached objects) own at ≡ kind_of objects own at
+              → kind_from (cond b (Some o) (find (is_object own at) (with_access file id attached objects)))
+              ≡ kind_from (cond b (Some o) (find (is_object own at) objects))
+          by_first true rest = refl
+          by_first false rest = rest
+      by_name true is true same rest = absurd (not_both is same)
+      by_name false is true same rest =
+          let no : is_object own at (turned o) ≡ false =
+          same_test (is_object own at) (λ x before after kind. refl) o ∙ is in
+          rw no rest
 
   -- a test of the kind under a name, which tells no attachment of an access object from another
   pub test_reattached : (p : ObjectKind → Bool)

@@ -1,8 +1,8 @@
 -- What holds of each row of a list, said of any row that is in it.
 use Rattle.std.proofs.Common.{◌≡◌, Bool, true, false, cond, ◌||◌, Some, List, [], ◌∷◌, map, refl, ap, sym, ◌∙◌, ◌⊎◌}
-use Rattle.std.proofs.Common.{inl, inr, ⊎_elim}
+use Rattle.std.proofs.Common.{inl, inr, ⊎_elim, ◌&&◌, ltb}
 use Rattle.std.specs.List.{filter, find, list_all, list_any}
-use Rattle.iofd_words.specs.Areas.{with_area}
+use Rattle.iofd_words.specs.Areas.{with_area, is_of}
 use Rattle.iofd_words.specs.Attachments.{with_attachment}
 use Rattle.iofd_words.specs.Objects.{comes_before, with_object}
 use Rattle.iofd_words.specs.declared.rows.Area.{Area}
@@ -78,6 +78,16 @@ in_with_object object (o ∷ objects) x within =
     by_order false (inr rest) later =
         ⊎_elim (λ (new : object ≡ x). inl new) (λ (old : IsIn objects x). inr (inr old)) (later rest)
 
+pub area_added : (area : Area) (areas : List Area) → IsIn (with_area area areas) area
+area_added area [] = inl refl
+area_added area (a ∷ areas) =
+    by_order (is_of area.file area.ioas a && ltb area.span.first a.span.first) (area_added area areas)
+  where
+    by_order : (b : Bool) → IsIn (with_area area areas) area
+        → IsIn (cond b (area ∷ a ∷ areas) (a ∷ with_area area areas)) area
+    by_order true rest = inl refl
+    by_order false rest = inr rest
+
 pub in_with_area : (area : Area) (areas : List Area) (x : Area) → IsIn (with_area area areas) x
     → (area ≡ x) ⊎ IsIn areas x
 in_with_area area [] x within = within
@@ -132,3 +142,15 @@ found_new p object (o ∷ objects) passes none =
         → find p (cond b (object ∷ o ∷ objects) (o ∷ with_object object objects)) ≡ Some object
     by_order true other rest = rw passes refl
     by_order false other rest = rw other rest
+
+-- what passes is kept
+pub in_kept : {X : Type 0} (q : X → Bool) (xs : List X) (x : X) → IsIn xs x → q x ≡ true → IsIn (filter q xs) x
+in_kept q [] x within passes = absurd within
+in_kept q (y ∷ ys) x within passes = by_test (q y) refl within (λ later. in_kept q ys x later passes)
+  where
+    by_test : (b : Bool) → q y ≡ b → IsIn (y ∷ ys) x → (IsIn ys x → IsIn (filter q ys) x)
+        → IsIn (cond b (y ∷ filter q ys) (filter q ys)) x
+    by_test true is (inl same) later = inl same
+    by_test true is (inr rest) later = inr (later rest)
+    by_test false is (inl same) later = let clash = ap q same in cc
+    by_test false is (inr rest) later = later rest

@@ -1,4 +1,5 @@
--- Which pages are to be pinned: those of memory objects that a page table translates.
+-- Which pages are to be pinned: those of memory objects that a page table translates, and those that access pins
+-- cover.
 use Rattle.std.proofs.Common.{◌≡◌, ℕ, Bool, true, false, ◌&&◌, ◌||◌, not, eqb, ltb, Option, Some, None, List, [], ◌∷◌}
 use Rattle.std.proofs.Common.{◌++◌, map, refl, ap, sym, ◌∙◌, arith}
 use Rattle.std.specs.List.{filter, flat_map, list_any}
@@ -6,8 +7,8 @@ use Rattle.std.proofs.lemmas.Bool.Decides.{nat_tests}
 use Rattle.std.proofs.lemmas.Bool.{eqb-true}
 use Rattle.std.proofs.lemmas.List.Folds.{list_any-append}
 use Rattle.iofd_words.specs.Areas.{with_area, with_phase}
-use Rattle.iofd_words.specs.Objects.{has_hwpt, is_access_of, kind_of}
-use Rattle.iofd_words.specs.Pins.{ObjectPage, covers_page, is_accessed, is_page, is_pinned, is_translated, pages_of}
+use Rattle.iofd_words.specs.Objects.{has_hwpt}
+use Rattle.iofd_words.specs.Pins.{ObjectPage, is_page, is_pinned, is_translated, pages_of}
 use Rattle.iofd_words.specs.Pins.{pinned_pages}
 use Rattle.iofd_words.specs.declared.numbers.FileNo.{FileNo}
 use Rattle.iofd_words.specs.declared.numbers.ObjId.{ObjId}
@@ -24,49 +25,6 @@ use Rattle.iofd_rows.proofs.ListTests.{any-filter, any_weaker, none_stronger}
 use Rattle.iofd_rows.proofs.OnePin.{differ-append, differ-filter, pages_differ}
 use Rattle.iofd_rows.proofs.PageLists.{any-with_area, any_kept, in_pages}
 
--- ---- no access object has pinned a page yet
-
-none_passes : {X : Type 0} (p : X → Bool) (xs : List X) → ((x : X) → p x ≡ false) → list_any p xs ≡ false
-none_passes p [] fails = refl
-none_passes p (x ∷ xs) fails = rw (fails x, none_passes p xs fails) refl
-
-no_kind : (ioas : ObjId) (k : ObjectKind) → is_access_of ioas k ≡ false
-no_kind ioas kind.Ioas = refl
-no_kind ioas (kind.Hwpt over width automatic) = refl
-no_kind ioas (kind.Device device) = refl
-no_kind ioas (kind.Access attached) = refl
-
-no_object : (ioas : ObjId) (o : Option ObjectKind) → elim o [ Some k ↦ is_access_of ioas k | None ↦ false ] ≡ false
-no_object ioas (Some k) = no_kind ioas k
-no_object ioas None = refl
-
-covers_none : (objects : List Object) (index : ℕ) (pin : AccessPin) (area : Area)
-    → covers_page objects index pin area ≡ false
-covers_none objects index pin area =
-    rw (no_object area.ioas (kind_of objects pin.file pin.access)) (never (eqb area.file.0 pin.file.0) _)
-  where
-    never : (b c : Bool) → (b && false && c) ≡ false
-    never true true = refl
-    never true false = refl
-    never false true = refl
-    never false false = refl
-
-no_access : (objects : List Object) (areas : List Area) (pins : List AccessPin) (page : ObjectPage)
-    → is_accessed objects areas pins page ≡ false
-no_access objects areas pins page =
-    none_passes _ pins (λ pin. none_passes _ areas
-    (λ area. rw (covers_none objects page.index pin area) (never (eqb area.memory page.memory))))
-  where
-    never : (b : Bool) → (b && false) ≡ false
-    never true = refl
-    never false = refl
-
--- so a page is to be pinned where a page table translates its memory object
-pub pinned_is : (objects : List Object) (areas : List Area) (pins : List AccessPin) (page : ObjectPage)
-    → is_pinned objects areas pins page ≡ is_translated objects areas page.memory
-pinned_is objects areas pins page =
-    rw (no_access objects areas pins page) (or_none (is_translated objects areas page.memory))
-
 -- ---- the pages of memory objects
 
 -- the page is one of these memory objects'
@@ -76,9 +34,15 @@ is_listed memory page = list_any (is_page page) (flat_map pages_of memory)
 -- the page is to be pinned
 pub in_pinned : (objects : List Object) (areas : List Area) (memory : List MemoryObject) (pins : List AccessPin)
     (page : ObjectPage) → list_any (is_page page) (pinned_pages objects areas memory pins) ≡ (is_listed memory page
-    && is_translated objects areas page.memory)
+    && is_pinned objects areas pins page)
 in_pinned objects areas memory pins page = any_kept (is_pinned objects areas pins) (flat_map pages_of memory) page
-    ∙ ap (λ b. is_listed memory page && b) (pinned_is objects areas pins page)
+
+-- without access pins a page is to be pinned where a page table translates its memory object
+pub pinned_without : (objects : List Object) (areas : List Area) (pins : List AccessPin) (page : ObjectPage)
+    → pins ≡ [] → is_pinned objects areas pins page ≡ is_translated objects areas page.memory
+pinned_without objects areas pins page without =
+    ap (λ (l : List AccessPin). is_pinned objects areas l page) without
+    ∙ or_none (is_translated objects areas page.memory)
 
 -- the memory object of this number has so many pages
 abbrev pub has_page : ObjectPage → MemoryObject → Bool

@@ -1,3 +1,4 @@
+pub mod AccessPins
 pub mod Debts
 pub mod Ids
 pub mod Pinned

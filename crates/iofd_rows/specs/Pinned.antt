@@ -4,6 +4,7 @@ use Rattle.std.specs.Prelude.{List, [], ◌∷◌, map}
 use Rattle.std.specs.List.{list_any, list_all}
 use Rattle.iofd_words.specs.Pins.{ObjectPage, is_page, page_of_pin, pinned_pages, pinned_frame}
 use Rattle.iofd_words.specs.Span.{size_of}
+use Rattle.iofd_rows.specs.AccessPins.{AreHeld}
 use Rattle.iofd_words.specs.World.{World}
 use Rattle.iofd_words.specs.declared.rows.Area.{Area}
 use Rattle.iofd_words.specs.declared.rows.MemoryObject.{MemoryObject}
@@ -44,3 +45,5 @@ pub record ArePinned (at : ℕ) (w : World) : Type 0 where
   pub only : list_all (λ pin. list_any (is_page (page_of_pin pin))
       (pinned_pages w.objects w.areas w.memory w.access_pins)) w.pins ≡ true
   pub once : differ (map page_of_pin w.pins) ≡ true
+  -- access pins are held by who is attached, with areas under them
+  pub held : AreHeld w.objects w.areas w.access_pins

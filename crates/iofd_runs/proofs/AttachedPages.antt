@@ -10,7 +10,7 @@ use Rattle.iofd_words.specs.Checks.{attach_checks, lacks_attached_page}
 use Rattle.iofd_words.specs.FirstTrue.{first_true}
 use Rattle.iofd_words.specs.Objects.{binding_of, has_hwpt, kind_of, with_object}
 use Rattle.iofd_words.specs.Pins.{ObjectPage, frame_now, is_page, is_translated, pages_of, pinned_frame, pinned_pages}
-use Rattle.iofd_words.specs.Pins.{unpinned_pages}
+use Rattle.iofd_words.specs.Pins.{unpinned_pages, is_pinned}
 use Rattle.iofd_words.specs.View.{view}
 use Rattle.iofd_words.specs.World.{World}
 use Rattle.iofd_words.specs.declared.numbers.DeviceNo.{DeviceNo}
@@ -23,7 +23,7 @@ use Rattle.iofd_words.specs.declared.rows.Object.{Object}
 use Rattle.iofd_words.specs.declared.rows.ObjectKind.TheVariants as kind
 use Rattle.iofd_words.specs.declared.width.Width.{Width}
 use Rattle.iofd_rows.specs.Pinned.{ArePinned}
-use Rattle.iofd_rows.proofs.Bools.{and_rest, and_true, both_true, clash, not_false}
+use Rattle.iofd_rows.proofs.Bools.{and_rest, and_true, both_true, clash, not_false, or_false}
 use Rattle.iofd_rows.proofs.ListTests.{any-filter, any_apart, any_weaker}
 use Rattle.iofd_rows.proofs.ObjectPages.{has_page, in_pinned, is_listed, listed_is, translated_within}
 use Rattle.iofd_rows.proofs.PageLists.{no_page, page_kept}
@@ -100,13 +100,14 @@ had_before objects file ioas id width automatic own over had has =
 -- of a page that wasn't pinned, and is to be with these objects
 abbrev pub IsNew : World → List Object → ObjectPage → Type 0
 IsNew w left page = (is_listed w.memory page ≡ true) × (is_translated left w.areas page.memory ≡ true)
-    × (is_translated w.objects w.areas page.memory ≡ false)
+    × (is_pinned w.objects w.areas w.access_pins page ≡ false)
 
 -- no page table comes
 pub none_new : (w : World) (left : List Object) (page : ObjectPage)
     → ((file : FileNo) (ioas : ObjId) → has_hwpt left file ioas ≡ true → has_hwpt w.objects file ioas ≡ true)
     → IsNew w left page → ⊥
-none_new w left page fewer new = clash _ new.2 (translated_within w.objects left w.areas page.memory fewer new.1)
+none_new w left page fewer new =
+    clash _ (or_false _ _ new.2).0 (translated_within w.objects left w.areas page.memory fewer new.1)
 
 -- an area of the address space is over a page that its page table adds
 pub over_space : (w : World) (file : FileNo) (ioas id : ObjId) (width : Width) (automatic : Bool) (page : ObjectPage)
@@ -117,17 +118,17 @@ over_space w file ioas id width automatic page new =
     && has_hwpt (with_table file ioas id width automatic w.objects) a.file a.ioas) (λ (a : Area). eqb a.memory
     page.memory && has_hwpt w.objects a.file a.ioas) (λ (a : Area). is_of file ioas a
     && eqb a.memory page.memory) w.areas
-    (of_space w.objects file ioas id width automatic page.memory) new.1 new.2
+    (of_space w.objects file ioas id width automatic page.memory) new.1 (or_false _ _ new.2).0
 
--- a page that no page table translates has no pin
+-- a page that isn't to be pinned has no pin
 pub never_pinned : (at : ℕ) (w : World) (page : ObjectPage) → ArePinned at w
-    → is_translated w.objects w.areas page.memory ≡ false → is_none (pinned_frame w.pins page) ≡ true
+    → is_pinned w.objects w.areas w.access_pins page ≡ false → is_none (pinned_frame w.pins page) ≡ true
 never_pinned at w page p untranslated = by_frame (pinned_frame w.pins page) refl
   where
     by_frame : (o : Option FrameNo) → pinned_frame w.pins page ≡ o → is_none o ≡ true
     by_frame None is = refl
     by_frame (Some frame) is =
-        absurd (clash _ untranslated (and_true (is_listed w.memory page) (is_translated w.objects w.areas page.memory)
+        absurd (clash _ untranslated (and_true (is_listed w.memory page) (is_pinned w.objects w.areas w.access_pins page)
         (sym (in_pinned w.objects w.areas w.memory w.access_pins page)
         ∙ pin_is_of w.pins (pinned_pages w.objects w.areas w.memory w.access_pins) page
         (ap (λ (o : Option FrameNo). is_some o) is) p.only)).1)

@@ -10,7 +10,7 @@ use Rattle.iofd_words.specs.Copies.{placed_as}
 use Rattle.iofd_words.specs.FirstTrue.{first_true}
 use Rattle.iofd_words.specs.Objects.{has_hwpt}
 use Rattle.iofd_words.specs.Pins.{ObjectPage, frame_now, is_page, is_translated, pinned_frame, pinned_pages}
-use Rattle.iofd_words.specs.Pins.{unpinned_pages}
+use Rattle.iofd_words.specs.Pins.{unpinned_pages, is_accessed, is_pinned}
 use Rattle.iofd_words.specs.View.{view}
 use Rattle.iofd_words.specs.World.{World}
 use Rattle.iofd_words.specs.declared.event.CopyRequest.{CopyRequest}
@@ -19,7 +19,7 @@ use Rattle.iofd_words.specs.declared.numbers.Iova.{Iova}
 use Rattle.iofd_words.specs.declared.rows.Area.{Area}
 use Rattle.iofd_words.specs.declared.rows.MemoryObject.{MemoryObject}
 use Rattle.iofd_rows.specs.Pinned.{ArePinned}
-use Rattle.iofd_rows.proofs.Bools.{and_rest, and_true, both_true}
+use Rattle.iofd_rows.proofs.Bools.{and_rest, and_true, both_true, or_false}
 use Rattle.iofd_rows.proofs.ListTests.{any-filter, any_weaker}
 use Rattle.iofd_rows.proofs.ObjectPages.{has_page, in_pinned, is_listed, listed_is, translated-with_area}
 use Rattle.iofd_runs.proofs.AttachedPages.{never_pinned, there_now}
@@ -27,26 +27,34 @@ use Rattle.iofd_runs.proofs.CopySource.{source_area}
 use Rattle.iofd_runs.proofs.NotRefused.{copy_passed}
 
 -- what one more area over a memory object that stands adds to the pages that are to be pinned: those of that memory
--- object, where the area's address space has a page table, and no page table translated the object before
+-- object, where the area's address space has a page table, and that weren't to be pinned before
 pub record IsAdded (w : World) (area : Area) (page : ObjectPage) : Type 0 where
   pub listed : is_listed w.memory page ≡ true
   pub of_memory : eqb area.memory page.memory ≡ true
   pub has_table : has_hwpt w.objects area.file area.ioas ≡ true
-  pub untranslated : is_translated w.objects w.areas page.memory ≡ false
+  pub unpinned : is_pinned w.objects w.areas w.access_pins page ≡ false
 
 pub added_page : (w : World) (area : Area) (page : ObjectPage)
+    → (is_listed w.memory page ≡ true → is_accessed w.objects (with_area area w.areas) w.access_pins page
+    ≡ is_accessed w.objects w.areas w.access_pins page)
     → list_any (is_page page) (pinned_pages w.objects (with_area area w.areas) w.memory w.access_pins) ≡ true
     → list_any (is_page page) (pinned_pages w.objects w.areas w.memory w.access_pins) ≡ false
     → IsAdded w area page
-added_page w area page within before =
-    let now = and_true (is_listed w.memory page) (is_translated w.objects (with_area area w.areas) page.memory)
+added_page w area page accessed within before =
+    let now = and_true (is_listed w.memory page) (is_pinned w.objects (with_area area w.areas) w.access_pins page)
     (sym (in_pinned w.objects (with_area area w.areas) w.memory w.access_pins page) ∙ within) in
-    let old = and_rest (is_listed w.memory page) (is_translated w.objects w.areas page.memory) now.0
+    let old = and_rest (is_listed w.memory page) (is_pinned w.objects w.areas w.access_pins page) now.0
     (sym (in_pinned w.objects w.areas w.memory w.access_pins page) ∙ before) in
+    let none = or_false _ _ old in
     let own = and_true (eqb area.memory page.memory) (has_hwpt w.objects area.file area.ioas)
-    (of_new _ _ old (sym (translated-with_area w.objects area w.areas page.memory) ∙ now.1)) in
-    record { listed = now.0; of_memory = own.0; has_table = own.1; untranslated = old }
+    (of_new _ _ none.0 (sym (translated-with_area w.objects area w.areas page.memory)
+    ∙ by_table _ _ (accessed now.0 ∙ none.1) now.1)) in
+    record { listed = now.0; of_memory = own.0; has_table = own.1; unpinned = old }
   where
+    by_table : (t a : Bool) → a ≡ false → (t || a) ≡ true → t ≡ true
+    by_table true a none is = refl
+    by_table false a none is = let never = sym is ∙ none in cc
+
     of_new : (new was : Bool) → was ≡ false → (new || was) ≡ true → new ≡ true
     of_new true was none some = refl
     of_new false was none some = cc
@@ -87,4 +95,4 @@ copied_present at w file request iova source page p none found added =
     (ap (list_any (λ page. is_none (frame_now w.memory w.user_pages page)))
     (sym (pages_copied w file request source found)) ∙ lacking)
     (listed_there w.memory page source.memory added.listed added.of_memory)
-    (never_pinned at w page p added.untranslated)
+    (never_pinned at w page p added.unpinned)

@@ -1,7 +1,7 @@
 -- Every event leaves the memory objects of each file its own: only areas of one file share them.
 use Rattle.std.proofs.Common.{◌≡◌, ℕ, ◌+◌, true, Some, None, List, not}
 use Rattle.iofd_words.specs.After.{changed, copy_changes, mapped_area}
-use Rattle.iofd_words.specs.Answers.{Answers}
+use Rattle.iofd_words.specs.Answers.{Answers, IsMappedAt}
 use Rattle.iofd_words.specs.Checks.{copy_checks, refusal}
 use Rattle.iofd_words.specs.FirstTrue.{first_true}
 use Rattle.iofd_words.specs.Tables.{with_tables}
@@ -16,7 +16,7 @@ use Rattle.iofd_words.specs.declared.reply.Reply.{Reply}
 use Rattle.iofd_words.specs.declared.rows.Area.{Area}
 use Rattle.iofd_rows.specs.Pinned.{ArePinned, share_in_file, share_in_files}
 use Rattle.iofd_runs.proofs.CopySource.{source_area}
-use Rattle.iofd_runs.proofs.KeepsPins.{keeps_pins, later_pinned, tabled_pinned, pinned_after}
+use Rattle.iofd_runs.proofs.KeepsPins.{keeps_pins, later_pinned, tabled_pinned}
 use Rattle.iofd_rows.proofs.Each.{of_each}
 use Rattle.iofd_rows.proofs.OwnMemory.{shared-filter, shared-map, shared-with_area, shares_none}
 use Rattle.std.specs.List.{list_all}
@@ -27,6 +27,8 @@ use Rattle.iofd_words.specs.declared.event.MapRequest.{MapRequest}
 use Rattle.iofd_runs.proofs.PagesToPin.{none_over}
 use Rattle.iofd_words.specs.declared.event.Event.TheVariants as event
 use Rattle.iofd_words.specs.declared.reply.Reply.TheVariants as reply
+use Rattle.iofd_words.specs.Copies.{placed_as}
+use Rattle.iofd_words.specs.Rights.{is_fixed}
 
 pub keeps_own_memory : {A : Type 0} → (at : ℕ) (w : World) (e : Event A) (answer : Reply) → ArePinned at w
     → share_in_files w.areas ≡ true → share_in_files (changed at w e answer).areas ≡ true
@@ -45,7 +47,7 @@ keeps_own_memory at w e answer p own =
     by_move : (new : World) → AreasMove at w e answer new
         → share_in_files new.areas ≡ true
     by_move new (SameAreas is same) = rw is own
-    by_move new (FewerAreas goes is left) = rw is (shared-filter (λ (a : Area). not (goes a)) w.areas own)
+    by_move new (FewerAreas goes is left free) = rw is (shared-filter (λ (a : Area). not (goes a)) w.areas own)
     by_move new (OtherPhases phase lives is same) = rw is (shared-map phase w.areas own)
     by_move new (OneArea number file request iova passed lies makes alike is under) =
         rw is (shared-with_area (mapped_area number file request iova) w.areas
@@ -66,13 +68,14 @@ later_own at w p = record { pins = later_pinned at w p.pins; own = p.own }
 
 -- after a COPY of this source
 pub copied_own : (at : ℕ) (w : World) (file : FileNo) (request : CopyRequest) (iova : Iova) (source : Area)
-    → first_true (copy_checks (view w) file request) ≡ None → source_area w file request ≡ Some source → OwnPins at w
-    → OwnPins (at + 1) (copy_changes w file request iova (Some source))
-unfolding changed
-copied_own at w file request iova source none found p =
+    → first_true (copy_checks (view w) file request) ≡ None
+    → IsMappedAt w file (placed_as request) (is_fixed request.flags) iova → source_area w file request ≡ Some source
+    → OwnPins at w → OwnPins (at + 1) (copy_changes w file request iova (Some source))
+unfolding changed Answers
+copied_own at w file request iova source none place found p =
     let e : Event (Unit {0}) = event.Copy file request in
     let after : OwnPins (at + 1) (copy_changes w file request iova (source_area w file request)) = record {
-      pins = pinned_after at w e (reply.Iova iova) none p.pins;
+      pins = keeps_pins at w e (reply.Iova iova) none place p.pins;
       own = keeps_own_memory at w e (reply.Iova iova) p.pins p.own;
     } in
     rw found at after

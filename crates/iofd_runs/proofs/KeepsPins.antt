@@ -1,6 +1,6 @@
 -- Every event keeps the pins those of the pages that are to be pinned.
 use Rattle.std.proofs.Common.{◌≡◌, ◌<◌, ℕ, ◌+◌, ◌-◌, ◌*◌, ◌/◌, ◌%◌, Bool, true, false, cond, ◌&&◌, not, eqb, ltb}
-use Rattle.std.proofs.Common.{is_some, None, List, [], ◌∷◌, ◌++◌, map, refl, ap, sym, ◌∙◌, arith}
+use Rattle.std.proofs.Common.{is_some, None, List, [], ◌∷◌, ◌++◌, map, refl, ap, sym, ◌∙◌, arith, Option, Some}
 use Rattle.std.proofs.lemmas.Bool.{eqb-true}
 use Rattle.std.proofs.Math.Nat.{div-add-mod}
 use Rattle.std.specs.List.{filter, list_all, list_any}
@@ -11,7 +11,8 @@ use Rattle.iofd_words.specs.Answers.{Answers}
 use Rattle.iofd_words.specs.Areas.{with_area, with_phase}
 use Rattle.iofd_words.specs.Checks.{lacks_attached_page, refusal}
 use Rattle.iofd_rows.specs.Pinned.{ArePinned, has_object, have_own_numbers}
-use Rattle.iofd_words.specs.Pins.{are_present, frame_now, is_page, page_of_pin, pinned_frame}
+use Rattle.iofd_rows.specs.AccessPins.{AreHeld}
+use Rattle.iofd_words.specs.Pins.{are_present, frame_now, is_page, page_of_pin, pinned_frame, is_accessed, ObjectPage}
 use Rattle.iofd_words.specs.Settings.{Settings}
 use Rattle.iofd_words.specs.Span.{size_of, span_from}
 use Rattle.iofd_words.specs.Tables.{with_tables}
@@ -32,23 +33,29 @@ use Rattle.iofd_words.specs.declared.rows.Pin.{Pin}
 use Rattle.iofd_words.specs.declared.width.Width.{Width}
 use Rattle.iofd_runs.proofs.AttachedPages.{table_present, with_table}
 use Rattle.iofd_rows.proofs.Bools.{and_true, both_true, not_false, not_true}
-use Rattle.iofd_rows.proofs.Each.{IsIn, in_filter, of_all, of_any, of_each}
+use Rattle.iofd_rows.proofs.Each.{IsIn, in_filter, of_all, of_any, of_each, area_added}
 use Rattle.iofd_rows.proofs.Found.{all_filter, all_map, all_weaker}
 use Rattle.iofd_rows.proofs.ListTests.{any-filter, any_weaker, none_stronger, or_right}
-use Rattle.iofd_rows.proofs.ObjectPages.{pinned_differ}
+use Rattle.iofd_rows.proofs.ObjectPages.{pinned_differ, is_listed, listed_fewer}
 use Rattle.iofd_rows.proofs.OnePin.{settled_once}
 use Rattle.iofd_rows.proofs.OwnMemory.{all-with_area, areas-filter, areas-map, areas-with_area, areas_still, have_areas}
 use Rattle.iofd_rows.proofs.PageLists.{all_pages, at_page, kept_page}
 use Rattle.iofd_rows.proofs.PinsFollow.{settled_only, settled_pinned}
-use Rattle.iofd_runs.proofs.PagesToPin.{ArePresent, PagesAlike, moved_new, pages_in}
+use Rattle.iofd_runs.proofs.PagesToPin.{ArePresent, PagesAlike, moved_new, pages_in, AccessedAlike, pages_alike}
 use Rattle.iofd_runs.proofs.Moves.{AreasMove, FewerAreas, MemoryUnder, NewMemory, OneArea, OtherPhases, PinsMove}
-use Rattle.iofd_runs.proofs.Moves.{SameAreas, SamePins, Settled, SharedMemory, changed_moves}
+use Rattle.iofd_runs.proofs.Moves.{SameAreas, SamePins, Settled, SharedMemory, changed_moves, Moves}
 use Rattle.iofd_runs.proofs.NotRefused.{PlacePassed}
+use Rattle.iofd_runs.proofs.Accessed.{EachHeld, HoldersStay, accessed_fewer, accessed_more, accessed_objects}
+use Rattle.iofd_runs.proofs.Accessed.{accessed_phases, are_held}
+use Rattle.iofd_runs.proofs.Accessed.{each_held, held_fewer, held_more, held_objects, held_phases, of_areas, some_in}
 use Rattle.iofd_words.specs.Pages.{is_whole}
+use Rattle.iofd_words.specs.Run.{IsAnswer, Lawful, after, after_answer}
+use Rattle.iofd_words.specs.declared.record.Record.{Record}
+use Rattle.iofd_words.specs.declared.refusal.Cause.{Cause}
 
 pub opening_pinned : (settings : Settings) → ArePinned 0 (opening settings)
 opening_pinned settings =
-    record { numbers = refl; made = refl; sizes = refl; used = refl; pinned = refl; only = refl; once = refl }
+    record { numbers = refl; made = refl; sizes = refl; used = refl; pinned = refl; only = refl; once = refl; held = tt }
 
 later_than : (m at : ℕ) → ltb m at ≡ true → ltb m (at + 1) ≡ true
 later_than m at is = grind (arith, nat_tests)
@@ -63,6 +70,7 @@ later_pinned at w p = record {
   pinned = p.pinned;
   only = p.only;
   once = p.once;
+  held = p.held;
 }
 
 -- ---- memory objects and areas
@@ -202,7 +210,7 @@ module _ {A : Type 0} (at : ℕ) (w : World) (e : Event A) (none : refusal w e �
   rows_fit answer new (SameAreas is same) =
       let q = later_pinned at w p in
       rw (is, same) (record { numbers = q.numbers; made = q.made; sizes = q.sizes; used = q.used })
-  rows_fit answer new (FewerAreas goes is left) =
+  rows_fit answer new (FewerAreas goes is left free) =
       rw (is, left) (record {
         numbers = numbers-filter _ w.memory p.numbers;
         made = all_filter (λ (m : MemoryObject). ltb m.number (at + 1)) _ w.memory (later_pinned at w p).made;
@@ -221,12 +229,72 @@ module _ {A : Type 0} (at : ℕ) (w : World) (e : Event A) (none : refusal w e �
   rows_fit answer new (OneArea number file request iova passed lies makes alike is under) =
       rw is (one_fits file request iova number new.memory (passed none) under)
 
+-- ---- access pins
+
+-- what an event leaves of access pins: they are held, and cover the same pages of the memory objects that are there
+pub record AccessesKept (w new : World) : Type 0 where
+  pub held : EachHeld new.objects new.areas new.access_pins
+  pub accessed : AccessedAlike w new
+
+module _ {A : Type 0} (at : ℕ) (w : World) (e : Event A) (answer : Reply) (none : refusal w e ≡ None)
+    (answers : Answers w e answer) (p : ArePinned at w) where
+  -- with the areas that it leaves, and the objects that stood
+  record AreasKept (new : World) : Type 0 where
+    held : EachHeld w.objects new.areas w.access_pins
+    accessed : (page : ObjectPage) → is_listed new.memory page ≡ true
+        → is_accessed w.objects new.areas w.access_pins page ≡ is_accessed w.objects w.areas w.access_pins page
+
+  each : EachHeld w.objects w.areas w.access_pins
+  each = each_held w.objects w.areas w.access_pins p.held
+
+  areas_kept : (new : World) → Fits (at + 1) new.areas new.memory → AreasMove at w e answer new → AreasKept new
+  areas_kept new fits (SameAreas is same) = record { held = rw is each; accessed = λ page listed. rw is refl }
+  areas_kept new fits (FewerAreas goes is left free) =
+      let gone = free none answers each in
+      record {
+        held = rw is (held_fewer w.objects goes w.areas w.access_pins gone each);
+        accessed = λ page listed.
+            rw is (accessed_fewer w.objects goes w.areas w.access_pins page
+            (of_areas w.memory w.areas page p.numbers p.sizes
+            (listed_fewer _ w.memory page (rw left at listed))) gone);
+      }
+  areas_kept new fits (OtherPhases phase lives is same) = record {
+    held = rw is (held_phases w.objects phase w.areas w.access_pins each);
+    accessed = λ page listed. rw is (accessed_phases w.objects phase w.areas w.access_pins page);
+  }
+  areas_kept new fits (OneArea number file request iova passed lies makes alike is under) =
+      let area = mapped_area number file request iova in
+      record {
+        held = rw is (held_more w.objects area w.areas w.access_pins each);
+        accessed = λ page listed.
+            rw is (accessed_more w.objects area w.areas w.access_pins page each
+            (λ same. of_areas new.memory new.areas page fits.numbers fits.sizes listed area
+            (rw is (area_added area w.areas)) same) (lies none answers).apart);
+      }
+
+  by_accesses : (new : World) → Fits (at + 1) new.areas new.memory → Moves at w e answer new → AccessesKept w new
+  by_accesses new fits m =
+      let kept = areas_kept new fits m.areas in
+      let stay = m.holders none answers in
+      record {
+        held = rw m.accesses (held_objects w.objects new.objects new.areas w.access_pins stay kept.held);
+        accessed = λ page listed.
+            rw m.accesses (accessed_objects w.objects new.objects new.areas w.access_pins page stay kept.held
+            ∙ kept.accessed page listed);
+      }
+
+  pub accesses_kept : AccessesKept w (changed at w e answer)
+  accesses_kept =
+      by_accesses (changed at w e answer) (rows_fit at w e none p answer (changed at w e answer)
+      (changed_moves at w e answer).areas) (changed_moves at w e answer)
+
 -- ---- pins
 
 -- where no pin comes or goes
-same_pinned : (at : ℕ) (w new : World) → Fits (at + 1) new.areas new.memory → PagesAlike w new → new.pins ≡ w.pins
+same_pinned : (at : ℕ) (w new : World) → Fits (at + 1) new.areas new.memory → PagesAlike w new
+    → AreHeld new.objects new.areas new.access_pins → new.pins ≡ w.pins
     → ArePinned at w → ArePinned (at + 1) new
-same_pinned at w new fits same is p =
+same_pinned at w new fits same held is p =
     record {
       numbers = fits.numbers;
       made = fits.made;
@@ -239,13 +307,15 @@ same_pinned at w new fits same is p =
           (λ (pin : Pin). list_any (is_page (page_of_pin pin)) (pages_in new))
           w.pins (λ pin within. same (page_of_pin pin) ∙ within) p.only);
       once = rw is p.once;
+      held = held;
     }
 
 -- where they follow
 settle_pinned : (at : ℕ) (w new : World) → Fits (at + 1) new.areas new.memory → ArePresent w new
-    → new.pins ≡ (settle w new).pins → ArePinned at w → ArePinned (at + 1) new
+    → AreHeld new.objects new.areas new.access_pins → new.pins ≡ (settle w new).pins → ArePinned at w
+    → ArePinned (at + 1) new
 unfolding settle
-settle_pinned at w new fits present is p = record {
+settle_pinned at w new fits present held is p = record {
   numbers = fits.numbers;
   made = fits.made;
   sizes = fits.sizes;
@@ -254,6 +324,7 @@ settle_pinned at w new fits present is p = record {
   only = rw is (settled_only (pages_in w) (pages_in new) new.memory new.user_pages w.pins);
   once = rw is (settled_once (pages_in w) (pages_in new) new.memory new.user_pages w.pins p.once p.only
       (pinned_differ new.objects new.areas new.memory new.access_pins fits.numbers) all_present);
+  held = held;
 }
   where
     all_present : are_present (frame_now new.memory new.user_pages)
@@ -266,32 +337,38 @@ settle_pinned at w new fits present is p = record {
 
 -- a page table comes over an address space: the pages that it adds are there
 pub table_pinned : (at : ℕ) (w : World) (file : FileNo) (ioas id : ObjId) (width : Width) (automatic : Bool)
-    → lacks_attached_page (view w) file ioas ≡ false → ArePinned at w
+    → lacks_attached_page (view w) file ioas ≡ false
+    → HoldersStay w.objects (with_table file ioas id width automatic w.objects) w.access_pins → ArePinned at w
     → ArePinned (at + 1) (settle w (record w { objects = with_table file ioas id width automatic w.objects }))
 unfolding settle
-table_pinned at w file ioas id width automatic lacks p =
+table_pinned at w file ioas id width automatic lacks stay p =
     let new : World = record w { objects = with_table file ioas id width automatic w.objects } in
     let q = later_pinned at w p in
+    let each = each_held w.objects w.areas w.access_pins p.held in
     settle_pinned at w (settle w new) (record { numbers = q.numbers; made = q.made; sizes = q.sizes; used = q.used })
     (λ page within before. table_present at w file ioas id width automatic page p lacks
-    (moved_new w w.areas new.objects page (λ objects number. refl) within before)) refl p
+    (moved_new w w.areas new.objects page (λ objects number. refl)
+    (λ listed. accessed_objects w.objects new.objects w.areas w.access_pins page stay each) within before))
+    (are_held new.objects w.areas w.access_pins
+    (held_objects w.objects new.objects w.areas w.access_pins stay each)) refl p
 
 -- ---- every event
 
--- whatever it answers
-pub pinned_after : {A : Type 0} (at : ℕ) (w : World) (e : Event A) (answer : Reply) → refusal w e ≡ None
-    → ArePinned at w → ArePinned (at + 1) (changed at w e answer)
-pinned_after at w e answer none p =
-    by_move (changed at w e answer) (rows_fit at w e none p answer (changed at w e answer)
-    (changed_moves at w e answer).areas) (changed_moves at w e answer).pins
-  where
-    by_move : (new : World) → Fits (at + 1) new.areas new.memory → PinsMove at w e new → ArePinned (at + 1) new
-    by_move new fits (SamePins is same) = same_pinned at w new fits same is p
-    by_move new fits (Settled is present) = settle_pinned at w new fits (present none p) is p
-
 pub keeps_pins : {A : Type 0} → (at : ℕ) (w : World) (e : Event A) (answer : Reply) → refusal w e ≡ None
     → Answers w e answer → ArePinned at w → ArePinned (at + 1) (changed at w e answer)
-keeps_pins at w e answer none answers p = pinned_after at w e answer none p
+keeps_pins at w e answer none answers p =
+    by_move (changed at w e answer) (rows_fit at w e none p answer (changed at w e answer)
+    (changed_moves at w e answer).areas) (accesses_kept at w e answer none answers p)
+    (changed_moves at w e answer).pins
+  where
+    by_move : (new : World) → Fits (at + 1) new.areas new.memory → AccessesKept w new → PinsMove at w e new
+        → ArePinned (at + 1) new
+    by_move new fits kept (SamePins is same) =
+        same_pinned at w new fits (pages_alike w new same kept.accessed)
+        (are_held new.objects new.areas new.access_pins kept.held) is p
+    by_move new fits kept (Settled is present) =
+        settle_pinned at w new fits (present none p kept.accessed)
+        (are_held new.objects new.areas new.access_pins kept.held) is p
 
 -- the frames of tables are no part of it
 pub tabled_pinned : (at : ℕ) (w : World) (taken given : List FrameNo) → ArePinned at w
@@ -305,4 +382,16 @@ tabled_pinned at w taken given p = record {
   pinned = p.pinned;
   only = p.only;
   once = p.once;
+  held = p.held;
 }
+
+-- after a lawful record, a refused one too, access pins cover the same pages of the memory objects that there are
+pub after_accessed : {A : Type 0} (at : ℕ) (w : World) (r : Record A) → Lawful at w r → ArePinned at w
+    → AccessedAlike w (after at w r)
+unfolding Lawful after with_tables
+after_accessed at w r lawful p = by_refusal (refusal w r.event) refl lawful.0
+  where
+    by_refusal : (o : Option Cause) → refusal w r.event ≡ o → IsAnswer w r o
+        → AccessedAlike w (after_answer at w r o)
+    by_refusal (Some cause) is answers = λ page listed. refl
+    by_refusal None is answers = (accesses_kept at w r.event r.reply is answers p).accessed

@@ -1,9 +1,11 @@
+pub mod Accessed
 pub mod AttachMoves
 pub mod AttachedPages
 pub mod BoundStay
 pub mod Branches
 pub mod CopiedPages
 pub mod CopySource
+pub mod HoldersStay
 pub mod KeepsApart
 pub mod KeepsBoundOnce
 pub mod KeepsDebts
@@ -19,6 +21,7 @@ pub mod MappedAt
 pub mod MappedPages
 pub mod MissingTables
 pub mod Moves
+pub mod NoPins
 pub mod NotRefused
 pub mod ObjectsGo
 pub mod OneMore

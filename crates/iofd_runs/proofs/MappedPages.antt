@@ -12,7 +12,7 @@ use Rattle.iofd_words.specs.Frames.{frame_at}
 use Rattle.iofd_words.specs.Objects.{has_hwpt}
 use Rattle.iofd_words.specs.Pages.{page_of}
 use Rattle.iofd_words.specs.Areas.{with_area}
-use Rattle.iofd_words.specs.Pins.{ObjectPage, frame_now, is_page, is_translated, pinned_pages}
+use Rattle.iofd_words.specs.Pins.{ObjectPage, frame_now, is_page, is_translated, pinned_pages, is_accessed, is_pinned}
 use Rattle.iofd_words.specs.View.{view}
 use Rattle.iofd_words.specs.World.{World}
 use Rattle.iofd_words.specs.declared.event.MapRequest.{MapRequest}
@@ -23,8 +23,9 @@ use Rattle.iofd_words.specs.declared.numbers.UserNo.{UserNo}
 use Rattle.iofd_words.specs.declared.rows.Area.{Area}
 use Rattle.iofd_words.specs.declared.rows.MemoryObject.{MemoryObject}
 use Rattle.iofd_words.specs.declared.rows.UserPage.{UserPage}
-use Rattle.iofd_rows.proofs.Bools.{and_rest, and_true, or_none}
+use Rattle.iofd_rows.proofs.Bools.{and_rest, and_true, or_none, clash}
 use Rattle.iofd_runs.proofs.NotRefused.{map_passed}
+use Rattle.iofd_runs.proofs.Accessed.{none_covered}
 use Rattle.iofd_rows.proofs.ObjectPages.{has_page, in_pinned, is_listed, listed_is, listed_more, translated-with_area}
 use Rattle.iofd_rows.proofs.ObjectPages.{untranslated}
 
@@ -103,25 +104,74 @@ pub mapped_present : (at : ℕ) (w : World) (file : FileNo) (request : MapReques
     (page : ObjectPage) → first_true (map_checks (view w) file request) ≡ None → user_of w.settings file ≡ Some user
     → list_all (λ (o : MemoryObject). ltb o.number at) w.memory ≡ true
     → list_any (λ (a : Area). eqb a.memory at) w.areas ≡ false
+    → (is_listed (w.memory ++ memory_object at user request ∷ []) page ≡ true
+    → is_accessed w.objects (with_area (mapped_area at file request iova) w.areas) w.access_pins page
+    ≡ is_accessed w.objects w.areas w.access_pins page)
     → list_any (is_page page) (pinned_pages w.objects (with_area (mapped_area at file request iova) w.areas)
     (w.memory ++ memory_object at user request ∷ []) w.access_pins) ≡ true
     → list_any (is_page page) (pinned_pages w.objects w.areas w.memory w.access_pins) ≡ false
     → is_some (frame_now (w.memory ++ memory_object at user request ∷ []) w.user_pages page) ≡ true
-mapped_present at w file request iova user page none is made none_over within before =
+mapped_present at w file request iova user page none is made none_over accessed within before =
     let object = memory_object at user request in
     let area = mapped_area at file request iova in
     let parts = and_true (is_listed (w.memory ++ object ∷ []) page)
-    (is_translated w.objects (with_area area w.areas) page.memory)
+    (is_pinned w.objects (with_area area w.areas) w.access_pins page)
     (sym (in_pinned w.objects (with_area area w.areas) (w.memory ++ object ∷ []) w.access_pins page) ∙ within) in
     let listed : (is_listed w.memory page || has_page page object) ≡ true =
     sym (listed_more w.memory object page) ∙ parts.0 in
-    let translated : ((eqb at page.memory && has_hwpt w.objects file request.ioas)
-    || is_translated w.objects w.areas page.memory) ≡ true =
-    sym (translated-with_area w.objects area w.areas page.memory) ∙ parts.1 in
-    let old : (is_listed w.memory page && is_translated w.objects w.areas page.memory) ≡ false =
+    let pinned : (((eqb at page.memory && has_hwpt w.objects file request.ioas)
+    || is_translated w.objects w.areas page.memory) || is_accessed w.objects w.areas w.access_pins page) ≡ true =
+    sym (ap (λ b. b || is_accessed w.objects w.areas w.access_pins page)
+    (translated-with_area w.objects area w.areas page.memory))
+    ∙ sym (ap (λ b. is_translated w.objects (with_area area w.areas) page.memory || b) (accessed parts.0)) ∙ parts.1 in
+    let old : (is_listed w.memory page && is_pinned w.objects w.areas w.access_pins page) ≡ false =
     sym (in_pinned w.objects w.areas w.memory w.access_pins page) ∙ before in
-    by_number (eqb page.memory at) refl listed translated old
+    by_number (eqb page.memory at) refl listed (from_table listed pinned old) (both_old old)
   where
+    -- no access pin covers it: it wasn't to be pinned, or its memory object is new, and no area was over that
+    uncovered : eqb page.memory at ≡ true → is_accessed w.objects w.areas w.access_pins page ≡ false
+    uncovered here =
+        let same : page.memory ≡ at = eqb-true page.memory at here in
+        none_covered w.objects w.areas w.access_pins page
+        (subst (λ n. list_any (λ (a : Area). eqb a.memory n) w.areas ≡ false) (sym same) none_over)
+
+    both_old : (is_listed w.memory page && is_pinned w.objects w.areas w.access_pins page) ≡ false
+        → (is_listed w.memory page && is_translated w.objects w.areas page.memory) ≡ false
+    both_old old = less (is_listed w.memory page) (is_translated w.objects w.areas page.memory) _ old
+      where
+        less : (l t a : Bool) → (l && (t || a)) ≡ false → (l && t) ≡ false
+        less true true a is = is
+        less true false a is = refl
+        less false t a is = refl
+
+    from_table : (is_listed w.memory page || has_page page (memory_object at user request)) ≡ true
+        → (((eqb at page.memory && has_hwpt w.objects file request.ioas)
+        || is_translated w.objects w.areas page.memory) || is_accessed w.objects w.areas w.access_pins page) ≡ true
+        → (is_listed w.memory page && is_pinned w.objects w.areas w.access_pins page) ≡ false
+        → ((eqb at page.memory && has_hwpt w.objects file request.ioas)
+        || is_translated w.objects w.areas page.memory) ≡ true
+    from_table listed pinned old = by_old (is_listed w.memory page) refl
+        (is_accessed w.objects w.areas w.access_pins page) refl
+      where
+        by_old : (l : Bool) → is_listed w.memory page ≡ l → (a : Bool)
+            → is_accessed w.objects w.areas w.access_pins page ≡ a
+            → ((eqb at page.memory && has_hwpt w.objects file request.ioas)
+            || is_translated w.objects w.areas page.memory) ≡ true
+        by_old l is false none = or_first _ (rw none at pinned)
+          where
+            or_first : (b : Bool) → (b || false) ≡ true → b ≡ true
+            or_first true some = refl
+            or_first false some = some
+        by_old true is true covers =
+            let never = rw (is, covers) at old in absurd (or_never _ never)
+          where
+            or_never : (t : Bool) → (t || true) ≡ false → ⊥
+            or_never true is = cc
+            or_never false is = cc
+        by_old false is true covers =
+            let own : has_page page (memory_object at user request) ≡ true = rw is at listed in
+            absurd (clash _ (uncovered (and_true (eqb page.memory at) _ own).0) covers)
+
     no_old : (listed here translated new : Bool) → (listed || (false && here)) ≡ true
         → ((false && new) || translated) ≡ true → (listed && translated) ≡ false → ⊥
     no_old true here true new l t o = cc

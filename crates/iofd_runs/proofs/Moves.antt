@@ -16,7 +16,7 @@ use Rattle.iofd_runs.proofs.MappedAt.{LiesAt, copy_lies_at, lies_at}
 use Rattle.iofd_runs.proofs.NotRefused.{AllowPassed, PlacePassed, UserMapPassed, alloc_passed, allow_passed}
 use Rattle.iofd_runs.proofs.NotRefused.{attach_passed, bind_passed, copy_place, hwpt_passed, join_passed, map_passed}
 use Rattle.iofd_runs.proofs.NotRefused.{map_place, user_map_passed, close_passed, destroy_passed, unbind_passed}
-use Rattle.iofd_runs.proofs.NotRefused.{access_create_passed}
+use Rattle.iofd_runs.proofs.NotRefused.{access_create_passed, access_attach_passed, access_detach_passed}
 use Rattle.iofd_runs.proofs.TableEvents.{HwptsStay, MakesNone, TakesNone, closed_stay, destroyed_stay, detached_stay}
 use Rattle.iofd_runs.proofs.TableEvents.{finds_table, leaving_live, paid_live, unbound_stay}
 use Rattle.iofd_runs.proofs.Served.{IsServed, joined_served, made_served}
@@ -63,15 +63,21 @@ use Rattle.iofd_words.specs.declared.rows.UserPage.{UserPage}
 use Rattle.iofd_rows.proofs.Found.{all_filter, all_map, find-with_object}
 use Rattle.iofd_rows.proofs.OwnMemory.{all-with_area}
 use Rattle.iofd_runs.proofs.PagesToPin.{ArePresent, PagesAlike, alike_objects, alike_paid, alike_phases, moved_new}
-use Rattle.iofd_runs.proofs.PagesToPin.{none_comes, none_over}
+use Rattle.iofd_runs.proofs.PagesToPin.{none_comes, none_over, AccessedAlike, TranslatedAlike}
 use Rattle.iofd_runs.proofs.AttachedPages.{attached_present, none_new, table_present}
 use Rattle.iofd_runs.proofs.CopiedPages.{added_page, copied_present}
 use Rattle.iofd_runs.proofs.MappedPages.{mapped_present}
 use Rattle.iofd_rows.proofs.PageTables.{hwpt-filter, hwpt-unbound, same_hwpt}
 use Rattle.iofd_rows.specs.Pinned.{ArePinned}
 use Rattle.iofd_runs.proofs.BoundStay.{BoundStay, closed_bound, destroyed_bound, detached_bound}
+use Rattle.iofd_runs.proofs.HoldersStay.{NoPinGoes, closed_free, closed_holders, destroyed_free, destroyed_holders}
+use Rattle.iofd_runs.proofs.HoldersStay.{detached_holders, more_holders, reattached_holders, same_holders}
+use Rattle.iofd_runs.proofs.HoldersStay.{unattached_other}
+use Rattle.iofd_runs.proofs.HoldersStay.{unbound_holders, unmapped_free, unpinned_other}
+use Rattle.iofd_runs.proofs.Accessed.{HoldersStay, EachHeld}
 use Rattle.iofd_rows.proofs.Bound.{attachments-unbound}
 use Rattle.iofd_rows.proofs.Accesses.{hwpt-reattached}
+use Rattle.iofd_rows.proofs.ObjectPages.{translated-map}
 use Rattle.iofd_words.specs.declared.width.Width.{Width}
 
 -- ---- what an event may make of the rows
@@ -127,6 +133,7 @@ pub data AreasMove {A : Type 0} (at : ℕ) (w : World) (e : Event A) (answer : R
   SameAreas : new.areas ≡ w.areas → new.memory ≡ w.memory → AreasMove at w e answer new
   FewerAreas : (goes : Area → Bool) → new.areas ≡ filter (λ (a : Area). not (goes a)) w.areas
       → new.memory ≡ filter (λ m. list_any (λ (a : Area). eqb a.memory m.number && not (goes a)) w.areas) w.memory
+      → (refusal w e ≡ None → Answers w e answer → EachHeld w.objects w.areas w.access_pins → NoPinGoes w goes)
       → AreasMove at w e answer new
   OtherPhases : (phase : Area → Phase) → ((a : Area) → is_live (phase a) ≡ true → is_live a.phase ≡ true)
       → new.areas ≡ map (λ (a : Area). with_phase (phase a) a) w.areas → new.memory ≡ w.memory
@@ -167,12 +174,12 @@ pub data MemoryMoves {A : Type 0} (w : World) (e : Event A) (answer : Reply) (ne
       → MemoryMoves w e answer new
   Written : Writes e answer → new.user_pages ≡ w.user_pages → MemoryMoves w e answer new
 
--- pins: the same, where the same pages are to be pinned, or those that follow the areas and page tables of the world
--- after the event
+-- pins: the same, where page tables translate the same memory objects, or those that follow the areas and page tables
+-- of the world after the event; which pages access pins cover is told by the other groups
 pub data PinsMove {A : Type 0} (at : ℕ) (w : World) (e : Event A) (new : World) : Type 0 where
-  SamePins : new.pins ≡ w.pins → PagesAlike w new → PinsMove at w e new
-  Settled : new.pins ≡ (settle w new).pins → (refusal w e ≡ None → ArePinned at w → ArePresent w new)
-      → PinsMove at w e new
+  SamePins : new.pins ≡ w.pins → TranslatedAlike w new → PinsMove at w e new
+  Settled : new.pins ≡ (settle w new).pins
+      → (refusal w e ≡ None → ArePinned at w → AccessedAlike w new → ArePresent w new) → PinsMove at w e new
 
 -- allowed ranges: the same, fewer, all of an address space or none of them, or those that an address space is given
 pub data AllowedMove {A : Type 0} (w : World) (e : Event A) (new : World) : Type 0 where
@@ -202,6 +209,9 @@ pub record Moves {A : Type 0} (at : ℕ) (w : World) (e : Event A) (answer : Rep
   -- no event changes what the server was opened with, nor rows of tables: the frames that its record takes and gives do
   pub settings : new.settings ≡ w.settings
   pub tables : new.table_frames ≡ w.table_frames
+  -- nor access pins, and who holds one stays attached
+  pub accesses : new.access_pins ≡ w.access_pins
+  pub holders : refusal w e ≡ None → Answers w e answer → HoldersStay w.objects new.objects w.access_pins
 
 -- ---- what is known of rows that come
 
@@ -269,8 +279,10 @@ hwpt_binds device file ioas id width None objects =
 module _ {A : Type 0} (at : ℕ) (w : World) (e : Event A) (answer : Reply) (new : World) where
   moves : ObjectsMove w e answer new → AreasMove at w e answer new → AttachmentsMove w e answer new
       → MemoryMoves w e answer new → PinsMove at w e new → AllowedMove w e new → FilesMove w new
-      → new.settings ≡ w.settings → new.table_frames ≡ w.table_frames → Moves at w e answer new
-  moves objects areas attachments memory pins allowed files settings tables =
+      → new.settings ≡ w.settings → new.table_frames ≡ w.table_frames → new.access_pins ≡ w.access_pins
+      → (refusal w e ≡ None → Answers w e answer → HoldersStay w.objects new.objects w.access_pins)
+      → Moves at w e answer new
+  moves objects areas attachments memory pins allowed files settings tables accesses holders =
       record {
         objects = objects;
         areas = areas;
@@ -281,21 +293,34 @@ module _ {A : Type 0} (at : ℕ) (w : World) (e : Event A) (answer : Reply) (new
         files = files;
         settings = settings;
         tables = tables;
+        accesses = accesses;
+        holders = holders;
       }
+
+-- a page table comes with an attachment, or there is one
+table_holders : (w : World) (file : FileNo) (ioas id : ObjId) (width : Width) (o : Option Object)
+    → IsHwptFor w file id o → HoldersStay w.objects (with_hwpt file ioas id width o w.objects) w.access_pins
+table_holders w file ioas id width (Some automatic) made = same_holders w.objects w.access_pins
+table_holders w file ioas id width None made =
+    more_holders (record { file = file; id = id; kind = kind.Hwpt ioas width true }) w.objects w.access_pins made
 
 -- the world stays
 stays : {A : Type 0} (at : ℕ) (w : World) (e : Event A) (answer : Reply) → Moves at w e answer w
 stays at w e answer = moves at w e answer w (Same refl) (SameAreas refl refl) (SameAttachments refl)
-    (SameMemory refl refl) (SamePins refl (λ page. refl)) (SameAllowed refl) (StayOpen refl) refl refl
+    (SameMemory refl refl) (SamePins refl (record { memory = refl; same = λ number. refl })) (SameAllowed refl)
+    (StayOpen refl) refl refl refl
+    (λ none answers. same_holders w.objects w.access_pins)
 
 -- objects come or go, none of them a page table
 object_moves : {A : Type 0} (at : ℕ) (w : World) (e : Event A) (answer : Reply) (objects : List Object)
     → ObjectsMove w e answer (record w { objects = objects })
     → ((file : FileNo) (ioas : ObjId) → has_hwpt objects file ioas ≡ has_hwpt w.objects file ioas)
+    → (refusal w e ≡ None → Answers w e answer → HoldersStay w.objects objects w.access_pins)
     → Moves at w e answer (record w { objects = objects })
-object_moves at w e answer objects move same =
+object_moves at w e answer objects move same holders =
     moves at w e answer (record w { objects = objects }) move (SameAreas refl refl) (SameAttachments refl)
     (SameMemory refl refl) (SamePins refl (alike_objects w objects same)) (SameAllowed refl) (StayOpen refl) refl refl
+    refl holders
 
 -- users' pages and what is written change
 memory_moves : {A : Type 0} (at : ℕ) (w : World) (e : Event A) (answer : Reply) (pages : List UserPage)
@@ -303,7 +328,9 @@ memory_moves : {A : Type 0} (at : ℕ) (w : World) (e : Event A) (answer : Reply
     → Moves at w e answer (record w { user_pages = pages; writes = writes })
 memory_moves at w e answer pages writes move =
     moves at w e answer (record w { user_pages = pages; writes = writes }) (Same refl) (SameAreas refl refl)
-    (SameAttachments refl) move (SamePins refl (λ page. refl)) (SameAllowed refl) (StayOpen refl) refl refl
+    (SameAttachments refl) move (SamePins refl (record { memory = refl; same = λ number. refl })) (SameAllowed refl)
+    (StayOpen refl) refl refl refl
+    (λ none answers. same_holders w.objects w.access_pins)
 
 -- what devices reach changes, and pins follow or stay
 abbrev same_rest : World → World → World
@@ -317,12 +344,14 @@ same_rest w new = record w {
 
 reach_moves : {A : Type 0} (at : ℕ) (w : World) (e : Event A) (answer : Reply) (new : World) → new ≡ same_rest w new
     → ObjectsMove w e answer new → AreasMove at w e answer new → AttachmentsMove w e answer new → PinsMove at w e new
+    → (refusal w e ≡ None → Answers w e answer → HoldersStay w.objects new.objects w.access_pins)
     → Moves at w e answer new
-reach_moves at w e answer new is objects areas attachments pins =
+reach_moves at w e answer new is objects areas attachments pins holders =
     moves at w e answer new objects areas attachments
     (SameMemory (ap (λ (x : World). x.user_pages) is) (ap (λ (x : World). x.writes) is)) pins
     (SameAllowed (ap (λ (x : World). x.allowed) is)) (StayOpen (ap (λ (x : World). x.closed) is))
-    (ap (λ (x : World). x.settings) is) (ap (λ (x : World). x.table_frames) is)
+    (ap (λ (x : World). x.settings) is) (ap (λ (x : World). x.table_frames) is) (ap (λ (x : World). x.access_pins) is)
+    holders
 
 pub changed_moves : {A : Type 0} → (at : ℕ) (w : World) (e : Event A) (answer : Reply)
     → Moves at w e answer (changed at w e answer)
@@ -338,11 +367,13 @@ changed_moves at w (event.IoasAlloc file) (reply.Id id) =
       wide = tt;
     })
     (λ makes. refl) refl) (λ own ioas. same_hwpt _ w.objects own ioas refl)
+    (λ none answers. more_holders _ w.objects w.access_pins answers)
 changed_moves at w (event.AllowIovas file ioas ranges) reply.Done =
     moves at w _ _ _ (Same refl) (SameAreas refl refl) (SameAttachments refl) (SameMemory refl refl)
-    (SamePins refl (λ page. refl))
+    (SamePins refl (record { memory = refl; same = λ number. refl }))
     (Allows file ioas ranges (λ none. allow_passed (view w) file ioas ranges none)
-    (record { objects = refl; attachments = refl }) refl) (StayOpen refl) refl refl
+    (record { objects = refl; attachments = refl }) refl) (StayOpen refl) refl refl refl
+    (λ none answers. same_holders w.objects w.access_pins)
 changed_moves {A = A} at w (event.Map file request) (reply.Iova iova) =
     let e : Event A = event.Map file request in
     by_found (λ user. Moves at w e (reply.Iova iova) (map_changes at w file request iova user))
@@ -353,8 +384,9 @@ changed_moves {A = A} at w (event.Map file request) (reply.Iova iova) =
     (record { objects = refl; attachments = refl }) refl
     (NewMemory user is (λ none. (map_passed (view w) file request none).in_user) refl refl))
     (SameAttachments refl)
-    (Settled refl (λ none p page within before. mapped_present at w file request iova user page none is p.made
-    (none_over at w.areas w.memory p.made p.sizes) within before)))
+    (Settled refl (λ none p accessed page within before. mapped_present at w file request iova user page none is p.made
+    (none_over at w.areas w.memory p.made p.sizes) (accessed page) within before))
+    (λ none answers. same_holders w.objects w.access_pins))
 changed_moves {A = A} at w (event.Copy file request) (reply.Iova iova) =
     let e : Event A = event.Copy file request in
     by_found (λ source. Moves at w e (reply.Iova iova) (copy_changes w file request iova source))
@@ -367,19 +399,22 @@ changed_moves {A = A} at w (event.Copy file request) (reply.Iova iova) =
     (SharedMemory source source_of.within source_of.of_file
     (λ none. copied_size w file request iova source none source_of) refl refl))
     (SameAttachments refl)
-    (Settled refl (λ none p page within before. copied_present at w file request iova source page p none is
-    (added_page w (mapped_area source.memory file (placed_as request) iova) page within before))))
+    (Settled refl (λ none p accessed page within before. copied_present at w file request iova source page p none is
+    (added_page w (mapped_area source.memory file (placed_as request) iova) page (accessed page) within before)))
+    (λ none answers. same_holders w.objects w.access_pins))
 changed_moves at w (event.Unmap file request) (reply.Bytes count) =
     reach_moves at w (event.Unmap file request) (reply.Bytes count)
     (settle w (without_areas (is_touched file request) w)) refl (Same refl)
-    (FewerAreas (is_touched file request) refl refl) (SameAttachments refl)
-    (Settled refl (λ none p page within before. absurd (none_comes w (is_touched file request) w.objects page
-    (λ own ioas has. has) within before)))
+    (FewerAreas (is_touched file request) refl refl (λ none answers held. unmapped_free w file request answers.0))
+    (SameAttachments refl)
+    (Settled refl (λ none p accessed page within before. absurd (none_comes w (is_touched file request) w.objects page
+    (λ own ioas has. has) (accessed page) within before)))
+    (λ none answers. same_holders w.objects w.access_pins)
 changed_moves at w (event.Unmap file request) (reply.Pending errno) =
     reach_moves at w (event.Unmap file request) (reply.Pending errno)
     (unmapped w file request (reply.Pending errno)) refl (Same refl)
     (OtherPhases _ (λ a live. leaving_live (is_touched file request a) _ _ a.phase live) refl refl)
-    (SameAttachments refl) (SamePins refl (alike_phases w _))
+    (SameAttachments refl) (SamePins refl (alike_phases w _)) (λ none answers. same_holders w.objects w.access_pins)
 changed_moves {A = A} at w (event.HwptAlloc file request) (reply.Id id) =
     let e : Event A = event.HwptAlloc file request in
     by_found (λ settings. Moves at w e (reply.Id id) (hwpt_changes w file request.ioas id settings))
@@ -395,23 +430,29 @@ changed_moves {A = A} at w (event.HwptAlloc file request) (reply.Id id) =
     })
     (λ makes. absurd makes) refl)
     (SameAreas refl refl) (SameAttachments refl)
-    (Settled refl (λ none p page within before. table_present at w file request.ioas id settings.width false page p
-    (hwpt_passed (view w) file request none).present
-    (moved_new w w.areas _ page (λ objects number. refl) within before))))
+    (Settled refl (λ none p accessed page within before. table_present at w file request.ioas id settings.width false
+    page p (hwpt_passed (view w) file request none).present
+    (moved_new w w.areas _ page (λ objects number. refl) (accessed page) within before)))
+    (λ none answers. more_holders _ w.objects w.access_pins answers))
 changed_moves at w (event.Destroy file id) reply.Done =
     moves at w _ _ _ (Fewer _ (λ takes. destroyed_stay w file id takes)
     (λ none. destroyed_bound w file id (destroy_passed (view w) file id none).no_device) refl)
-    (FewerAreas (is_of file id) refl refl) (SameAttachments refl) (SameMemory refl refl)
-    (Settled refl (λ none p page within before. absurd (none_comes w (is_of file id) _ page
-    (λ own ioas has. hwpt-filter _ w.objects own ioas has) within before)))
-    (FewerAllowed _ (λ f i. (_, allowed_without file id w.allowed f i)) refl) (StayOpen refl) refl refl
+    (FewerAreas (is_of file id) refl refl (λ none answers held. destroyed_free w file id
+    (destroy_passed (view w) file id none).unused held)) (SameAttachments refl) (SameMemory refl refl)
+    (Settled refl (λ none p accessed page within before. absurd (none_comes w (is_of file id) _ page
+    (λ own ioas has. hwpt-filter _ w.objects own ioas has) (accessed page) within before)))
+    (FewerAllowed _ (λ f i. (_, allowed_without file id w.allowed f i)) refl) (StayOpen refl) refl refl refl
+    (λ none answers. destroyed_holders w file id (destroy_passed (view w) file id none).unused)
 changed_moves at w (event.Close file) reply.Done =
     moves at w _ _ _ (Fewer _ (λ takes. closed_stay w file takes)
     (λ none. closed_bound w file (close_passed (view w) file none).no_device) refl)
-    (FewerAreas (λ (a : Area). eqb a.file.0 file.0) refl refl) (FewerAttachments _ refl) (SameMemory refl refl)
-    (Settled refl (λ none p page within before. absurd (none_comes w (λ (a : Area). eqb a.file.0 file.0) _ page
-    (λ own ioas has. hwpt-filter _ w.objects own ioas has) within before)))
-    (FewerAllowed _ (λ f i. (_, allowed_closed file w.allowed f i)) refl) (Closes file refl refl refl) refl refl
+    (FewerAreas (λ (a : Area). eqb a.file.0 file.0) refl refl
+    (λ none answers held. closed_free w file (close_passed (view w) file none).no_access held))
+    (FewerAttachments _ refl) (SameMemory refl refl)
+    (Settled refl (λ none p accessed page within before. absurd (none_comes w (λ (a : Area). eqb a.file.0 file.0) _ page
+    (λ own ioas has. hwpt-filter _ w.objects own ioas has) (accessed page) within before)))
+    (FewerAllowed _ (λ f i. (_, allowed_closed file w.allowed f i)) refl) (Closes file refl refl refl) refl refl refl
+    (λ none answers. closed_holders w file (close_passed (view w) file none).no_access)
 changed_moves at w (event.UserMap user va) (reply.Frame frame) =
     memory_moves at w (event.UserMap user va) (reply.Frame frame) _ _
     (OnePage user va frame (λ none. user_map_passed (view w) user va none) (λ answers. answers) refl refl refl)
@@ -430,11 +471,12 @@ changed_moves at w (event.Bind file device) (reply.Id id) =
       wide = tt;
     })
     (λ makes. refl) refl) (λ own ioas. same_hwpt _ w.objects own ioas refl)
+    (λ none answers. more_holders _ w.objects w.access_pins answers)
 changed_moves at w (event.Unbind file id) reply.Done =
     object_moves at w (event.Unbind file id) reply.Done _ (Fewer _ (λ takes. unbound_stay w file id)
     (λ none own once bound. attachments-unbound w file id own once (unbind_passed (view w) file id none).unattached
     bound) refl)
-    (hwpt-unbound w.objects file id)
+    (hwpt-unbound w.objects file id) (λ none answers. unbound_holders w file id)
 changed_moves {A = A} at w (event.Attach device pt_id) (reply.Id id) =
     let e : Event A = event.Attach device pt_id in
     by_target w device pt_id id (Moves at w e (reply.Id id)) (λ nowhere. stays at w e (reply.Id id))
@@ -449,8 +491,10 @@ changed_moves {A = A} at w (event.Attach device pt_id) (reply.Id id) =
     (λ none answers own. made_served w device object.file pt_id id d automatic own known refl (made answers)
     (sym (ap (narrows (view w) object.file pt_id) known)
     ∙ (attach_passed (view w) device pt_id object bound space none).wide)) refl)
-    (Settled refl (λ none p page within before. attached_present at w device pt_id id object d.width automatic page p
-    none bound space (moved_new w (all_paid device w.areas) _ page (alike_paid w device) within before))))
+    (Settled refl (λ none p accessed page within before. attached_present at w device pt_id id object d.width automatic
+    page p none bound space
+    (moved_new w (all_paid device w.areas) _ page (alike_paid w device) (accessed page) within before)))
+    (λ none answers. table_holders w object.file pt_id id d.width automatic (made answers)))
     (λ object d ioas width automatic bound known table same.
     reach_moves at w e (reply.Id id) (joined w device id object) refl (Same refl)
     (OtherPhases _ (λ a live. paid_live device a.phase live) refl refl)
@@ -458,7 +502,8 @@ changed_moves {A = A} at w (event.Attach device pt_id) (reply.Id id) =
     (λ none. (join_passed (view w) device pt_id ioas width automatic object bound table none).unattached)
     (λ none answers own. joined_served w device object ioas id d width automatic known (rw (same answers) table)
     (join_passed (view w) device pt_id ioas width automatic object bound table none)) refl)
-    (SamePins refl (alike_phases w (λ a. paid device a.phase))))
+    (SamePins refl (record { memory = refl; same = translated-map w.objects (λ a. paid device a.phase) w.areas }))
+    (λ none answers. same_holders w.objects w.access_pins))
 changed_moves {A = A} at w (event.Detach device) reply.Done =
     let e : Event A = event.Detach device in
     by_attachment w device (Moves at w e reply.Done) (stays at w e reply.Done) (λ a is.
@@ -466,13 +511,15 @@ changed_moves {A = A} at w (event.Detach device) reply.Done =
     (Fewer _ (λ takes. detached_stay w device a is takes)
     (λ none. detached_bound w a (without_attachment device w.attachments)) refl)
     (OtherPhases _ (λ area live. paid_live device area.phase live) refl refl) (FewerAttachments _ refl)
-    (Settled refl (λ none p page within before. absurd (none_new w _ page
+    (Settled refl (λ none p accessed page within before. absurd (none_new w _ page
     (λ own ioas has. hwpt-filter _ w.objects own ioas has)
-    (moved_new w (all_paid device w.areas) _ page (alike_paid w device) within before)))))
+    (moved_new w (all_paid device w.areas) _ page (alike_paid w device) (accessed page) within before))))
+    (λ none answers. detached_holders w (without_attachment device w.attachments) a))
 changed_moves at w (event.Flush device) reply.Done =
     reach_moves at w (event.Flush device) reply.Done (device_flushed w device reply.Done) refl (Same refl)
     (OtherPhases _ (λ a live. paid_live device a.phase live) refl refl) (SameAttachments refl)
     (SamePins refl (alike_phases w (λ a. paid device a.phase)))
+    (λ none answers. same_holders w.objects w.access_pins)
 changed_moves at w (event.DeviceWrite device iova bytes) (reply.Passed frame) =
     memory_moves at w (event.DeviceWrite device iova bytes) (reply.Passed frame) _ _ (Written tt refl)
 changed_moves at w (event.AccessCreate file) (reply.Id id) =
@@ -486,12 +533,17 @@ changed_moves at w (event.AccessCreate file) (reply.Id id) =
       wide = tt;
     })
     (λ makes. refl) refl) (λ own ioas. same_hwpt _ w.objects own ioas refl)
+    (λ none answers. more_holders _ w.objects w.access_pins answers)
 changed_moves at w (event.AccessAttach file id ioas) reply.Done =
     object_moves at w (event.AccessAttach file id ioas) reply.Done _ (Reattached file id (Some ioas) refl)
     (hwpt-reattached file id (Some ioas) w.objects)
+    (λ none answers. reattached_holders w file id (Some ioas) (λ pin among over is. unattached_other w file id
+    (access_attach_passed (view w) file id ioas none).unattached pin.file pin.access over is))
 changed_moves at w (event.AccessDetach file id) reply.Done =
     object_moves at w (event.AccessDetach file id) reply.Done _ (Reattached file id None refl)
     (hwpt-reattached file id None w.objects)
+    (λ none answers. reattached_holders w file id None (λ pin among over is. unpinned_other w file id
+    (access_detach_passed (view w) file id none).unpinned pin among))
 changed_moves at w e answer = stays at w e answer
 
 -- ---- all areas
@@ -506,7 +558,7 @@ pub all_areas : {A : Type 0} (p : Area → Bool)
     → MemoryUnder at w e file request iova number new.memory → p (mapped_area number file request iova) ≡ true)
     → list_all p w.areas ≡ true → list_all p new.areas ≡ true
 all_areas p phases at w e answer new (SameAreas is same) one all = rw is all
-all_areas p phases at w e answer new (FewerAreas goes is left) one all = rw is (all_filter p _ w.areas all)
+all_areas p phases at w e answer new (FewerAreas goes is left free) one all = rw is (all_filter p _ w.areas all)
 all_areas p phases at w e answer new (OtherPhases phase lives is same) one all =
     rw is (all_map p p _ w.areas (λ a here. phases (phase a) a here) all)
 all_areas p phases at w e answer new (OneArea number file request iova passed lies makes alike is under) one all =

@@ -558,6 +558,7 @@ pub record AccessDetachPassed (v : View) (file : FileNo) (id : ObjId) : Type 0 w
   pub opened : v.is_open file ≡ true
   pub there : has_access v.objects file id ≡ true
   pub attached : is_none (access_ioas_of v.objects file id) ≡ false
+  pub unpinned : v.holds_pin file id ≡ false
 
 pub access_detach_passed : (v : View) (file : FileNo) (id : ObjId)
     → first_true (access_detach_checks v file id) ≡ None → AccessDetachPassed v file id
@@ -568,4 +569,5 @@ access_detach_passed v file id none =
       opened = not_not _ (tests_false rows 0 none);
       there = not_not _ (tests_false rows 1 none);
       attached = tests_false rows 2 none;
+      unpinned = tests_false rows 3 none;
     }

@@ -5,7 +5,7 @@ use Rattle.std.proofs.Common.{arith}
 use Rattle.iofd_rows.proofs.Found.{found_passes}
 use Rattle.iofd_rows.proofs.Each.{in_found}
 use Rattle.iofd_rows.specs.Pinned.{ArePinned}
-use Rattle.iofd_runs.proofs.SamePages.{same_pages}
+use Rattle.iofd_runs.proofs.SamePages.{area_pinned}
 use Rattle.std.proofs.Math.Nat.{div-lt_iff_lt-mul, div-add-mod}
 use Rattle.std.specs.List.{filter, find, list_any, range_with_len}
 use Rattle.std.proofs.lemmas.Bool.Decides.{nat_tests}
@@ -161,8 +161,8 @@ page_pinned at w a ioas area address pins fits space found_own =
     let listed = any_of_found (λ (x : Area). is_of a.file ioas x && holds x.span address)
     (pins_page w.objects (page_in area address)) w.areas area found page in
     at_page (λ page. is_some (pinned_frame w.pins page)) (pinned_pages w.objects w.areas w.memory w.access_pins)
-    (page_in area address) pins.pinned (same_pages w.objects w.areas w.memory w.access_pins (page_in area address)
-    pins.numbers pins.sizes ∙ any-pinned w.objects w.areas (page_in area address) ∙ listed)
+    (page_in area address) pins.pinned (area_pinned w.objects w.areas w.memory w.access_pins (page_in area address)
+    pins.sizes (any-pinned w.objects w.areas (page_in area address) ∙ listed))
 
 -- ---- something may come of each access
 

@@ -1,11 +1,11 @@
--- The pages that are to be pinned, by memory objects and by areas: the same pages.
+-- The pages that are to be pinned, by memory objects and by areas: those of areas that a page table translates are.
 use Rattle.std.proofs.Common.{◌≡◌, ℕ, ◌*◌, ◌/◌, Bool, true, false, ◌&&◌, ◌||◌, eqb, ltb, List, [], ◌∷◌, refl, sym, ◌∙◌}
 use Rattle.std.proofs.Common.{arith}
 use Rattle.std.specs.List.{list_all, list_any}
 use Rattle.std.proofs.lemmas.Bool.Decides.{nat_tests}
 use Rattle.std.proofs.lemmas.Bool.{eqb-true}
 use Rattle.iofd_words.specs.Objects.{has_hwpt}
-use Rattle.iofd_words.specs.Pins.{ObjectPage, area_pages, is_page, is_translated, pinned_pages}
+use Rattle.iofd_words.specs.Pins.{ObjectPage, area_pages, is_accessed, is_page, is_pinned, pinned_pages}
 use Rattle.iofd_words.specs.Span.{size_of}
 use Rattle.iofd_words.specs.declared.rows.AccessPin.{AccessPin}
 use Rattle.iofd_words.specs.declared.rows.Area.{Area}
@@ -13,12 +13,12 @@ use Rattle.iofd_words.specs.declared.rows.MemoryObject.{MemoryObject}
 use Rattle.iofd_words.specs.declared.rows.Object.{Object}
 use Rattle.iofd_rows.specs.Pinned.{has_object, have_own_numbers}
 use Rattle.iofd_rows.proofs.Bools.{and_true, both_true}
-use Rattle.iofd_rows.proofs.ListTests.{alike, any_of_all, any_weaker}
+use Rattle.iofd_rows.proofs.ListTests.{any_weaker, or_left}
 use Rattle.iofd_rows.proofs.ObjectPages.{has_page, in_pinned, is_listed, listed_is, one_count}
 use Rattle.iofd_rows.proofs.PageLists.{any-pinned, in_pages, memory_of_page, pages_by_area, pins_page}
 
 -- a page of an area's memory object is one of the area's pages
-covered : (memory : List MemoryObject) (a : Area) (page : ObjectPage) → have_own_numbers memory ≡ true
+pub covered : (memory : List MemoryObject) (a : Area) (page : ObjectPage) → have_own_numbers memory ≡ true
     → has_object memory a ≡ true → is_listed memory page ≡ true → eqb a.memory page.memory ≡ true
     → list_any (is_page page) (area_pages a) ≡ true
 covered memory a page own sized listed same =
@@ -42,22 +42,14 @@ covered memory a page own sized listed same =
         let divided : size / 4096 ≡ count = omega (arith, whole) in
         rw divided (search (arith, nat_tests))
 
-pub same_pages : (objects : List Object) (areas : List Area) (memory : List MemoryObject) (pins : List AccessPin)
-    (page : ObjectPage) → have_own_numbers memory ≡ true → list_all (has_object memory) areas ≡ true
-    → list_any (is_page page) (pinned_pages objects areas memory pins) ≡ list_any (is_page page)
-    (pages_by_area objects areas)
-same_pages objects areas memory pins page numbers sizes =
-    in_pinned objects areas memory pins page ∙ alike _ _ to from ∙ sym (any-pinned objects areas page)
+-- a page of an area that a page table translates is to be pinned
+pub area_pinned : (objects : List Object) (areas : List Area) (memory : List MemoryObject) (pins : List AccessPin)
+    (page : ObjectPage) → list_all (has_object memory) areas ≡ true
+    → list_any (is_page page) (pages_by_area objects areas) ≡ true
+    → list_any (is_page page) (pinned_pages objects areas memory pins) ≡ true
+area_pinned objects areas memory pins page sizes within =
+    in_pinned objects areas memory pins page ∙ from (sym (any-pinned objects areas page) ∙ within)
   where
-    to : (is_listed memory page && is_translated objects areas page.memory) ≡ true
-        → list_any (pins_page objects page) areas ≡ true
-    to both =
-        let parts = and_true (is_listed memory page) (is_translated objects areas page.memory) both in
-        any_of_all (has_object memory) (λ (a : Area). eqb a.memory page.memory && has_hwpt objects a.file a.ioas)
-        (pins_page objects page) areas
-        (λ a sized is. let here = and_true (eqb a.memory page.memory) (has_hwpt objects a.file a.ioas) is in both_true _
-        _ here.1 (covered memory a page numbers sized parts.0 here.0)) sizes parts.1
-
     listed : (a : Area) → has_object memory a ≡ true → list_any (is_page page) (area_pages a) ≡ true
         → is_listed memory page ≡ true
     listed a sized within =
@@ -81,14 +73,14 @@ same_pages objects areas memory pins page numbers sizes =
             rw divided at below
 
     from : list_any (pins_page objects page) areas ≡ true
-        → (is_listed memory page && is_translated objects areas page.memory) ≡ true
+        → (is_listed memory page && is_pinned objects areas pins page) ≡ true
     from some =
         both_true _ _
         (any_listed areas sizes some)
-        (any_weaker (pins_page objects page) (λ (a : Area). eqb a.memory page.memory
+        (or_left _ (is_accessed objects areas pins page) (any_weaker (pins_page objects page) (λ (a : Area). eqb a.memory page.memory
         && has_hwpt objects a.file a.ioas) areas
         (λ a is. let parts = and_true (has_hwpt objects a.file a.ioas) (list_any (is_page page) (area_pages a)) is in
-        both_true _ _ (memory_of_page a page parts.1) parts.0) some)
+        both_true _ _ (memory_of_page a page parts.1) parts.0) some))
       where
         any_listed : (rows : List Area) → list_all (has_object memory) rows ≡ true
             → list_any (pins_page objects page) rows ≡ true → is_listed memory page ≡ true

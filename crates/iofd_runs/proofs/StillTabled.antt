@@ -40,6 +40,7 @@ use Rattle.iofd_runs.proofs.Moves.{AreasMove, Fewer, FewerAreas, More, ObjectsMo
 use Rattle.iofd_runs.proofs.Moves.{SameAreas, changed_moves, Reattached}
 use Rattle.iofd_runs.proofs.TableEvents.{HwptsStay, paid_live, stay_same, stay_with, no_access, stay_reattached}
 pub use Rattle.iofd_runs.proofs.TableEvents.{MakesNone, TakesNone, finds_table, leaves_table}
+pub use Rattle.iofd_rows.proofs.Each.{in_kept}
 
 -- ---- what is in lists
 
@@ -48,17 +49,6 @@ pub all-flat_map : {X Y : Type 0} (p : Y → Bool) (f : X → List Y) (xs : List
 all-flat_map p f [] = refl
 all-flat_map p f (x ∷ xs) =
     list_all-append p (f x) (flat_map f xs) ∙ ap (λ b. list_all p (f x) && b) (all-flat_map p f xs)
-
-pub in_kept : {X : Type 0} (q : X → Bool) (xs : List X) (x : X) → IsIn xs x → q x ≡ true → IsIn (filter q xs) x
-in_kept q [] x within passes = absurd within
-in_kept q (y ∷ ys) x within passes = by_test (q y) refl within (λ later. in_kept q ys x later passes)
-  where
-    by_test : (b : Bool) → q y ≡ b → IsIn (y ∷ ys) x → (IsIn ys x → IsIn (filter q ys) x)
-        → IsIn (cond b (y ∷ filter q ys) (filter q ys)) x
-    by_test true is (inl same) later = inl same
-    by_test true is (inr rest) later = inr (later rest)
-    by_test false is (inl same) later = let clash = ap q same in cc
-    by_test false is (inr rest) later = later rest
 
 -- ---- no page table and no live area comes
 
@@ -203,7 +193,7 @@ none_after at w e answer makes none =
 
     lived : (new : World) → AreasMove at w e answer new → LiveIn w.areas new.areas
     lived new (SameAreas is same) = rw is (live_same w.areas)
-    lived new (FewerAreas goes is left) = rw is (live_fewer (λ (a : Area). not (goes a)) w.areas)
+    lived new (FewerAreas goes is left free) = rw is (live_fewer (λ (a : Area). not (goes a)) w.areas)
     lived new (OtherPhases phase lives is same) = rw is (live_phases phase w.areas lives)
     lived new (OneArea number file request iova passed lies never alike is under) = absurd (never makes)
 

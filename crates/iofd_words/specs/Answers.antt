@@ -29,6 +29,7 @@ use Rattle.iofd_words.specs.declared.rows.Object.{Object}
 use Rattle.iofd_words.specs.declared.rows.ObjectKind.{ObjectKind}
 use Rattle.iofd_words.specs.declared.rows.ObjectKind.TheVariants as kind
 use Rattle.iofd_words.specs.declared.width.Width.{Width}
+use Rattle.iofd_words.specs.Pins.{has_pin_in}
 
 -- the page table of an attachment: the automatic one of that width, or a new one with an unused id
 abbrev pub IsHwptFor : World → FileNo → ObjId → Option Object → Type 0
@@ -80,14 +81,20 @@ abbrev pub AnswersDone : Reply → Type 0
 AnswersDone reply.Done = Unit {0}
 AnswersDone answer = ⊥
 
--- an UNMAP waits as long as some device still has to flush, and says after a hundred tries that this leads nowhere;
--- else it answers how many bytes it took away
+-- an UNMAP waits for the devices that are attached, and for access pins
+abbrev pub waits : World → FileNo → UnmapRequest → Bool
+waits w file request =
+    is_waiting w.areas (devices_of w.objects w.attachments file request.ioas) (has_pin_in w.objects w.access_pins) file
+    request
+
+-- an UNMAP waits as long as some device still has to flush or an access pin is in its way, and says after a hundred
+-- tries that this leads nowhere; else it answers how many bytes it took away
 abbrev pub UnmapAnswers : World → FileNo → UnmapRequest → Reply → Type 0
 UnmapAnswers w file request (reply.Bytes count) =
-    IsTrue (not (is_waiting w.areas (devices_of w.objects w.attachments file request.ioas) file request))
+    IsTrue (not (waits w file request))
     × (count ≡ touched_bytes w.areas file request)
 UnmapAnswers w file request (reply.Pending errno) =
-    IsTrue (is_waiting w.areas (devices_of w.objects w.attachments file request.ioas) file request)
+    IsTrue (waits w file request)
     × (errno ≡ pending_errno (touched_tries w.areas file request))
 UnmapAnswers w file request answer = ⊥
 

@@ -1,6 +1,6 @@
 -- The areas of address spaces: live, or leaving until the devices that may have cached them have flushed. UNMAPs that
 -- find them so are counted, up to a hundred, and are told then that asking again leads nowhere: this project's rule.
-use Rattle.std.specs.Prelude.{ℕ, ◌+◌, Bool, ◌==◌, ◌&&◌, not, nat_le, nat_lt, max, Option, List, [], ◌∷◌, length}
+use Rattle.std.specs.Prelude.{ℕ, ◌+◌, Bool, ◌==◌, ◌&&◌, ◌||◌, not, nat_le, nat_lt, max, Option, List, [], ◌∷◌, length}
 use Rattle.std.specs.Prelude.{map, filter, fold}
 use Rattle.std.specs.Prelude.{find, sum_by, if◌then◌else◌}
 use Rattle.std.specs.List.{list_any}
@@ -118,10 +118,14 @@ is_touched file request area = is_of file request.ioas area && meets area.span (
 abbrev pub touched : List Area → FileNo → UnmapRequest → List Area
 touched areas file request = filter (is_touched file request) areas
 
--- some device still has to flush before the touched areas may go
-abbrev pub is_waiting : List Area → List ℕ → FileNo → UnmapRequest → Bool
-is_waiting areas attached file request =
-    list_any (λ area. not (length (owed_by attached area.phase) == 0)) (touched areas file request)
+-- the area may not go yet: some device still has to flush, or it is pinned, by a test of areas
+abbrev pub is_held_back : List ℕ → (Area → Bool) → Area → Bool
+is_held_back attached is_pinned area = not (length (owed_by attached area.phase) == 0) || is_pinned area
+
+-- one of the touched areas is
+abbrev pub is_waiting : List Area → List ℕ → (Area → Bool) → FileNo → UnmapRequest → Bool
+is_waiting areas attached is_pinned file request =
+    list_any (is_held_back attached is_pinned) (touched areas file request)
 
 -- the most tries that one of these areas counts
 abbrev pub most_tries : List Area → ℕ

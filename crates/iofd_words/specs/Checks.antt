@@ -481,6 +481,7 @@ access_detach_checks v file id =
     (cause.Id, not (v.is_open file))
     ∷ (cause.Id, not (has_access v.objects file id))
     ∷ (cause.Unattached, is_none (access_ioas_of v.objects file id))
+    ∷ (cause.InUse, v.holds_pin file id)
     ∷ []
 
 -- the refusals of each event

@@ -89,13 +89,6 @@ access_ioas (kind.Access attached) = attached
 abbrev pub is_access_to : ObjId → ObjectKind → Bool
 is_access_to ioas kind = elim (access_ioas kind) [ Some attached ↦ attached.0 == ioas.0 | None ↦ false ]
 
--- an access object that may have pinned pages of the address space: none pins any yet
-abbrev pub is_access_of : ObjId → ObjectKind → Bool
-is_access_of ioas kind.Ioas = false
-is_access_of ioas (kind.Hwpt over width automatic) = false
-is_access_of ioas (kind.Device device) = false
-is_access_of ioas (kind.Access attached) = false
-
 -- ---- all objects
 
 -- the kind of a file's object, if it has one of this id

@@ -7,10 +7,12 @@ use Rattle.std.specs.Prelude.{is_none, List, ◌++◌, map, filter, find}
 use Rattle.std.specs.List.{count_by, list_any, list_all, flat_map, filter_map, range_with_len}
 use Rattle.iofd_words.specs.Bounds.{Bounds}
 use Rattle.iofd_words.specs.Pages.{page_of}
-use Rattle.iofd_words.specs.Span.{lies_in, size_of, span_from}
-use Rattle.iofd_words.specs.Objects.{has_hwpt, is_access_of, kind_of}
+use Rattle.iofd_words.specs.Span.{lies_in, meets, size_of, span_from}
+use Rattle.iofd_words.specs.Objects.{has_hwpt, is_access_to, kind_of}
 use Rattle.iofd_words.specs.Frames.{frame_at}
+use Rattle.iofd_words.specs.declared.numbers.FileNo.{FileNo}
 use Rattle.iofd_words.specs.declared.numbers.FrameNo.{FrameNo}
+use Rattle.iofd_words.specs.declared.numbers.ObjId.{ObjId}
 use Rattle.iofd_words.specs.declared.numbers.UserNo.{UserNo}
 use Rattle.iofd_words.specs.declared.rows.AccessPin.{AccessPin}
 use Rattle.iofd_words.specs.declared.rows.Area.{Area}
@@ -54,13 +56,25 @@ abbrev pub is_translated : List Object → List Area → ℕ → Bool
 is_translated objects areas number =
     list_any (λ area. area.memory == number && has_hwpt objects area.file area.ioas) areas
 
--- the access pin covers this page of the area: its access object is one of the area's address space, and the page lies
--- in its span
-abbrev pub covers_page : List Object → ℕ → AccessPin → Area → Bool
-covers_page objects index pin area =
+-- the access object that holds the pin is attached to the area's address space
+abbrev pub is_pin_in : List Object → AccessPin → Area → Bool
+is_pin_in objects pin area =
     area.file.0 == pin.file.0
-    && elim (kind_of objects pin.file pin.access) [ Some kind ↦ is_access_of area.ioas kind | None ↦ false ]
-    && lies_in (span_of_page area index) pin.span
+    && elim (kind_of objects pin.file pin.access) [ Some kind ↦ is_access_to area.ioas kind | None ↦ false ]
+
+-- the access pin covers this page of the area: it is one of the area's address space, and the page lies in its span
+abbrev pub covers_page : List Object → ℕ → AccessPin → Area → Bool
+covers_page objects index pin area = is_pin_in objects pin area && lies_in (span_of_page area index) pin.span
+
+-- some access pin of its address space meets the area
+abbrev pub has_pin_in : List Object → List AccessPin → Area → Bool
+has_pin_in objects access_pins area =
+    list_any (λ pin. is_pin_in objects pin area && meets area.span pin.span) access_pins
+
+-- the access object of this id holds a pin
+abbrev pub holds_pin : List AccessPin → FileNo → ObjId → Bool
+holds_pin access_pins file access =
+    list_any (λ pin. pin.file.0 == file.0 && pin.access.0 == access.0) access_pins
 
 -- some access pin covers the page, in some area over its memory object
 abbrev pub is_accessed : List Object → List Area → List AccessPin → ObjectPage → Bool

@@ -42,6 +42,8 @@ pub record View : Type 0 where
   pub frame_now : ObjectPage → Option FrameNo
   -- the frame at which a page of a memory object is pinned
   pub pinned_frame : ObjectPage → Option FrameNo
+  -- the access object of this id holds a pin
+  pub holds_pin : FileNo → ObjId → Bool
   -- how many pinned pages a user has
   pub held_by : UserNo → ℕ
   -- how many frames nobody reaches
@@ -64,6 +66,7 @@ view w =
       frame_at = frame.frame_at w.user_pages;
       frame_now = pin.frame_now w.memory w.user_pages;
       pinned_frame = pin.pinned_frame w.pins;
+      holds_pin = pin.holds_pin w.access_pins;
       held_by = pin.held_by (pin.pinned_frame w.pins) w.memory;
       free_count = frame.free_count w.settings.pool w.user_pages w.pins w.table_frames;
       has_table = places.has_table w.table_frames;

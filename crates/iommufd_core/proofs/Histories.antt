@@ -10,6 +10,7 @@ use Rattle.iofd_runs.proofs.KeepsRising.{ObjectsRise, keeps_rising, opening_rise
 use Rattle.iofd_runs.proofs.KeepsTabled.{HasTables, keeps_tables, opening_tables}
 use Rattle.iofd_runs.proofs.KeepsUsable.{UsableSound, keeps_usable, opening_usable, tabled_usable}
 use Rattle.iofd_runs.proofs.Runs.{run_keeps, run_keeps_at, run_keeps_tables}
+use Rattle.iofd_runs.proofs.NoPins.{HasNoPins, keeps_without, opening_without, tabled_without}
 use Rattle.iofd_runs.specs.Apart.{are_apart}
 use Rattle.iofd_runs.specs.Fits.{RowsFit}
 use Rattle.iofd_words.specs.Run.{IsRun, world_of}
@@ -62,4 +63,6 @@ module _ {A : Type 0} where
         usable = usable.areas;
         tabled =
             (run_keeps_tables HasTables keeps_tables 0 (opening settings) records run (opening_tables settings)).tables;
+        unaccessed = run_keeps HasNoPins tabled_without keeps_without 0 (opening settings) records run
+            (opening_without settings);
       }

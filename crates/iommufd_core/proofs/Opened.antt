@@ -73,10 +73,11 @@ pins_opened m objects = record {
   rows = sym (ap (λ (l : List MemoryEntry). entries.rows_of l) objects);
   areas = λ number. ap (λ (l : List MemoryEntry). areas_in (entries.object_at l number)) objects;
   tables = λ number. ap (λ (l : List MemoryEntry). pins_in (entries.object_at l number)) objects;
+  access = λ page. ap (λ (l : List MemoryEntry). entries.access_pins_on l page.memory page.index) objects;
   frames = λ page. sym (ap (λ (l : List MemoryEntry). entries.pinned_frame l page.memory page.index) objects);
   names = λ frame. sym (ap (λ (l : List MemoryEntry). ltb 0 (pins_on l frame)) objects);
   invariant = subst MemoryInvariant (sym objects) none;
 }
   where
     none : MemoryInvariant []
-    none = record { rising = refl; unpinned = refl; areas = refl }
+    none = record { rising = refl; unpinned = refl; counted = refl; areas = refl }

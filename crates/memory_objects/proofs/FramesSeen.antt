@@ -1,59 +1,21 @@
 -- At which frames pages are pinned, after a pin and after its end.
-use Rattle.std.proofs.Common.{◌≡◌, ℕ, zero, suc, ◌+◌, Bool, true, false, cond, eqb, ltb, leb, not, ◌&&◌, ◌||◌, Option}
+use Rattle.std.proofs.Common.{◌≡◌, ℕ, ◌+◌, Bool, true, false, cond, eqb, ltb, leb, not, ◌&&◌, ◌||◌, Option}
 use Rattle.std.proofs.Common.{Some, None, List, [], ◌∷◌, map, refl, sym, ap, ◌∙◌, subst, arith, ⊎_elim}
-use Rattle.std.specs.Prelude.{is_some}
-use Rattle.std.specs.List.{cons_option, filter_map, list_all, list_any, range_with_len, slice_get}
+use Rattle.std.specs.List.{list_any, slice_get}
 use Rattle.std.proofs.lemmas.Bool.{and_parts, cases_Bool, eqb-true}
 use Rattle.std.proofs.lemmas.Bool.Decides.{nat_tests}
-use Rattle.iofd_words.specs.Frames.{frame_at}
-use Rattle.iofd_words.specs.Pages.{page_of}
 use Rattle.iofd_words.specs.declared.numbers.FrameNo.{FrameNo}
-use Rattle.iofd_words.specs.declared.numbers.UserNo.{UserNo}
 use Rattle.iofd_words.specs.declared.rows.UserPage.{UserPage}
-use Rattle.iofd_words.specs.Checks.{has_pages}
-use Rattle.memory_objects.specs.Objects.{MemoryEntry, all_pass, all_pinned, all_unpinned, can_pin, frame_in}
+use Rattle.memory_objects.specs.Objects.{MemoryEntry, access_frame_in, all_pass, all_pinned, all_unpinned, can_pin}
+use Rattle.memory_objects.specs.Objects.{frame_in}
 use Rattle.memory_objects.specs.Objects.{frame_now_in, has_at_most, is_pinned_anew, is_unpinned, object_at, passes}
 use Rattle.memory_objects.specs.Objects.{pinned_frame, pinned_less, pinned_more, row_of, rows_of, times_of, with_pages}
-use Rattle.pinned_pages.specs.Pages.{ObjectPages, are_present, frame_of, frames_now, own_frames_now}
+use Rattle.pinned_pages.specs.Pages.{ObjectPages, access_frame, are_present, frame_now, frame_of, or_else}
+use Rattle.pinned_pages.specs.Pages.{own_frame_now, own_frames_now}
+use Rattle.pinned_pages.proofs.Runs.{mapped_at, or_none, or_same}
 use Rattle.memory_objects.proofs.OneObject.{times_more}
 use Rattle.memory_objects.proofs.PinOne.{found_number}
 use Rattle.memory_objects.proofs.Reserved.{found_mapped}
-
--- ---- the frames of pages that are all there
-
-frames_from : (h : ℕ → Option FrameNo) (from n i : ℕ) → list_all (λ k. is_some (h k)) (range_with_len from n) ≡ true
-    → slice_get (filter_map h (range_with_len from n)) i ≡ cond (ltb i n) (h (from + i)) None
-frames_from h from zero i all = let none : ltb i 0 ≡ false = grind (arith, nat_tests) in rw none refl
-frames_from h from (suc n) zero all =
-    let parts = and_parts (is_some (h from)) (list_all (λ k. is_some (h k)) (range_with_len (from + 1) n)) all in
-    let some : ltb 0 (suc n) ≡ true = grind (arith, nat_tests) in
-    let same : from + 0 ≡ from = omega arith in
-    rw (some, same) (first (h from) parts.0)
-  where
-    first : (o : Option FrameNo) → is_some o ≡ true
-        → slice_get (cons_option o (filter_map h (range_with_len (from + 1) n))) 0 ≡ o
-    first (Some f) is = refl
-    first None is = cc
-frames_from h from (suc n) (suc i) all =
-    let parts = and_parts (is_some (h from)) (list_all (λ k. is_some (h k)) (range_with_len (from + 1) n)) all in
-    let rest = frames_from h (from + 1) n i parts.1 in
-    let test : ltb (suc i) (suc n) ≡ ltb i n = grind (arith, nat_tests) in
-    let place : from + suc i ≡ from + 1 + i = omega arith in
-    rw (test, place) (later (h from) parts.0 ∙ rest)
-  where
-    later : (o : Option FrameNo) → is_some o ≡ true
-        → slice_get (cons_option o (filter_map h (range_with_len (from + 1) n))) (suc i) ≡ slice_get
-        (filter_map h (range_with_len (from + 1) n)) i
-    later (Some f) is = refl
-    later None is = cc
-
-pub frame_there : (rows : List UserPage) (user : UserNo) (page count i : ℕ)
-    → has_pages (frame_at rows) user page count ≡ true
-    → slice_get (frames_now rows user page count) i ≡ cond (ltb i count) (frame_at rows user (page + i)) None
-frame_there rows user page count i all =
-    let same : 0 + i ≡ i = omega arith in
-    frames_from (λ k. frame_at rows user (page + k)) 0 count i all
-    ∙ ap (λ k. cond (ltb i count) (frame_at rows user (page + k)) None) same
 
 -- ---- an object of a number after a change that keeps numbers
 
@@ -103,24 +65,33 @@ module _ (rows : List UserPage) (numbers : List ℕ) (objects : List MemoryEntry
   frames_of_one : (pages : ObjectPages) (k i : ℕ) (any : Bool) → any ≡ not (eqb k 0)
       → (any ≡ true → (not (eqb pages.table_pins 0) || are_present pages rows) ≡ true)
       → frame_of (pinned_more rows k pages) i ≡ cond (any && leb pages.table_pins 0)
-      (cond (ltb i pages.count) (frame_at rows pages.user (page_of pages.va + i)) None) (slice_get pages.frames i)
+      (or_else (access_frame pages i) (cond (ltb i pages.count) (frame_now pages rows i) None)) (frame_of pages i)
   frames_of_one pages k i any is ready =
       let test : leb pages.table_pins 0 ≡ eqb pages.table_pins 0 = grind (arith, nat_tests) in
       rw test (by_tests (eqb pages.table_pins 0) any (not (eqb k 0)) (sym is) (λ one two. there (ready two) one))
     where
       there : (not (eqb pages.table_pins 0) || are_present pages rows) ≡ true → eqb pages.table_pins 0 ≡ true
-          → slice_get (own_frames_now pages rows) i ≡ cond (ltb i pages.count)
-          (frame_at rows pages.user (page_of pages.va + i)) None
+          → or_else (access_frame pages i) (slice_get (own_frames_now pages rows) i)
+          ≡ or_else (access_frame pages i) (cond (ltb i pages.count) (frame_now pages rows i) None)
       there ready first =
           let present : are_present pages rows ≡ true = rw first at ready in
-          frame_there rows pages.user (page_of pages.va) pages.count i present
+          let same : 0 + i ≡ i = omega arith in
+          ap (or_else (access_frame pages i)) (mapped_at (own_frame_now pages rows) 0 pages.count i present
+          ∙ ap (λ k. cond (ltb i pages.count) (own_frame_now pages rows k) None) same)
+          ∙ by_index (ltb i pages.count) (access_frame pages i) (frame_now pages rows i)
+        where
+          by_index : (b : Bool) (f o : Option FrameNo)
+              → or_else f (cond b (or_else f o) None) ≡ or_else f (cond b o None)
+          by_index true f o = or_same f o
+          by_index false f o = refl
 
       by_tests : (first any some : Bool) → some ≡ any
-          → (first ≡ true → any ≡ true → slice_get (own_frames_now pages rows) i ≡ cond (ltb i pages.count)
-          (frame_at rows pages.user (page_of pages.va + i)) None)
-          → slice_get (cond (first && some) (own_frames_now pages rows) pages.frames) i ≡ cond (any && first)
-          (cond (ltb i pages.count) (frame_at rows pages.user (page_of pages.va + i)) None)
-          (slice_get pages.frames i)
+          → (first ≡ true → any ≡ true → or_else (access_frame pages i) (slice_get (own_frames_now pages rows) i)
+          ≡ or_else (access_frame pages i) (cond (ltb i pages.count) (frame_now pages rows i) None))
+          → or_else (access_frame pages i) (slice_get (cond (first && some) (own_frames_now pages rows) pages.frames) i)
+          ≡ cond (any && first)
+          (or_else (access_frame pages i) (cond (ltb i pages.count) (frame_now pages rows i) None))
+          (frame_of pages i)
       by_tests true true some same own = rw same (own refl refl)
       by_tests true false some same own = rw same refl
       by_tests false true some same own = refl
@@ -128,13 +99,14 @@ module _ (rows : List UserPage) (numbers : List ℕ) (objects : List MemoryEntry
 
   pub frames_pinned : all_pass (can_pin rows) objects numbers ≡ true → (n i : ℕ)
       → pinned_frame (all_pinned rows numbers objects) n i ≡ cond (is_pinned_anew objects numbers n)
-      (frame_now_in rows (object_at objects n) i) (pinned_frame objects n i)
+      (or_else (access_frame_in (object_at objects n) i) (frame_now_in rows (object_at objects n) i))
+      (pinned_frame objects n i)
   frames_pinned ready n i = by_object (object_at objects n) refl
     where
       by_object : (o : Option MemoryEntry) → object_at objects n ≡ o
           → frame_in (object_at (all_pinned rows numbers objects) n) i ≡ cond (list_any (λ m. eqb m n) numbers
-          && has_at_most 0 (object_at objects n)) (frame_now_in rows (object_at objects n) i) (frame_in
-          (object_at objects n) i)
+          && has_at_most 0 (object_at objects n)) (or_else (access_frame_in (object_at objects n) i)
+          (frame_now_in rows (object_at objects n) i)) (frame_in (object_at objects n) i)
       by_object None is =
           rw (is, not_found_mapped pin_each (λ x. refl) objects n is) (neither (list_any (λ m. eqb m n) numbers))
         where
@@ -165,23 +137,26 @@ module _ (numbers : List ℕ) (objects : List MemoryEntry) where
   unpin_each o = with_pages (pinned_less (times_of o.number numbers) o.pages.pages) o
 
   left_of_one : (pages : ObjectPages) (k i : ℕ) (any : Bool) → any ≡ not (eqb k 0)
-      → frame_of (pinned_less k pages) i ≡ cond (any && leb pages.table_pins k) None (slice_get pages.frames i)
+      → frame_of (pinned_less k pages) i ≡ cond (any && leb pages.table_pins k) (access_frame pages i)
+      (frame_of pages i)
   left_of_one pages k i any is = by_tests (leb pages.table_pins k) any (not (eqb k 0)) (sym is)
     where
       by_tests : (few any some : Bool) → some ≡ any
-          → slice_get (cond (few && some) [] pages.frames) i ≡ cond (any && few) None (slice_get pages.frames i)
-      by_tests true true some same = rw same refl
+          → or_else (access_frame pages i) (slice_get (cond (few && some) [] pages.frames) i) ≡ cond (any && few)
+          (access_frame pages i) (frame_of pages i)
+      by_tests true true some same = rw same (or_none (access_frame pages i))
       by_tests true false some same = rw same refl
       by_tests false true some same = refl
       by_tests false false some same = refl
 
   pub frames_left : (n i : ℕ) → pinned_frame (all_unpinned numbers objects) n i ≡ cond (is_unpinned objects numbers n)
-      None (pinned_frame objects n i)
+      (access_frame_in (object_at objects n) i) (pinned_frame objects n i)
   frames_left n i = by_object (object_at objects n) refl
     where
       by_object : (o : Option MemoryEntry) → object_at objects n ≡ o
           → frame_in (object_at (all_unpinned numbers objects) n) i ≡ cond (list_any (λ m. eqb m n) numbers
-          && has_at_most (times_of n numbers) (object_at objects n)) None (frame_in (object_at objects n) i)
+          && has_at_most (times_of n numbers) (object_at objects n)) (access_frame_in (object_at objects n) i)
+          (frame_in (object_at objects n) i)
       by_object None is =
           rw (is, not_found_mapped unpin_each (λ x. refl) objects n is) (neither (list_any (λ m. eqb m n) numbers))
         where
@@ -192,8 +167,8 @@ module _ (numbers : List ℕ) (objects : List MemoryEntry) where
           let number = found_number objects n x is in
           let told = any_times n numbers in
           let P : ℕ → Type 0 = λ m. frame_of (pinned_less (times_of m numbers) x.pages.pages) i ≡ cond
-          (list_any (λ k. eqb k n) numbers && leb x.pages.pages.table_pins (times_of n numbers)) None
-          (slice_get x.pages.pages.frames i) in
+          (list_any (λ k. eqb k n) numbers && leb x.pages.pages.table_pins (times_of n numbers))
+          (access_frame x.pages.pages i) (frame_of x.pages.pages i) in
           rw (found_mapped unpin_each (λ y. refl) objects n x is, is)
           (subst P (sym number) (left_of_one x.pages.pages (times_of n numbers) i
           (list_any (λ m. eqb m n) numbers) told))

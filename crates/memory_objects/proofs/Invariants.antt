@@ -1,22 +1,25 @@
 -- What holds of all memory objects, after each call.
 use Rattle.std.proofs.Common.{◌≡◌, ◌≢◌, ℕ, ◌+◌, ◌-◌, ◌<◌, ◌≤◌, Bool, true, false, cond, eqb, ltb, leb, not, ◌&&◌, ◌||◌}
-use Rattle.std.proofs.Common.{Option, Some, None, List, [], ◌∷◌, ◌++◌, map, refl, sym, ◌∙◌, subst, arith, ⊎_elim}
-use Rattle.std.specs.List.{filter, find, list_all, sum_by}
+use Rattle.std.proofs.Common.{Option, Some, None, List, [], ◌∷◌, ◌++◌, length, map, refl, sym, ap, ◌∙◌, subst, arith}
+use Rattle.std.proofs.Common.{⊎_elim}
+use Rattle.std.specs.List.{filter, find, list_all, slice_get, sum_by}
 use Rattle.std.proofs.lemmas.Bool.{and_parts, cases_Bool, cases_eq, eqb-true}
 use Rattle.std.proofs.lemmas.Bool.Decides.{nat_tests}
+use Rattle.std.proofs.lemmas.List.{nil_from_length}
 use Rattle.std.proofs.lemmas.List.Folds.{list_all-append}
 use Rattle.std.proofs.lemmas.List.Sums.{sum_by-cons}
 use Rattle.iofd_words.specs.declared.rows.MemoryObject.{MemoryObject}
 use Rattle.iofd_words.specs.declared.rows.UserPage.{UserPage}
+use Rattle.pinned_pages.specs.Access.{are_counted, frame_in, row_at}
 use Rattle.pinned_pages.specs.Holds.{times}
 use Rattle.memory_objects.specs.Invariant.{MemoryInvariant}
 use Rattle.memory_objects.specs.Objects.{MemoryEntry, MemoryGrows, all_less, all_pinned, all_unpinned, are_below}
-use Rattle.memory_objects.specs.Objects.{are_rising, have_areas, object_at, pinned_by, pinned_less, pinned_more}
+use Rattle.memory_objects.specs.Objects.{are_rising, have_areas, may_go, object_at, pinned_by, pinned_less, pinned_more}
 use Rattle.memory_objects.specs.Objects.{pins_on, row_of, rows_of, times_of, with_area, with_areas, with_capacity}
 use Rattle.memory_objects.specs.Objects.{with_pages, without_areas}
-use Rattle.pinned_pages.specs.Pages.{ObjectPages, held_frames, pinned_count}
+use Rattle.pinned_pages.specs.Pages.{ObjectPages, frame_of, held_frames, or_else, pinned_count}
+use Rattle.pinned_pages.proofs.Runs.{none_mapped, same_mapped}
 use Rattle.memory_objects.proofs.AreaCounts.{rising_without}
-use Rattle.pinned_pages.proofs.HoldsMove.{times_few}
 use Rattle.memory_objects.proofs.Numbered.{rising_parts}
 use Rattle.memory_objects.proofs.OneObject.{rising_changed}
 use Rattle.memory_objects.proofs.PinOne.{no_more}
@@ -28,9 +31,12 @@ row_found (Some object) = Some (row_of object)
 
 -- the two tests of each object
 abbrev pub no_pages_left : MemoryEntry → Bool
-no_pages_left o = not (eqb o.pages.pages.table_pins 0) || eqb (pinned_count o.pages.pages) 0
+no_pages_left o = not (eqb o.pages.pages.table_pins 0) || eqb (length o.pages.pages.frames) 0
 
-abbrev has_areas : MemoryEntry → Bool
+abbrev pub rows_counted : MemoryEntry → Bool
+rows_counted o = are_counted o.pages.pages.count o.pages.pages.access
+
+abbrev pub has_areas : MemoryEntry → Bool
 has_areas o = leb 1 o.areas && leb o.pages.pages.table_pins o.areas
 
 all_mapped : (p q r : MemoryEntry → Bool) (G : MemoryEntry → MemoryEntry)
@@ -44,20 +50,20 @@ all_mapped p q r G each (o ∷ objects) one two =
     rw here (all_mapped p q r G each objects a.1 b.1)
 
 more_still : (rows : List UserPage) (more : ℕ) (pages : ObjectPages)
-    → (not (eqb pages.table_pins 0) || eqb (pinned_count pages) 0) ≡ true
+    → (not (eqb pages.table_pins 0) || eqb (length pages.frames) 0) ≡ true
     → (not (eqb (pinned_more rows more pages).table_pins 0)
-    || eqb (pinned_count (pinned_more rows more pages)) 0) ≡ true
+    || eqb (length (pinned_more rows more pages).frames) 0) ≡ true
 more_still rows more pages held =
-    let P : ObjectPages → Type 0 = λ p. (not (eqb p.table_pins 0) || eqb (pinned_count p) 0) ≡ true in
+    let P : ObjectPages → Type 0 = λ p. (not (eqb p.table_pins 0) || eqb (length p.frames) 0) ≡ true in
     ⊎_elim
     (λ (none : more ≡ 0). rw none (subst P (sym (no_more rows pages)) held))
     (λ (some : more ≢ 0). let pins : eqb (pages.table_pins + more) 0 ≡ false = grind (arith, nat_tests) in rw pins refl)
     (cases_eq more 0)
 
-less_still : (less : ℕ) (pages : ObjectPages) → (not (eqb pages.table_pins 0) || eqb (pinned_count pages) 0) ≡ true
-    → (not (eqb (pinned_less less pages).table_pins 0) || eqb (pinned_count (pinned_less less pages)) 0) ≡ true
+less_still : (less : ℕ) (pages : ObjectPages) → (not (eqb pages.table_pins 0) || eqb (length pages.frames) 0) ≡ true
+    → (not (eqb (pinned_less less pages).table_pins 0) || eqb (length (pinned_less less pages).frames) 0) ≡ true
 less_still less pages held =
-    let P : ObjectPages → Type 0 = λ p. (not (eqb p.table_pins 0) || eqb (pinned_count p) 0) ≡ true in
+    let P : ObjectPages → Type 0 = λ p. (not (eqb p.table_pins 0) || eqb (length p.frames) 0) ≡ true in
     ⊎_elim
     (λ (none : less ≡ 0). rw none (subst P (sym (no_less pages)) held))
     (λ (some : less ≢ 0).
@@ -79,6 +85,7 @@ kept_pinned rows numbers objects kept areas =
       rising = rising_changed G (λ o. refl) objects kept.rising;
       unpinned = all_mapped no_pages_left no_pages_left room G
           (λ o held fits. more_still rows (times_of o.number numbers) o.pages.pages held) objects kept.unpinned areas;
+      counted = all_mapped rows_counted rows_counted rows_counted G (λ o is same. is) objects kept.counted kept.counted;
       areas = all_mapped has_areas has_areas room G
           (λ o has fits. let one = and_parts (leb 1 o.areas) (leb o.pages.pages.table_pins o.areas) has in rw (
             one.0,
@@ -95,6 +102,7 @@ kept_unpinned numbers objects kept =
       unpinned = all_mapped no_pages_left no_pages_left no_pages_left G
           (λ o held same. less_still (times_of o.number numbers) o.pages.pages held) objects
           kept.unpinned kept.unpinned;
+      counted = all_mapped rows_counted rows_counted rows_counted G (λ o is same. is) objects kept.counted kept.counted;
       areas = all_mapped has_areas has_areas has_areas G
           (λ o has same. fewer (leb 1 o.areas) o.pages.pages.table_pins (times_of o.number numbers) o.areas has)
           objects kept.areas kept.areas;
@@ -112,6 +120,7 @@ kept_with_area number objects kept =
       rising = rising_changed G (λ o. refl) objects kept.rising;
       unpinned = all_mapped no_pages_left no_pages_left no_pages_left G (λ o held same. held) objects
           kept.unpinned kept.unpinned;
+      counted = all_mapped rows_counted rows_counted rows_counted G (λ o is same. is) objects kept.counted kept.counted;
       areas = all_mapped has_areas has_areas has_areas G
           (λ o has same. more o.pages.pages.table_pins o.areas (cond (eqb o.number number) 1 0) has)
           objects kept.areas kept.areas;
@@ -132,6 +141,7 @@ kept_grown old new grows kept =
       rising = rising_changed G (λ o. refl) old kept.rising;
       unpinned =
           all_mapped no_pages_left no_pages_left no_pages_left G (λ o held same. held) old kept.unpinned kept.unpinned;
+      counted = all_mapped rows_counted rows_counted rows_counted G (λ o is same. is) old kept.counted kept.counted;
       areas = all_mapped has_areas has_areas has_areas G (λ o has same. has) old kept.areas kept.areas;
     })
 
@@ -156,10 +166,12 @@ rising_appended (o ∷ objects) x rising below =
 
 pub kept_appended : (objects : List MemoryEntry) (x : MemoryEntry) → MemoryInvariant objects
     → are_below objects x.number ≡ true → x.areas ≡ 1 → x.pages.pages.table_pins ≤ 1
-    → (x.pages.pages.table_pins ≡ 0 → pinned_count x.pages.pages ≡ 0) → MemoryInvariant (objects ++ x ∷ [])
-kept_appended objects x kept below one pins none = record {
+    → (x.pages.pages.table_pins ≡ 0 → x.pages.pages.frames ≡ [])
+    → are_counted x.pages.pages.count x.pages.pages.access ≡ true → MemoryInvariant (objects ++ x ∷ [])
+kept_appended objects x kept below one pins none counted = record {
   rising = rising_appended objects x kept.rising below;
   unpinned = list_all-append no_pages_left objects (x ∷ []) ∙ rw (kept.unpinned, last_left) refl;
+  counted = list_all-append rows_counted objects (x ∷ []) ∙ rw (kept.counted, counted) refl;
   areas = list_all-append has_areas objects (x ∷ []) ∙ rw (kept.areas, last_areas) refl;
 }
   where
@@ -202,10 +214,14 @@ kept_without numbers objects kept areas =
     let unpinned : list_all no_pages_left (all_less numbers objects) ≡ true =
     all_mapped no_pages_left no_pages_left no_pages_left G (λ o held same. held) objects
     kept.unpinned kept.unpinned in
+    let counted : list_all rows_counted (all_less numbers objects) ≡ true =
+    all_mapped rows_counted rows_counted rows_counted G (λ o is same. is) objects kept.counted kept.counted in
     record {
       rising = rising_without numbers objects kept.rising;
       unpinned = all_but_gone no_pages_left no_pages_left left no_pages_left (λ o one two three. one)
           (all_less numbers objects) unpinned unpinned;
+      counted = all_but_gone rows_counted rows_counted left rows_counted (λ o one two three. one)
+          (all_less numbers objects) counted counted;
       areas = all_but_gone pins_fit pins_fit left has_areas
           (λ o one two three. some o.pages.pages.table_pins o.areas one three) (all_less numbers objects) fits fits;
     }
@@ -217,29 +233,46 @@ kept_without numbers objects kept areas =
     some pins areas fits there = let one : leb 1 areas ≡ true = grind (arith, nat_tests) in rw (one, fits) refl
 
 -- an object over which no area is left has no pinned page
+pub no_frames : (o : MemoryEntry) (numbers : List ℕ) → no_pages_left o ≡ true
+    → leb (o.pages.pages.table_pins + times_of o.number numbers) o.areas ≡ true
+    → (ltb (times_of o.number numbers) o.areas || eqb (length o.pages.pages.access) 0) ≡ true
+    → eqb (o.areas - times_of o.number numbers) 0 ≡ true → (i : ℕ) → frame_of o.pages.pages i ≡ None
+no_frames o numbers held room go gone i =
+    let pins : eqb o.pages.pages.table_pins 0 ≡ true = grind (arith, nat_tests) in
+    let none : eqb (length o.pages.pages.frames) 0 ≡ true = rw pins at held in
+    let all : ltb (times_of o.number numbers) o.areas ≡ false = grind (arith, nat_tests) in
+    let no_rows : eqb (length o.pages.pages.access) 0 ≡ true = rw all at go in
+    let frames = nil_from_length o.pages.pages.frames (eqb-true (length o.pages.pages.frames) 0 none) in
+    let access = nil_from_length o.pages.pages.access (eqb-true (length o.pages.pages.access) 0 no_rows) in
+    ap (λ rows. or_else (frame_in (row_at rows i)) (slice_get o.pages.pages.frames i)) access
+    ∙ ap (λ fs. slice_get fs i) frames
+
 pub none_held : (o : MemoryEntry) (numbers : List ℕ) → no_pages_left o ≡ true
     → leb (o.pages.pages.table_pins + times_of o.number numbers) o.areas ≡ true
-    → eqb (o.areas - times_of o.number numbers) 0 ≡ true → pinned_count o.pages.pages ≡ 0
-none_held o numbers held room gone =
-    let pins : eqb o.pages.pages.table_pins 0 ≡ true = grind (arith, nat_tests) in
-    let none : eqb (pinned_count o.pages.pages) 0 ≡ true = rw pins at held in
-    eqb-true (pinned_count o.pages.pages) 0 none
+    → (ltb (times_of o.number numbers) o.areas || eqb (length o.pages.pages.access) 0) ≡ true
+    → eqb (o.areas - times_of o.number numbers) 0 ≡ true → held_frames o.pages.pages ≡ []
+none_held o numbers held room go gone =
+    same_mapped (frame_of o.pages.pages) (λ i. None) 0 o.pages.pages.count
+    (λ i low high. no_frames o numbers held room go gone i)
+    ∙ none_mapped (λ i. None) 0 o.pages.pages.count (λ i low high. refl)
 
 pub sums_stay : (f : MemoryEntry → ℕ) → ((o : MemoryEntry) (areas : ℕ) → f (with_areas areas o) ≡ f o)
-    → ((o : MemoryEntry) → pinned_count o.pages.pages ≡ 0 → f o ≡ 0) → (numbers : List ℕ) (objects : List MemoryEntry)
-    → list_all no_pages_left objects ≡ true → have_areas numbers objects ≡ true
+    → ((o : MemoryEntry) → held_frames o.pages.pages ≡ [] → f o ≡ 0) → (numbers : List ℕ) (objects : List MemoryEntry)
+    → list_all no_pages_left objects ≡ true → have_areas numbers objects ≡ true → may_go numbers objects ≡ true
     → sum_by f (without_areas numbers objects) ≡ sum_by f objects
-sums_stay f same nothing numbers [] held room = refl
-sums_stay f same nothing numbers (o ∷ objects) held room =
+sums_stay f same nothing numbers [] held room go = refl
+sums_stay f same nothing numbers (o ∷ objects) held room go =
     let a = and_parts (no_pages_left o) (list_all no_pages_left objects) held in
     let b = and_parts (leb (o.pages.pages.table_pins + times_of o.number numbers) o.areas)
     (have_areas numbers objects) room in
-    let rest = sums_stay f same nothing numbers objects a.1 b.1 in
+    let c = and_parts (ltb (times_of o.number numbers) o.areas || eqb (length o.pages.pages.access) 0)
+    (may_go numbers objects) go in
+    let rest = sums_stay f same nothing numbers objects a.1 b.1 c.1 in
     let old = sum_by-cons f o objects in
     let left = with_areas (o.areas - times_of o.number numbers) o in
     ⊎_elim
     (λ (gone : eqb (o.areas - times_of o.number numbers) 0 ≡ true).
-    let none = nothing o (none_held o numbers a.0 b.0 gone) in
+    let none = nothing o (none_held o numbers a.0 b.0 c.0 gone) in
     rw gone (omega (arith, rest, old, none)))
     (λ (kept : eqb (o.areas - times_of o.number numbers) 0 ≡ false).
     let new = sum_by-cons f left (without_areas numbers objects) in
@@ -248,20 +281,19 @@ sums_stay f same nothing numbers (o ∷ objects) held room =
     (cases_Bool (eqb (o.areas - times_of o.number numbers) 0))
 
 pub pins_stay : (numbers : List ℕ) (objects : List MemoryEntry) → MemoryInvariant objects
-    → have_areas numbers objects ≡ true → (frame : ℕ)
+    → have_areas numbers objects ≡ true → may_go numbers objects ≡ true → (frame : ℕ)
     → pins_on (without_areas numbers objects) frame ≡ pins_on objects frame
-pins_stay numbers objects kept room frame =
+pins_stay numbers objects kept room go frame =
     sums_stay (λ o. times frame (held_frames o.pages.pages)) (λ o areas. refl)
-    (λ o none. let few = times_few frame (held_frames o.pages.pages) in omega (arith, few, none)) numbers
-    objects kept.unpinned room
+    (λ o none. ap (times frame) none) numbers objects kept.unpinned room go
 
 pub pinned_stay : (numbers : List ℕ) (objects : List MemoryEntry) → MemoryInvariant objects
-    → have_areas numbers objects ≡ true → (user : ℕ)
+    → have_areas numbers objects ≡ true → may_go numbers objects ≡ true → (user : ℕ)
     → pinned_by (without_areas numbers objects) user ≡ pinned_by objects user
-pinned_stay numbers objects kept room user =
+pinned_stay numbers objects kept room go user =
     sums_stay (λ o. cond (eqb o.pages.pages.user.0 user) (pinned_count o.pages.pages) 0) (λ o areas. refl)
-    (λ o none. by_test (eqb o.pages.pages.user.0 user) (pinned_count o.pages.pages) none) numbers
-    objects kept.unpinned room
+    (λ o none. by_test (eqb o.pages.pages.user.0 user) (pinned_count o.pages.pages) (ap length none)) numbers
+    objects kept.unpinned room go
   where
     by_test : (b : Bool) (k : ℕ) → k ≡ 0 → cond b k 0 ≡ 0
     by_test true k none = none

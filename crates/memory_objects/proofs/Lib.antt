@@ -11,5 +11,6 @@ pub mod PinAll
 pub mod PinOne
 pub mod PinsStay
 pub mod Reserved
+pub mod RunOne
 pub mod Standing
 pub mod Unpinned

@@ -11,7 +11,8 @@ use Rattle.mem_account.specs.declared.Account.{Account}
 use Rattle.memory_objects.specs.Backed.{AccountsMove, HoldsMove}
 use Rattle.pinned_pages.specs.Holds.{HasMoreHolds, times}
 use Rattle.memory_objects.specs.Objects.{MemoryEntry, pinned_by, pins_on}
-use Rattle.pinned_pages.specs.Pages.{charged_first, held_frames, last_count, new_count, pinned_count, refunded_last}
+use Rattle.pinned_pages.specs.Pages.{charged_first, count_of_others, held_frames, last_count, new_count, pinned_count}
+use Rattle.pinned_pages.specs.Pages.{refunded_last}
 use Rattle.memory_objects.proofs.Ledger.{charged_held, length-held, refunded_held, same_limits}
 use Rattle.memory_objects.proofs.OneObject.{at_place}
 
@@ -110,27 +111,47 @@ module _ (objects : List MemoryEntry) (p : ℕ) (x y : MemoryEntry) (there : sli
 
   module _ (before after : List Account) (same : y.pages.pages.user.0 ≡ x.pages.pages.user.0)
       (known : is_user before x.pages.pages.user.0 ≡ true) where
+    -- so many pages more are charged, or given back
+    pub accounts_more : (m : ℕ) → after ≡ charged before x.pages.pages.user.0 m
+        → pinned_count y.pages.pages ≡ pinned_count x.pages.pages + m
+        → AccountsMove objects (set objects p y) before after
+    accounts_more m is more = record {
+      count = rw is (length-held before x.pages.pages.user.0 (held_by before x.pages.pages.user.0 + m) known);
+      limits = λ user. rw is (same_limits before x.pages.pages.user.0 (held_by before x.pages.pages.user.0 + m) known
+          user);
+      held = λ user one.
+          let sums = pinned_set user same in
+          let now = charged_held before x.pages.pages.user.0 m user known one in
+          rw is (charged_sum (eqb x.pages.pages.user.0 user) (held_by (charged before x.pages.pages.user.0 m) user)
+          (held_by before user) (pinned_by objects user) (pinned_by (set objects p y) user)
+          (pinned_count x.pages.pages) (pinned_count y.pages.pages) m now sums more);
+    }
+
+    pub accounts_less : (m : ℕ) → after ≡ refunded before x.pages.pages.user.0 m
+        → pinned_count x.pages.pages ≡ pinned_count y.pages.pages + m → m ≤ held_by before x.pages.pages.user.0
+        → AccountsMove objects (set objects p y) before after
+    accounts_less m is less enough = record {
+      count = rw is (length-held before x.pages.pages.user.0 (held_by before x.pages.pages.user.0 - m) known);
+      limits = λ user. rw is (same_limits before x.pages.pages.user.0 (held_by before x.pages.pages.user.0 - m) known
+          user);
+      held = λ user one.
+          let sums = pinned_set user same in
+          let now = refunded_held before x.pages.pages.user.0 m user known one enough in
+          rw is (refunded_sum (eqb x.pages.pages.user.0 user) (held_by (refunded before x.pages.pages.user.0 m) user)
+          (held_by before user) (pinned_by objects user) (pinned_by (set objects p y) user)
+          (pinned_count x.pages.pages) (pinned_count y.pages.pages) m now sums less);
+    }
+
     pub accounts_charged : after ≡ charged_first x.pages.pages before
         → pinned_count y.pages.pages ≡ pinned_count x.pages.pages + new_count x.pages.pages
         → AccountsMove objects (set objects p y) before after
     accounts_charged is more = by_test (eqb x.pages.pages.table_pins 0) is more
       where
-        by_test : (b : Bool) → after ≡ cond b (charged before x.pages.pages.user.0 x.pages.pages.count) before
-            → pinned_count y.pages.pages ≡ pinned_count x.pages.pages + cond b x.pages.pages.count 0
+        by_test : (b : Bool) → after ≡ cond b (charged before x.pages.pages.user.0 (count_of_others x.pages.pages))
+            before
+            → pinned_count y.pages.pages ≡ pinned_count x.pages.pages + cond b (count_of_others x.pages.pages) 0
             → AccountsMove objects (set objects p y) before after
-        by_test true is more = record {
-          count = rw is (length-held before x.pages.pages.user.0 (held_by before x.pages.pages.user.0
-              + x.pages.pages.count) known);
-          limits = λ user. rw is (same_limits before x.pages.pages.user.0 (held_by before x.pages.pages.user.0
-              + x.pages.pages.count) known user);
-          held = λ user one.
-              let sums = pinned_set user same in
-              let now = charged_held before x.pages.pages.user.0 x.pages.pages.count user known one in
-              rw is (charged_sum (eqb x.pages.pages.user.0 user)
-              (held_by (charged before x.pages.pages.user.0 x.pages.pages.count) user) (held_by before user)
-              (pinned_by objects user) (pinned_by (set objects p y) user) (pinned_count x.pages.pages)
-              (pinned_count y.pages.pages) x.pages.pages.count now sums more);
-        }
+        by_test true is more = accounts_more (count_of_others x.pages.pages) is more
         by_test false is more = record {
           count = rw is refl;
           limits = λ user. rw is refl;
@@ -143,28 +164,17 @@ module _ (objects : List MemoryEntry) (p : ℕ) (x y : MemoryEntry) (there : sli
 
     pub accounts_refunded : after ≡ refunded_last x.pages.pages before
         → pinned_count x.pages.pages ≡ pinned_count y.pages.pages + last_count x.pages.pages
-        → (x.pages.pages.table_pins ≡ 1 → x.pages.pages.count ≤ held_by before x.pages.pages.user.0)
+        → (x.pages.pages.table_pins ≡ 1 → (count_of_others x.pages.pages) ≤ held_by before x.pages.pages.user.0)
         → AccountsMove objects (set objects p y) before after
     accounts_refunded is less enough =
         by_test (eqb x.pages.pages.table_pins 1) is less (λ last. enough (eqb-true x.pages.pages.table_pins 1 last))
       where
-        by_test : (b : Bool) → after ≡ cond b (refunded before x.pages.pages.user.0 x.pages.pages.count) before
-            → pinned_count x.pages.pages ≡ pinned_count y.pages.pages + cond b x.pages.pages.count 0
-            → (b ≡ true → x.pages.pages.count ≤ held_by before x.pages.pages.user.0)
+        by_test : (b : Bool) → after ≡ cond b (refunded before x.pages.pages.user.0 (count_of_others x.pages.pages))
+            before
+            → pinned_count x.pages.pages ≡ pinned_count y.pages.pages + cond b (count_of_others x.pages.pages) 0
+            → (b ≡ true → (count_of_others x.pages.pages) ≤ held_by before x.pages.pages.user.0)
             → AccountsMove objects (set objects p y) before after
-        by_test true is less enough = record {
-          count = rw is (length-held before x.pages.pages.user.0 (held_by before x.pages.pages.user.0
-              - x.pages.pages.count) known);
-          limits = λ user. rw is (same_limits before x.pages.pages.user.0 (held_by before x.pages.pages.user.0
-              - x.pages.pages.count) known user);
-          held = λ user one.
-              let sums = pinned_set user same in
-              let now = refunded_held before x.pages.pages.user.0 x.pages.pages.count user known one (enough refl) in
-              rw is (refunded_sum (eqb x.pages.pages.user.0 user)
-              (held_by (refunded before x.pages.pages.user.0 x.pages.pages.count) user) (held_by before user)
-              (pinned_by objects user) (pinned_by (set objects p y) user) (pinned_count x.pages.pages)
-              (pinned_count y.pages.pages) x.pages.pages.count now sums less);
-        }
+        by_test true is less enough = accounts_less (count_of_others x.pages.pages) is less (enough refl)
         by_test false is less enough = record {
           count = rw is refl;
           limits = λ user. rw is refl;

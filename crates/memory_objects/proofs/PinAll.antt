@@ -1,12 +1,11 @@
 -- Memory objects pinned one after another.
 use Rattle.std.proofs.Common.{◌≡◌, ◌≢◌, ℕ, ◌+◌, ◌^◌, ◌≤◌, Bool, true, false, cond, eqb, ltb, leb, not, ◌&&◌, ◌||◌, List}
 use Rattle.std.proofs.Common.{[], ◌∷◌, ◌++◌, length, get_or, map, refl, sym, ap, ◌∙◌, subst, arith, ⊎_elim}
-use Rattle.std.specs.List.{list_any, sum_by}
+use Rattle.std.specs.List.{filter_map, list_any, range_with_len, slice_get, sum_by}
 use Rattle.std.proofs.lemmas.Bool.{and_parts, cases_eq}
 use Rattle.std.proofs.lemmas.Bool.Decides.{nat_tests}
 use Rattle.std.proofs.lemmas.List.{get_or_default}
 use Rattle.std.proofs.lemmas.List.Sums.{AllPass-from_list_all, list_all-from_AllPass, sum_by-append, sum_by-cons}
-use Rattle.iofd_words.specs.Pages.{page_of}
 use Rattle.iofd_words.specs.declared.numbers.FrameNo.{FrameNo}
 use Rattle.iofd_words.specs.declared.rows.UserPage.{UserPage}
 use Rattle.frame_memory.specs.Pool.{FramePool, may_hold}
@@ -16,12 +15,13 @@ use Rattle.memory_objects.specs.Backed.{AccountsMove, CanPin, HoldsMove}
 use Rattle.pinned_pages.specs.Holds.{times}
 use Rattle.memory_objects.specs.Objects.{MemoryEntry, all_pinned, can_pin, has_memory, have_areas, is_of, new_pages}
 use Rattle.memory_objects.specs.Objects.{pinned_by, pinned_more, pins_on, times_of, with_pages}
-use Rattle.pinned_pages.specs.Pages.{ObjectPages, held_frames, new_count, own_frames_now, pinned_count}
+use Rattle.pinned_pages.specs.Pages.{ObjectPages, access_frame, count_of_others, held_frames, new_count, own_frames_now}
+use Rattle.pinned_pages.specs.Pages.{pinned_count, unless}
 use Rattle.pinned_pages.proofs.HoldsMove.{times_few}
 use Rattle.memory_objects.proofs.Moved.{same_users}
 use Rattle.memory_objects.proofs.OneObject.{all_changed, pass_parts, sum_by-map, sum_le, sum_pair, times_more}
 use Rattle.memory_objects.proofs.PinOne.{has_room_fewer, may_hold_fewer, no_more, pin_at}
-use Rattle.pinned_pages.proofs.UsersPages.{few_frames}
+use Rattle.pinned_pages.proofs.Runs.{few_others, split_length, split_times}
 
 -- ---- lists of numbers
 
@@ -166,12 +166,19 @@ module _ (rows : List UserPage) (n : ℕ) where
       (let P : ObjectPages → Type 0 = λ p. times frame (held_frames p) ≤ times frame (held_frames o.pages.pages)
       + 0 in subst P (sym (no_more rows o.pages.pages)) (omega arith))
     where
-      by_test : (b : Bool) → times frame (cond (b && true) (own_frames_now o.pages.pages rows) o.pages.pages.frames)
-          ≤ times frame o.pages.pages.frames + cond b o.pages.pages.count 0
+      by_test : (b : Bool) → times frame (held_frames (record o.pages.pages {
+        table_pins = o.pages.pages.table_pins + 1;
+        frames = cond (b && true) (own_frames_now o.pages.pages rows) o.pages.pages.frames;
+      })) ≤ times frame (held_frames o.pages.pages) + cond b (count_of_others o.pages.pages) 0
       by_test true =
-          let few = few_frames rows o.pages.pages.user (page_of o.pages.pages.va) o.pages.pages.count in
-          let times = times_few frame (own_frames_now o.pages.pages rows) in
-          omega (arith, few, times)
+          let acc = access_frame o.pages.pages in
+          let all = range_with_len 0 o.pages.pages.count in
+          let own = slice_get (own_frames_now o.pages.pages rows) in
+          let new = split_times frame acc own all in
+          let old = split_times frame acc (slice_get o.pages.pages.frames) all in
+          let few = few_others acc own all in
+          let times = times_few frame (filter_map (λ i. unless (acc i) (own i)) all) in
+          omega (arith, new, old, few, times)
       by_test false = omega arith
 
   pub pins_grow : (objects : List MemoryEntry) (frame : ℕ)
@@ -194,9 +201,18 @@ module _ (rows : List UserPage) (n : ℕ) where
       (let P : ObjectPages → Type 0 = λ p. pinned_count p ≤ pinned_count o.pages.pages
       + 0 in subst P (sym (no_more rows o.pages.pages)) (omega arith))
     where
-      by_test : (b : Bool) → length (cond (b && true) (own_frames_now o.pages.pages rows) o.pages.pages.frames) ≤ length
-          o.pages.pages.frames + cond b o.pages.pages.count 0
-      by_test true = omega (arith, few_frames rows o.pages.pages.user (page_of o.pages.pages.va) o.pages.pages.count)
+      by_test : (b : Bool) → pinned_count (record o.pages.pages {
+        table_pins = o.pages.pages.table_pins + 1;
+        frames = cond (b && true) (own_frames_now o.pages.pages rows) o.pages.pages.frames;
+      }) ≤ pinned_count o.pages.pages + cond b (count_of_others o.pages.pages) 0
+      by_test true =
+          let acc = access_frame o.pages.pages in
+          let all = range_with_len 0 o.pages.pages.count in
+          let own = slice_get (own_frames_now o.pages.pages rows) in
+          let new = split_length acc own all in
+          let old = split_length acc (slice_get o.pages.pages.frames) all in
+          let few = few_others acc own all in
+          omega (arith, new, old, few)
       by_test false = omega arith
 
   pub pinned_grow : (objects : List MemoryEntry) (user : ℕ)

@@ -12,7 +12,8 @@ use Rattle.mem_account.specs.declared.Account.{Account}
 use Rattle.memory_objects.specs.Backed.{CanPin}
 use Rattle.memory_objects.specs.Objects.{MemoryEntry, all_pinned, are_rising, can_pin, has_memory, is_of, new_pages}
 use Rattle.memory_objects.specs.Objects.{object_at, pinned_more, times_of, with_pages}
-use Rattle.pinned_pages.specs.Pages.{MemoryPages, ObjectPages, needed, new_count, own_frames_now, pin_refusal, pinned}
+use Rattle.pinned_pages.specs.Pages.{MemoryPages, ObjectPages, count_of_others, needed, new_count, own_frames_now}
+use Rattle.pinned_pages.specs.Pages.{pin_refusal, pinned}
 use Rattle.pinned_pages.proofs.FirstPin.{none_refuses}
 use Rattle.memory_objects.proofs.OneObject.{at_place, map_none, passes_at, set_by_number, times_one}
 
@@ -89,12 +90,21 @@ module _ (rows : List UserPage) where
 
   pub set_pinned : (objects : List MemoryEntry) (n p : ℕ) (x : MemoryEntry) (new : MemoryPages)
       → are_rising objects ≡ true → slice_get objects p ≡ Some x → object_at objects n ≡ Some x
-      → new.pages ≡ pinned x.pages.pages rows → new.capacity ≡ x.pages.capacity
+      → new.pages ≡ pinned x.pages.pages rows → new.capacity ≡ x.pages.capacity → new.room ≡ x.pages.room
       → set objects p (record { number = x.number; areas = x.areas; pages = new }) ≡ all_pinned rows (n ∷ []) objects
-  set_pinned objects n p x new rising there found is same =
+  set_pinned objects n p x new rising there found is same room =
       let number = found_number objects n x found in
       let entry : record { number = x.number; areas = x.areas; pages = new } ≡ pin_at n x =
-      (λ i. record { number = x.number; areas = x.areas; pages = record { pages = is i; capacity = same i } })
+      (λ i. record {
+        number = x.number;
+        areas = x.areas;
+        pages = record {
+          pages = is i;
+          capacity = same i;
+          room = room
+              i;
+        };
+      })
       ∙ sym (pin_here n x number) in
       ap (set objects p) entry ∙ set_by_number n (pin_at n) (pin_other n) objects p x rising there number
 
@@ -133,11 +143,8 @@ module _ (objects : List MemoryEntry) (n p : ℕ) (x : MemoryEntry) (rows : List
       (new_count o.pages.pages) 0) objects p x place.0 in
       rw (place.1, flipped) at le
 
-  pub its_holds : x.pages.pages.table_pins ≡ 0 → may_hold pool_holds x.pages.pages.count ≡ true
-  its_holds none =
-      let first : eqb x.pages.pages.table_pins 0 ≡ true = rw none refl in
-      let few : x.pages.pages.count ≤ new_pages objects (n ∷ []) = rw first at its_pages in
-      may_hold_fewer pool_holds x.pages.pages.count (new_pages objects (n ∷ [])) few can.holds
+  pub its_holds : may_hold pool_holds (new_count x.pages.pages) ≡ true
+  its_holds = may_hold_fewer pool_holds (new_count x.pages.pages) (new_pages objects (n ∷ [])) its_pages can.holds
 
   pub its_memory : needed x.pages.pages ≤ x.pages.capacity
   its_memory = let enough = passes_at has_memory objects n x can.memory found in search (enough, arith, nat_tests)
@@ -147,6 +154,7 @@ module _ (objects : List MemoryEntry) (n p : ℕ) (x : MemoryEntry) (rows : List
       none_refuses x.pages.pages rows accounts (passes_at (can_pin rows) objects n x can.present found)
       (λ none.
       let first : eqb x.pages.pages.table_pins 0 ≡ true = rw none refl in
-      let few : x.pages.pages.count ≤ new_pages objects (n ∷ []) = rw first at its_pages in
+      let few : count_of_others x.pages.pages ≤ new_pages objects (n ∷ []) = rw first at its_pages in
       let room = can.fits.room in
-      rw of_user (has_room_fewer accounts can.fits.user x.pages.pages.count (new_pages objects (n ∷ [])) few room))
+      rw of_user (has_room_fewer accounts can.fits.user (count_of_others x.pages.pages) (new_pages objects (n ∷ []))
+      few room))

@@ -85,12 +85,20 @@ found_mapped G numbers (o ∷ objects) n x found =
 
 module _ (objects : List MemoryEntry) (n p : ℕ) (x : MemoryEntry) (new : MemoryPages)
     (rising : are_rising objects ≡ true) (there : slice_get objects p ≡ Some x) (found : object_at objects n ≡ Some x)
-    (same : new.pages ≡ x.pages.pages) (more : x.pages.capacity ≤ new.capacity) where
+    (same : new.pages ≡ x.pages.pages) (more : x.pages.capacity ≤ new.capacity) (room : new.room ≡ x.pages.room) where
   is_grown : record { number = x.number; areas = x.areas; pages = new } ≡ with_capacity (grown n new.capacity x) x
   is_grown =
       let number = found_number objects n x found in
       let capacity = grown_here n new.capacity x number more in
-      λ i. record { number = x.number; areas = x.areas; pages = record { pages = same i; capacity = sym capacity i } }
+      λ i. record {
+        number = x.number;
+        areas = x.areas;
+        pages = record {
+          pages = same i;
+          capacity = sym capacity i;
+          room = room i;
+        };
+      }
 
   pub set_grown : set objects p (record { number = x.number; areas = x.areas; pages = new }) ≡ map
       (λ o. with_capacity (grown n new.capacity o) o) objects

@@ -1,6 +1,6 @@
 -- Memory objects unpinned, one after another.
-use Rattle.std.proofs.Common.{◌≡◌, ◌≢◌, ℕ, ◌+◌, ◌-◌, ◌<◌, ◌≤◌, Bool, true, false, cond, eqb, ltb, leb, not, ◌&&◌, Some}
-use Rattle.std.proofs.Common.{None, List, [], ◌∷◌, ◌++◌, length, get_or, set, map, refl, sym, ap, ◌∙◌, arith, ⊎_elim}
+use Rattle.std.proofs.Common.{◌≡◌, ◌≢◌, ℕ, ◌+◌, ◌-◌, ◌<◌, ◌≤◌, Bool, true, false, cond, eqb, leb, not, ◌&&◌, Some}
+use Rattle.std.proofs.Common.{None, List, [], ◌∷◌, ◌++◌, length, set, map, refl, sym, ap, ◌∙◌, arith, ⊎_elim}
 use Rattle.std.specs.List.{list_all, slice_get}
 use Rattle.std.proofs.lemmas.Bool.{and_parts, cases_Bool, cases_eq}
 use Rattle.std.proofs.lemmas.Bool.Decides.{nat_tests}
@@ -10,11 +10,11 @@ use Rattle.frame_memory.specs.Pool.{FramePool}
 use Rattle.mem_account.specs.Accounts.{held_by, is_user}
 use Rattle.mem_account.specs.declared.Account.{Account}
 use Rattle.memory_objects.specs.Backed.{AccountsMove, AreBacked, HoldsMove}
-use Rattle.pinned_pages.specs.Holds.{are_held, times}
+use Rattle.pinned_pages.specs.Holds.{AreHeld, times}
 use Rattle.memory_objects.specs.Objects.{MemoryEntry, all_unpinned, are_rising, have_pins, object_at, pinned_by}
 use Rattle.memory_objects.specs.Objects.{pinned_less, pins_on, times_of, with_pages}
-use Rattle.pinned_pages.specs.Pages.{MemoryPages, ObjectPages, held_frames, last_count, pinned_count, released}
-use Rattle.pinned_pages.proofs.HoldsMove.{held_within, times_itself_in}
+use Rattle.pinned_pages.specs.Pages.{MemoryPages, ObjectPages, count_of_others, held_frames, last_count, pinned_count}
+use Rattle.pinned_pages.specs.Pages.{released}
 use Rattle.memory_objects.proofs.Moved.{same_users}
 use Rattle.memory_objects.proofs.OneObject.{at_place, map_none, set_by_number, times_more}
 use Rattle.memory_objects.proofs.PinAll.{map_after, map_itself, times_append}
@@ -64,11 +64,20 @@ unpin_here n o is some =
 pub set_unpinned : (objects : List MemoryEntry) (n p : ℕ) (x : MemoryEntry) (new : MemoryPages)
     → are_rising objects ≡ true → slice_get objects p ≡ Some x → object_at objects n ≡ Some x
     → 0 < x.pages.pages.table_pins → new.pages ≡ released x.pages.pages → new.capacity ≡ x.pages.capacity
-    → set objects p (record { number = x.number; areas = x.areas; pages = new }) ≡ all_unpinned (n ∷ []) objects
-set_unpinned objects n p x new rising there found some is same =
+    → new.room ≡ x.pages.room → set objects p (record { number = x.number; areas = x.areas; pages = new }) ≡
+    all_unpinned (n ∷ []) objects
+set_unpinned objects n p x new rising there found some is same room =
     let number = found_number objects n x found in
     let entry : record { number = x.number; areas = x.areas; pages = new } ≡ unpin_at n x =
-    (λ i. record { number = x.number; areas = x.areas; pages = record { pages = is i; capacity = same i } })
+    (λ i. record {
+      number = x.number;
+      areas = x.areas;
+      pages = record {
+        pages = is i;
+        capacity = same i;
+        room = room i;
+      };
+    })
     ∙ sym (unpin_here n x number some) in
     ap (set objects p) entry ∙ set_by_number n (unpin_at n) (unpin_other n) objects p x rising there number
 
@@ -149,22 +158,6 @@ pins_next n ns (o ∷ objects) all =
     grind (arith, nat_tests) in
     rw here (pins_next n ns objects parts.1)
 
--- frames of which each has a hold for each time
-held_from_counts : (all frames : List FrameNo) (counts : List ℕ)
-    → ((f : FrameNo) → 1 ≤ times f.0 frames → 1 ≤ times f.0 all)
-    → ((frame : ℕ) → times frame all ≤ get_or counts frame 0)
-    → list_all (λ f. ltb f.0 (length counts) && leb (times f.0 all) (get_or counts f.0 0)) frames ≡ true
-held_from_counts all [] counts within enough = refl
-held_from_counts all (f ∷ frames) counts within enough =
-    let own = times_itself_in f frames in
-    let here : 1 ≤ times f.0 all = within f (omega (arith, own.0)) in
-    let le = enough f.0 in
-    let some : 0 < get_or counts f.0 0 = omega (arith, here, le) in
-    let inside = held_within counts f.0 some in
-    let one : ltb f.0 (length counts) ≡ true = grind (arith, nat_tests) in
-    let two : leb (times f.0 all) (get_or counts f.0 0) ≡ true = grind (arith, nat_tests) in
-    rw (one, two) (held_from_counts all frames counts (λ g some. within g (own.1 g some)) enough)
-
 module _ (objects : List MemoryEntry) (n p : ℕ) (x : MemoryEntry) (pool_holds : List ℕ) (accounts : List Account)
     (pins : have_pins (n ∷ []) objects ≡ true) (backed : AreBacked objects pool_holds accounts)
     (there : slice_get objects p ≡ Some x) (found : object_at objects n ≡ Some x) where
@@ -195,21 +188,19 @@ module _ (objects : List MemoryEntry) (n p : ℕ) (x : MemoryEntry) (pool_holds 
       let all = backed.held x.pages.pages.user.0 its_user in
       omega (arith, own, all)
 
-  pub its_frames : are_held x.pages.pages.frames pool_holds ≡ true
-  its_frames =
+  pub its_frames : AreHeld (held_frames x.pages.pages) pool_holds
+  its_frames frame =
       let place = at_place objects p x x there in
-      held_from_counts x.pages.pages.frames x.pages.pages.frames pool_holds (λ f some. some)
-      (λ frame.
       let le = get_or-le-sum_by (λ (o : MemoryEntry). times frame (held_frames o.pages.pages)) objects p x place.0 in
-      let own : times frame x.pages.pages.frames ≤ pins_on objects frame = rw place.1 at le in
+      let own : times frame (held_frames x.pages.pages) ≤ pins_on objects frame = rw place.1 at le in
       let all = backed.holds frame in
-      omega (arith, own, all))
+      omega (arith, own, all)
 
   pub its_last : (y : ObjectPages) → pinned_count x.pages.pages ≡ pinned_count y + last_count x.pages.pages
-      → x.pages.pages.table_pins ≡ 1 → x.pages.pages.count ≤ held_by accounts x.pages.pages.user.0
+      → x.pages.pages.table_pins ≡ 1 → count_of_others x.pages.pages ≤ held_by accounts x.pages.pages.user.0
   its_last y counts last =
       let test : eqb x.pages.pages.table_pins 1 ≡ true = rw last refl in
-      let all : pinned_count x.pages.pages ≡ pinned_count y + x.pages.pages.count = rw test at counts in
+      let all : pinned_count x.pages.pages ≡ pinned_count y + count_of_others x.pages.pages = rw test at counts in
       omega (arith, all, its_held)
 
 -- ---- what stays

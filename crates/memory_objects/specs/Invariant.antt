@@ -2,13 +2,15 @@
 use Rattle.std.specs.Prelude.{ℕ, ◌≡◌, ◌+◌, ◌≤◌, true, List, ◌==◌, ◌&&◌, ◌||◌, not, nat_le, length}
 use Rattle.std.specs.List.{list_all}
 use Rattle.memory_objects.specs.Objects.{MemoryEntry, are_freed, are_rising, is_freed, standing}
-use Rattle.pinned_pages.specs.Pages.{pinned_count}
+use Rattle.pinned_pages.specs.Access.{are_counted}
 
 pub record MemoryInvariant (objects : List MemoryEntry) : Type 0 where
   pub rising : are_rising objects ≡ true
-  -- where no page table pins an object, no page of it is pinned
+  -- where no page table pins an object, no page of it is pinned but those that accesses pin
   pub unpinned : list_all (λ object. not (object.pages.pages.table_pins == 0)
-      || pinned_count object.pages.pages == 0) objects ≡ true
+      || length object.pages.pages.frames == 0) objects ≡ true
+  -- and these are pages of the object, each with some pin
+  pub counted : list_all (λ object. are_counted object.pages.pages.count object.pages.pages.access) objects ≡ true
   -- some area lies over each object, and at least as many as pins stand on it
   pub areas : list_all (λ object. nat_le 1 object.areas
       && nat_le object.pages.pages.table_pins object.areas) objects ≡ true

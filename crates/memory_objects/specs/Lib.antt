@@ -1,3 +1,4 @@
 pub mod Backed
 pub mod Invariant
 pub mod Objects
+pub mod Runs

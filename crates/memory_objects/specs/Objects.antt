@@ -1,7 +1,7 @@
 -- What is seen of memory objects by number, and what each call makes of them.
 use Rattle.std.specs.Prelude.{ℕ, ◌≡◌, ◌≤◌, ◌+◌, ◌-◌, Bool, true, false, ◌==◌, ◌&&◌}
 use Rattle.std.specs.Prelude.{◌||◌, not, nat_lt, nat_le, Option}
-use Rattle.std.specs.Prelude.{Some, None, List, [], ◌∷◌, map, filter, find, sum_by, count_by, if◌then◌else◌}
+use Rattle.std.specs.Prelude.{Some, None, List, [], ◌∷◌, map, filter, find, length, sum_by, count_by, if◌then◌else◌}
 use Rattle.std.specs.List.{list_all, list_any}
 use Rattle.iofd_words.specs.Frames.{frame_at}
 use Rattle.iofd_words.specs.Pages.{page_of}
@@ -9,8 +9,8 @@ use Rattle.iofd_words.specs.declared.numbers.FrameNo.{FrameNo}
 use Rattle.iofd_words.specs.declared.rows.MemoryObject.{MemoryObject}
 use Rattle.iofd_words.specs.declared.rows.UserPage.{UserPage}
 use Rattle.pinned_pages.specs.Holds.{times}
-use Rattle.pinned_pages.specs.Pages.{MemoryPages, ObjectPages, are_present, frame_of, held_frames, needed, new_count}
-use Rattle.pinned_pages.specs.Pages.{own_frames_now, pinned_count}
+use Rattle.pinned_pages.specs.Pages.{MemoryPages, ObjectPages, access_frame, access_pins, are_present, frame_of}
+use Rattle.pinned_pages.specs.Pages.{held_frames, needed, new_count, own_frames_now, pinned_count}
 use Rattle.memory_objects.specs.declared.entry.Entry.{Entry}
 
 -- an object: its number, how many areas lie over it, and its pages
@@ -82,6 +82,18 @@ frame_now_in rows (Some object) index =
     then frame_at rows object.pages.pages.user (page_of object.pages.pages.va + index)
     else None
 
+-- the frame at which accesses pin a page of an object, and how many of their pins stand on it
+abbrev pub access_frame_in : Option MemoryEntry → ℕ → Option FrameNo
+access_frame_in None index = None
+access_frame_in (Some object) index = access_frame object.pages.pages index
+
+abbrev pub access_pins_in : Option MemoryEntry → ℕ → ℕ
+access_pins_in None index = 0
+access_pins_in (Some object) index = access_pins object.pages.pages index
+
+abbrev pub access_pins_on : List MemoryEntry → ℕ → ℕ → ℕ
+access_pins_on objects number index = access_pins_in (object_at objects number) index
+
 -- how many pins name the frame, and how many pages of this user's objects are pinned
 abbrev pub pins_on : List MemoryEntry → ℕ → ℕ
 pins_on objects frame = sum_by (λ object. times frame (held_frames object.pages.pages)) objects
@@ -104,7 +116,7 @@ passes test (Some object) = test object
 abbrev pub all_pass : (MemoryEntry → Bool) → List MemoryEntry → List ℕ → Bool
 all_pass test objects numbers = list_all (λ number. passes test (object_at objects number)) numbers
 
--- the object's pages are pinned by a page table, or all of them are in their user's memory
+-- the object's pages are pinned by a page table, or each of them by an access or in its user's memory
 abbrev pub can_pin : List UserPage → MemoryEntry → Bool
 can_pin rows object = not (object.pages.pages.table_pins == 0) || are_present object.pages.pages rows
 
@@ -128,7 +140,8 @@ new_count_in (Some object) = new_count object.pages.pages
 
 -- ---- what the calls make of the objects
 
--- pinned so many times more: from the first time on each page at the frame that it is then
+-- pinned so many times more: from the first time on each page at the frame that it is then, but for one that an access
+-- pins, which keeps its frame
 abbrev pub pinned_more : List UserPage → ℕ → ObjectPages → ObjectPages
 pinned_more rows more pages =
     record pages {
@@ -136,7 +149,7 @@ pinned_more rows more pages =
       frames = if pages.table_pins == 0 && not (more == 0) then own_frames_now pages rows else pages.frames;
     }
 
--- pinned so many times less: after the last time no page is
+-- pinned so many times less: after the last time no page is but those that accesses pin
 abbrev pub pinned_less : ℕ → ObjectPages → ObjectPages
 pinned_less less pages =
     record pages {
@@ -146,7 +159,7 @@ pinned_less less pages =
 
 -- the object with other pages
 abbrev pub with_pages : ObjectPages → MemoryEntry → MemoryEntry
-with_pages pages object = record object { pages = record { pages = pages; capacity = object.pages.capacity } }
+with_pages pages object = record object { pages = record object.pages { pages = pages } }
 
 -- there is the object, and at most so many pins stand on it
 abbrev pub has_at_most : ℕ → Option MemoryEntry → Bool
@@ -191,6 +204,12 @@ abbrev pub have_areas : List ℕ → List MemoryEntry → Bool
 have_areas numbers objects =
     list_all (λ object. nat_le (object.pages.pages.table_pins + times_of object.number numbers) object.areas) objects
 
+-- no access pins a page of an object over which no other areas lie than those meant
+abbrev pub may_go : List ℕ → List MemoryEntry → Bool
+may_go numbers objects =
+    list_all (λ object. nat_lt (times_of object.number numbers) object.areas
+    || length object.pages.pages.access == 0) objects
+
 -- each object has as many pins as areas of it are meant
 abbrev pub have_pins : List ℕ → List MemoryEntry → Bool
 have_pins numbers objects =
@@ -198,7 +217,7 @@ have_pins numbers objects =
 
 -- the object with memory for so many frames
 abbrev pub with_capacity : ℕ → MemoryEntry → MemoryEntry
-with_capacity capacity object = record object { pages = record { pages = object.pages.pages; capacity = capacity } }
+with_capacity capacity object = record object { pages = record object.pages { capacity = capacity } }
 
 -- the objects are as they were, but that there may be memory for more frames of each
 pub record MemoryGrows (old new : List MemoryEntry) : Type 0 where
@@ -206,9 +225,10 @@ pub record MemoryGrows (old new : List MemoryEntry) : Type 0 where
   pub more : (object : MemoryEntry) → object.pages.capacity ≤ capacity object
   pub objects : new ≡ map (λ object. with_capacity (capacity object) object) old
 
--- the same pages are pinned, each at the same frame; so as many pins name each frame, and as many pages of each
--- user's are pinned
+-- the same pages are pinned, each at the same frame, and by as many accesses; so as many pins name each frame, and as
+-- many pages of each user's are pinned
 pub record SamePins (old new : List MemoryEntry) : Type 0 where
   pub frames : (number index : ℕ) → pinned_frame new number index ≡ pinned_frame old number index
+  pub access : (number index : ℕ) → access_pins_on new number index ≡ access_pins_on old number index
   pub pins : (frame : ℕ) → pins_on new frame ≡ pins_on old frame
   pub pinned : (user : ℕ) → pinned_by new user ≡ pinned_by old user

@@ -2,6 +2,7 @@
 //! pinned by one call, all of them or none.
 #![tactic(auto)]
 
+mod accesses;
 mod entry;
 mod lookups;
 mod objects;
@@ -9,6 +10,8 @@ mod pinning;
 mod questions;
 mod removal;
 mod reserving;
+mod run;
 
 pub use entry::Entry;
 pub use objects::MemoryObjects;
+pub use run::PageRun;

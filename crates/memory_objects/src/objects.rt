@@ -1,22 +1,27 @@
 //! All memory objects, by number.
 
 ghost use Rattle.std.specs.Prelude.{ℕ, ◌≡◌, ◌==◌, ◌+◌, ◌<◌, ◌≤◌, ◌^◌, ◌&&◌};
-ghost use Rattle.std.specs.Prelude.{◌++◌, ◌∷◌, [], false, None, find, length};
-ghost use Rattle.std.specs.Prelude.{slice_get, if◌then◌else◌, IsTrue, IfSome, OnOk, OnErr};
+ghost use Rattle.std.specs.Prelude.{◌++◌, ◌∷◌, [], false, find, length};
+ghost use Rattle.std.specs.Prelude.{slice_get, if◌then◌else◌, IsTrue, IfNone, IfSome, OnOk, OnErr};
 ghost use Rattle.std.specs.List.Sorted.{IsNonDecreasing};
 ghost use Rattle.std.specs.Option.{option_map};
 ghost use Rattle.mem_account.specs.Accounts.{has_room, is_user};
 ghost use Rattle.memory_objects.specs.Backed.{AccountsMove, AreBacked, CanPin, Fits, HoldsMove};
+ghost use Rattle.memory_objects.specs.Objects.{access_pins_on, passes};
+ghost use Rattle.memory_objects.specs.Runs.{CanPinRun, HasRun, RoomGrows, RunIsPinned, RunIsReleased, covers};
+ghost use Rattle.memory_objects.specs.Runs.{frame_after, has_room_for, lies_within, run_count_in, run_is_there};
 ghost use Rattle.pinned_pages.specs.Holds.{times};
 ghost use Rattle.memory_objects.specs.Invariant.{GoneAreFew, MemoryInvariant};
-ghost use Rattle.memory_objects.specs.Objects.{MemoryGrows, SamePins, all_pass, all_pinned, all_unpinned, are_below};
+ghost use Rattle.memory_objects.specs.Objects.{MemoryGrows, SamePins, access_frame_in, all_pass, all_pinned};
+ghost use Rattle.memory_objects.specs.Objects.{all_unpinned, are_below, may_go};
 ghost use Rattle.memory_objects.specs.Objects.{can_pin, frame_now_in, has_memory, have_areas, have_pins, is_of};
 ghost use Rattle.memory_objects.specs.Objects.{is_pinned_anew, is_unpinned, new_count_in, new_pages, object_at};
 ghost use Rattle.memory_objects.specs.Objects.{pinned_by, pinned_frame, pins_on, rows_of, with_area, without_areas};
-ghost use Rattle.pinned_pages.specs.Pages.{frame_of, held_frames, pinned_count};
+ghost use Rattle.pinned_pages.specs.Pages.{frame_of, held_frames, or_else, pinned_count};
 
 use crate::entry::Entry;
-use crate::{lookups, pinning, questions, removal, reserving};
+use crate::run::PageRun;
+use crate::{accesses, lookups, pinning, questions, removal, reserving};
 use frame_memory::{Pool, UserMap};
 use iofd_words::{FrameNo, MemoryObject, NoMemory, UserNo};
 use mem_account::Accounts;
@@ -120,16 +125,18 @@ impl<A: Allocator> MemoryObjects<A> {
         }
     }
 
-    /// The frames at which the pages of the object of this number are pinned, in order: those of all its pages, and
-    /// none where no page table pins it or there is no such object. It costs one look-up, and takes no memory.
+    /// The frames at which page tables pin the pages of the object of this number, in order: those of all its pages,
+    /// and none where no page table pins it or there is no such object. It costs one look-up, and takes no memory.
     pub fn frames(&self, number: u64) -> &[FrameNo]
-        ensures each { (index : ℕ) → slice_get result.now index ≡ pinned_frame self.now.objects number index }
+        ensures each { IfSome (object_at self.now.objects number) (λ object. 0 < object.pages.pages.table_pins
+            → (index : ℕ) → slice_get result.now index ≡ pinned_frame self.now.objects number index) }
+        ensures none { IfNone (object_at self.now.objects number) (result.now ≡ []) }
         ensures count { IfSome (object_at self.now.objects number) (λ object. length result.now
             ≡ (if object.pages.pages.table_pins == 0 then 0 else object.pages.pages.count)) }
     {
         match lookups::object_at(&self.entries, number) {
-            Some(entry) if entry.pages.table_pins() > 0 => entry.pages.frames(),
-            _ => &[],
+            Some(entry) => entry.pages.frames(),
+            None => &[],
         }
     }
 
@@ -154,13 +161,14 @@ impl<A: Allocator> MemoryObjects<A> {
         Ok(())
     }
 
-    /// Adds an object with one area over it. Its number is above all others, and at most one pin stands on its pages:
-    /// that of its area. There is room (`reserve`). It takes no memory.
+    /// Adds an object with one area over it. Its number is above all others, and at most one pin by a page table stands
+    /// on its pages: that of its area. There is room (`reserve`). It takes no memory.
     pub fn insert(&mut self, number: u64, pages: Pages<A>)
         requires room { 0 < self.old.room }
         requires rises { IsTrue (are_below self.old.objects number) }
         requires pins { pages.pages.table_pins ≤ 1 }
         requires unpinned { pages.pages.table_pins ≡ 0 → pinned_count pages.pages ≡ 0 }
+        requires access { pages.pages.access ≡ [] }
         ensures objects { self.new.objects
             ≡ self.old.objects ++ record { number = number; areas = 1; pages = pages } ∷ [] }
         ensures frames { (n index : ℕ) → pinned_frame self.new.objects n index
@@ -173,6 +181,8 @@ impl<A: Allocator> MemoryObjects<A> {
         ensures gone { GoneAreFew self.new.objects self.new.gone }
         ensures invariant { MemoryInvariant self.new.objects }
     {
+        // Where no page table pins them they have no frames.
+        let _ = pages.table_pins();
         self.gone = removal::make_way(&mut self.entries, self.gone, number);
         self.entries.push_reserved(Entry {
             number,
@@ -194,10 +204,11 @@ impl<A: Allocator> MemoryObjects<A> {
         removal::add_area(&mut self.entries, number);
     }
 
-    /// An area less lies over the object of this number. With its last area it goes. The area's pin is off. It takes
-    /// no memory.
+    /// An area less lies over the object of this number. With its last area it goes. The area's pin is off, and no
+    /// access pins a page of an object that goes. It takes no memory.
     pub fn remove_area(&mut self, number: u64)
-        requires { IsTrue (have_areas (number ∷ []) self.old.objects) }
+        requires pins { IsTrue (have_areas (number ∷ []) self.old.objects) }
+        requires access { IsTrue (may_go (number ∷ []) self.old.objects) }
         ensures objects { self.new.objects ≡ without_areas (number ∷ []) self.old.objects }
         ensures pins { SamePins self.old.objects self.new.objects }
         ensures room { self.old.room ≤ self.new.room }
@@ -207,7 +218,7 @@ impl<A: Allocator> MemoryObjects<A> {
         self.gone = removal::remove_area(&mut self.entries, self.gone, number);
     }
 
-    /// Whether all pages of these objects are in their users' memory, but for those of objects that a page table pins
+    /// Whether all pages of these objects are in their users' memory, but for those that a page table or an access pins
     /// already. It takes no memory. Where one isn't, a pin of them all is refused by Absent (8, EFAULT).
     pub fn are_present<B: Allocator>(&self, numbers: &[u64], users: &UserMap<B>) -> bool
         ensures { result ≡ all_pass (can_pin users.now.pages) self.now.objects numbers.now }
@@ -261,9 +272,9 @@ impl<A: Allocator> MemoryObjects<A> {
     }
 
     /// Puts a pin on the pages of each of these objects for each time that its number is there, as areas over it come
-    /// into an address space with a page table. By an object's first pin each of its pages is pinned at the frame
-    /// that it is in its user's memory now, which gets a hold, and the user is charged for it; by later ones nothing
-    /// else changes. It takes no memory.
+    /// into an address space with a page table. By an object's first pin each of its pages that no access pins is
+    /// pinned at the frame that it is in its user's memory now, which gets a hold, and the user is charged for it; the
+    /// others keep their frames. By later ones nothing else changes. It takes no memory.
     ///
     /// What refuses it was asked before (`are_present`, then `fit`), the memory was taken (`reserve_frames`), and
     /// each frame may have as many holds more as pages are pinned anew.
@@ -279,7 +290,8 @@ impl<A: Allocator> MemoryObjects<A> {
         ensures rows { rows_of self.new.objects ≡ rows_of self.old.objects }
         ensures frames { (number index : ℕ) → pinned_frame self.new.objects number index
             ≡ (if is_pinned_anew self.old.objects numbers.now number
-            then frame_now_in users.now.pages (object_at self.old.objects number) index
+            then or_else (access_frame_in (object_at self.old.objects number) index)
+            (frame_now_in users.now.pages (object_at self.old.objects number) index)
             else pinned_frame self.old.objects number index) }
         ensures room { self.new.room ≡ self.old.room }
         ensures pool { HoldsMove self.old.objects self.new.objects pool.old pool.new }
@@ -293,8 +305,8 @@ impl<A: Allocator> MemoryObjects<A> {
     }
 
     /// Takes a pin off the pages of each of these objects for each time that its number is there. With an object's
-    /// last pin no page of it is pinned any more: a hold goes off each frame, and the user gets the pages back. It
-    /// takes no memory.
+    /// last pin no page of it is pinned any more but those that accesses pin, which keep their frames: a hold goes off
+    /// the frame of each other, and the user gets these pages back. It takes no memory.
     pub fn unpin_by_table<B: Allocator, C: Allocator>(
         &mut self,
         numbers: &[u64],
@@ -307,7 +319,7 @@ impl<A: Allocator> MemoryObjects<A> {
         ensures rows { rows_of self.new.objects ≡ rows_of self.old.objects }
         ensures frames { (number index : ℕ) → pinned_frame self.new.objects number index
             ≡ (if is_unpinned self.old.objects numbers.now number
-            then None
+            then access_frame_in (object_at self.old.objects number) index
             else pinned_frame self.old.objects number index) }
         ensures room { self.new.room ≡ self.old.room }
         ensures pool { HoldsMove self.old.objects self.new.objects pool.old pool.new }
@@ -317,5 +329,96 @@ impl<A: Allocator> MemoryObjects<A> {
         ensures invariant { MemoryInvariant self.new.objects }
     {
         pinning::unpin_all(&mut self.entries, numbers, pool, accounts);
+    }
+
+    /// Whether each page of the run is pinned or in its user's memory. It takes no memory. Where one isn't, a pin of it
+    /// by an access is refused by Absent (8, EFAULT).
+    pub fn has_run<B: Allocator>(&self, run: PageRun, users: &UserMap<B>) -> bool
+        requires { IsTrue (lies_within run (object_at self.now.objects run.number)) }
+        ensures { result ≡ passes (run_is_there users.now.pages run) (object_at self.now.objects run.number) }
+    {
+        accesses::has_run(&self.entries, run, users)
+    }
+
+    /// How many pages of the run aren't pinned. It takes no memory.
+    pub fn new_in_run(&self, run: PageRun) -> u64
+        requires { IsTrue (lies_within run (object_at self.now.objects run.number)) }
+        ensures { result ≡ run_count_in run (object_at self.now.objects run.number) }
+    {
+        accesses::new_in_run(&self.entries, run)
+    }
+
+    /// Takes memory for a pin by an access on each page of the run, where there is none. After an Ok the next such pin
+    /// of it doesn't want for memory; an error comes only where memory was lacking. The objects stay either way.
+    pub fn reserve_for_access(&mut self, run: PageRun) -> Result<(), NoMemory>
+    where
+        A: Copy,
+        requires { IsTrue (lies_within run (object_at self.old.objects run.number)) }
+        ensures objects { RoomGrows run.number self.old.objects self.new.objects }
+        ensures ok { OnOk result (IsTrue (passes (has_room_for run) (object_at self.new.objects run.number))) }
+        ensures err { OnErr result (passes (has_room_for run) (object_at self.old.objects run.number) ≡ false) }
+        ensures rows { rows_of self.new.objects ≡ rows_of self.old.objects }
+        ensures pins { SamePins self.old.objects self.new.objects }
+        ensures room { self.new.room ≡ self.old.room }
+        ensures gone { GoneAreFew self.new.objects self.new.gone }
+        ensures invariant { MemoryInvariant self.new.objects }
+    {
+        accesses::reserve_run(&mut self.entries, run)
+    }
+
+    /// Puts one pin by an access on each page of the run. A page that is pinned keeps its frame, and is charged no
+    /// more; each other is pinned at the frame that it is in its user's memory now, which gets a hold, and the user is
+    /// charged for it. It takes no memory.
+    ///
+    /// What refuses it was asked before (`has_run`, then `Accounts::has_room` of `new_in_run`), and the memory was
+    /// taken (`reserve_for_access`).
+    pub fn pin_by_access<B: Allocator, C: Allocator, D: Allocator>(
+        &mut self,
+        run: PageRun,
+        users: &UserMap<B>,
+        pool: &mut Pool<C>,
+        accounts: &mut Accounts<D>,
+    )
+    where
+        A: Copy,
+        requires { CanPinRun self.old.objects run users.now.pages pool.old.holds accounts.old }
+        ensures objects { RunIsPinned run users.now.pages self.old.objects self.new.objects }
+        ensures rows { rows_of self.new.objects ≡ rows_of self.old.objects }
+        ensures frames { (number index : ℕ) → pinned_frame self.new.objects number index
+            ≡ frame_after run users.now.pages self.old.objects number index }
+        ensures pins { (number index : ℕ) → access_pins_on self.new.objects number index
+            ≡ access_pins_on self.old.objects number index + (if covers run number index then 1 else 0) }
+        ensures room { self.new.room ≡ self.old.room }
+        ensures pool { HoldsMove self.old.objects self.new.objects pool.old pool.new }
+        ensures accounts { AccountsMove self.old.objects self.new.objects accounts.old accounts.new }
+        ensures gone { GoneAreFew self.new.objects self.new.gone }
+        ensures invariant { MemoryInvariant self.new.objects }
+    {
+        accesses::pin_run(&mut self.entries, run, users, pool, accounts);
+    }
+
+    /// Takes one pin by an access off each page of the run, each of which has one. A page that something still pins
+    /// keeps its frame; off the frame of each other a hold goes, and the user gets the page back. It takes no memory.
+    pub fn unpin_by_access<B: Allocator, C: Allocator>(
+        &mut self,
+        run: PageRun,
+        pool: &mut Pool<B>,
+        accounts: &mut Accounts<C>,
+    )
+    where
+        A: Copy,
+        requires run { HasRun self.old.objects run }
+        requires backed { AreBacked self.old.objects pool.old.holds accounts.old }
+        ensures objects { RunIsReleased run self.old.objects self.new.objects }
+        ensures rows { rows_of self.new.objects ≡ rows_of self.old.objects }
+        ensures pins { (number index : ℕ) → access_pins_on self.new.objects number index
+            + (if covers run number index then 1 else 0) ≡ access_pins_on self.old.objects number index }
+        ensures room { self.new.room ≡ self.old.room }
+        ensures pool { HoldsMove self.old.objects self.new.objects pool.old pool.new }
+        ensures accounts { AccountsMove self.old.objects self.new.objects accounts.old accounts.new }
+        ensures gone { GoneAreFew self.new.objects self.new.gone }
+        ensures invariant { MemoryInvariant self.new.objects }
+    {
+        accesses::unpin_run(&mut self.entries, run, pool, accounts);
     }
 }

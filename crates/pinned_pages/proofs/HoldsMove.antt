@@ -1,15 +1,20 @@
 -- A pool's holds, one frame at a time.
-use Rattle.std.proofs.Common.{Bool, ◌≡◌, ◌≢◌, ℕ, zero, suc, ◌+◌, ◌-◌, ◌^◌, ◌<◌, ◌≤◌, true, false, cond, ◌&&◌, eqb, ltb}
-use Rattle.std.proofs.Common.{leb, List, [], ◌∷◌, ◌++◌, length, get_or, take, refl, sym, ◌∙◌, ap, arith, ◌⊎◌, ⊎_elim}
-use Rattle.std.specs.List.{list_all}
+use Rattle.std.proofs.Common.{Bool, ◌≡◌, ◌≢◌, Option, Some, ℕ, zero, suc, ◌+◌, ◌-◌, ◌^◌, ◌<◌, ◌≤◌, true, false, cond}
+use Rattle.std.proofs.Common.{eqb, ltb}
+use Rattle.std.proofs.Common.{List, [], ◌∷◌, ◌++◌, length, get_or, refl, sym, ◌∙◌, ap, arith, ◌⊎◌, ⊎_elim}
+use Rattle.std.specs.Prelude.{is_none}
+use Rattle.std.specs.List.{cons_option, count_by, filter_map, range_with_len}
 use Rattle.std.proofs.lemmas.Bool.{cases_eq}
 use Rattle.std.proofs.lemmas.Bool.Decides.{nat_tests}
-use Rattle.std.proofs.lemmas.List.{get_or-set_same, get_or-set_other, get_or_past, length-set, take_more}
-use Rattle.std.proofs.lemmas.List.Sums.{count_by-le-length, sum_by-cons, sum_by-take-le, sum_by_push}
+use Rattle.std.proofs.lemmas.List.FromFn.{length-range_with_len}
+use Rattle.std.proofs.lemmas.List.{get_or-set_same, get_or-set_other, get_or_past, length-set}
+use Rattle.std.proofs.lemmas.List.Sums.{count_by-le-length, sum_by-append, sum_by-cons, sum_by_push}
 use Rattle.iofd_words.specs.declared.numbers.FrameNo.{FrameNo}
 use Rattle.frame_memory.specs.Pool.{FramePool, may_hold, with_holds}
 use Rattle.pinned_pages.proofs.Bools.{and_true}
-use Rattle.pinned_pages.specs.Holds.{HasMoreHolds, are_held, times}
+use Rattle.pinned_pages.specs.Holds.{AreHeld, HasMoreHolds, times}
+use Rattle.pinned_pages.specs.Pages.{unless}
+use Rattle.pinned_pages.proofs.Runs.{counted_few, counted_more, few_others, mapped_more, times_few_mapped}
 
 -- one more frame
 times_more : (frame : ℕ) (frames : List FrameNo) (f : FrameNo)
@@ -122,40 +127,65 @@ room_left (h ∷ holds) frame count may small =
     by_place zero here later = here
     by_place (suc g) here later = later g
 
--- the next frame of the list has a hold, where each frame of it had one for each time
-pub next_held : (now more : FramePool) (frames : List FrameNo) (i : ℕ) (f d : FrameNo) → i < length frames
-    → f ≡ get_or frames i d → HasMoreHolds now more (take i frames)
-    → are_held frames more.holds ≡ true → 0 < get_or now.holds f.0 0
-next_held now more frames i f d within is less held =
-    let enough = held_at frames frames i f d within is held in
-    let next : take (i + 1) frames ≡ take i frames ++ f ∷ [] =
-    take_more frames i d within ∙ ap (λ g. take i frames ++ g ∷ []) (sym is) in
-    let times_next = ap (times f.0) next ∙ times_itself (take i frames) f in
-    let few = sum_by-take-le (λ (g : FrameNo). cond (eqb g.0 f.0) 1 0) frames (i + 1) in
+-- one after the other
+pub held_further : (a b c : FramePool) (xs ys : List FrameNo) → HasMoreHolds a b xs → HasMoreHolds b c ys
+    → HasMoreHolds a c (xs ++ ys)
+held_further a b c xs ys first next = record {
+  count = next.count ∙ first.count;
+  holds = λ frame.
+      let one = first.holds frame in
+      let two = next.holds frame in
+      let all = sum_by-append (λ (f : FrameNo). cond (eqb f.0 frame) 1 0) xs ys in
+      omega (arith, one, two, all);
+  bytes = next.bytes ∙ first.bytes;
+}
+
+pub released_further : (a b c : FramePool) (xs ys : List FrameNo) → HasMoreHolds b a xs → HasMoreHolds c b ys
+    → HasMoreHolds c a (xs ++ ys)
+released_further a b c xs ys first next = record {
+  count = first.count ∙ next.count;
+  holds = λ frame.
+      let one = first.holds frame in
+      let two = next.holds frame in
+      let all = sum_by-append (λ (f : FrameNo). cond (eqb f.0 frame) 1 0) xs ys in
+      omega (arith, one, two, all);
+  bytes = first.bytes ∙ next.bytes;
+}
+
+-- the frames of some pages of a run are held, and each page of it may have one more
+pub page_room : (less now : FramePool) (a b : ℕ → Option FrameNo) (first count k j : ℕ) → first + k ≡ j → k < count
+    → count < 2 ^ 64
+    → may_hold less.holds (count_by (λ i. is_none (a i)) (range_with_len first count)) ≡ true
+    → HasMoreHolds less now (filter_map (λ i. unless (a i) (b i)) (range_with_len first k))
+    → is_none (a j) ≡ true → (frame : ℕ) → get_or now.holds frame 0 + 1 < 2 ^ 128
+page_room less now a b first count k j is within small may more none frame =
+    let p = λ (i : ℕ). is_none (a i) in
+    let all = count_by-le-length p (range_with_len first count) in
+    let long = length-range_with_len first count in
+    let left = room_left less.holds frame (count_by p (range_with_len first count)) may (omega (
+      arith,
+      all,
+      long,
+      small,
+    )) in
+    let few = few_others a b (range_with_len first k) in
+    let times = times_few frame (filter_map (λ i. unless (a i) (b i)) (range_with_len first k)) in
+    let next = counted_more p first k j is in
+    let one = ap {B = ℕ} (λ t. cond t 1 0) none in
+    let up = counted_few p first (k + 1) count (omega (arith, within)) in
+    let held = more.holds frame in
+    omega (arith, left, few, times, next, one, up, held)
+
+-- the frame of the next page of a run has a hold, where the run's frames had theirs
+pub next_held : (now more : FramePool) (h : ℕ → Option FrameNo) (first count k j : ℕ) (f : FrameNo) → first + k ≡ j
+    → k < count
+    → HasMoreHolds now more (filter_map h (range_with_len first k))
+    → AreHeld (filter_map h (range_with_len first count)) more.holds → h j ≡ Some f
+    → 0 < get_or now.holds f.0 0
+next_held now more h first count k j f place within less held is =
+    let next = ap (times f.0) (mapped_more h first k j place ∙ ap (λ o. filter_map h (range_with_len first k)
+    ++ cons_option o []) is) ∙ times_itself (filter_map h (range_with_len first k)) f in
+    let up = times_few_mapped f.0 h first (k + 1) count (omega (arith, within)) in
     let before = less.holds f.0 in
-    omega (arith, times_next, few, enough, before)
-  where
-    decided : (f : FrameNo) (all : List FrameNo)
-        → (ltb f.0 (length more.holds) && leb (times f.0 all) (get_or more.holds f.0 0)) ≡ true
-        → times f.0 all ≤ get_or more.holds f.0 0
-    decided f all is = let parts = and_true (ltb f.0 (length more.holds))
-        (leb (times f.0 all) (get_or more.holds f.0 0)) is in search (parts.1, arith, nat_tests)
-
-    held_at : (all fs : List FrameNo) (k : ℕ) (f d : FrameNo) → k < length fs → f ≡ get_or fs k d
-        → list_all (λ g. ltb g.0 (length more.holds) && leb (times g.0 all) (get_or more.holds g.0 0)) fs ≡ true
-        → times f.0 all ≤ get_or more.holds f.0 0
-    held_at all [] k f d below is held = absurd (omega (arith, below))
-    held_at all (g ∷ fs) zero f d below is held =
-        let parts = and_true (ltb g.0 (length more.holds) && leb (times g.0 all) (get_or more.holds g.0 0))
-        (list_all (λ h. ltb h.0 (length more.holds) && leb (times h.0 all) (get_or more.holds h.0 0)) fs) held in
-        rw is (decided g all parts.0)
-    held_at all (g ∷ fs) (suc k) f d below is held =
-        let parts = and_true (ltb g.0 (length more.holds) && leb (times g.0 all) (get_or more.holds g.0 0))
-        (list_all (λ h. ltb h.0 (length more.holds) && leb (times h.0 all) (get_or more.holds h.0 0)) fs) held in
-        held_at all fs k f d (omega (arith, below)) is parts.1
-
-pub released_more : (now more : FramePool) (frames : List FrameNo) (i : ℕ) (f d : FrameNo) → i < length frames
-    → f ≡ get_or frames i d → HasMoreHolds now more (take i frames) → 0 < get_or now.holds f.0 0
-    → HasMoreHolds (with_holds now f.0 (get_or now.holds f.0 0 - 1)) more (take (i + 1) frames)
-released_more now more frames i f d within is less some =
-    rw (take_more frames i d within, ← is) (one_released now more (take i frames) f some less)
+    let enough = held f.0 in
+    omega (arith, next, up, before, enough)

@@ -1,3 +1,5 @@
+pub mod Access
+pub mod Accesses
 pub mod Holds
 pub mod Kept
 pub mod Pages

@@ -18,6 +18,7 @@ use Rattle.user_memory_rows.proofs.Named.{settles_named}
 use Rattle.user_memory_rows.proofs.PinsFollow.{count-cons}
 use Rattle.user_memory_rows.specs.Shown.{FramesShown, tables_in}
 use Rattle.page_table_words.specs.Taken.{least_frames}
+use Rattle.user_memory.proofs.Found.{pinned_has}
 use Rattle.user_memory.proofs.PinsNamed.{named_counts, some_named}
 use Rattle.user_memory.specs.Changes.{Settles}
 use Rattle.user_memory.specs.Memory.{Memory, is_pinned, pinned_frame, reached}
@@ -119,6 +120,13 @@ module _ (old new : Memory) (before after : FramePool) (pool : ℕ) (writes : Li
     → is_pinned new page ≡ true)
     (settles : Settles old new before after) (shown : FramesShown pool writes tables old before)
     (shown_after : FramesShown pool writes tables new after) where
+  was_pinned : (page : ObjectPage) (frame : FrameNo) → pinned_frame old page ≡ Some frame → is_pinned old page ≡ true
+  was_pinned page frame at = by_pin (is_pinned old page) refl
+    where
+      by_pin : (b : Bool) → is_pinned old page ≡ b → is_pinned old page ≡ true
+      by_pin false none = let gone = only page none in cc
+      by_pin true is = is
+
   still_at : (page : ObjectPage) (frame : FrameNo) → pinned_frame old page ≡ Some frame
       → pinned_frame new page ≡ Some frame
   still_at page frame at = by_pin (is_pinned old page) refl
@@ -135,6 +143,9 @@ module _ (old new : Memory) (before after : FramePool) (pool : ℕ) (writes : Li
       by_pins true some =
           let found = some_named old.objects f invariant.rising some in
           let counted = named_counts new.objects found.number found.index f found.found
+          (pinned_has new (record { memory = found.number; index = found.index }) settles.kept.rising
+          (stays (record { memory = found.number; index = found.index })
+          (was_pinned (record { memory = found.number; index = found.index }) found.found found.pinned)))
           (still_at (record { memory = found.number; index = found.index }) found.found found.pinned) found.names in
           let positive : 0 < pins_on new.objects f = search (counted, arith, nat_tests) in
           omega (arith, positive)
@@ -162,5 +173,5 @@ module _ (old new : Memory) (before after : FramePool) (pool : ℕ) (writes : Li
     long = settles.holds.count;
     none = λ k. both_or_none (reached old k) (reached new k) (tables_in tables k) (get_or after.holds k 0)
         (get_or before.holds k 0) (shown_after.holds k) (shown.holds k) (still_named k)
-        (settles_named old new before after settles k);
+        (settles_named old new before after invariant.rising settles k);
   }

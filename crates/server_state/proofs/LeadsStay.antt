@@ -133,7 +133,7 @@ abbrev pub has_page : List MemoryObject → ObjectPage → Bool
 has_page rows page = list_any (λ (row : MemoryObject). eqb page.memory row.number && ltb page.index row.count) rows
 
 module _ (at : ℕ) (w new : World) (old after : Memory) (before pool : FramePool) (pins : ArePinned at w)
-    (was : PinsShown w.objects w.areas w.memory w.pins old)
+    (without : w.access_pins ≡ []) (was : PinsShown w.objects w.areas w.memory w.pins old)
     (is : PinsShown new.objects new.areas new.memory new.pins after) (settles : Settles old after before pool) where
   -- on an object on which pins stand before and after, each page stays pinned where it was
   pub pin_stays : (page : ObjectPage) → has_page (rows_of after) page ≡ has_page (rows_of old) page
@@ -152,4 +152,4 @@ module _ (at : ℕ) (w new : World) (old after : Memory) (before pool : FramePoo
           (memory.frame_now after page)) None ≡ pin.pinned_frame w.pins page
       by_page true there = rw (rows ∙ there, pinned_after, there, pinned) (sym (was.frames page))
       by_page false none =
-          rw (rows ∙ none) (sym (only_kept at w old pins was page (rw none refl)) ∙ sym (was.frames page))
+          rw (rows ∙ none) (sym (only_kept at w old pins without was page (rw none refl)) ∙ sym (was.frames page))

@@ -94,16 +94,17 @@ module _ {A : Type 0} (at : ℕ) (w : World) (s : State A) (tidy : IsTidy at w) 
           let same_areas = shows.pins.areas n in
           let few = few_translated objects left n in
           omega (arith, first, second, same_pins, same_areas, few);
+      access = shows.pins.access;
       backed = frames.is_backed w.settings.pool w.writes rows s.memory before shown;
       invariant = shows.pins.invariant;
-      only = only_kept at w s.memory tidy.pins shows.pins;
+      only = only_kept at w s.memory tidy.pins tidy.unaccessed shows.pins;
     }
 
     -- they have
     module _ (next : ℕ) (new : World) (after : Memory) (pool : FramePool) (pinned : ArePinned next new)
         (same_objects : new.objects ≡ objects) (same_areas : new.areas ≡ left)
         (memory : new.memory ≡ filter (λ (m : MemoryObject). ltb 0 (over left m.number)) w.memory)
-        (same_pages : new.user_pages ≡ w.user_pages)
+        (same_pages : new.user_pages ≡ w.user_pages) (same_accesses : new.access_pins ≡ w.access_pins)
         (is_settled : new.pins ≡ settled (pinned_pages w.objects w.areas w.memory w.access_pins)
         (pinned_pages new.objects new.areas new.memory new.access_pins) new.memory new.user_pages w.pins)
         (released : IsReleased areas pins s.memory after before pool) where
@@ -125,20 +126,21 @@ module _ {A : Type 0} (at : ℕ) (w : World) (s : State A) (tidy : IsTidy at w) 
 
       pins_after : PinsShown new.objects new.areas new.memory new.pins after
       pins_after =
-          pins_follow at next w new s.memory after before pool tidy.pins pinned shows.pins is_settled
+          pins_follow at next w new s.memory after before pool tidy.pins pinned tidy.unaccessed same_accesses
+          shows.pins is_settled
           (λ user page. ap (λ l. frame_at l user page) same_pages ∙ pages_after user page)
           (memory ∙ rows_left after w.memory (rows_of s.memory) (over left) shows.pins.rows counts
           ∙ sym released.less.rows)
           (λ n. counts n ∙ ap (λ l. over l n) (sym same_areas))
           (λ n. tables n ∙ ap (λ l. translated l left n) (sym same_objects)
           ∙ ap (λ l. translated new.objects l n) (sym same_areas))
-          released.settles
+          released.less.access released.settles
 
       frames_after : FramesShown w.settings.pool w.writes rows after pool
       frames_after =
           frames.frames_follow w.settings.pool w.writes rows s.memory after before pool shown
           released.settles.holds released.settles.bytes
-          (λ f named. settles_named s.memory after before pool released.settles f named)
+          (λ f named. settles_named s.memory after before pool shows.pins.invariant.rising released.settles f named)
 
       pub shown_over : AreShown new w.writes rows w.user_pages w.settings after pool
       shown_over = record {
@@ -167,7 +169,7 @@ module _ {A : Type 0} (at : ℕ) (w : World) (s : State A) (tidy : IsTidy at w) 
               let pins_old = shows.pins.tables a.memory in
               let pins_new = tables a.memory in
               let areas_new = counts a.memory in
-              pin_stays at w new s.memory after before pool tidy.pins shows.pins pins_after
+              pin_stays at w new s.memory after before pool tidy.pins tidy.unaccessed shows.pins pins_after
               released.settles (object_page page a)
               (page_left areas pins s.memory after released.less (object_page page a)
               (omega (arith, areas_new, few, some)))
@@ -179,7 +181,8 @@ module _ {A : Type 0} (at : ℕ) (w : World) (s : State A) (tidy : IsTidy at w) 
       tables_stand kept stand =
           tables_follow w.settings.pool w.writes w.writes rows (leads_of w) kept s.memory after before pool
           stand shown frames_after
-          (λ f held named. settles_named s.memory after before pool released.settles f named)
+          (λ f held named. settles_named s.memory after before pool shows.pins.invariant.rising released.settles f
+          named)
           (λ f held none. ap (λ (all : List (List ℕ)). get_or all f []) released.settles.bytes)
 
       -- and by where they lead now, where the areas that are left lead as all did
@@ -203,7 +206,7 @@ module _ {A : Type 0} (at : ℕ) (w : World) (s : State A) (tidy : IsTidy at w) 
       pub shown_after : (next : ℕ) (new : World) (after : Memory) (pool : FramePool) → ArePinned next new
           → new.objects ≡ objects → new.areas ≡ left
           → new.memory ≡ filter (λ (m : MemoryObject). ltb 0 (over left m.number)) w.memory
-          → new.user_pages ≡ w.user_pages
+          → new.user_pages ≡ w.user_pages → new.access_pins ≡ w.access_pins
           → new.pins ≡ settled (pinned_pages w.objects w.areas w.memory w.access_pins)
           (pinned_pages new.objects new.areas new.memory new.access_pins) new.memory new.user_pages w.pins
           → IsReleased areas pins s.memory after s.pool pool

@@ -1,6 +1,6 @@
 -- What is kept gives the view of the world that is shown: so the same refuses an event, and the same may come of an
 -- access.
-use Rattle.std.proofs.Common.{◌≡◌, ℕ, ◌+◌, List, Option, Some, None, true, not, sym, ap, refl, eqb, ◌∙◌}
+use Rattle.std.proofs.Common.{◌≡◌, ℕ, ◌+◌, List, [], Option, Some, None, true, not, sym, ap, refl, eqb, ◌∙◌}
 use Rattle.std.specs.List.{find, list_all, range_with_len}
 use Rattle.std.proofs.Math.Path.{fun_ext}
 use Rattle.iofd_words.specs.Allowed.{allowed_of}
@@ -53,7 +53,8 @@ module _ {A : Type 0} (w : World) (s : State A) (shows : Shows w s) where
       s.pool shows.users shows.pins shows.frames
 
   -- the page tables that are there have their rows
-  module _ (owned : list_all (λ table. not (is_orphan w.objects table)) w.table_frames ≡ true) where
+  module _ (owned : list_all (λ table. not (is_orphan w.objects table)) w.table_frames ≡ true)
+      (without : w.access_pins ≡ []) where
     pub same_view : seen s ≡ view w
     same_view =
         let is_open : table.is_open s.objects ≡ file.is_open w.settings w.closed = fun_ext shows.objects.files in
@@ -80,6 +81,7 @@ module _ {A : Type 0} (w : World) (s : State A) (shows : Shows w s) where
         ap (λ (rows : List MemoryObject). pin.held_by (kept.pinned_frame s.memory) rows user) (sym shows.pins.rows)
         ∙ ap (λ (at : ObjectPage → Option FrameNo). pin.held_by at w.memory user) pinned)
         in
+        let none = ap pin.holds_pin without in
         rw (
           is_open,
           bindings,
@@ -91,6 +93,7 @@ module _ {A : Type 0} (w : World) (s : State A) (shows : Shows w s) where
           pages,
           same_count,
           told,
+          none,
           ← shows.settings,
           ← shows.objects.rows,
           ← shows.devices.attached,

@@ -1,4 +1,5 @@
 -- What is kept, as the view that the refusals and the policy read. It is that of the world that is shown.
+use Rattle.std.specs.Prelude.{false}
 use Rattle.frame_memory.specs.Pool.{free_count}
 use Rattle.page_table_set.specs.Kept.{has_kept}
 use Rattle.iofd_words.specs.Allowed.{allowed_of}
@@ -24,6 +25,8 @@ seen s =
       frame_at = frame_at s.memory.pages;
       frame_now = frame_now s.memory;
       pinned_frame = pinned_frame s.memory;
+      -- no event makes a pin of an access object yet
+      holds_pin = λ file access. false;
       held_by = held_by s.memory;
       free_count = free_count s.pool.holds;
       has_table = has_kept s.pool s.page_tables.tables;

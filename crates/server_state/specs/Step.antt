@@ -1,5 +1,5 @@
 -- What one step does to what is kept.
-use Rattle.std.specs.Prelude.{◌≡◌, ℕ, true, Option, None, List}
+use Rattle.std.specs.Prelude.{◌≡◌, ℕ, true, Option, None, List, []}
 use Rattle.iofd_words.specs.After.{changed}
 use Rattle.iofd_words.specs.Answers.{Answers}
 use Rattle.iofd_words.specs.Checks.{refusal}
@@ -46,6 +46,8 @@ pub record IsTidy (at : ℕ) (w : World) : Type 0 where
   pub usable : AreasUsable w
   -- each page table has the tables that it needs
   pub tabled : AreTabled w
+  -- no event makes an access pin yet
+  pub unaccessed : w.access_pins ≡ []
 
 -- a record that took and gave back these frames for tables
 abbrev pub recorded : {A : Type 0} → PassNo → Event A → Reply → List FrameNo → List FrameNo → Record A

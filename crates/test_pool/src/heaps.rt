@@ -1,5 +1,6 @@
 //! A heap, of which a block takes all while a call is refused.
 
+use crate::access_calls::gives_rows;
 use crate::memory_calls::gives_pages;
 use crate::table_calls::gives_room;
 use linked_list_allocator::LocalHeap;
@@ -10,10 +11,12 @@ pub(crate) fn block(heap: &LocalHeap) -> Result<Vec<u8, &LocalHeap>, AllocError>
     Vec::with_capacity(heap, heap.free())
 }
 
-/// Whether a page table and a user's page each find memory once a full heap has refused them.
+/// Whether a page table, pins by accesses and a user's page each find memory once a full heap has refused them.
 fn are_refused_first(alloc: Global) -> bool {
     match LocalHeap::new(alloc, 1 << 12) {
-        Ok(heap) => gives_room(&heap, &heap) && gives_pages(alloc, &heap),
+        Ok(heap) => {
+            gives_room(&heap, &heap) && gives_rows(&heap, &heap) && gives_pages(alloc, &heap)
+        }
         Err(_) => false,
     }
 }

@@ -1,7 +1,8 @@
 -- A memory object more.
 use Rattle.std.proofs.Common.{◌≡◌, ℕ, ◌+◌, ◌^◌, ◌*◌, ◌<◌, ◌≤◌, Bool, true, false, ◌&&◌, cond, eqb, ltb, leb, Option}
-use Rattle.std.proofs.Common.{Some, None, List, [], ◌∷◌, ◌++◌, length, refl, sym, ap, ◌∙◌, subst, arith}
-use Rattle.std.specs.List.{list_all, slice_get}
+use Rattle.std.proofs.Common.{Some, None, List, [], ◌∷◌, ◌++◌, ◌||◌, length, refl, sym, ap, ◌∙◌, subst, arith}
+use Rattle.std.specs.List.{filter_map, list_all, range_with_len, slice_get}
+use Rattle.std.proofs.lemmas.Bool.Decides.{nat_tests}
 use Rattle.std.proofs.lemmas.Bool.{and_from, and_parts, eq-eqb, eqb-true, le-leb, ltb-true, ne_eqb}
 use Rattle.std.proofs.lemmas.List.Folds.{list_all-append}
 use Rattle.iofd_words.specs.Checks as checks
@@ -13,11 +14,11 @@ use Rattle.iofd_words.specs.declared.rows.UserPage.{UserPage}
 use Rattle.frame_memory.specs.Pool.{FramePool}
 use Rattle.mem_account.specs.Accounts.{held_by, is_user, limit_of}
 use Rattle.mem_account.specs.declared.Account.{Account}
-use Rattle.pinned_pages.specs.Holds.{HasMoreHolds}
+use Rattle.pinned_pages.specs.Holds.{HasMoreHolds, times}
 use Rattle.memory_objects.specs.Invariant.{MemoryInvariant}
-use Rattle.memory_objects.specs.Objects.{MemoryEntry, are_below, object_at, row_of, rows_of}
-use Rattle.pinned_pages.specs.Pages.{MemoryPages, ObjectPages}
-use Rattle.memory_objects.proofs.FramesSeen.{frame_there}
+use Rattle.memory_objects.specs.Objects.{MemoryEntry, access_pins_in, are_below, object_at, row_of, rows_of}
+use Rattle.pinned_pages.specs.Pages.{MemoryPages, ObjectPages, frame_of, held_frames, pinned_count}
+use Rattle.pinned_pages.proofs.Runs.{mapped_at, none_mapped, same_mapped}
 use Rattle.memory_objects.proofs.Ledger.{charged_held, length-held, same_limits}
 use Rattle.memory_objects.proofs.Moved.{same_users}
 use Rattle.memory_objects.proofs.PinsStay.{object_appended, pinned_appended, pins_appended}
@@ -73,18 +74,14 @@ none_at (o ∷ objects) number below =
 
 -- ---- the object
 
-and_false : (b : Bool) → (b && false) ≡ false
-and_false true = refl
-and_false false = refl
-
-module _ (rows : List UserPage) (row : MemoryObject) (pinned : Bool) (capacity : ℕ) (present : pinned ≡ true
+module _ (rows : List UserPage) (row : MemoryObject) (pinned : Bool) (capacity spare : ℕ) (present : pinned ≡ true
     → checks.has_pages (frame_at rows) row.user (page_of row.va) row.count ≡ true) where
   -- as it stands in the list
   abbrev pub entry_of : MemoryEntry
   entry_of = record {
     number = row.number;
     areas = 1;
-    pages = record { pages = pages_for rows row pinned; capacity = capacity };
+    pages = record { pages = pages_for rows row pinned; capacity = capacity; room = spare };
   }
 
   framed : length (cond pinned (frames_of rows row) []) ≡ cond pinned row.count 0
@@ -98,37 +95,68 @@ module _ (rows : List UserPage) (row : MemoryObject) (pinned : Bool) (capacity :
   entry_kept : row.count ≤ 2 ^ 36 → is_kept entry_of ≡ true
   entry_kept few =
       and_from (leb row.count (2 ^ 36)) (eqb (length (cond pinned (frames_of rows row) []))
-      (cond (eqb (cond pinned 1 0) 0) 0 row.count))
+      (cond (eqb (cond pinned 1 0) 0) 0 row.count) && true)
       (le-leb row.count (2 ^ 36) few)
+      (and_from (eqb (length (cond pinned (frames_of rows row) [])) (cond (eqb (cond pinned 1 0) 0) 0 row.count)) true
       (eq-eqb (length (cond pinned (frames_of rows row) [])) (cond (eqb (cond pinned 1 0) 0) 0 row.count) (framed
-      ∙ by_pinned pinned))
+      ∙ by_pinned pinned)) refl)
     where
       by_pinned : (b : Bool) → cond b row.count 0 ≡ cond (eqb (cond b 1 0) 0) 0 row.count
       by_pinned true = refl
       by_pinned false = refl
 
-  entry_step : (i : ℕ) → StepOf rows None (Some entry_of) i
-  entry_step i = by_pinned pinned present
+  entry_frame : (i : ℕ) → frame_of (pages_for rows row pinned) i
+      ≡ cond pinned (cond (ltb i row.count) (frame_at rows row.user (page_of row.va + i)) None) None
+  entry_frame i = by_pinned pinned present
     where
-      by_index : (b : Bool) (x : Option FrameNo) → cond b x None ≡ cond (b && true) x None
-      by_index true x = refl
-      by_index false x = refl
-
       by_pinned : (b : Bool) → (b ≡ true → checks.has_pages (frame_at rows) row.user (page_of row.va) row.count ≡ true)
-          → slice_get (cond b (frames_of rows row) []) i ≡ cond (ltb i row.count && ltb 0 (cond b 1 0))
-          (frame_at rows row.user (page_of row.va + i)) None
-      by_pinned true there = frame_there rows row.user (page_of row.va) row.count i (there refl)
-          ∙ by_index (ltb i row.count) (frame_at rows row.user (page_of row.va + i))
-      by_pinned false there = rw (and_false (ltb i row.count)) refl
+          → slice_get (cond b (frames_of rows row) []) i
+          ≡ cond b (cond (ltb i row.count) (frame_at rows row.user (page_of row.va + i)) None) None
+      by_pinned true there =
+          let same : 0 + i ≡ i = omega arith in
+          mapped_at (λ k. frame_at rows row.user (page_of row.va + k)) 0 row.count i (there refl)
+          ∙ ap (λ k. cond (ltb i row.count) (frame_at rows row.user (page_of row.va + k)) None) same
+      by_pinned false there = refl
+
+  entry_held : held_frames (pages_for rows row pinned) ≡ cond pinned (frames_of rows row) []
+  entry_held =
+      same_mapped (frame_of (pages_for rows row pinned))
+      (λ i. cond pinned (frame_at rows row.user (page_of row.va + i)) None) 0 row.count
+      (λ i low high.
+      let within : ltb i row.count ≡ true = grind (arith, nat_tests) in
+      entry_frame i ∙ ap (λ b. cond pinned (cond b (frame_at rows row.user (page_of row.va + i)) None) None) within)
+      ∙ by_pinned pinned
+    where
+      by_pinned : (b : Bool) → filter_map (λ i. cond b (frame_at rows row.user (page_of row.va + i)) None)
+          (range_with_len 0 row.count) ≡ cond b (frames_of rows row) []
+      by_pinned true = refl
+      by_pinned false = none_mapped (λ i. None) 0 row.count (λ i low high. refl)
+
+  entry_step : (i : ℕ) → StepOf rows None (Some entry_of) i
+  entry_step i = entry_frame i ∙ by_pinned pinned (ltb i row.count)
+    where
+      by_pinned : (b c : Bool) → cond b (cond c (frame_at rows row.user (page_of row.va + i)) None) None
+          ≡ cond (c && (ltb 0 (cond b 1 0) || false)) (frame_at rows row.user (page_of row.va + i)) None
+      by_pinned true true = refl
+      by_pinned true false = refl
+      by_pinned false true = refl
+      by_pinned false false = refl
+
+-- without a pin none of its pages is pinned
+pub none_pinned : (rows : List UserPage) (row : MemoryObject) (pinned : Bool) → cond {A = ℕ} pinned 1 0 ≡ 0
+    → pinned_count (pages_for rows row pinned) ≡ 0
+none_pinned rows row true none = absurd (omega (arith, none))
+none_pinned rows row false none =
+    ap length (none_mapped (frame_of (pages_for rows row false)) 0 row.count (λ i low high. refl))
 
 -- ---- the objects with it
 
 module _ (rows : List UserPage) (accounts : List Account) (old : List MemoryEntry) (tell : AccountsTell accounts old)
-    (row : MemoryObject) (pinned : Bool) (capacity : ℕ) (present : pinned ≡ true
+    (row : MemoryObject) (pinned : Bool) (capacity spare : ℕ) (present : pinned ≡ true
     → checks.has_pages (frame_at rows) row.user (page_of row.va) row.count ≡ true) (below : are_below old
     row.number ≡ true) where
   abbrev pub entry : MemoryEntry
-  entry = entry_of rows row pinned capacity present
+  entry = entry_of rows row pinned capacity spare present
 
   abbrev pub with_entry : List MemoryEntry
   with_entry = old ++ entry ∷ []
@@ -147,7 +175,8 @@ module _ (rows : List UserPage) (accounts : List Account) (old : List MemoryEntr
       by_test : (b : Bool) → (b ≡ true → object_at old k ≡ None)
           → StepOf rows (object_at old k) (cond b (Some entry) (object_at old k)) i
       by_test true none = let Q : Option MemoryEntry → Type 0 =
-          λ a. StepOf rows a (Some entry) i in subst Q (sym (none refl)) (entry_step rows row pinned capacity present i)
+          λ a. StepOf rows a (Some entry) i in subst Q (sym (none refl)) (entry_step rows row pinned capacity spare
+          present i)
       by_test false none = step_same rows (object_at old k) i (λ o is. found_passes is_kept old k o tell.told.kept is)
 
   pub add_object : (old_limits new_limits : List ℕ)
@@ -156,11 +185,18 @@ module _ (rows : List UserPage) (accounts : List Account) (old : List MemoryEntr
     rows = rows_with old;
     areas = λ k. ap areas_in (found_with k) ∙ by_areas k (eqb row.number k) (none_before k);
     pins = λ k. ap pins_in (found_with k) ∙ by_pins k (eqb row.number k) (none_before k);
+    access = λ page. ap (λ o. access_pins_in o page.index) (found_with page.memory)
+        ∙ by_access page.memory page.index (eqb row.number page.memory) (none_before page.memory);
   }
     where
       rows_with : (xs : List MemoryEntry) → rows_of (xs ++ entry ∷ []) ≡ rows_of xs ++ row ∷ []
       rows_with [] = refl
       rows_with (x ∷ xs) = ap (λ rest. row_of x ∷ rest) (rows_with xs)
+
+      by_access : (k i : ℕ) (b : Bool) → (b ≡ true → object_at old k ≡ None)
+          → access_pins_in (cond b (Some entry) (object_at old k)) i ≡ access_pins_in (object_at old k) i
+      by_access k i true none = rw (none refl) refl
+      by_access k i false none = refl
 
       by_areas : (k : ℕ) (b : Bool) → (b ≡ true → object_at old k ≡ None)
           → areas_in (cond b (Some entry) (object_at old k)) ≡ areas_in (object_at old k) + cond b 1 0
@@ -212,7 +248,8 @@ module _ (rows : List UserPage) (accounts : List Account) (old : List MemoryEntr
           let held = tell.held user was in
           let charge = charged_by user was in
           let more = pinned_appended old entry user in
-          let same = ap (λ n. cond (eqb row.user.0 user) n 0) (framed rows row pinned capacity present) in
+          let same = ap (λ n. cond (eqb row.user.0 user) n 0) (ap length (entry_held rows row pinned capacity spare
+          present) ∙ framed rows row pinned capacity spare present) in
           omega (arith, held, charge, more, same);
       users = all_alike (has_user accounts) (has_user (charged_for accounts row pinned))
           (λ o. same_users accounts (charged_for accounts row pinned) charged_count o.pages.pages.user.0) with_entry
@@ -221,7 +258,7 @@ module _ (rows : List UserPage) (accounts : List Account) (old : List MemoryEntr
         memory = kept;
         kept = list_all-append is_kept old (entry ∷ [])
             ∙ both (list_all is_kept old) (is_kept entry) tell.told.kept
-            (entry_kept rows row pinned capacity present few);
+            (entry_kept rows row pinned capacity spare present few);
       };
     }
       where
@@ -236,7 +273,8 @@ module _ (rows : List UserPage) (accounts : List Account) (old : List MemoryEntr
       settle rows (limits_of accounts) new_limits old with_entry before after same
       tell.told.memory.rising add_steps more.count
       (λ frame. let holds = more.holds frame in let named = pins_appended old entry frame in
-      omega (arith, holds, named)) more.bytes kept
+      let own = ap (times frame) (entry_held rows row pinned capacity spare present) in
+      omega (arith, holds, named, own)) more.bytes kept
 
 -- the objects that the call leaves
 pub added_is : (rows : List UserPage) (row : MemoryObject) (pinned : Bool) (reserved old new : List MemoryEntry)
@@ -245,12 +283,12 @@ pub added_is : (rows : List UserPage) (row : MemoryObject) (pinned : Bool) (rese
     → new ≡ old ++ record {
       number = row.number;
       areas = 1;
-      pages = record { pages = pages_for rows row pinned; capacity = pages.capacity };
+      pages = record { pages = pages_for rows row pinned; capacity = pages.capacity; room = pages.room };
     } ∷ []
 added_is rows row pinned reserved old new pages is same made =
     is ∙ ap (λ xs. xs ++ record { number = row.number; areas = 1; pages = pages } ∷ []) same
     ∙ ap (λ (p : ObjectPages). old ++ record {
       number = row.number;
       areas = 1;
-      pages = record { pages = p; capacity = pages.capacity };
+      pages = record { pages = p; capacity = pages.capacity; room = pages.room };
     } ∷ []) made

@@ -14,43 +14,15 @@ use Rattle.iofd_words.specs.declared.numbers.UserNo.{UserNo}
 use Rattle.iofd_words.specs.declared.rows.MemoryObject.{MemoryObject}
 use Rattle.memory_objects.specs.Objects.{MemoryEntry, frame_in, object_at, pinned_by, row_of, rows_of}
 use Rattle.memory_objects.specs.Objects as objects
-use Rattle.pinned_pages.specs.Pages.{new_count, pinned_count}
+use Rattle.memory_objects.proofs.OneObject.{sum_by-map}
+use Rattle.pinned_pages.specs.Pages.{access_frame, count_of_others, frame_of, new_count, or_else, pinned_count}
+use Rattle.pinned_pages.proofs.AccessRows.{none_counted}
+use Rattle.pinned_pages.proofs.Runs.{length_mapped, or_none, same_counted, some_or, some_within}
 use Rattle.user_memory.specs.Invariant.{ObjectsTell, is_kept}
 use Rattle.user_memory.specs.Memory.{Memory, held_by, newly_pinned, pinned_frame}
 use Rattle.user_memory.proofs.Found.{AreOwn, kept_frames, own_numbers}
 
--- ---- pages that all pass a test, or none
-
-pub all_counted : (q : ObjectPage → Bool) (number from count : ℕ)
-    → ((i : ℕ) → from ≤ i → i < from + count → q (record { memory = number; index = i }) ≡ true)
-    → count_by q (map (λ i. record { memory = number; index = i }) (range_with_len from count)) ≡ count
-all_counted q number from zero each = refl
-all_counted q number from (suc count) each =
-    let here = each from (omega arith) (omega arith) in
-    let rest =
-    all_counted q number (from + 1) count (λ i low high. each i (omega (arith, low)) (omega (arith, high))) in
-    let sum = sum_by-cons (λ (p : ObjectPage). cond (q p) 1 0) (record { memory = number; index = from })
-    (map (λ i. record { memory = number; index = i }) (range_with_len (from + 1) count)) in
-    sum ∙ rw (here, rest) (omega arith)
-
-pub none_counted : (q : ObjectPage → Bool) (number from count : ℕ)
-    → ((i : ℕ) → from ≤ i → i < from + count → q (record { memory = number; index = i }) ≡ false)
-    → count_by q (map (λ i. record { memory = number; index = i }) (range_with_len from count)) ≡ 0
-none_counted q number from zero each = refl
-none_counted q number from (suc count) each =
-    let here = each from (omega arith) (omega arith) in
-    let rest =
-    none_counted q number (from + 1) count (λ i low high. each i (omega (arith, low)) (omega (arith, high))) in
-    let sum = sum_by-cons (λ (p : ObjectPage). cond (q p) 1 0) (record { memory = number; index = from })
-    (map (λ i. record { memory = number; index = i }) (range_with_len (from + 1) count)) in
-    sum ∙ rw (here, rest) refl
-
--- ---- a frame of a list
-
-pub some_within : (frames : List FrameNo) (i : ℕ) → i < length frames → is_some (slice_get frames i) ≡ true
-some_within [] i low = absurd (omega (arith, low))
-some_within (f ∷ frames) zero low = refl
-some_within (f ∷ frames) (suc i) low = some_within frames i (omega (arith, low))
+-- ---- a frame
 
 pub none_from_some : (f : Option FrameNo) → is_some f ≡ true → is_none f ≡ false
 none_from_some (Some f) some = refl
@@ -60,44 +32,42 @@ none_from_some None some = cc
 
 module _ (all : List MemoryEntry) (o : MemoryEntry) (own : object_at all o.number ≡ Some o) (kept : is_kept o ≡ true)
   where
-    frame_there : (i : ℕ) → frame_in (object_at all o.number) i ≡ slice_get o.pages.pages.frames i
-    frame_there i = ap (λ x. frame_in x i) own
+    frame_at : (i : ℕ) → frame_in (object_at all o.number) i ≡ frame_of o.pages.pages i
+    frame_at i = ap (λ x. frame_in x i) own
+
+    of_pages : (q : Option FrameNo → Bool)
+        → count_by (λ (page : ObjectPage). q (frame_in (object_at all page.memory) page.index))
+        (pages_from o.number o.pages.pages.count)
+        ≡ count_by (λ i. q (frame_of o.pages.pages i)) (range_with_len 0 o.pages.pages.count)
+    of_pages q =
+        sum_by-map (λ (page : ObjectPage). cond (q (frame_in (object_at all page.memory) page.index)) 1 0)
+        (λ i. record { memory = o.number; index = i }) (range_with_len 0 o.pages.pages.count)
+        ∙ same_counted (λ i. q (frame_in (object_at all o.number) i)) (λ i. q (frame_of o.pages.pages i)) 0
+        o.pages.pages.count (λ i low high. ap q (frame_at i))
 
     its_pinned : count_by (λ (page : ObjectPage). is_some (frame_in (object_at all page.memory) page.index))
         (pages_from o.number o.pages.pages.count) ≡ pinned_count o.pages.pages
-    its_pinned = by_pins (eqb o.pages.pages.table_pins 0) (kept_frames o kept)
-      where
-        by_pins : (b : Bool) → length o.pages.pages.frames ≡ cond b 0 o.pages.pages.count
-            → count_by (λ (page : ObjectPage). is_some (frame_in (object_at all page.memory) page.index))
-            (pages_from o.number o.pages.pages.count) ≡ length o.pages.pages.frames
-        by_pins true count =
-            none_counted (λ (page : ObjectPage). is_some (frame_in (object_at all page.memory) page.index))
-            o.number 0 o.pages.pages.count
-            (λ i low high. ap is_some (frame_there i ∙ slice_get_past o.pages.pages.frames i (omega (arith, count))))
-            ∙ sym count
-        by_pins false count =
-            all_counted (λ (page : ObjectPage). is_some (frame_in (object_at all page.memory) page.index))
-            o.number 0 o.pages.pages.count
-            (λ i low high. ap is_some (frame_there i) ∙ some_within o.pages.pages.frames i (omega (arith, count, high)))
-            ∙ sym count
+    its_pinned = of_pages is_some
+        ∙ sym (length_mapped (frame_of o.pages.pages) (range_with_len 0 o.pages.pages.count))
 
     its_new : count_by (λ (page : ObjectPage). is_none (frame_in (object_at all page.memory) page.index))
         (pages_from o.number o.pages.pages.count) ≡ new_count o.pages.pages
-    its_new = by_pins (eqb o.pages.pages.table_pins 0) (kept_frames o kept)
+    its_new = of_pages is_none ∙ by_pins (eqb o.pages.pages.table_pins 0) refl (kept_frames o kept)
       where
-        by_pins : (b : Bool) → length o.pages.pages.frames ≡ cond b 0 o.pages.pages.count
-            → count_by (λ (page : ObjectPage). is_none (frame_in (object_at all page.memory) page.index))
-            (pages_from o.number o.pages.pages.count) ≡ cond b o.pages.pages.count 0
-        by_pins true count =
-            all_counted (λ (page : ObjectPage). is_none (frame_in (object_at all page.memory) page.index))
-            o.number 0 o.pages.pages.count
-            (λ i low high. ap is_none (frame_there i ∙ slice_get_past o.pages.pages.frames i (omega (arith, count))))
-        by_pins false count =
-            none_counted (λ (page : ObjectPage). is_none (frame_in (object_at all page.memory) page.index))
-            o.number 0 o.pages.pages.count
-            (λ i low high. ap is_none (frame_there i)
-            ∙ none_from_some (slice_get o.pages.pages.frames i)
-            (some_within o.pages.pages.frames i (omega (arith, count, high))))
+        by_pins : (b : Bool) → eqb o.pages.pages.table_pins 0 ≡ b
+            → length o.pages.pages.frames ≡ cond b 0 o.pages.pages.count
+            → count_by (λ i. is_none (frame_of o.pages.pages i)) (range_with_len 0 o.pages.pages.count)
+            ≡ cond b (count_of_others o.pages.pages) 0
+        by_pins true is count =
+            same_counted (λ i. is_none (frame_of o.pages.pages i)) (λ i. is_none (access_frame o.pages.pages i)) 0
+            o.pages.pages.count
+            (λ i low high. ap is_none (ap (or_else (access_frame o.pages.pages i))
+            (slice_get_past o.pages.pages.frames i (omega (arith, count))) ∙ or_none (access_frame o.pages.pages i)))
+        by_pins false is count =
+            same_counted (λ i. is_none (frame_of o.pages.pages i)) (λ i. false) 0 o.pages.pages.count
+            (λ i low high. none_from_some (frame_of o.pages.pages i) (some_or (access_frame o.pages.pages i)
+            (slice_get o.pages.pages.frames i) (some_within o.pages.pages.frames i (omega (arith, count, high)))))
+            ∙ none_counted 0 o.pages.pages.count
 
 -- ---- the pages of all objects whose rows pass a test
 

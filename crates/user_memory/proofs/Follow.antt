@@ -1,8 +1,9 @@
 -- The holds of frames follow what names them.
 use Rattle.std.proofs.Common.{◌≡◌, ◌≢◌, ℕ, suc, ◌+◌, ◌-◌, ◌*◌, ◌^◌, ◌<◌, ◌≤◌, Bool, true, false, ◌&&◌, cond, eqb}
 use Rattle.std.proofs.Common.{Option, Some, None, List, [], ◌∷◌, length, get_or, set, refl, sym, ap, ◌∙◌, arith, ⊎_elim}
-use Rattle.std.specs.Prelude.{IfSome, IsSome}
-use Rattle.std.specs.List.{count_by, find, list_all, list_any}
+use Rattle.std.specs.Prelude.{IfSome, IsSome, is_none, is_some}
+use Rattle.std.specs.List.{count_by, find, list_all, list_any, range_with_len}
+use Rattle.std.proofs.lemmas.List.FromFn.{length-range_with_len}
 use Rattle.std.proofs.lemmas.Bool.{and_parts, cases_eq, eqb-true, eq-eqb, ne_eqb, lt-ltb}
 use Rattle.std.proofs.lemmas.List.{get_or-set_other, get_or-set_same, length-set}
 use Rattle.std.proofs.lemmas.List.Quantifiers.{position-Some}
@@ -14,12 +15,14 @@ use Rattle.iofd_words.specs.declared.rows.UserPage.{UserPage}
 use Rattle.frame_memory.specs.Pool.{FramePool, given, least_free, may_hold, with_holds}
 use Rattle.frame_memory.specs.UserPages.{HasOneMore, are_within, user_page}
 use Rattle.pinned_pages.specs.Holds.{times}
+use Rattle.pinned_pages.specs.Pages.{access_frame, count_of_others, frame_of, held_frames, new_count}
+use Rattle.pinned_pages.proofs.Runs.{length_mapped}
 use Rattle.memory_objects.specs.Objects.{MemoryEntry, new_pages, pins_on}
 use Rattle.pinned_pages.proofs.HoldsMove.{held_within, times_few}
 use Rattle.user_memory.specs.Changes.{HoldsFollow}
 use Rattle.user_memory.specs.Invariant.{is_kept}
 use Rattle.user_memory.specs.Memory.{IsBacked, Memory, reached}
-use Rattle.user_memory.proofs.Found.{kept_count, kept_frames}
+use Rattle.user_memory.proofs.Found.{kept_count}
 
 -- where they follow, each frame keeps a hold for each page and each pin
 pub follow : (old new : Memory) (before after : FramePool) → length after.holds ≡ length before.holds
@@ -223,18 +226,13 @@ few_pins [] frame kept = omega arith
 few_pins (o ∷ objects) frame kept =
     let parts = and_parts (is_kept o) (list_all is_kept objects) kept in
     let rest = few_pins objects frame parts.1 in
-    let sum = sum_by-cons (λ (x : MemoryEntry). times frame x.pages.pages.frames) o objects in
-    let here = times_few frame o.pages.pages.frames in
+    let sum = sum_by-cons (λ (x : MemoryEntry). times frame (held_frames x.pages.pages)) o objects in
+    let here = times_few frame (held_frames o.pages.pages) in
+    let long = length_mapped (frame_of o.pages.pages) (range_with_len 0 o.pages.pages.count) in
+    let all = count_by-le-length (λ i. is_some (frame_of o.pages.pages i)) (range_with_len 0 o.pages.pages.count) in
+    let count = length-range_with_len 0 o.pages.pages.count in
     let few = kept_count o parts.0 in
-    let count = kept_frames o parts.0 in
-    by_pins (eqb o.pages.pages.table_pins 0) count sum here few rest
-  where
-    by_pins : (b : Bool) → length o.pages.pages.frames ≡ cond b 0 o.pages.pages.count
-        → pins_on (o ∷ objects) frame ≡ times frame o.pages.pages.frames + pins_on objects frame
-        → times frame o.pages.pages.frames ≤ length o.pages.pages.frames → o.pages.pages.count ≤ 2 ^ 36
-        → pins_on objects frame ≤ 2 ^ 36 * length objects → pins_on (o ∷ objects) frame ≤ 2 ^ 36 * suc (length objects)
-    by_pins true count sum here few rest = omega (arith, count, sum, here, few, rest)
-    by_pins false count sum here few rest = omega (arith, count, sum, here, few, rest)
+    omega (arith, rest, sum, here, long, all, count, few)
 
 pub few_new : (objects : List MemoryEntry) (numbers : List ℕ) → list_all is_kept objects ≡ true
     → new_pages objects numbers ≤ 2 ^ 36 * length objects
@@ -243,12 +241,16 @@ few_new (o ∷ objects) numbers kept =
     let parts = and_parts (is_kept o) (list_all is_kept objects) kept in
     let rest = few_new objects numbers parts.1 in
     let sum = sum_by-cons (λ (x : MemoryEntry). cond (list_any (λ n. eqb n x.number) numbers)
-    (cond (eqb x.pages.pages.table_pins 0) x.pages.pages.count 0) 0) o objects in
+    (new_count x.pages.pages) 0) o objects in
+    let all = count_by-le-length (λ i. is_none (access_frame o.pages.pages i)) (range_with_len 0 o.pages.pages.count) in
+    let count = length-range_with_len 0 o.pages.pages.count in
     let few = kept_count o parts.0 in
-    by_tests (list_any (λ n. eqb n o.number) numbers) (eqb o.pages.pages.table_pins 0) sum few rest
+    by_tests (list_any (λ n. eqb n o.number) numbers) (eqb o.pages.pages.table_pins 0) sum
+    (omega (arith, all, count, few)) rest
   where
-    by_tests : (a b : Bool) → new_pages (o ∷ objects) numbers ≡ cond a (cond b o.pages.pages.count 0) 0
-        + new_pages objects numbers → o.pages.pages.count ≤ 2 ^ 36 → new_pages objects numbers ≤ 2 ^ 36 * length objects
+    by_tests : (a b : Bool) → new_pages (o ∷ objects) numbers ≡ cond a (cond b (count_of_others o.pages.pages) 0) 0
+        + new_pages objects numbers → count_of_others o.pages.pages ≤ 2 ^ 36
+        → new_pages objects numbers ≤ 2 ^ 36 * length objects
         → new_pages (o ∷ objects) numbers ≤ 2 ^ 36 * suc (length objects)
     by_tests true true sum few rest = omega (arith, sum, few, rest)
     by_tests true false sum few rest = omega (arith, sum, few, rest)

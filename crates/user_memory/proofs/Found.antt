@@ -1,21 +1,27 @@
 -- Memory objects found by number, and which of their pages are pinned.
 use Rattle.std.proofs.Common.{◌≡◌, ℕ, ◌+◌, ◌≤◌, ◌^◌, Bool, true, false, ◌&&◌, ◌||◌, cond, eqb, ltb, leb, Option, Some}
 use Rattle.std.proofs.Common.{None, List, [], ◌∷◌, length, refl, sym, ap, ◌∙◌, subst, arith, ⊎_elim}
-use Rattle.std.specs.List.{find, list_all, list_any, slice_get}
+use Rattle.std.specs.Prelude.{is_some}
+use Rattle.std.specs.List.{find, list_all, list_any}
 use Rattle.std.proofs.lemmas.Bool.{and_parts, cases_Bool, eqb-true, eqb-false, eq-eqb, ne_eqb, ltb-true, ltb-false}
 use Rattle.std.proofs.lemmas.Bool.{leb-true, lt-ltb}
-use Rattle.std.proofs.lemmas.Option.{slice_get_past}
 use Rattle.iofd_words.specs.Frames.{frame_at}
 use Rattle.iofd_words.specs.Pages.{page_of}
 use Rattle.iofd_words.specs.Pins as pin
+use Rattle.iofd_words.specs.Pins.{ObjectPage}
 use Rattle.iofd_words.specs.declared.numbers.FrameNo.{FrameNo}
 use Rattle.iofd_words.specs.declared.rows.MemoryObject.{MemoryObject}
 use Rattle.iofd_words.specs.declared.rows.UserPage.{UserPage}
-use Rattle.memory_objects.specs.Objects.{MemoryEntry, are_rising, object_at, rows_of}
+use Rattle.memory_objects.specs.Objects.{MemoryEntry, access_pins_in, access_pins_on, are_rising, object_at, rows_of}
+use Rattle.pinned_pages.specs.Access.{are_counted}
+use Rattle.pinned_pages.specs.Pages.{frame_of, is_pinned}
+use Rattle.pinned_pages.proofs.PinnedPage.{frame_there}
+use Rattle.pinned_pages.proofs.Runs.{none_is}
 use Rattle.memory_objects.proofs.Invariants.{row_found, rows_found}
 use Rattle.memory_objects.proofs.Numbered.{rising_parts}
 use Rattle.user_memory.specs.Invariant.{is_kept}
-use Rattle.user_memory.specs.Memory.{pins_in}
+use Rattle.user_memory.specs.Memory as memory
+use Rattle.user_memory.specs.Memory.{Memory, pins_in}
 
 -- ---- the object of a number
 
@@ -59,10 +65,10 @@ abbrev pub has_index : Option MemoryEntry → ℕ → Bool
 has_index None i = false
 has_index (Some o) i = ltb i o.pages.pages.count
 
--- it has the page, and a pin
+-- it has the page, and a pin stands on it
 abbrev pub pinned_in : Option MemoryEntry → ℕ → Bool
 pinned_in None i = false
-pinned_in (Some o) i = ltb i o.pages.pages.count && ltb 0 o.pages.pages.table_pins
+pinned_in (Some o) i = is_pinned o.pages.pages i
 
 -- the frame that the page is in its user's memory now
 abbrev pub now_in : List UserPage → Option MemoryEntry → ℕ → Option FrameNo
@@ -83,7 +89,7 @@ or_none : (b : Bool) → (b || false) ≡ b
 or_none true = refl
 or_none false = refl
 
-row_has : (objects : List MemoryEntry) (n i : ℕ) → are_rising objects ≡ true
+pub row_has : (objects : List MemoryEntry) (n i : ℕ) → are_rising objects ≡ true
     → list_any (λ (row : MemoryObject). eqb n row.number && ltb i row.count)
     (rows_of objects) ≡ has_index (object_at objects n) i
 row_has [] n i rising = refl
@@ -102,11 +108,15 @@ row_has (o ∷ objects) n i rising =
 
 pub pinned_found : (objects : List MemoryEntry) (n i : ℕ) → are_rising objects ≡ true
     → (list_any (λ (row : MemoryObject). eqb n row.number && ltb i row.count) (rows_of objects)
-    && ltb 0 (pins_in (object_at objects n))) ≡ pinned_in (object_at objects n) i
+    && (ltb 0 (pins_in (object_at objects n)) || ltb 0 (access_pins_on objects n i))) ≡ pinned_in (object_at objects n)
+    i
 pinned_found objects n i rising =
-    ap (λ b. b && ltb 0 (pins_in (object_at objects n))) (row_has objects n i rising) ∙ by_object (object_at objects n)
+    ap (λ b. b && (ltb 0 (pins_in (object_at objects n)) || ltb 0 (access_pins_on objects n i)))
+    (row_has objects n i rising)
+    ∙ by_object (object_at objects n)
   where
-    by_object : (o : Option MemoryEntry) → (has_index o i && ltb 0 (pins_in o)) ≡ pinned_in o i
+    by_object : (o : Option MemoryEntry)
+        → (has_index o i && (ltb 0 (pins_in o) || ltb 0 (access_pins_in o i))) ≡ pinned_in o i
     by_object None = refl
     by_object (Some o) = refl
 
@@ -131,35 +141,44 @@ now_found objects rows n i = as_row (find (λ (m : MemoryObject). eqb m.number n
     by_object None = refl
     by_object (Some o) = refl
 
--- ---- all of its pages are pinned or none
+-- a page that is pinned is one of its object
+pub pinned_has : (m : Memory) (page : ObjectPage) → are_rising m.objects ≡ true → memory.is_pinned m page ≡ true
+    → has_index (object_at m.objects page.memory) page.index ≡ true
+pinned_has m page rising pinned =
+    sym (row_has m.objects page.memory page.index rising)
+    ∙ (and_parts (list_any (λ (row : MemoryObject). eqb page.memory row.number && ltb page.index row.count)
+    (rows_of m.objects)) (ltb 0 (pins_in (object_at m.objects page.memory))
+    || ltb 0 (access_pins_on m.objects page.memory page.index)) pinned).0
 
-pub kept_count : (o : MemoryEntry) → is_kept o ≡ true → o.pages.pages.count ≤ 2 ^ 36
-kept_count o kept =
-    let parts = and_parts (leb o.pages.pages.count (2 ^ 36))
-    (eqb (length o.pages.pages.frames) (cond (eqb o.pages.pages.table_pins 0) 0 o.pages.pages.count)) kept in
-    leb-true o.pages.pages.count (2 ^ 36) parts.0
+-- ---- page tables pin all of its pages or none, and accesses some
 
-pub kept_frames : (o : MemoryEntry) → is_kept o ≡ true
-    → length o.pages.pages.frames ≡ cond (eqb o.pages.pages.table_pins 0) 0 o.pages.pages.count
-kept_frames o kept =
-    let parts = and_parts (leb o.pages.pages.count (2 ^ 36))
-    (eqb (length o.pages.pages.frames) (cond (eqb o.pages.pages.table_pins 0) 0 o.pages.pages.count)) kept in
-    eqb-true (length o.pages.pages.frames) (cond (eqb o.pages.pages.table_pins 0) 0 o.pages.pages.count) parts.1
+module _ (o : MemoryEntry) (kept : is_kept o ≡ true) where
+  kept_parts : (leb o.pages.pages.count (2 ^ 36) ≡ true)
+      × ((eqb (length o.pages.pages.frames) (cond (eqb o.pages.pages.table_pins 0) 0 o.pages.pages.count) ≡ true)
+      × (are_counted o.pages.pages.count o.pages.pages.access ≡ true))
+  kept_parts =
+      let parts = and_parts (leb o.pages.pages.count (2 ^ 36))
+      (eqb (length o.pages.pages.frames) (cond (eqb o.pages.pages.table_pins 0) 0 o.pages.pages.count)
+      && are_counted o.pages.pages.count o.pages.pages.access) kept in (
+        parts.0,
+        and_parts (eqb (length o.pages.pages.frames)
+            (cond (eqb o.pages.pages.table_pins 0) 0 o.pages.pages.count))
+            (are_counted o.pages.pages.count o.pages.pages.access) parts.1,
+      )
 
-pub not_pinned : (o : MemoryEntry) (i : ℕ) → is_kept o ≡ true → pinned_in (Some o) i ≡ false
-    → slice_get o.pages.pages.frames i ≡ None
-not_pinned o i kept out =
-    slice_get_past o.pages.pages.frames i (by_pins (eqb o.pages.pages.table_pins 0) refl (kept_frames o kept))
-  where
-    by_pins : (b : Bool) → eqb o.pages.pages.table_pins 0 ≡ b
-        → length o.pages.pages.frames ≡ cond b 0 o.pages.pages.count → length o.pages.pages.frames ≤ i
-    by_pins true is count = omega (arith, count)
-    by_pins false is count =
-        let some = eqb-false o.pages.pages.table_pins 0 is in
-        let up : ltb 0 o.pages.pages.table_pins ≡ true = lt-ltb 0 o.pages.pages.table_pins (omega (arith, some)) in
-        let past : ltb i o.pages.pages.count ≡ false = past_end (ltb i o.pages.pages.count) (rw up at out) in
-        omega (arith, ltb-false i o.pages.pages.count past, count)
-      where
-        past_end : (b : Bool) → (b && true) ≡ false → b ≡ false
-        past_end true e = cc
-        past_end false e = refl
+  pub kept_count : o.pages.pages.count ≤ 2 ^ 36
+  kept_count = leb-true o.pages.pages.count (2 ^ 36) kept_parts.0
+
+  pub kept_frames : length o.pages.pages.frames ≡ cond (eqb o.pages.pages.table_pins 0) 0 o.pages.pages.count
+  kept_frames = eqb-true (length o.pages.pages.frames) (cond (eqb o.pages.pages.table_pins 0) 0 o.pages.pages.count)
+      kept_parts.1.0
+
+  pub kept_rows : are_counted o.pages.pages.count o.pages.pages.access ≡ true
+  kept_rows = kept_parts.1.1
+
+  -- a page has a frame just where it is pinned
+  pub page_there : (i : ℕ) → is_some (frame_of o.pages.pages i) ≡ is_pinned o.pages.pages i
+  page_there i = frame_there o.pages.pages kept_rows kept_frames i
+
+  pub not_pinned : (i : ℕ) → is_pinned o.pages.pages i ≡ false → frame_of o.pages.pages i ≡ None
+  not_pinned i out = none_is (frame_of o.pages.pages i) (page_there i ∙ out)

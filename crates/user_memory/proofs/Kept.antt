@@ -1,14 +1,18 @@
 -- All pages of an object are pinned or none, after a pin more or less too.
 use Rattle.std.proofs.Common.{◌≡◌, ℕ, ◌+◌, ◌-◌, ◌^◌, ◌≤◌, Bool, true, false, ◌&&◌, ◌||◌, cond, eqb, leb, not, List, []}
 use Rattle.std.proofs.Common.{length, refl, ap, ◌∙◌, arith}
-use Rattle.std.proofs.lemmas.Bool.{and_from, and_parts, eq-eqb, eqb-true, eqb-false, leb-true, leb-false, ne_eqb}
-use Rattle.iofd_words.specs.Pages.{page_of}
+use Rattle.std.proofs.lemmas.Bool.{and_from, and_parts, eq-eqb, eqb-true, eqb-false, le-leb, leb-true, leb-false}
+use Rattle.std.proofs.lemmas.Bool.{ne_eqb}
+use Rattle.std.specs.Prelude.{is_some}
+use Rattle.std.specs.List.{range_with_len}
+use Rattle.std.proofs.lemmas.List.FromFn.{length-range_with_len}
 use Rattle.iofd_words.specs.declared.rows.UserPage.{UserPage}
 use Rattle.memory_objects.specs.Objects.{MemoryEntry, can_pin, pinned_less, pinned_more, with_pages}
-use Rattle.pinned_pages.specs.Pages.{are_present, own_frames_now}
-use Rattle.pinned_pages.proofs.UsersPages.{all_framed}
+use Rattle.pinned_pages.specs.Access.{are_counted}
+use Rattle.pinned_pages.specs.Pages.{are_present, own_frame_now, own_frames_now}
+use Rattle.pinned_pages.proofs.Runs.{all_ones, length_mapped}
 use Rattle.user_memory.specs.Invariant.{is_kept}
-use Rattle.user_memory.proofs.Found.{kept_frames}
+use Rattle.user_memory.proofs.Found.{kept_count, kept_frames, kept_rows}
 
 -- how many frames an object has that isn't pinned, or is
 frames_of : (o : MemoryEntry) → is_kept o ≡ true → (b : Bool) → eqb o.pages.pages.table_pins 0 ≡ b
@@ -16,18 +20,22 @@ frames_of : (o : MemoryEntry) → is_kept o ≡ true → (b : Bool) → eqb o.pa
 frames_of o kept b is = kept_frames o kept ∙ ap (λ c. cond c 0 o.pages.pages.count) is
 
 kept_from : (o p : MemoryEntry) → is_kept o ≡ true → p.pages.pages.count ≡ o.pages.pages.count
+    → p.pages.pages.access ≡ o.pages.pages.access
     → length p.pages.pages.frames ≡ cond (eqb p.pages.pages.table_pins 0) 0 p.pages.pages.count → is_kept p ≡ true
-kept_from o p kept count frames =
-    let parts = and_parts (leb o.pages.pages.count (2 ^ 36))
-    (eqb (length o.pages.pages.frames) (cond (eqb o.pages.pages.table_pins 0) 0 o.pages.pages.count)) kept in
+kept_from o p kept count access frames =
+    let few = le-leb p.pages.pages.count (2 ^ 36) (omega (arith, count, kept_count o kept)) in
+    let rows = ap (λ n. are_counted n p.pages.pages.access) count ∙ ap (are_counted o.pages.pages.count) access
+    ∙ kept_rows o kept in
     and_from (leb p.pages.pages.count (2 ^ 36))
-    (eqb (length p.pages.pages.frames) (cond (eqb p.pages.pages.table_pins 0) 0 p.pages.pages.count))
-    (ap (λ n. leb n (2 ^ 36)) count ∙ parts.0)
-    (eq-eqb (length p.pages.pages.frames) (cond (eqb p.pages.pages.table_pins 0) 0 p.pages.pages.count) frames)
+    (eqb (length p.pages.pages.frames) (cond (eqb p.pages.pages.table_pins 0) 0 p.pages.pages.count)
+    && are_counted p.pages.pages.count p.pages.pages.access) few
+    (and_from (eqb (length p.pages.pages.frames) (cond (eqb p.pages.pages.table_pins 0) 0 p.pages.pages.count))
+    (are_counted p.pages.pages.count p.pages.pages.access)
+    (eq-eqb (length p.pages.pages.frames) (cond (eqb p.pages.pages.table_pins 0) 0 p.pages.pages.count) frames) rows)
 
 pub less_kept : (o : MemoryEntry) (k : ℕ) → is_kept o ≡ true
     → is_kept (with_pages (pinned_less k o.pages.pages) o) ≡ true
-less_kept o k kept = kept_from o (with_pages (pinned_less k o.pages.pages) o) kept refl
+less_kept o k kept = kept_from o (with_pages (pinned_less k o.pages.pages) o) kept refl refl
     (by_few (leb o.pages.pages.table_pins k) refl (eqb k 0) refl)
   where
     by_few : (b : Bool) → leb o.pages.pages.table_pins k ≡ b → (c : Bool) → eqb k 0 ≡ c
@@ -52,7 +60,7 @@ less_kept o k kept = kept_from o (with_pages (pinned_less k o.pages.pages) o) ke
 
 pub more_kept : (rows : List UserPage) (o : MemoryEntry) (k : ℕ) → is_kept o ≡ true
     → (eqb k 0 ≡ false → can_pin rows o ≡ true) → is_kept (with_pages (pinned_more rows k o.pages.pages) o) ≡ true
-more_kept rows o k kept ready = kept_from o (with_pages (pinned_more rows k o.pages.pages) o) kept refl
+more_kept rows o k kept ready = kept_from o (with_pages (pinned_more rows k o.pages.pages) o) kept refl refl
     (by_pins (eqb o.pages.pages.table_pins 0) refl (eqb k 0) refl)
   where
     by_pins : (b : Bool) → eqb o.pages.pages.table_pins 0 ≡ b → (c : Bool) → eqb k 0 ≡ c
@@ -68,8 +76,10 @@ more_kept rows o k kept ready = kept_from o (with_pages (pinned_more rows k o.pa
         let more = eqb-false k 0 some in
         let first : eqb (o.pages.pages.table_pins + k) 0 ≡ false =
         ne_eqb (o.pages.pages.table_pins + k) 0 (λ e. more (omega (arith, e))) in
-        rw first (all_framed rows o.pages.pages.user (page_of o.pages.pages.va) o.pages.pages.count
-        (present_from (eqb o.pages.pages.table_pins 0) (are_present o.pages.pages rows) none (ready some)))
+        rw first (length_mapped (own_frame_now o.pages.pages rows) (range_with_len 0 o.pages.pages.count)
+        ∙ all_ones (λ i. is_some (own_frame_now o.pages.pages rows i)) (range_with_len 0 o.pages.pages.count)
+        (present_from (eqb o.pages.pages.table_pins 0) (are_present o.pages.pages rows) none (ready some))
+        ∙ length-range_with_len 0 o.pages.pages.count)
       where
         present_from : (b p : Bool) → b ≡ true → (not b || p) ≡ true → p ≡ true
         present_from true p is all = all

@@ -17,7 +17,7 @@ use Rattle.user_memory.specs.Invariant.{AccountsTell, ObjectsTell, is_kept}
 use Rattle.user_memory.specs.Memory.{areas_in, pins_in}
 use Rattle.user_memory.proofs.Found.{AreOwn, found_passes, own_numbers}
 use Rattle.user_memory.proofs.Kept.{less_kept}
-use Rattle.user_memory.proofs.Settled.{StepOf, mapped_at, moved, unpinned_settles}
+use Rattle.user_memory.proofs.Settled.{access_moved, StepOf, mapped_at, moved, unpinned_settles}
 use Rattle.iofd_words.specs.declared.rows.UserPage.{UserPage}
 
 -- ---- tests of all objects
@@ -210,4 +210,5 @@ module _ (rows : List UserPage) (old_limits new_limits : List ℕ) (old : List M
         (own_numbers old told.memory.rising) told.memory.areas);
     areas = λ k. let same = areas_unpinned k in omega (arith, same);
     pins = λ k. pins_less rows old told n k some;
+    access = λ page. access_moved (unpin rows old told n) (λ o. refl) (λ o i. refl) old page.memory page.index;
   }

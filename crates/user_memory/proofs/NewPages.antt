@@ -17,13 +17,16 @@ use Rattle.iofd_words.specs.declared.rows.UserPage.{UserPage}
 use Rattle.memory_objects.specs.Objects as objects
 use Rattle.memory_objects.specs.Objects.{MemoryEntry, are_rising, can_pin, frame_in, new_count_in, object_at, passes}
 use Rattle.memory_objects.specs.Objects.{row_of, rows_of}
-use Rattle.pinned_pages.specs.Pages.{are_present, new_count}
+use Rattle.pinned_pages.specs.Pages.{access_frame, are_present, frame_now, frame_of, new_count, or_else, own_frame_now}
+use Rattle.pinned_pages.proofs.Runs as runs
+use Rattle.pinned_pages.proofs.Runs.{some_or, some_within}
 use Rattle.memory_objects.proofs.Counted.{no_numbers, one_number_more}
 use Rattle.memory_objects.proofs.Numbered.{rising_parts}
 use Rattle.user_memory.specs.Invariant.{ObjectsTell, is_kept}
-use Rattle.user_memory.specs.Memory.{Memory, are_different, frame_now, lacks_page, new_pages, newly_pinned}
+use Rattle.user_memory.specs.Memory as memory
+use Rattle.user_memory.specs.Memory.{Memory, are_different, lacks_page, new_pages, newly_pinned}
 use Rattle.user_memory.specs.Memory.{pinned_frame, rows_at}
-use Rattle.user_memory.proofs.Counts.{newly_told, none_from_some, some_within}
+use Rattle.user_memory.proofs.Counts.{newly_told, none_from_some}
 use Rattle.user_memory.proofs.Found.{AreOwn, kept_frames, now_found, now_in, own_numbers}
 
 -- ---- how many
@@ -195,48 +198,48 @@ any_by_number test entries rising (n ∷ ns) =
 
 module _ (m : Memory) where
   lacking : ObjectPage → Bool
-  lacking page = is_none (pinned_frame m page) && is_none (frame_now m page)
+  lacking page = is_none (pinned_frame m page) && is_none (memory.frame_now m page)
 
   its_lacking : (o : MemoryEntry) → object_at m.objects o.number ≡ Some o → is_kept o ≡ true
-      → list_any (λ page. is_none (pinned_frame m page) && is_none (frame_now m page))
+      → list_any (λ page. is_none (pinned_frame m page) && is_none (memory.frame_now m page))
       (pages_of (row_of o)) ≡ lacks m.pages o
   its_lacking o own kept = by_pins (eqb o.pages.pages.table_pins 0) (kept_frames o kept)
     where
-      pinned_there : (i : ℕ) → frame_in (object_at m.objects o.number) i ≡ slice_get o.pages.pages.frames i
+      pinned_there : (i : ℕ) → frame_in (object_at m.objects o.number) i ≡ frame_of o.pages.pages i
       pinned_there i = ap (λ x. frame_in x i) own
 
-      now_there : (i : ℕ) → frame_now m (record { memory = o.number; index = i }) ≡ frame_at m.pages o.pages.pages.user
-          (page_of o.pages.pages.va + i)
+      now_there : (i : ℕ) → memory.frame_now m (record { memory = o.number; index = i })
+          ≡ frame_now o.pages.pages m.pages i
       now_there i = now_found m.objects m.pages o.number i ∙ ap (λ x. now_in m.pages x i) own
 
+      both_none : (a b : Option FrameNo) → (is_none a && is_none b) ≡ not (is_some (or_else a b))
+      both_none None b = is_no b
+      both_none (Some f) b = refl
+
       by_pins : (b : Bool) → length o.pages.pages.frames ≡ cond b 0 o.pages.pages.count
-          → list_any (λ page. is_none (pinned_frame m page) && is_none (frame_now m page)) (pages_of (row_of o)) ≡ not
-          (not b || are_present o.pages.pages m.pages)
+          → list_any (λ page. is_none (pinned_frame m page) && is_none (memory.frame_now m page)) (pages_of (row_of o))
+          ≡ not (not b || are_present o.pages.pages m.pages)
       by_pins true count =
-          any_same (λ page. is_none (pinned_frame m page) && is_none (frame_now m page))
-          (λ i. not (is_some (frame_at m.pages o.pages.pages.user (page_of o.pages.pages.va + i))))
-          o.number 0 o.pages.pages.count
+          any_same (λ page. is_none (pinned_frame m page) && is_none (memory.frame_now m page))
+          (λ i. not (is_some (own_frame_now o.pages.pages m.pages i))) o.number 0 o.pages.pages.count
           (λ i low high.
-          let free = ap is_none (pinned_there i ∙ slice_get_past o.pages.pages.frames i (omega (arith, count))) in
-          let now =
-          ap is_none (now_there i) ∙ is_no (frame_at m.pages o.pages.pages.user (page_of o.pages.pages.va + i)) in
-          both_are (is_none (frame_in (object_at m.objects o.number) i))
-          (is_none (frame_now m (record { memory = o.number; index = i })))
-          (not (is_some (frame_at m.pages o.pages.pages.user (page_of o.pages.pages.va + i)))) free now)
-          ∙ not_all (λ i. is_some (frame_at m.pages o.pages.pages.user (page_of o.pages.pages.va + i)))
-          (range_with_len 0 o.pages.pages.count)
-        where
-          both_are : (a b c : Bool) → a ≡ true → b ≡ c → (a && b) ≡ c
-          both_are true b c is same = same
-          both_are false b c is same = cc
+          let free : frame_in (object_at m.objects o.number) i ≡ access_frame o.pages.pages i =
+          pinned_there i ∙ ap (or_else (access_frame o.pages.pages i))
+          (slice_get_past o.pages.pages.frames i (omega (arith, count))) ∙ runs.or_none (access_frame o.pages.pages i)
+          in
+          ap (λ f. is_none f && is_none (memory.frame_now m (record { memory = o.number; index = i }))) free
+          ∙ ap (λ f. is_none (access_frame o.pages.pages i) && is_none f) (now_there i)
+          ∙ both_none (access_frame o.pages.pages i) (frame_now o.pages.pages m.pages i))
+          ∙ not_all (λ i. is_some (own_frame_now o.pages.pages m.pages i)) (range_with_len 0 o.pages.pages.count)
       by_pins false count =
-          any_same (λ page. is_none (pinned_frame m page) && is_none (frame_now m page)) (λ i. false)
+          any_same (λ page. is_none (pinned_frame m page) && is_none (memory.frame_now m page)) (λ i. false)
           o.number 0 o.pages.pages.count
           (λ i low high.
-          let there = some_within o.pages.pages.frames i (omega (arith, count, high)) in
-          let held = ap is_none (pinned_there i) ∙ none_from_some (slice_get o.pages.pages.frames i) there in
+          let there = some_or (access_frame o.pages.pages i) (slice_get o.pages.pages.frames i)
+          (some_within o.pages.pages.frames i (omega (arith, count, high))) in
+          let held = ap is_none (pinned_there i) ∙ none_from_some (frame_of o.pages.pages i) there in
           none_of (is_none (frame_in (object_at m.objects o.number) i))
-          (is_none (frame_now m (record { memory = o.number; index = i }))) held)
+          (is_none (memory.frame_now m (record { memory = o.number; index = i }))) held)
           ∙ any_false (range_with_len 0 o.pages.pages.count)
         where
           none_of : (a b : Bool) → a ≡ false → (a && b) ≡ false
@@ -244,7 +247,7 @@ module _ (m : Memory) where
           none_of false b is = refl
 
   each_lacking : (entries : List MemoryEntry) → AreOwn m.objects entries → list_all is_kept entries ≡ true
-      → AllByRecursion (λ o. list_any (λ page. is_none (pinned_frame m page) && is_none (frame_now m page))
+      → AllByRecursion (λ o. list_any (λ page. is_none (pinned_frame m page) && is_none (memory.frame_now m page))
       (pages_of (row_of o)) ≡ lacks m.pages o) entries
   each_lacking [] own kept = tt
   each_lacking (o ∷ entries) own kept =
@@ -253,12 +256,12 @@ module _ (m : Memory) where
 
   -- an object of these numbers lacks a page where one of their pages that aren't pinned isn't there
   pub lacking_pages : (numbers : List ℕ) → ObjectsTell m.objects
-      → list_any (lacks_page m) numbers ≡ list_any (λ page. is_none (frame_now m page))
+      → list_any (lacks_page m) numbers ≡ list_any (λ page. is_none (memory.frame_now m page))
       (unpinned_pages (pinned_frame m) (rows_at m numbers))
   lacking_pages numbers told =
       any_by_number (can_pin m.pages) m.objects told.memory.rising numbers
-      ∙ sym (any_filtered (λ page. is_none (frame_now m page)) (λ page. is_none (pinned_frame m page))
+      ∙ sym (any_filtered (λ page. is_none (memory.frame_now m page)) (λ page. is_none (pinned_frame m page))
       (flat_map pages_of (rows_at m numbers))
-      ∙ any_of_rows (λ page. is_none (pinned_frame m page) && is_none (frame_now m page))
+      ∙ any_of_rows (λ page. is_none (pinned_frame m page) && is_none (memory.frame_now m page))
       (λ row. list_any (λ n. eqb n row.number) numbers) (lacks m.pages) m.objects
       (each_lacking m.objects (own_numbers m.objects told.memory.rising) told.kept))

@@ -17,5 +17,5 @@ pub told_opened : (limits : List ℕ) → AccountsTell (map fresh limits) []
 told_opened limits = record {
   held = λ user known. holds_nothing limits (user - 1);
   users = refl;
-  told = record { memory = record { rising = refl; unpinned = refl; areas = refl }; kept = refl };
+  told = record { memory = record { rising = refl; unpinned = refl; counted = refl; areas = refl }; kept = refl };
 }

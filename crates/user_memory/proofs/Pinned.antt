@@ -14,7 +14,7 @@ use Rattle.memory_objects.specs.Backed.{CanPin, Fits, HoldsMove}
 use Rattle.memory_objects.specs.Invariant.{MemoryInvariant}
 use Rattle.memory_objects.specs.Objects.{MemoryEntry, MemoryGrows, SamePins, all_pass, all_pinned, can_pin, has_memory}
 use Rattle.memory_objects.specs.Objects.{have_areas, is_of, new_pages, object_at, passes, pinned_more, row_of, rows_of}
-use Rattle.memory_objects.specs.Objects.{times_of, with_capacity, with_pages}
+use Rattle.memory_objects.specs.Objects.{access_pins_on, times_of, with_capacity, with_pages}
 use Rattle.pinned_pages.specs.Pages.{new_count}
 use Rattle.memory_objects.proofs.FramesSeen.{rows_pinned}
 use Rattle.memory_objects.proofs.OneObject.{all_changed, sum_by-map, times_more}
@@ -29,7 +29,7 @@ use Rattle.user_memory.proofs.Follow.{few_new, pages_within, room_for_pins}
 use Rattle.user_memory.proofs.Found.{found_passes, own_numbers}
 use Rattle.user_memory.proofs.Kept.{more_kept}
 use Rattle.user_memory.proofs.Moves.{accounts_stay, all_mapped, all_own, has_user}
-use Rattle.user_memory.proofs.Settled.{StepOf, mapped_at, memory_of, moved, pinned_settles, settle}
+use Rattle.user_memory.proofs.Settled.{StepOf, access_moved, mapped_at, memory_of, moved, pinned_settles, settle}
 use Rattle.user_memory.proofs.Users.{limits_of, room_seen}
 
 -- ---- memory for frames
@@ -54,6 +54,10 @@ module _ (rows : List UserPage) (limits : List ℕ) (old grown : List MemoryEntr
       by_object : (a : Option MemoryEntry) → pins_in (moved grow a) ≡ pins_in a
       by_object None = refl
       by_object (Some o) = refl
+
+  pub grown_access : (k i : ℕ) → access_pins_on grown k i ≡ access_pins_on old k i
+  grown_access k i =
+      ap (λ xs. access_pins_on xs k i) grows.objects ∙ access_moved grow (λ o. refl) (λ o i. refl) old k i
 
   -- a test that doesn't look at the memory
   pub grown_all : (p : MemoryEntry → Bool) → ((o : MemoryEntry) → p o ≡ true → p (grow o) ≡ true)
@@ -87,6 +91,7 @@ module _ (rows : List UserPage) (limits : List ℕ) (old grown : List MemoryEntr
     frames = λ page. same.frames page.memory page.index;
     areas = grown_areas;
     pins = grown_pins;
+    access = λ page. same.access page.memory page.index;
     named = same.pins;
     kept = kept;
   }
@@ -162,6 +167,9 @@ module _ (rows : List UserPage) (old : List MemoryEntry) (told : ObjectsTell old
       by_object None is = let areas = ap areas_in is in omega (arith, room, areas)
       by_object (Some o) is =
           let number = found_number old k o is in ap (λ m. o.pages.pages.table_pins + times_of m numbers) number
+
+  pub pin_access : (k i : ℕ) → access_pins_on (all_pinned rows numbers old) k i ≡ access_pins_on old k i
+  pin_access k i = access_moved pin_more (λ o. refl) (λ o i. refl) old k i
 
 -- ---- what a pin asks
 
@@ -316,6 +324,8 @@ module _ (rows : List UserPage) (limits after_limits : List ℕ) (old grown : Li
         let here = room k in
         let more = pin_pins rows grown told numbers ready k (omega (arith, pins, areas, here)) in
         omega (arith, more, pins);
+    access = λ page. pin_access rows grown told numbers ready page.memory page.index
+        ∙ grown_access rows limits old grown grows page.memory page.index;
   }
 
   pub pin_settles : (before after : FramePool) → after_limits ≡ limits → MemoryInvariant old → SamePins old grown

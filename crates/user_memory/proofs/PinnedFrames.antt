@@ -2,12 +2,12 @@
 use Rattle.std.proofs.Common.{◌≡◌, ℕ, ◌<◌, true, false, cond, eqb, Option, Some, None, List, [], ◌∷◌, length, refl}
 use Rattle.std.proofs.Common.{arith}
 use Rattle.std.specs.List.{find, slice_get}
-use Rattle.std.specs.Option.{IfSome}
+use Rattle.std.specs.Option.{IfNone, IfSome}
 use Rattle.std.proofs.lemmas.Bool.Decides.{nat_tests}
 use Rattle.std.proofs.lemmas.List.{nil_from_length}
 use Rattle.iofd_words.specs.declared.numbers.FrameNo.{FrameNo}
 use Rattle.iofd_words.specs.declared.rows.MemoryObject.{MemoryObject}
-use Rattle.memory_objects.specs.Objects.{MemoryEntry, frame_in, object_at, rows_of}
+use Rattle.memory_objects.specs.Objects.{MemoryEntry, object_at, pinned_frame, rows_of}
 use Rattle.memory_objects.proofs.Invariants.{row_found, rows_found}
 use Rattle.user_memory.specs.Memory.{pins_in}
 
@@ -29,18 +29,26 @@ pub all_pages : (frames : List FrameNo) (objects : List MemoryEntry) (n : ℕ) �
 all_pages frames objects n counted pins =
     rw (rows_found objects n) (all_of frames (object_at objects n) counted pins)
 
-none_there : (frames : List FrameNo) → slice_get frames 0 ≡ None → frames ≡ []
-none_there [] none = refl
-none_there (f ∷ frames) none = cc
-
-none_of : (frames : List FrameNo) (object : Option MemoryEntry) → slice_get frames 0 ≡ frame_in object 0
+none_of : (frames : List FrameNo) (object : Option MemoryEntry) → IfNone object (frames ≡ [])
     → AreCounted frames object → pins_in object ≡ 0 → frames ≡ []
-none_of frames None first counted pins = none_there frames first
-none_of frames (Some o) first counted pins =
-    let none : eqb o.pages.pages.table_pins 0 ≡ true = grind (arith, nat_tests) in
-    nil_from_length frames (rw none at counted)
+none_of frames None none counted pins = none
+none_of frames (Some o) none counted pins =
+    let zero : eqb o.pages.pages.table_pins 0 ≡ true = grind (arith, nat_tests) in
+    nil_from_length frames (rw zero at counted)
 
 pub no_pages : (frames : List FrameNo) (objects : List MemoryEntry) (n : ℕ)
-    → slice_get frames 0 ≡ frame_in (object_at objects n) 0 → AreCounted frames (object_at objects n)
+    → IfNone (object_at objects n) (frames ≡ []) → AreCounted frames (object_at objects n)
     → pins_in (object_at objects n) ≡ 0 → frames ≡ []
-no_pages frames objects n first counted pins = none_of frames (object_at objects n) first counted pins
+no_pages frames objects n none counted pins = none_of frames (object_at objects n) none counted pins
+
+-- and each is that of its page
+each_of : (frames : List FrameNo) (objects : List MemoryEntry) (n : ℕ) (o : Option MemoryEntry)
+    → IfSome o (λ x. 0 < x.pages.pages.table_pins → (i : ℕ) → slice_get frames i ≡ pinned_frame objects n i)
+    → 0 < pins_in o → (i : ℕ) → slice_get frames i ≡ pinned_frame objects n i
+each_of frames objects n None each pins i = absurd (omega (arith, pins))
+each_of frames objects n (Some x) each pins i = each pins i
+
+pub each_page : (frames : List FrameNo) (objects : List MemoryEntry) (n : ℕ) → IfSome (object_at objects n)
+    (λ x. 0 < x.pages.pages.table_pins → (i : ℕ) → slice_get frames i ≡ pinned_frame objects n i)
+    → 0 < pins_in (object_at objects n) → (i : ℕ) → slice_get frames i ≡ pinned_frame objects n i
+each_page frames objects n each pins i = each_of frames objects n (object_at objects n) each pins i

@@ -1,14 +1,16 @@
 -- Some pin names a frame just where some page is pinned at it.
-use Rattle.std.proofs.Common.{◌≡◌, ℕ, zero, suc, ◌+◌, ◌<◌, Bool, true, false, cond, eqb, ltb, Some, List, [], ◌∷◌, refl}
-use Rattle.std.proofs.Common.{ap, ◌∙◌, arith}
-use Rattle.std.specs.List.{list_all, slice_get}
-use Rattle.std.proofs.lemmas.Bool.{and_parts}
+use Rattle.std.proofs.Common.{◌≡◌, ◌≢◌, ℕ, zero, suc, ◌+◌, ◌<◌, ◌≤◌, Bool, true, false, cond, eqb, ltb, Option, Some}
+use Rattle.std.proofs.Common.{None, List, [], ◌∷◌, refl}
+use Rattle.std.proofs.Common.{ap, sym, ◌∙◌, arith, ⊎_elim}
+use Rattle.std.specs.List.{cons_option, filter_map, list_all, range_with_len}
+use Rattle.std.proofs.lemmas.Bool.{and_parts, cases_eq}
 use Rattle.std.proofs.lemmas.Bool.Decides.{nat_tests}
 use Rattle.std.proofs.lemmas.List.Sums.{sum_by-cons}
 use Rattle.iofd_words.specs.declared.numbers.FrameNo.{FrameNo}
 use Rattle.pinned_pages.specs.Holds.{times}
-use Rattle.memory_objects.specs.Objects.{MemoryEntry, are_rising, pinned_frame, pins_on}
-use Rattle.pinned_pages.specs.Pages.{held_frames}
+use Rattle.memory_objects.specs.Objects.{MemoryEntry, are_rising, object_at, pinned_frame, pins_on}
+use Rattle.pinned_pages.specs.Pages.{frame_of, held_frames}
+use Rattle.user_memory.proofs.Found.{has_index}
 
 -- ---- the frames of one object
 
@@ -16,38 +18,56 @@ one_more : (frame : ℕ) (f : FrameNo) (frames : List FrameNo)
     → times frame (f ∷ frames) ≡ cond (eqb f.0 frame) 1 0 + times frame frames
 one_more frame f frames = sum_by-cons (λ (y : FrameNo). cond (eqb y.0 frame) 1 0) f frames
 
--- the frame stands somewhere in the list
-record IsAt (frames : List FrameNo) (frame : ℕ) : Type 0 where
+-- the frame is some page's
+record IsAt (h : ℕ → Option FrameNo) (frame : ℕ) : Type 0 where
   at : ℕ
   found : FrameNo
-  is : slice_get frames at ≡ Some found
+  is : h at ≡ Some found
   names : eqb found.0 frame ≡ true
 
-some_at : (frames : List FrameNo) (frame : ℕ) → ltb 0 (times frame frames) ≡ true → IsAt frames frame
-some_at [] frame some = cc
-some_at (f ∷ frames) frame some =
-    by_test (eqb f.0 frame) refl (rw (one_more frame f frames) at some) (some_at frames frame)
+some_at : (h : ℕ → Option FrameNo) (from n frame : ℕ)
+    → ltb 0 (times frame (filter_map h (range_with_len from n))) ≡ true
+    → IsAt h frame
+some_at h from zero frame some = cc
+some_at h from (suc n) frame some =
+    by_frame (h from) refl some (some_at h (from + 1) n frame)
   where
-    by_test : (b : Bool) → eqb f.0 frame ≡ b → ltb 0 (cond (eqb f.0 frame) 1 0 + times frame frames) ≡ true
-        → (ltb 0 (times frame frames) ≡ true → IsAt frames frame) → IsAt (f ∷ frames) frame
-    by_test true is some later = record { at = 0; found = f; is = refl; names = is }
-    by_test false is some later =
-        let left : ltb 0 (0 + times frame frames) ≡ true = rw is at some in
-        let rest = later (grind (arith, nat_tests)) in
-        record { at = suc rest.at; found = rest.found; is = rest.is; names = rest.names }
+    by_frame : (o : Option FrameNo) → h from ≡ o
+        → ltb 0 (times frame (cons_option o (filter_map h (range_with_len (from + 1) n)))) ≡ true
+        → (ltb 0 (times frame (filter_map h (range_with_len (from + 1) n))) ≡ true → IsAt h frame) → IsAt h frame
+    by_frame None is some later = later some
+    by_frame (Some f) is some later =
+        by_test (eqb f.0 frame) refl (rw (one_more frame f (filter_map h (range_with_len (from + 1) n))) at some)
+      where
+        by_test : (b : Bool) → eqb f.0 frame ≡ b
+            → ltb 0 (cond (eqb f.0 frame) 1 0 + times frame (filter_map h (range_with_len (from + 1) n))) ≡ true
+            → IsAt h frame
+        by_test true names some = record { at = from; found = f; is = is; names = names }
+        by_test false other some =
+            let left : ltb 0 (0 + times frame (filter_map h (range_with_len (from + 1) n))) ≡ true = rw other at some in
+            later (grind (arith, nat_tests))
 
-counted_at : (frames : List FrameNo) (i : ℕ) (x : FrameNo) (frame : ℕ) → slice_get frames i ≡ Some x
-    → eqb x.0 frame ≡ true → 0 < times frame frames
-counted_at [] i x frame is names = cc
-counted_at (f ∷ frames) zero x frame is names =
-    let same : f ≡ x = cc in
-    let here : eqb f.0 frame ≡ true = ap (λ (y : FrameNo). eqb y.0 frame) same ∙ names in
-    let more : times frame (f ∷ frames) ≡ 1 + times frame frames = one_more frame f frames ∙ rw here refl in
-    omega (arith, more)
-counted_at (f ∷ frames) (suc i) x frame is names =
-    let rest = counted_at frames i x frame is names in
-    let more = one_more frame f frames in
-    omega (arith, more, rest)
+counted_at : (h : ℕ → Option FrameNo) (from n i : ℕ) (x : FrameNo) (frame : ℕ) → from ≤ i → i < from + n → h i ≡ Some x
+    → eqb x.0 frame ≡ true → 0 < times frame (filter_map h (range_with_len from n))
+counted_at h from zero i x frame low high is names = absurd (omega (arith, low, high))
+counted_at h from (suc n) i x frame low high is names =
+    ⊎_elim
+    (λ (same : i ≡ from).
+    let here : h from ≡ Some x = ap h (sym same) ∙ is in
+    let list : filter_map h (range_with_len from (suc n)) ≡ x ∷ filter_map h (range_with_len (from + 1) n) =
+    ap (λ o. cons_option o (filter_map h (range_with_len (from + 1) n))) here in
+    let one = ap (times frame) list ∙ one_more frame x (filter_map h (range_with_len (from + 1) n)) in
+    let yes = ap {B = ℕ} (λ b. cond b 1 0) names in
+    omega (arith, one, yes))
+    (λ (differ : i ≢ from).
+    let rest = counted_at h (from + 1) n i x frame (omega (arith, low, differ)) (omega (arith, high)) is names in
+    more (h from) rest)
+    (cases_eq i from)
+  where
+    more : (o : Option FrameNo) → 0 < times frame (filter_map h (range_with_len (from + 1) n))
+        → 0 < times frame (cons_option o (filter_map h (range_with_len (from + 1) n)))
+    more None rest = rest
+    more (Some f) rest = omega (arith, rest, one_more frame f (filter_map h (range_with_len (from + 1) n)))
 
 -- ---- all objects
 
@@ -94,7 +114,7 @@ some_named (o ∷ objects) frame rising some =
         → list_all (λ (next : MemoryEntry). ltb o.number next.number) objects ≡ true
         → (ltb 0 (pins_on objects frame) ≡ true → IsNamed objects frame) → IsNamed (o ∷ objects) frame
     by_test true is some first later =
-        let here = some_at (held_frames o.pages.pages) frame is in
+        let here = some_at (frame_of o.pages.pages) 0 o.pages.pages.count frame is in
         record {
           number = o.number;
           index = here.at;
@@ -114,19 +134,25 @@ some_named (o ∷ objects) frame rising some =
         }
 
 pub named_counts : (objects : List MemoryEntry) (number index frame : ℕ) (x : FrameNo)
+    → has_index (object_at objects number) index ≡ true
     → pinned_frame objects number index ≡ Some x → eqb x.0 frame ≡ true → ltb 0 (pins_on objects frame) ≡ true
-named_counts [] number index frame x is names = cc
-named_counts (o ∷ objects) number index frame x is names =
-    by_number (eqb o.number number) refl is (named_counts objects number index frame x)
+named_counts [] number index frame x has is names = cc
+named_counts (o ∷ objects) number index frame x has is names =
+    by_number (eqb o.number number) refl has is (named_counts objects number index frame x)
   where
-    by_number : (b : Bool) → eqb o.number number ≡ b → pinned_frame (o ∷ objects) number index ≡ Some x
-        → (pinned_frame objects number index ≡ Some x → eqb x.0 frame ≡ true → ltb 0 (pins_on objects frame) ≡ true)
+    by_number : (b : Bool) → eqb o.number number ≡ b → has_index (object_at (o ∷ objects) number) index ≡ true
+        → pinned_frame (o ∷ objects) number index ≡ Some x
+        → (has_index (object_at objects number) index ≡ true → pinned_frame objects number index ≡ Some x
+        → eqb x.0 frame ≡ true → ltb 0 (pins_on objects frame) ≡ true)
         → ltb 0 (pins_on (o ∷ objects) frame) ≡ true
-    by_number true same is rest =
-        let here = counted_at (held_frames o.pages.pages) index x frame (rw same at is) names in
+    by_number true same has is rest =
+        let within : ltb index o.pages.pages.count ≡ true = rw same at has in
+        let low : index < o.pages.pages.count = search (within, arith, nat_tests) in
+        let here = counted_at (frame_of o.pages.pages) 0 o.pages.pages.count index x frame (omega arith)
+        (omega (arith, low)) (rw same at is) names in
         let sum = pins_more o objects frame in
         grind (arith, nat_tests)
-    by_number false other is rest =
-        let left = rest (rw other at is) names in
+    by_number false other has is rest =
+        let left = rest (rw other at has) (rw other at is) names in
         let sum = pins_more o objects frame in
         grind (arith, nat_tests)

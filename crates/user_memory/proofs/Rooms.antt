@@ -43,24 +43,25 @@ module _ (a b : ℕ) (old new : Memory) where
     frames = same.frames;
     areas = same.areas;
     pins = same.pins;
+    access = same.access;
     named = same.named;
     kept = same.kept;
   }
 
   pub object_with : (count : ℕ) (row : MemoryObject) → HasObject count row old new
       → HasObject count row (with_room a old) (with_room b new)
-  object_with count row has = record { rows = has.rows; areas = has.areas; pins = has.pins }
+  object_with count row has = record { rows = has.rows; areas = has.areas; pins = has.pins; access = has.access }
 
   pub share_with : (count number : ℕ) → HasShare count number old new
       → HasShare count number (with_room a old) (with_room b new)
-  share_with count number has = record { rows = has.rows; areas = has.areas; pins = has.pins }
+  share_with count number has = record { rows = has.rows; areas = has.areas; pins = has.pins; access = has.access }
 
   pub pins_with : (more : ℕ → ℕ) → HasPins more old new → HasPins more (with_room a old) (with_room b new)
-  pins_with more has = record { rows = has.rows; areas = has.areas; pins = has.pins }
+  pins_with more has = record { rows = has.rows; areas = has.areas; pins = has.pins; access = has.access }
 
   pub less_with : (areas pins : ℕ → ℕ) → HasLess areas pins old new
       → HasLess areas pins (with_room a old) (with_room b new)
-  less_with areas pins has = record { rows = has.rows; areas = has.areas; pins = has.pins }
+  less_with areas pins has = record { rows = has.rows; areas = has.areas; pins = has.pins; access = has.access }
 
 -- ---- memory is wanting
 

@@ -1,25 +1,34 @@
 -- What settles the pins of one object, and of all.
 use Rattle.std.proofs.Common.{◌≡◌, ℕ, ◌+◌, ◌-◌, ◌≤◌, Bool, true, false, ◌&&◌, ◌||◌, cond, eqb, ltb, leb, not, Option}
 use Rattle.std.proofs.Common.{Some, None, List, [], ◌∷◌, map, length, get_or, refl, sym, ap, ◌∙◌, arith, ⊎_elim}
+use Rattle.std.specs.Prelude.{is_some}
 use Rattle.std.specs.List.{slice_get}
-use Rattle.std.proofs.lemmas.Bool.{cases_Bool, eqb-true, eqb-false, leb-true, leb-false, lt-ltb, le-ltb}
+use Rattle.std.proofs.lemmas.Bool.{and_parts, cases_Bool, eqb-true}
+use Rattle.std.proofs.lemmas.Bool.Decides.{nat_tests}
+use Rattle.std.proofs.lemmas.Option.{slice_get_past}
 use Rattle.iofd_words.specs.Frames.{frame_at}
 use Rattle.iofd_words.specs.Pages.{page_of}
 use Rattle.iofd_words.specs.declared.numbers.FrameNo.{FrameNo}
 use Rattle.iofd_words.specs.declared.rows.UserPage.{UserPage}
 use Rattle.frame_memory.specs.Pool.{FramePool}
 use Rattle.memory_objects.specs.Invariant.{MemoryInvariant}
-use Rattle.memory_objects.specs.Objects.{MemoryEntry, are_rising, can_pin, frame_in, object_at, pinned_less}
-use Rattle.memory_objects.specs.Objects.{pinned_more, pins_on, times_of, with_areas, without_areas}
-use Rattle.pinned_pages.specs.Pages.{are_present, own_frames_now}
-use Rattle.memory_objects.proofs.FramesSeen.{frame_there, not_found_mapped}
+use Rattle.memory_objects.specs.Objects.{MemoryEntry, access_pins_in, access_pins_on, are_rising, can_pin, frame_in}
+use Rattle.memory_objects.specs.Objects.{object_at, pinned_less}
+use Rattle.memory_objects.specs.Objects.{pinned_more, pins_on, times_of, with_areas, with_pages, without_areas}
+use Rattle.pinned_pages.specs.Pages as pages
+use Rattle.pinned_pages.specs.Pages.{ObjectPages, access_frame, access_pins, are_present, frame_of, is_pinned, or_else}
+use Rattle.pinned_pages.specs.Pages.{own_frame_now, own_frames_now}
+use Rattle.pinned_pages.proofs.Runs as runs
+use Rattle.memory_objects.proofs.FramesSeen.{not_found_mapped}
 use Rattle.memory_objects.proofs.Numbered.{none_after, rising_parts}
 use Rattle.memory_objects.proofs.Reserved.{found_mapped}
 use Rattle.user_memory.specs.Changes.{Settles}
 use Rattle.user_memory.specs.Invariant.{is_kept}
-use Rattle.user_memory.specs.Memory.{Memory, is_pinned, frame_now}
+use Rattle.user_memory.specs.Memory as memory
+use Rattle.user_memory.specs.Memory.{Memory, frame_now}
 use Rattle.user_memory.proofs.Follow.{pins_follow}
-use Rattle.user_memory.proofs.Found.{not_pinned, now_found, now_in, pinned_found, pinned_in}
+use Rattle.user_memory.proofs.Found.{kept_frames, not_pinned, now_found, now_in, page_there, pinned_found, pinned_in}
+use Rattle.user_memory.proofs.Kept.{less_kept, more_kept}
 
 -- ---- one page
 
@@ -28,93 +37,129 @@ pub stays : (f now : Option FrameNo) (p : Bool) → (p ≡ false → f ≡ None)
 stays f now true none = refl
 stays f now false none = none refl
 
-and_false : (b : Bool) → (b && false) ≡ false
-and_false true = refl
-and_false false = refl
-
 module _ (rows : List UserPage) (o : MemoryEntry) (kept : is_kept o ≡ true) (i k : ℕ) where
   abbrev now : Option FrameNo
   now = frame_at rows o.pages.pages.user (page_of o.pages.pages.va + i)
 
-  pub unpinned_settles : slice_get (pinned_less k o.pages.pages).frames i
-      ≡ cond (ltb i o.pages.pages.count && ltb 0 (o.pages.pages.table_pins - k))
-      (cond (ltb i o.pages.pages.count && ltb 0 o.pages.pages.table_pins) (slice_get o.pages.pages.frames i) now)
-      None
-  unpinned_settles = by_few (leb o.pages.pages.table_pins k) refl
-    where
-      by_few : (b : Bool) → leb o.pages.pages.table_pins k ≡ b
-          → slice_get (cond (b && not (eqb k 0)) [] o.pages.pages.frames) i
-          ≡ cond (ltb i o.pages.pages.count && ltb 0 (o.pages.pages.table_pins - k))
-          (cond (ltb i o.pages.pages.count && ltb 0 o.pages.pages.table_pins)
-          (slice_get o.pages.pages.frames i) now) None
-      by_few true is =
-          let low = leb-true o.pages.pages.table_pins k is in
-          let none : ltb 0 (o.pages.pages.table_pins - k) ≡ false =
-          le-ltb 0 (o.pages.pages.table_pins - k) (omega (arith, low)) in
-          rw (none, and_false (ltb i o.pages.pages.count)) (by_some low (eqb k 0) refl)
-        where
-          by_some : o.pages.pages.table_pins ≤ k → (b : Bool) → eqb k 0 ≡ b
-              → slice_get (cond (not b) [] o.pages.pages.frames) i ≡ None
-          by_some low true zero =
-              let none = eqb-true k 0 zero in
-              let no_pins : ltb 0 o.pages.pages.table_pins ≡ false =
-              le-ltb 0 o.pages.pages.table_pins (omega (arith, low, none)) in
-              not_pinned o i kept (rw no_pins (and_false (ltb i o.pages.pages.count)))
-          by_some low false some = refl
-      by_few false is =
-          let high = leb-false o.pages.pages.table_pins k is in
-          let left : ltb 0 (o.pages.pages.table_pins - k) ≡ true =
-          lt-ltb 0 (o.pages.pages.table_pins - k) (omega (arith, high)) in
-          let had : ltb 0 o.pages.pages.table_pins ≡ true = lt-ltb 0 o.pages.pages.table_pins (omega (arith, high)) in
-          let none = λ (out : (ltb i o.pages.pages.count && true) ≡ false). not_pinned o i kept (rw had out) in
-          rw (left, had) (stays (slice_get o.pages.pages.frames i) now (ltb i o.pages.pages.count && true) none)
+  abbrev less : ObjectPages
+  less = pinned_less k o.pages.pages
 
-  pub pinned_settles : (eqb k 0 ≡ false → can_pin rows o ≡ true) → slice_get (pinned_more rows k o.pages.pages).frames i
-      ≡ cond (ltb i o.pages.pages.count && ltb 0 (o.pages.pages.table_pins + k))
-      (cond (ltb i o.pages.pages.count && ltb 0 o.pages.pages.table_pins) (slice_get o.pages.pages.frames i) now)
-      None
-  pinned_settles ready = by_pins (eqb o.pages.pages.table_pins 0) refl (eqb k 0) refl
+  pub unpinned_settles : frame_of less i
+      ≡ cond (is_pinned less i) (cond (is_pinned o.pages.pages i) (frame_of o.pages.pages i) now) None
+  unpinned_settles = by_pinned (is_pinned less i) refl
     where
-      by_pins : (b : Bool) → eqb o.pages.pages.table_pins 0 ≡ b → (c : Bool) → eqb k 0 ≡ c
-          → slice_get (cond (b && not c) (own_frames_now o.pages.pages rows) o.pages.pages.frames) i
-          ≡ cond (ltb i o.pages.pages.count && ltb 0 (o.pages.pages.table_pins + k))
-          (cond (ltb i o.pages.pages.count && ltb 0 o.pages.pages.table_pins)
-          (slice_get o.pages.pages.frames i) now) None
-      by_pins true zero true none =
-          let pins = eqb-true o.pages.pages.table_pins 0 zero in
-          let more = eqb-true k 0 none in
-          let no_pins : ltb 0 o.pages.pages.table_pins ≡ false =
-          le-ltb 0 o.pages.pages.table_pins (omega (arith, pins)) in
-          let still : ltb 0 (o.pages.pages.table_pins + k) ≡ false =
-          le-ltb 0 (o.pages.pages.table_pins + k) (omega (arith, pins, more)) in
-          rw (still, and_false (ltb i o.pages.pages.count))
-          (not_pinned o i kept (rw no_pins (and_false (ltb i o.pages.pages.count))))
-      by_pins true zero false some =
-          let pins = eqb-true o.pages.pages.table_pins 0 zero in
-          let more = eqb-false k 0 some in
-          let no_pins : ltb 0 o.pages.pages.table_pins ≡ false =
-          le-ltb 0 o.pages.pages.table_pins (omega (arith, pins)) in
-          let first : ltb 0 (o.pages.pages.table_pins + k) ≡ true =
-          lt-ltb 0 (o.pages.pages.table_pins + k) (omega (arith, pins, more)) in
-          let present =
-          present_from (eqb o.pages.pages.table_pins 0) (are_present o.pages.pages rows) zero (ready some) in
-          frame_there rows o.pages.pages.user (page_of o.pages.pages.va) o.pages.pages.count i present
-          ∙ rw (first, no_pins) (by_index (ltb i o.pages.pages.count) now (slice_get o.pages.pages.frames i))
+      by_pinned : (b : Bool) → is_pinned less i ≡ b
+          → frame_of less i ≡ cond b (cond (is_pinned o.pages.pages i) (frame_of o.pages.pages i) now) None
+      by_pinned false out = not_pinned (with_pages less o) (less_kept o k kept) i out
+      by_pinned true is =
+          let was : is_pinned o.pages.pages i ≡ true = still (ltb i o.pages.pages.count) o.pages.pages.table_pins k
+          (access_pins o.pages.pages i) is in
+          let some = page_there (with_pages less o) (less_kept o k kept) i ∙ is in
+          same (leb o.pages.pages.table_pins k && not (eqb k 0)) (access_frame o.pages.pages i) some
+          ∙ sym (ap (λ b. cond b (frame_of o.pages.pages i) now) was)
         where
-          present_from : (b p : Bool) → b ≡ true → (not b || p) ≡ true → p ≡ true
-          present_from true p is all = all
-          present_from false p is all = cc
+          still : (a : Bool) (t n p : ℕ) → (a && (ltb 0 (t - n) || ltb 0 p)) ≡ true → (a && (ltb 0 t || ltb 0 p)) ≡ true
+          still false t n p is = cc
+          still true t n p is =
+              ⊎_elim
+              (λ (some : ltb 0 t ≡ true). rw some refl)
+              (λ (none : ltb 0 t ≡ false).
+              let less_none : ltb 0 (t - n) ≡ false = grind (arith, nat_tests) in
+              let left : ltb 0 p ≡ true = rw less_none at is in
+              rw (none, left) refl)
+              (cases_Bool (ltb 0 t))
 
-          by_index : (b : Bool) (x y : Option FrameNo) → cond b x None ≡ cond (b && true) (cond (b && false) y x) None
-          by_index true x y = refl
-          by_index false x y = refl
-      by_pins false some c none =
-          let pins = eqb-false o.pages.pages.table_pins 0 some in
-          let had : ltb 0 o.pages.pages.table_pins ≡ true = lt-ltb 0 o.pages.pages.table_pins (omega (arith, pins)) in
-          let has : ltb 0 (o.pages.pages.table_pins + k) ≡ true =
-          lt-ltb 0 (o.pages.pages.table_pins + k) (omega (arith, pins)) in
-          let out = λ (out : (ltb i o.pages.pages.count && true) ≡ false). not_pinned o i kept (rw had out) in
-          rw (has, had) (stays (slice_get o.pages.pages.frames i) now (ltb i o.pages.pages.count && true) out)
+          same : (c : Bool) (a : Option FrameNo)
+              → is_some (or_else a (slice_get (cond c [] o.pages.pages.frames) i)) ≡ true
+              → or_else a (slice_get (cond c [] o.pages.pages.frames) i) ≡ or_else a (slice_get o.pages.pages.frames i)
+          same c (Some f) some = refl
+          same false None some = refl
+          same true None some = cc
+
+  module _ (ready : eqb k 0 ≡ false → can_pin rows o ≡ true) where
+    abbrev more : ObjectPages
+    more = pinned_more rows k o.pages.pages
+
+    pub pinned_settles : frame_of more i
+        ≡ cond (is_pinned more i) (cond (is_pinned o.pages.pages i) (frame_of o.pages.pages i) now) None
+    pinned_settles = by_pinned (is_pinned more i) refl
+      where
+        by_pinned : (b : Bool) → is_pinned more i ≡ b
+            → frame_of more i ≡ cond b (cond (is_pinned o.pages.pages i) (frame_of o.pages.pages i) now) None
+        by_pinned false out = not_pinned (with_pages more o) (more_kept rows o k kept ready) i out
+        by_pinned true is =
+            by_old (is_pinned o.pages.pages i) refl (eqb o.pages.pages.table_pins 0) refl (eqb k 0) refl
+            (access_frame o.pages.pages i) refl
+          where
+            there : is_some (frame_of more i) ≡ true
+            there = page_there (with_pages more o) (more_kept rows o k kept ready) i ∙ is
+
+            low : ltb i o.pages.pages.count ≡ true
+            low = (and_parts (ltb i o.pages.pages.count) (ltb 0 (o.pages.pages.table_pins + k)
+                || ltb 0 (access_pins o.pages.pages i)) is).0
+
+            own : eqb o.pages.pages.table_pins 0 ≡ true → eqb k 0 ≡ false
+                → slice_get (own_frames_now o.pages.pages rows) i ≡ own_frame_now o.pages.pages rows i
+            own none some =
+                let present = present_from (eqb o.pages.pages.table_pins 0) (are_present o.pages.pages rows) none
+                (ready some) in
+                let same : 0 + i ≡ i = omega arith in
+                runs.mapped_at (own_frame_now o.pages.pages rows) 0 o.pages.pages.count i present
+                ∙ ap (λ b. cond b (own_frame_now o.pages.pages rows (0 + i)) None) low
+                ∙ ap (own_frame_now o.pages.pages rows) same
+              where
+                present_from : (b p : Bool) → b ≡ true → (not b || p) ≡ true → p ≡ true
+                present_from true p is all = all
+                present_from false p is all = cc
+
+            old_is : access_frame o.pages.pages i ≡ None → is_pinned o.pages.pages i ≡ false
+                → slice_get o.pages.pages.frames i ≡ None
+            old_is at out =
+                sym (ap (λ f. or_else f (slice_get o.pages.pages.frames i)) at) ∙ not_pinned o kept i out
+
+            more_is : (z n : Bool) → eqb o.pages.pages.table_pins 0 ≡ z → eqb k 0 ≡ n
+                → access_frame o.pages.pages i ≡ None
+                → is_some (slice_get (cond (z && not n) (own_frames_now o.pages.pages rows) o.pages.pages.frames) i)
+                ≡ true
+            more_is z n zero none at =
+                ap (λ b. is_some (slice_get (cond (b && not n) (own_frames_now o.pages.pages rows)
+                o.pages.pages.frames) i)) (sym zero)
+                ∙ ap (λ b. is_some (slice_get (cond (eqb o.pages.pages.table_pins 0 && not b)
+                (own_frames_now o.pages.pages rows) o.pages.pages.frames) i)) (sym none)
+                ∙ sym (ap (λ f. is_some (or_else f (slice_get more.frames i))) at) ∙ there
+
+            clash : {x y : Option FrameNo} → is_some x ≡ true → x ≡ None → x ≡ y
+            clash {x} {y} some none = absurd (never (sym some ∙ ap is_some none))
+              where
+                never : true ≡ false → ⊥
+                never same = cc
+
+            by_old : (b : Bool) → is_pinned o.pages.pages i ≡ b → (z : Bool) → eqb o.pages.pages.table_pins 0 ≡ z
+                → (n : Bool) → eqb k 0 ≡ n → (a : Option FrameNo) → access_frame o.pages.pages i ≡ a
+                → or_else a (slice_get (cond (z && not n) (own_frames_now o.pages.pages rows) o.pages.pages.frames) i)
+                ≡ cond b (or_else a (slice_get o.pages.pages.frames i)) now
+            by_old true was z zero n none (Some f) at = refl
+            by_old true was false zero n none None at = refl
+            by_old true was true zero true none None at = refl
+            by_old true was true zero false none None at =
+                let long : length o.pages.pages.frames ≡ 0 =
+                kept_frames o kept ∙ ap (λ c. cond c 0 o.pages.pages.count) zero in
+                let empty = slice_get_past o.pages.pages.frames i (omega (arith, long)) in
+                let old_none : frame_of o.pages.pages i ≡ None =
+                ap (λ f. or_else f (slice_get o.pages.pages.frames i)) at ∙ empty in
+                let no : true ≡ false = sym (page_there o kept i ∙ was) ∙ ap is_some old_none in
+                cc
+            by_old false out z zero n none (Some f) at =
+                let old_some : frame_of o.pages.pages i ≡ Some f =
+                ap (λ x. or_else x (slice_get o.pages.pages.frames i)) at in
+                let no : false ≡ true = sym (page_there o kept i ∙ out) ∙ ap is_some old_some in
+                cc
+            by_old false out true zero false none None at =
+                own zero none ∙ ap (λ f. or_else f now) at
+            by_old false out false zero n none None at =
+                clash (more_is false n zero none at) (old_is at out)
+            by_old false out true zero true none None at =
+                clash (more_is true true zero none at) (old_is at out)
 
 -- ---- the object of a number, before and after
 
@@ -134,6 +179,17 @@ mapped_at G numbers objects n = by_object (object_at objects n) refl
     by_object : (o : Option MemoryEntry) → object_at objects n ≡ o → object_at (map G objects) n ≡ moved G o
     by_object None is = not_found_mapped G numbers objects n is
     by_object (Some o) is = found_mapped G numbers objects n o is
+
+-- as many accesses pin a page after a change that leaves them
+pub access_moved : (G : MemoryEntry → MemoryEntry) → ((o : MemoryEntry) → (G o).number ≡ o.number)
+    → ((o : MemoryEntry) (i : ℕ) → pages.access_pins (G o).pages.pages i ≡ pages.access_pins o.pages.pages i)
+    → (objects : List MemoryEntry) (n i : ℕ) → access_pins_on (map G objects) n i ≡ access_pins_on objects n i
+access_moved G numbers same objects n i =
+    ap (λ o. access_pins_in o i) (mapped_at G numbers objects n) ∙ by_object (object_at objects n)
+  where
+    by_object : (o : Option MemoryEntry) → access_pins_in (moved G o) i ≡ access_pins_in o i
+    by_object None = refl
+    by_object (Some o) = same o i
 
 -- the object with areas less, where some are left
 abbrev pub left_of : List ℕ → Option MemoryEntry → Option MemoryEntry
@@ -184,8 +240,8 @@ settle rows old_limits new_limits old new before after limits old_rising each co
   frames = λ page.
       let step = each page.memory page.index in
       step ∙ same_cond (pinned_in (object_at new page.memory) page.index)
-      (is_pinned (memory_of rows new_limits new) page) (pinned_in (object_at old page.memory) page.index)
-      (is_pinned (memory_of rows old_limits old) page)
+      (memory.is_pinned (memory_of rows new_limits new) page) (pinned_in (object_at old page.memory) page.index)
+      (memory.is_pinned (memory_of rows old_limits old) page)
       (frame_in (object_at old page.memory) page.index) (now_in rows (object_at new page.memory) page.index)
       (frame_now (memory_of rows new_limits new) page)
       (sym (pinned_found new page.memory page.index kept.rising))
@@ -199,6 +255,6 @@ settle rows old_limits new_limits old new before after limits old_rising each co
 pub step_same : (rows : List UserPage) (a : Option MemoryEntry) (i : ℕ)
     → ((o : MemoryEntry) → a ≡ Some o → is_kept o ≡ true) → StepOf rows a a i
 step_same rows None i kept = refl
-step_same rows (Some o) i kept = stays (slice_get o.pages.pages.frames i)
-    (frame_at rows o.pages.pages.user (page_of o.pages.pages.va + i)) (ltb i o.pages.pages.count
-    && ltb 0 o.pages.pages.table_pins) (not_pinned o i (kept o refl))
+step_same rows (Some o) i kept = stays (frame_of o.pages.pages i)
+    (frame_at rows o.pages.pages.user (page_of o.pages.pages.va + i)) (is_pinned o.pages.pages i)
+    (not_pinned o (kept o refl) i)

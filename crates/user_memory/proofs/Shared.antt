@@ -13,6 +13,8 @@ use Rattle.mem_account.specs.declared.Account.{Account}
 use Rattle.mem_account.specs.Accounts.{has_room}
 use Rattle.memory_objects.specs.Backed.{CanPin, HoldsMove}
 use Rattle.memory_objects.specs.Invariant.{MemoryInvariant}
+use Rattle.memory_objects.specs.Objects.{access_pins_on}
+use Rattle.pinned_pages.specs.Pages.{frame_of, is_pinned}
 use Rattle.memory_objects.specs.Objects.{MemoryEntry, MemoryGrows, SamePins, all_pass, all_pinned, are_rising, can_pin}
 use Rattle.memory_objects.specs.Objects.{has_memory, is_of, new_pages, object_at, rows_of, times_of, with_area}
 use Rattle.memory_objects.specs.Objects.{with_areas}
@@ -29,8 +31,9 @@ use Rattle.user_memory.proofs.Found.{found_passes, not_pinned}
 use Rattle.std.proofs.lemmas.List.Sums.{sum_by-cons}
 use Rattle.user_memory.proofs.NewPages.{newly_by_number}
 use Rattle.user_memory.proofs.Moves.{accounts_stay, all_mapped, has_areas, has_user}
-use Rattle.user_memory.proofs.Pinned.{ArePinnable, grown_areas, grown_pins, pin_areas, pin_pins, pin_steps, step_before}
-use Rattle.user_memory.proofs.Settled.{StepOf, mapped_at, memory_of, moved, settle, stays}
+use Rattle.user_memory.proofs.Pinned.{grown_access, pin_access, ArePinnable, grown_areas, grown_pins, pin_areas}
+use Rattle.user_memory.proofs.Pinned.{pin_pins, pin_steps, step_before}
+use Rattle.user_memory.proofs.Settled.{access_moved, StepOf, mapped_at, memory_of, moved, settle, stays}
 use Rattle.iofd_words.specs.Frames.{frame_at}
 use Rattle.iofd_words.specs.Pages.{page_of}
 use Rattle.std.specs.List.{slice_get}
@@ -171,9 +174,13 @@ module _ (n : ℕ) (old new : List MemoryEntry) (is : new ≡ with_area n old) w
     where
       by_object : (a : Option MemoryEntry) → object_at old k ≡ a → StepOf rows a (moved share a) i
       by_object None none = refl
-      by_object (Some o) some = stays (slice_get o.pages.pages.frames i)
-          (frame_at rows o.pages.pages.user (page_of o.pages.pages.va + i)) (ltb i o.pages.pages.count
-          && ltb 0 o.pages.pages.table_pins) (not_pinned o i (found_passes is_kept old k o all some))
+      by_object (Some o) some = stays (frame_of o.pages.pages i)
+          (frame_at rows o.pages.pages.user (page_of o.pages.pages.va + i)) (is_pinned o.pages.pages i)
+          (not_pinned o (found_passes is_kept old k o all some) i)
+
+  pub shared_access : (k i : ℕ) → access_pins_on new k i ≡ access_pins_on old k i
+  shared_access k i =
+      ap (λ xs. access_pins_on xs k i) is ∙ access_moved share (λ o. refl) (λ o i. refl) old k i
 
   pub shared_more : (rows : List UserPage) (limits after_limits : List ℕ) → rows_of new ≡ rows_of old
       → 1 ≤ areas_in (object_at old n) → HasShare 0 n (memory_of rows limits old) (memory_of rows after_limits new)
@@ -182,6 +189,7 @@ module _ (n : ℕ) (old new : List MemoryEntry) (is : new ≡ with_area n old) w
     areas = shared_areas there;
     pins =
         λ k. let same = shared_pins k in by_test (eqb n k) (pins_in (object_at new k)) (pins_in (object_at old k)) same;
+    access = λ page. shared_access page.memory page.index;
   }
     where
       by_test : (b : Bool) (x y : ℕ) → x ≡ y → x ≡ y + cond b 0 0
@@ -249,6 +257,9 @@ module _ (rows : List UserPage) (limits after_limits : List ℕ) (n : ℕ) (old 
         let same = grown_pins rows limits old grown grows k in
         let pinned = pin_pins rows new told (n ∷ []) ready k (omega (arith, few, areas, pins, times)) in
         omega (arith, pinned, pins, times, same);
+    access = λ page. pin_access rows new told (n ∷ []) ready page.memory page.index
+        ∙ shared_access n grown new is page.memory page.index
+        ∙ grown_access rows limits old grown grows page.memory page.index;
   }
     where
       areas : (k : ℕ) → areas_in (object_at new k) ≡ areas_in (object_at grown k) + cond (eqb n k) 1 0

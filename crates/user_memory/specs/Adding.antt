@@ -34,6 +34,7 @@ pages_for rows row pinned = record {
   writable = row.writable;
   table_pins = if pinned then 1 else 0;
   frames = if pinned then frames_of rows row else [];
+  access = [];
 }
 
 -- their user's account after it

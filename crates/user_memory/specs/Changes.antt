@@ -6,7 +6,8 @@ use Rattle.iofd_words.specs.declared.rows.MemoryObject.{MemoryObject}
 use Rattle.frame_memory.specs.Pool.{FramePool}
 use Rattle.memory_objects.specs.Invariant.{MemoryInvariant}
 use Rattle.memory_objects.specs.Objects.{pins_on}
-use Rattle.user_memory.specs.Memory.{IsBacked, Memory, areas_over, frame_now, is_pinned, pinned_frame, reached, rows_of}
+use Rattle.user_memory.specs.Memory.{IsBacked, Memory, access_pins, areas_over, frame_now, is_pinned, pinned_frame}
+use Rattle.user_memory.specs.Memory.{reached, rows_of}
 use Rattle.user_memory.specs.Memory.{table_pins}
 
 -- a frame has as many holds more as pages and pins more name it, or less
@@ -22,6 +23,7 @@ pub record SameObjects (old new : Memory) : Type 0 where
   pub frames : (page : ObjectPage) → pinned_frame new page ≡ pinned_frame old page
   pub areas : (number : ℕ) → areas_over new number ≡ areas_over old number
   pub pins : (number : ℕ) → table_pins new number ≡ table_pins old number
+  pub access : (page : ObjectPage) → access_pins new page ≡ access_pins old page
   pub named : (frame : ℕ) → pins_on new.objects frame ≡ pins_on old.objects frame
   pub kept : MemoryInvariant new.objects
 
@@ -38,31 +40,35 @@ pub record Settles (old new : Memory) (before after : FramePool) : Type 0 where
   pub bytes : after.bytes ≡ before.bytes
   pub kept : MemoryInvariant new.objects
 
--- a memory object comes, with one area over it and so many pins
+-- a memory object comes, with one area over it and so many pins by page tables
 pub record HasObject (count : ℕ) (row : MemoryObject) (old new : Memory) : Type 0 where
   pub rows : rows_of new ≡ rows_of old ++ row ∷ []
   pub areas : (number : ℕ) →
       areas_over new number ≡ areas_over old number + (if row.number == number then 1 else 0)
   pub pins : (number : ℕ) →
       table_pins new number ≡ table_pins old number + (if row.number == number then count else 0)
+  pub access : (page : ObjectPage) → access_pins new page ≡ access_pins old page
 
--- one area more lies over the memory object of this number, with so many pins
+-- one area more lies over the memory object of this number, with so many pins by page tables
 pub record HasShare (count number : ℕ) (old new : Memory) : Type 0 where
   pub rows : rows_of new ≡ rows_of old
   pub areas : (n : ℕ) → areas_over new n ≡ areas_over old n + (if number == n then 1 else 0)
   pub pins : (n : ℕ) → table_pins new n ≡ table_pins old n + (if number == n then count else 0)
+  pub access : (page : ObjectPage) → access_pins new page ≡ access_pins old page
 
--- so many pins more stand on each object
+-- so many pins by page tables more stand on each object
 pub record HasPins (more : ℕ → ℕ) (old new : Memory) : Type 0 where
   pub rows : rows_of new ≡ rows_of old
   pub areas : (number : ℕ) → areas_over new number ≡ areas_over old number
   pub pins : (number : ℕ) → table_pins new number ≡ table_pins old number + more number
+  pub access : (page : ObjectPage) → access_pins new page ≡ access_pins old page
 
--- so many areas less lie over each object, and so many pins less stand on it; one without areas is gone
+-- so many areas less lie over each object, and so many pins by page tables less stand on it; one without areas is gone
 pub record HasLess (fewer_areas fewer_pins : ℕ → ℕ) (old new : Memory) : Type 0 where
   pub rows : rows_of new ≡ filter (λ row. not (areas_over new row.number == 0)) (rows_of old)
   pub areas : (number : ℕ) → areas_over new number + fewer_areas number ≡ areas_over old number
   pub pins : (number : ℕ) → table_pins new number + fewer_pins number ≡ table_pins old number
+  pub access : (page : ObjectPage) → access_pins new page ≡ access_pins old page
 
 -- one for this number, none for others
 abbrev pub once : ℕ → ℕ → ℕ

@@ -1,5 +1,5 @@
 -- What is seen of the users' memory: their pages, their limits and the memory objects, and what is asked of it.
-use Rattle.std.specs.Prelude.{ℕ, ◌≤◌, ◌+◌, ◌^◌, Bool, true, false, ◌==◌, ◌&&◌, not, nat_le}
+use Rattle.std.specs.Prelude.{ℕ, ◌≤◌, ◌+◌, ◌^◌, Bool, true, false, ◌==◌, ◌&&◌, ◌||◌, not, nat_le}
 use Rattle.std.specs.Prelude.{nat_lt, Option, Some, None}
 use Rattle.std.specs.Prelude.{List, [], ◌∷◌, filter, length, slice_index}
 use Rattle.std.specs.List.{count_by, list_all, list_any}
@@ -50,11 +50,15 @@ pins_in (Some object) = object.pages.pages.table_pins
 abbrev pub table_pins : Memory → ℕ → ℕ
 table_pins m number = pins_in (objects.object_at m.objects number)
 
--- the object has the page, and pins by page tables stand on it
+-- how many pins by accesses stand on a page of an object
+abbrev pub access_pins : Memory → ObjectPage → ℕ
+access_pins m page = objects.access_pins_on m.objects page.memory page.index
+
+-- the object has the page, and a pin by a page table stands on the object or one by an access on the page
 abbrev pub is_pinned : Memory → ObjectPage → Bool
 is_pinned m page =
     list_any (λ row. page.memory == row.number && nat_lt page.index row.count) (rows_of m)
-    && nat_lt 0 (table_pins m page.memory)
+    && (nat_lt 0 (table_pins m page.memory) || nat_lt 0 (access_pins m page))
 
 -- ---- accounts
 
@@ -69,7 +73,7 @@ has_room m user count =
 
 -- ---- what pinning objects asks
 
--- no page of the object is pinned, and one isn't in its user's memory
+-- no page table pins the object, and a page that no access pins isn't in its user's memory
 abbrev pub lacks_page : Memory → ℕ → Bool
 lacks_page m number = not (objects.passes (objects.can_pin m.pages) (objects.object_at m.objects number))
 

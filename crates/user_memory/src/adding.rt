@@ -13,7 +13,7 @@ use pinned_pages::Pages;
 use std::alloc::Allocator;
 
 /// The pages of the object, with one pin if `pinned`. An error changes nothing.
-pub(crate) fn object_pages<A: Allocator, B: Allocator, C: Allocator, D: Allocator>(
+pub(crate) fn object_pages<A: Allocator + Copy, B: Allocator, C: Allocator, D: Allocator>(
     alloc: A,
     row: MemoryObject,
     pinned: bool,

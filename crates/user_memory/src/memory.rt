@@ -18,7 +18,7 @@ ghost use Rattle.memory_objects.specs.Objects.{times_of};
 ghost use Rattle.user_memory.specs.Changes.{HasLess, HasObject, HasPins, HasShare, HoldsFollow, SameObjects, Settles};
 ghost use Rattle.user_memory.specs.Changes.{never, once};
 ghost use Rattle.user_memory.specs.Invariant.{ObjectsTell};
-ghost use Rattle.user_memory.specs.Memory.{IsBacked, are_of, areas_over, has_memory, has_room, held_by};
+ghost use Rattle.user_memory.specs.Memory.{IsBacked, access_pins, are_of, areas_over, has_memory, has_room, held_by};
 ghost use Rattle.user_memory.specs.Memory.{lacks_page, new_pages, newly_pinned, pinned_frame, rows_at, rows_of};
 ghost use Rattle.user_memory.specs.Memory.{table_pins};
 
@@ -156,10 +156,10 @@ impl<A: Allocator> UserMemory<A> {
         self.objects.frame(number, index)
     }
 
-    /// The frames at which the pages of the object of this number are pinned, in order: those of all its pages, and
-    /// none where no page table pins it or there is no such object. It costs one look-up, and takes no memory.
+    /// The frames at which page tables pin the pages of the object of this number, in order: those of all its pages,
+    /// and none where no page table pins it or there is no such object. It costs one look-up, and takes no memory.
     pub fn frames(&self, number: u64) -> &[FrameNo]
-        ensures each { (index : ℕ) → slice_get result.now index
+        ensures each { 0 < table_pins self.now number → (index : ℕ) → slice_get result.now index
             ≡ pinned_frame self.now (record { memory = number; index = index }) }
         ensures count { 0 < table_pins self.now number →
             IfSome (find (λ row. row.number == number) (rows_of self.now))
@@ -169,7 +169,7 @@ impl<A: Allocator> UserMemory<A> {
         self.objects.frames(number)
     }
 
-    /// Whether no page of the object is pinned, and one isn't in its user's memory.
+    /// Whether no page table pins the object, and a page that no access pins isn't in its user's memory.
     pub fn lacks_page(&self, number: u64) -> bool
         ensures { result ≡ lacks_page self.now number }
     {
@@ -380,9 +380,11 @@ impl<A: Allocator> UserMemory<A> {
     }
 
     /// An area less lies over the object of this number, over which one lies whose pin is off. With its last area it
-    /// goes. It takes no memory.
+    /// goes, and no access pins a page of it. It takes no memory.
     pub fn remove_area(&mut self, number: u64)
-        requires { table_pins self.old number + 1 ≤ areas_over self.old number }
+        requires pins { table_pins self.old number + 1 ≤ areas_over self.old number }
+        requires access { areas_over self.old number ≡ 1
+            → (index : ℕ) → access_pins self.old (record { memory = number; index = index }) ≡ 0 }
         ensures less { HasLess (once number) never self.old self.new }
         ensures settles { (pool : FramePool) → Settles self.old self.new pool pool }
         ensures room { self.new.room ≡ self.old.room }

@@ -1,5 +1,6 @@
 -- One area more lies over a memory object: pins, frames and users' pages are shown again.
-use Rattle.std.proofs.Common.{◌≡◌, ℕ, ◌+◌, ◌<◌, ◌≤◌, Bool, true, false, cond, ◌&&◌, eqb, ltb, Some, None, List, [], ◌∷◌}
+use Rattle.std.proofs.Common.{◌≡◌, ℕ, ◌+◌, ◌<◌, ◌≤◌, Bool, true, false, cond, ◌&&◌, ◌||◌, eqb, leb, ltb, Option, Some}
+use Rattle.std.proofs.Common.{None, List, [], ◌∷◌}
 use Rattle.std.proofs.Common.{length, refl, ap, sym, ◌∙◌, arith}
 use Rattle.std.specs.List.{count_by, list_all, list_any}
 use Rattle.std.proofs.lemmas.Bool.Decides.{nat_tests}
@@ -24,14 +25,14 @@ use Rattle.iofd_rows.proofs.Bools.{and_true, both_true}
 use Rattle.iofd_rows.proofs.Each.{IsIn, of_any}
 use Rattle.iofd_rows.specs.Pinned.{ArePinned}
 use Rattle.user_memory_rows.proofs.Counts.{count_with_area}
-use Rattle.user_memory_rows.proofs.PinsFollow.{any_count, pins_follow}
+use Rattle.user_memory_rows.proofs.PinsFollow.{any_count, pins_follow, still_some}
 use Rattle.user_memory_rows.specs.Shown.{PinsShown, over, translated}
 use Rattle.memory_objects.specs.Invariant.{MemoryInvariant}
 use Rattle.memory_objects.specs.Objects as objects
 use Rattle.memory_objects.specs.Objects.{MemoryEntry, object_at}
-use Rattle.user_memory.proofs.Shared.{pins_few}
+use Rattle.user_memory.proofs.Found.{found_passes, has_index, pinned_has}
 use Rattle.user_memory.specs.Changes.{HasShare, Settles}
-use Rattle.user_memory.specs.Memory.{Memory, areas_in, areas_over, is_pinned, rows_of, table_pins}
+use Rattle.user_memory.specs.Memory.{Memory, access_pins, areas_in, areas_over, is_pinned, rows_of, table_pins}
 
 -- ---- areas over a memory object
 
@@ -81,6 +82,7 @@ translated_more objects x areas kept after pinned is was more n =
 pub record HasAreaMore (count number : ℕ) (old new : Memory) : Type 0 where
   pub areas : (n : ℕ) → areas_over new n ≡ areas_over old n + cond (eqb number n) 1 0
   pub pins : (n : ℕ) → table_pins new n ≡ table_pins old n + cond (eqb number n) count 0
+  pub access : (page : ObjectPage) → access_pins new page ≡ access_pins old page
   pub pages : (page : ObjectPage) → 1 ≤ areas_over old page.memory
       → list_any (λ row. eqb page.memory row.number && ltb page.index row.count) (rows_of new) ≡ list_any
       (λ row. eqb page.memory row.number && ltb page.index row.count) (rows_of old)
@@ -90,6 +92,7 @@ pub more_shared : (count number : ℕ) (old new : Memory) → HasShare count num
 more_shared count number old new has = record {
   areas = has.areas;
   pins = has.pins;
+  access = has.access;
   pages = λ page some. ap (list_any (λ (row : MemoryObject). eqb page.memory row.number && ltb page.index row.count))
       has.rows;
 }
@@ -110,23 +113,31 @@ none_over m n lower = ap areas_in (none m.objects lower)
         (objects.rows_of entries)) all in
         rw (other o.number n parts.0) (none entries parts.1)
 
+-- an object that has a page has an area
+has_area : (entries : List MemoryEntry) (n i : ℕ) → MemoryInvariant entries → has_index (object_at entries n) i ≡ true
+    → 1 ≤ areas_in (object_at entries n)
+has_area entries n i kept has = by_object (object_at entries n) refl has
+  where
+    by_object : (o : Option MemoryEntry) → object_at entries n ≡ o → has_index o i ≡ true → 1 ≤ areas_in o
+    by_object None is has = cc
+    by_object (Some o) is has =
+        let some = (and_true (leb 1 o.areas) (leb o.pages.pages.table_pins o.areas)
+        (found_passes (λ (x : MemoryEntry). leb 1 x.areas && leb x.pages.pages.table_pins x.areas) entries n o
+        kept.areas is)).0 in
+        search (some, arith, nat_tests)
+
 module _ (count number : ℕ) (old new : Memory) (has : HasAreaMore count number old new) where
   -- what was pinned still is
   pub more_pinned : MemoryInvariant old.objects → (page : ObjectPage) → is_pinned old page ≡ true
       → is_pinned new page ≡ true
   more_pinned kept page is =
       let parts = and_true (list_any (λ (row : MemoryObject). eqb page.memory row.number && ltb page.index row.count)
-      (rows_of old)) (ltb 0 (table_pins old page.memory)) is in
-      let pins = parts.1 in
-      let some : 0 < table_pins old page.memory = search (pins, arith, nat_tests) in
-      let few = pins_few old.objects page.memory kept in
+      (rows_of old)) (ltb 0 (table_pins old page.memory) || ltb 0 (access_pins old page)) is in
       both_true _ _
-      (has.pages page (omega (arith, some, few)) ∙ parts.0)
-      (still (table_pins old page.memory) (table_pins new page.memory) (cond (eqb number page.memory) count 0)
-      (has.pins page.memory) pins)
-    where
-      still : (a b k : ℕ) → b ≡ a + k → ltb 0 a ≡ true → ltb 0 b ≡ true
-      still a b k sum some = grind (arith, nat_tests)
+      (has.pages page (has_area old.objects page.memory page.index kept (pinned_has old page kept.rising is)) ∙ parts.0)
+      (let more = has.pins page.memory in
+      still_some (table_pins old page.memory) (table_pins new page.memory) (access_pins old page)
+      (access_pins new page) (omega (arith, more)) (has.access page) parts.1)
 
   -- as many pins more stand on the object
   pub more_pins : table_pins new number ≡ table_pins old number + count
@@ -139,6 +150,7 @@ module _ (count number : ℕ) (old new : Memory) (has : HasAreaMore count number
 
 module _ (at next : ℕ) (w new : World) (x : Area) (pinned : Bool) (kept after : Memory)
     (before_pool after_pool : FramePool) (is : ArePinned at w) (is_next : ArePinned next new)
+    (without : w.access_pins ≡ []) (same_accesses : new.access_pins ≡ w.access_pins)
     (shown : PinsShown w.objects w.areas w.memory w.pins kept)
     (is_settled : new.pins ≡ settled (pinned_pages w.objects w.areas w.memory w.access_pins)
     (pinned_pages new.objects new.areas new.memory new.access_pins) new.memory new.user_pages w.pins)
@@ -149,7 +161,7 @@ module _ (at next : ℕ) (w new : World) (x : Area) (pinned : Bool) (kept after 
   pub area_shown : new.memory ≡ rows_of after → HasAreaMore (cond pinned 1 0) x.memory kept after
       → Settles kept after before_pool after_pool → PinsShown new.objects new.areas new.memory new.pins after
   area_shown rows has settles =
-      pins_follow at next w new kept after before_pool after_pool is is_next shown is_settled
+      pins_follow at next w new kept after before_pool after_pool is is_next without same_accesses shown is_settled
       (λ user page. ap (λ (l : List UserPage). frame_at l user page) same_pages ∙ pages user page
       ∙ ap (λ (l : List UserPage). frame_at l user page) (sym settles.pages))
       rows
@@ -157,23 +169,24 @@ module _ (at next : ℕ) (w new : World) (x : Area) (pinned : Bool) (kept after 
       (λ n. translated_more w.objects x w.areas kept after pinned is_translated shown.tables has.pins n
       ∙ ap (λ (l : List Area). translated w.objects l n) (sym area_more)
       ∙ ap (λ (l : List Object). translated l new.areas n) (sym same_objects))
-      settles
+      has.access settles
 
 -- the world with one area more over a memory object that was there
 abbrev pub shared_world : World → Area → World
 shared_world w x = settle w (record w { areas = with_area x w.areas })
 
 pub shared_shown : (at next : ℕ) (w : World) (x : Area) (pinned : Bool) (kept after : Memory)
-    (before_pool after_pool : FramePool) → ArePinned at w → ArePinned next (shared_world w x)
+    (before_pool after_pool : FramePool) → ArePinned at w → ArePinned next (shared_world w x) → w.access_pins ≡ []
     → PinsShown w.objects w.areas w.memory w.pins kept
     → ((user : UserNo) (page : ℕ) → frame_at w.user_pages user page ≡ frame_at kept.pages user page)
     → pinned ≡ has_hwpt w.objects x.file x.ioas → HasShare (cond pinned 1 0) x.memory kept after
     → Settles kept after before_pool after_pool
     → PinsShown w.objects (with_area x w.areas) w.memory (shared_world w x).pins after
 unfolding settle
-shared_shown at next w x pinned kept after before_pool after_pool is is_next shown pages is_translated has settles =
-    area_shown at next w (shared_world w x) x pinned kept after before_pool after_pool is is_next shown refl refl refl
-    refl pages is_translated (shown.rows ∙ sym has.rows) (more_shared _ _ _ _ has) settles
+shared_shown at next w x pinned kept after before_pool after_pool is is_next without shown pages is_translated has
+    settles =
+    area_shown at next w (shared_world w x) x pinned kept after before_pool after_pool is is_next without refl shown refl
+    refl refl refl pages is_translated (shown.rows ∙ sym has.rows) (more_shared _ _ _ _ has) settles
 
 -- that of a COPY
 pub copied_world : (w : World) (file : FileNo) (request : CopyRequest) (iova : Iova) (source : Area)

@@ -123,6 +123,7 @@ pub may_one : (translated : Bool) (all left rest : List Area) (area : Area) (fir
 may_one translated all left rest area first now before between is going = record {
   pins = λ n. pins translated n (going.may.pins n);
   areas = λ n. areas translated n (going.may.areas n);
+  access = going.may.access;
   backed = going.may.backed;
   invariant = going.may.invariant;
   only = going.may.only;

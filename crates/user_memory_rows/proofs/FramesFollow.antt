@@ -81,6 +81,7 @@ pins_same objects areas memory_objects pins old new shown same = record {
   rows = shown.rows ∙ sym same.rows;
   areas = λ number. same.areas number ∙ shown.areas number;
   tables = λ number. same.pins number ∙ shown.tables number;
+  access = λ page. same.access page ∙ shown.access page;
   frames = λ page. shown.frames page ∙ sym (same.frames page);
   names = λ f. shown.names f ∙ ap (ltb 0) (sym (same.named f));
   invariant = same.kept;
@@ -97,6 +98,7 @@ pins_moved objects new_objects areas new_areas memory_objects pins kept shown sa
   rows = shown.rows;
   areas = λ number. shown.areas number ∙ sym (same_over number);
   tables = λ number. shown.tables number ∙ sym (same_translated number);
+  access = shown.access;
   frames = shown.frames;
   names = shown.names;
   invariant = shown.invariant;

@@ -285,6 +285,7 @@ module _ (all_areas all_pins left_areas left_pins some_areas some_pins rest_area
     areas = λ n. fewer (left_areas n) (left_pins n) (some_areas n) (some_pins n) (rest_areas n) (rest_pins n)
         (table_pins now n) (areas_over now n) (areas_are n) (pins_are n) (few n) (leaving.may.areas n);
     backed = leaving.may.backed;
+    access = leaving.may.access;
     invariant = leaving.may.invariant;
     only = leaving.may.only;
   }

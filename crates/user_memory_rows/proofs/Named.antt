@@ -13,7 +13,8 @@ use Rattle.iofd_words.specs.declared.numbers.UserNo.{UserNo}
 use Rattle.iofd_words.specs.declared.rows.MemoryObject.{MemoryObject}
 use Rattle.iofd_words.specs.declared.rows.UserPage.{UserPage}
 use Rattle.iofd_rows.proofs.Each.{in_found, of_any}
-use Rattle.memory_objects.specs.Objects.{pins_on}
+use Rattle.memory_objects.specs.Objects.{are_rising, pins_on}
+use Rattle.user_memory.proofs.Found.{pinned_has}
 use Rattle.user_memory_rows.proofs.PinsFollow.{any_count}
 use Rattle.user_memory.proofs.PinsNamed.{named_counts, some_named}
 use Rattle.user_memory.specs.Changes.{Settles}
@@ -57,21 +58,22 @@ page_now m page frame found is names = by_object (find (λ (o : MemoryObject). e
 
 -- ---- pins settle
 
-module _ (old new : Memory) (before after : FramePool) (settles : Settles old new before after) (frame : ℕ) where
+module _ (old new : Memory) (before after : FramePool) (rising : are_rising old.objects ≡ true)
+    (settles : Settles old new before after) (frame : ℕ) where
   -- a page that is pinned now was pinned so, or its user's page is in the frame
-  by_page : (page : ObjectPage) (found : FrameNo) (is was : Bool)
+  by_page : (page : ObjectPage) (found : FrameNo) (is was : Bool) → is_pinned old page ≡ was
       → (if is then (if was then pinned_frame old page else frame_now new page) else None) ≡ Some found
       → eqb found.0 frame ≡ true → 0 < reached old frame
-  by_page page found false was there names = absurd (never there)
+  by_page page found false was pinned there names = absurd (never there)
     where
       never : None ≡ Some found → ⊥
       never same = cc
-  by_page page found true true there names =
+  by_page page found true true pinned there names =
       let some : ltb 0 (pins_on old.objects frame) ≡ true =
-      named_counts old.objects page.memory page.index frame found there names in
+      named_counts old.objects page.memory page.index frame found (pinned_has old page rising pinned) there names in
       let more : 0 < pins_on old.objects frame = search (some, arith, nat_tests) in
       omega (arith, more)
-  by_page page found true false there names =
+  by_page page found true false pinned there names =
       let row = page_now new page frame found there names in
       let counted : ltb 0 (count_by (λ (p : UserPage). eqb p.frame.0 frame) old.pages) ≡ true =
       ap (λ (l : List UserPage). ltb 0 (count_by (λ (p : UserPage). eqb p.frame.0 frame) l)) (sym settles.pages)
@@ -83,7 +85,7 @@ module _ (old new : Memory) (before after : FramePool) (settles : Settles old ne
   by_pins true some named =
       let found = some_named new.objects frame settles.kept.rising some in
       let page : ObjectPage = record { memory = found.number; index = found.index } in
-      by_page page found.found (is_pinned new page) (is_pinned old page) (sym (settles.frames page)
+      by_page page found.found (is_pinned new page) (is_pinned old page) refl (sym (settles.frames page)
       ∙ found.pinned) found.names
   by_pins false none named =
       let few : pins_on new.objects frame ≡ 0 = search (none, arith, nat_tests) in

@@ -1,5 +1,6 @@
 -- The pins of the world follow those that are kept.
-use Rattle.std.proofs.Common.{◌≡◌, ℕ, ◌+◌, Bool, true, false, cond, ◌&&◌, ◌||◌, ◌⊎◌, inl, inr, not, eqb, ltb, Option}
+use Rattle.std.proofs.Common.{◌≡◌, ℕ, ◌+◌, ◌≤◌, Bool, true, false, cond, ◌&&◌, ◌||◌, ◌⊎◌, inl, inr, not, eqb, ltb}
+use Rattle.std.proofs.Common.{Option}
 use Rattle.std.proofs.Common.{Some, None, is_some, List, [], ◌∷◌, map, refl, ap, sym, ◌∙◌, arith}
 use Rattle.std.specs.Prelude.{if◌then◌else◌}
 use Rattle.std.specs.List.{count_by, find, list_any}
@@ -22,14 +23,15 @@ use Rattle.iofd_rows.specs.Pinned.{ArePinned, differ}
 use Rattle.iofd_rows.proofs.Bools.{and_true, clash, not_true}
 use Rattle.iofd_rows.proofs.Each.{IsIn, in_found, of_any}
 use Rattle.iofd_rows.proofs.ListTests.{alike}
-use Rattle.iofd_rows.proofs.ObjectPages.{in_pinned, listed_is}
+use Rattle.iofd_rows.proofs.ObjectPages.{in_pinned, listed_is, is_listed, pinned_without}
 use Rattle.iofd_rows.proofs.PageLists.{page_itself, same_page}
 use Rattle.iofd_rows.proofs.PinsFollow.{pin_is_of, settled_at, settled_frame}
-use Rattle.memory_objects.specs.Objects.{are_rising, pins_on}
+use Rattle.memory_objects.specs.Objects.{are_rising, object_at, pins_on}
+use Rattle.user_memory.proofs.Found.{has_index, pinned_has}
 use Rattle.user_memory.proofs.PinsNamed.{named_counts, some_named}
 use Rattle.user_memory.specs.Changes.{Settles}
 use Rattle.user_memory.specs.Memory as memory
-use Rattle.user_memory.specs.Memory.{Memory, areas_over, is_pinned, rows_of, table_pins}
+use Rattle.user_memory.specs.Memory.{Memory, access_pins, areas_over, is_pinned, rows_of, table_pins}
 use Rattle.user_memory_rows.specs.Shown.{PinsShown, over, translated}
 
 -- ---- which frames pins name
@@ -114,22 +116,54 @@ any_count p (x ∷ xs) = by_test (p x) (any_count p xs) ∙ ap (ltb 0) (sym (cou
 
 -- ---- which pages are pinned
 
-pub pinned_is : (w : World) (kept : Memory) (page : ObjectPage) → w.memory ≡ rows_of kept
-    → ((number : ℕ) → table_pins kept number ≡ translated w.objects w.areas number)
+pub pinned_is : (w : World) (kept : Memory) (page : ObjectPage) → w.access_pins ≡ [] → w.memory ≡ rows_of kept
+    → ((number : ℕ) → table_pins kept number ≡ translated w.objects w.areas number) → access_pins kept page ≡ 0
     → list_any (is_page page) (pinned_pages w.objects w.areas w.memory w.access_pins) ≡ is_pinned kept page
-pinned_is w kept page rows pins =
+pinned_is w kept page without rows pins none =
     in_pinned w.objects w.areas w.memory w.access_pins page
+    ∙ ap (λ b. is_listed w.memory page && b) (pinned_without w.objects w.areas w.access_pins page without)
     ∙ ap (λ b. b && is_translated w.objects w.areas page.memory) (listed_is w.memory page
     ∙ ap (λ (l : List MemoryObject). list_any (λ row. eqb page.memory row.number && ltb page.index row.count) l)
     rows)
     ∙ ap (λ b. list_any (λ row. eqb page.memory row.number && ltb page.index row.count) (rows_of kept) && b)
     (any_count (λ (area : Area). eqb area.memory page.memory && has_hwpt w.objects area.file area.ioas) w.areas
-    ∙ ap (ltb 0) (sym (pins page.memory)))
+    ∙ ap (ltb 0) (sym (pins page.memory)) ∙ by_none (ltb 0 (table_pins kept page.memory)) (access_pins kept page) none)
+  where
+    by_none : (b : Bool) (k : ℕ) → k ≡ 0 → b ≡ (b || ltb 0 k)
+    by_none true k none = refl
+    by_none false k none = sym (ap (ltb 0) none)
+
+-- where a pin of some kind stood, one stands when none has gone
+pub still_some : (tables more access still : ℕ) → tables ≤ more → still ≡ access
+    → (ltb 0 tables || ltb 0 access) ≡ true → (ltb 0 more || ltb 0 still) ≡ true
+still_some tables more access still most same some = by_test (ltb 0 tables) refl some
+  where
+    or_true : (b c : Bool) → c ≡ true → (b || c) ≡ true
+    or_true true c is = refl
+    or_true false c is = is
+
+    by_test : (t : Bool) → ltb 0 tables ≡ t → (t || ltb 0 access) ≡ true → (ltb 0 more || ltb 0 still) ≡ true
+    by_test true is some = let there : ltb 0 more ≡ true = grind (arith, nat_tests) in rw there refl
+    by_test false is some = or_true (ltb 0 more) (ltb 0 still) (ap (ltb 0) same ∙ some)
+
+-- one that has a frame is a page of its object
+named_has : (kept : Memory) (page : ObjectPage) (frame : FrameNo) → are_rising kept.objects ≡ true
+    → (is_pinned kept page ≡ false → memory.pinned_frame kept page ≡ None) → memory.pinned_frame kept page ≡ Some frame
+    → has_index (object_at kept.objects page.memory) page.index ≡ true
+named_has kept page frame rising only there = by_pinned (is_pinned kept page) refl
+  where
+    never : Some frame ≡ None → ⊥
+    never same = cc
+
+    by_pinned : (b : Bool) → is_pinned kept page ≡ b → has_index (object_at kept.objects page.memory) page.index ≡ true
+    by_pinned true is = pinned_has kept page rising is
+    by_pinned false is = absurd (never (sym there ∙ only is))
 
 -- where no page has two pins, the frames that they name are those at which pages are pinned
 module _ (pins : List Pin) (kept : Memory) (once : differ (map page_of_pin pins) ≡ true)
     (rising : are_rising kept.objects ≡ true) (same : (page : ObjectPage)
-    → pinned_frame pins page ≡ memory.pinned_frame kept page) where
+    → pinned_frame pins page ≡ memory.pinned_frame kept page)
+    (only : (page : ObjectPage) → is_pinned kept page ≡ false → memory.pinned_frame kept page ≡ None) where
   pub reached_alike : (frame : ℕ) → list_any (λ (pin : Pin). eqb pin.frame.0 frame) pins ≡ ltb 0
       (pins_on kept.objects frame)
   reached_alike frame = alike _ _ to from
@@ -137,8 +171,10 @@ module _ (pins : List Pin) (kept : Memory) (once : differ (map page_of_pin pins)
       to : list_any (λ (pin : Pin). eqb pin.frame.0 frame) pins ≡ true → ltb 0 (pins_on kept.objects frame) ≡ true
       to some =
           let (pin, within, is) = some_pin pins frame some in
-          named_counts kept.objects pin.memory pin.index frame pin.frame (sym (same (page_of_pin pin))
-          ∙ frame_of_row pins pin once within) is
+          let there : memory.pinned_frame kept (page_of_pin pin) ≡ Some pin.frame =
+          sym (same (page_of_pin pin)) ∙ frame_of_row pins pin once within in
+          named_counts kept.objects pin.memory pin.index frame pin.frame
+          (named_has kept (page_of_pin pin) pin.frame rising (only (page_of_pin pin)) there) there is
 
       by_found : (number index : ℕ) (found : FrameNo) → eqb found.0 frame ≡ true → (o : Option Pin)
           → find (λ (x : Pin). is_page (page_of_pin x) (record { memory = number; index = index })) pins ≡ o
@@ -165,22 +201,23 @@ module _ (pins : List Pin) (kept : Memory) (once : differ (map page_of_pin pins)
 -- ---- they follow
 
 -- no other page has a pin
-pub only_pinned : (at : ℕ) (w : World) (kept : Memory) → ArePinned at w
+pub only_pinned : (at : ℕ) (w : World) (kept : Memory) → ArePinned at w → w.access_pins ≡ []
     → PinsShown w.objects w.areas w.memory w.pins kept → (page : ObjectPage) → is_pinned kept page ≡ false
     → pinned_frame w.pins page ≡ None
-only_pinned at w kept pinned shown page not_pinned = by_frame (pinned_frame w.pins page) refl
+only_pinned at w kept pinned without shown page not_pinned = by_frame (pinned_frame w.pins page) refl
   where
     by_frame : (o : Option FrameNo) → pinned_frame w.pins page ≡ o → pinned_frame w.pins page ≡ None
     by_frame None is = is
     by_frame (Some frame) is =
-        absurd (clash _ (pinned_is w kept page shown.rows shown.tables ∙ not_pinned)
+        absurd (clash _ (pinned_is w kept page without shown.rows shown.tables (shown.access page) ∙ not_pinned)
         (pin_is_of w.pins (pinned_pages w.objects w.areas w.memory w.access_pins) page
         (ap (λ (o : Option FrameNo). is_some o) is) pinned.only))
 
-pub only_kept : (at : ℕ) (w : World) (kept : Memory) → ArePinned at w → PinsShown w.objects w.areas w.memory w.pins kept
+pub only_kept : (at : ℕ) (w : World) (kept : Memory) → ArePinned at w → w.access_pins ≡ []
+    → PinsShown w.objects w.areas w.memory w.pins kept
     → (page : ObjectPage) → is_pinned kept page ≡ false → memory.pinned_frame kept page ≡ None
-only_kept at w kept pinned shown page not_pinned =
-    sym (shown.frames page) ∙ only_pinned at w kept pinned shown page not_pinned
+only_kept at w kept pinned without shown page not_pinned =
+    sym (shown.frames page) ∙ only_pinned at w kept pinned without shown page not_pinned
 
 -- where a page is pinned, and was or wasn't before
 settles_at : (was is : Bool) (old now : Option FrameNo) → (was ≡ false → old ≡ None)
@@ -196,14 +233,15 @@ settles_at was false old now only = by_old was old
     by_old false o = refl
 
 module _ (at next : ℕ) (w new : World) (kept after : Memory) (before_pool after_pool : FramePool)
-    (pinned : ArePinned at w) (pinned_next : ArePinned next new)
-    (shown : PinsShown w.objects w.areas w.memory w.pins kept)
+    (pinned : ArePinned at w) (pinned_next : ArePinned next new) (without : w.access_pins ≡ [])
+    (same_accesses : new.access_pins ≡ w.access_pins) (shown : PinsShown w.objects w.areas w.memory w.pins kept)
     (is_settled : new.pins ≡ settled (pinned_pages w.objects w.areas w.memory w.access_pins)
     (pinned_pages new.objects new.areas new.memory new.access_pins) new.memory new.user_pages w.pins)
     (pages : (user : UserNo) (page : ℕ) → frame_at new.user_pages user page ≡ frame_at after.pages user page)
     (rows : new.memory ≡ rows_of after)
     (areas : (number : ℕ) → areas_over after number ≡ over new.areas number)
     (pins : (number : ℕ) → table_pins after number ≡ translated new.objects new.areas number)
+    (access : (page : ObjectPage) → access_pins after page ≡ access_pins kept page)
     (settles : Settles kept after before_pool after_pool) where
   now_alike : (page : ObjectPage) → frame_now new.memory new.user_pages page ≡ memory.frame_now after page
   now_alike page =
@@ -214,14 +252,20 @@ module _ (at next : ℕ) (w new : World) (kept after : Memory) (before_pool afte
       now_by f = elim (find (λ m. eqb m.number page.memory) (rows_of after))
           [ Some m ↦ f m.user (page_of m.va + page.index) | None ↦ None ]
 
+  none_now : (page : ObjectPage) → access_pins after page ≡ 0
+  none_now page = access page ∙ shown.access page
+
   frames_follow : (page : ObjectPage) → pinned_frame new.pins page ≡ memory.pinned_frame after page
   frames_follow page =
       ap (λ (l : List Pin). pinned_frame l page) is_settled
       ∙ settled_frame (pinned_pages w.objects w.areas w.memory w.access_pins)
       (pinned_pages new.objects new.areas new.memory new.access_pins) new.memory new.user_pages w.pins page
-      ∙ rw (pinned_is w kept page shown.rows shown.tables, pinned_is new after page rows pins) refl
+      ∙ rw (
+        pinned_is w kept page without shown.rows shown.tables (shown.access page),
+        pinned_is new after page (same_accesses ∙ without) rows pins (none_now page),
+      ) refl
       ∙ settles_at (is_pinned kept page) (is_pinned after page) (pinned_frame w.pins page)
-      (frame_now new.memory new.user_pages page) (only_pinned at w kept pinned shown page)
+      (frame_now new.memory new.user_pages page) (only_pinned at w kept pinned without shown page)
       ∙ rw (shown.frames page, now_alike page) refl
       ∙ sym (settles.frames page)
 
@@ -231,7 +275,9 @@ module _ (at next : ℕ) (w new : World) (kept after : Memory) (before_pool afte
         rows = rows;
         areas = areas;
         tables = pins;
+        access = none_now;
         frames = frames_follow;
-        names = reached_alike new.pins after pinned_next.once settles.kept.rising frames_follow;
+        names = reached_alike new.pins after pinned_next.once settles.kept.rising frames_follow
+            (λ page is. settles.frames page ∙ rw is refl);
         invariant = settles.kept;
       }

@@ -1,5 +1,6 @@
 -- One step after another lets go of memory objects.
-use Rattle.std.proofs.Common.{◌≡◌, ℕ, ◌+◌, ◌≤◌, Bool, true, false, cond, ◌&&◌, not, eqb, ltb, leb, Option, None, List}
+use Rattle.std.proofs.Common.{◌≡◌, ℕ, ◌+◌, ◌≤◌, Bool, true, false, cond, ◌&&◌, ◌||◌, not, eqb, ltb, leb, Option, None}
+use Rattle.std.proofs.Common.{List}
 use Rattle.std.proofs.Common.{[], ◌∷◌, refl, ap, sym, ◌∙◌, arith}
 use Rattle.std.specs.Prelude.{if◌then◌else◌}
 use Rattle.std.specs.List.{filter, list_all, list_any}
@@ -14,7 +15,8 @@ use Rattle.memory_objects.specs.Invariant.{MemoryInvariant}
 use Rattle.memory_objects.specs.Objects as objects
 use Rattle.memory_objects.specs.Objects.{MemoryEntry, are_rising, object_at}
 use Rattle.user_memory.specs.Changes.{HasLess, HoldsFollow, Settles, never}
-use Rattle.user_memory.specs.Memory.{Memory, areas_in, areas_over, frame_now, is_pinned, pinned_frame, rows_of}
+use Rattle.user_memory.specs.Memory.{Memory, access_pins, areas_in, areas_over, frame_now, is_pinned, pinned_frame}
+use Rattle.user_memory.specs.Memory.{rows_of}
 use Rattle.user_memory.specs.Memory.{table_pins}
 
 -- ---- nothing happens
@@ -83,7 +85,12 @@ rows_stay m invariant = sym (filter_all (λ (row : MemoryObject). not (eqb (area
     (some_area m.objects invariant.rising invariant.areas))
 
 pub less_none : (m : Memory) → MemoryInvariant m.objects → HasLess never never m m
-less_none m invariant = record { rows = rows_stay m invariant; areas = λ n. omega arith; pins = λ n. omega arith }
+less_none m invariant = record {
+  rows = rows_stay m invariant;
+  areas = λ n. omega arith;
+  pins = λ n. omega arith;
+  access = λ page. refl;
+}
 
 -- ---- one step, and then another
 
@@ -109,7 +116,7 @@ pub still_pinned : (gone_areas gone_pins : ℕ → ℕ) (old new : Memory) → H
     → (page : ObjectPage) → is_pinned new page ≡ true → is_pinned old page ≡ true
 still_pinned gone_areas gone_pins old new less page is =
     let parts = and_true (list_any (λ (row : MemoryObject). eqb page.memory row.number && ltb page.index row.count)
-    (rows_of new)) (ltb 0 (table_pins new page.memory)) is in
+    (rows_of new)) (ltb 0 (table_pins new page.memory) || ltb 0 (access_pins new page)) is in
     let fewer : list_any (λ (row : MemoryObject). eqb page.memory row.number && ltb page.index row.count)
     (filter (λ (row : MemoryObject). not (eqb (areas_over new row.number) 0)) (rows_of old)) ≡ true =
     ap (list_any (λ (row : MemoryObject). eqb page.memory row.number && ltb page.index row.count)) (sym less.rows)
@@ -121,11 +128,25 @@ still_pinned gone_areas gone_pins old new less page is =
     row.number && ltb page.index row.count) (rows_of old) (λ row both. (and_true _ _ both).1)
     (sym (any-filter (λ (row : MemoryObject). eqb page.memory row.number && ltb page.index row.count)
     (λ (row : MemoryObject). not (eqb (areas_over new row.number) 0)) (rows_of old)) ∙ fewer) in
-    both_true _ _ listed (more (table_pins new page.memory) (gone_pins page.memory) (table_pins old page.memory)
-    (less.pins page.memory) parts.1)
+    both_true _ _ listed (either (ltb 0 (table_pins new page.memory)) refl (rw (less.access page) at parts.1))
   where
     more : (a b c : ℕ) → a + b ≡ c → ltb 0 a ≡ true → ltb 0 c ≡ true
     more a b c sum some = grind (arith, nat_tests)
+
+    or_true : (b c : Bool) → c ≡ true → (b || c) ≡ true
+    or_true true c is = refl
+    or_true false c is = is
+
+    either : (b : Bool) → ltb 0 (table_pins new page.memory) ≡ b → (ltb 0 (table_pins new page.memory)
+        || ltb 0 (access_pins old page)) ≡ true
+        → (ltb 0 (table_pins old page.memory) || ltb 0 (access_pins old page)) ≡ true
+    either true is some =
+        let still : ltb 0 (table_pins old page.memory) ≡ true =
+        more (table_pins new page.memory) (gone_pins page.memory) (table_pins old page.memory)
+        (less.pins page.memory) is in
+        rw still refl
+    either false is some =
+        or_true (ltb 0 (table_pins old page.memory)) (ltb 0 (access_pins old page)) (rw is at some)
 
 module _ (areas pins more_areas more_pins : ℕ → ℕ) (first second third : Memory) (before between after : FramePool)
     (less : HasLess areas pins first second) (more : HasLess more_areas more_pins second third) where
@@ -137,6 +158,7 @@ module _ (areas pins more_areas more_pins : ℕ → ℕ) (first second third : M
         (less.areas n) (more.areas n);
     pins = λ n. added (table_pins third n) (pins n) (more_pins n) (table_pins second n) (table_pins first n)
         (less.pins n) (more.pins n);
+    access = λ page. more.access page ∙ less.access page;
   }
     where
       added : (c x y b a : ℕ) → b + x ≡ a → c + y ≡ b → c + (x + y) ≡ a
@@ -205,6 +227,7 @@ released_as areas pins other_areas other_pins old new before after same_areas sa
     rows = is.less.rows;
     areas = λ n. ap (λ k. areas_over new n + k) (sym (same_areas n)) ∙ is.less.areas n;
     pins = λ n. ap (λ k. table_pins new n + k) (sym (same_pins n)) ∙ is.less.pins n;
+    access = is.less.access;
   };
   settles = is.settles;
 }
@@ -227,6 +250,7 @@ may_further areas pins some_areas some_pins rest_areas rest_pins old new before 
       areas = λ n. left (areas n) (pins n) (some_areas n) (some_pins n) (rest_areas n) (rest_pins n) (areas_over new n)
           (table_pins new n) (areas_over old n) (table_pins old n) (areas_are n) (pins_are n) (less.areas n)
           (less.pins n) (may.areas n);
+      access = λ page. less.access page ∙ may.access page;
       backed = settles.holds.backed may.backed;
       invariant = settles.kept;
       only = only_after old new before after settles;

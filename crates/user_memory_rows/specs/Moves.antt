@@ -9,7 +9,8 @@ use Rattle.iofd_words.specs.declared.rows.Area.{Area}
 use Rattle.user_memory_rows.specs.Shown.{over}
 use Rattle.memory_objects.specs.Invariant.{MemoryInvariant}
 use Rattle.user_memory.specs.Changes.{HasLess, HasPins, Settles, never}
-use Rattle.user_memory.specs.Memory.{IsBacked, Memory, are_of, areas_over, frame_now, has_room, is_pinned, newly_pinned}
+use Rattle.user_memory.specs.Memory.{IsBacked, Memory, access_pins, are_of, areas_over, frame_now, has_room, is_pinned}
+use Rattle.user_memory.specs.Memory.{newly_pinned}
 use Rattle.user_memory.specs.Memory.{pinned_frame, rows_at, table_pins}
 
 -- how many pins these areas have on each memory object: one each where they are translated, else none
@@ -21,6 +22,8 @@ pub record MayRelease (areas_gone pins_gone : ℕ → ℕ) (m : Memory) (holds :
   pub pins : (number : ℕ) → pins_gone number ≤ table_pins m number
   -- no pin stands on an object without an area
   pub areas : (number : ℕ) → table_pins m number + areas_gone number ≤ areas_over m number + pins_gone number
+  -- and none by an access on any page
+  pub access : (page : ObjectPage) → access_pins m page ≡ 0
   pub backed : IsBacked m holds
   pub invariant : MemoryInvariant m.objects
   -- no other page is pinned

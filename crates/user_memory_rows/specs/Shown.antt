@@ -17,7 +17,7 @@ use Rattle.iofd_words.specs.declared.rows.UserPage.{UserPage}
 use Rattle.memory_objects.specs.Invariant.{MemoryInvariant}
 use Rattle.memory_objects.specs.Objects.{pins_on}
 use Rattle.user_memory.specs.Memory as memory
-use Rattle.user_memory.specs.Memory.{Memory, areas_over, reached, rows_of, table_pins}
+use Rattle.user_memory.specs.Memory.{Memory, access_pins, areas_over, reached, rows_of, table_pins}
 
 -- how many of the areas are over the memory object of this number, and how many of these a page table translates
 abbrev pub over : List Area → ℕ → ℕ
@@ -32,12 +32,14 @@ pub record UsersShown (user_pages kept : List UserPage) : Type 0 where
   pub pages : (user : UserNo) (page : ℕ) → frame_at user_pages user page ≡ frame_at kept user page
   pub counts : (test : UserPage → Bool) → count_by test user_pages ≡ count_by test kept
 
--- the memory objects, how many areas and how many translated areas lie over each, and at which frame a page is pinned
+-- the memory objects, how many areas and how many translated areas lie over each, and at which frame a page is pinned;
+-- no access pins one
 pub record PinsShown (objects : List Object) (all_areas : List Area) (memory_objects : List MemoryObject)
     (pins : List Pin) (kept : Memory) : Type 0 where
   pub rows : memory_objects ≡ rows_of kept
   pub areas : (number : ℕ) → areas_over kept number ≡ over all_areas number
   pub tables : (number : ℕ) → table_pins kept number ≡ translated objects all_areas number
+  pub access : (page : ObjectPage) → access_pins kept page ≡ 0
   pub frames : (page : ObjectPage) → pinned_frame pins page ≡ memory.pinned_frame kept page
   pub names : (frame : ℕ) → list_any (λ pin. pin.frame.0 == frame) pins ≡ nat_lt 0 (pins_on kept.objects frame)
   pub invariant : MemoryInvariant kept.objects

@@ -11,7 +11,7 @@ returns-then-translated-clause-mapped g c = λ frames leads all.
     let long = as_long c.args.state.now.memory area c.frames.result.now ordered can.whole can.object can.found can.size
     (c.frames.ensures.count can.pins) in
     let told = area_mapped c.args.state.now.memory area c.frames.result.now can.live ordered can.whole
-    c.frames.ensures.each long leads in
+    (c.frames.ensures.each can.pins) long leads in
     record {
       stand = c.map.ensures.stand frames leads all (area_leads c.args.state.now.memory area leads) told;
       others = c.map.ensures.others frames leads all;

@@ -50,7 +50,8 @@ returns-then-is_live-clause-filled g c =
     let pinned = can.pinned in
     let ordered = c.requires.apart.1 in
     let whole = whole_pages c.args.area.now ordered can.pages can.starts in
-    live_filled c.args.memory.now c.args.area.now c.frames.result.now live ordered whole c.frames.ensures.each
+    live_filled c.args.memory.now c.args.area.now c.frames.result.now live ordered whole
+    (c.frames.ensures.each pinned.pins)
     (as_long c.args.memory.now c.args.area.now c.frames.result.now (whole_size c.args.area.now ordered whole)
     pinned.object pinned.found pinned.size (c.frames.ensures.count pinned.pins))
     c.args.file c.args.id c.args.page_tables.now.tables c.args.pool.now c.map_in.new.pool

@@ -12,7 +12,7 @@ use Rattle.iofd_promises.specs.Unmaps.{SameOthers, Waits}
 use Rattle.iofd_promises.proofs.Facts.{usable_of}
 use Rattle.iofd_promises.proofs.Rows.{contains, within}
 use Rattle.iofd_promises.proofs.Steps.{by_event, run_before}
-use Rattle.iofd_promises.proofs.Unmapped.{all_leave, are_most, pending_again, pending_in_vain, somebody_owes}
+use Rattle.iofd_promises.proofs.Unmapped.{all_leave, are_most, pending_again, pending_in_vain, something_holds}
 use Rattle.iofd_promises.proofs.Unmapped.{uncut_whole}
 use Rattle.iofd_promises.proofs.unmap.an_unmap_waits_for_who_owes.Goals as goal
 
@@ -23,17 +23,16 @@ returns-clause-waits g c = λ settings before r file request errno run of_event 
     let own = (usable_of settings before (run_before settings before _ run)).sound.own_ids in
     by_event settings before r run (λ new. Waits w new file request errno) (event.Unmap file request)
     (reply.Pending errno) refl of_event answered (λ none answers.
-    let owed = somebody_owes w file request answers.0 in
+    let held = something_holds w file request answers.0 in
     record {
       whole = λ area has named. uncut_whole w file request area (unmap_passed (view w) file request none).uncut
           (within w.areas area has) named;
-      area = owed.area;
-      there = contains w.areas owed.area owed.there;
-      named = owed.named;
-      device = owed.device;
-      owes = owed.owes;
+      area = held.area;
+      there = contains w.areas held.area held.there;
+      named = held.named;
+      held_back = held.by;
       most = touched_tries w.areas file request;
-      are_most = are_most w file request owed.area owed.there owed.named;
+      are_most = are_most w file request held.area held.there held.named;
       again = λ few. answers.1 ∙ pending_again _ few;
       in_vain = λ many. answers.1 ∙ pending_in_vain _ many;
       areas = all_leave w file request own;

@@ -16,7 +16,7 @@ use Rattle.iofd_promises.specs.Unmaps.{TakesAway}
 use Rattle.iofd_promises.proofs.Facts.{usable_of}
 use Rattle.iofd_promises.proofs.Rows.{contains, within}
 use Rattle.iofd_promises.proofs.Steps.{by_event, run_before}
-use Rattle.iofd_promises.proofs.Unmapped.{bytes_are, nobody_owes, touched_named, uncut_whole}
+use Rattle.iofd_promises.proofs.Unmapped.{bytes_are, no_pin_lies, nobody_owes, touched_named, uncut_whole}
 use Rattle.iofd_promises.proofs.unmap.bytes_are_answered_where_nobody_owes.Goals as goal
 
 pub returns : goal.returns
@@ -30,6 +30,8 @@ returns g c = λ settings before r file request count run of_event answered.
           (within w.areas area has) named;
       owed = λ area device has named owes. nobody_owes w file request area device own (not_true _ answers.0)
           (within w.areas area has) named owes;
+      pinned = λ area pin has named lies. no_pin_lies w file request area pin own (not_true _ answers.0)
+          (within w.areas area has) named lies;
       count_is = answers.1 ∙ bytes_are file request w.areas;
       gone = λ area has. sym (touched_named file request area)
           ∙ not_true _ (in_filter (λ (a : Area). not (is_touched file request a)) w.areas area (within _ area has)).1;

@@ -39,7 +39,7 @@ pub returns-in-Held : goal.returns-in-Held
 returns-in-Held g c =
     rw c.in-Held.is (λ at w records tidy shows none. one_count _ _
     (c.held.ensures ∙ ap (λ (v : View). v.held_by c.in-Held.user)
-    (same_view w c.args.state.now shows tidy.tabled.owned)))
+    (same_view w c.args.state.now shows tidy.tabled.owned tidy.unaccessed)))
 
 -- its known page table
 pub hwpt_of-requires : goal.hwpt_of-requires
@@ -50,4 +50,4 @@ returns-in-AttachedTo g c =
     rw c.in-AttachedTo.is (λ at w records tidy shows none. one_attached _ _
     (c.hwpt_of.ensures
     ∙ ap (λ (v : View). option_map (λ a. a.hwpt) (attachment_of v.attachments c.in-AttachedTo.device))
-    (same_view w c.args.state.now shows tidy.tabled.owned)))
+    (same_view w c.args.state.now shows tidy.tabled.owned tidy.unaccessed)))

@@ -55,7 +55,8 @@ pin_reserved-requires-clause-holds g c =
     sym (rw c.deref.ensures.value at c.in-Some.ensures.some) ∙ here in
     let is = found_stands all c.args.number x found in
     let there = standing_at all c.in-Some.place x here is in
-    its_holds objects c.args.number (place_in all c.in-Some.place) x c.args.users.now.pages c.args.pool.now.holds
+    λ first. its_holds objects c.args.number (place_in all c.in-Some.place) x c.args.users.now.pages
+    c.args.pool.now.holds
     c.args.accounts.now c.requires.can there found
 
 pub pin_reserved-requires-clause-granted : goal.pin_reserved-requires-clause-granted
@@ -104,7 +105,7 @@ returns-in-Some-clause-entries g c =
     let changed = standing_set all c.in-Some.place x y here is is in
     changed ∙ set_pinned c.args.users.now.pages objects c.args.number (place_in all c.in-Some.place) x
     c.pin_reserved.new.self (rising_left stands all c.requires.rising) there found c.pin_reserved.ensures.pages
-    c.pin_reserved.ensures.capacity
+    c.pin_reserved.ensures.capacity c.pin_reserved.ensures.room
 
 pub returns-in-Some-clause-pool : goal.returns-in-Some-clause-pool
 returns-in-Some-clause-pool g c =

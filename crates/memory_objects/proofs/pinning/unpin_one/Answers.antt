@@ -90,7 +90,7 @@ returns-in-Some-clause-entries g c =
     let changed = standing_set all c.in-Some.place x y here is is in
     changed ∙ set_unpinned objects c.args.number (place_in all c.in-Some.place) x c.unpin_by_table.new.self
     (rising_left stands all c.requires.rising) there found some c.unpin_by_table.ensures.pages
-    c.unpin_by_table.ensures.capacity
+    c.unpin_by_table.ensures.capacity c.unpin_by_table.ensures.room
 
 pub returns-in-Some-clause-pool : goal.returns-in-Some-clause-pool
 returns-in-Some-clause-pool g c =

@@ -25,7 +25,8 @@ returns-in-Some-clause-objects g c =
     let changed = standing_set all c.in-Some.place x y here is is in
     let G : List MemoryEntry → Type 0 = λ xs. MemoryGrows objects xs in
     subst G (sym changed) (grows_one objects c.args.number (place_in all c.in-Some.place) x c.reserve.new.self
-    (rising_left stands all c.requires) there found c.reserve.ensures.pages c.reserve.ensures.capacity)
+    (rising_left stands all c.requires) there found c.reserve.ensures.pages c.reserve.ensures.capacity
+    c.reserve.ensures.room)
 
 pub returns-in-Some-clause-ok : goal.returns-in-Some-clause-ok
 returns-in-Some-clause-ok g c =
@@ -45,7 +46,7 @@ returns-in-Some-clause-ok g c =
     on_ok_weaker c.reserve.result (λ enough. subst E (sym changed)
     (enough_now objects c.args.number (place_in all c.in-Some.place) x c.reserve.new.self
     (rising_left stands all c.requires) there found c.reserve.ensures.pages c.reserve.ensures.capacity
-    enough)) c.reserve.ensures.ok
+    c.reserve.ensures.room enough)) c.reserve.ensures.ok
 
 pub returns-in-Some-clause-err : goal.returns-in-Some-clause-err
 returns-in-Some-clause-err g c =

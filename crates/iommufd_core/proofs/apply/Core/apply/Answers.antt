@@ -109,11 +109,11 @@ pub returns-in_default-answer-clause-memory : goal.returns-in_default-answer-cla
 returns-in_default-answer-clause-memory g c =
     let old = c.self.inside.state in
     let records = c.self.inside.records.items in
+    let tidy = tidy_run old.config records c.self.invariant.run in
     let wants = c.in_default-answer.ensures.memory in
     rw (← c.self.view_is) (inr (
-      sym (same_refusal (world_of old.config records) old c.self.invariant.shows
-          (tidy_run old.config records c.self.invariant.run).tabled.owned c.args.act.now.event)
-          ∙ wants.0,
+      sym (same_refusal (world_of old.config records) old c.self.invariant.shows tidy.tabled.owned tidy.unaccessed
+          c.args.act.now.event) ∙ wants.0,
       takes_in (world_of old.config records) old c.self.invariant.shows c.args.act.now.event wants.1,
     ))
 

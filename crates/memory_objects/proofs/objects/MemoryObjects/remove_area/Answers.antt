@@ -16,7 +16,7 @@ invariant_of-self g c =
       freed = c.remove_area-self-inside.ensures.freed;
       kept = subst M (sym c.remove_area-self-inside.ensures.entries)
           (kept_without (c.args.number ∷ []) (standing c.self.inside.entries.items) c.self.invariant.kept
-          (rw (← c.self.view_is) at c.requires));
+          (rw (← c.self.view_is) at c.requires.pins));
     }
 
 pub returns-clause-gone : goal.returns-clause-gone
@@ -33,7 +33,7 @@ returns-clause-pins g c =
       c.remove_area-self-inside.ensures.entries,
       ← c.self.view_is,
     ) (same_without (c.args.number ∷ []) (standing c.self.inside.entries.items)
-    c.self.invariant.kept (rw (← c.self.view_is) at c.requires))
+    c.self.invariant.kept (rw (← c.self.view_is) at c.requires.pins) (rw (← c.self.view_is) at c.requires.access))
 
 pub returns-clause-room : goal.returns-clause-room
 returns-clause-room g c =

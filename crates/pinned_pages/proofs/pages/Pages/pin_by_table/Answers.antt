@@ -4,7 +4,7 @@ use Rattle.mem_account.specs.Accounts.{has_room, is_user}
 use Rattle.pinned_pages.specs.Holds.{HasMoreHolds}
 use Rattle.pinned_pages.specs.Pages.{MemoryPages, ObjectPages, new_frames, pinned}
 use Rattle.frame_memory.proofs.Refusals.{none_there, not_memory, not_taken, refusal_told, taken}
-use Rattle.pinned_pages.proofs.FirstPin.{IsReady, absent_refused, account_refused, ready_first, ready_later}
+use Rattle.pinned_pages.proofs.FirstPin.{IsReady, absent_refused, account_refused, new_first, ready_first, ready_later}
 use Rattle.pinned_pages.proofs.pages.Pages.pin_by_table.Given.{Over}
 use Rattle.pinned_pages.proofs.pages.Pages.pin_by_table.Goals as goal
 use Rattle.pinned_pages.proofs.pages.Pages.pin_by_table.Goals.{else-self-eq0}
@@ -68,7 +68,9 @@ refused-requires-then-not-has_room g c = tt
 pub returns-then-not-has_room-clause-refused : goal.returns-then-not-has_room-clause-refused
 returns-then-not-has_room-clause-refused g c =
     let none = sym (ap (λ (v : MemoryPages). v.pages.table_pins) c.self.view_is) ∙ c.if-self-eq0.true in
-    let room = sym (ap (λ (v : MemoryPages). has_room c.args.accounts.now v.pages.user.0 v.pages.count) c.self.view_is)
+    let room = ap (has_room c.args.accounts.now c.args.self.now.pages.user.0)
+    (sym (new_first c.args.self.now.pages none) ∙ sym c.new_count.ensures.value)
+    ∙ sym (ap (λ (v : MemoryPages). has_room c.args.accounts.now v.pages.user.0 c.new_count.result) c.self.view_is)
     ∙ sym c.if-not-has_room.ensures in
     let refusal = account_refused c.args.self.now.pages c.args.users.now.pages c.args.accounts.now none
     (sym c.if-not-are_present.ensures) room in
@@ -78,7 +80,9 @@ returns-then-not-has_room-clause-refused g c =
 pub returns-then-not-has_room-clause-taken : goal.returns-then-not-has_room-clause-taken
 returns-then-not-has_room-clause-taken g c =
     let none = sym (ap (λ (v : MemoryPages). v.pages.table_pins) c.self.view_is) ∙ c.if-self-eq0.true in
-    let room = sym (ap (λ (v : MemoryPages). has_room c.args.accounts.now v.pages.user.0 v.pages.count) c.self.view_is)
+    let room = ap (has_room c.args.accounts.now c.args.self.now.pages.user.0)
+    (sym (new_first c.args.self.now.pages none) ∙ sym c.new_count.ensures.value)
+    ∙ sym (ap (λ (v : MemoryPages). has_room c.args.accounts.now v.pages.user.0 c.new_count.result) c.self.view_is)
     ∙ sym c.if-not-has_room.ensures in
     let refusal = account_refused c.args.self.now.pages c.args.users.now.pages c.args.accounts.now none
     (sym c.if-not-are_present.ensures) room in
@@ -127,11 +131,15 @@ ready : (g : Over) (c : goal.After-pin_reserved g) → IsReady c.args.self.now c
 ready g c =
     elim c.if-self-eq0.branch [
       | then-self-eq0+else-not-are_present+else-not-has_room+in_ok-reserve w ↦
-          let room = sym (ap (λ (v : MemoryPages). has_room c.args.accounts.now v.pages.user.0 v.pages.count)
-          c.self.view_is) ∙ sym w.if-not-has_room.ensures in
+          let none = sym (ap (λ (v : MemoryPages). v.pages.table_pins) c.self.view_is) ∙ w.if-self-eq0.true in
+          let room = ap (has_room c.args.accounts.now c.args.self.now.pages.user.0)
+          (sym (new_first c.args.self.now.pages none) ∙ sym w.new_count.ensures.value)
+          ∙ sym (ap (λ (v : MemoryPages). has_room c.args.accounts.now v.pages.user.0 w.new_count.result)
+          c.self.view_is)
+          ∙ sym w.if-not-has_room.ensures in
           rw w.self-is (ready_first c.args.self.now w.reserve.new.self c.args.users.now.pages c.args.accounts.now
           (sym w.if-not-are_present.ensures) room w.reserve.ensures.pages w.reserve.ensures.capacity
-          w.reserve.ensures.enough)
+          w.reserve.ensures.room w.reserve.ensures.enough)
       | else-self-eq0 w ↦
           ready_later c.args.self.now c.if-self-eq0.self c.args.users.now.pages c.args.accounts.now
           (λ first. w.if-self-eq0.false (ap (λ (v : MemoryPages). v.pages.table_pins) c.self.view_is ∙ first)) w.self-is
@@ -161,3 +169,6 @@ returns-clause-capacity g c = omega (arith, c.pin_reserved.ensures.capacity, (re
 
 pub returns-clause-enough : goal.returns-clause-enough
 returns-clause-enough g c some = c.pin_reserved.ensures.capacity ∙ (ready g c).enough some
+
+pub returns-clause-room : goal.returns-clause-room
+returns-clause-room g c = c.pin_reserved.ensures.room ∙ (ready g c).room

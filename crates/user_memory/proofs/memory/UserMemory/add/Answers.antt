@@ -8,12 +8,14 @@ use Rattle.iofd_words.specs.Pages.{page_of}
 use Rattle.mem_account.specs.declared.Account.{Account}
 use Rattle.memory_objects.specs.Invariant.{MemoryInvariant}
 use Rattle.memory_objects.specs.Objects.{MemoryEntry, are_below}
+use Rattle.pinned_pages.specs.Pages.{ObjectPages, pinned_count}
 use Rattle.user_memory.specs.Adding.{charged_for}
 use Rattle.user_memory.specs.Changes.{HasObject, Settles}
 use Rattle.user_memory.specs.Invariant.{AccountsTell}
 use Rattle.user_memory.specs.Memory as memory
 use Rattle.user_memory.specs.Memory.{IsBacked, Memory}
-use Rattle.user_memory.proofs.Added.{add_object, add_settles, add_tell, added_is, charged_limits, may_pin, rises_told}
+use Rattle.user_memory.proofs.Added.{add_object, add_settles, add_tell, added_is, charged_limits, may_pin, none_pinned}
+use Rattle.user_memory.proofs.Added.{rises_told}
 use Rattle.user_memory.proofs.Settled.{memory_of}
 use Rattle.user_memory.proofs.Users.{limits_of, user_known}
 use Rattle.user_memory.proofs.Rooms.{backed_without, object_with, settles_with, with_room}
@@ -63,6 +65,7 @@ invariant_of-self-2 g c =
     let A : List Account → Type 0 = λ xs. AccountsTell xs c.insert.new.self.objects in
     subst A (sym c.in_ok-pages.ensures.accounts)
     (subst N (sym is) (add_tell rows accounts old c.self.invariant row c.args.pinned c.in_ok-pages.pages.capacity
+    c.in_ok-pages.pages.room
     present below known (omega (arith, c.requires.end)) (subst I is c.insert.ensures.invariant)))
 
 pub returns-clause-object : goal.returns-clause-object
@@ -86,7 +89,8 @@ returns-clause-object g c =
     let V : Memory → Type 0 = λ m. HasObject (cond c.args.pinned 1 0) row m (with_room room made) in
     subst V c.self.view_is (object_with room room (memory_of rows (limits_of accounts) old) made
     (cond c.args.pinned 1 0) row (subst N (sym is)
-    (add_object rows accounts old c.self.invariant row c.args.pinned c.in_ok-pages.pages.capacity present below
+    (add_object rows accounts old c.self.invariant row c.args.pinned c.in_ok-pages.pages.capacity
+    c.in_ok-pages.pages.room present below
     (limits_of accounts) after)))
 
 pub returns-clause-settles : goal.returns-clause-settles
@@ -107,7 +111,7 @@ returns-clause-settles g c =
     let after = limits_of c.object_pages.new.accounts in
     let same = ap limits_of c.in_ok-pages.ensures.accounts
     ∙ charged_limits rows accounts old c.self.invariant row c.args.pinned
-    c.in_ok-pages.pages.capacity present below known in
+    c.in_ok-pages.pages.capacity c.in_ok-pages.pages.room present below known in
     let I : List MemoryEntry → Type 0 = λ xs. MemoryInvariant xs in
     let N : List MemoryEntry → Type 0 = λ xs. Settles (memory_of rows (limits_of accounts) old)
     (memory_of rows after xs) c.args.pool.now c.object_pages.new.pool in
@@ -117,5 +121,15 @@ returns-clause-settles g c =
     subst V c.self.view_is
     (settles_with room room (memory_of rows (limits_of accounts) old) made c.args.pool.now c.object_pages.new.pool
     (subst N (sym is) (add_settles rows accounts old c.self.invariant row c.args.pinned c.in_ok-pages.pages.capacity
+    c.in_ok-pages.pages.room
     present below after c.args.pool.now c.object_pages.new.pool same c.in_ok-pages.ensures.pool
     (subst I is c.insert.ensures.invariant))))
+
+pub insert-requires-clause-access : goal.insert-requires-clause-access
+insert-requires-clause-access g c = ap (λ (p : ObjectPages). p.access) c.in_ok-pages.ensures.pages
+
+pub insert-requires-clause-unpinned : goal.insert-requires-clause-unpinned
+insert-requires-clause-unpinned g c none =
+    let made = c.in_ok-pages.ensures.pages in
+    ap pinned_count made ∙ none_pinned c.self.inside.users.pages c.args.row c.args.pinned
+    (sym (ap (λ (p : ObjectPages). p.table_pins) made) ∙ none)

@@ -1,0 +1,28 @@
+-- Who holds an access pin is attached, and areas of its address space lie under the whole of it: so none of them may
+-- go, and none may come there.
+use Rattle.std.specs.Prelude.{◌≡◌, ℕ, Bool, true, ◌&&◌, Some, List, [], ◌∷◌}
+use Rattle.std.specs.List.{list_any}
+use Rattle.iofd_words.specs.Areas.{is_of}
+use Rattle.iofd_words.specs.Objects.{kind_of}
+use Rattle.iofd_words.specs.Span.{holds}
+use Rattle.iofd_words.specs.declared.numbers.FileNo.{FileNo}
+use Rattle.iofd_words.specs.declared.numbers.ObjId.{ObjId}
+use Rattle.iofd_words.specs.declared.rows.AccessPin.{AccessPin}
+use Rattle.iofd_words.specs.declared.rows.Area.{Area}
+use Rattle.iofd_words.specs.declared.rows.Object.{Object}
+use Rattle.iofd_words.specs.declared.rows.ObjectKind.TheVariants as kind
+
+-- some area of the address space, of any phase, holds the address
+abbrev pub is_under : List Area → FileNo → ObjId → ℕ → Bool
+is_under areas file ioas n = list_any (λ area. is_of file ioas area && holds area.span n) areas
+
+pub record IsHeld (objects : List Object) (areas : List Area) (pin : AccessPin) : Type 0 where
+  -- the address space to which the access object is attached
+  pub ioas : ObjId
+  pub attached : kind_of objects pin.file pin.access ≡ Some (kind.Access (Some ioas))
+  pub space : kind_of objects pin.file ioas ≡ Some kind.Ioas
+  pub under : (n : ℕ) → holds pin.span n ≡ true → is_under areas pin.file ioas n ≡ true
+
+abbrev pub AreHeld : List Object → List Area → List AccessPin → Type 0
+AreHeld objects areas [] = Unit {0}
+AreHeld objects areas (pin ∷ pins) = IsHeld objects areas pin × AreHeld objects areas pins

@@ -1,0 +1,45 @@
+use Rattle.std.proofs.Common.{◌≡◌, ◌∙◌, ◌+◌, cond, true, length, vec_len, ap, sym, subst, arith}
+use Rattle.std.specs.List.{list_all}
+use Rattle.std.proofs.lemmas.List.{length-map}
+use Rattle.memory_objects.specs.Objects.{ObjectTable, access_pins_on, is_freed, object_at}
+use Rattle.memory_objects.specs.Objects.{standing}
+use Rattle.memory_objects.specs.Runs.{covers, lies_within}
+use Rattle.memory_objects.proofs.Gone.{gone_are_few}
+use Rattle.memory_objects.proofs.RunOne.{become, pins_left}
+use Rattle.memory_objects.proofs.objects.MemoryObjects.unpin_by_access.Goals as goal
+
+pub invariant_of-self : goal.invariant_of-self
+invariant_of-self g c =
+    let moved = c.unpin_run.ensures.objects in
+    let old = standing c.self.inside.entries.items in
+    let same = ap length moved.objects ∙ length-map old (become c.args.run.number moved.pages) in
+    record {
+      rising = c.unpin_run.ensures.rising;
+      count = omega (arith, same, c.unpin_run.ensures.len, c.self.invariant.count);
+      few = omega (arith, c.unpin_run.ensures.len, c.self.invariant.few);
+      freed = ap (list_all is_freed) c.unpin_run.ensures.gone ∙ c.self.invariant.freed;
+      kept = c.unpin_run.ensures.kept c.self.invariant.kept;
+    }
+
+pub returns-clause-gone : goal.returns-clause-gone
+returns-clause-gone g c = gone_are_few c.unpin_run.new.entries.items (vec_len c.unpin_run.new.entries)
+    c.self.inside.gone c.unpin_run.new.entries.ok.0 (invariant_of-self g c)
+
+pub returns-clause-invariant : goal.returns-clause-invariant
+returns-clause-invariant g c = (invariant_of-self g c).kept
+
+pub returns-clause-room : goal.returns-clause-room
+returns-clause-room g c =
+    let moved = c.unpin_run.ensures.objects in
+    let old = standing c.self.inside.entries.items in
+    let same = ap length moved.objects ∙ length-map old (become c.args.run.number moved.pages) in
+    omega (arith, same, c.unpin_run.ensures.capacity, ap (λ (v : ObjectTable). v.room) c.self.view_is)
+
+pub returns-clause-pins : goal.returns-clause-pins
+returns-clause-pins g c number index =
+    let F : ObjectTable → Type 0 = λ v. access_pins_on (standing c.unpin_run.new.entries.items) number index
+    + cond (covers c.args.run number index) 1 0 ≡ access_pins_on v.objects number index in
+    let L : ObjectTable → Type 0 = λ v. lies_within c.args.run (object_at v.objects c.args.run.number) ≡ true in
+    subst F c.self.view_is (pins_left c.args.run (standing c.self.inside.entries.items)
+    (standing c.unpin_run.new.entries.items) (subst L (sym c.self.view_is) c.requires.run.lies)
+    c.unpin_run.ensures.objects number index)

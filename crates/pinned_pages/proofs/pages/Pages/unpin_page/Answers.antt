@@ -1,0 +1,76 @@
+use Rattle.std.proofs.Common.{◌≡◌, ◌<◌, ◌≤◌, ◌-◌, ◌∙◌, sym, ap, arith, subst}
+use Rattle.pinned_pages.specs.Access.{pins_in, row_at}
+use Rattle.pinned_pages.specs.Accesses.{IsAccessReleased}
+use Rattle.pinned_pages.specs.Pages.{MemoryPages, ObjectPages, access_pins}
+use Rattle.pinned_pages.proofs.AccessRuns.{last_gone, one_fewer}
+use Rattle.pinned_pages.proofs.pages.Pages.unpin_page.Goals as goal
+
+pub returns-then-pin-gt1-clause-pages : goal.returns-then-pin-gt1-clause-pages
+returns-then-pin-gt1-clause-pages g c =
+    let inside = c.self.inside in
+    let pages : ObjectPages = record {
+      user = inside.user;
+      va = inside.va;
+      count = inside.count;
+      writable = inside.writable;
+      table_pins = inside.table_pins;
+      frames = inside.frames.items;
+      access = inside.access.rows;
+    } in
+    let same : pages ≡ c.args.self.now.pages = ap (λ (p : MemoryPages). p.pages) c.self.view_is in
+    let low : c.args.index < inside.count = subst (λ (p : ObjectPages). c.args.index < p.count) (sym same)
+    c.requires.within in
+    let row = sym c.get.ensures ∙ c.in-Some.is in
+    let R : ObjectPages → Type 0 = λ p. IsAccessReleased c.args.index 1 p (record pages {
+      access = c.set.new.self.rows;
+    }) in
+    subst R same (one_fewer pages c.set.new.self.rows c.args.index c.in-Some.pin c.self.invariant low row
+    (c.in-Some.pin.pins - 1) (omega (arith, c.if-pin-gt1.true)) (omega (arith, c.if-pin-gt1.true)) c.set.ensures.rows)
+
+pub returns-then-self-gt0-clause-pages : goal.returns-then-self-gt0-clause-pages
+returns-then-self-gt0-clause-pages g c =
+    let inside = c.self.inside in
+    let pages : ObjectPages = record {
+      user = inside.user;
+      va = inside.va;
+      count = inside.count;
+      writable = inside.writable;
+      table_pins = inside.table_pins;
+      frames = inside.frames.items;
+      access = inside.access.rows;
+    } in
+    let same : pages ≡ c.args.self.now.pages = ap (λ (p : MemoryPages). p.pages) c.self.view_is in
+    let low : c.args.index < inside.count = subst (λ (p : ObjectPages). c.args.index < p.count) (sym same)
+    c.requires.within in
+    let row = sym c.get.ensures ∙ c.in-Some.is in
+    let R : ObjectPages → Type 0 = λ p. IsAccessReleased c.args.index 1 p
+    (record pages { access = c.remove.new.self.rows }) in
+    let some : 1 ≤ pins_in (row_at inside.access.rows c.args.index) =
+    subst (λ (p : ObjectPages). 1 ≤ access_pins p c.args.index) (sym same) c.requires.pins in
+    let pins = ap pins_in row in
+    subst R same (last_gone pages c.remove.new.self.rows c.args.index c.in-Some.pin c.self.invariant low row
+    (omega (arith, some, pins, c.if-pin-gt1.false)) c.remove.ensures.rows)
+
+pub returns-clause-pages : goal.returns-clause-pages
+returns-clause-pages g c =
+    let inside = c.self.inside in
+    let pages : ObjectPages = record {
+      user = inside.user;
+      va = inside.va;
+      count = inside.count;
+      writable = inside.writable;
+      table_pins = inside.table_pins;
+      frames = inside.frames.items;
+      access = inside.access.rows;
+    } in
+    let same : pages ≡ c.args.self.now.pages = ap (λ (p : MemoryPages). p.pages) c.self.view_is in
+    let low : c.args.index < inside.count = subst (λ (p : ObjectPages). c.args.index < p.count) (sym same)
+    c.requires.within in
+    let row = sym c.get.ensures ∙ c.in-Some.is in
+    let R : ObjectPages → Type 0 = λ p. IsAccessReleased c.args.index 1 p
+    (record pages { access = c.remove.new.self.rows }) in
+    let some : 1 ≤ pins_in (row_at inside.access.rows c.args.index) =
+    subst (λ (p : ObjectPages). 1 ≤ access_pins p c.args.index) (sym same) c.requires.pins in
+    let pins = ap pins_in row in
+    subst R same (last_gone pages c.remove.new.self.rows c.args.index c.in-Some.pin c.self.invariant low row
+    (omega (arith, some, pins, c.if-pin-gt1.false)) c.remove.ensures.rows)

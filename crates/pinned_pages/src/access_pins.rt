@@ -1,0 +1,146 @@
+//! The pages that accesses pin, by hash: a page's row is found at once, and one more or one less moves at most one
+//! other. Memory grows with these pages, whatever else their object has.
+
+ghost use Rattle.std.specs.Prelude.{ℕ, ◌≡◌, ◌==◌, ◌<◌, ◌≤◌, ◌+◌, [], None, IsTrue, IsSome, OnOk, OnErr};
+ghost use Rattle.std.specs.Prelude.{is_some, if◌then◌else◌};
+ghost use Rattle.std.specs.List.{count_by, range_with_len};
+ghost use Rattle.pinned_pages.specs.Access.{are_counted, frame_in, row_at};
+
+use iofd_words::{FrameNo, NoMemory};
+use std::alloc::{Allocator, Global};
+use std::collections::HashMap;
+use std::hash::{BuildHasherDefault, FoldHasher};
+use std::marker::Model;
+
+/// A page on which pins by accesses stand: the frame at which it is pinned, and how many they are.
+#[derive(Clone, Copy)]
+pub struct AccessPin {
+    pub frame: FrameNo,
+    pub pins: u64,
+}
+
+/// The pages of an object on which a pin by an access stands. A contract sees them by rising index, and for how many
+/// more there is room.
+#[derive(Drop)]
+pub(crate) struct AccessPins<A: Allocator = Global> {
+    rows: HashMap<u64, AccessPin, BuildHasherDefault<FoldHasher>, A>,
+}
+
+impl<A: Allocator> Model for AccessPins<A> {
+    ghost use Rattle.std.specs.Prelude.{◌==◌};
+    ghost use Rattle.std.specs.HashMap.{IsUnique, spare};
+    ghost use Rattle.pinned_pages.specs.Access.{AccessMap, rising_rows};
+
+    ghost Value = { AccessMap };
+
+    ghost view = { λ map. record { rows = rising_rows map.rows.entries; room = spare map.rows } };
+
+    ghost invariant = { λ map. IsUnique (λ index other. index == other) map.rows };
+}
+
+impl<A: Allocator> AccessPins<A> {
+    /// No pages. It takes no memory.
+    pub(crate) fn new(alloc: A) -> AccessPins<A>
+        ensures { result.rows ≡ [] }
+    {
+        AccessPins {
+            rows: HashMap::new(alloc),
+        }
+    }
+
+    /// How many pages there are, all of which are below some index.
+    pub(crate) fn len(&self) -> usize
+        ensures { (count : ℕ) → IsTrue (are_counted count self.now.rows)
+            → count_by (λ index. is_some (row_at self.now.rows index)) (range_with_len 0 count) ≡ result }
+    {
+        self.rows.len()
+    }
+
+    /// The row of this page.
+    pub(crate) fn get(&self, index: u64) -> Option<AccessPin>
+        ensures { result ≡ row_at self.now.rows index }
+    {
+        self.rows.get(&index).copied()
+    }
+
+    /// The frame at which this page is pinned.
+    pub(crate) fn frame(&self, index: u64) -> Option<FrameNo>
+        ensures { result ≡ frame_in (row_at self.now.rows index) }
+    {
+        match self.get(index) {
+            Some(pin) => Some(pin.frame),
+            None => None,
+        }
+    }
+
+    /// Makes room for so many more pages. Its only error is want of memory, which leaves the pages; some more room may
+    /// have come before it.
+    pub(crate) fn reserve(&mut self, more: u64) -> Result<(), NoMemory>
+    where
+        A: Copy,
+        ensures rows { self.new.rows ≡ self.old.rows }
+        ensures ok { OnOk result (more ≤ self.new.room) }
+        ensures full { OnErr result (self.old.room < more) }
+        ensures room { self.old.room ≤ self.new.room }
+        ensures enough { more ≤ self.old.room → self.new.room ≡ self.old.room }
+    {
+        if self.rows.capacity() - self.rows.len() >= more as usize {
+            return Ok(());
+        }
+        if self.rows.reserve(more as usize).is_err() {
+            return Err(NoMemory);
+        }
+        Ok(())
+    }
+
+    /// Puts the first pin on a page, at this frame. There is room. It takes no memory.
+    pub(crate) fn add(&mut self, index: u64, frame: FrameNo)
+    where
+        A: Copy,
+        requires room { 0 < self.old.room }
+        requires absent { row_at self.old.rows index ≡ None }
+        ensures rows { (other : ℕ) → row_at self.new.rows other
+            ≡ (if index == other then Some (record { frame = frame; pins = 1 }) else row_at self.old.rows other) }
+        ensures counted { (count : ℕ) → index < count → IsTrue (are_counted count self.old.rows)
+            → IsTrue (are_counted count self.new.rows) }
+        ensures room { self.old.room ≤ self.new.room + 1 }
+    {
+        let _ = self.rows.insert(index, AccessPin { frame, pins: 1 });
+    }
+
+    /// So many pins stand on this page, which has some. It takes no memory.
+    pub(crate) fn set(&mut self, index: u64, pin: AccessPin)
+        requires there { IsSome (row_at self.old.rows index) }
+        ensures rows { (other : ℕ) → row_at self.new.rows other
+            ≡ (if index == other then Some pin else row_at self.old.rows other) }
+        ensures counted { (count : ℕ) → 0 < pin.pins → IsTrue (are_counted count self.old.rows)
+            → IsTrue (are_counted count self.new.rows) }
+        ensures room { self.new.room ≡ self.old.room }
+    {
+        if let Some(row) = self.rows.get_mut(&index) {
+            *row = pin;
+        }
+    }
+
+    /// Gives the memory of the map back, where no page is pinned.
+    pub(crate) fn free(&mut self)
+    where
+        A: Copy,
+        ensures { self.new.rows ≡ self.old.rows }
+    {
+        if self.rows.is_empty() {
+            self.rows.shrink_to_fit();
+        }
+    }
+
+    /// Takes the last pin off a page. It takes no memory.
+    pub(crate) fn remove(&mut self, index: u64)
+        ensures rows { (other : ℕ) → row_at self.new.rows other
+            ≡ (if index == other then None else row_at self.old.rows other) }
+        ensures counted { (count : ℕ) → IsTrue (are_counted count self.old.rows)
+            → IsTrue (are_counted count self.new.rows) }
+        ensures room { self.old.room ≤ self.new.room }
+    {
+        let _ = self.rows.remove(&index);
+    }
+}
