@@ -2,6 +2,7 @@
 
 use crate::access_calls::gives_rows;
 use crate::memory_calls::gives_pages;
+use crate::run_calls::keeps_pinned;
 use crate::table_calls::gives_room;
 use linked_list_allocator::LocalHeap;
 use std::alloc::{AllocError, Global};
@@ -11,11 +12,15 @@ pub(crate) fn block(heap: &LocalHeap) -> Result<Vec<u8, &LocalHeap>, AllocError>
     Vec::with_capacity(heap, heap.free())
 }
 
-/// Whether a page table, pins by accesses and a user's page each find memory once a full heap has refused them.
+/// Whether a page table, pins by accesses, a user's page and a pin of it each find memory once a full heap has refused
+/// them.
 fn are_refused_first(alloc: Global) -> bool {
     match LocalHeap::new(alloc, 1 << 12) {
         Ok(heap) => {
-            gives_room(&heap, &heap) && gives_rows(&heap, &heap) && gives_pages(alloc, &heap)
+            gives_room(&heap, &heap)
+                && gives_rows(&heap, &heap)
+                && gives_pages(alloc, &heap)
+                && keeps_pinned(alloc, &heap, &heap)
         }
         Err(_) => false,
     }

@@ -85,7 +85,7 @@ none_behind x (o ∷ objects) n i after same =
     let other : eqb n o.number ≡ false = ne_eqb n o.number (λ e. omega (arith, low, same, e)) in
     rw other (none_behind x objects n i parts.1 same)
 
-or_none : (b : Bool) → (b || false) ≡ b
+pub or_none : (b : Bool) → (b || false) ≡ b
 or_none true = refl
 or_none false = refl
 

@@ -11,6 +11,9 @@ pub mod PinnedFrames
 pub mod PinsNamed
 pub mod Removed
 pub mod Rooms
+pub mod RunAsked
+pub mod RunPages
+pub mod RunPins
 pub mod Settled
 pub mod Shared
 pub mod Users

@@ -5,7 +5,9 @@ use Rattle.std.proofs.lemmas.Bool.Decides.{nat_tests}
 use Rattle.iofd_words.specs.declared.rows.MemoryObject.{MemoryObject}
 use Rattle.frame_memory.specs.Pool.{FramePool}
 use Rattle.memory_objects.specs.Objects.{MemoryEntry, all_pass, has_memory, object_at, passes}
-use Rattle.user_memory.specs.Changes.{HasLess, HasObject, HasPins, HasShare, HoldsFollow, SameObjects, Settles}
+use Rattle.memory_objects.specs.declared.run.PageRun.{PageRun}
+use Rattle.user_memory.specs.Changes.{HasLess, HasObject, HasPins, HasRunPinned, HasRunReleased, HasShare}
+use Rattle.user_memory.specs.Changes.{HoldsFollow, SameObjects, Settles}
 use Rattle.user_memory.specs.Memory.{IsBacked, Memory, pins_in}
 
 abbrev pub with_room : ℕ → Memory → Memory
@@ -62,6 +64,14 @@ module _ (a b : ℕ) (old new : Memory) where
   pub less_with : (areas pins : ℕ → ℕ) → HasLess areas pins old new
       → HasLess areas pins (with_room a old) (with_room b new)
   less_with areas pins has = record { rows = has.rows; areas = has.areas; pins = has.pins; access = has.access }
+
+  pub run_pinned_with : (run : PageRun) → HasRunPinned run old new
+      → HasRunPinned run (with_room a old) (with_room b new)
+  run_pinned_with run has = record { rows = has.rows; areas = has.areas; pins = has.pins; access = has.access }
+
+  pub run_released_with : (run : PageRun) → HasRunReleased run old new
+      → HasRunReleased run (with_room a old) (with_room b new)
+  run_released_with run has = record { rows = has.rows; areas = has.areas; pins = has.pins; access = has.access }
 
 -- ---- memory is wanting
 

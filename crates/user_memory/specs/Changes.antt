@@ -6,6 +6,8 @@ use Rattle.iofd_words.specs.declared.rows.MemoryObject.{MemoryObject}
 use Rattle.frame_memory.specs.Pool.{FramePool}
 use Rattle.memory_objects.specs.Invariant.{MemoryInvariant}
 use Rattle.memory_objects.specs.Objects.{pins_on}
+use Rattle.memory_objects.specs.Runs.{covers}
+use Rattle.memory_objects.specs.declared.run.PageRun.{PageRun}
 use Rattle.user_memory.specs.Memory.{IsBacked, Memory, access_pins, areas_over, frame_now, is_pinned, pinned_frame}
 use Rattle.user_memory.specs.Memory.{reached, rows_of}
 use Rattle.user_memory.specs.Memory.{table_pins}
@@ -69,6 +71,22 @@ pub record HasLess (fewer_areas fewer_pins : ℕ → ℕ) (old new : Memory) : T
   pub areas : (number : ℕ) → areas_over new number + fewer_areas number ≡ areas_over old number
   pub pins : (number : ℕ) → table_pins new number + fewer_pins number ≡ table_pins old number
   pub access : (page : ObjectPage) → access_pins new page ≡ access_pins old page
+
+-- one pin by an access more stands on each page of the run
+pub record HasRunPinned (run : PageRun) (old new : Memory) : Type 0 where
+  pub rows : rows_of new ≡ rows_of old
+  pub areas : (number : ℕ) → areas_over new number ≡ areas_over old number
+  pub pins : (number : ℕ) → table_pins new number ≡ table_pins old number
+  pub access : (page : ObjectPage) → access_pins new page
+      ≡ access_pins old page + (if covers run page.memory page.index then 1 else 0)
+
+-- one such pin less does
+pub record HasRunReleased (run : PageRun) (old new : Memory) : Type 0 where
+  pub rows : rows_of new ≡ rows_of old
+  pub areas : (number : ℕ) → areas_over new number ≡ areas_over old number
+  pub pins : (number : ℕ) → table_pins new number ≡ table_pins old number
+  pub access : (page : ObjectPage) → access_pins new page + (if covers run page.memory page.index then 1 else 0)
+      ≡ access_pins old page
 
 -- one for this number, none for others
 abbrev pub once : ℕ → ℕ → ℕ

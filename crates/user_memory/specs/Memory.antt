@@ -12,6 +12,8 @@ use Rattle.iofd_words.specs.declared.rows.MemoryObject.{MemoryObject}
 use Rattle.iofd_words.specs.declared.rows.UserPage.{UserPage}
 use Rattle.memory_objects.specs.Objects as objects
 use Rattle.memory_objects.specs.Objects.{MemoryEntry}
+use Rattle.memory_objects.specs.Runs.{covers}
+use Rattle.memory_objects.specs.declared.run.PageRun.{PageRun}
 
 -- the users' pages; how many pages each user may have pinned, from user 1 on; the memory objects by rising number; and
 -- for how many more pages of users there is memory
@@ -101,6 +103,21 @@ are_of user rows = list_all (λ row. row.user.0 == user.0) rows
 abbrev pub are_different : List ℕ → Bool
 are_different [] = true
 are_different (number ∷ numbers) = not (list_any (λ n. n == number) numbers) && are_different numbers
+
+-- ---- what pinning runs of pages asks
+
+-- there is a memory object of the run's number, and the run lies within its pages
+abbrev pub run_lies : Memory → PageRun → Bool
+run_lies m run =
+    list_any (λ row. row.number == run.number && nat_le (run.first + run.count) row.count) (rows_of m)
+
+-- the page is one of these runs'
+abbrev pub is_in_runs : List PageRun → ObjectPage → Bool
+is_in_runs runs page = list_any (λ run. covers run page.memory page.index) runs
+
+-- the pages of these runs that aren't pinned, each once
+abbrev pub new_in_runs : Memory → List PageRun → List ObjectPage
+new_in_runs m runs = filter (is_in_runs runs) (pin.unpinned_pages (pinned_frame m) (rows_of m))
 
 -- ---- frames
 

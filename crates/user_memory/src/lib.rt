@@ -6,3 +6,4 @@ mod adding;
 mod memory;
 
 pub use memory::UserMemory;
+pub use memory_objects::PageRun;

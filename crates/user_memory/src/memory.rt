@@ -2,7 +2,7 @@
 
 ghost use Rattle.std.specs.Prelude.{ℕ, ◌≡◌, ◌==◌, ◌&&◌, ◌<◌, ◌≤◌, ◌+◌, ◌*◌};
 ghost use Rattle.std.specs.Prelude.{◌^◌, [], ◌∷◌, false, true, None, find};
-ghost use Rattle.std.specs.Prelude.{length, nat_lt, slice_get, if◌then◌else◌};
+ghost use Rattle.std.specs.Prelude.{is_none, length, nat_lt, slice_get, if◌then◌else◌};
 ghost use Rattle.std.specs.Prelude.{IsSome, IfOk, IfSome};
 ghost use Rattle.std.specs.Prelude.{OnOk, OnErr};
 ghost use Rattle.std.specs.List.{list_all, list_any};
@@ -12,21 +12,23 @@ ghost use Rattle.iofd_words.specs.Copies as copies;
 ghost use Rattle.iofd_words.specs.Files.{numbered};
 ghost use Rattle.iofd_words.specs.Frames as frames;
 ghost use Rattle.iofd_words.specs.Pages.{is_whole, page_of};
+ghost use Rattle.iofd_words.specs.Pins.{ObjectPage};
 ghost use Rattle.frame_memory.specs.Pool.{FramePool, given, least_free};
 ghost use Rattle.frame_memory.specs.UserPages.{HasOneMore, user_page};
 ghost use Rattle.memory_objects.specs.Objects.{times_of};
-ghost use Rattle.user_memory.specs.Changes.{HasLess, HasObject, HasPins, HasShare, HoldsFollow, SameObjects, Settles};
-ghost use Rattle.user_memory.specs.Changes.{never, once};
+ghost use Rattle.memory_objects.specs.Runs.{covers};
+ghost use Rattle.user_memory.specs.Changes.{HasLess, HasObject, HasPins, HasRunPinned, HasRunReleased, HasShare};
+ghost use Rattle.user_memory.specs.Changes.{HoldsFollow, SameObjects, Settles, never, once};
 ghost use Rattle.user_memory.specs.Invariant.{ObjectsTell};
-ghost use Rattle.user_memory.specs.Memory.{IsBacked, access_pins, are_of, areas_over, has_memory, has_room, held_by};
-ghost use Rattle.user_memory.specs.Memory.{lacks_page, new_pages, newly_pinned, pinned_frame, rows_at, rows_of};
-ghost use Rattle.user_memory.specs.Memory.{table_pins};
+ghost use Rattle.user_memory.specs.Memory.{IsBacked, access_pins, are_of, areas_over, frame_now, has_memory, has_room};
+ghost use Rattle.user_memory.specs.Memory.{held_by, lacks_page, new_in_runs, new_pages, newly_pinned, pinned_frame};
+ghost use Rattle.user_memory.specs.Memory.{rows_at, rows_of, run_lies, table_pins};
 
 use crate::adding;
 use frame_memory::{Pool, UserMap};
 use iofd_words::{FrameNo, MemoryObject, NoMemory, PAGE_SIZE, UserNo};
 use mem_account::Accounts;
-use memory_objects::MemoryObjects;
+use memory_objects::{MemoryObjects, PageRun};
 use std::alloc::{Allocator, Global};
 use std::marker::Model;
 
@@ -390,5 +392,74 @@ impl<A: Allocator> UserMemory<A> {
         ensures room { self.new.room ≡ self.old.room }
     {
         self.objects.remove_area(number);
+    }
+
+    /// Whether some page of the run is neither pinned nor in its user's memory. Where one is, a pin of the run is
+    /// refused by Absent (8, EFAULT). It takes no memory.
+    pub fn lacks_page_in(&self, run: PageRun) -> bool
+        requires { run_lies self.now run ≡ true }
+        ensures { result ≡ list_any (λ page. is_none (frame_now self.now page)) (new_in_runs self.now (run ∷ [])) }
+    {
+        !self.objects.has_run(run, &self.users)
+    }
+
+    /// How many pages of the run aren't pinned. It takes no memory.
+    pub fn new_pages_in(&self, run: PageRun) -> u64
+        requires { run_lies self.now run ≡ true }
+        ensures { result ≡ length (new_in_runs self.now (run ∷ [])) }
+    {
+        self.objects.new_in_run(run)
+    }
+
+    /// Puts one pin by an access on each page of the run. A page that is pinned keeps its frame; each other is pinned
+    /// at the frame that it is in its user's memory now, and the user, who may have them pinned, is charged for it.
+    /// NoMemory comes only where no access pins some page of the run yet; an error changes nothing.
+    pub fn pin_by_access<B: Allocator>(
+        &mut self,
+        pool: &mut Pool<B>,
+        run: PageRun,
+    ) -> Result<(), NoMemory>
+    where
+        A: Copy,
+        requires lies { run_lies self.old run ≡ true }
+        requires present { list_any (λ page. is_none (frame_now self.old page)) (new_in_runs self.old (run ∷ []))
+            ≡ false }
+        requires room { IfSome (find (λ row. row.number == run.number) (rows_of self.old))
+            (λ row. has_room self.old row.user (length (new_in_runs self.old (run ∷ []))) ≡ true) }
+        requires few { (page : ObjectPage) → covers run page.memory page.index ≡ true
+            → access_pins self.old page + 1 < 2 ^ 64 }
+        requires backed { IsBacked self.old pool.old.holds }
+        ensures more { OnOk result (HasRunPinned run self.old self.new) }
+        ensures settles { OnOk result (Settles self.old self.new pool.old pool.new) }
+        ensures memory { OnErr result ((page : ObjectPage) × (covers run page.memory page.index ≡ true)
+            × (access_pins self.old page ≡ 0)) }
+        ensures pages { self.new.pages ≡ self.old.pages }
+        ensures limits { self.new.limits ≡ self.old.limits }
+        ensures room { self.new.room ≡ self.old.room }
+        ensures err { OnErr result (SameObjects self.old self.new) }
+        ensures pool_err { OnErr result (pool.new ≡ pool.old) }
+    {
+        self.objects.reserve_for_access(run)?;
+        // As many pages and pins as memory can hold leave room for the holds.
+        let _ = (self.users.len(), self.objects.len());
+        self.objects
+            .pin_by_access(run, &self.users, pool, &mut self.accounts);
+        Ok(())
+    }
+
+    /// Takes one pin by an access off each page of the run, each of which has one. A page that something still pins
+    /// keeps its frame; each other is pinned no longer, and its user gets it back. It takes no memory.
+    pub fn unpin_by_access<B: Allocator>(&mut self, pool: &mut Pool<B>, run: PageRun)
+    where
+        A: Copy,
+        requires lies { run_lies self.old run ≡ true }
+        requires pins { (page : ObjectPage) → covers run page.memory page.index ≡ true
+            → 1 ≤ access_pins self.old page }
+        requires backed { IsBacked self.old pool.old.holds }
+        ensures less { HasRunReleased run self.old self.new }
+        ensures settles { Settles self.old self.new pool.old pool.new }
+        ensures room { self.new.room ≡ self.old.room }
+    {
+        self.objects.unpin_by_access(run, pool, &mut self.accounts);
     }
 }
