@@ -1,9 +1,12 @@
 pub mod Alike
 pub mod Asked
-pub mod Keys
 pub mod Lists
+pub mod Order
 pub mod Over
+pub mod PageKeys
+pub mod PinKeys
 pub mod Pins
 pub mod Results
 pub mod Rows
+pub mod Runs
 pub mod Tied

@@ -1,8 +1,9 @@
 -- Of lists, by what is counted in them.
-use Rattle.std.proofs.Common.{◌≡◌, ◌+◌, Bool, true, false, cond, not, ◌||◌, List, [], ◌∷◌}
+use Rattle.std.proofs.Common.{◌≡◌, ◌+◌, ◌≤◌, Bool, true, false, cond, not, ◌&&◌, ◌||◌, List, [], ◌∷◌}
 use Rattle.std.proofs.Common.{length, refl, sym, ap, ◌∙◌, arith}
-use Rattle.std.specs.List.{count_by, list_any}
+use Rattle.std.specs.List.{count_by, list_all, list_any}
 use Rattle.std.specs.Prelude.{nat_lt}
+use Rattle.std.proofs.lemmas.Bool.{and_parts}
 use Rattle.std.proofs.lemmas.Bool.Decides.{nat_tests}
 use Rattle.std.proofs.lemmas.List.Sums.{sum_by-cons}
 
@@ -73,3 +74,43 @@ passing good p (x ∷ xs) none some =
         or_true : (b : Bool) {c : Bool} → c ≡ true → (b || c) ≡ true
         or_true true is = refl
         or_true false is = is
+
+-- ---- of two tests
+
+-- who passes the first passes the second, so no more pass it
+pub count_more : {X : Type 0} (p q : X → Bool) → ((x : X) → p x ≡ true → q x ≡ true) → (xs : List X)
+    → count_by p xs ≤ count_by q xs
+count_more p q more [] = omega arith
+count_more p q more (x ∷ xs) =
+    rw (counted_first p x xs, counted_first q x xs) (by_test (p x) (more x) (count_more p q more xs))
+  where
+    by_test : (b : Bool) → (b ≡ true → q x ≡ true) → count_by p xs ≤ count_by q xs
+        → cond b 1 0 + count_by p xs ≤ cond (q x) 1 0 + count_by q xs
+    by_test true here rest = rw (here refl) (omega arith)
+    by_test false here rest = omega (arith, rest)
+
+-- all pass where none is counted that doesn't
+pub all_pass : {X : Type 0} (good : X → Bool) (xs : List X) → count_by (λ x. not (good x)) xs ≡ 0
+    → list_all good xs ≡ true
+all_pass good [] none = refl
+all_pass good (x ∷ xs) none =
+    by_good (good x) (sym (counted_first (λ y. not (good y)) x xs) ∙ none) (all_pass good xs)
+  where
+    by_good : (b : Bool) → cond (not b) 1 0 + count_by (λ y. not (good y)) xs ≡ 0
+        → (count_by (λ y. not (good y)) xs ≡ 0 → list_all good xs ≡ true) → (b && list_all good xs) ≡ true
+    by_good true left rest = rest (omega (arith, left))
+    by_good false left rest = absurd (omega (arith, left))
+
+-- and one that passes another test passes this
+pub good_among : {X : Type 0} (good p : X → Bool) (xs : List X) → list_all good xs ≡ true → list_any p xs ≡ true
+    → (x : X) × (good x ≡ true) × (p x ≡ true)
+good_among good p [] all some = cc
+good_among good p (x ∷ xs) all some =
+    let parts = and_parts (good x) (list_all good xs) all in
+    by_test (p x) refl some parts.0 (good_among good p xs parts.1)
+  where
+    by_test : (b : Bool) → p x ≡ b → (b || list_any p xs) ≡ true → good x ≡ true
+        → (list_any p xs ≡ true → (y : _) × (good y ≡ true) × (p y ≡ true))
+        → (y : _) × (good y ≡ true) × (p y ≡ true)
+    by_test true is found here rest = (x, here, is)
+    by_test false is found here rest = rest found

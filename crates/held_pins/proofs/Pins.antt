@@ -1,6 +1,6 @@
 -- The pins that rows of keys and counts stand for, by how they are counted.
 use Rattle.std.proofs.Common.{◌≡◌, ℕ, zero, suc, ◌+◌, ◌-◌, ◌*◌, ◌<◌, ◌≤◌, Bool, true, false, cond, ◌||◌, Some}
-use Rattle.std.proofs.Common.{List, [], ◌∷◌, ◌++◌, length, replicate, refl, sym, ap, ◌∙◌, arith}
+use Rattle.std.proofs.Common.{List, [], ◌∷◌, ◌++◌, replicate, refl, sym, ap, subst, ◌∙◌, arith}
 use Rattle.std.specs.BTreeMap.{is_at}
 use Rattle.std.specs.List.{count_by, list_any}
 use Rattle.std.specs.Map.{lookup}
@@ -10,14 +10,14 @@ use Rattle.std.specs.Prelude.{nat_lt, ◌==◌}
 use Rattle.std.specs.declared.cmp.Ordering.{Ordering}
 use Rattle.std.specs.declared.cmp.Ordering.TheVariants.{Less, Equal, Greater}
 use Rattle.std.proofs.lemmas.Bool.Decides.{nat_tests}
-use Rattle.std.proofs.lemmas.List.{length-append, length-replicate}
 use Rattle.std.proofs.lemmas.List.Folds.{sum_by-replicate}
 use Rattle.std.proofs.lemmas.List.Sums.{sum_by-append}
 use Rattle.held_pins.specs.Counts.{ArePositive, count_in, one_less, one_more}
 use Rattle.held_pins.specs.Held.{key_cmp, key_of, pin_of, pins_of}
-use Rattle.held_pins.specs.HeldPins.{HasOneMore, HeldPin, is_held, is_pin}
-use Rattle.held_pins.specs.declared.pin_key.PinKey.{PinKey}
-use Rattle.held_pins.proofs.Keys.{exact_keys, same_keys, same_pins}
+use Rattle.held_pins.specs.HeldPins.{HasOneMore, is_held, is_pin}
+use Rattle.held_pins.specs.declared.keys.PinKey.{PinKey}
+use Rattle.held_pins.specs.declared.pin.HeldPin.{HeldPin}
+use Rattle.held_pins.proofs.PinKeys.{exact_keys, same_keys, same_pins}
 
 abbrev pub Rows : Type 0
 Rows = List (PinKey × ℕ)
@@ -38,7 +38,7 @@ counted_row test row rows =
 once_more : (n w : ℕ) → (n + 1) * w ≡ n * w + w
 once_more n w = grind arith
 
-pub more_pins : (rows : Rows) (key : PinKey)
+more_pins : (rows : Rows) (key : PinKey)
     → HasOneMore (pins_of rows) (pins_of (one_more key_cmp rows key)) (pin_of key)
 more_pins [] key test = counted_row test (key, 1) [] ∙ omega arith
 more_pins (row ∷ rows) key test = by_order (key_cmp key row.0) refl (more_pins rows key test)
@@ -59,9 +59,15 @@ more_pins (row ∷ rows) key test = by_order (key_cmp key row.0) refl (more_pins
         let here = counted_row test row rows in
         counted_row test row (one_more key_cmp rows key) ∙ omega (arith, here, rest)
 
+pub pins_after : (rows new : Rows) (key : PinKey) (pin : HeldPin) → key ≡ key_of pin
+    → new ≡ one_more key_cmp rows key → HasOneMore (pins_of rows) (pins_of new) pin
+pins_after rows new key pin same more =
+    subst (λ (all : Rows). HasOneMore (pins_of rows) (pins_of all) pin)
+    (sym (more ∙ ap (λ k. one_more key_cmp rows k) same)) (more_pins rows (key_of pin))
+
 -- ---- one less
 
-pub less_pins : (rows : Rows) (key : PinKey) → 0 < count_in key_cmp rows key
+less_pins : (rows : Rows) (key : PinKey) → 0 < count_in key_cmp rows key
     → HasOneMore (pins_of (one_less key_cmp rows key)) (pins_of rows) (pin_of key)
 less_pins [] key some test = absurd (omega (arith, some))
 less_pins (row ∷ rows) key some test =
@@ -99,6 +105,13 @@ less_pins (row ∷ rows) key some test =
         let less = rest more in
         omega (arith, here, there, less)
 
+pub pins_before : (rows new : Rows) (key : PinKey) (pin : HeldPin) → key ≡ key_of pin
+    → 0 < count_in key_cmp rows (key_of pin) → new ≡ one_less key_cmp rows key
+    → HasOneMore (pins_of new) (pins_of rows) pin
+pins_before rows new key pin same some less =
+    subst (λ (all : Rows). HasOneMore (pins_of all) (pins_of rows) pin)
+    (sym (less ∙ ap (λ k. one_less key_cmp rows k) same)) (less_pins rows (key_of pin) some)
+
 -- ---- which are held
 
 any_same : (test : HeldPin → Bool) (n : ℕ) (pin : HeldPin) (rest : List HeldPin) → 0 < n
@@ -127,19 +140,25 @@ held_pins (row ∷ rows) key positive =
     by_test true is rest = rw (← is) (grind (arith, nat_tests))
     by_test false is rest = rw (← is) rest
 
--- a key is counted no more often than there are pins
-pub counted_at_most : (rows : Rows) (key : PinKey) → count_in key_cmp rows key ≤ length (pins_of rows)
-counted_at_most [] key = omega arith
-counted_at_most (row ∷ rows) key = by_test (is_at (key_cmp key) row.0) (counted_at_most rows key)
+-- a key is counted no more often than pins are that pass a test which its own passes
+pub counted_at_most : (test : HeldPin → Bool) (rows : Rows) (key : PinKey) → test (pin_of key) ≡ true
+    → count_in key_cmp rows key ≤ count_by test (pins_of rows)
+counted_at_most test [] key passes = omega arith
+counted_at_most test (row ∷ rows) key passes =
+    by_test (is_at (key_cmp key) row.0) refl (counted_at_most test rows key passes)
   where
-    long : (n : ℕ) (pin : HeldPin) (rest : List HeldPin) → length (replicate n pin ++ rest) ≡ n + length rest
-    long n pin rest =
-        length-append (replicate n pin) rest ∙ ap (λ m. m + length rest) (length-replicate n pin)
-
-    by_test : (b : Bool) → count_in key_cmp rows key ≤ length (pins_of rows)
-        → unwrap_or (cond b (Some row.1) (lookup (is_at (key_cmp key)) rows)) 0 ≤ length (pins_of (row ∷ rows))
-    by_test true rest = omega (arith, long row.1 (pin_of row.0) (pins_of rows))
-    by_test false rest = omega (arith, long row.1 (pin_of row.0) (pins_of rows), rest)
+    by_test : (b : Bool) → is_at (key_cmp key) row.0 ≡ b → count_in key_cmp rows key ≤ count_by test (pins_of rows)
+        → unwrap_or (cond b (Some row.1) (lookup (is_at (key_cmp key)) rows)) 0 ≤ count_by test (pins_of (row ∷ rows))
+    by_test true is rest =
+        let here : test (pin_of row.0) ≡ true = ap (λ k. test (pin_of k)) (sym (same_keys key row.0 is)) ∙ passes in
+        let one : weight test (pin_of row.0) ≡ 1 = ap (λ (b : Bool). cond b 1 0) here in
+        let all : row.1 * weight test (pin_of row.0) ≡ row.1 = ap (λ n. row.1 * n) one ∙ times_one row.1 in
+        omega (arith, counted_row test row rows, all)
+      where
+        times_one : (n : ℕ) → n * 1 ≡ n
+        times_one n = omega arith
+    by_test false is rest =
+        omega (arith, counted_row test row rows, rest)
 
 pub key_counted : (rows : Rows) (pin : HeldPin) → ArePositive rows → is_held (pins_of rows) pin ≡ true
     → 0 < count_in key_cmp rows (key_of pin)

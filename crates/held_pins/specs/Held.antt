@@ -1,46 +1,159 @@
 -- How the counts of pins and of their pages belong together.
-use Rattle.std.specs.Prelude.{ℕ, ◌≡◌, ◌≤◌, ◌/◌, Bool, ◌&&◌, not, nat_le, nat_lt, List, [], ◌∷◌, ◌++◌, length, replicate}
+use Rattle.std.specs.Prelude.{ℕ, ◌≡◌, ◌<◌, ◌≤◌, ◌+◌, ◌/◌, Bool, true, false, ◌==◌, ◌&&◌, not, nat_le, nat_lt}
+use Rattle.std.specs.Prelude.{IsTrue, List, [], ◌∷◌, ◌++◌, replicate, if◌then◌else◌}
 use Rattle.std.specs.List.{count_by}
 use Rattle.std.specs.Ordering.{bool_cmp, nat_cmp, ordering_then}
 use Rattle.std.specs.declared.cmp.Ordering.{Ordering}
-use Rattle.iofd_words.specs.Span.{is_whole_pages}
+use Rattle.iofd_words.specs.Bounds.{Bounds}
+use Rattle.iofd_words.specs.declared.numbers.FileNo.{FileNo}
+use Rattle.iofd_words.specs.declared.numbers.ObjId.{ObjId}
 use Rattle.held_pins.specs.Counts.{ArePositive, count_in}
-use Rattle.held_pins.specs.HeldPins.{HeldPin}
-use Rattle.held_pins.specs.declared.pin_key.PinKey.{PinKey}
+use Rattle.held_pins.specs.HeldPins.{is_whole}
+use Rattle.held_pins.specs.declared.keys.HolderKey.{HolderKey}
+use Rattle.held_pins.specs.declared.keys.PageKey.{PageKey}
+use Rattle.held_pins.specs.declared.keys.PinKey.{PinKey}
+use Rattle.held_pins.specs.declared.pin.HeldPin.{HeldPin}
+use Rattle.held_pins.specs.declared.pin_counts.PinCounts.{PinCounts}
 
--- by first address, then by last, then those for reads alone before those for writes too
+-- ---- pins as keys
+
+-- field by field; those for reads alone before those for writes too
 abbrev pub key_cmp : PinKey → PinKey → Ordering
-key_cmp a b = ordering_then (nat_cmp a.first b.first) (ordering_then (nat_cmp a.last b.last) (bool_cmp a.write b.write))
+key_cmp a b =
+    ordering_then (nat_cmp a.file b.file) (ordering_then (nat_cmp a.access b.access)
+    (ordering_then (nat_cmp a.ioas b.ioas) (ordering_then (nat_cmp a.first b.first)
+    (ordering_then (nat_cmp a.last b.last) (bool_cmp a.write b.write)))))
 
 abbrev pub pin_of : PinKey → HeldPin
-pin_of key = record { span = record { first = key.first; last = key.last }; write = key.write }
+pin_of key =
+    record {
+      file = record { 0 = key.file };
+      access = record { 0 = key.access };
+      ioas = record { 0 = key.ioas };
+      span = record { first = key.first; last = key.last };
+      write = key.write;
+    }
 
 abbrev pub key_of : HeldPin → PinKey
-key_of pin = record { first = pin.span.first; last = pin.span.last; write = pin.write }
+key_of pin =
+    record {
+      file = pin.file.0;
+      access = pin.access.0;
+      ioas = pin.ioas.0;
+      first = pin.span.first;
+      last = pin.span.last;
+      write = pin.write;
+    }
 
 -- the pins that are counted, equal ones side by side
 abbrev pub pins_of : List (PinKey × ℕ) → List HeldPin
 pins_of [] = []
 pins_of (row ∷ rows) = replicate row.1 (pin_of row.0) ++ pins_of rows
 
--- the number is one of these, from the first on and below the end
-abbrev pub is_between : ℕ → ℕ → ℕ → Bool
-is_between first end n = nat_le first n && nat_lt n end
+-- ---- their pages and holders as keys
 
--- the pin covers the page of this number
-abbrev pub is_over : ℕ → HeldPin → Bool
-is_over page pin = nat_le (pin.span.first / 4096) page && nat_le page (pin.span.last / 4096)
+-- by file, then by object, by page, and by access object
+abbrev pub page_cmp : PageKey → PageKey → Ordering
+page_cmp a b =
+    ordering_then (nat_cmp a.file b.file) (ordering_then (nat_cmp a.object b.object)
+    (ordering_then (nat_cmp a.page b.page) (nat_cmp a.access b.access)))
 
--- it is of whole pages, and of one at least
-abbrev pub is_whole_pin : HeldPin → Bool
-is_whole_pin pin = is_whole_pages pin.span && nat_le pin.span.first pin.span.last
+abbrev pub holder_cmp : HolderKey → HolderKey → Ordering
+holder_cmp a b = ordering_then (nat_cmp a.file b.file) (nat_cmp a.access b.access)
 
--- each page is counted once for each pin over it, and once more among the written for each that is for writes too
-pub record IsTied (spans : List (PinKey × ℕ)) (pages written : List (ℕ × ℕ)) (count : ℕ) : Type 0 where
-  pub positive : ArePositive spans
-  pub over : (page : ℕ) → count_in nat_cmp pages page ≡ count_by (is_over page) (pins_of spans)
-  pub over_written : (page : ℕ)
-      → count_in nat_cmp written page ≡ count_by (λ pin. is_over page pin && pin.write) (pins_of spans)
-  pub counted : count ≡ length (pins_of spans)
-  pub few : count ≤ 65535
-  pub whole : count_by (λ pin. not (is_whole_pin pin)) (pins_of spans) ≡ 0
+abbrev pub holder_of : FileNo → ObjId → HolderKey
+holder_of file access = record { file = file.0; access = access.0 }
+
+-- the page at an address of an object, as the access object has pinned it
+abbrev pub page_in : FileNo → ObjId → ℕ → ObjId → PageKey
+page_in file object address access =
+    record { file = file.0; object = object.0; page = address / 4096; access = access.0 }
+
+-- another page of the same object
+abbrev pub at_page : PageKey → ℕ → PageKey
+at_page key page = record { file = key.file; object = key.object; page = page; access = key.access }
+
+-- the second is of the same object as the first, from its page on and below the end
+abbrev pub is_from : PageKey → ℕ → PageKey → Bool
+is_from first end key =
+    first.file == key.file && first.object == key.object && first.access == key.access
+    && (nat_le first.page key.page && nat_lt key.page end)
+
+-- the key is of this object, whoever pinned it, and of a page at which the span has an address
+abbrev pub is_reached : FileNo → ObjId → Bounds → PageKey → Bool
+is_reached file object span key =
+    key.file == file.0 && key.object == object.0 && nat_le (span.first / 4096) key.page
+    && nat_le key.page (span.last / 4096)
+
+-- the key is of a page that the pin covers, by who holds the pin; the object is this one of the pin's two, its access
+-- object or its address space
+abbrev pub is_over : ObjId → HeldPin → PageKey → Bool
+is_over object pin key = is_from (page_in pin.file object pin.span.first pin.access) (pin.span.last / 4096 + 1) key
+
+-- ---- what is counted
+
+-- a page by the access object that pinned it; the same, pinned for writes; a page by its address space, and then by the
+-- access object that pinned it; and who holds pins
+pub data Tally : Type 0 where
+  Pinned : PageKey → Tally
+  Written : PageKey → Tally
+  InSpace : PageKey → Tally
+  OfHolder : HolderKey → Tally
+
+-- how often it is counted
+abbrev pub tally : {A : Type 0} → PinCounts A → Tally → ℕ
+tally counts (Pinned key) = count_in page_cmp counts.pages key
+tally counts (Written key) = count_in page_cmp counts.written key
+tally counts (InSpace key) = count_in page_cmp counts.spaces key
+tally counts (OfHolder key) = count_in holder_cmp counts.holders key
+
+-- whether it is counted for this pin
+abbrev pub is_tallied : Tally → HeldPin → Bool
+is_tallied (Pinned key) pin = is_over pin.access pin key
+is_tallied (Written key) pin = is_over pin.access pin key && pin.write
+is_tallied (InSpace key) pin = is_over pin.ioas pin key
+is_tallied (OfHolder key) pin = pin.file.0 == key.file && pin.access.0 == key.access
+
+-- pages by access object alone
+abbrev pub is_own : Tally → Bool
+is_own (Pinned key) = true
+is_own (Written key) = true
+is_own (InSpace key) = false
+is_own (OfHolder key) = false
+
+abbrev pub is_shared : Tally → Bool
+is_shared what = not (is_own what)
+
+abbrev pub is_any : Tally → Bool
+is_any what = true
+
+module _ {A : Type 0} where
+  -- of all that is one of these, what is counted for the pin is counted less often than can be
+  abbrev pub HaveRoom : (Tally → Bool) → PinCounts A → HeldPin → Type 0
+  HaveRoom part counts pin =
+      (what : Tally) → IsTrue (part what) → IsTrue (is_tallied what pin) → tally counts what < 65535
+
+  -- of all that is one of these, what is counted for the pin is counted
+  abbrev pub AreThere : (Tally → Bool) → PinCounts A → HeldPin → Type 0
+  AreThere part counts pin =
+      (what : Tally) → IsTrue (part what) → IsTrue (is_tallied what pin) → 0 < tally counts what
+
+  -- of all that is one of these, something is counted for the pin that isn't counted
+  abbrev pub Lack : (Tally → Bool) → PinCounts A → HeldPin → Type 0
+  Lack part counts pin =
+      (what : Tally) × IsTrue (part what) × IsTrue (is_tallied what pin) × (tally counts what ≡ 0)
+
+  -- of all that is one of these, what is counted for the pin is counted once more in the second, and all else as often
+  abbrev pub AreMore : (Tally → Bool) → PinCounts A → PinCounts A → HeldPin → Type 0
+  AreMore part less more pin =
+      (what : Tally) → tally more what ≡ tally less what + (if part what && is_tallied what pin then 1 else 0)
+
+  abbrev pub AreAlike : PinCounts A → PinCounts A → Type 0
+  AreAlike a b = (what : Tally) → tally a what ≡ tally b what
+
+  -- all is counted once for each pin for which it is
+  pub record IsTied (spans : List (PinKey × ℕ)) (counts : PinCounts A) : Type 0 where
+    pub positive : ArePositive spans
+    pub tallied : (what : Tally) → tally counts what ≡ count_by (is_tallied what) (pins_of spans)
+    pub few : (key : HolderKey) → tally counts (OfHolder key) ≤ 65535
+    pub whole : count_by (λ pin. not (is_whole pin)) (pins_of spans) ≡ 0

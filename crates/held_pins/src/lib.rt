@@ -1,9 +1,12 @@
-//! The pins that one access object holds: a contract sees the list of them.
+//! The pins that access objects hold: a contract sees the list of them.
 #![tactic(auto)]
 
 mod counts;
 mod held_pins;
+mod keys;
 mod page_counts;
-mod pin_key;
+mod pin;
+mod pin_counts;
 
 pub use held_pins::HeldPins;
+pub use pin::HeldPin;

@@ -1,30 +1,41 @@
-//! Pages by number, counted in spans.
+//! Pages of objects, counted in spans.
 
-ghost use Rattle.std.specs.Prelude.{◌≡◌, ◌<◌, ◌≤◌, ◌+◌, ◌&&◌, ◌⊎◌, ℕ, true, if◌then◌else◌, OnOk, OnErr};
-ghost use Rattle.std.specs.Ordering.{nat_cmp};
+ghost use Rattle.std.specs.Prelude.{◌≡◌, ◌<◌, ◌≤◌, ◌+◌, ◌/◌, IsTrue, IsFalse, if◌then◌else◌, OnOk, OnErr};
 ghost use Rattle.held_pins.specs.Counts.{count_in};
-ghost use Rattle.held_pins.specs.Held.{is_between};
+ghost use Rattle.held_pins.specs.Held.{is_from, is_reached, page_cmp};
+ghost use Rattle.held_pins.specs.declared.keys.PageKey.{PageKey};
 
 use crate::counts::Counts;
-use iofd_words::NoMemory;
+use crate::keys::PageKey;
+use iofd_words::{FileNo, NoMemory, ObjId, PAGE_SIZE, Span};
 use std::alloc::Allocator;
 
-/// Counts each page from the first on, below the end, once more. Its only error is want of memory; it comes only
-/// where one of them isn't counted yet, and leaves each count as it was.
+/// The end of the span's pages, by number: one more than its last.
+pub(crate) fn end_of(span: Span) -> u64
+    ensures value { result ≡ span.last / 4096 + 1 }
+    ensures ordered { span.first / 4096 ≤ result }
+{
+    span.last() / PAGE_SIZE + 1
+}
+
+/// Counts each page of the key's object, from the key's page on and below the end, once more. Its only error is want
+/// of memory; it comes only where one of them isn't counted yet, and leaves each count as it was.
 pub(crate) fn add_pages<A: Allocator + Copy>(
-    counts: &mut Counts<u64, A>,
-    first: u64,
+    counts: &mut Counts<PageKey, A>,
+    first: PageKey,
     end: u64,
 ) -> Result<(), NoMemory>
-    requires ordered { first ≤ end }
-    requires room { (page : ℕ) → count_in nat_cmp counts.old page < 65535 }
-    ensures ok { OnOk result ((page : ℕ) → count_in nat_cmp counts.new page
-        ≡ count_in nat_cmp counts.old page + (if is_between first end page then 1 else 0)) }
-    ensures full { OnErr result ((page : ℕ) × (first ≤ page) × (page < end) × (count_in nat_cmp counts.old page ≡ 0)) }
-    ensures err { OnErr result ((page : ℕ) → count_in nat_cmp counts.new page ≡ count_in nat_cmp counts.old page) }
+    requires ordered { first.page ≤ end }
+    requires room { (key : PageKey) → IsTrue (is_from first end key) → count_in page_cmp counts.old key < 65535 }
+    ensures ok { OnOk result ((key : PageKey) → count_in page_cmp counts.new key
+        ≡ count_in page_cmp counts.old key + (if is_from first end key then 1 else 0)) }
+    ensures full { OnErr result ((key : PageKey) × IsTrue (is_from first end key)
+        × (count_in page_cmp counts.old key ≡ 0)) }
+    ensures err { OnErr result ((key : PageKey)
+        → count_in page_cmp counts.new key ≡ count_in page_cmp counts.old key) }
 {
-    for page in first..end {
-        if counts.add(page).is_err() {
+    for page in first.page..end {
+        if counts.add(first.at(page)).is_err() {
             remove_pages(counts, first, page);
             return Err(NoMemory);
         }
@@ -32,70 +43,39 @@ pub(crate) fn add_pages<A: Allocator + Copy>(
     Ok(())
 }
 
-/// Counts each page from the first on, below the end, once less. They are counted. It takes no memory.
-pub(crate) fn remove_pages<A: Allocator + Copy>(counts: &mut Counts<u64, A>, first: u64, end: u64)
-    requires ordered { first ≤ end }
-    requires counted { (page : ℕ) → first ≤ page → page < end → 0 < count_in nat_cmp counts.old page }
-    ensures { (page : ℕ) → count_in nat_cmp counts.new page + (if is_between first end page then 1 else 0)
-        ≡ count_in nat_cmp counts.old page }
-{
-    for page in first..end {
-        counts.remove(page);
-    }
-}
-
-/// Counts each page from the first on, below the end, once more, and among the written ones too where the pin is for
-/// writes. Its only error is want of memory; it comes only where a page isn't counted so yet, and leaves each count
-/// as it was.
-pub(crate) fn add_both<A: Allocator + Copy>(
-    pages: &mut Counts<u64, A>,
-    written: &mut Counts<u64, A>,
-    first: u64,
+/// Counts each page of the key's object, from the key's page on and below the end, once less. They are counted. It
+/// takes no memory.
+pub(crate) fn remove_pages<A: Allocator + Copy>(
+    counts: &mut Counts<PageKey, A>,
+    first: PageKey,
     end: u64,
-    write: bool,
-) -> Result<(), NoMemory>
-    requires ordered { first ≤ end }
-    requires room { (page : ℕ) → count_in nat_cmp pages.old page < 65535 }
-    requires room_written { (page : ℕ) → count_in nat_cmp written.old page < 65535 }
-    ensures pages { OnOk result ((page : ℕ) → count_in nat_cmp pages.new page
-        ≡ count_in nat_cmp pages.old page + (if is_between first end page then 1 else 0)) }
-    ensures written { OnOk result ((page : ℕ) → count_in nat_cmp written.new page
-        ≡ count_in nat_cmp written.old page + (if is_between first end page && write then 1 else 0)) }
-    ensures full { OnErr result ((page : ℕ) × (first ≤ page) × (page < end)
-        × ((count_in nat_cmp pages.old page ≡ 0) ⊎ ((write ≡ true) × (count_in nat_cmp written.old page ≡ 0)))) }
-    ensures err { OnErr result ((page : ℕ) → count_in nat_cmp pages.new page ≡ count_in nat_cmp pages.old page) }
-    ensures written_err { OnErr result ((page : ℕ)
-        → count_in nat_cmp written.new page ≡ count_in nat_cmp written.old page) }
-{
-    add_pages(pages, first, end)?;
-    if write && add_pages(written, first, end).is_err() {
-        remove_pages(pages, first, end);
-        return Err(NoMemory);
-    }
-    Ok(())
-}
-
-/// Counts each page from the first on, below the end, once less, and among the written ones too where the pin is for
-/// writes. They are counted so. It takes no memory.
-pub(crate) fn remove_both<A: Allocator + Copy>(
-    pages: &mut Counts<u64, A>,
-    written: &mut Counts<u64, A>,
-    first: u64,
-    end: u64,
-    write: bool,
 )
-    requires ordered { first ≤ end }
-    requires counted { (page : ℕ) → first ≤ page → page < end → 0 < count_in nat_cmp pages.old page }
-    requires counted_written { (page : ℕ) → first ≤ page → page < end → write ≡ true
-        → 0 < count_in nat_cmp written.old page }
-    ensures pages { (page : ℕ) → count_in nat_cmp pages.new page + (if is_between first end page then 1 else 0)
-        ≡ count_in nat_cmp pages.old page }
-    ensures written { (page : ℕ)
-        → count_in nat_cmp written.new page + (if is_between first end page && write then 1 else 0)
-        ≡ count_in nat_cmp written.old page }
+    requires ordered { first.page ≤ end }
+    requires counted { (key : PageKey) → IsTrue (is_from first end key) → 0 < count_in page_cmp counts.old key }
+    ensures { (key : PageKey) → count_in page_cmp counts.new key + (if is_from first end key then 1 else 0)
+        ≡ count_in page_cmp counts.old key }
 {
-    remove_pages(pages, first, end);
-    if write {
-        remove_pages(written, first, end);
+    for page in first.page..end {
+        counts.remove(first.at(page));
+    }
+}
+
+/// Whether a page of the object is counted, by whichever access object, at which the span has an address.
+pub(crate) fn reaches<A: Allocator>(
+    counts: &Counts<PageKey, A>,
+    file: FileNo,
+    object: ObjId,
+    span: Span,
+) -> bool
+    ensures some { IsTrue result → ((key : PageKey) × IsTrue (is_reached file object span key)
+        × (0 < count_in page_cmp counts.now key)) }
+    ensures none { IsFalse result → (key : PageKey) → IsTrue (is_reached file object span key)
+        → count_in page_cmp counts.now key ≡ 0 }
+    ensures ordered { span.first ≤ span.last }
+{
+    let least = PageKey::new(file, object, span.first(), ObjId(0));
+    match counts.first_from(least) {
+        Some(key) => key.is_reached(file, object, span),
+        None => false,
     }
 }

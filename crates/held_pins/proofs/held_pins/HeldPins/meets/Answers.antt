@@ -1,31 +1,16 @@
-use Rattle.std.proofs.Common.{◌≡◌, ℕ, ◌/◌, ◌≤◌, ap, subst, ◌∙◌, arith}
-use Rattle.std.specs.BTreeMap.Range.{IsLeBy}
-use Rattle.std.specs.Ordering.{nat_cmp}
-use Rattle.std.specs.Prelude.{nat_le}
-use Rattle.held_pins.specs.Counts.{IsFirstFrom, count_in}
+use Rattle.std.proofs.Common.{ap, ◌∙◌}
+use Rattle.held_pins.specs.Held.{pins_of}
+use Rattle.held_pins.specs.Held.Tally.{InSpace}
 use Rattle.held_pins.specs.HeldPins.{are_met}
-use Rattle.held_pins.proofs.Asked.{first_met, none_met}
+use Rattle.held_pins.specs.declared.pin.HeldPin.{HeldPin}
+use Rattle.held_pins.proofs.Asked.{met}
 use Rattle.held_pins.proofs.held_pins.HeldPins.meets.Goals as goal
 
-pub returns-in-Some : goal.returns-in-Some
-returns-in-Some g c =
+pub returns : goal.returns
+returns g c =
     let held = c.self.inside in
-    let span = c.args.span in
-    let page = c.in-Some.page in
-    let ordered : span.first ≤ span.last = omega (arith, c.first.ensures.value, c.first.ensures.ordered) in
-    let P : ℕ → Type 0 = λ first. IsFirstFrom nat_cmp held.pages (first / 4096) page in
-    ap (λ last. nat_le page (last / 4096)) c.last.ensures.value
-    ∙ first_met held.spans held.pages held.written held.count span c.self.invariant ordered page
-    (subst P c.first.ensures.value c.in-Some.ensures.found)
-    ∙ ap (λ pins. are_met pins span) c.self.view_is
-
-pub returns-in-None : goal.returns-in-None
-returns-in-None g c =
-    let held = c.self.inside in
-    let span = c.args.span in
-    let ordered : span.first ≤ span.last = omega (arith, c.first.ensures.value, c.first.ensures.ordered) in
-    let P : ℕ → Type 0 = λ first. (page : ℕ) → IsLeBy nat_cmp (first / 4096) page
-    → count_in nat_cmp held.pages page ≡ 0 in
-    none_met held.spans held.pages held.written held.count span c.self.invariant ordered
-    (subst P c.first.ensures.value c.in-None.ensures.none)
-    ∙ ap (λ pins. are_met pins span) c.self.view_is
+    let told = c.reaches.ensures in
+    met (λ (pin : HeldPin). pin.ioas) held.counts.spaces (pins_of held.spans) c.self.invariant.whole
+    (λ key. c.self.invariant.tallied (InSpace key)) c.args.file c.args.ioas c.args.span told.ordered c.reaches.result
+    told.some told.none
+    ∙ ap (λ pins. are_met pins c.args.file c.args.ioas c.args.span) c.self.view_is

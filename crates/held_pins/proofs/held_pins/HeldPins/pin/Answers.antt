@@ -1,84 +1,69 @@
-use Rattle.std.proofs.Common.{◌≡◌, ℕ, ◌+◌, ◌<◌, ◌≤◌, ◌&&◌, Bool, List, cond, length, ap, sym, subst, ◌∙◌, arith}
+use Rattle.std.proofs.Common.{◌≡◌, ◌+◌, ◌<◌, cond, ap, sym, subst, ◌∙◌, arith}
 use Rattle.std.specs.Bool.{IsFalse}
 use Rattle.std.specs.List.{count_by}
 use Rattle.held_pins.specs.Counts.{count_in, one_more}
 use Rattle.held_pins.specs.Held.{key_cmp, key_of, pins_of}
-use Rattle.held_pins.specs.HeldPins.{HasOneMore, HeldPin, held_pin, is_held}
-use Rattle.held_pins.proofs.Alike.{one_longer}
-use Rattle.held_pins.proofs.Over.{between_over, whole_pin}
-use Rattle.held_pins.proofs.Pins.{Rows, counted_at_most, more_pins, not_counted}
+use Rattle.held_pins.specs.HeldPins.{count_of, is_held, is_of}
+use Rattle.held_pins.specs.declared.keys.PinKey.{PinKey}
+use Rattle.held_pins.proofs.Over.{whole_pin}
+use Rattle.held_pins.proofs.Pins.{counted_at_most, not_counted, pins_after}
 use Rattle.held_pins.proofs.Results.{from_err, from_ok, on_err}
-use Rattle.held_pins.proofs.Tied.{at_page, not_held, tied_more}
+use Rattle.held_pins.proofs.Runs.{own_holder}
+use Rattle.held_pins.proofs.Tied.{not_held, room_left, tied_again, tied_more}
 use Rattle.held_pins.proofs.held_pins.HeldPins.pin.Goals as goal
-
-pub returns-in_err-add_both-clause-full : goal.returns-in_err-add_both-clause-full
-returns-in_err-add_both-clause-full g c =
-    let held = c.self.inside in
-    let pin = held_pin c.args.span c.args.write in
-    let lacking = c.in_err-add_both.ensures.full in
-    on_err c.from_residual.result (IsFalse (is_held c.args.self.now pin))
-    (sym (ap (λ pins. is_held pins pin) c.self.view_is)
-    ∙ not_held held.spans held.pages held.written held.count c.args.span c.args.write c.first-first.result
-    c.last.result c.self.invariant c.first-first.ensures.value c.last.ensures.value lacking.0 lacking.1 lacking.2
-    lacking.3)
 
 pub add-requires : goal.add-requires
 add-requires g c =
+    room_left c.self.inside.spans c.self.inside.counts c.args.pin c.self.invariant
+    (rw c.self.view_is c.requires.few)
+
+pub returns-in_err-add-clause-full : goal.returns-in_err-add-clause-full
+returns-in_err-add-clause-full g c =
+    let pin = c.args.pin in
+    on_err c.from_residual.result (IsFalse (is_held c.args.self.now pin))
+    (sym (ap (λ pins. is_held pins pin) c.self.view_is)
+    ∙ not_held c.self.inside.spans c.self.inside.counts pin c.self.invariant c.in_err-add.ensures.full)
+
+pub add-requires-2 : goal.add-requires-2
+add-requires-2 g c =
     let spans = c.self.inside.spans in
-    let few : length (pins_of spans) < 65535 = rw c.self.view_is c.requires.few in
-    let most : count_in key_cmp spans c.key_of.result ≤ length (pins_of spans) =
-    counted_at_most spans c.key_of.result in
-    omega (arith, few, most)
+    let pin = c.args.pin in
+    let few : count_of (pins_of spans) pin.file pin.access < 65535 = rw c.self.view_is c.requires.few in
+    let most = counted_at_most (is_of pin.file pin.access) spans (key_of pin) (own_holder pin) in
+    subst (λ (key : PinKey). count_in key_cmp spans key < 65535) (sym c.key_of.ensures.value) (omega (arith, few, most))
+
+pub invariant_of-self-then-is_err : goal.invariant_of-self-then-is_err
+invariant_of-self-then-is_err g c =
+    let same = from_err c.add-2.result (c.add-2.new.self ≡ c.self.inside.spans)
+    (sym c.is_err.ensures.value ∙ c.if-is_err.true) c.add-2.ensures.err in
+    tied_again c.self.inside.spans c.add-2.new.self c.self.inside.counts c.add.new.self c.remove.new.self c.args.pin
+    same c.self.invariant c.in_ok-add.ensures.more c.remove.ensures
 
 pub returns-then-is_err-clause-full : goal.returns-then-is_err-clause-full
 returns-then-is_err-clause-full g c =
     let spans = c.self.inside.spans in
-    let pin = held_pin c.args.span c.args.write in
-    let none : count_in key_cmp spans c.key_of.result ≡ 0 =
-    from_err c.add.result (count_in key_cmp spans c.key_of.result ≡ 0) (sym c.is_err.ensures.value ∙ c.if-is_err.true)
-    c.add.ensures.full in
+    let pin = c.args.pin in
+    let none = from_err c.add-2.result (count_in key_cmp spans c.key_of.result ≡ 0)
+    (sym c.is_err.ensures.value ∙ c.if-is_err.true) c.add-2.ensures.full in
     sym (ap (λ pins. is_held pins pin) c.self.view_is)
     ∙ not_counted spans pin c.self.invariant.positive
-    (sym (ap (λ key. count_in key_cmp spans key) c.key_of.ensures) ∙ none)
+    (sym (ap (λ key. count_in key_cmp spans key) c.key_of.ensures.value) ∙ none)
 
--- the pins are those before and this one
-one_more_after : (g : _) (c : goal.After-self-1 g)
-    → HasOneMore (pins_of c.self.inside.spans) (pins_of c.add.new.self) (held_pin c.args.span c.args.write)
-one_more_after g c =
-    let spans = c.self.inside.spans in
-    let pin = held_pin c.args.span c.args.write in
-    let rows : c.add.new.self ≡ one_more key_cmp spans (key_of pin) =
-    from_ok c.add.result (c.add.new.self ≡ one_more key_cmp spans c.key_of.result)
-    (sym c.is_err.ensures.value ∙ c.if-is_err.false) c.add.ensures.rows
-    ∙ ap (λ key. one_more key_cmp spans key) c.key_of.ensures in
-    subst (λ (new : Rows). HasOneMore (pins_of spans) (pins_of new) pin) (sym rows) (more_pins spans (key_of pin))
-
-pub invariant_of-self-2 : goal.invariant_of-self-2
-invariant_of-self-2 g c =
+pub invariant_of-self-else-is_err : goal.invariant_of-self-else-is_err
+invariant_of-self-else-is_err g c =
     let held = c.self.inside in
-    let pages = c.add_both.new.pages in
-    let written = c.add_both.new.written in
-    let span = c.args.span in
-    let pin = held_pin span c.args.write in
-    let between = λ (page : ℕ). between_over span c.args.write c.first-first.result c.last.result page
-    c.first-first.ensures.value c.last.ensures.value in
-    let full : length (pins_of held.spans) < 65535 = rw c.self.view_is c.requires.few in
-    let few : held.count < 65535 = rw c.self.invariant.counted full in
-    let ordered : span.first ≤ span.last = omega (arith, c.first-first.ensures.value, c.first-first.ensures.ordered) in
-    tied_more held.spans c.add.new.self held.pages held.written pages written held.count pin c.self.invariant few
-    (whole_pin span c.args.write c.requires.whole ordered) c.add.ensures.positive (one_more_after g c)
-    (λ page. c.in_ok-add_both.ensures.pages page
-    ∙ ap (λ (b : Bool). at_page held.pages page + cond b 1 0) (between page))
-    (λ page. c.in_ok-add_both.ensures.written page
-    ∙ ap (λ (b : Bool). at_page held.written page + cond (b && c.args.write) 1 0) (between page))
+    let pin = c.args.pin in
+    let room = room_left held.spans held.counts pin c.self.invariant (rw c.self.view_is c.requires.few) in
+    let rows = from_ok c.add-2.result (c.add-2.new.self ≡ one_more key_cmp held.spans c.key_of.result)
+    (sym c.is_err.ensures.value ∙ c.if-is_err.false) c.add-2.ensures.rows in
+    tied_more held.spans c.add-2.new.self held.counts c.add.new.self pin c.self.invariant room
+    (whole_pin pin c.requires.whole c.key_of.ensures.ordered) c.add-2.ensures.positive
+    (pins_after held.spans c.add-2.new.self c.key_of.result pin c.key_of.ensures.value rows) c.in_ok-add.ensures.more
 
 pub returns-clause-more : goal.returns-clause-more
 returns-clause-more g c test =
-    one_more_after g c test
-    ∙ ap (λ pins. count_by test pins + cond (test (held_pin c.args.span c.args.write)) 1 0) c.self.view_is
-
-pub returns-clause-len : goal.returns-clause-len
-returns-clause-len g c =
-    one_longer (pins_of c.self.inside.spans) (pins_of c.add.new.self) (held_pin c.args.span c.args.write)
-    (one_more_after g c)
-    ∙ ap (λ (pins : List HeldPin). length pins + 1) c.self.view_is
+    let spans = c.self.inside.spans in
+    let rows = from_ok c.add-2.result (c.add-2.new.self ≡ one_more key_cmp spans c.key_of.result)
+    (sym c.is_err.ensures.value ∙ c.if-is_err.false) c.add-2.ensures.rows in
+    pins_after spans c.add-2.new.self c.key_of.result c.args.pin c.key_of.ensures.value rows test
+    ∙ ap (λ pins. count_by test pins + cond (test c.args.pin) 1 0) c.self.view_is

@@ -1,0 +1,123 @@
+-- Pages of one object as keys, one after the other.
+use Rattle.std.proofs.Common.{◌≡◌, ℕ, ◌+◌, ◌≤◌, ◌<◌, Bool, true, false, ◌&&◌, ◌==◌, cond, refl, ap, sym, ◌∙◌, arith}
+use Rattle.std.specs.BTreeMap.{is_at}
+use Rattle.std.specs.Ordering.{nat_cmp}
+use Rattle.std.specs.Prelude.{nat_le, nat_lt}
+use Rattle.std.proofs.lemmas.Bool.{and_parts}
+use Rattle.std.proofs.lemmas.Bool.Decides.{nat_tests}
+use Rattle.held_pins.specs.Held.{at_page, is_from, page_cmp}
+use Rattle.held_pins.specs.declared.keys.PageKey.{PageKey}
+use Rattle.held_pins.proofs.PinKeys.{numbers_eq, then_eq}
+
+-- once where it is so
+abbrev pub once : Bool → ℕ
+once b = cond b 1 0
+
+-- one page more
+pub one_further : (first key : PageKey) (page : ℕ) → first.page ≤ page
+    → once (is_from first (page + 1) key)
+    ≡ once (is_from first page key) + once (is_at (page_cmp (at_page first page)) key)
+one_further first key page from =
+    rw same
+    (by_object (first.file == key.file) (first.object == key.object) (first.access == key.access))
+  where
+    same : is_at (page_cmp (at_page first page)) key
+        ≡ ((first.file == key.file) && ((first.object == key.object)
+        && ((page == key.page) && (first.access == key.access))))
+    same =
+        then_eq first.file key.file _
+        ((first.object == key.object) && ((page == key.page) && (first.access == key.access)))
+        (then_eq first.object key.object _ ((page == key.page) && (first.access == key.access))
+        (then_eq page key.page (nat_cmp first.access key.access) (first.access == key.access)
+        (numbers_eq first.access key.access)))
+
+    by_number : (from : ℕ) (n : ℕ) → from ≤ page → once (nat_le from n && nat_lt n (page + 1))
+        ≡ once (nat_le from n && nat_lt n page) + once (page == n)
+    by_number from n below = grind (arith, nat_tests)
+
+    by_page : (b : Bool) → once (b && true) ≡ once b
+    by_page true = refl
+    by_page false = refl
+
+    nowhere : (b : Bool) → once false ≡ once false + once (b && false)
+    nowhere true = refl
+    nowhere false = refl
+
+    by_object : (a b c : Bool)
+        → once (a && b && c && (nat_le first.page key.page && nat_lt key.page (page + 1)))
+        ≡ once (a && b && c && (nat_le first.page key.page && nat_lt key.page page))
+        + once (a && (b && ((page == key.page) && c)))
+    by_object true true true =
+        by_number first.page key.page from
+        ∙ ap (λ n. once (nat_le first.page key.page && nat_lt key.page page) + n) (sym (by_page (page == key.page)))
+    by_object true true false = nowhere (page == key.page)
+    by_object true false c = refl
+    by_object false b c = refl
+
+-- none are from a page on and below it
+pub none_between : (first key : PageKey) → is_from first first.page key ≡ false
+none_between first key =
+    by_object (first.file == key.file && first.object == key.object && first.access == key.access)
+  where
+    by_number : (x n : ℕ) → (nat_le x n && nat_lt n x) ≡ false
+    by_number x n = grind (arith, nat_tests)
+
+    by_object : (a : Bool) → (a && (nat_le first.page key.page && nat_lt key.page first.page)) ≡ false
+    by_object true = by_number first.page key.page
+    by_object false = refl
+
+-- nor is a page below itself
+pub not_before : (first : PageKey) (page : ℕ) → is_from first page (at_page first page) ≡ false
+not_before first page =
+    by_object (first.file == first.file && first.object == first.object && first.access == first.access)
+  where
+    by_number : (x n : ℕ) → (nat_le x n && nat_lt n n) ≡ false
+    by_number x n = grind (arith, nat_tests)
+
+    by_object : (a : Bool) → (a && (nat_le first.page page && nat_lt page page)) ≡ false
+    by_object true = by_number first.page page
+    by_object false = refl
+
+pub record IsFrom (first : PageKey) (end : ℕ) (key : PageKey) : Type 0 where
+  pub file : first.file ≡ key.file
+  pub object : first.object ≡ key.object
+  pub access : first.access ≡ key.access
+  pub from : first.page ≤ key.page
+  pub below : key.page < end
+
+pub from_test : (first : PageKey) (end : ℕ) (key : PageKey) → is_from first end key ≡ true → IsFrom first end key
+from_test first end key is =
+    let outer = and_parts (first.file == key.file && first.object == key.object && first.access == key.access)
+    (nat_le first.page key.page && nat_lt key.page end) is in
+    let objects = and_parts (first.file == key.file && first.object == key.object) (first.access == key.access)
+    outer.0 in
+    let files = and_parts (first.file == key.file) (first.object == key.object) objects.0 in
+    let pages = and_parts (nat_le first.page key.page) (nat_lt key.page end) outer.1 in
+    record {
+      file = search (files.0, arith, nat_tests);
+      object = search (files.1, arith, nat_tests);
+      access = search (objects.1, arith, nat_tests);
+      from = search (pages.0, arith, nat_tests);
+      below = search (pages.1, arith, nat_tests);
+    }
+
+same_number : (x y : ℕ) → x ≡ y → (x == y) ≡ true
+same_number x y same = grind (arith, nat_tests)
+
+pub to_test : (first : PageKey) (end : ℕ) (key : PageKey) → IsFrom first end key → is_from first end key ≡ true
+to_test first end key is =
+    rw (
+      same_number first.file key.file is.file,
+      same_number first.object key.object is.object,
+      same_number first.access key.access is.access,
+    ) (inside first.page key.page is.from is.below)
+  where
+    inside : (x n : ℕ) → x ≤ n → n < end → (nat_le x n && nat_lt n end) ≡ true
+    inside x n from below = grind (arith, nat_tests)
+
+-- the one at a page is from there on
+pub at_from : (first : PageKey) (page end : ℕ) → first.page ≤ page → page < end
+    → is_from first end (at_page first page) ≡ true
+at_from first page end from below =
+    to_test first end (at_page first page)
+    (record { file = refl; object = refl; access = refl; from = from; below = below })

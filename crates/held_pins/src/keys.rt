@@ -1,0 +1,105 @@
+//! Pins, their pages and who holds them, as the keys of maps.
+
+ghost use Rattle.std.specs.Prelude.{◌≡◌, ◌≤◌};
+ghost use Rattle.held_pins.specs.Held.{at_page, holder_of, key_of, is_reached, page_in};
+
+use crate::pin::HeldPin;
+use iofd_words::{FileNo, ObjId, PAGE_SIZE, Span};
+
+/// All that a pin is.
+#[derive(Clone, Copy, PartialEq, Eq, PartialOrd, Ord)]
+pub(crate) struct PinKey {
+    pub file: u16,
+    pub access: u32,
+    pub ioas: u32,
+    pub first: u64,
+    pub last: u64,
+    pub write: bool,
+}
+
+/// A page of an object of a file, as an access object has pinned it. The object is the address space, or the access
+/// object itself. So pages of one object stand side by side, by number.
+#[derive(Clone, Copy, PartialEq, Eq, PartialOrd, Ord)]
+pub(crate) struct PageKey {
+    pub file: u16,
+    pub object: u32,
+    pub page: u64,
+    pub access: u32,
+}
+
+/// An access object.
+#[derive(Clone, Copy, PartialEq, Eq, PartialOrd, Ord)]
+pub(crate) struct HolderKey {
+    pub file: u16,
+    pub access: u32,
+}
+
+/// The key of a pin.
+pub(crate) fn key_of(pin: &HeldPin) -> PinKey
+    ensures value { result ≡ key_of pin.now }
+    ensures ordered { pin.now.span.first ≤ pin.now.span.last }
+{
+    PinKey {
+        file: pin.file.0,
+        access: pin.access.0,
+        ioas: pin.ioas.0,
+        first: pin.span.first(),
+        last: pin.span.last(),
+        write: pin.write,
+    }
+}
+
+/// The key of the first page of a pin, of its access object or its address space.
+pub(crate) fn first_of(pin: &HeldPin, object: ObjId) -> PageKey
+    ensures { result ≡ page_in pin.now.file object pin.now.span.first pin.now.access }
+{
+    PageKey::new(pin.file, object, pin.span.first(), pin.access)
+}
+
+impl HolderKey {
+    /// The key of an access object of the file.
+    pub(crate) fn new(file: FileNo, access: ObjId) -> HolderKey
+        ensures { result ≡ holder_of file access }
+    {
+        HolderKey {
+            file: file.0,
+            access: access.0,
+        }
+    }
+}
+
+impl PageKey {
+    /// The key of the page at the address, in bytes, of an object of the file, pinned by the access object.
+    pub(crate) fn new(file: FileNo, object: ObjId, address: u64, access: ObjId) -> PageKey
+        ensures { result ≡ page_in file object address access }
+    {
+        PageKey {
+            file: file.0,
+            object: object.0,
+            page: address / PAGE_SIZE,
+            access: access.0,
+        }
+    }
+
+    /// The key of another page of the same object, by its number.
+    pub(crate) fn at(self, page: u64) -> PageKey
+        ensures { result ≡ at_page self page }
+    {
+        PageKey {
+            file: self.file,
+            object: self.object,
+            page,
+            access: self.access,
+        }
+    }
+
+    /// Whether it is of this object of the file, and of a page at which the span has an address.
+    pub(crate) fn is_reached(self, file: FileNo, object: ObjId, span: Span) -> bool
+        ensures { result ≡ is_reached file object span self }
+    {
+        self.file == file.0
+            && self.object == object.0
+            && span.first() / PAGE_SIZE <= self.page
+            && self.page <= span.last() / PAGE_SIZE
+    }
+}
