@@ -1,1 +1,2 @@
 mod OnePage
+mod TwoAreas

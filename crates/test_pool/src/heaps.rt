@@ -3,6 +3,7 @@
 use crate::access_calls::gives_rows;
 use crate::memory_calls::gives_pages;
 use crate::run_calls::keeps_pinned;
+use crate::span_calls::keeps_pinned_by_span;
 use crate::table_calls::gives_room;
 use linked_list_allocator::LocalHeap;
 use std::alloc::{AllocError, Global};
@@ -29,4 +30,17 @@ fn are_refused_first(alloc: Global) -> bool {
 #[test]
 fn page_tables_and_pages_take_memory(rt: HostRuntime) {
     assert!(rt; are_refused_first(rt.alloc()));
+}
+
+/// Whether the pins of two areas under a span find memory once a full heap has refused them. The frames are in it too.
+fn spans_are_refused_first(alloc: Global) -> bool {
+    match LocalHeap::new(alloc, 1 << 16) {
+        Ok(heap) => keeps_pinned_by_span(&heap, &heap),
+        Err(_) => false,
+    }
+}
+
+#[test]
+fn pins_under_a_span_take_memory(rt: HostRuntime) {
+    assert!(rt; spans_are_refused_first(rt.alloc()));
 }

@@ -1,0 +1,108 @@
+use Rattle.std.proofs.Common.{◌∙◌, List, refl, subst, sym, take}
+use Rattle.area_map.proofs.Room.{at_answer, at_error}
+use Rattle.iofd_words.specs.declared.rows.Area.{Area}
+use Rattle.memory_objects.specs.declared.run.PageRun.{PageRun}
+use Rattle.user_memory.specs.Changes.{HasRunPinned}
+use Rattle.access_pages.proofs.PinSteps.{Pinning, next_has_room, next_is_few, next_lies, next_meets, next_present}
+use Rattle.access_pages.proofs.PinSteps.{pinning_first, pinning_further}
+use Rattle.access_pages.proofs.Undone.{IsUnchanged, may_undo, none_done, nothing_done, undone}
+use Rattle.access_pages.specs.Runs.{AreReleased, MayRelease, run_in, runs_in}
+use Rattle.access_pages.proofs.runs.pin_all.Goals as goal
+use Rattle.access_pages.proofs.runs.pin_all.Goals.{then-count-via-then-count, then-count-via-else-count+then-is_err}
+
+pub loop-area-init : goal.loop-area-init
+loop-area-init g c =
+    let P : List Area → Type 0 = λ left. Pinning c.args.span c.args.areas left 0 c.args.memory.now c.args.memory.now
+    c.args.pool.now c.args.pool.now in
+    subst P (sym c.into_iter-area-iterator.ensures.into_iter_gives)
+    (pinning_first c.args.span c.args.areas c.args.memory.now c.args.pool.now c.requires.met c.requires.may)
+
+pub run_in-requires : goal.run_in-requires
+run_in-requires g c =
+    let P : List Area → Type 0 = λ left. Pinning c.args.span c.args.areas left c.loop-area.count c.args.memory.now
+    c.loop-area.memory c.args.pool.now c.loop-area.pool in
+    next_meets c.args.span c.args.areas c.next.new.self c.in-Some.area.now c.loop-area.count c.args.memory.now
+    c.loop-area.memory c.args.pool.now c.loop-area.pool (subst P c.in-Some.ensures.steps c.loop-area.invariant)
+    (run_in c.args.span c.in-Some.area.now) refl
+
+pub pin_by_access-requires-clause-lies : goal.pin_by_access-requires-clause-lies
+pin_by_access-requires-clause-lies g c =
+    let P : List Area → Type 0 = λ left. Pinning c.args.span c.args.areas left c.loop-area.count c.args.memory.now
+    c.loop-area.memory c.args.pool.now c.loop-area.pool in
+    next_lies c.args.span c.args.areas c.next.new.self c.in-Some.area.now c.loop-area.count c.args.memory.now
+    c.loop-area.memory c.args.pool.now c.loop-area.pool (subst P c.in-Some.ensures.steps c.loop-area.invariant)
+    c.run_in.result c.run_in.ensures
+
+pub pin_by_access-requires-clause-present : goal.pin_by_access-requires-clause-present
+pin_by_access-requires-clause-present g c =
+    let P : List Area → Type 0 = λ left. Pinning c.args.span c.args.areas left c.loop-area.count c.args.memory.now
+    c.loop-area.memory c.args.pool.now c.loop-area.pool in
+    next_present c.args.span c.args.areas c.next.new.self c.in-Some.area.now c.loop-area.count c.args.memory.now
+    c.loop-area.memory c.args.pool.now c.loop-area.pool (subst P c.in-Some.ensures.steps c.loop-area.invariant)
+    c.run_in.result c.run_in.ensures
+
+pub pin_by_access-requires-clause-room : goal.pin_by_access-requires-clause-room
+pin_by_access-requires-clause-room g c =
+    let P : List Area → Type 0 = λ left. Pinning c.args.span c.args.areas left c.loop-area.count c.args.memory.now
+    c.loop-area.memory c.args.pool.now c.loop-area.pool in
+    next_has_room c.args.span c.args.areas c.next.new.self c.in-Some.area.now c.loop-area.count c.args.memory.now
+    c.loop-area.memory c.args.pool.now c.loop-area.pool (subst P c.in-Some.ensures.steps c.loop-area.invariant)
+    c.run_in.result c.run_in.ensures
+
+pub pin_by_access-requires-clause-few : goal.pin_by_access-requires-clause-few
+pin_by_access-requires-clause-few g c =
+    let P : List Area → Type 0 = λ left. Pinning c.args.span c.args.areas left c.loop-area.count c.args.memory.now
+    c.loop-area.memory c.args.pool.now c.loop-area.pool in
+    next_is_few c.args.span c.args.areas c.next.new.self c.in-Some.area.now c.loop-area.count c.args.memory.now
+    c.loop-area.memory c.args.pool.now c.loop-area.pool (subst P c.in-Some.ensures.steps c.loop-area.invariant)
+    c.run_in.result c.run_in.ensures
+
+pub unpin_first-requires-clause-may : goal.unpin_first-requires-clause-may
+unpin_first-requires-clause-may g c =
+    let same : IsUnchanged c.loop-area.memory c.then-count.memory c.loop-area.pool c.then-count.pool =
+    elim c.then-count.branch [
+      | then-count-via-then-count w ↦ nothing_done c.loop-area.memory c.then-count.memory c.loop-area.pool
+          c.then-count.pool w.memory-is w.pool-is c.loop-area.invariant.may.invariant
+      | then-count-via-else-count+then-is_err w ↦ none_done c.loop-area.memory c.then-count.memory
+          w.pin_by_access.new.self c.loop-area.pool c.then-count.pool w.pin_by_access.new.pool w.memory-is w.pool-is
+          (at_error w.pin_by_access.result (sym w.is_err.ensures.value ∙ w.if-is_err.true)
+          w.pin_by_access.ensures.err) w.pin_by_access.ensures.pages w.pin_by_access.ensures.limits
+          (at_error w.pin_by_access.result (sym w.is_err.ensures.value ∙ w.if-is_err.true)
+          w.pin_by_access.ensures.pool_err)
+    ] in
+    let M : List Area → Type 0 = λ areas. MayRelease (runs_in c.args.span (take c.loop-area.count areas))
+    c.then-count.memory c.then-count.pool.holds in
+    subst M (sym c.again-all.ensures)
+    (may_undo c.args.span c.args.areas c.loop-area.area-iterator c.loop-area.count c.args.memory.now c.loop-area.memory
+    c.then-count.memory c.args.pool.now c.loop-area.pool c.then-count.pool c.loop-area.invariant same)
+
+pub returns-then-count-clause-err : goal.returns-then-count-clause-err
+returns-then-count-clause-err g c =
+    let same : IsUnchanged c.loop-area.memory c.then-count.memory c.loop-area.pool c.then-count.pool =
+    elim c.then-count.branch [
+      | then-count-via-then-count w ↦ nothing_done c.loop-area.memory c.then-count.memory c.loop-area.pool
+          c.then-count.pool w.memory-is w.pool-is c.loop-area.invariant.may.invariant
+      | then-count-via-else-count+then-is_err w ↦ none_done c.loop-area.memory c.then-count.memory
+          w.pin_by_access.new.self c.loop-area.pool c.then-count.pool w.pin_by_access.new.pool w.memory-is w.pool-is
+          (at_error w.pin_by_access.result (sym w.is_err.ensures.value ∙ w.if-is_err.true)
+          w.pin_by_access.ensures.err) w.pin_by_access.ensures.pages w.pin_by_access.ensures.limits
+          (at_error w.pin_by_access.result (sym w.is_err.ensures.value ∙ w.if-is_err.true)
+          w.pin_by_access.ensures.pool_err)
+    ] in
+    let R : List Area → Type 0 = λ areas. AreReleased (runs_in c.args.span (take c.loop-area.count areas))
+    c.then-count.memory c.unpin_first.new.memory c.then-count.pool c.unpin_first.new.pool in
+    undone c.args.span c.args.areas c.loop-area.area-iterator c.loop-area.count c.args.memory.now c.loop-area.memory
+    c.then-count.memory c.unpin_first.new.memory c.args.pool.now c.loop-area.pool c.then-count.pool
+    c.unpin_first.new.pool c.loop-area.invariant same (subst R c.again-all.ensures c.unpin_first.ensures)
+
+pub loop-area-preserved : goal.loop-area-preserved
+loop-area-preserved g c =
+    let P : List Area → Type 0 = λ left. Pinning c.args.span c.args.areas left c.loop-area.count c.args.memory.now
+    c.loop-area.memory c.args.pool.now c.loop-area.pool in
+    let M : PageRun → Type 0 = λ run. HasRunPinned run c.loop-area.memory c.pin_by_access.new.self in
+    pinning_further c.args.span c.args.areas c.next.new.self c.in-Some.area.now c.loop-area.count c.args.memory.now
+    c.loop-area.memory c.pin_by_access.new.self c.args.pool.now c.loop-area.pool c.pin_by_access.new.pool
+    (subst P c.in-Some.ensures.steps c.loop-area.invariant)
+    (subst M c.run_in.ensures (at_answer c.pin_by_access.result (sym c.is_err.ensures.value ∙ c.if-is_err.false)
+    c.pin_by_access.ensures.more))
+    (at_answer c.pin_by_access.result (sym c.is_err.ensures.value ∙ c.if-is_err.false) c.pin_by_access.ensures.settles)
