@@ -15,7 +15,7 @@ use Rattle.access_pages.specs.Runs.{first_of, hull, last_of, meeting}
 use Rattle.std.proofs.lemmas.Bool.{cases_lt}
 
 -- an area of a list begins where the list may begin or behind, and ends behind its begin
-place_of : (low : ℕ) (areas : List Area) → AreApartFrom low areas → (a : Area) → IsIn areas a
+pub place_of : (low : ℕ) (areas : List Area) → AreApartFrom low areas → (a : Area) → IsIn areas a
     → (low ≤ a.span.first) × (a.span.first ≤ a.span.last)
 place_of low [] apart a among = absurd among
 place_of low (x ∷ areas) apart a (inl same) = subst (λ (y : Area). (low ≤ y.span.first) × (y.span.first ≤ y.span.last))

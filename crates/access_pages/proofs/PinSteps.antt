@@ -137,8 +137,8 @@ module _ (run : PageRun) (rest : List PageRun) (now : Memory) (holds : List ℕ)
         → access_pins now page + 1 < 2 ^ 64
     run_is_few page has =
         let all = times_first run rest page in
-        let most = may.few page in
         let here = counts_one (covers run page.memory page.index) has in
+        let most = may.few page (omega (arith, all, here)) in
         omega (arith, all, most, here)
 
     pub first_run_lies : run_lies now run ≡ true
@@ -172,10 +172,10 @@ module _ (run : PageRun) (rest done : List PageRun) (first now next : Memory) (b
         (λ page is. or_right (covers run page.memory page.index) (is_in_runs rest page) is)
         (λ page. now_same now next page more.rows settles.pages) may.present;
     room = room_stays run rest now next between after may.user may.only more settles may.own may.room;
-    few = λ page.
+    few = λ page some.
         let all = times_first run rest page in
         let one = more.access page in
-        let most = may.few page in
+        let most = may.few page (omega (arith, all, some)) in
         omega (arith, all, one, most);
     backed = settles.holds.backed may.backed;
     invariant = settles.kept;
@@ -274,3 +274,18 @@ module _ (span : Bounds) (all rest : List Area) (area : Area) (count : ℕ) (fir
   pub next_is_few : (page : ObjectPage) → covers run page.memory page.index ≡ true → access_pins now page + 1 < 2 ^ 64
   next_is_few page has =
       run_is_few (run_in span area) (runs_in span rest) now between.holds p.may page (rw is at has)
+
+  -- a page of it that no access pins is one of all runs, and none pinned it before
+  pub unpinned_in : (page : ObjectPage) × (covers run page.memory page.index ≡ true) × (access_pins now page ≡ 0)
+      → (page : ObjectPage) × (is_in_runs (runs_in span all) page ≡ true) × (access_pins first page ≡ 0)
+  unpinned_in (page, has, none) = (
+    page,
+    subst (λ (l : List Area). is_in_runs (runs_in span l) page ≡ true) p.split (among p.done),
+    (let some = p.pinned.access page in omega (arith, some, none)),
+  )
+    where
+      among : (done : List Area) → is_in_runs (runs_in span (done ++ area ∷ rest)) page ≡ true
+      among [] =
+          ap (λ (b : Bool). b || is_in_runs (runs_in span rest) page) (ap (λ (r : PageRun). covers r page.memory
+          page.index) (sym is) ∙ has)
+      among (a ∷ done) = or_right (covers (run_in span a) page.memory page.index) _ (among done)

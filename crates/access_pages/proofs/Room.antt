@@ -21,8 +21,8 @@ use Rattle.memory_objects.specs.declared.run.PageRun.{PageRun}
 use Rattle.user_memory.specs.Changes.{HasRunPinned, Settles}
 use Rattle.user_memory.specs.Memory.{Memory, access_pins, has_room, held_by, is_in_runs, is_pinned, new_in_runs}
 use Rattle.user_memory.specs.Memory.{pinned_frame, rows_of, table_pins}
-use Rattle.user_memory_rows.proofs.PinsFollow.{count-cons}
-use Rattle.access_pages.proofs.Through.{has_page}
+use Rattle.user_memory_rows.proofs.CountBy.{count-cons}
+use Rattle.user_memory_rows.specs.Shown.{has_page}
 use Rattle.access_pages.proofs.Through.{still_pinned}
 use Rattle.access_pages.specs.Runs.{OnlyPinned, are_own}
 

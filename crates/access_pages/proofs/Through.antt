@@ -1,8 +1,7 @@
 -- One change of pins by accesses after another.
 use Rattle.std.proofs.Common.{◌≡◌, ℕ, ◌+◌, ◌≤◌, Bool, true, false, ◌||◌, ltb, None, List, refl}
 use Rattle.std.proofs.Common.{ap, sym, ◌∙◌, arith}
-use Rattle.std.specs.Prelude.{◌==◌, ◌&&◌, nat_lt, if◌then◌else◌}
-use Rattle.std.specs.List.{list_any}
+use Rattle.std.specs.Prelude.{if◌then◌else◌}
 use Rattle.std.proofs.lemmas.Bool.Decides.{nat_tests}
 use Rattle.frame_memory.specs.Pool.{FramePool}
 use Rattle.iofd_rows.proofs.Bools.{and_true, both_true, clash}
@@ -12,10 +11,7 @@ use Rattle.iofd_words.specs.declared.rows.MemoryObject.{MemoryObject}
 use Rattle.iofd_words.specs.declared.rows.UserPage.{UserPage}
 use Rattle.user_memory.specs.Changes.{HoldsFollow, Settles}
 use Rattle.user_memory.specs.Memory.{Memory, access_pins, frame_now, is_pinned, pinned_frame, rows_of, table_pins}
-
--- one of these memory objects has the page
-abbrev pub has_page : List MemoryObject → ObjectPage → Bool
-has_page rows page = list_any (λ row. page.memory == row.number && nat_lt page.index row.count) rows
+use Rattle.user_memory_rows.specs.Shown.{has_page}
 
 -- the frames that pages are now depend on the objects and the users' pages alone
 pub now_same : (a b : Memory) (page : ObjectPage) → rows_of b ≡ rows_of a → b.pages ≡ a.pages

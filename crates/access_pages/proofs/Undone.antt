@@ -10,16 +10,17 @@ use Rattle.iofd_words.specs.Pins.{ObjectPage}
 use Rattle.iofd_words.specs.declared.rows.Area.{Area}
 use Rattle.iofd_words.specs.declared.rows.MemoryObject.{MemoryObject}
 use Rattle.iofd_words.specs.declared.rows.UserPage.{UserPage}
-use Rattle.memory_objects.specs.Invariant.{MemoryInvariant}
 use Rattle.memory_objects.specs.Objects.{pins_on}
+use Rattle.memory_objects.specs.declared.run.PageRun.{PageRun}
 use Rattle.user_memory.specs.Changes.{SameObjects, Settles}
 use Rattle.user_memory.specs.Memory.{IsBacked, Memory, access_pins, frame_now, is_pinned, pinned_frame, reached}
 use Rattle.user_memory.specs.Memory.{rows_of, table_pins}
-use Rattle.access_pages.proofs.Through.{has_page}
+use Rattle.user_memory_rows.proofs.Released.{only_after}
+use Rattle.user_memory_rows.specs.Shown.{has_page}
 use Rattle.access_pages.proofs.PinSteps.{Pinning}
 use Rattle.access_pages.proofs.Through.{settles_through, still_pinned}
 use Rattle.access_pages.proofs.UnpinSteps.{lie_still}
-use Rattle.access_pages.specs.Runs.{ArePinned, AreReleased, MayRelease, OnlyPinned, runs_in}
+use Rattle.access_pages.specs.Runs.{ArePinned, AreReleased, MayPin, MayRelease, OnlyPinned, runs_in}
 
 -- ---- nothing that is seen has changed
 
@@ -29,24 +30,6 @@ pub record IsUnchanged (a b : Memory) (p q : FramePool) : Type 0 where
   pub pages : b.pages ≡ a.pages
   pub limits : b.limits ≡ a.limits
   pub pool : q ≡ p
-
-pub nothing_done : (a b : Memory) (p q : FramePool) → b ≡ a → q ≡ p → MemoryInvariant a.objects → IsUnchanged a b p q
-nothing_done a b p q same pool invariant =
-    let U : Memory → Type 0 = λ m. IsUnchanged a m p q in
-    subst U (sym same) (record {
-      objects = record {
-        rows = refl;
-        frames = λ page. refl;
-        areas = λ number. refl;
-        pins = λ number. refl;
-        access = λ page. refl;
-        named = λ frame. refl;
-        kept = invariant;
-      };
-      pages = refl;
-      limits = refl;
-      pool = pool;
-    })
 
 pub none_done : (a b made : Memory) (p q given : FramePool) → b ≡ made → q ≡ given → SameObjects a made
     → made.pages ≡ a.pages → made.limits ≡ a.limits → given ≡ p → IsUnchanged a b p q
@@ -154,3 +137,34 @@ undone span all left count first now next last before between after end p same l
           omega (arith, tables, alike))
           (let some = p.pinned.access page in let alike = same.objects.access page in omega (arith, some, alike)) was);
     }
+
+-- ---- all runs
+
+module _ (runs : List PageRun) (first now : Memory) (before between : FramePool)
+    (pinned : ArePinned runs first now before between) where
+  -- what was pinned may be let go of
+  pub may_take_back : MayPin runs first before.holds → MayRelease runs now between.holds
+  may_take_back may = record {
+    lies = lie_still runs first now pinned.rows may.lies;
+    pins = λ page. let some = pinned.access page in omega (arith, some);
+    backed = pinned.settles.holds.backed may.backed;
+    invariant = pinned.settles.kept;
+    only = only_after first now before between pinned.settles;
+  }
+
+  -- then no pins are there but the old ones
+  pub taken_back : (last : Memory) (end : FramePool) → AreReleased runs now last between end
+      → ArePinned [] first last before end
+  taken_back last end gone = record {
+    rows = gone.rows ∙ pinned.rows;
+    areas = λ number. gone.areas number ∙ pinned.areas number;
+    pins = λ number. gone.pins number ∙ pinned.pins number;
+    access = λ page.
+        let less = gone.access page in
+        let some = pinned.access page in
+        omega (arith, less, some);
+    settles = settles_through first now last before between end gone.rows pinned.settles gone.settles
+        (λ page was is. still_pinned first now page pinned.rows
+        (let tables = pinned.pins page.memory in omega (arith, tables))
+        (let some = pinned.access page in omega (arith, some)) was);
+  }

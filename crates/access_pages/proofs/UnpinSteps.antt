@@ -14,7 +14,7 @@ use Rattle.memory_objects.specs.Runs.{covers}
 use Rattle.memory_objects.specs.declared.run.PageRun.{PageRun}
 use Rattle.user_memory.specs.Changes.{HasRunReleased, Settles}
 use Rattle.user_memory.specs.Memory.{Memory, access_pins, rows_of, run_lies}
-use Rattle.user_memory_rows.proofs.PinsFollow.{count-cons}
+use Rattle.user_memory_rows.proofs.CountBy.{count-cons}
 use Rattle.user_memory_rows.proofs.Released.{only_after, settles_none}
 use Rattle.access_pages.proofs.Through.{settles_through, still_pinned}
 use Rattle.access_pages.specs.Runs.{AreReleased, MayRelease, run_in, runs_in, times_in}

@@ -69,7 +69,7 @@ pub record MayPin (runs : List PageRun) (m : Memory) (holds : List ℕ) : Type 0
   pub lies : list_all (run_lies m) runs ≡ true
   pub present : list_any (λ page. is_none (frame_now m page)) (new_in_runs m runs) ≡ false
   pub room : has_room m user (length (new_in_runs m runs)) ≡ true
-  pub few : (page : ObjectPage) → access_pins m page + times_in runs page < 2 ^ 64
+  pub few : (page : ObjectPage) → 0 < times_in runs page → access_pins m page + times_in runs page < 2 ^ 64
   pub backed : IsBacked m holds
   pub invariant : MemoryInvariant m.objects
   pub only : OnlyPinned m

@@ -1,2 +1,17 @@
+pub mod Asked
 pub mod Created
+pub mod HeldFrames
+pub mod HeldPins
+pub mod KeptPins
+pub mod NewAccessed
+pub mod NewOnce
+pub mod Noticed
+pub mod PinAsked
+pub mod PinPlace
+pub mod Pinned
+pub mod PinnedRuns
 pub mod Reattached
+pub mod RunPages
+pub mod SettledShown
+pub mod Spanned
+pub mod Unpinned

@@ -14,6 +14,11 @@ use Rattle.iofd_words.specs.declared.rows.Object.{Object}
 use Rattle.iofd_words.specs.declared.rows.ObjectKind.{ObjectKind}
 use Rattle.iofd_words.specs.declared.rows.ObjectKind.TheVariants as kind
 use Rattle.object_table.specs.Table.{Table, rows_of}
+use Rattle.server_state.proofs.AccessPinsStay.{holders_stay}
+use Rattle.iofd_words.specs.declared.event.Event.TheVariants as event
+use Rattle.iofd_words.specs.declared.reply.Reply.TheVariants as reply
+use Rattle.iofd_words.specs.After.{changed}
+use Rattle.iofd_words.specs.Answers.{Answers}
 use Rattle.server_state.proofs.AccessesHeld.{access_of}
 use Rattle.server_state.proofs.AccessesShown.{attached_shown, attached_space, detached_shown}
 use Rattle.server_state.proofs.Counted.{few_users}
@@ -67,6 +72,7 @@ module _ {A : Type 0} (at : ℕ) (w : World) (s : State A) (file : FileNo) (id :
       → has_ioas (objects_in s.objects) file ioas ≡ true → users_at s.objects.rows file ioas < 4294967295
       → HasAccess file id (Some ioas) (λ f i. one_at file ioas f i + users_at s.objects.rows f i) s.objects table)
       → Shows (record w { objects = with_access file id (Some ioas) w.objects }) (record s { objects = table })
+  unfolding changed Answers
   shows_attached ioas table count none is few attaches =
       let passed = access_attach_passed (view w) file id ioas none in
       let (before, is_kind) = access_of (kind_of w.objects file id) passed.there in
@@ -76,6 +82,7 @@ module _ {A : Type 0} (at : ℕ) (w : World) (s : State A) (file : FileNo) (id :
       attached_shown at w s file id before table tidy shows is_kind ioas (to_nothing before unattached) passed.space
       (attaches (orderly at w s tidy shows) (keep (λ l. has_access l file id) passed.there)
       (keep (λ l. has_ioas l file ioas) passed.space) (few_there ioas count passed.space is few))
+      (holders_stay {A = A} at w (event.AccessAttach file id ioas) reply.Done none tt)
     where
       to_nothing : (o : Option ObjId) → is_some o ≡ false → o ≡ None
       to_nothing None is = refl
@@ -88,6 +95,7 @@ module _ {A : Type 0} (at : ℕ) (w : World) (s : State A) (file : FileNo) (id :
       → has_ioas (objects_in s.objects) file ioas ≡ true → 0 < users_at s.objects.rows file ioas
       → HasAccess file id None (λ f i. users_at s.objects.rows f i - one_at file ioas f i) s.objects table)
       → Shows (record w { objects = with_access file id None w.objects }) (record s { objects = table })
+  unfolding changed Answers
   shows_detached ioas table none is detaches =
       let passed = access_detach_passed (view w) file id none in
       let (before, is_kind) = access_of (kind_of w.objects file id) passed.there in
@@ -99,6 +107,7 @@ module _ {A : Type 0} (at : ℕ) (w : World) (s : State A) (file : FileNo) (id :
       detached_shown at w s file id before table tidy shows is_kind ioas attached
       (detaches (orderly at w s tidy shows) (keep (λ l. has_access l file id) passed.there)
       (keep (λ l. has_ioas l file ioas) space) some)
+      (holders_stay {A = A} at w (event.AccessDetach file id) reply.Done none tt)
 
   -- one that is attached to nothing was refused
   pub never_loose : first_true (access_detach_checks (view w) file id) ≡ None

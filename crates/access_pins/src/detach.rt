@@ -17,7 +17,7 @@ use std::alloc::Allocator;
 /// Why it is refused, by the first row of the definitions that holds. None where nothing refuses it.
 ///
 /// Refused by 11 (ENOENT, `Cause::Id`) where the file isn't open or has no access object of this id, then by 28
-/// (ENOENT, `Cause::Unattached`) where that isn't attached.
+/// (ENOENT, `Cause::Unattached`) where that isn't attached, then by 12 (EBUSY, `Cause::InUse`) where it holds a pin.
 #[tactic(auto, unfolding(iofd_words::specs::Checks::access_detach_checks))]
 pub fn refusal<A: Allocator>(state: &State<A>, file: FileNo, id: ObjId) -> Option<Cause>
     ensures { result ≡ first_true (access_detach_checks (seen state.now) file id) }
@@ -32,11 +32,14 @@ pub fn refusal<A: Allocator>(state: &State<A>, file: FileNo, id: ObjId) -> Optio
     if attached.is_none() {
         return Some(Cause::Unattached);
     }
+    if state.access_pins.holds_some(file, id) {
+        return Some(Cause::InUse);
+    }
     None
 }
 
 /// The address space to which the file's access object of this id is attached.
-fn attached_to<A: Allocator>(
+pub(crate) fn attached_to<A: Allocator>(
     table: &ObjectTable<Held<A>, A>,
     file: FileNo,
     id: ObjId,

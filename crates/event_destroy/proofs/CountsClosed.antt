@@ -9,7 +9,7 @@ use Rattle.iofd_words.specs.declared.numbers.ObjId.{ObjId}
 use Rattle.iofd_words.specs.declared.rows.Attachment.{Attachment}
 use Rattle.iofd_words.specs.declared.rows.Object.{Object}
 use Rattle.iofd_words.specs.declared.rows.ObjectKind.{ObjectKind}
-use Rattle.user_memory_rows.proofs.PinsFollow.{count-cons}
+use Rattle.user_memory_rows.proofs.CountBy.{count-cons}
 use Rattle.object_table.specs.Table.{Row, is_of_file}
 use Rattle.server_state.proofs.Counted.{counts_of}
 use Rattle.server_state.specs.Users.{AccessSpaces, AreCounted, accesses_to, devices_on, tables_over, users_at}

@@ -11,7 +11,7 @@ use Rattle.user_memory_rows.proofs.FramesFollow.{translated_same}
 use Rattle.user_memory_rows.proofs.Gone.{objects_left, over_parts, released_none, table_lost, translated_parts}
 use Rattle.user_memory_rows.proofs.Gone.{translated_space}
 use Rattle.user_memory_rows.specs.Moves.{IsReleased, MayRelease, if_translated}
-use Rattle.user_memory_rows.specs.Shown.{over, tables_in, translated}
+use Rattle.user_memory_rows.specs.Shown.{over, tables_in, translated, accessed, has_page}
 use Rattle.user_memory.specs.Changes.{never}
 use Rattle.user_memory.specs.Memory.{Memory}
 use Rattle.iofd_rows.specs.Pinned.{ArePinned}
@@ -24,7 +24,7 @@ use Rattle.iofd_rows.specs.Ids.{have_own_ids}
 use Rattle.iofd_words.specs.FirstTrue.{first_true}
 use Rattle.iofd_words.specs.Objects.{has_access_to, has_hwpt, has_ioas, is_bound_as, is_bound_device, is_hwpt}
 use Rattle.iofd_words.specs.Objects.{is_hwpt_over, is_ioas, is_object, kind_of, without_object}
-use Rattle.iofd_words.specs.Pins.{pinned_frame}
+use Rattle.iofd_words.specs.Pins.{pinned_frame, ObjectPage}
 use Rattle.iofd_words.specs.View.{view}
 use Rattle.iofd_words.specs.World.{World}
 use Rattle.iofd_words.specs.declared.event.Event.TheVariants as event
@@ -52,6 +52,7 @@ use Rattle.server_state.proofs.Objects.{has_table}
 use Rattle.server_state.proofs.TableRows.{areas_of_other as no_space_no_areas}
 use Rattle.server_state.proofs.Orderly.{orderly}
 use Rattle.server_state.proofs.MemoryReleased.{AreFewer, may_release, may_release_over, shown_over, tables_lead}
+use Rattle.server_state.proofs.MemoryReleased.{gone_uncovered}
 use Rattle.server_state.proofs.MemoryReleased.{tables_stand}
 use Rattle.server_state.proofs.Objects.{areas_at_rows, areas_of_held, kind_at, kind_of_rows, value_at}
 use Rattle.server_state.proofs.SpacesGone.{any_without, areas-removed, areas_elsewhere, areas_stay, found_without}
@@ -90,8 +91,26 @@ use Rattle.server_state.specs.declared.held.Held.TheVariants as held
 use Rattle.server_state.specs.declared.state.State.{State}
 use Rattle.object_table.specs.Table.{Row, Table, destroy_refusal, is_at, own, removed}
 use Rattle.object_table.specs.declared.kind.Kind.TheVariants as tablekind
+use Rattle.server_state.proofs.AccessPinsStay.{holders_stay, shown_still}
+use Rattle.user_memory_rows.proofs.AccessStays.{CoveredAlike, accessed_stays}
+use Rattle.iofd_runs.proofs.Accessed.{EachHeld, each_held}
+use Rattle.iofd_runs.proofs.HoldersStay.{destroyed_free}
 
 -- ---- what goes of the counts
+
+-- no access pin covers a page of a memory object of which no area is left
+abbrev Uncovered : World → FileNo → ObjId → Type 0
+Uncovered w file id = (page : ObjectPage) → has_page w.memory page ≡ true
+    → over (filter (λ (area : Area). not (is_of file id area)) w.areas) page.memory ≡ 0
+    → accessed w.objects w.areas w.access_pins page ≡ 0
+
+-- none meets an area that goes
+all_uncovered : (at : ℕ) (w : World) (file : FileNo) (id : ObjId) → IsTidy at w
+    → first_true (destroy_checks (view w) file id) ≡ None → Uncovered w file id
+all_uncovered at w file id tidy none =
+    gone_uncovered w (is_of file id) tidy.pins
+    (destroyed_free w file id (destroy_passed (view w) file id none).unused
+    (each_held w.objects w.areas w.access_pins tidy.pins.held))
 
 module _ (w : World) (file : FileNo) (id : ObjId) (ids : have_own_ids w.objects ≡ true) where
   abbrev left : List Object
@@ -125,14 +144,15 @@ module _ (w : World) (file : FileNo) (id : ObjId) (ids : have_own_ids w.objects 
     no_pins n = translated_space w.objects file id (is_of file id) w.areas (λ area is. is) n
         ∙ ap (λ (b : Bool). if_translated b (areas_of w.areas file id) n) unused
 
-    space_fewer : AreFewer (over own) never w left stay
-    space_fewer = record {
+    space_fewer : Uncovered w file id → AreFewer (over own) never w left stay
+    space_fewer uncovered = record {
       over_left = λ n. ap (λ (l : List Area). over stay n + over l n) own_is ∙ over_parts (is_of file id) w.areas n;
       translated_left =
           λ n. let same = translated_same w.objects left stay same_tables n in
           let parts = translated_parts w.objects (is_of file id) w.areas n in
           let none = no_pins n in
           omega (arith, same, parts, none);
+      uncovered = uncovered;
     }
 
   -- a page table, under whose id no area is
@@ -153,19 +173,21 @@ module _ (w : World) (file : FileNo) (id : ObjId) (ids : have_own_ids w.objects 
     had = has_table w.objects file id ioas width automatic is_kind
 
     -- the pins of its address space's areas go where no other is over it; else its areas stay translated
-    table_fewer : (own : List Area) → own ≡ areas_of w.areas file ioas → (more : Bool) → has_hwpt left file ioas ≡ more
-        → AreFewer never (cond more never (over own)) w left stay
-    table_fewer own own_is false last = record {
+    table_fewer : Uncovered w file id → (own : List Area) → own ≡ areas_of w.areas file ioas → (more : Bool)
+        → has_hwpt left file ioas ≡ more → AreFewer never (cond more never (over own)) w left stay
+    table_fewer uncovered own own_is false last = record {
       over_left = λ n. let same = ap (λ (l : List Area). over l n) all_stay in omega (arith, same);
       translated_left =
           λ n. ap (λ (l : List Area). translated left l n + over own n) all_stay
           ∙ ap (λ (l : List Area). translated left w.areas n + over l n) own_is
           ∙ table_lost w.objects left w.areas file ioas had last other_table n;
+      uncovered = uncovered;
     }
-    table_fewer own own_is true more = record {
+    table_fewer uncovered own own_is true more = record {
       over_left = λ n. let same = ap (λ (l : List Area). over l n) all_stay in omega (arith, same);
       translated_left = λ n. let same = ap (λ (l : List Area). translated left l n) all_stay
           ∙ translated_same w.objects left w.areas tables n in omega (arith, same);
+      uncovered = uncovered;
     }
       where
         tables : (f : FileNo) (i : ObjId) → has_hwpt left f i ≡ has_hwpt w.objects f i
@@ -292,10 +314,13 @@ module _ {A : Type 0} where
       no_device objects shown stand are widths stay fewer released forgets =
       let next : ArePinned (at + 1) (gone w file id) =
       keeps_pins {A = A} at w (event.Destroy file id) reply.Done none tt tidy.pins in
+      let held = each_held w.objects w.areas w.access_pins tidy.pins.held in
+      let covered : CoveredAlike w (gone w file id) =
+      accessed_stays {A = A} at w (event.Destroy file id) reply.Done none tt tidy.pins in
       let after = shown_over at w s tidy shows kept before shown areas pins
       (without_object file id w.objects) (filter (λ (area : Area). not (is_of file id area)) w.areas) fewer (at + 1)
       (gone w file id) memory pool next refl refl
-      (objects_left (is_of file id) w.areas w.memory) refl refl refl released in
+      (objects_left (is_of file id) w.areas w.memory) refl refl covered refl released in
       record {
         settings = shows.settings;
         objects = objects;
@@ -312,6 +337,8 @@ module _ {A : Type 0} where
             ∙ ap (λ (rows : List AllowedRanges). allowed_of rows f i) (sym forgets);
         users = after.users;
         pins = after.pins;
+        access_pins = shown_still w.objects (without_object file id w.objects) w.areas w.access_pins s.access_pins
+            (holders_stay {A = A} at w (event.Destroy file id) reply.Done none tt) held shows.access_pins;
         frames = after.frames;
         tables = record {
           tables = are;
@@ -320,13 +347,13 @@ module _ {A : Type 0} where
               tables_lead at w s tidy shows kept before shown areas pins
               (without_object file id w.objects) (filter (λ (area : Area). not (is_of file id area)) w.areas) fewer
               (at + 1) (gone w file id) memory pool next refl refl
-              (objects_left (is_of file id) w.areas w.memory) refl refl refl released
+              (objects_left (is_of file id) w.areas w.memory) refl refl covered refl released
               pool kept tables.tables are
               (λ f i page has. ap (λ (l : List Area). leads_in (pinned_frame w.pins) l page) (stay f i has))
               (tables_stand at w s tidy shows kept before shown areas pins
               (without_object file id w.objects) (filter (λ (area : Area). not (is_of file id area)) w.areas)
               fewer (at + 1) (gone w file id) memory pool next refl refl
-              (objects_left (is_of file id) w.areas w.memory) refl refl refl released tables.tables stand);
+              (objects_left (is_of file id) w.areas w.memory) refl refl covered refl released tables.tables stand);
         };
       }
     where
@@ -369,6 +396,7 @@ module _ {A : Type 0} where
     goes =
         space_fewer w file id tidy.ids space_kind alone.0 (own_areas s.objects file id)
         (own_at s.objects file id (orderly at w s tidy shows) ∙ sym (shows.objects.spaces file id))
+        (all_uncovered at w file id tidy none)
 
     pub space_may : MayRelease (over (own_areas s.objects file id)) never s.memory s.pool.holds
     space_may =
@@ -473,6 +501,7 @@ module _ {A : Type 0} where
           ap (λ (l : List Area). translated (without_object file id w.objects) l n) areas_same
           ∙ translated_same w.objects (without_object file id w.objects) w.areas tables_same n in
           omega (arith, same);
+      uncovered = all_uncovered at w file id tidy none;
     }
 
     none_over_it : tables_over w.objects file id ≡ 0
@@ -606,7 +635,8 @@ module _ {A : Type 0} where
 
       fewer_pins : AreFewer never pins_gone w (without_object file id w.objects)
           (filter (λ (area : Area). not (is_of file id area)) w.areas)
-      fewer_pins = table_fewer w file id tidy.ids ioas width automatic of_world empty (own_areas table file ioas)
+      fewer_pins = table_fewer w file id tidy.ids ioas width automatic of_world empty
+          (all_uncovered at w file id tidy none) (own_areas table file ioas)
           own_kept (has_hwpt (objects_of tables) file ioas) same_left
 
       pub may_unpin : MayRelease never pins_gone s.memory between.holds

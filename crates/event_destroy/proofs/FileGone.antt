@@ -8,10 +8,11 @@ use Rattle.frame_memory.specs.Pool.{FramePool}
 use Rattle.user_memory_rows.proofs.Counts.{count_alike, count_within}
 use Rattle.user_memory_rows.proofs.Gone.{objects_left, over_parts, translated_parts}
 use Rattle.user_memory_rows.specs.Moves.{IsReleased, MayRelease}
-use Rattle.user_memory_rows.specs.Shown.{over, tables_in, translated}
+use Rattle.user_memory_rows.specs.Shown.{over, tables_in, translated, accessed, has_page}
 use Rattle.user_memory.specs.Memory.{Memory}
 use Rattle.server_state.proofs.Orderly.{orderly}
 use Rattle.server_state.proofs.MemoryReleased.{AreFewer, may_release, shown_after, tables_lead, tables_stand}
+use Rattle.server_state.proofs.MemoryReleased.{gone_uncovered}
 use Rattle.event_destroy.proofs.CountsClosed.{file_goes, spaces_left}
 use Rattle.event_destroy.proofs.GivesBackMoves.{gives_back}
 use Rattle.event_destroy.proofs.TablesGone.{file_counted, of_file, orphans_are, rows_named}
@@ -73,6 +74,10 @@ use Rattle.object_table.specs.Table.{Row, Table, close_refusal, closed, is_of_fi
 use Rattle.object_table.specs.Table.{keeps_file_open, rows_of}
 use Rattle.object_table.specs.declared.kind.Kind.{Kind}
 use Rattle.object_table.specs.declared.kind.Kind.TheVariants as tablekind
+use Rattle.server_state.proofs.AccessPinsStay.{holders_stay, shown_still}
+use Rattle.user_memory_rows.proofs.AccessStays.{CoveredAlike, accessed_stays}
+use Rattle.iofd_runs.proofs.Accessed.{EachHeld, each_held}
+use Rattle.iofd_runs.proofs.HoldersStay.{closed_free}
 
 -- ---- files
 
@@ -293,6 +298,9 @@ module _ {A : Type 0} where
         by_file area true is = refl
         by_file area false is = ap (λ b. eqb area.memory n && b) (hwpt_other w.objects file area.file area.ioas is)
 
+    held : EachHeld w.objects w.areas w.access_pins
+    held = each_held w.objects w.areas w.access_pins tidy.pins.held
+
     fewer : AreFewer (over (areas_of_rows (rows_of s.objects file)))
         (over (translated_of (objects_in s.objects) (rows_of s.objects file))) w left stay
     fewer = record {
@@ -307,6 +315,8 @@ module _ {A : Type 0} where
           ∙ ap (λ (l : List Object). translated w.objects stay n + translated l (filter is_in w.areas) n)
           (sym shows.objects.rows)
           ∙ translated_parts w.objects is_in w.areas n;
+      uncovered = gone_uncovered w is_in tidy.pins
+          (closed_free w file (close_passed (view w) file none).no_access held);
     }
 
     pub areas_may : MayRelease (over (areas_of_rows (rows_of s.objects file)))
@@ -339,13 +349,15 @@ module _ {A : Type 0} where
       next = keeps_pins {A = A} at w (event.Close file) reply.Done none tt tidy.pins
 
       stand_between : AllStand between w.table_frames (leads_of w) s.page_tables.tables
-      unfolding changed settle without_areas
+      unfolding changed settle without_areas Answers
       stand_between =
+          let covered : CoveredAlike w (changed {A = A} at w (event.Close file) reply.Done) =
+          accessed_stays {A = A} at w (event.Close file) reply.Done none tt tidy.pins in
           tables_stand at w s tidy shows w.table_frames s.pool shows.frames
           (over (areas_of_rows (rows_of s.objects file)))
           (over (translated_of (objects_in s.objects) (rows_of s.objects file))) left stay fewer
           (at + 1) (changed {A = A} at w (event.Close file) reply.Done) memory between next refl refl
-          (objects_left is_in w.areas w.memory) refl refl refl released s.page_tables.tables shows.tables.stand
+          (objects_left is_in w.areas w.memory) refl refl covered refl released s.page_tables.tables shows.tables.stand
 
       -- and there is room for the frames of the file's page tables still
       pub can_remove : (room : ℕ) → IfAllStand s.pool s.page_tables.tables
@@ -388,15 +400,17 @@ module _ {A : Type 0} where
               memory = memory;
               pool = pool;
             })
-        unfolding changed settle without_areas
+        unfolding changed settle without_areas Answers
         shows_closed table attachments allowed closes detached forgets =
             let is = closes may_close in
+            let covered : CoveredAlike w (changed {A = A} at w (event.Close file) reply.Done) =
+            accessed_stays {A = A} at w (event.Close file) reply.Done none tt tidy.pins in
             let after =
             shown_after at w s tidy shows
             (over (areas_of_rows (rows_of s.objects file)))
             (over (translated_of (objects_in s.objects) (rows_of s.objects file))) left stay fewer
             (at + 1) (changed {A = A} at w (event.Close file) reply.Done) memory between next refl refl
-            (objects_left is_in w.areas w.memory) refl refl refl released in
+            (objects_left is_in w.areas w.memory) refl refl covered refl released in
             let are : objects_kept tables ≡ page_tables_among left = ap (map (λ (h : Hwpt). h.object)) kept
             ∙ file_left w.objects s.page_tables.tables shows.tables.tables shows.tables.widths file in
             record {
@@ -425,6 +439,8 @@ module _ {A : Type 0} where
                   ∙ ap (λ (rows : List AllowedRanges). allowed_of rows f i) (sym forgets);
               users = after.users;
               pins = after.pins;
+              access_pins = shown_still w.objects left w.areas w.access_pins s.access_pins
+                  (holders_stay {A = A} at w (event.Close file) reply.Done none tt) held shows.access_pins;
               frames =
                   given_shown w.settings.pool w.writes w.table_frames (λ (t : TableFrame). eqb t.file.0 file.0)
                   table_rows memory between pool after.frames
@@ -441,7 +457,7 @@ module _ {A : Type 0} where
                     (over (areas_of_rows (rows_of s.objects file)))
                     (over (translated_of (objects_in s.objects) (rows_of s.objects file))) left stay fewer
                     (at + 1) (changed {A = A} at w (event.Close file) reply.Done) memory between next refl refl
-                    (objects_left is_in w.areas w.memory) refl refl refl released
+                    (objects_left is_in w.areas w.memory) refl refl covered refl released
                     pool (without_tables_of file w.table_frames) tables.tables are
                     (λ f i page has. ap (λ (l : List Area). leads_in (pinned_frame w.pins) l page)
                     (areas_kept f i has))

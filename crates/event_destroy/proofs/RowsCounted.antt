@@ -264,7 +264,8 @@ module _ {A : Type 0} where
           pins = λ n. let same = pins_same n in let most = closing.leaving.may.pins n in omega (arith, same, most);
           areas = λ n. let same = pins_same n in let others =
               over_same n in let most = closing.leaving.may.areas n in omega (arith, same, others, most);
-          access = closing.leaving.may.access;
+          access = λ page gone.
+              let others = over_same page.memory in closing.leaving.may.access page (omega (arith, others, gone));
           backed = closing.leaving.may.backed;
           invariant = closing.leaving.may.invariant;
           only = closing.leaving.may.only;

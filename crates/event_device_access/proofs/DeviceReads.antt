@@ -60,14 +60,14 @@ chosen_read at w records device iova len o tidy is =
     )
 
 module _ {A : Type 0} (w : World) (records : List (Record A)) (s : State A) (shows : Shows w s)
-    (owned : list_all (λ table. not (is_orphan w.objects table)) w.table_frames ≡ true) (without : w.access_pins ≡ [])
+    (owned : list_all (λ table. not (is_orphan w.objects table)) w.table_frames ≡ true)
     (q : Query) where
   pub refused_read : (cause : Cause) → Some cause ≡ first_true (query_checks (seen s) q)
       → IsLooked (answers_in w records q) (answer.Refused (record { cause = cause }))
   unfolding answers_in
   refused_read cause is =
       let first : first_true (query_checks (view w) q) ≡ Some cause =
-      sym (same_query_refusal w s shows owned without q) ∙ sym is in
+      sym (same_query_refusal w s shows owned q) ∙ sym is in
       let alone : IsLooked (answer.Refused (record { cause = cause }) ∷ [])
       (answer.Refused (record { cause = cause })) =
       record { is_lawful = (0, omega arith, refl); is_fault_else = λ has. cc } in
@@ -76,5 +76,5 @@ module _ {A : Type 0} (w : World) (records : List (Record A)) (s : State A) (sho
   pub answered_read : None ≡ first_true (query_checks (seen s) q) → answers_in w records q ≡ lawful_answers w records q
   unfolding answers_in
   answered_read is =
-      let first : first_true (query_checks (view w) q) ≡ None = sym (same_query_refusal w s shows owned without q) ∙ sym is in
+      let first : first_true (query_checks (view w) q) ≡ None = sym (same_query_refusal w s shows owned q) ∙ sym is in
       rw (first, answers_in) refl

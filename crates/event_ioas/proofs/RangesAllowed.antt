@@ -22,6 +22,7 @@ shows_rows w s allowed rows shows same =
       devices = shows.devices;
       users = shows.users;
       pins = shows.pins;
+      access_pins = shows.access_pins;
       frames = shows.frames;
       tables = record { tables = shows.tables.tables; widths = shows.tables.widths; stand = shows.tables.stand };
     }

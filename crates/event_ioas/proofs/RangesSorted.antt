@@ -16,7 +16,7 @@ use Rattle.iofd_words.specs.Span.{holds, meets}
 use Rattle.iofd_words.specs.View.{View}
 use Rattle.iofd_words.specs.declared.numbers.FileNo.{FileNo}
 use Rattle.iofd_words.specs.declared.numbers.ObjId.{ObjId}
-use Rattle.user_memory_rows.proofs.PinsFollow.{any_count}
+use Rattle.user_memory_rows.proofs.CountBy.{any_count}
 use Rattle.event_ioas.proofs.AreRising.{rising_are_ranges}
 use Rattle.event_ioas.specs.RangeChecks.{range_checks}
 use Rattle.event_ioas.specs.Rising.{are_rising, ends_below}

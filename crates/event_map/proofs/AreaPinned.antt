@@ -29,8 +29,8 @@ use Rattle.server_state.proofs.FreeAlike.{AreAlike, free_alike}
 use Rattle.user_memory_rows.proofs.FramesFollow.{frames_follow}
 use Rattle.user_memory_rows.proofs.Named.{settles_named}
 use Rattle.user_memory_rows.proofs.PinsFollow.{only_kept}
-use Rattle.user_memory_rows.specs.Shown.{FramesShown, PinsShown}
-use Rattle.server_state.proofs.LeadsStay.{has_page, is_translated, lead_alike, pin_stays}
+use Rattle.user_memory_rows.specs.Shown.{FramesShown, PinsShown, has_page}
+use Rattle.server_state.proofs.LeadsStay.{is_translated, lead_alike, pin_stays}
 use Rattle.server_state.proofs.TablesFollow.{tables_follow}
 use Rattle.server_state.specs.Leads.{lead_by, leads_in, leads_of, live_area_at, object_page, space_leads}
 use Rattle.server_state.specs.Shows.{Shows}
@@ -92,7 +92,8 @@ world_with w area objects = settle w (record w { memory = objects; areas = world
 -- still
 pub record Comes {A : Type 0} (w : World) (s : State A) (area : Area) (objects : List MemoryObject) (after : Memory)
     (pool : FramePool) : Type 0 where
-  pub pins : PinsShown w.objects (world.with_area area w.areas) objects (world_with w area objects).pins after
+  pub pins : PinsShown w.objects (world.with_area area w.areas) objects (world_with w area objects).pins
+      w.access_pins after
   pub settles : Settles s.memory after s.pool pool
   pub stays : (page : ObjectPage) → is_pinned s.memory page ≡ true → is_pinned after page ≡ true
   pub grows : (number : ℕ) → table_pins s.memory number ≤ table_pins after number
@@ -119,7 +120,7 @@ module _ {A : Type 0} (at : ℕ) (w : World) (s : State A) (tidy : IsTidy at w) 
   pub free_mapped : AreAlike pool.holds s.pool.holds
   free_mapped =
       free_alike s.memory after s.pool pool w.settings.pool w.writes w.table_frames shows.pins.invariant
-      (only_kept at w s.memory tidy.pins tidy.unaccessed shows.pins) comes.stays comes.settles shows.frames frames_mapped
+      (only_kept at w s.memory tidy.pins shows.pins) comes.stays comes.settles shows.frames frames_mapped
 
   -- ---- page tables
 
@@ -142,7 +143,7 @@ module _ {A : Type 0} (at : ℕ) (w : World) (s : State A) (tidy : IsTidy at w) 
       let now = comes.grows a.memory in
       let some : 0 < table_pins s.memory a.memory = omega (arith, counted, was) in
       let still : 0 < table_pins after a.memory = omega (arith, some, now) in
-      pin_stays at w left s.memory after s.pool pool tidy.pins tidy.unaccessed shows.pins comes.pins comes.settles (object_page page a)
+      pin_stays at w left s.memory after s.pool pool tidy.pins shows.pins comes.pins comes.settles (object_page page a)
       (comes.same a of.0 page) some still
 
   -- ---- where pages lead

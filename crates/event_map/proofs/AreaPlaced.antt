@@ -82,6 +82,7 @@ module _ {A : Type 0} where
         devices = shows.devices;
         users = shows.users;
         pins = shows.pins;
+        access_pins = shows.access_pins;
         frames = shows.frames;
         tables = shows.tables;
       }
@@ -194,13 +195,13 @@ module _ (w : World) (file : FileNo) (request : MapRequest) (rows : PlacePassed 
 
 -- its address space takes the area
 module _ {A : Type 0} (w : World) (s : State A) (file : FileNo) (request : MapRequest) (tabled : AreTabled w)
-    (without : w.access_pins ≡ []) (shows : Shows w s) (rows : PlacePassed (view w) file request) where
+    (shows : Shows w s) (rows : PlacePassed (view w) file request) where
   pub area_taken : (number : ℕ) (iova : Iova) {X : Type 0} → IsMappedAt w file request (is_fixed request.flags) iova
       → (has_ioas (objects_in s.objects) file request.ioas ≡ true
       → insert_refusal (mapped_area number file request iova).span
       (areas_at s.objects.rows file request.ioas) ≡ None → X) → X
   area_taken number iova place result =
-      let back = sym (same_view w s shows tabled.owned without) in
+      let back = sym (same_view w s shows tabled.owned) in
       let passed = subst (λ (v : View). PlacePassed v file request) back rows in
       let lies = subst (λ (v : View). LiesAt v file request iova.0) back (placed_lies w file request iova rows place) in
       result passed.space (rw (lies.apart, passed.roomy) refl)
@@ -237,7 +238,8 @@ module _ {A : Type 0} (w : World) (s : State A) (after : Memory) (pool : FramePo
       pages = λ u page. shows.users.pages u page ∙ ap (λ (rows : List UserPage). frame_at rows u page) (sym pages);
       counts = λ test. shows.users.counts test ∙ ap (count_by test) (sym pages);
     };
-    pins = pins_same w.objects w.areas w.memory w.pins s.memory after shows.pins objects;
+    pins = pins_same w.objects w.areas w.memory w.pins w.access_pins s.memory after shows.pins objects;
+    access_pins = shows.access_pins;
     frames = subst (FramesShown w.settings.pool w.writes w.table_frames after) (sym same_pool) frames_stay;
     tables = subst (TablesShown w s.page_tables) (sym same_pool) shows.tables;
   }

@@ -255,6 +255,7 @@ module _ {A : Type 0} (at : ℕ) (w : World) (s : State A) (tidy : IsTidy at w) 
             counts = λ test. shows.users.counts test ∙ ap (count_by test) (sym comes.settles.pages);
           };
           pins = comes.pins;
+          access_pins = shows.access_pins;
           frames = frames_taken;
           tables = record { tables = shows.tables.tables; widths = shows.tables.widths; stand = stand_taken };
         })

@@ -6,10 +6,10 @@ use Rattle.area_map_rows.specs.Areas as own
 use Rattle.frame_memory.specs.Pool.{FramePool, free_count}
 use Rattle.page_table_set.specs.PageTables.{IfAllStand}
 use Rattle.iofd_runs.proofs.CopySource.{IsSource, copy_source, source_area}
-use Rattle.iofd_runs.proofs.KeepsOwnMemory.{OwnPins, copied_own}
+use Rattle.user_memory_rows.proofs.AccessStays.{PinsNext, pins_next}
 use Rattle.iofd_runs.proofs.MappedAt.{copy_lies_at}
 use Rattle.iofd_words.specs.After.{changed, copy_changes, mapped_area}
-use Rattle.iofd_words.specs.Answers.{IsMappedAt}
+use Rattle.iofd_words.specs.Answers.{IsMappedAt, Answers}
 use Rattle.iofd_words.specs.Checks.{copy_checks, tables_to_map, unusable_in}
 use Rattle.iofd_words.specs.Copies.{placed_as}
 use Rattle.iofd_words.specs.FirstTrue.{first_true}
@@ -45,6 +45,7 @@ use Rattle.server_state.specs.declared.held.Held.{Held}
 use Rattle.server_state.specs.declared.state.State.{State}
 use Rattle.user_memory.specs.Changes.{HasShare, Settles}
 use Rattle.user_memory.specs.Memory.{Memory}
+use Rattle.iofd_rows.specs.Pinned.{ArePinned}
 
 -- the source of a COPY, over the memory object of this number
 pub record IsOver (w : World) (file : FileNo) (request : CopyRequest) (number : ℕ) : Type 0 where
@@ -60,6 +61,17 @@ is_over w file request number none named =
     let (source, found, is) = copy_source w file request none in
     let told : Some source.memory ≡ Some number = sym (ap number_of found) ∙ named in
     record { source = source; found = found; is = is; same = cc }
+
+-- the pins of the world with the area
+copied_next : (at : ℕ) (w : World) (file : FileNo) (request : CopyRequest) (iova : Iova) (source : Area)
+    → first_true (copy_checks (view w) file request) ≡ None
+    → IsMappedAt w file (placed_as request) (is_fixed request.flags) iova → source_area w file request ≡ Some source
+    → ArePinned at w → PinsNext (at + 1) w (copy_changes w file request iova (Some source))
+unfolding changed Answers
+copied_next at w file request iova source none place found p =
+    let after : PinsNext (at + 1) w (copy_changes w file request iova (source_area w file request)) =
+    pins_next {A = ℕ} at w (event.Copy file request) (reply.Iova iova) none place p in
+    subst (λ (o : Option Area). PinsNext (at + 1) w (copy_changes w file request iova o)) found after
 
 module _ {A : Type 0} where
   -- the record of the COPY, and the world after it
@@ -86,8 +98,8 @@ module _ {A : Type 0} where
     abbrev new_area : Area
     new_area = mapped_area source.memory file (placed_as request) iova
 
-    next : OwnPins (at + 1) (copy_changes w file request iova (Some source))
-    next = copied_own at w file request iova source none place over.found (record { pins = tidy.pins; own = tidy.own })
+    next : PinsNext (at + 1) w (copy_changes w file request iova (Some source))
+    next = copied_next at w file request iova source none place over.found tidy.pins
 
     shared : HasShare (if pinned then 1 else 0) source.memory s.memory after
     shared = subst (λ (n : ℕ). HasShare (if pinned then 1 else 0) n s.memory after) (sym over.same) has

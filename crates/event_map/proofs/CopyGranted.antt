@@ -56,12 +56,12 @@ module _ {A : Type 0} (at : ℕ) (s : State A) (file : FileNo) (request : CopyRe
 
   pub passed : CopyPassed (seen s) file request
   passed = copy_passed (seen s) file request
-      (same_refusal granted.world s granted.shows granted.tidy.tabled.owned granted.tidy.unaccessed {E = A} (event.Copy file request)
+      (same_refusal granted.world s granted.shows granted.tidy.tabled.owned {E = A} (event.Copy file request)
       ∙ granted.none)
 
   pub placed : PlacePassed (seen s) file (placed_as request)
   placed = copy_place (seen s) file request
-      (same_refusal granted.world s granted.shows granted.tidy.tabled.owned granted.tidy.unaccessed {E = A} (event.Copy file request)
+      (same_refusal granted.world s granted.shows granted.tidy.tabled.owned {E = A} (event.Copy file request)
       ∙ granted.none)
 
   pub over : (number : ℕ) → number_of (source_in (areas_at s.objects.rows file request.src_ioas) request) ≡ Some number
@@ -137,7 +137,7 @@ module _ {A : Type 0} (at : ℕ) (s : State A) (file : FileNo) (request : CopyRe
 
     pub at_place : IsMappedAt w file (placed_as request) (is_fixed request.flags) iova
     at_place = (is_place w file (placed_as request) (copy_place (view w) file request granted.none) (seen s)
-        (sym (same_view w s granted.shows granted.tidy.tabled.owned granted.tidy.unaccessed)) span place).1
+        (sym (same_view w s granted.shows granted.tidy.tabled.owned)) span place).1
 
     pub enough_there : (number : ℕ) → tables_to_map (seen s) file request.dst_ioas
         (mapped_area number file (placed_as request) iova).span ≤ free_count s.pool.holds

@@ -4,8 +4,8 @@ use Rattle.std.specs.Prelude.{if◌then◌else◌}
 use Rattle.std.specs.List.{find}
 use Rattle.frame_memory.specs.Pool.{FramePool}
 use Rattle.iofd_runs.proofs.CopySource.{IsSource, copied_size}
-use Rattle.iofd_runs.proofs.KeepsOwnMemory.{OwnPins}
-use Rattle.iofd_words.specs.After.{copy_changes, mapped_area}
+use Rattle.user_memory_rows.proofs.AccessStays.{PinsNext}
+use Rattle.iofd_words.specs.After.{copy_changes, mapped_area, settle}
 use Rattle.iofd_words.specs.Checks.{copy_checks}
 use Rattle.iofd_words.specs.Copies.{placed_as}
 use Rattle.iofd_words.specs.FirstTrue.{first_true}
@@ -22,7 +22,6 @@ use Rattle.iofd_words.specs.declared.rows.Object.{Object}
 use Rattle.event_map.proofs.AreaPinned.{Comes}
 use Rattle.user_memory_rows.proofs.AreaComes.{more_pinned, more_pins, more_shared, shared_shown}
 use Rattle.user_memory_rows.proofs.ObjectOf.{IsFound, object_under}
-use Rattle.server_state.proofs.LeadsStay.{has_page}
 use Rattle.server_state.specs.Held.{objects_in}
 use Rattle.server_state.specs.Leads.{object_page}
 use Rattle.server_state.specs.Shows.{Shows}
@@ -30,10 +29,11 @@ use Rattle.server_state.specs.Step.{IsTidy}
 use Rattle.server_state.specs.declared.state.State.{State}
 use Rattle.user_memory.specs.Changes.{HasShare, Settles}
 use Rattle.user_memory.specs.Memory.{Memory, rows_of, table_pins}
+use Rattle.user_memory_rows.specs.Shown.{has_page}
 
 module _ {A : Type 0} (at : ℕ) (w : World) (s : State A) (tidy : IsTidy at w) (shows : Shows w s) (file : FileNo)
     (request : CopyRequest) (iova : Iova) (source : Area) (after : Memory) (pool : FramePool) (pinned : Bool)
-    (next : OwnPins (at + 1) (copy_changes w file request iova (Some source)))
+    (next : PinsNext (at + 1) w (copy_changes w file request iova (Some source)))
     (pinned_is : pinned ≡ has_hwpt (objects_in s.objects) file request.dst_ioas)
     (has : HasShare (if pinned then 1 else 0) source.memory s.memory after)
     (settles : Settles s.memory after s.pool pool) where
@@ -41,11 +41,12 @@ module _ {A : Type 0} (at : ℕ) (w : World) (s : State A) (tidy : IsTidy at w) 
   new_area = mapped_area source.memory file (placed_as request) iova
 
   pub copy_comes : Comes w s new_area w.memory after pool
+  unfolding settle
   copy_comes =
       record {
         pins =
-            shared_shown at (at + 1) w new_area pinned s.memory after s.pool pool tidy.pins next.pins tidy.unaccessed
-            shows.pins shows.users.pages
+            shared_shown at (at + 1) w new_area pinned s.memory after s.pool pool tidy.pins next.pins
+            shows.pins next.covered shows.users.pages
             (pinned_is ∙ ap (λ (objects : List Object). has_hwpt objects file request.dst_ioas)
             (sym shows.objects.rows)) has settles;
         settles = settles;

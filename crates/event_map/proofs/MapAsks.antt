@@ -27,12 +27,12 @@ module _ {A : Type 0} where
   module _ (at : ℕ) (s : State A) (file : FileNo) (request : MapRequest) (user : UserNo)
       (granted : IsGrantedAt at (event.Map file request) s) (is_user_of : user_of s.config file ≡ Some user) where
     rows : MapPassed (seen s) file request
-    rows = map_passed (seen s) file request (same_refusal granted.world s granted.shows granted.tidy.tabled.owned granted.tidy.unaccessed
+    rows = map_passed (seen s) file request (same_refusal granted.world s granted.shows granted.tidy.tabled.owned
         {E = A} (event.Map file request) ∙ granted.none)
 
     pub placed : PlacePassed (seen s) file request
     placed = map_place (seen s) file request
-        (same_refusal granted.world s granted.shows granted.tidy.tabled.owned granted.tidy.unaccessed {E = A} (event.Map file request)
+        (same_refusal granted.world s granted.shows granted.tidy.tabled.owned {E = A} (event.Map file request)
         ∙ granted.none)
 
     pub some_length : eqb request.length 0 ≡ false

@@ -61,7 +61,7 @@ module _ {A : Type 0} (at : ℕ) (s : State A) (file : FileNo) (request : MapReq
 
   at_place : IsMappedAt w file request (is_fixed request.flags) iova
   at_place = (is_place w file request (map_place (view w) file request granted.none) (seen s)
-      (sym (same_view w s granted.shows granted.tidy.tabled.owned granted.tidy.unaccessed)) span place).1
+      (sym (same_view w s granted.shows granted.tidy.tabled.owned)) span place).1
 
   low : span.first < 2 ^ 64
   low =

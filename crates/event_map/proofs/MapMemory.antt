@@ -2,7 +2,7 @@
 use Rattle.std.proofs.Common.{◌≡◌, ℕ, ◌+◌, ◌*◌, ◌<◌, Bool, true, false, cond, ◌&&◌, ◌||◌, eqb, ltb, Some, List, []}
 use Rattle.std.proofs.Common.{◌∷◌, ◌++◌, refl, sym, ◌∙◌, ap, arith}
 use Rattle.std.specs.Prelude.{if◌then◌else◌}
-use Rattle.std.specs.List.{find, list_all, list_any}
+use Rattle.std.specs.List.{find, list_all, list_any, count_by}
 use Rattle.std.proofs.lemmas.Bool.Decides.{nat_tests}
 use Rattle.std.proofs.lemmas.List.Folds.{list_any-append}
 use Rattle.frame_memory.specs.Pool.{FramePool}
@@ -10,7 +10,7 @@ use Rattle.iofd_rows.proofs.Bools.{and_true, both_true, or_none}
 use Rattle.iofd_rows.proofs.Each.{IsIn, of_each}
 use Rattle.iofd_rows.proofs.ListTests.{any_of_all, or_left}
 use Rattle.iofd_rows.specs.Pinned.{has_object}
-use Rattle.iofd_runs.proofs.KeepsOwnMemory.{OwnPins}
+use Rattle.user_memory_rows.proofs.AccessStays.{PinsNext}
 use Rattle.iofd_words.specs.After.{mapped_area, memory_object, settle}
 use Rattle.iofd_words.specs.Areas as world
 use Rattle.iofd_words.specs.Frames.{frame_at}
@@ -28,15 +28,18 @@ use Rattle.iofd_words.specs.declared.rows.Object.{Object}
 use Rattle.event_map.proofs.AreaPinned.{Comes, world_with}
 use Rattle.user_memory_rows.proofs.Counts.{count_with_area}
 use Rattle.user_memory_rows.proofs.PinsFollow.{pins_follow, still_some}
-use Rattle.user_memory_rows.specs.Shown.{PinsShown, translated}
+use Rattle.user_memory_rows.specs.Shown.{PinsShown, has_page, translated, accessed}
 use Rattle.user_memory.specs.Changes.{HasObject, Settles}
 use Rattle.user_memory.specs.Memory.{Memory, access_pins, is_pinned, rows_of, table_pins}
-use Rattle.server_state.proofs.LeadsStay.{has_page}
 use Rattle.server_state.specs.Held.{objects_in}
 use Rattle.server_state.specs.Leads.{object_page}
 use Rattle.server_state.specs.Shows.{Shows}
 use Rattle.server_state.specs.Step.{IsTidy}
 use Rattle.server_state.specs.declared.state.State.{State}
+use Rattle.user_memory_rows.proofs.AccessCounts.{none_counted, unlisted_unpinned}
+use Rattle.user_memory_rows.proofs.CountBy.{any_count}
+use Rattle.iofd_runs.proofs.PagesToPin.{none_over}
+use Rattle.std.proofs.lemmas.Bool.{eqb-true}
 
 -- ---- numbers of memory objects
 
@@ -93,15 +96,16 @@ module _ (at : ℕ) (w : World) (file : FileNo) (request : MapRequest) (iova : I
 
   -- pins of the memory objects follow
   pub mapped_shown : (kept after : Memory) (before_pool after_pool : FramePool) (translated_is : Bool) → IsTidy at w
-      → PinsShown w.objects w.areas w.memory w.pins kept
-      → OwnPins (at + 1) mapped_world
+      → PinsShown w.objects w.areas w.memory w.pins w.access_pins kept
+      → PinsNext (at + 1) w mapped_world
       → ((u : UserNo) (page : ℕ) → frame_at w.user_pages u page ≡ frame_at kept.pages u page)
       → translated_is ≡ has_hwpt w.objects file request.ioas
       → HasObject (if translated_is then 1 else 0) object kept after → Settles kept after before_pool after_pool
-      → PinsShown w.objects (world.with_area area w.areas) (w.memory ++ object ∷ []) mapped_world.pins after
+      → PinsShown w.objects (world.with_area area w.areas) (w.memory ++ object ∷ []) mapped_world.pins w.access_pins
+      after
   unfolding settle
   mapped_shown kept after before_pool after_pool translated_is tidy shown next pages is_translated has settles =
-      pins_follow at (at + 1) w mapped_world kept after before_pool after_pool tidy.pins next.pins tidy.unaccessed refl
+      pins_follow at (at + 1) w mapped_world kept after before_pool after_pool tidy.pins next.pins
       shown refl
       (λ u page. pages u page ∙ ap (λ p. frame_at p u page) (sym settles.pages))
       (ap (λ (rows : List MemoryObject). rows ++ object ∷ []) shown.rows ∙ sym has.rows)
@@ -110,8 +114,38 @@ module _ (at : ℕ) (w : World) (file : FileNo) (request : MapRequest) (iova : I
       (λ n. has.pins n ∙ ap (λ k. k + cond (eqb at n) (cond translated_is 1 0) 0) (shown.tables n)
       ∙ ap (λ k. translated w.objects w.areas n + k) (one n)
       ∙ sym (count_with_area (λ (a : Area). eqb a.memory n && has_hwpt w.objects a.file a.ioas) area w.areas))
-      has.access settles
+      (λ page there. has.access page ∙ by_page page there (has_page w.memory page) refl) settles
     where
+      -- no area lies over the new object yet
+      new_uncovered : (page : ObjectPage) → has_page mapped_world.memory page ≡ true
+          → has_page w.memory page ≡ false → accessed w.objects w.areas w.access_pins page ≡ 0
+      new_uncovered page there none =
+          let both = sym (list_any-append (λ (row : MemoryObject). eqb page.memory row.number
+          && ltb page.index row.count) w.memory (object ∷ [])) ∙ there in
+          none_counted w.objects w.areas w.access_pins page
+          (uncounted page.memory (by_object (has_page w.memory page) (eqb page.memory at) _ both none))
+        where
+          by_object : (a b c : Bool) → (a || ((b && c) || false)) ≡ true → a ≡ false → b ≡ true
+          by_object true b c is old = cc
+          by_object false true c is old = refl
+          by_object false false c is old = cc
+
+          uncounted : (n : ℕ) → eqb n at ≡ true → count_by (λ (a : Area). eqb a.memory n) w.areas ≡ 0
+          uncounted n is =
+              let free = sym (any_count (λ (a : Area). eqb a.memory at) w.areas)
+              ∙ none_over at w.areas w.memory tidy.pins.made tidy.pins.sizes in
+              let zero : count_by (λ (a : Area). eqb a.memory at) w.areas ≡ 0 = search (free, arith, nat_tests) in
+              ap (λ (m : ℕ). count_by (λ (a : Area). eqb a.memory m) w.areas) (eqb-true n at is) ∙ zero
+
+      by_page : (page : ObjectPage) → has_page mapped_world.memory page ≡ true → (b : Bool)
+          → has_page w.memory page ≡ b
+          → access_pins kept page ≡ accessed w.objects (world.with_area area w.areas) w.access_pins page
+      by_page page there true old = shown.access page old ∙ sym (next.covered page there)
+      by_page page there false none =
+          unlisted_unpinned kept page shown.invariant
+          (ap (λ (rows : List MemoryObject). has_page rows page) (sym shown.rows) ∙ none)
+          ∙ sym (next.covered page there ∙ new_uncovered page there none)
+
       one : (n : ℕ) → cond (eqb at n) (cond translated_is 1 0) 0 ≡ cond {A = ℕ} (eqb at n
           && has_hwpt w.objects file request.ioas) 1 0
       one n = rw is_translated (both (eqb at n) (has_hwpt w.objects file request.ioas))
@@ -123,7 +157,7 @@ module _ (at : ℕ) (w : World) (file : FileNo) (request : MapRequest) (iova : I
 -- its area comes
 module _ {A : Type 0} (at : ℕ) (w : World) (s : State A) (tidy : IsTidy at w) (shows : Shows w s) (file : FileNo)
     (request : MapRequest) (iova : Iova) (user : UserNo) (after : Memory) (pool : FramePool) (pinned : Bool)
-    (next : OwnPins (at + 1) (mapped_world at w file request iova user))
+    (next : PinsNext (at + 1) w (mapped_world at w file request iova user))
     (pinned_is : pinned ≡ has_hwpt (objects_in s.objects) file request.ioas)
     (has : HasObject (if pinned then 1 else 0) (object at w file request iova user) s.memory after)
     (settles : Settles s.memory after s.pool pool) where

@@ -2,7 +2,7 @@
 use Rattle.std.proofs.Common.{◌≡◌, ℕ, Bool, Option, Some, None, List, [], ◌∷◌, ◌++◌, length, sym, ◌+◌, ◌≤◌, subst}
 use Rattle.iofd_words.specs.Answers.{Answers, IsMappedAt}
 use Rattle.area_map_rows.specs.Areas as own
-use Rattle.iofd_runs.proofs.KeepsOwnMemory.{OwnPins, keeps_own_pins}
+use Rattle.user_memory_rows.proofs.AccessStays.{PinsNext, pins_next}
 use Rattle.iofd_runs.proofs.MappedAt.{lies_at}
 use Rattle.iofd_words.specs.Checks.{map_checks, tables_to_map}
 use Rattle.iofd_words.specs.After.{changed, map_changes}
@@ -43,13 +43,12 @@ use Rattle.event_map.proofs.AreaPlaced.{objects_mapped}
 -- the pins of the world with the area
 pub own_next : (at : ℕ) (w : World) (file : FileNo) (request : MapRequest) (iova : Iova) (user : UserNo) → IsTidy at w
     → first_true (map_checks (view w) file request) ≡ None → IsMappedAt w file request (is_fixed request.flags) iova
-    → user_of w.settings file ≡ Some user → OwnPins (at + 1) (mapped_world at w file request iova user)
+    → user_of w.settings file ≡ Some user → PinsNext (at + 1) w (mapped_world at w file request iova user)
 unfolding changed Answers
 own_next at w file request iova user tidy none place known =
-    let next : OwnPins (at + 1) (map_changes at w file request iova (user_of w.settings file)) =
-    keeps_own_pins {A = ℕ} at w (event.Map file request) (reply.Iova iova) none place
-    (record { pins = tidy.pins; own = tidy.own }) in
-    subst (λ (o : Option UserNo). OwnPins (at + 1) (map_changes at w file request iova o)) known next
+    let next : PinsNext (at + 1) w (map_changes at w file request iova (user_of w.settings file)) =
+    pins_next {A = ℕ} at w (event.Map file request) (reply.Iova iova) none place tidy.pins in
+    subst (λ (o : Option UserNo). PinsNext (at + 1) w (map_changes at w file request iova o)) known next
 
 module _ {A : Type 0} where
   -- the record of the MAP, and the world after it

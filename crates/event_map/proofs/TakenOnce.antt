@@ -7,7 +7,7 @@ use Rattle.iofd_rows.proofs.Bools.{and_true, not_true}
 use Rattle.iofd_rows.proofs.Each.{IsIn}
 use Rattle.iofd_words.specs.Tables.{are_different, is_among}
 use Rattle.iofd_words.specs.declared.numbers.FrameNo.{FrameNo}
-use Rattle.user_memory_rows.proofs.PinsFollow.{any_count, count-cons}
+use Rattle.user_memory_rows.proofs.CountBy.{any_count, count-cons}
 use Rattle.server_state.proofs.GivenBack.{times_in}
 
 pub record IsThere {X : Type 0} (p : X → Bool) (xs : List X) : Type 0 where

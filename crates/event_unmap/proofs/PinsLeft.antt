@@ -17,8 +17,8 @@ use Rattle.iofd_words.specs.declared.rows.Area.{Area}
 use Rattle.iofd_words.specs.declared.rows.MemoryObject.{MemoryObject}
 use Rattle.user_memory_rows.proofs.Gone.{few_translated}
 use Rattle.user_memory_rows.specs.Moves.{IsReleased}
-use Rattle.user_memory_rows.specs.Shown.{PinsShown, over, translated}
-use Rattle.server_state.proofs.LeadsStay.{has_page, is_translated, lead_alike, pin_stays}
+use Rattle.user_memory_rows.specs.Shown.{PinsShown, has_page, over, translated}
+use Rattle.server_state.proofs.LeadsStay.{is_translated, lead_alike, pin_stays}
 use Rattle.server_state.proofs.MemoryReleased.{AreFewer}
 use Rattle.server_state.specs.Leads.{live_area_at, object_page, space_leads}
 use Rattle.user_memory.specs.Changes.{HasLess}
@@ -49,8 +49,8 @@ page_left areas pins old after less page some =
         rw kept is
 
 module _ (at : ℕ) (w new : World) (old after : Memory) (before pool : FramePool) (areas pins : ℕ → ℕ) (left : List Area)
-    (pinned : ArePinned at w) (without : w.access_pins ≡ []) (was : PinsShown w.objects w.areas w.memory w.pins old)
-    (is : PinsShown new.objects new.areas new.memory new.pins after)
+    (pinned : ArePinned at w) (was : PinsShown w.objects w.areas w.memory w.pins w.access_pins old)
+    (is : PinsShown new.objects new.areas new.memory new.pins new.access_pins after)
     (same_objects : new.objects ≡ w.objects) (same_areas : new.areas ≡ left)
     (fewer : AreFewer areas pins w w.objects left) (released : IsReleased areas pins old after before pool) where
   pub leads_left : (file : FileNo) (ioas : ObjId) (page : ℕ) → has_hwpt w.objects file ioas ≡ true
@@ -70,7 +70,7 @@ module _ (at : ℕ) (w new : World) (old after : Memory) (before pool : FramePoo
           ∙ ap (λ l. translated w.objects l a.memory) same_areas in
           let areas_new : areas_over after a.memory ≡ over left a.memory =
           is.areas a.memory ∙ ap (λ l. over l a.memory) same_areas in
-          pin_stays at w new old after before pool pinned without was is released.settles (object_page page a)
+          pin_stays at w new old after before pool pinned was is released.settles (object_page page a)
           (page_left areas pins old after released.less (object_page page a) (omega (arith, areas_new, few, some)))
           (omega (arith, pins_old, more, some)) (omega (arith, pins_new, some))
 

@@ -59,14 +59,6 @@ apart : (file : FileNo) (ioas : ObjId) (f : FileNo) (i : ObjId) (a : Area) → i
     → is_of f i a ≡ true → is_of file ioas a ≡ false
 apart file ioas f i a other is = grind (arith, nat_tests)
 
--- without access pins devices alone hold areas back
-pub held_by_devices : (objects : List Object) (attached : List ℕ) (areas : List Area)
-    → list_any (is_held_back attached (has_pin_in objects [])) areas
-    ≡ list_any (λ (a : Area). not (eqb (length (owed_by attached a.phase)) 0)) areas
-held_by_devices objects attached [] = refl
-held_by_devices objects attached (a ∷ areas) =
-    let rest = held_by_devices objects attached areas in grind (arith, nat_tests)
-
 module _ (file : FileNo) (request : UnmapRequest) where
   pub waits_filtered : (attached : List ℕ) (is_pinned : Area → Bool) (areas : List Area)
       → is_waiting areas attached is_pinned file request ≡ list_any (is_held_back attached is_pinned)

@@ -46,6 +46,7 @@ use Rattle.iofd_words.specs.declared.rows.AccessPin.{AccessPin}
 use Rattle.server_state.proofs.Orderly.{orderly}
 use Rattle.server_state.proofs.AreasBecome.{areas_become, own_at}
 use Rattle.server_state.proofs.MemoryReleased.{AreFewer, AreShown, may_release, pins_changed, shown_after}
+use Rattle.server_state.proofs.MemoryReleased.{gone_uncovered}
 use Rattle.page_table_set.specs.PageTables.{AllStand, PageTables}
 use Rattle.event_unmap.proofs.LeavingAreas.{leads_outside, leads_waiting}
 use Rattle.event_unmap.proofs.PinsLeft.{leads_left, released_over}
@@ -53,7 +54,6 @@ use Rattle.event_unmap.proofs.SpacesCleared.{left_space, space_left, spaces_clea
 use Rattle.server_state.proofs.TablesUnreached.{frames_cleared}
 use Rattle.event_unmap.proofs.Touched.{AreAlike, alike, leaving_other, leaving_own, left_at, left_other, left_own}
 use Rattle.event_unmap.proofs.Touched.{met_waiting, met_within, touched_own, unmet_outside, waits_filtered}
-use Rattle.event_unmap.proofs.Touched.{held_by_devices}
 use Rattle.server_state.specs.Held.{areas_at, objects_in}
 use Rattle.event_unmap.specs.Cleared.{Clears, cleared}
 use Rattle.event_unmap.specs.Waiting.{waiting}
@@ -67,6 +67,14 @@ use Rattle.server_state.specs.declared.held.Held.{Held}
 use Rattle.server_state.specs.declared.state.State.{State}
 use Rattle.object_table.specs.Table.{Table}
 use Rattle.iofd_words.specs.Files.{is_device}
+use Rattle.user_memory_rows.proofs.AccessStays.{CoveredAlike, accessed_stays}
+use Rattle.user_memory_rows.proofs.AccessCounts.{counted_map}
+use Rattle.iofd_runs.proofs.HoldersStay.{NoPinGoes, unmapped_free}
+use Rattle.std.proofs.Math.Path.{fun_ext}
+use Rattle.server_state.proofs.AccessPinsStay.{any_alike, met_in}
+use Rattle.held_pins.specs.HeldPins.{are_met}
+use Rattle.iofd_rows.proofs.Each.{of_all, in_filter}
+use Rattle.iofd_rows.proofs.Named.{file_is, id_is}
 
 module _ {A : Type 0} where
   module _ (at : ℕ) (w : World) (s : State A) (file : FileNo) (request : UnmapRequest) (tidy : IsTidy at w)
@@ -103,21 +111,37 @@ module _ {A : Type 0} where
       are = let here : AreKept (areas_of w.areas file request.ioas) =
           rw own_shown at kept in alike (unmapped_span request) 0 (areas_of w.areas file request.ioas) here.apart uncut
 
-      -- whether a device has to flush before
+      -- whether a device has to flush before, or access pins are in the way
       pub waits_shown : (span : Bounds) (attached : List ℕ) → span ≡ unmapped_span request
           → attached ≡ devices_of w.objects w.attachments file request.ioas
-          → waits w file request ≡ some_waits span attached (own_areas s.objects file request.ioas)
+          → waits w file request ≡ some_waits span attached (λ a. are_met s.access_pins file request.ioas a.span)
+          (own_areas s.objects file request.ioas)
       waits_shown span attached is_span is_attached =
           let devices = devices_of w.objects w.attachments file request.ioas in
           let own = areas_of w.areas file request.ioas in
           let met = filter (λ (a : Area). meets a.span (unmapped_span request)) own in
           rw (is_span, is_attached, own_shown) (waits_filtered file request devices (has_pin_in w.objects w.access_pins)
           w.areas
-          ∙ ap (λ (pins : List AccessPin). list_any (is_held_back devices (has_pin_in w.objects pins)) met)
-          tidy.unaccessed
-          ∙ held_by_devices w.objects devices met
-          ∙ ap (list_any (λ (a : Area). not (eqb (length (owed_by devices a.phase)) 0)))
+          ∙ ap (λ (is_pinned : Area → Bool). list_any (is_held_back devices is_pinned) met)
+          (fun_ext (met_in w.objects w.access_pins s.access_pins shows.access_pins))
+          ∙ any_alike (is_held_back devices (λ a. are_met s.access_pins a.file a.ioas a.span))
+          (is_held_back devices (λ a. are_met s.access_pins file request.ioas a.span)) (is_of file request.ioas) met
+          (of_all (is_of file request.ioas) met (λ a among.
+          (in_filter (is_of file request.ioas) w.areas a
+          (in_filter (λ (a : Area). meets a.span (unmapped_span request)) own a among).0).1))
+          (λ a of. held_own devices a (and_true (eqb a.file.0 file.0) (eqb a.ioas.0 request.ioas.0) of))
+          ∙ ap (list_any (is_held_back devices (λ a. are_met s.access_pins file request.ioas a.span)))
           (met_within (unmapped_span request) own are))
+        where
+          held_own : (devices : List ℕ) (a : Area)
+              → (eqb a.file.0 file.0 ≡ true) × (eqb a.ioas.0 request.ioas.0 ≡ true)
+              → is_held_back devices (λ a. are_met s.access_pins a.file a.ioas a.span) a
+              ≡ is_held_back devices (λ a. are_met s.access_pins file request.ioas a.span) a
+          held_own devices a names =
+              ap (λ (f : FileNo). is_held_back devices (λ a. are_met s.access_pins f a.ioas a.span) a)
+              (file_is a.file file names.0)
+              ∙ ap (λ (i : ObjId). is_held_back devices (λ a. are_met s.access_pins file i a.span) a)
+              (id_is a.ioas request.ioas names.1)
 
       -- the touched areas are those of the address space that lie in the span
       pub touched_within : (span : Bounds) → span ≡ unmapped_span request
@@ -260,9 +284,12 @@ module _ {A : Type 0} where
               allowed = shows.allowed;
               users = shows.users;
               pins =
-                  pins_changed w.objects w.areas w.memory w.pins s.memory
+                  pins_changed w.objects w.areas w.memory w.pins w.access_pins s.memory
                   (left_at file request most devices)
-                  (λ area. refl) (λ area. refl) (λ area. refl) shows.pins;
+                  (λ area. refl) (λ area. refl) (λ area. refl)
+                  (λ page there. counted_map w.objects (left_at file request most devices) w.areas w.access_pins page
+                  (λ pin area. refl)) shows.pins;
+              access_pins = shows.access_pins;
               frames = cleared_shown;
               tables = subst (λ (kept : PageTables). TablesShown
                   (record w {
@@ -286,8 +313,9 @@ module _ {A : Type 0} where
         abbrev going : List Area
         going = areas_within span (own_areas s.objects file request.ioas)
 
-        fewer : AreFewer (over going) (if_translated is_translated going) w w.objects stay
-        fewer = record {
+        fewer : NoPinGoes w (is_touched file request)
+            → AreFewer (over going) (if_translated is_translated going) w w.objects stay
+        fewer free = record {
           over_left = λ n. ap (λ (l : List Area). over stay n + over l n) (sym (touched_within span is_span))
               ∙ over_parts (is_touched file request) w.areas n;
           translated_left =
@@ -299,18 +327,21 @@ module _ {A : Type 0} where
               (sym (translated_space w.objects file request.ioas (is_touched file request) w.areas
               (λ area is. (and_true (is_of file request.ioas area) _ is).0) n))
               ∙ translated_parts w.objects (is_touched file request) w.areas n;
+          uncovered = gone_uncovered w (is_touched file request) tidy.pins free;
         }
 
-        pub may_remove : (holds : List ℕ) → holds ≡ s.pool.holds
+        pub may_remove : not (waits w file request) ≡ true → (holds : List ℕ) → holds ≡ s.pool.holds
             → MayRelease (over going) (if_translated is_translated going) s.memory holds
-        may_remove holds same = rw same (may_release at w s tidy shows (over going)
-            (if_translated is_translated going) w.objects stay fewer)
+        may_remove done holds same = rw same (may_release at w s tidy shows (over going)
+            (if_translated is_translated going) w.objects stay (fewer (unmapped_free w file request done)))
 
         module _ (clears : FramePool)
             (bytes : length clears.bytes ≡ length clears.holds)
             (told : Clears file request.ioas going s.page_tables.tables s.pool clears)
             (memory : Memory) (pool : FramePool) (next : ArePinned (at + 1)
             (settle w (without_areas (is_touched file request) w)))
+            (covered : CoveredAlike w (settle w (without_areas (is_touched file request) w)))
+            (done : not (waits w file request) ≡ true)
             (released : IsReleased (over going) (if_translated is_translated going) s.memory memory clears pool) where
           abbrev new : World
           new = settle w (without_areas (is_touched file request) w)
@@ -329,10 +360,11 @@ module _ {A : Type 0} where
               (record pool { bytes = s.pool.bytes })
           unfolding settle without_areas
           shown =
-              shown_after at w s tidy shows (over going) (if_translated is_translated going) w.objects stay fewer
-              (at + 1) (settle w (without_areas (is_touched file request) w)) memory
+              shown_after at w s tidy shows (over going) (if_translated is_translated going) w.objects stay
+              (fewer (unmapped_free w file request done)) (at + 1)
+              (settle w (without_areas (is_touched file request) w)) memory
               (record pool { bytes = s.pool.bytes }) next refl refl
-              (objects_left (is_touched file request) w.areas w.memory) refl refl refl over_kept
+              (objects_left (is_touched file request) w.areas w.memory) refl refl covered refl over_kept
 
           frames_left : FramesShown w.settings.pool w.writes w.table_frames memory pool
           frames_left =
@@ -349,7 +381,8 @@ module _ {A : Type 0} where
               w.table_frames shows.tables.tables
               (λ f i page has.
               leads_left at w new s.memory memory clears pool (over going) (if_translated is_translated going) stay
-              tidy.pins tidy.unaccessed shows.pins shown.pins refl refl fewer released f i page has
+              tidy.pins shows.pins shown.pins refl refl (fewer (unmapped_free w file request done)) released f i page
+              has
               ∙ leads_gone span is_span f i page)
               (tables_follow w.settings.pool w.writes w.writes w.table_frames
               (cleared file request.ioas gone (leads_of w)) s.page_tables.tables s.memory memory clears pool
@@ -396,6 +429,7 @@ module _ {A : Type 0} where
                 devices = shows.devices;
                 users = shown.users;
                 pins = shown.pins;
+                access_pins = shows.access_pins;
                 frames = frames_left;
                 tables = subst (λ (kept : PageTables). TablesShown
                     (settle w (without_areas (is_touched file request) w)) kept pool) (sym same_tables) tables;
@@ -461,3 +495,11 @@ pub unmapped_pins : (at : ℕ) (w : World) (file : FileNo) (request : UnmapReque
 unfolding changed Answers
 unmapped_pins at w file request count none answers pins =
     keeps_pins {A = ℕ} at w (event.Unmap file request) (reply.Bytes count) none answers pins
+
+-- access pins cover what is left as often
+pub unmapped_covered : (at : ℕ) (w : World) (file : FileNo) (request : UnmapRequest) (count : ℕ)
+    → first_true (unmap_checks (view w) file request) ≡ None → UnmapAnswers w file request (reply.Bytes count)
+    → ArePinned at w → CoveredAlike w (unmapped w file request (reply.Bytes count))
+unfolding changed Answers
+unmapped_covered at w file request count none answers pins =
+    accessed_stays {A = ℕ} at w (event.Unmap file request) (reply.Bytes count) none answers pins

@@ -60,9 +60,10 @@ fn refusal_by_areas<A: Allocator>(
 }
 
 /// What it does where nothing refuses it. In the page tables of the address space the pages of the areas that it names
-/// lead nowhere from then on; their tables stay. Where a device still has to flush before all these areas may go, they
-/// are on their way out, with a try more, and the reply is EAGAIN, or EDEADLOCK after a hundred tries. Else they go,
-/// with their memory objects and pins, and the reply is how many bytes they had. It takes no memory.
+/// lead nowhere from then on; their tables stay. Where a device still has to flush before all these areas may go, or an
+/// access object has pinned pages of one, they are on their way out, with a try more, and the reply is EAGAIN, or
+/// EDEADLOCK after a hundred tries. Else they go, with their memory objects and pins, and the reply is how many bytes
+/// they had. It takes no memory.
 pub fn commit<A: Allocator>(state: &mut State<A>, file: FileNo, request: UnmapRequest) -> Reply
     requires { IsGranted (event.Unmap file request) state.old }
     ensures { (at : ℕ) → Steps at (event.Unmap file request) state.old result state.new }
@@ -85,7 +86,7 @@ pub fn commit<A: Allocator>(state: &mut State<A>, file: FileNo, request: UnmapRe
         &mut state.page_tables,
         &mut state.pool,
     );
-    if area_changes::some_waits(areas.again(), &attached) {
+    if area_changes::some_waits(areas.again(), &attached, file, ioas, &state.access_pins) {
         return waiting::wait(&mut state.objects, file, ioas, span, &attached);
     }
     let bytes = bytes_of(areas.again());

@@ -17,7 +17,7 @@ use Rattle.iofd_words.specs.declared.rows.Object.{Object}
 use Rattle.iofd_words.specs.declared.rows.TableFrame.{TableFrame}
 use Rattle.iofd_words.specs.declared.rows.UserPage.{UserPage}
 use Rattle.page_table_set.specs.PageTables.{AllStand, Hwpt}
-use Rattle.user_memory_rows.proofs.PinsFollow.{any_count}
+use Rattle.user_memory_rows.proofs.CountBy.{any_count}
 use Rattle.user_memory_rows.specs.Shown.{FramesShown}
 use Rattle.server_state.proofs.TablesFollow.{tables_follow}
 use Rattle.page_table_words.specs.Rows.{MappedPage}

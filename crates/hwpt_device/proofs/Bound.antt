@@ -1,9 +1,9 @@
 -- The objects by which devices are bound, after objects came or went.
-use Rattle.std.proofs.Common.{◌≡◌, Bool, true, false, cond, eqb, ltb, is_some, Option, Some, None, List, [], ◌∷◌}
+use Rattle.std.proofs.Common.{◌≡◌, ℕ, Bool, true, false, cond, eqb, ltb, is_some, Option, Some, None, List, [], ◌∷◌}
 use Rattle.std.proofs.Common.{subst, refl, sym, ◌∙◌, ap}
 use Rattle.std.specs.List.{find, list_any}
 use Rattle.std.proofs.lemmas.Bool.{eqb-true}
-use Rattle.iofd_words.specs.Objects.{binding_of, is_bound_as, with_object}
+use Rattle.iofd_words.specs.Objects.{binding_of, is_bound_as, is_fresh, with_object}
 use Rattle.iofd_words.specs.declared.numbers.DeviceNo.{DeviceNo}
 use Rattle.iofd_words.specs.declared.numbers.FileNo.{FileNo}
 use Rattle.iofd_words.specs.declared.numbers.ObjId.{ObjId}
@@ -11,12 +11,15 @@ use Rattle.iofd_words.specs.declared.rows.Object.{Object}
 use Rattle.iofd_words.specs.declared.rows.ObjectKind.TheVariants as kind
 use Rattle.iofd_rows.proofs.Each.{found_new}
 use Rattle.iofd_rows.proofs.Found.{find-with_object}
+use Rattle.iofd_runs.proofs.Accessed.{each_held}
+use Rattle.iofd_runs.proofs.HoldersStay.{more_accesses}
 use Rattle.iofd_runs.proofs.OwnIds.{any_found}
 use Rattle.std.proofs.Common.{Vec}
 use Rattle.iofd_words.specs.World.{World}
 use Rattle.server_state.proofs.Bindings.{are_with}
 use Rattle.server_state.specs.Devices.{are_bindings, bound_number, with_binding}
 use Rattle.server_state.specs.Shows.{Shows}
+use Rattle.server_state.specs.Step.{IsTidy}
 use Rattle.server_state.specs.declared.held.Held.{Held}
 use Rattle.server_state.specs.declared.held.Held.TheVariants as held
 use Rattle.server_state.specs.declared.state.State.{State}
@@ -89,8 +92,9 @@ bound_by objects bindings file id device same free d =
 
 module _ {A : Type 0} where
   -- by which a device is bound that wasn't
-  pub shows_bound : (w : World) (s : State A) (file : FileNo) (id : ObjId) (device : DeviceNo) (table : Table (Held A))
-      (bindings : Vec Object A) → Shows w s → is_some (binding_of w.objects device) ≡ false
+  pub shows_bound : (at : ℕ) (w : World) (s : State A) (file : FileNo) (id : ObjId) (device : DeviceNo)
+      (table : Table (Held A)) (bindings : Vec Object A) → IsTidy at w → Shows w s
+      → is_some (binding_of w.objects device) ≡ false → is_fresh w.objects file id ≡ true
       → find (is_at file id) s.objects.rows ≡ None
       → table.rows ≡ inserted (record {
         file = file;
@@ -104,7 +108,7 @@ module _ {A : Type 0} where
       → Shows (record w {
         objects = with_object (record { file = file; id = id; kind = kind.Device device }) w.objects;
       }) (record s { objects = table; bindings = bindings })
-  shows_bound w s file id device table bindings shows free unused rows files came =
+  shows_bound at w s file id device table bindings tidy shows free fresh unused rows files came =
       shows_inserted w s (record {
         file = file;
         id = id;
@@ -118,3 +122,5 @@ module _ {A : Type 0} where
       (ap are_bindings came
       ∙ are_with (record { file = file; id = id; kind = kind.Device device }) s.bindings.items refl
       shows.devices.rising)
+      (more_accesses w (record { file = file; id = id; kind = kind.Device device }) fresh refl).holders
+      (each_held w.objects w.areas w.access_pins tidy.pins.held)

@@ -6,15 +6,17 @@ use Rattle.iofd_words.specs.Checks.{detach_checks}
 use Rattle.iofd_words.specs.FirstTrue.{first_true}
 use Rattle.iofd_words.specs.declared.width.Width.{Width}
 use Rattle.iofd_words.specs.Answers.{Answers}
-use Rattle.iofd_runs.proofs.KeepsPins.{keeps_pins}
+use Rattle.iofd_runs.proofs.Accessed.{each_held}
+use Rattle.iofd_runs.proofs.HoldersStay.{detached_accesses}
 use Rattle.iofd_runs.proofs.NotRefused.{detach_passed}
 use Rattle.iofd_runs.proofs.OwnIds.{own_ids-filter}
 use Rattle.frame_memory.specs.Pool.{FramePool}
-use Rattle.iofd_rows.specs.Pinned.{ArePinned}
+use Rattle.user_memory_rows.proofs.AccessCounts.{none_counted}
+use Rattle.user_memory_rows.proofs.AccessStays.{PinsNext, pins_next}
 use Rattle.user_memory_rows.proofs.FramesFollow.{translated_same}
 use Rattle.user_memory_rows.proofs.Gone.{all_have, released_none, table_lost}
 use Rattle.user_memory_rows.specs.Moves.{IsReleased, MayRelease}
-use Rattle.user_memory_rows.specs.Shown.{FramesShown, over, tables_in, translated}
+use Rattle.user_memory_rows.specs.Shown.{FramesShown, accessed, has_page, over, tables_in, translated}
 use Rattle.user_memory.specs.Changes.{never}
 use Rattle.user_memory.specs.Memory.{Memory}
 use Rattle.std.specs.Prelude.{IsTrue, is_none}
@@ -24,6 +26,7 @@ use Rattle.iofd_words.specs.After.{changed, detach_changes, detached, goes_with,
 use Rattle.iofd_words.specs.Areas.{all_paid, areas_of, paid, with_phase}
 use Rattle.iofd_words.specs.Attachments.{attachment_of, ioas_of_attachment, without_attachment}
 use Rattle.iofd_words.specs.Objects.{has_hwpt, has_ioas, is_ioas, kind_of, without_object}
+use Rattle.iofd_words.specs.Pins.{ObjectPage}
 use Rattle.iofd_words.specs.View.{view}
 use Rattle.iofd_words.specs.World.{World}
 use Rattle.iofd_words.specs.declared.event.Event.TheVariants as event
@@ -50,6 +53,7 @@ use Rattle.server_state.specs.TableGone.{HasLostTable, IsTableGone}
 use Rattle.server_state.specs.Tables.{has_own_width, page_tables_among}
 use Rattle.server_state.specs.declared.held.Held.{Held}
 use Rattle.server_state.specs.declared.state.State.{State}
+use Rattle.server_state.proofs.AccessPinsStay.{shown_still}
 use Rattle.server_state.proofs.AreasBecome.{own_at}
 use Rattle.server_state.proofs.Counted.{counts_of, over_spaces, own_row, users_of_row}
 use Rattle.server_state.specs.Users.{AccessSpaces, accesses_to, devices_on, tables_over}
@@ -106,12 +110,12 @@ record Ending (w : World) (device : DeviceNo) (a : Attachment) (ioas : ObjId) : 
 -- the pins after it
 next_pins : (at : ℕ) (w : World) (device : DeviceNo) (a : Attachment) → IsTidy at w
     → first_true (detach_checks (view w) device) ≡ None → attachment_of w.attachments device ≡ Some a
-    → ArePinned (at + 1) (settle w (detached w device a))
+    → PinsNext (at + 1) w (settle w (detached w device a))
 unfolding changed Answers
 next_pins at w device a tidy none found =
-    let Q = λ (o : Option Attachment). ArePinned (at + 1) (detach_changes w device o) in
+    let Q = λ (o : Option Attachment). PinsNext (at + 1) w (detach_changes w device o) in
     let after : Q (attachment_of w.attachments device) =
-    keeps_pins {A = Unit {0}} at w (event.Detach device) reply.Done none tt tidy.pins in
+    pins_next {A = Unit {0}} at w (event.Detach device) reply.Done none tt tidy.pins in
     subst Q found after
 
 -- ---- paid areas
@@ -128,6 +132,12 @@ translated_paid : (objects : List Object) (device : DeviceNo) (areas : List Area
 translated_paid objects device areas n =
     translated_map objects (with_paid device) areas (λ area. refl) (λ area. refl) (λ area. refl) n
 
+-- access pins cover no page of a memory object over which no area is left: none was over it
+paid_uncovered : (w : World) (device : DeviceNo) (page : ObjectPage) → has_page w.memory page ≡ true
+    → over (all_paid device w.areas) page.memory ≡ 0 → accessed w.objects w.areas w.access_pins page ≡ 0
+paid_uncovered w device page there none =
+    none_counted w.objects w.areas w.access_pins page (sym (over_paid device w.areas page.memory) ∙ none)
+
 -- the same page tables translate as before
 fewer_none : (w : World) (device : DeviceNo) (left : List Object)
     → ((f : FileNo) (i : ObjId) → has_hwpt left f i ≡ has_hwpt w.objects f i)
@@ -136,6 +146,7 @@ fewer_none w device left same = record {
   over_left = λ n. let is = over_paid device w.areas n in omega (arith, is);
   translated_left = λ n. let is =
       translated_paid left device w.areas n ∙ translated_same w.objects left w.areas same n in omega (arith, is);
+  uncovered = paid_uncovered w device;
 }
 
 module _ {A : Type 0} where
@@ -342,10 +353,11 @@ module _ {A : Type 0} where
       unfolding settle detached
       shows_ended =
           let next = next_pins at w device a tidy none end.found in
-          let has = all_have (all_paid device w.areas) w.memory next.used in
+          let has = all_have (all_paid device w.areas) w.memory next.pins.used in
           let after =
           shown_over at w s tidy shows rows before frames areas_gone pins_gone left (all_paid device w.areas) fewer
-          (at + 1) (settle w (detached w device a)) memory pool next refl refl has refl refl refl released in
+          (at + 1) (settle w (detached w device a)) memory pool next.pins refl refl has refl refl next.covered refl
+          released in
           record {
             settings = shows.settings;
             limits = after.limits;
@@ -359,17 +371,22 @@ module _ {A : Type 0} where
             };
             users = after.users;
             pins = after.pins;
+            access_pins =
+                shown_still w.objects left w.areas w.access_pins s.access_pins
+                (detached_accesses w (without_attachment device w.attachments) a).holders
+                (each_held w.objects w.areas w.access_pins tidy.pins.held) shows.access_pins;
             frames = after.frames;
             tables = record {
               tables = tables.tables;
               widths = tables.widths;
               stand =
                   tables_lead at w s tidy shows rows before frames areas_gone pins_gone left (all_paid device w.areas)
-                  fewer (at + 1) (settle w (detached w device a)) memory pool next refl refl has refl refl refl released
-                  pool rows kept.tables tables.tables (λ f i page some. paid_leads w.pins device w.areas f i page)
+                  fewer (at + 1) (settle w (detached w device a)) memory pool next.pins refl refl has refl refl
+                  next.covered refl released pool rows kept.tables tables.tables
+                  (λ f i page some. paid_leads w.pins device w.areas f i page)
                   (tables_stand at w s tidy shows rows before frames areas_gone pins_gone left
-                  (all_paid device w.areas) fewer (at + 1) (settle w (detached w device a)) memory pool next refl refl
-                  has refl refl refl released kept.tables tables.stand);
+                  (all_paid device w.areas) fewer (at + 1) (settle w (detached w device a)) memory pool next.pins refl
+                  refl has refl refl next.covered refl released kept.tables tables.stand);
             };
           }
 
@@ -602,6 +619,7 @@ module _ {A : Type 0} where
                 ∙ ap (λ k. k + over (areas_of w.areas a.file ioas) n) (translated_paid left device w.areas n)
                 ∙ table_lost w.objects left w.areas a.file ioas had (same_left ∙ last)
                 (others_stay w (without_attachment device w.attachments) a ioas tidy.ids end.over) n;
+            uncovered = paid_uncovered w device;
           }
 
       pub may_unpin : MayRelease never pins_gone s.memory before.holds

@@ -18,6 +18,7 @@ use Rattle.iofd_rows.proofs.Named.{file_is, id_is}
 use Rattle.iofd_rows.proofs.Owed.{each_owed}
 use Rattle.iofd_rows.proofs.Paid.{paid_areas_of, pays_none, pays_own}
 use Rattle.hwpt_device.proofs.PaidLeads.{paid_leads}
+use Rattle.user_memory_rows.proofs.AccessCounts.{counted_phases}
 use Rattle.server_state.proofs.LeadsStay.{spaces_alike}
 use Rattle.server_state.proofs.MemoryReleased.{pins_changed}
 use Rattle.server_state.specs.Held.{areas_at, objects_in, space_of}
@@ -126,9 +127,11 @@ module _ {A : Type 0} where
         limits = shows.limits;
         allowed = shows.allowed;
         users = shows.users;
-        pins = pins_changed w.objects w.areas w.memory w.pins s.memory
-            (λ (area : Area). with_phase (paid device area.phase) area) (λ area. refl) (λ area. refl)
-            (λ area. refl) shows.pins;
+        pins = pins_changed w.objects w.areas w.memory w.pins w.access_pins s.memory
+            (λ (area : Area). with_phase (paid device area.phase) area) (λ area. refl) (λ area. refl) (λ area. refl)
+            (λ page there.
+            counted_phases w.objects (λ (area : Area). paid device area.phase) w.areas w.access_pins page) shows.pins;
+        access_pins = shows.access_pins;
         frames = shows.frames;
         tables = record {
           tables = shows.tables.tables;

@@ -26,6 +26,8 @@ use Rattle.iofd_rows.proofs.Moves.{device_is}
 use Rattle.iofd_rows.proofs.Named.{file_is, id_is, kind_only}
 use Rattle.iofd_rows.proofs.PageTables.{hwpt-unbound}
 use Rattle.iofd_rows.specs.Ids.{AreBoundOnce, have_own_ids}
+use Rattle.iofd_runs.proofs.Accessed.{HoldersStay, each_held}
+use Rattle.iofd_runs.proofs.HoldersStay.{unbound_accesses}
 use Rattle.iofd_runs.proofs.NotRefused.{unbind_passed}
 use Rattle.user_memory_rows.proofs.FramesFollow.{pins_moved, translated_same}
 use Rattle.server_state.proofs.SpacesGone.{areas-removed, areas_stay, found_without, other_goes}
@@ -34,6 +36,7 @@ use Rattle.object_table.specs.declared.kind.Kind.TheVariants as of_kind
 use Rattle.server_state.proofs.Bindings.{are_parts}
 use Rattle.server_state.proofs.ObjectsGone.{may_go, objects-removed}
 use Rattle.server_state.proofs.TablesAmong.{among_stay}
+use Rattle.server_state.proofs.AccessPinsStay.{covered_still, shown_still}
 use Rattle.server_state.proofs.AccessSpaces.{spaces-without}
 use Rattle.server_state.proofs.Counted.{counts_of, over_spaces}
 use Rattle.server_state.proofs.DevicesOn.{on_tables}
@@ -186,6 +189,7 @@ module _ {A : Type 0} where
   shows_unbound at w s file id device table bindings tidy shows is_kind goes files left =
       let of_world = in_world w s file id (Some (kind.Device device)) shows is_kind in
       let left_objects = without_device_object file id w.objects in
+      let stay : HoldersStay w.objects left_objects w.access_pins = (unbound_accesses w file id).holders in
       let no_space = ap (λ (o : Option ObjectKind). elim o [ Some k ↦ is_ioas k | None ↦ false ]) is_kind in
       let no_space_w : has_ioas w.objects file id ≡ false =
       ap (λ (o : Option ObjectKind). elim o [ Some k ↦ is_ioas k | None ↦ false ]) of_world in
@@ -232,8 +236,12 @@ module _ {A : Type 0} where
         allowed = shows.allowed;
         users = shows.users;
         pins =
-            pins_moved w.objects left_objects w.areas w.areas w.memory w.pins s.memory shows.pins (λ number. refl)
-            (translated_same w.objects left_objects w.areas (hwpt-unbound w.objects file id));
+            pins_moved w.objects left_objects w.areas w.areas w.memory w.pins w.access_pins s.memory shows.pins
+            (λ number. refl) (translated_same w.objects left_objects w.areas (hwpt-unbound w.objects file id))
+            (covered_still w left_objects tidy.pins stay);
+        access_pins =
+            shown_still w.objects left_objects w.areas w.access_pins s.access_pins stay
+            (each_held w.objects w.areas w.access_pins tidy.pins.held) shows.access_pins;
         frames = shows.frames;
         tables = record {
           tables =

@@ -171,7 +171,7 @@ module _ {A : Type 0} where
   -- the pins that are known
   pub pins_known : (at : ℕ) (w : World) (s : State A) → IsTidy at w → Shows w s → PinsAreKnown s.memory
   pins_known at w s tidy shows =
-      record { invariant = shows.pins.invariant; only = only_kept at w s.memory tidy.pins tidy.unaccessed shows.pins }
+      record { invariant = shows.pins.invariant; only = only_kept at w s.memory tidy.pins shows.pins }
 
   -- the areas of the address space may be pinned, where it has no page table
   pub may_pin : (at : ℕ) (w : World) (s : State A) (table : Table (Held A)) (file : FileNo) (ioas : ObjId)
@@ -208,7 +208,7 @@ module _ {A : Type 0} where
             shows.pins.tables n in let areas = shows.pins.areas n in omega (arith, all, pins, areas);
         backed = is_backed w.settings.pool w.writes w.table_frames s.memory s.pool shows.frames;
         invariant = shows.pins.invariant;
-        only = only_kept at w s.memory tidy.pins tidy.unaccessed shows.pins;
+        only = only_kept at w s.memory tidy.pins shows.pins;
       })
     where
       objects : objects_in table ≡ objects_in s.objects
@@ -221,7 +221,7 @@ module _ {A : Type 0} where
       unused_w = ap (λ (rows : List Object). has_hwpt rows file ioas) shows.objects.rows ∙ unused
 
       asks : IsRoomy (seen s) file ioas width
-      asks = subst (λ (v : View). IsRoomy v file ioas width) (sym (same_view w s shows tidy.tabled.owned tidy.unaccessed)) roomy
+      asks = subst (λ (v : View). IsRoomy v file ioas width) (sym (same_view w s shows tidy.tabled.owned)) roomy
 
       rest : (b c : Bool) → b ≡ false → (not b && c) ≡ false → c ≡ false
       rest true c is both = cc

@@ -274,6 +274,7 @@ module _ {A : Type 0} where
     };
     users = shows.users;
     pins = shows.pins;
+    access_pins = shows.access_pins;
     frames = shows.frames;
     tables = record { tables = shows.tables.tables; widths = shows.tables.widths; stand = shows.tables.stand };
   }
@@ -293,6 +294,7 @@ module _ {A : Type 0} where
     };
     users = shows.users;
     pins = shows.pins;
+    access_pins = shows.access_pins;
     frames = shows.frames;
     tables = shows.tables;
   }
@@ -377,11 +379,9 @@ module _ {A : Type 0} where
       let seen = more_attached w s table attachments (record { device = device; file = bound.file; hwpt = id }) shows
       objects added in
       let left = grown w device bound.file pt_id id width (Some object) w.areas in
-      let pins = pins_follow at (at + 1) w left s.memory s.memory s.pool s.pool tidy.pins next tidy.unaccessed refl shows.pins
-      refl
-      shows.users.pages shows.pins.rows
-      shows.pins.areas shows.pins.tables (λ page. refl)
-      (settles_none s.memory s.pool shows.pins.invariant (only_kept at w s.memory tidy.pins tidy.unaccessed shows.pins)) in
+      let pins = pins_follow at (at + 1) w left s.memory s.memory s.pool s.pool tidy.pins next shows.pins refl
+      shows.users.pages shows.pins.rows shows.pins.areas shows.pins.tables shows.pins.access
+      (settles_none s.memory s.pool shows.pins.invariant (only_kept at w s.memory tidy.pins shows.pins)) in
       record {
         settings = seen.settings;
         limits = seen.limits;
@@ -390,6 +390,7 @@ module _ {A : Type 0} where
         devices = seen.devices;
         users = seen.users;
         pins = pins;
+        access_pins = seen.access_pins;
         frames = seen.frames;
         tables = record {
           tables = shows.tables.tables;

@@ -51,6 +51,7 @@ module _ {A : Type 0} where
         devices = shows.devices;
         users = shows.users;
         pins = shows.pins;
+        access_pins = shows.access_pins;
         frames = shows.frames;
         tables = tables_same w s.page_tables new.page_tables s.pool tables shows.tables;
       })
@@ -82,7 +83,8 @@ module _ {A : Type 0} where
       pages = λ u page. shows.users.pages u page ∙ ap (λ (l : List UserPage). frame_at l u page) (sym stays.pages);
       counts = λ test. shows.users.counts test ∙ ap (count_by test) (sym stays.pages);
     };
-    pins = pins_same w.objects w.areas w.memory w.pins s.memory after shows.pins stays.objects;
+    pins = pins_same w.objects w.areas w.memory w.pins w.access_pins s.memory after shows.pins stays.objects;
+    access_pins = shows.access_pins;
     frames = subst (FramesShown w.settings.pool w.writes w.table_frames after) (sym stays.pool)
         (frames_stay w s after same shows.frames);
     tables = subst (TablesShown w s.page_tables) (sym stays.pool) shows.tables;

@@ -33,7 +33,7 @@ use Rattle.iofd_words.specs.declared.rows.MemoryObject.{MemoryObject}
 use Rattle.iofd_words.specs.declared.rows.Object.{Object}
 use Rattle.iofd_words.specs.declared.rows.TableFrame.{TableFrame}
 use Rattle.iofd_words.specs.declared.width.Width.{Width}
-use Rattle.user_memory_rows.proofs.PinsFollow.{any_count}
+use Rattle.user_memory_rows.proofs.CountBy.{any_count}
 use Rattle.user_memory_rows.specs.Moves.{ArePinnedMore}
 use Rattle.user_memory_rows.specs.Shown.{translated}
 use Rattle.server_state.proofs.AreasBecome.{own_at}
@@ -183,7 +183,8 @@ module _ {A : Type 0} (at : ℕ) (w : World) (s : State A) (tidy : IsTidy at w) 
       let counted : ltb 0 (translated (with_object object w.objects) w.areas a.memory) ≡ true =
       sym (any_count (λ (x : Area). eqb x.memory a.memory
       && has_hwpt (with_object object w.objects) x.file x.ioas) w.areas) ∙ some in
-      let pins = (pins_pinned at w s tidy shows file ioas id width automatic roomy after pool more).tables a.memory in
+      let shown = pins_pinned at w s tidy shows file ioas id width automatic roomy after pool more fresh in
+      let pins = shown.tables a.memory in
       let positive : 0 < translated (with_object object w.objects) w.areas a.memory =
       search (counted, arith, nat_tests) in
       omega (arith, positive, pins)

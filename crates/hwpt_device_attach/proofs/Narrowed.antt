@@ -149,7 +149,7 @@ module _ {A : Type 0} (s : State A) (file : FileNo) (ioas : ObjId) where
       (areas_at s.objects.rows file ioas) || list_any (meets_some spans) (allowed_of s.allowed file ioas))
   known_narrows spans known =
       let w = known.world in
-      ap (λ (v : View). narrows_without v file ioas spans) (same_view w s known.shows known.tidy.tabled.owned known.tidy.unaccessed)
+      ap (λ (v : View). narrows_without v file ioas spans) (same_view w s known.shows known.tidy.tabled.owned)
       ∙ world_narrows w file ioas spans known.tidy.usable
       ∙ ap (λ (areas : List Area). list_any (λ (a : Area). meets_some spans a.span) areas
       || list_any (meets_some spans) (allowed_of w.allowed file ioas)) (known.shows.objects.spaces file ioas)

@@ -1,6 +1,6 @@
 -- Before a page table is added its pages are pinned: what is shown then, and that all other page tables stand.
 use Rattle.std.proofs.Common.{◌≡◌, ℕ, ◌+◌, ◌<◌, Bool, true, false, cond, ◌&&◌, ◌||◌, eqb, ltb, get_or, inl, inr}
-use Rattle.std.proofs.Common.{is_some, Option, Some, None, List, [], ◌∷◌, map, refl, sym, ◌∙◌, ap, subst, arith}
+use Rattle.std.proofs.Common.{is_some, Option, Some, None, List, [], ◌∷◌, map, refl, sym, ◌∙◌, ap, arith}
 use Rattle.std.specs.List.{count_by, list_any}
 use Rattle.std.proofs.lemmas.Bool.Decides.{nat_tests}
 use Rattle.frame_memory.specs.Pool.{FramePool}
@@ -9,6 +9,8 @@ use Rattle.iofd_rows.specs.Pinned.{ArePinned}
 use Rattle.iofd_rows.proofs.Bools.{and_true, both_true}
 use Rattle.iofd_rows.proofs.Each.{IsIn, in_filter}
 use Rattle.iofd_rows.proofs.Unusable.{each_not, none_of}
+use Rattle.iofd_runs.proofs.Accessed.{HoldersStay}
+use Rattle.iofd_runs.proofs.HoldersStay.{more_accesses}
 use Rattle.iofd_runs.proofs.KeepsPins.{table_pinned}
 use Rattle.iofd_runs.proofs.OwnIds.{any_found, unused}
 use Rattle.iofd_words.specs.After.{settle}
@@ -24,15 +26,15 @@ use Rattle.iofd_words.specs.declared.rows.Area.{Area}
 use Rattle.iofd_words.specs.declared.rows.MemoryObject.{MemoryObject}
 use Rattle.iofd_words.specs.declared.rows.Object.{Object}
 use Rattle.iofd_words.specs.declared.rows.UserPage.{UserPage}
-use Rattle.iofd_words.specs.declared.rows.AccessPin.{AccessPin}
 use Rattle.iofd_words.specs.declared.width.Width.{Width}
 use Rattle.user_memory_rows.proofs.FramesFollow.{frames_follow, translated_same}
 use Rattle.user_memory_rows.proofs.Named.{settles_named}
 use Rattle.user_memory_rows.proofs.PinsFollow.{only_kept, pins_follow, still_some}
 use Rattle.user_memory_rows.specs.Moves.{ArePinnedMore}
-use Rattle.user_memory_rows.specs.Shown.{FramesShown, PinsShown, UsersShown, over, translated}
+use Rattle.user_memory_rows.specs.Shown.{FramesShown, PinsShown, UsersShown, has_page, over, translated}
+use Rattle.server_state.proofs.AccessPinsStay.{covered_still}
 use Rattle.server_state.proofs.FreeAlike.{AreAlike, free_alike}
-use Rattle.server_state.proofs.LeadsStay.{has_page, is_translated, leads_alike, pin_stays, spaces_alike, stand_alike}
+use Rattle.server_state.proofs.LeadsStay.{is_translated, leads_alike, pin_stays, spaces_alike, stand_alike}
 use Rattle.server_state.proofs.TablesFollow.{tables_follow}
 use Rattle.server_state.specs.Leads.{leads_of, object_page, space_leads}
 use Rattle.server_state.specs.Shows.{Shows}
@@ -105,6 +107,10 @@ module _ {A : Type 0} (at : ℕ) (w : World) (s : State A) (tidy : IsTidy at w) 
         nothing None none = refl
         nothing (Some x) none = cc
 
+    -- and who holds an access pin stays attached
+    pub holders_yet : HoldersStay w.objects (with_object object w.objects) w.access_pins
+    holders_yet = (more_accesses w object fresh refl).holders
+
   -- ---- with the pins
 
   module _ (after : Memory) (pool : FramePool)
@@ -117,22 +123,23 @@ module _ {A : Type 0} (at : ℕ) (w : World) (s : State A) (tidy : IsTidy at w) 
       counts = λ test. shows.users.counts test ∙ ap (count_by test) (sym more.settles.pages);
     }
 
-    pub pins_pinned : PinsShown (with_table w object).objects (with_table w object).areas (with_table w object).memory
-        (with_table w object).pins after
+    pub pins_pinned : is_fresh w.objects file id ≡ true
+        → PinsShown (with_table w object).objects (with_table w object).areas (with_table w object).memory
+        (with_table w object).pins (with_table w object).access_pins after
     unfolding settle
-    pins_pinned =
+    pins_pinned fresh =
         let next : ArePinned (at + 1) (with_table w object) =
-        table_pinned at w file ioas id width automatic roomy.present
-        (λ pin among. absurd (subst (λ (l : List AccessPin). IsIn l pin) tidy.unaccessed among)) tidy.pins in
-        pins_follow at (at + 1) w (with_table w object) s.memory after s.pool pool tidy.pins next tidy.unaccessed refl
-        shows.pins refl
+        table_pinned at w file ioas id width automatic roomy.present fresh tidy.pins in
+        pins_follow at (at + 1) w (with_table w object) s.memory after s.pool pool tidy.pins next shows.pins refl
         (λ u page. shows.users.pages u page ∙ ap (λ (rows : List UserPage). frame_at rows u page)
         (sym more.settles.pages))
         (shows.pins.rows ∙ sym more.pins.rows)
         (λ n. more.pins.areas n ∙ shows.pins.areas n)
         (λ n. more.pins.pins n ∙ ap (λ k. k + over (newly_translated w.objects file ioas (areas_of w.areas file ioas))
         n) (shows.pins.tables n) ∙ sym (gained w.objects w.areas file ioas id width automatic n))
-        more.pins.access more.settles
+        (λ page there. more.pins.access page ∙ shows.pins.access page there
+        ∙ sym (covered_still w (with_object object w.objects) tidy.pins (holders_yet fresh) page there))
+        more.settles
 
     pub frames_pinned : FramesShown w.settings.pool w.writes w.table_frames after pool
     frames_pinned = frames_follow w.settings.pool w.writes w.table_frames s.memory after s.pool pool shows.frames
@@ -143,7 +150,7 @@ module _ {A : Type 0} (at : ℕ) (w : World) (s : State A) (tidy : IsTidy at w) 
     pub free_pinned : AreAlike pool.holds s.pool.holds
     free_pinned =
         free_alike s.memory after s.pool pool w.settings.pool w.writes w.table_frames shows.pins.invariant
-        (only_kept at w s.memory tidy.pins tidy.unaccessed shows.pins)
+        (only_kept at w s.memory tidy.pins shows.pins)
         (stays_pinned (over (newly_translated w.objects file ioas (areas_of w.areas file ioas))) s.memory after
         more.pins) more.settles shows.frames frames_pinned
 
@@ -156,11 +163,12 @@ module _ {A : Type 0} (at : ℕ) (w : World) (s : State A) (tidy : IsTidy at w) 
         (λ f held named. settles_named s.memory after s.pool pool shows.pins.invariant.rising more.settles f named)
         (λ f held none. ap (λ (all : List (List ℕ)). get_or all f []) more.settles.bytes)
 
-    pages_stay : (f : FileNo) (i : ObjId) (page : ℕ) → has_hwpt w.objects f i ≡ true
+    pages_stay : is_fresh w.objects file id ≡ true → (f : FileNo) (i : ObjId) (page : ℕ)
+        → has_hwpt w.objects f i ≡ true
         → space_leads (with_table w object).pins (with_table w object).areas f i
         page ≡ space_leads w.pins w.areas f i page
     unfolding settle
-    pages_stay f i page has =
+    pages_stay fresh f i page has =
         leads_alike w (with_table w object) f i page refl
         (λ a found.
         let counted = is_translated w.objects w.areas f i page a has found in
@@ -168,14 +176,15 @@ module _ {A : Type 0} (at : ℕ) (w : World) (s : State A) (tidy : IsTidy at w) 
         let now = more.pins.pins a.memory in
         let some : 0 < table_pins s.memory a.memory = omega (arith, counted, was) in
         let still : 0 < table_pins after a.memory = omega (arith, some, now) in
-        pin_stays at w (with_table w object) s.memory after s.pool pool tidy.pins tidy.unaccessed shows.pins pins_pinned
+        pin_stays at w (with_table w object) s.memory after s.pool pool tidy.pins shows.pins (pins_pinned fresh)
         more.settles (object_page page a)
         (ap (λ (rows : List MemoryObject). has_page rows (object_page page a)) more.pins.rows) some still)
 
     -- those that are there lead where they lead in the world with the new one
-    pub stand_pinned : AllStand pool w.table_frames (leads_of (with_table w object)) tables
-    stand_pinned = spaces_alike w (with_table w object) w.objects tables pool w.table_frames
-        shows.tables.tables pages_stay stand_before
+    pub stand_pinned : is_fresh w.objects file id ≡ true
+        → AllStand pool w.table_frames (leads_of (with_table w object)) tables
+    stand_pinned fresh = spaces_alike w (with_table w object) w.objects tables pool w.table_frames
+        shows.tables.tables (pages_stay fresh) stand_before
 
     -- and the new one nowhere yet
     abbrev pub leads_yet : Leads
@@ -183,4 +192,4 @@ module _ {A : Type 0} (at : ℕ) (w : World) (s : State A) (tidy : IsTidy at w) 
 
     pub stand_yet : is_fresh w.objects file id ≡ true → AllStand pool w.table_frames leads_yet tables
     stand_yet fresh = stand_alike pool w.table_frames (leads_of (with_table w object)) leads_yet tables
-        (λ h within page. rw (another fresh h within) refl) stand_pinned
+        (λ h within page. rw (another fresh h within) refl) (stand_pinned fresh)

@@ -11,6 +11,7 @@ use Rattle.page_table_set.specs.PageTables.{AllStand, Hwpt, KeepsOthers, PageTab
 use Rattle.iofd_rows.proofs.Bools.{and_true, both_true}
 use Rattle.iofd_rows.proofs.Each.{IsIn, of_any, of_each}
 use Rattle.iofd_rows.proofs.Found.{find-with_object}
+use Rattle.iofd_runs.proofs.Accessed.{each_held}
 use Rattle.iofd_runs.proofs.RisingLists.{filter-with_object}
 use Rattle.iofd_runs.proofs.StillTabled.{none_given}
 use Rattle.iofd_runs.proofs.TableCounts.{missing_with_object}
@@ -33,6 +34,7 @@ use Rattle.iofd_words.specs.declared.width.Width.{Width}
 use Rattle.user_memory_rows.specs.Moves.{ArePinnedMore}
 use Rattle.user_memory_rows.specs.Shown.{FramesShown, tables_in}
 use Rattle.object_table.specs.Table.{Table}
+use Rattle.server_state.proofs.AccessPinsStay.{shown_still}
 use Rattle.server_state.proofs.FreeFrames as free_frames
 use Rattle.server_state.proofs.GivenBack.{times_in}
 use Rattle.server_state.proofs.LeadsStay.{lead_alike, stand_alike}
@@ -53,9 +55,8 @@ use Rattle.page_table_words.specs.Rows.{MappedPage}
 use Rattle.user_memory.specs.Memory as memory
 use Rattle.server_state.proofs.FreeAlike.{least_frames_alike}
 use Rattle.hwpt_device_attach.proofs.MayAdd.{free_there}
-use Rattle.hwpt_device_attach.proofs.PinnedFirst.{another, frames_pinned, free_pinned, leads_yet, pins_pinned}
-use Rattle.hwpt_device_attach.proofs.PinnedFirst.{stand_yet}
-use Rattle.hwpt_device_attach.proofs.PinnedFirst.{users_pinned}
+use Rattle.hwpt_device_attach.proofs.PinnedFirst.{another, frames_pinned, free_pinned, holders_yet, leads_yet}
+use Rattle.hwpt_device_attach.proofs.PinnedFirst.{pins_pinned, stand_yet, users_pinned}
 use Rattle.hwpt_device_attach.proofs.RootAdded.{itself}
 use Rattle.hwpt_device_attach.proofs.TakenAlone.{counted_there, each_once, held_alone}
 use Rattle.hwpt_device_attach.specs.Filling.{IsFilled, filled, tables_for, with_tables_for}
@@ -193,7 +194,7 @@ module _ {A : Type 0} (at : ℕ) (w : World) (s : State A) (tidy : IsTidy at w) 
   own_lead page None = refl
   own_lead page (Some a) =
       lead_alike (memory.pinned_frame after) (pin.pinned_frame (with_table w object).pins) page (Some a)
-      (λ x same. (pins_pinned at w s tidy shows file ioas id width automatic roomy after pool more).frames
+      (λ x same. (pins_pinned at w s tidy shows file ioas id width automatic roomy after pool more fresh).frames
       (object_page page x))
 
   leads_own : (page : ℕ) → leads_of (with_table w object) object page ≡ filled file id after areas yet object page
@@ -259,7 +260,11 @@ module _ {A : Type 0} (at : ℕ) (w : World) (s : State A) (tidy : IsTidy at w) 
           attached = shows.devices.attached;
         };
         users = users_pinned at w s tidy shows file ioas id width automatic roomy after pool more;
-        pins = pins_pinned at w s tidy shows file ioas id width automatic roomy after pool more;
+        pins = pins_pinned at w s tidy shows file ioas id width automatic roomy after pool more fresh;
+        access_pins =
+            shown_still w.objects (with_object object w.objects) w.areas w.access_pins s.access_pins
+            (holders_yet at w s tidy shows file ioas id width automatic roomy fresh)
+            (each_held w.objects w.areas w.access_pins tidy.pins.held) shows.access_pins;
         frames = frames_made;
         tables = record {
           tables =

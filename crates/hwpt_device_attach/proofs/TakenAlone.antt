@@ -21,7 +21,7 @@ use Rattle.iofd_words.specs.declared.numbers.ObjId.{ObjId}
 use Rattle.iofd_words.specs.declared.rows.Object.{Object}
 use Rattle.iofd_words.specs.declared.rows.ObjectKind.{ObjectKind}
 use Rattle.iofd_words.specs.declared.rows.TableFrame.{TableFrame}
-use Rattle.user_memory_rows.proofs.PinsFollow.{any_count, count-cons}
+use Rattle.user_memory_rows.proofs.CountBy.{any_count, count-cons}
 use Rattle.user_memory_rows.specs.Shown.{tables_in}
 use Rattle.server_state.proofs.GivenBack.{times_in}
 use Rattle.server_state.specs.Tables.{page_tables_among}

@@ -1,10 +1,11 @@
-//! More worked records of the definitions in `iofd_words`, as in `iofd_examples`: of access objects, of UNMAPs that are
-//! counted, of page tables that wait for leaving areas, of tables and of ranges. Each is the contract of a function
-//! that does nothing; nothing here runs.
+//! More worked records of the definitions in `iofd_words`, as in `iofd_examples`: of access objects and their pins, of
+//! UNMAPs that are counted, of page tables that wait for leaving areas, of tables and of ranges. Each is the contract
+//! of a function that does nothing; nothing here runs.
 #![tactic(auto)]
 
 mod accesses;
 mod leaving;
+mod pins;
 mod ranges;
 mod tables;
 mod unmaps;
@@ -14,6 +15,10 @@ pub use accesses::{
     access_script_leaves_its_worlds,
 };
 pub use leaving::{first_page_tables_wait_for_leaving_areas, page_tables_are_made_or_wait};
+pub use pins::{
+    held_accesses_are_refused, pin_records_are_lawful, pin_script_is_a_run,
+    pin_script_leaves_its_worlds, pins_are_read_and_noticed, pins_are_refused, pins_have_a_limit,
+};
 pub use ranges::{
     addresses_are_chosen_in_the_list, every_address_is_named,
     least_address_lies_behind_what_is_kept, usable_ranges_are_merged,

@@ -2,16 +2,18 @@
 -- records says.
 use Rattle.std.specs.Prelude.{◌≡◌, ℕ, Bool, Option, Some, None, List, [], ◌∷◌, filter, map}
 use Rattle.std.specs.declared.alloc.Global.{Global}
+use Rattle.iofd_words.specs.Accesses.{notices}
 use Rattle.iofd_words.specs.Answers.{write_reply}
 use Rattle.iofd_words.specs.Bounds.{Bounds}
 use Rattle.iofd_words.specs.Checks.{checks, refusal}
-use Rattle.iofd_words.specs.Look.{answers_in, ranges_checks}
+use Rattle.iofd_words.specs.Look.{answers_in, notices_checks, query_checks, ranges_checks}
 use Rattle.iofd_words.specs.Policy.{outcomes}
 use Rattle.iofd_words.specs.Run.{Lawful}
 use Rattle.iofd_words.specs.View.{view}
 use Rattle.iofd_words.specs.World.{World}
 use Rattle.iofd_words.specs.declared.event.Event.{Event}
 use Rattle.iofd_words.specs.declared.event.Event.TheVariants as event
+use Rattle.iofd_words.specs.declared.event.PinRequest.{PinRequest}
 use Rattle.iofd_words.specs.declared.fault.AccessKind.{AccessKind}
 use Rattle.iofd_words.specs.declared.fault.AccessKind.TheVariants.{Write}
 use Rattle.iofd_words.specs.declared.fault.Fault.{Fault}
@@ -25,11 +27,12 @@ use Rattle.iofd_words.specs.declared.numbers.UserNo.{UserNo}
 use Rattle.iofd_words.specs.declared.query.Answer.{Answer}
 use Rattle.iofd_words.specs.declared.query.Answer.TheVariants as answer
 use Rattle.iofd_words.specs.declared.query.Query.{Query}
-use Rattle.iofd_words.specs.declared.query.Query.TheVariants.{DeviceRead, Held, UserRead}
+use Rattle.iofd_words.specs.declared.query.Query.TheVariants.{AccessRead, DeviceRead, Held, UserRead}
 use Rattle.iofd_words.specs.declared.record.Record.{Record}
 use Rattle.iofd_words.specs.declared.refusal.Cause.{Cause}
 use Rattle.iofd_words.specs.declared.reply.Reply.{Reply}
 use Rattle.iofd_words.specs.declared.reply.Reply.TheVariants as reply
+use Rattle.iofd_words.specs.declared.rows.AccessPin.{AccessPin}
 use Rattle.iofd_words.specs.declared.rows.Area.{Area}
 use Rattle.iofd_words.specs.declared.rows.Attachment.{Attachment}
 use Rattle.iofd_words.specs.declared.rows.MemoryObject.{MemoryObject}
@@ -145,6 +148,19 @@ access_attach f n ioas = event.AccessAttach (file f) (id n) (id ioas)
 abbrev pub access_detach : ℕ → ℕ → Event Global
 access_detach f n = event.AccessDetach (file f) (id n)
 
+-- where and how long, and whether for writes too
+abbrev pub pin_request : ℕ → ℕ → Bool → PinRequest
+pin_request at size write = record { iova = iova at; length = size; write = write }
+
+abbrev pub access_pin : ℕ → ℕ → ℕ → ℕ → Bool → Event Global
+access_pin f n at size write = event.AccessPin (file f) (id n) (pin_request at size write)
+
+abbrev pub access_unpin : ℕ → ℕ → ℕ → ℕ → Bool → Event Global
+access_unpin f n at size write = event.AccessUnpin (file f) (id n) (pin_request at size write)
+
+abbrev pub access_write : ℕ → ℕ → ℕ → List ℕ → Event Global
+access_write f n at bytes = event.AccessWrite (file f) (id n) (iova at) bytes
+
 -- ---- records
 
 -- one that takes frames for tables and gives frames of tables back
@@ -210,6 +226,11 @@ page_row u page n = record { user = user u; page = page; frame = frame n }
 abbrev pub pin_row : ℕ → ℕ → ℕ → Pin
 pin_row memory index n = record { memory = memory; index = index; frame = frame n }
 
+-- the access object that holds it, its first and last address, and whether it is for writes too
+abbrev pub access_pin_row : ℕ → ℕ → ℕ → ℕ → Bool → AccessPin
+access_pin_row f n first last write =
+    record { file = file f; access = id n; span = from_to first last; write = write }
+
 abbrev pub attachment_row : ℕ → ℕ → ℕ → Attachment
 attachment_row d f hwpt = record { device = device d; file = file f; hwpt = id hwpt }
 
@@ -257,6 +278,9 @@ AreAnsweredIn w rows = map (λ row. answers_in {A = Global} w [] row.0) rows ≡
 abbrev pub device_read : ℕ → ℕ → ℕ → Query
 device_read d at len = DeviceRead (device d) (iova at) len
 
+abbrev pub access_read : ℕ → ℕ → ℕ → ℕ → Query
+access_read f n at len = AccessRead (file f) (id n) (iova at) len
+
 abbrev pub user_read : ℕ → ℕ → ℕ → Query
 user_read u va len = UserRead (user u) va len
 
@@ -271,6 +295,27 @@ count n = answer.Count n ∷ []
 
 abbrev pub bytes : List ℕ → List Answer
 bytes read = answer.Read read ∷ []
+
+-- a row of a table of refused questions: the question, and all causes for which it is refused
+abbrev pub QuestionRefusals : Type 0
+QuestionRefusals = List (Query × List Cause)
+
+abbrev pub ApplyToQuestionsIn : World → QuestionRefusals → Type 0
+ApplyToQuestionsIn w rows =
+    map (λ row. causes_of (query_checks (view w) row.0)) rows ≡ map (λ row. row.1) rows
+
+-- a row of a table of questions for notices: the file, the access object, all causes for which it is refused, and the
+-- spans that are told where it isn't
+abbrev pub NoticeQuestions : Type 0
+NoticeQuestions = List (ℕ × ℕ × List Cause × List Bounds)
+
+abbrev pub ApplyToNoticesIn : World → NoticeQuestions → Type 0
+ApplyToNoticesIn w rows =
+    map (λ row. causes_of (notices_checks (view w) (file row.0) (id row.1))) rows ≡ map (λ row. row.2) rows
+
+abbrev pub AreNoticedIn : World → NoticeQuestions → Type 0
+AreNoticedIn w rows =
+    map (λ row. notices (view w) (file row.0) (id row.1)) rows ≡ map (λ row. row.3) rows
 
 -- a row of a table of questions for usable ranges: the file, the address space, and all causes for which it is refused
 abbrev pub RangeQuestions : Type 0

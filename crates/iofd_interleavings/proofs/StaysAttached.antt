@@ -268,4 +268,7 @@ module _ (w : World) (device : DeviceNo) (file : FileNo) (ioas : ObjId) (tidy : 
   stays_attached at (event.AccessDetach own id) reply.Done none answers other =
       the_one _ _ file ioas device.0
       (owed_reattached w.objects w.attachments (owed_one file ioas device.0 ∷ []) own id None one)
+  stays_attached at (event.AccessPin own id request) reply.Done none answers other = is
+  stays_attached at (event.AccessUnpin own id request) reply.Done none answers other = is
+  stays_attached at (event.AccessWrite own id iova bytes) reply.Done none answers other = is
   stays_attached at e answer none answers other = is

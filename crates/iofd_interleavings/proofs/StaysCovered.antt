@@ -7,7 +7,7 @@ use Rattle.iofd_words.specs.After.{attached, changed, copy_changes, detached}
 use Rattle.iofd_words.specs.After.{hwpt_changes, joined, map_changes, mapped_area, settle}
 use Rattle.iofd_words.specs.After.{without_areas}
 use Rattle.iofd_words.specs.Answers.{Answers, waits}
-use Rattle.iofd_words.specs.Areas.{all_paid, areas_of, is_of, is_touched, is_waiting, leaving, owed_by, paid, touched}
+use Rattle.iofd_words.specs.Areas.{all_paid, areas_of, is_of, is_touched, leaving, owed_by, paid, touched}
 use Rattle.iofd_words.specs.Areas.{with_area, with_phase, tried, touched_tries, with_tries, is_held_back}
 use Rattle.iofd_words.specs.Attachments.{devices_of, is_attached_to}
 use Rattle.iofd_words.specs.Checks.{refusal}
@@ -29,7 +29,6 @@ use Rattle.iofd_words.specs.declared.reply.Reply.TheVariants as reply
 use Rattle.iofd_words.specs.declared.rows.Area.{Area}
 use Rattle.iofd_words.specs.declared.rows.Attachment.{Attachment}
 use Rattle.iofd_words.specs.declared.rows.ObjectKind.{ObjectKind}
-use Rattle.iofd_words.specs.declared.rows.ObjectKind.TheVariants as kind
 use Rattle.iofd_words.specs.declared.rows.Phase.{Phase}
 use Rattle.iofd_words.specs.declared.rows.Phase.TheVariants.{Live, Leaving}
 use Rattle.iofd_words.specs.Pins.{has_pin_in}
@@ -243,4 +242,7 @@ module _ (w : World) (device : DeviceNo) (area : Area) (tidy : IsTidy w) (among 
   stays_covered at (event.AccessCreate own) (reply.Id id) none answers other = same
   stays_covered at (event.AccessAttach own id to) reply.Done none answers other = same
   stays_covered at (event.AccessDetach own id) reply.Done none answers other = same
+  stays_covered at (event.AccessPin own id request) reply.Done none answers other = same
+  stays_covered at (event.AccessUnpin own id request) reply.Done none answers other = same
+  stays_covered at (event.AccessWrite own id iova bytes) reply.Done none answers other = same
   stays_covered at e answer none answers other = same

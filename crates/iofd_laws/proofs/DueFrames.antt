@@ -13,6 +13,8 @@ use Rattle.iofd_words.specs.Checks.{lacks_mapped_frames, lacks_new_tables, map_c
 use Rattle.iofd_words.specs.Checks.{tables_to_map, unbind_checks, unmap_checks, user_map_checks}
 use Rattle.iofd_words.specs.Checks.{user_unmap_checks, user_write_checks}
 use Rattle.iofd_words.specs.Checks.{access_create_checks, access_attach_checks, access_detach_checks}
+use Rattle.iofd_words.specs.Checks.{access_pin_checks, access_unpin_checks, access_write_checks, pin_checks_in}
+use Rattle.iofd_words.specs.Objects.{access_ioas_of}
 use Rattle.iofd_words.specs.Copies.{placed_as}
 use Rattle.iofd_words.specs.Files.{device_of, is_open, user_of}
 use Rattle.iofd_words.specs.FirstTrue.{first_true}
@@ -338,7 +340,7 @@ module _ {A : Type 0} (at : ℕ) (w : World) (has : HasTables w) (taken given : 
       → Answers w e answer → MovesTables w (changed at w e answer) e answer taken given → ⊥
   unfolding Answers ioas_alloc_checks allow_iovas_checks unmap_checks destroy_checks close_checks user_unmap_checks
       user_write_checks bind_checks unbind_checks detach_checks flush_checks device_write_checks access_create_checks
-      access_attach_checks access_detach_checks
+      access_attach_checks access_detach_checks access_pin_checks access_unpin_checks access_write_checks
   due (event.Map file request) (reply.Iova iova) refused fixed answers moves =
       by_flag (is_fixed request.flags) refl fixed answers
     where
@@ -362,4 +364,13 @@ module _ {A : Type 0} (at : ℕ) (w : World) (has : HasTables w) (taken given : 
   due (event.HwptAlloc file request) answer refused fixed answers moves = absurd answers
   due (event.Attach device pt_id) answer refused fixed answers moves = absurd answers
   due (event.UserMap user va) answer refused fixed answers moves = absurd answers
+  due (event.AccessPin file id request) answer refused fixed answers moves =
+      never (sym (no_frames (access_ioas_of w.objects file id))
+      ∙ frames_row (access_pin_checks (view w) file id request) refused)
+    where
+      -- a pin takes no frames
+      no_frames : (to : Option ObjId)
+          → list_any (λ row. is_frames row.0 && row.1) (pin_checks_in (view w) file id request to) ≡ false
+      no_frames None = refl
+      no_frames (Some ioas) = refl
   due e answer refused fixed answers moves = never (frames_row (checks (view w) e) refused)

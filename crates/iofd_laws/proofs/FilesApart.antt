@@ -394,6 +394,9 @@ keeps_others at w (event.AccessAttach f id ioas) reply.Done file b none another 
     same_rows (accesses_stay f file id (Some ioas) w.objects (another f refl)) refl refl refl refl
 keeps_others at w (event.AccessDetach f id) reply.Done file b none another =
     same_rows (accesses_stay f file id None w.objects (another f refl)) refl refl refl refl
+keeps_others at w (event.AccessPin f id request) reply.Done file b none another = refl
+keeps_others at w (event.AccessUnpin f id request) reply.Done file b none another = refl
+keeps_others at w (event.AccessWrite f id iova bytes) reply.Done file b none another = refl
 keeps_others at w e answer file b none another = refl
 
 pub after_keeps_others : {A : Type 0} (at : ℕ) (w : World) (r : Record A) (file : FileNo) → AreBound w

@@ -12,6 +12,11 @@ pub mod MemoryApart
 pub mod OutlivesUnmap
 pub mod OwnFrames
 pub mod OwnTables
+pub mod PagesHeld
+pub mod PinsApart
+pub mod PinsDue
+pub mod PinsGained
+pub mod PinsHeld
 pub mod RefusingRow
 pub mod ServedAreas
 pub mod SomeAnswer

@@ -41,6 +41,8 @@ use Rattle.iofd_rows.proofs.PinsFollow.{pin_is_of}
 use Rattle.iofd_runs.proofs.Moves.{AreasMove, SameAreas, FewerAreas, OtherPhases, OneArea, NewMemory, SharedMemory}
 use Rattle.iofd_runs.proofs.Moves.{changed_moves, MemoryUnder}
 use Rattle.iofd_runs.proofs.PagesToPin.{AccessedAlike}
+use Rattle.iofd_runs.proofs.PinsAfter.{after_access_pins}
+use Rattle.iofd_laws.proofs.PinsApart.{others_accessed}
 
 flipped : (a b : ℕ) → eqb a b ≡ true → eqb b a ≡ true
 flipped a b is = grind (arith, nat_tests)
@@ -279,7 +281,7 @@ pin_told at w page p =
     (λ within. at_page (λ q. is_some (pinned_frame w.pins q)) pages page p.pinned within)
 
 module _ {A : Type 0} (at : ℕ) (w : World) (r : Record A) (file : FileNo) (number : ℕ) (before : OwnPins at w)
-    (next : OwnPins (at + 1) (after at w r)) (accessed : AccessedAlike w (after at w r)) (b : AreBound w)
+    (next : OwnPins (at + 1) (after at w r)) (alike : AccessedAlike w (after at w r)) (b : AreBound w)
     (another : IsOfAnother w r.event file) (has : has_memory file w number ≡ true) where
   rows : rows_of file (after at w r) ≡ rows_of file w
   rows = after_keeps_others at w r file b another
@@ -326,15 +328,23 @@ module _ {A : Type 0} (at : ℕ) (w : World) (r : Record A) (file : FileNo) (num
       in
       in_pinned w.objects w.areas w.memory w.access_pins page
       ∙ ap (λ (here : Bool). here && is_pinned w.objects w.areas w.access_pins page) listed
-      ∙ by_listed page (is_listed new.memory page) refl
+      ∙ by_listed (is_listed new.memory page) refl
       ∙ sym (in_pinned new.objects new.areas new.memory new.access_pins page)
     where
-      by_listed : (page : ObjectPage) (b : Bool) → is_listed (after at w r).memory page ≡ b
+      page : ObjectPage
+      page = record { memory = number; index = index }
+
+      by_listed : (b : Bool) → is_listed (after at w r).memory page ≡ b
           → (b && (is_translated w.objects w.areas number || is_accessed w.objects w.areas w.access_pins page))
           ≡ (b && (is_translated (after at w r).objects (after at w r).areas number
           || is_accessed (after at w r).objects (after at w r).areas (after at w r).access_pins page))
-      by_listed page false is = refl
-      by_listed page true is = rw (same_translated, accessed page is) refl
+      by_listed false is = refl
+      by_listed true is =
+          rw (
+            same_translated,
+            others_accessed w file page before.own has r.event (after at w r) another alike
+                (after_access_pins at w r) is,
+          ) refl
 
   pub after_same_memory : SameMemory number w (after at w r)
   after_same_memory = record {

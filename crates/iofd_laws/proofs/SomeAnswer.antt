@@ -18,8 +18,7 @@ use Rattle.iofd_runs.proofs.StillTabled.{in_kept}
 use Rattle.iofd_runs.proofs.PinnedAccess.{some_outcome}
 use Rattle.iofd_words.specs.Answers.{Answers, IsHwptFor, IsHwptOf, IsMappedAt, IsTarget, UnmapAnswers, write_reply}
 use Rattle.iofd_words.specs.Answers.{waits}
-use Rattle.iofd_words.specs.Areas.{is_waiting, touched_bytes, pending_errno, touched_tries}
-use Rattle.iofd_words.specs.Attachments.{devices_of}
+use Rattle.iofd_words.specs.Areas.{touched_bytes, pending_errno, touched_tries}
 use Rattle.iofd_words.specs.Checks.{attach_checks, choices, has_choice, lacks_choice, lacks_room_for_hwpt, least}
 use Rattle.iofd_words.specs.Checks.{mapped_start, may_choose, refusal, taken_spans}
 use Rattle.iofd_words.specs.Copies.{placed_as}
@@ -42,7 +41,6 @@ use Rattle.iofd_words.specs.declared.numbers.DeviceNo.{DeviceNo}
 use Rattle.iofd_words.specs.declared.numbers.FileNo.{FileNo}
 use Rattle.iofd_words.specs.declared.numbers.Iova.{Iova}
 use Rattle.iofd_words.specs.declared.numbers.ObjId.{ObjId}
-use Rattle.iofd_words.specs.declared.refusal.Errno.TheVariants.{EAGAIN}
 use Rattle.iofd_words.specs.declared.reply.Reply.{Reply}
 use Rattle.iofd_words.specs.declared.reply.Reply.TheVariants as reply
 use Rattle.iofd_words.specs.declared.rows.Object.{Object}
@@ -220,3 +218,6 @@ module _ (at : ℕ) (w : World) (pins : ArePinned at w) (fits : RowsFit w) where
       (reply.Id id, fresh)
   some_answer (event.AccessAttach file id ioas) none = (reply.Done, tt)
   some_answer (event.AccessDetach file id) none = (reply.Done, tt)
+  some_answer (event.AccessPin file id request) none = (reply.Done, tt)
+  some_answer (event.AccessUnpin file id request) none = (reply.Done, tt)
+  some_answer (event.AccessWrite file id iova bytes) none = (reply.Done, tt)

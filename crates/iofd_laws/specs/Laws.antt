@@ -125,6 +125,9 @@ file_of w (event.DeviceWrite device iova bytes) = file_of_device w device
 file_of w (event.AccessCreate file) = Some file
 file_of w (event.AccessAttach file id ioas) = Some file
 file_of w (event.AccessDetach file id) = Some file
+file_of w (event.AccessPin file id request) = Some file
+file_of w (event.AccessUnpin file id request) = Some file
+file_of w (event.AccessWrite file id iova bytes) = Some file
 
 -- the event isn't of this file
 abbrev pub IsOfAnother : {A : Type 0} → World → Event A → FileNo → Type 0

@@ -19,6 +19,7 @@ ghost use Rattle.iofd_words.specs.Answers.{Answers};
 ghost use Rattle.iofd_words.specs.Areas.{is_touched};
 ghost use Rattle.iofd_words.specs.Checks.{refusal};
 ghost use Rattle.iofd_words.specs.Files.{limit_of};
+ghost use Rattle.iofd_words.specs.Look.{answers_to};
 ghost use Rattle.iofd_words.specs.Pins.{ObjectPage};
 ghost use Rattle.iofd_words.specs.Policy.{outcomes};
 ghost use Rattle.iofd_words.specs.Run.{IsRun, after, world_of};
@@ -31,7 +32,10 @@ ghost use Rattle.iofd_words.specs.declared.fault.AccessKind.{AccessKind};
 ghost use Rattle.iofd_words.specs.declared.numbers.DeviceNo.{DeviceNo};
 ghost use Rattle.iofd_words.specs.declared.numbers.FileNo.{FileNo};
 ghost use Rattle.iofd_words.specs.declared.numbers.FrameNo.{FrameNo};
+ghost use Rattle.iofd_words.specs.declared.numbers.Iova.{Iova};
+ghost use Rattle.iofd_words.specs.declared.numbers.ObjId.{ObjId};
 ghost use Rattle.iofd_words.specs.declared.numbers.UserNo.{UserNo};
+ghost use Rattle.iofd_words.specs.declared.query.Query.TheVariants.{AccessRead};
 ghost use Rattle.iofd_words.specs.declared.record.Record.{Record};
 ghost use Rattle.iofd_words.specs.declared.refusal.Cause.TheVariants as cause;
 ghost use Rattle.iofd_words.specs.declared.reply.Reply.{Reply};
@@ -103,7 +107,8 @@ pub fn devices_are_bound_once<A: Allocator>()
 {}
 
 /// In every run, each page that is to be pinned has one pin, and no other page has any. No two memory objects have one
-/// number, each area has a memory object of its size, and each memory object has an area.
+/// number, each area has a memory object of its size, and each memory object has an area. Who holds an access pin is
+/// attached, with areas under the whole of it, and access objects are attached to address spaces of their own file.
 pub fn pins_are_those_of_pinned_pages<A: Allocator>()
     ensures { (settings : Settings) (records : List (Record A)) → IsRun settings records →
         ArePinned (length records) (world_of settings records) }
@@ -121,6 +126,14 @@ pub fn pins_keep_their_frames<A: Allocator>()
 pub fn every_access_has_an_answer<A: Allocator>()
     ensures { (settings : Settings) (records : List (Record A)) (device : DeviceNo) (address : ℕ) (right : AccessKind) →
         IsRun settings records → outcomes (world_of settings records) device address right ≢ [] }
+{}
+
+/// In every run, a read of an access object has an answer: where nothing refuses it, a pin of that access object
+/// reaches a frame, whose bytes are answered.
+pub fn every_held_read_has_an_answer<A: Allocator>()
+    ensures { (settings : Settings) (records : List (Record A)) (file : FileNo) (access : ObjId) (iova : Iova)
+        (len : ℕ) → IsRun settings records →
+        answers_to settings records (AccessRead file access iova len) ≢ [] }
 {}
 
 /// In every run, an event that nothing refuses has a lawful record: an answer, and frames for the tables that it needs.

@@ -9,6 +9,7 @@ use Rattle.iofd_words.specs.Allowed.{AllowedRanges, with_allowed}
 use Rattle.iofd_words.specs.Checks.{allow_iovas_checks, bind_checks, close_checks, copy_checks, destroy_checks}
 use Rattle.iofd_words.specs.Checks.{hwpt_alloc_checks, ioas_alloc_checks, map_checks, refusal, unbind_checks}
 use Rattle.iofd_words.specs.Checks.{unmap_checks, access_create_checks, access_attach_checks, access_detach_checks}
+use Rattle.iofd_words.specs.Checks.{access_pin_checks, access_unpin_checks, access_write_checks}
 use Rattle.iofd_words.specs.Files.{is_open, user_of}
 use Rattle.iofd_words.specs.FirstTrue.{first_true}
 use Rattle.iofd_words.specs.Run.{IsRun, world_of}
@@ -28,6 +29,7 @@ use Rattle.iofd_rows.proofs.Each.{IsIn, in_filter, of_any, of_each}
 use Rattle.iofd_rows.proofs.Named.{object_of_kind}
 use Rattle.iofd_rows.proofs.Owed.{each_owed}
 use Rattle.iofd_runs.specs.Fits.{RowsFit, is_known_device}
+use Rattle.iofd_runs.proofs.Accessed.{EachHeld}
 use Rattle.iofd_runs.proofs.KeepsDebts.{IsSound}
 use Rattle.iofd_runs.proofs.Known.{is_known}
 use Rattle.iofd_runs.proofs.Runs.{run_keeps}
@@ -86,15 +88,17 @@ allowed_open settings records run =
     (changed_moves at w e answer).files (changed_moves at w e answer).allowed none open_all) 0 (opening settings)
     records run (λ row there. absurd there)
 
-pub has_nothing : (w : World) (file : FileNo) → RowsFit w → IsSound w → AllowedOpen w → IsIn w.closed file
-    → HasNothing w file
-has_nothing w file fits sound open_all there = record {
+pub has_nothing : (w : World) (file : FileNo) → RowsFit w → IsSound w → EachHeld w.objects w.areas w.access_pins
+    → AllowedOpen w → IsIn w.closed file → HasNothing w file
+has_nothing w file fits sound held open_all there = record {
   objects = λ object has. of_objects object (within w.objects object has);
   areas = λ area has. by_object area.file (object_of_kind w.objects area.file area.ioas _
       ((each_owed w sound.debts).in_spaces area (within w.areas area has)));
   attachments = λ a has. by_object a.file (object_of_kind w.objects a.file a.hwpt _
       ((each_owed w sound.debts).tables a (within w.attachments a has)).table);
   allowed = λ row has. of_another w.closed file row.file (open_all row (within w.allowed row has)) there;
+  access_pins = λ pin has. by_object pin.file (object_of_kind w.objects pin.file pin.access _
+      (held pin (within w.access_pins pin has)).attached);
 }
   where
     of_objects : (object : Object) → IsIn w.objects object → object.file.0 ≢ file.0
@@ -160,6 +164,7 @@ refuses_gone : {A : Type 0} → (w : World) (e : Event A) (file : FileNo) → fi
     → is_open w.settings w.closed file ≡ false → refusal w e ≡ Some cause.Id
 unfolding ioas_alloc_checks allow_iovas_checks map_checks copy_checks unmap_checks hwpt_alloc_checks destroy_checks
     close_checks bind_checks unbind_checks access_create_checks access_attach_checks access_detach_checks
+    access_pin_checks access_unpin_checks access_write_checks
 refuses_gone w (event.IoasAlloc f) file is gone = refuses w f file (ioas_alloc_checks (view w) f) is gone refl
 refuses_gone w (event.AllowIovas f ioas ranges) file is gone =
     refuses w f file (allow_iovas_checks (view w) f ioas ranges) is gone refl
@@ -177,6 +182,12 @@ refuses_gone w (event.AccessAttach f id ioas) file is gone =
     refuses w f file (access_attach_checks (view w) f id ioas) is gone refl
 refuses_gone w (event.AccessDetach f id) file is gone =
     refuses w f file (access_detach_checks (view w) f id) is gone refl
+refuses_gone w (event.AccessPin f id request) file is gone =
+    refuses w f file (access_pin_checks (view w) f id request) is gone refl
+refuses_gone w (event.AccessUnpin f id request) file is gone =
+    refuses w f file (access_unpin_checks (view w) f id request) is gone refl
+refuses_gone w (event.AccessWrite f id iova bytes) file is gone =
+    refuses w f file (access_write_checks (view w) f id iova bytes) is gone refl
 refuses_gone w e file is gone = cc
 
 pub gone_refused : {A : Type 0} → (w : World) (e : Event A) (file : FileNo) → file_named e ≡ Some file → IsGone w file

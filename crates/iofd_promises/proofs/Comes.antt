@@ -1,5 +1,5 @@
 -- Objects and attachments that a step brings: an object with a name that no other had, and a device's attachment.
-use Rattle.std.proofs.Common.{◌≡◌, ℕ, true, Some, None, List, sym, ◌∙◌, ◌⊎◌, inl, inr, ⊎_elim, subst, ap, false}
+use Rattle.std.proofs.Common.{◌≡◌, ℕ, true, Some, None, List, sym, ◌∙◌, ⊎_elim, subst, ap, false}
 use Rattle.iofd_words.specs.After.{changed}
 use Rattle.iofd_words.specs.Answers.{Answers}
 use Rattle.iofd_words.specs.Checks.{refusal}

@@ -6,12 +6,14 @@ use Rattle.iofd_words.specs.World.{opening}
 use Rattle.iofd_words.specs.declared.record.Record.{Record}
 use Rattle.iofd_runs.specs.Apart.{are_apart}
 use Rattle.iofd_runs.specs.Fits.{RowsFit}
+use Rattle.iofd_runs.specs.PinsFit.{AccessPinsFit}
 use Rattle.iofd_runs.proofs.KeepsApart.{keeps_apart}
 use Rattle.iofd_runs.proofs.KeepsFits.{keeps_fit, tabled_fit}
 use Rattle.iofd_runs.proofs.KeepsUsable.{UsableSound, keeps_usable, opening_usable, tabled_usable}
 use Rattle.iofd_runs.proofs.KeepsTabled.{HasTables, keeps_tables, opening_tables}
 use Rattle.iofd_rows.specs.Pinned.{ArePinned}
 use Rattle.iofd_runs.proofs.KeepsPins.{keeps_pins, later_pinned, opening_pinned, tabled_pinned}
+use Rattle.iofd_runs.proofs.KeepsPinsFit.{keeps_pins_fit, opening_pins_fit, tabled_pins_fit}
 use Rattle.iofd_runs.proofs.Runs.{run_keeps, run_keeps_at, run_keeps_tables}
 use Rattle.iofd_words.specs.Tables.{with_tables}
 use Rattle.iofd_promises.proofs.KeepsWidths.{WidthSound, keeps_widths, tabled_widths}
@@ -55,6 +57,12 @@ pub tables_of : {A : Type 0} (settings : Settings) (records : List (Record A)) �
 unfolding IsRun world_of
 tables_of settings records run =
     run_keeps_tables HasTables keeps_tables 0 (opening settings) records run (opening_tables settings)
+
+pub pins_fit_of : {A : Type 0} (settings : Settings) (records : List (Record A)) → IsRun settings records
+    → AccessPinsFit (world_of settings records)
+unfolding IsRun world_of
+pins_fit_of settings records run =
+    run_keeps AccessPinsFit tabled_pins_fit keeps_pins_fit 0 (opening settings) records run (opening_pins_fit settings)
 
 pub pinned_of : {A : Type 0} (settings : Settings) (records : List (Record A)) → IsRun settings records
     → ArePinned (length records) (world_of settings records)

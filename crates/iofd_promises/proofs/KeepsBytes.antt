@@ -1,4 +1,5 @@
--- Which writes a step adds: a user's, a device's, and none else; a frame that is given out loses its own.
+-- Which writes a step adds: a user's, an access object's, a device's, and none else; a frame that is given out loses
+-- its own.
 use Rattle.std.proofs.Common.{◌≡◌, ◌≢◌, ℕ, false, List, ap, ◌∙◌, refl, true}
 use Rattle.iofd_words.specs.After.{changed}
 use Rattle.iofd_words.specs.Answers.{Answers}
@@ -20,6 +21,7 @@ use Rattle.iofd_laws.proofs.OwnFrames.{never_written}
 writes_change : {A : Type 0} → (e : Event A) (answer : Reply) → Writes e answer → changes_bytes e answer ≡ true
 writes_change (event.UserWrite user va bytes) reply.Done written = refl
 writes_change (event.DeviceWrite device iova bytes) (reply.Passed frame) written = refl
+writes_change (event.AccessWrite file id iova bytes) reply.Done written = refl
 writes_change e answer never = absurd never
 
 -- an answer that gives out no frame, or another one

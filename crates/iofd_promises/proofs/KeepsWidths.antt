@@ -76,8 +76,8 @@ keeps_widths settings at w e answer none answers s = record {
     by_row a (inl old) = λ d ioas width automatic known table.
         let had = (each_owed w s.sound.debts).tables a old in
         s.widths a old d ioas width automatic known
-        (same_kind w.objects (changed at w e answer).objects a.file a.hwpt (kind.Hwpt had.ioas had.width had.automatic) _
-        s.sound.own_ids
+        (same_kind w.objects (changed at w e answer).objects a.file a.hwpt
+        (kind.Hwpt had.ioas had.width had.automatic) _ s.sound.own_ids
         (came at w e answer none answers) refl had.table table)
     by_row a (inr new) = λ d ioas width automatic known table. new d ioas width automatic (rw s.opened known) table
 

@@ -1,3 +1,4 @@
+pub mod AccessPinRows
 pub mod Bytes
 pub mod ClosedFiles
 pub mod Comes
@@ -6,8 +7,10 @@ pub mod Denials
 pub mod Facts
 pub mod FixedAddresses
 pub mod GivenOut
+pub mod HeldBytes
 pub mod KeepsBytes
 pub mod KeepsWidths
+pub mod KeptPinned
 pub mod Lists
 pub mod NewAreas
 pub mod NewPins

@@ -6,7 +6,7 @@ use Rattle.std.specs.List.{sum_by, fold}
 use Rattle.std.proofs.lemmas.Bool.{eqb-true}
 use Rattle.std.proofs.lemmas.Bool.Decides.{nat_tests}
 use Rattle.std.proofs.lemmas.List.Sums.{sum_by-cons}
-use Rattle.iofd_words.specs.Areas.{all_paid, areas_of, is_cut, is_everything, is_of, is_touched, is_waiting, leaving}
+use Rattle.iofd_words.specs.Areas.{all_paid, areas_of, is_cut, is_everything, is_of, is_touched, leaving}
 use Rattle.iofd_words.specs.Areas.{owed_by, paid, touched, touched_bytes, unmapped_span, with_leaving, with_phase}
 use Rattle.iofd_words.specs.Areas.{tried, tries_of, touched_tries, pending_errno, with_tries, is_held_back}
 use Rattle.iofd_words.specs.Attachments.{devices_of}

@@ -7,7 +7,7 @@ use Rattle.iofd_words.specs.After.{changed}
 use Rattle.iofd_words.specs.Checks.{refusal, user_access_checks}
 use Rattle.iofd_words.specs.FirstTrue.{first_true}
 use Rattle.iofd_words.specs.Frames.{bytes_at, frame_at}
-use Rattle.iofd_words.specs.Look.{answers_in, lawful_answers, user_bytes}
+use Rattle.iofd_words.specs.Look.{answers_in, lawful_answers, page_bytes}
 use Rattle.iofd_words.specs.View.{view}
 use Rattle.iofd_words.specs.World.{World}
 use Rattle.iofd_words.specs.declared.event.Event.TheVariants as event
@@ -99,7 +99,7 @@ user_reads w records user va len bytes has = by_refusal (first_true (user_access
         × AreBytesOf w page.frame.0 (va % 4096) len bytes
 
     by_frame : (o : Option FrameNo) → frame_at w.user_pages user (va / 4096) ≡ o
-        → Contains (user_bytes w va len o) (answer.Read bytes) → Reads
+        → Contains (page_bytes w va len o) (answer.Read bytes) → Reads
     by_frame None is (k, within, same) = absurd (omega (arith, within))
     by_frame (Some frame) is has =
         let page = page_at w user (va / 4096) frame is in

@@ -36,8 +36,9 @@ pub record AreBytesOf (w : World) (frame start len : ℕ) (bytes : List ℕ) : T
   pub count : length bytes ≡ len
   pub each : (k byte : ℕ) → slice_get bytes k ≡ Some byte → byte ≡ reads w.writes frame (start + k)
 
--- the record changes bytes: a user's write that is done, or a device's that passes
+-- the record changes bytes: a user's write or an access object's that is done, or a device's that passes
 abbrev pub changes_bytes : {A : Type 0} → Event A → Reply → Bool
 changes_bytes (event.UserWrite user va bytes) reply.Done = true
 changes_bytes (event.DeviceWrite device iova bytes) (reply.Passed frame) = true
+changes_bytes (event.AccessWrite file access iova bytes) reply.Done = true
 changes_bytes e answer = false

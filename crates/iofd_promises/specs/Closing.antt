@@ -5,6 +5,7 @@ use Rattle.iofd_words.specs.World.{World}
 use Rattle.iofd_words.specs.declared.event.Event.{Event}
 use Rattle.iofd_words.specs.declared.event.Event.TheVariants as event
 use Rattle.iofd_words.specs.declared.numbers.FileNo.{FileNo}
+use Rattle.iofd_words.specs.declared.rows.AccessPin.{AccessPin}
 use Rattle.iofd_words.specs.declared.rows.Area.{Area}
 use Rattle.iofd_words.specs.declared.rows.Attachment.{Attachment}
 use Rattle.iofd_words.specs.declared.rows.Object.{Object}
@@ -15,6 +16,7 @@ pub record HasNothing (w : World) (file : FileNo) : Type 0 where
   pub areas : (area : Area) → Contains w.areas area → area.file.0 ≢ file.0
   pub attachments : (a : Attachment) → Contains w.attachments a → a.file.0 ≢ file.0
   pub allowed : (ranges : AllowedRanges) → Contains w.allowed ranges → ranges.file.0 ≢ file.0
+  pub access_pins : (pin : AccessPin) → Contains w.access_pins pin → pin.file.0 ≢ file.0
 
 -- it was closed, or there is none of its number: files are numbered from 1
 abbrev pub IsGone : World → FileNo → Type 0
@@ -42,3 +44,6 @@ file_named (event.DeviceWrite device iova bytes) = None
 file_named (event.AccessCreate file) = Some file
 file_named (event.AccessAttach file id ioas) = Some file
 file_named (event.AccessDetach file id) = Some file
+file_named (event.AccessPin file id request) = Some file
+file_named (event.AccessUnpin file id request) = Some file
+file_named (event.AccessWrite file id iova bytes) = Some file

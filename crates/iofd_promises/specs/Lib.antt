@@ -5,4 +5,5 @@ pub mod Unmaps
 pub mod Bounded
 pub mod Closing
 pub mod Reserved
+pub mod Holding
 pub mod Mapped

@@ -163,3 +163,4 @@ pub record SameOthers (old new : World) : Type 0 where
   pub pins : new.pins ≡ old.pins
   pub writes : new.writes ≡ old.writes
   pub closed : new.closed ≡ old.closed
+  pub access_pins : new.access_pins ≡ old.access_pins

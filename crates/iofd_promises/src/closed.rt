@@ -12,7 +12,7 @@ ghost use Rattle.iofd_words.specs.declared.reply.Reply.TheVariants as reply;
 
 use std::alloc::Allocator;
 
-/// In every run, a closed file has nothing: no object, no area, no attachment, and no allowed ranges.
+/// In every run, a closed file has nothing: no object, no area, no attachment, no allowed ranges and no access pin.
 pub fn closed_files_have_nothing<A: Allocator>()
     ensures { (settings : Settings) (records : List (Record A)) (file : FileNo) → IsRun settings records →
         Contains (world_of settings records).closed file → HasNothing (world_of settings records) file }

@@ -2,6 +2,7 @@
 //! become false where a definition is altered. Each is the contract of a function that does nothing; nothing here runs.
 #![tactic(auto)]
 
+mod access;
 mod closed;
 mod isolation;
 mod limits;
@@ -11,6 +12,12 @@ mod policy;
 mod ranges;
 mod unmap;
 
+pub use access::{
+    a_pin_adds_just_itself, access_pins_are_whole_pages_and_few, access_pins_of_files_are_apart,
+    an_unpin_takes_just_one, areas_lie_under_access_pins,
+    frames_of_pinned_pages_are_given_to_nobody, no_access_pin_lies_in_what_an_unmap_took,
+    pages_are_pinned_by_what_keeps_them, pages_keep_their_frames_while_pinned,
+};
 pub use closed::{
     closed_files_have_nothing, closed_files_stay_closed, commands_of_gone_files_are_refused,
 };
@@ -25,8 +32,10 @@ pub use limits::{
 };
 pub use mapping::{a_copy_maps_the_same_memory, a_map_maps_what_was_asked};
 pub use memory::{
-    given_frames_read_zero, nothing_else_changes_a_byte, passed_writes_change_just_their_bytes,
-    reads_answer_what_stands_there, user_writes_change_just_their_bytes,
+    given_frames_read_zero, held_reads_answer_what_stands_there,
+    held_writes_change_just_their_bytes, nothing_else_changes_a_byte,
+    passed_writes_change_just_their_bytes, reads_answer_what_stands_there,
+    user_writes_change_just_their_bytes,
 };
 pub use policy::{
     denied_reads_have_no_area, denied_writes_have_no_area, faults_tell_why,

@@ -1,6 +1,6 @@
 -- An access object is attached or detached: it alone changes, and by its attachment alone. What tells no attachment of
 -- an access object from another stays, and so does each object of another kind.
-use Rattle.std.proofs.Common.{◌≡◌, ℕ, Bool, true, false, cond, ◌&&◌, eqb, Option, Some, None, List, [], ◌∷◌, map, refl}
+use Rattle.std.proofs.Common.{◌≡◌, ℕ, Bool, true, false, cond, ◌&&◌, eqb, Option, Some, None, List, [], ◌∷◌, refl}
 use Rattle.std.proofs.Common.{ap, sym, ◌∙◌, ◌≤◌, subst, arith}
 use Rattle.std.specs.List.{count_by, find, list_all, list_any}
 use Rattle.iofd_rows.proofs.Each.{IsIn, in_map}
@@ -8,7 +8,6 @@ use Rattle.iofd_rows.proofs.PageCounts.{count-cons}
 use Rattle.iofd_rows.specs.Ids.{AreBoundOnce, have_own_ids}
 use Rattle.iofd_words.specs.Attachments.{is_attached_to}
 use Rattle.iofd_words.specs.Objects.{has_hwpt, is_access, is_bound_as, is_hwpt_over, is_object, kind_of, with_access}
-use Rattle.iofd_words.specs.declared.numbers.DeviceNo.{DeviceNo}
 use Rattle.iofd_words.specs.declared.numbers.FileNo.{FileNo}
 use Rattle.iofd_words.specs.declared.numbers.ObjId.{ObjId}
 use Rattle.iofd_words.specs.declared.rows.Attachment.{Attachment}

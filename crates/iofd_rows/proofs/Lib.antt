@@ -6,6 +6,7 @@ pub mod BoundOnce
 pub mod Contained
 pub mod Each
 pub mod Found
+pub mod InSpaces
 pub mod ListTests
 pub mod Moves
 pub mod Named

@@ -1,6 +1,6 @@
 -- Which pages are to be pinned: those of memory objects that a page table translates, and those that access pins
 -- cover.
-use Rattle.std.proofs.Common.{◌≡◌, ℕ, Bool, true, false, ◌&&◌, ◌||◌, not, eqb, ltb, Option, Some, None, List, [], ◌∷◌}
+use Rattle.std.proofs.Common.{◌≡◌, ℕ, Bool, true, false, ◌&&◌, ◌||◌, not, eqb, ltb, List, [], ◌∷◌}
 use Rattle.std.proofs.Common.{◌++◌, map, refl, ap, sym, ◌∙◌, arith}
 use Rattle.std.specs.List.{filter, flat_map, list_any}
 use Rattle.std.proofs.lemmas.Bool.Decides.{nat_tests}
@@ -16,8 +16,6 @@ use Rattle.iofd_words.specs.declared.rows.AccessPin.{AccessPin}
 use Rattle.iofd_words.specs.declared.rows.Area.{Area}
 use Rattle.iofd_words.specs.declared.rows.MemoryObject.{MemoryObject}
 use Rattle.iofd_words.specs.declared.rows.Object.{Object}
-use Rattle.iofd_words.specs.declared.rows.ObjectKind.{ObjectKind}
-use Rattle.iofd_words.specs.declared.rows.ObjectKind.TheVariants as kind
 use Rattle.iofd_words.specs.declared.rows.Phase.{Phase}
 use Rattle.iofd_rows.specs.Pinned.{differ, have_own_numbers}
 use Rattle.iofd_rows.proofs.Bools.{and_true, both_true, not_true, or_none}

@@ -1,9 +1,9 @@
 -- Who holds an access pin is attached, and areas of its address space lie under the whole of it: so none of them may
--- go, and none may come there.
-use Rattle.std.specs.Prelude.{◌≡◌, ℕ, Bool, true, ◌&&◌, Some, List, [], ◌∷◌}
-use Rattle.std.specs.List.{list_any}
+-- go, and none may come there. Access objects are attached to address spaces of their own file alone.
+use Rattle.std.specs.Prelude.{◌≡◌, ℕ, Bool, true, ◌&&◌, Some, None, List, [], ◌∷◌}
+use Rattle.std.specs.List.{list_all, list_any}
 use Rattle.iofd_words.specs.Areas.{is_of}
-use Rattle.iofd_words.specs.Objects.{kind_of}
+use Rattle.iofd_words.specs.Objects.{access_ioas, has_ioas, kind_of}
 use Rattle.iofd_words.specs.Span.{holds}
 use Rattle.iofd_words.specs.declared.numbers.FileNo.{FileNo}
 use Rattle.iofd_words.specs.declared.numbers.ObjId.{ObjId}
@@ -26,3 +26,11 @@ pub record IsHeld (objects : List Object) (areas : List Area) (pin : AccessPin) 
 abbrev pub AreHeld : List Object → List Area → List AccessPin → Type 0
 AreHeld objects areas [] = Unit {0}
 AreHeld objects areas (pin ∷ pins) = IsHeld objects areas pin × AreHeld objects areas pins
+
+-- the object's address space is there, if it is an access object that is attached
+abbrev pub is_in_space : List Object → Object → Bool
+is_in_space objects object =
+    elim (access_ioas object.kind) [ Some ioas ↦ has_ioas objects object.file ioas | None ↦ true ]
+
+abbrev pub are_in_spaces : List Object → Bool
+are_in_spaces objects = list_all (is_in_space objects) objects

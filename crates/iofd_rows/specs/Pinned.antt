@@ -4,7 +4,7 @@ use Rattle.std.specs.Prelude.{List, [], ◌∷◌, map}
 use Rattle.std.specs.List.{list_any, list_all}
 use Rattle.iofd_words.specs.Pins.{ObjectPage, is_page, page_of_pin, pinned_pages, pinned_frame}
 use Rattle.iofd_words.specs.Span.{size_of}
-use Rattle.iofd_rows.specs.AccessPins.{AreHeld}
+use Rattle.iofd_rows.specs.AccessPins.{AreHeld, are_in_spaces}
 use Rattle.iofd_words.specs.World.{World}
 use Rattle.iofd_words.specs.declared.rows.Area.{Area}
 use Rattle.iofd_words.specs.declared.rows.MemoryObject.{MemoryObject}
@@ -47,3 +47,5 @@ pub record ArePinned (at : ℕ) (w : World) : Type 0 where
   pub once : differ (map page_of_pin w.pins) ≡ true
   -- access pins are held by who is attached, with areas under them
   pub held : AreHeld w.objects w.areas w.access_pins
+  -- access objects are attached to address spaces of their own file alone
+  pub spaces : are_in_spaces w.objects ≡ true

@@ -1,12 +1,11 @@
 -- Access pins, and the pages that they cover. An access object that holds one is attached, and areas of its address
 -- space lie under the whole of it: so no area can come to lie there, and where none of these goes the same pages are
 -- covered.
-use Rattle.std.proofs.Common.{◌≡◌, ℕ, ◌+◌, ◌*◌, ◌-◌, ◌/◌, ◌<◌, ◌≤◌, Bool, true, false, cond, ◌&&◌, ◌||◌, not, eqb, leb}
+use Rattle.std.proofs.Common.{◌≡◌, ℕ, ◌+◌, ◌*◌, ◌-◌, ◌/◌, ◌<◌, ◌≤◌, Bool, true, false, ◌&&◌, ◌||◌, not, eqb, leb}
 use Rattle.std.proofs.Common.{ltb, Option, Some, None, List, [], ◌∷◌, map, refl, ap, sym, subst, ◌∙◌, inl, inr, arith}
-use Rattle.std.specs.List.{filter, find, list_all, list_any}
-use Rattle.std.proofs.lemmas.Bool.{eqb-true}
+use Rattle.std.specs.List.{filter, list_all, list_any}
 use Rattle.std.proofs.lemmas.Bool.Decides.{nat_tests}
-use Rattle.iofd_rows.proofs.Bools.{and_true, both_true, clash, or_false}
+use Rattle.iofd_rows.proofs.Bools.{and_true, both_true, clash}
 use Rattle.iofd_rows.proofs.Each.{IsIn, of_any, of_each, in_kept}
 use Rattle.iofd_rows.proofs.ListTests.{alike, any-filter, any_weaker, false_else, or_right, none_stronger}
 use Rattle.iofd_rows.proofs.PageLists.{any-with_area}
@@ -19,8 +18,8 @@ use Rattle.iofd_rows.proofs.Unusable.{none_of}
 use Rattle.iofd_words.specs.Areas.{areas_meet, areas_of, is_of, with_area, with_phase}
 use Rattle.iofd_words.specs.Bounds.{Bounds}
 use Rattle.iofd_words.specs.Objects.{is_access_to, kind_of}
-use Rattle.iofd_words.specs.Pins.{ObjectPage, covers_page, has_pin_in, is_accessed, is_page, is_pin_in, span_of_page}
-use Rattle.iofd_words.specs.Span.{holds, lies_in, meets, size_of, span_from}
+use Rattle.iofd_words.specs.Pins.{ObjectPage, covers_page, has_pin_in, is_accessed, is_pin_in, span_of_page}
+use Rattle.iofd_words.specs.Span.{holds, lies_in, meets, size_of}
 use Rattle.iofd_words.specs.declared.numbers.FileNo.{FileNo}
 use Rattle.iofd_words.specs.declared.numbers.ObjId.{ObjId}
 use Rattle.iofd_words.specs.declared.rows.AccessPin.{AccessPin}
@@ -108,7 +107,8 @@ covered_page objects index pin area below covers =
     held : (first last n : ℕ) → first ≤ n → n ≤ last → (leb first n && leb n last) ≡ true
     held first last n low high = search (low, high, arith, nat_tests)
 
-    first_held : (first last n : ℕ) → (leb first n && leb (n + 4096 - 1) last) ≡ true → (leb first n && leb n last) ≡ true
+    first_held : (first last n : ℕ) → (leb first n && leb (n + 4096 - 1) last) ≡ true
+        → (leb first n && leb n last) ≡ true
     first_held first last n lies =
         let parts = and_true (leb first n) (leb (n + 4096 - 1) last) lies in
         let high : n + 4096 - 1 ≤ last = let is = parts.1 in search (is, arith, nat_tests) in
@@ -131,7 +131,7 @@ covered_meets objects index pin area below covers =
 -- ---- the same pages are covered
 
 -- the page is covered in this area, by this pin
-abbrev covers_here : List Object → ObjectPage → AccessPin → Area → Bool
+abbrev pub covers_here : List Object → ObjectPage → AccessPin → Area → Bool
 covers_here objects page pin area = eqb area.memory page.memory && covers_page objects page.index pin area
 
 -- pin by pin
@@ -201,19 +201,16 @@ accessed_fewer objects goes areas pins page of free =
         (of_any (λ (p : AccessPin). is_pin_in objects p area && meets area.span p.span) pins pin among meets_it))
 
 -- an area comes where none was: each pin has areas under it, so it covers no page of the new one
-pub accessed_more : (objects : List Object) (area : Area) (areas : List Area) (pins : List AccessPin)
+pub new_uncovered : (objects : List Object) (area : Area) (areas : List Area) (pins : List AccessPin)
     (page : ObjectPage) → EachHeld objects areas pins
     → (eqb area.memory page.memory ≡ true → ltb page.index (size_of area.span / 4096) ≡ true)
     → areas_meet area.span (areas_of areas area.file area.ioas) ≡ false
-    → is_accessed objects (with_area area areas) pins page ≡ is_accessed objects areas pins page
-accessed_more objects area areas pins page held of apart =
-    by_pins objects objects areas (with_area area areas) pins page (λ pin among.
-    any-with_area (covers_here objects page pin) area areas
-    ∙ ap (λ b. b || list_any (covers_here objects page pin) areas)
-    (false_else (covers_here objects page pin area) (λ covers. never pin among covers)))
+    → (pin : AccessPin) → IsIn pins pin → covers_here objects page pin area ≡ false
+new_uncovered objects area areas pins page held of apart pin among =
+    false_else (covers_here objects page pin area) never
   where
-    never : (pin : AccessPin) → IsIn pins pin → covers_here objects page pin area ≡ true → ⊥
-    never pin among covers =
+    never : covers_here objects page pin area ≡ true → ⊥
+    never covers =
         let parts = and_true (eqb area.memory page.memory) (covers_page objects page.index pin area) covers in
         let (pinned, here, there) = covered_page objects page.index pin area (of parts.0) parts.1 in
         let is = held pin among in
@@ -234,6 +231,17 @@ accessed_more objects area areas pins page held of apart =
         same_space : (f g : FileNo) (i j : ObjId) (a : Area) → eqb g.0 f.0 ≡ true → eqb i.0 j.0 ≡ true
             → is_of f i a ≡ true → is_of g j a ≡ true
         same_space f g i j a files spaces of = grind (arith, nat_tests)
+
+pub accessed_more : (objects : List Object) (area : Area) (areas : List Area) (pins : List AccessPin)
+    (page : ObjectPage) → EachHeld objects areas pins
+    → (eqb area.memory page.memory ≡ true → ltb page.index (size_of area.span / 4096) ≡ true)
+    → areas_meet area.span (areas_of areas area.file area.ioas) ≡ false
+    → is_accessed objects (with_area area areas) pins page ≡ is_accessed objects areas pins page
+accessed_more objects area areas pins page held of apart =
+    by_pins objects objects areas (with_area area areas) pins page (λ pin among.
+    any-with_area (covers_here objects page pin) area areas
+    ∙ ap (λ b. b || list_any (covers_here objects page pin) areas)
+    (new_uncovered objects area areas pins page held of apart pin among))
 
 -- ---- pins are held still
 

@@ -128,7 +128,8 @@ never_pinned at w page p untranslated = by_frame (pinned_frame w.pins page) refl
     by_frame : (o : Option FrameNo) → pinned_frame w.pins page ≡ o → is_none o ≡ true
     by_frame None is = refl
     by_frame (Some frame) is =
-        absurd (clash _ untranslated (and_true (is_listed w.memory page) (is_pinned w.objects w.areas w.access_pins page)
+        absurd (clash _ untranslated
+        (and_true (is_listed w.memory page) (is_pinned w.objects w.areas w.access_pins page)
         (sym (in_pinned w.objects w.areas w.memory w.access_pins page)
         ∙ pin_is_of w.pins (pinned_pages w.objects w.areas w.memory w.access_pins) page
         (ap (λ (o : Option FrameNo). is_some o) is) p.only)).1)

@@ -9,7 +9,7 @@ use Rattle.iofd_words.specs.Checks.{copy_checks, newly_copied}
 use Rattle.iofd_words.specs.Copies.{placed_as}
 use Rattle.iofd_words.specs.FirstTrue.{first_true}
 use Rattle.iofd_words.specs.Objects.{has_hwpt}
-use Rattle.iofd_words.specs.Pins.{ObjectPage, frame_now, is_page, is_translated, pinned_frame, pinned_pages}
+use Rattle.iofd_words.specs.Pins.{ObjectPage, frame_now, is_page, pinned_frame, pinned_pages}
 use Rattle.iofd_words.specs.Pins.{unpinned_pages, is_accessed, is_pinned}
 use Rattle.iofd_words.specs.View.{view}
 use Rattle.iofd_words.specs.World.{World}

@@ -1,17 +1,18 @@
 -- What an event that nothing refuses leaves of access pins: who holds one stays attached, and no area goes that one
 -- meets.
-use Rattle.std.proofs.Common.{◌≡◌, ℕ, Bool, true, false, ◌&&◌, ◌||◌, not, eqb, is_none, is_some, length, Option, Some}
-use Rattle.std.proofs.Common.{None, List, [], ◌∷◌, refl, ap, sym, ◌∙◌, arith}
+use Rattle.std.proofs.Common.{◌≡◌, ℕ, Bool, true, false, ◌&&◌, not, eqb, is_some, length, Option, Some}
+use Rattle.std.proofs.Common.{None, List, refl, ap, sym, ◌∙◌, arith}
 use Rattle.std.specs.List.{filter, list_any}
 use Rattle.std.proofs.lemmas.Bool.Decides.{nat_tests}
 use Rattle.iofd_rows.proofs.Accesses.{kind_elsewhere, kind_reattached}
 use Rattle.iofd_rows.proofs.Bools.{and_true, both_true, clash, not_false, not_true, or_false}
 use Rattle.iofd_rows.proofs.Each.{IsIn, in_kept, of_any}
+use Rattle.iofd_rows.proofs.InSpaces.{IsSpaceOf, spaces_fewer, spaces_more, spaces_reattached}
 use Rattle.iofd_rows.proofs.ListTests.{false_else}
-use Rattle.iofd_rows.proofs.Named.{file_is, id_is, kind_before, kind_kept, named, object_of_kind}
+use Rattle.iofd_rows.proofs.Named.{file_is, id_is, kind_before, kind_kept, object_of_kind}
 use Rattle.iofd_rows.proofs.OwnIds.{unused}
 use Rattle.iofd_rows.proofs.Unusable.{each_not, none_of}
-use Rattle.iofd_rows.specs.AccessPins.{IsHeld}
+use Rattle.iofd_rows.specs.AccessPins.{IsHeld, are_in_spaces}
 use Rattle.iofd_runs.proofs.Accessed.{EachHeld, HoldersStay, some_in}
 use Rattle.iofd_words.specs.After.{goes_with}
 use Rattle.iofd_words.specs.Answers.{waits}
@@ -19,7 +20,7 @@ use Rattle.iofd_words.specs.Areas.{is_held_back, is_of, is_touched, owed_by, tou
 use Rattle.iofd_words.specs.Attachments.{devices_of}
 use Rattle.iofd_words.specs.Checks.{is_used}
 use Rattle.iofd_words.specs.Objects.{access_ioas, access_ioas_of, has_access_to, has_hwpt, is_access, is_access_to}
-use Rattle.iofd_words.specs.Objects.{is_automatic, is_bound_device, is_fresh, is_object, kind_of, objects_of}
+use Rattle.iofd_words.specs.Objects.{is_bound_device, is_fresh, is_object, kind_of, objects_of}
 use Rattle.iofd_words.specs.Objects.{with_access}
 use Rattle.iofd_words.specs.Objects.{with_object, without_device_object, without_object}
 use Rattle.iofd_words.specs.Pins.{has_pin_in, holds_pin, is_pin_in}
@@ -81,16 +82,16 @@ fewer_holders q objects pins keeps pin among ioas is space = (
 )
 
 -- DESTROY is refused for one that is attached
-pub destroyed_holders : (w : World) (file : FileNo) (id : ObjId)
+destroyed_keeps : (w : World) (file : FileNo) (id : ObjId)
     → is_used (view w) file id (kind_of w.objects file id) ≡ false
-    → HoldersStay w.objects (without_object file id w.objects) w.access_pins
-destroyed_holders w file id unused =
-    fewer_holders (λ o. not (is_object file id o)) w.objects w.access_pins (record {
+    → KeepsHolders (λ o. not (is_object file id o)) w.objects
+destroyed_keeps w file id unused =
+    record {
       holder = λ object ioas is of_kind.
           not_false _ (false_else (is_object file id object) (λ names. never object ioas is names));
       space = λ object is of_kind has.
           not_false _ (false_else (is_object file id object) (λ names. in_use object is has names));
-    })
+    }
   where
     in_use : (object : Object) → kind_of w.objects object.file object.id ≡ Some kind.Ioas
         → has_access_to w.objects object.file object.id ≡ true → is_object file id object ≡ true → ⊥
@@ -122,16 +123,16 @@ is_one ioas (kind.Device device) is = cc
 is_one ioas (kind.Access attached) is = refl
 
 -- Close for a file that has any
-pub closed_holders : (w : World) (file : FileNo)
+closed_keeps : (w : World) (file : FileNo)
     → list_any (λ (o : Object). is_access o.kind) (objects_of w.objects file) ≡ false
-    → HoldersStay w.objects (filter (λ (o : Object). not (eqb o.file.0 file.0)) w.objects) w.access_pins
-closed_holders w file none =
-    fewer_holders (λ o. not (eqb o.file.0 file.0)) w.objects w.access_pins (record {
+    → KeepsHolders (λ o. not (eqb o.file.0 file.0)) w.objects
+closed_keeps w file none =
+    record {
       holder = λ object ioas is of_kind.
           not_false _ (false_else (eqb object.file.0 file.0) (λ own. never object ioas is own));
       space = λ object is of_kind has.
           not_false _ (false_else (eqb object.file.0 file.0) (λ own. in_use object has own));
-    })
+    }
   where
     in_use : (object : Object) → has_access_to w.objects object.file object.id ≡ true → eqb object.file.0 file.0 ≡ true
         → ⊥
@@ -152,34 +153,32 @@ closed_holders w file none =
         (in_kept (λ (o : Object). eqb o.file.0 file.0) w.objects x within own_x) (ap is_access of_kind))
 
 -- what else goes is no access object
-pub unbound_holders : (w : World) (file : FileNo) (id : ObjId)
-    → HoldersStay w.objects (without_device_object file id w.objects) w.access_pins
-unbound_holders w file id =
-    fewer_holders (λ o. not (is_object file id o && is_bound_device o.kind)) w.objects w.access_pins
-    (record {
+unbound_keeps : (w : World) (file : FileNo) (id : ObjId)
+    → KeepsHolders (λ o. not (is_object file id o && is_bound_device o.kind)) w.objects
+unbound_keeps w file id =
+    record {
       holder = λ object ioas is of_kind. rw of_kind (and_no (is_object file id object));
       space = λ object is of_kind has. rw of_kind (and_no (is_object file id object));
-    })
+    }
   where
     and_no : (b : Bool) → not (b && false) ≡ true
     and_no true = refl
     and_no false = refl
 
-pub detached_holders : (w : World) (others : List Attachment) (a : Attachment)
-    → HoldersStay w.objects (filter (λ (o : Object). not (goes_with others a o)) w.objects) w.access_pins
-detached_holders w others a =
-    fewer_holders (λ o. not (goes_with others a o)) w.objects w.access_pins
-    (record {
+detached_keeps : (w : World) (others : List Attachment) (a : Attachment)
+    → KeepsHolders (λ o. not (goes_with others a o)) w.objects
+detached_keeps w others a =
+    record {
       holder = λ object ioas is of_kind. rw of_kind (and_no (is_object a.file a.hwpt object) _);
       space = λ object is of_kind has. rw of_kind (and_no (is_object a.file a.hwpt object) _);
-    })
+    }
   where
     and_no : (b c : Bool) → not ((b && false) && c) ≡ true
     and_no true c = refl
     and_no false c = refl
 
 -- an access object that wasn't attached is, or one that holds no pin is detached
-pub reattached_holders : (w : World) (file : FileNo) (id : ObjId) (attached : Option ObjId)
+reattached_holders : (w : World) (file : FileNo) (id : ObjId) (attached : Option ObjId)
     → ((pin : AccessPin) → IsIn w.access_pins pin → (ioas : ObjId)
     → kind_of w.objects pin.file pin.access ≡ Some (kind.Access (Some ioas))
     → (eqb pin.file.0 file.0 && eqb pin.access.0 id.0) ≡ false)
@@ -208,6 +207,60 @@ pub unpinned_other : (w : World) (file : FileNo) (id : ObjId) → holds_pin w.ac
     → (pin : AccessPin) → IsIn w.access_pins pin → (eqb pin.file.0 file.0 && eqb pin.access.0 id.0) ≡ false
 unpinned_other w file id none pin among =
     each_not (λ (p : AccessPin). eqb p.file.0 file.0 && eqb p.access.0 id.0) w.access_pins pin none among
+
+-- ---- and access objects are attached to address spaces of their file
+
+-- what an event leaves of access objects: who holds a pin stays attached, and who is attached has an address space
+pub record AccessesStay (objects left : List Object) (pins : List AccessPin) : Type 0 where
+  pub holders : HoldersStay objects left pins
+  pub spaces : are_in_spaces objects ≡ true → are_in_spaces left ≡ true
+
+pub same_accesses : (w : World) → AccessesStay w.objects w.objects w.access_pins
+same_accesses w = record { holders = same_holders w.objects w.access_pins; spaces = λ all. all }
+
+-- one object comes that isn't attached
+pub more_accesses : (w : World) (object : Object) → is_fresh w.objects object.file object.id ≡ true
+    → access_ioas object.kind ≡ None → AccessesStay w.objects (with_object object w.objects) w.access_pins
+more_accesses w object fresh unattached = record {
+  holders = more_holders object w.objects w.access_pins fresh;
+  spaces = spaces_more object w.objects (unused w.objects object.file object.id fresh) unattached;
+}
+
+fewer_accesses : (w : World) (q : Object → Bool) → KeepsHolders q w.objects
+    → AccessesStay w.objects (filter q w.objects) w.access_pins
+fewer_accesses w q keeps = record {
+  holders = fewer_holders q w.objects w.access_pins keeps;
+  spaces = spaces_fewer q w.objects keeps.space;
+}
+
+pub destroyed_accesses : (w : World) (file : FileNo) (id : ObjId)
+    → is_used (view w) file id (kind_of w.objects file id) ≡ false
+    → AccessesStay w.objects (without_object file id w.objects) w.access_pins
+destroyed_accesses w file id unused = fewer_accesses w _ (destroyed_keeps w file id unused)
+
+pub closed_accesses : (w : World) (file : FileNo)
+    → list_any (λ (o : Object). is_access o.kind) (objects_of w.objects file) ≡ false
+    → AccessesStay w.objects (filter (λ (o : Object). not (eqb o.file.0 file.0)) w.objects) w.access_pins
+closed_accesses w file none = fewer_accesses w _ (closed_keeps w file none)
+
+pub unbound_accesses : (w : World) (file : FileNo) (id : ObjId)
+    → AccessesStay w.objects (without_device_object file id w.objects) w.access_pins
+unbound_accesses w file id = fewer_accesses w _ (unbound_keeps w file id)
+
+pub detached_accesses : (w : World) (others : List Attachment) (a : Attachment)
+    → AccessesStay w.objects (filter (λ (o : Object). not (goes_with others a o)) w.objects) w.access_pins
+detached_accesses w others a = fewer_accesses w _ (detached_keeps w others a)
+
+pub reattached_accesses : (w : World) (file : FileNo) (id : ObjId) (attached : Option ObjId)
+    → IsSpaceOf w.objects file attached
+    → ((pin : AccessPin) → IsIn w.access_pins pin → (ioas : ObjId)
+    → kind_of w.objects pin.file pin.access ≡ Some (kind.Access (Some ioas))
+    → (eqb pin.file.0 file.0 && eqb pin.access.0 id.0) ≡ false)
+    → AccessesStay w.objects (with_access file id attached w.objects) w.access_pins
+reattached_accesses w file id attached space other = record {
+  holders = reattached_holders w file id attached other;
+  spaces = spaces_reattached w.objects file id attached space;
+}
 
 -- ---- areas
 

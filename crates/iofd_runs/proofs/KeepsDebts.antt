@@ -100,6 +100,9 @@ keeps_owed at w (event.AccessAttach file id ioas) reply.Done none answers own ea
     owed_reattached w.objects w.attachments w.areas file id (Some ioas) each
 keeps_owed at w (event.AccessDetach file id) reply.Done none answers own each =
     owed_reattached w.objects w.attachments w.areas file id None each
+keeps_owed at w (event.AccessPin file id request) reply.Done none answers own each = each
+keeps_owed at w (event.AccessUnpin file id request) reply.Done none answers own each = each
+keeps_owed at w (event.AccessWrite file id iova bytes) reply.Done none answers own each = each
 keeps_owed at w e answer none answers own each = each
 
 pub keeps_sound : {A : Type 0} → (at : ℕ) (w : World) (e : Event A) (answer : Reply) → refusal w e ≡ None

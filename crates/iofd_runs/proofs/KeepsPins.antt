@@ -1,6 +1,6 @@
 -- Every event keeps the pins those of the pages that are to be pinned.
 use Rattle.std.proofs.Common.{◌≡◌, ◌<◌, ℕ, ◌+◌, ◌-◌, ◌*◌, ◌/◌, ◌%◌, Bool, true, false, cond, ◌&&◌, not, eqb, ltb}
-use Rattle.std.proofs.Common.{is_some, None, List, [], ◌∷◌, ◌++◌, map, refl, ap, sym, ◌∙◌, arith, Option, Some}
+use Rattle.std.proofs.Common.{is_some, None, List, [], ◌∷◌, ◌++◌, map, refl, ap, sym, ◌∙◌, arith}
 use Rattle.std.proofs.lemmas.Bool.{eqb-true}
 use Rattle.std.proofs.Math.Nat.{div-add-mod}
 use Rattle.std.specs.List.{filter, list_all, list_any}
@@ -11,7 +11,7 @@ use Rattle.iofd_words.specs.Answers.{Answers}
 use Rattle.iofd_words.specs.Areas.{with_area, with_phase}
 use Rattle.iofd_words.specs.Checks.{lacks_attached_page, refusal}
 use Rattle.iofd_rows.specs.Pinned.{ArePinned, has_object, have_own_numbers}
-use Rattle.iofd_rows.specs.AccessPins.{AreHeld}
+use Rattle.iofd_rows.specs.AccessPins.{are_in_spaces}
 use Rattle.iofd_words.specs.Pins.{are_present, frame_now, is_page, page_of_pin, pinned_frame, is_accessed, ObjectPage}
 use Rattle.iofd_words.specs.Settings.{Settings}
 use Rattle.iofd_words.specs.Span.{size_of, span_from}
@@ -28,6 +28,8 @@ use Rattle.iofd_words.specs.declared.numbers.UserNo.{UserNo}
 use Rattle.iofd_words.specs.declared.reply.Reply.{Reply}
 use Rattle.iofd_words.specs.declared.rows.Area.{Area}
 use Rattle.iofd_words.specs.declared.rows.MemoryObject.{MemoryObject}
+use Rattle.iofd_words.specs.declared.rows.Object.{Object}
+use Rattle.iofd_words.specs.declared.rows.ObjectKind.TheVariants as kind
 use Rattle.iofd_words.specs.declared.rows.Phase.{Phase}
 use Rattle.iofd_words.specs.declared.rows.Pin.{Pin}
 use Rattle.iofd_words.specs.declared.width.Width.{Width}
@@ -43,19 +45,30 @@ use Rattle.iofd_rows.proofs.PageLists.{all_pages, at_page, kept_page}
 use Rattle.iofd_rows.proofs.PinsFollow.{settled_only, settled_pinned}
 use Rattle.iofd_runs.proofs.PagesToPin.{ArePresent, PagesAlike, moved_new, pages_in, AccessedAlike, pages_alike}
 use Rattle.iofd_runs.proofs.Moves.{AreasMove, FewerAreas, MemoryUnder, NewMemory, OneArea, OtherPhases, PinsMove}
-use Rattle.iofd_runs.proofs.Moves.{SameAreas, SamePins, Settled, SharedMemory, changed_moves, Moves}
+use Rattle.iofd_runs.proofs.Moves.{AccessPinsMove, LessAccessPin, OneAccessPin, SameAccessPins, SameAreas, SamePins}
+use Rattle.iofd_runs.proofs.Moves.{Settled, SharedMemory, changed_moves}
+use Rattle.iofd_runs.proofs.AccessPins.{held_pins_fewer, held_pins_more}
+use Rattle.iofd_runs.proofs.HoldersStay.{AccessesStay, more_accesses}
 use Rattle.iofd_runs.proofs.NotRefused.{PlacePassed}
-use Rattle.iofd_runs.proofs.Accessed.{EachHeld, HoldersStay, accessed_fewer, accessed_more, accessed_objects}
+use Rattle.iofd_runs.proofs.Accessed.{EachHeld, accessed_fewer, accessed_more, accessed_objects}
 use Rattle.iofd_runs.proofs.Accessed.{accessed_phases, are_held}
-use Rattle.iofd_runs.proofs.Accessed.{each_held, held_fewer, held_more, held_objects, held_phases, of_areas, some_in}
+use Rattle.iofd_runs.proofs.Accessed.{each_held, held_fewer, held_more, held_objects, held_phases, of_areas}
+use Rattle.iofd_words.specs.Objects.{is_fresh, with_object}
 use Rattle.iofd_words.specs.Pages.{is_whole}
-use Rattle.iofd_words.specs.Run.{IsAnswer, Lawful, after, after_answer}
-use Rattle.iofd_words.specs.declared.record.Record.{Record}
-use Rattle.iofd_words.specs.declared.refusal.Cause.{Cause}
 
 pub opening_pinned : (settings : Settings) → ArePinned 0 (opening settings)
 opening_pinned settings =
-    record { numbers = refl; made = refl; sizes = refl; used = refl; pinned = refl; only = refl; once = refl; held = tt }
+    record {
+      numbers = refl;
+      made = refl;
+      sizes = refl;
+      used = refl;
+      pinned = refl;
+      only = refl;
+      once = refl;
+      held = tt;
+      spaces = refl;
+    }
 
 later_than : (m at : ℕ) → ltb m at ≡ true → ltb m (at + 1) ≡ true
 later_than m at is = grind (arith, nat_tests)
@@ -71,6 +84,7 @@ later_pinned at w p = record {
   only = p.only;
   once = p.once;
   held = p.held;
+  spaces = p.spaces;
 }
 
 -- ---- memory objects and areas
@@ -231,10 +245,12 @@ module _ {A : Type 0} (at : ℕ) (w : World) (e : Event A) (none : refusal w e �
 
 -- ---- access pins
 
--- what an event leaves of access pins: they are held, and cover the same pages of the memory objects that are there
+-- what an event leaves of access pins: they are held, by access objects that are attached to address spaces, and cover
+-- the pages that they would have covered before it
 pub record AccessesKept (w new : World) : Type 0 where
   pub held : EachHeld new.objects new.areas new.access_pins
   pub accessed : AccessedAlike w new
+  pub spaces : are_in_spaces new.objects ≡ true
 
 module _ {A : Type 0} (at : ℕ) (w : World) (e : Event A) (answer : Reply) (none : refusal w e ≡ None)
     (answers : Answers w e answer) (p : ArePinned at w) where
@@ -272,29 +288,43 @@ module _ {A : Type 0} (at : ℕ) (w : World) (e : Event A) (answer : Reply) (non
             (rw is (area_added area w.areas)) same) (lies none answers).apart);
       }
 
-  by_accesses : (new : World) → Fits (at + 1) new.areas new.memory → Moves at w e answer new → AccessesKept w new
-  by_accesses new fits m =
-      let kept = areas_kept new fits m.areas in
-      let stay = m.holders none answers in
+  by_accesses : (new : World) → AreasKept new → AccessesStay w.objects new.objects w.access_pins
+      → AccessPinsMove w e new → AccessesKept w new
+  by_accesses new kept stay (SameAccessPins is) =
       record {
-        held = rw m.accesses (held_objects w.objects new.objects new.areas w.access_pins stay kept.held);
+        held = rw is (held_objects w.objects new.objects new.areas w.access_pins stay.holders kept.held);
         accessed = λ page listed.
-            rw m.accesses (accessed_objects w.objects new.objects new.areas w.access_pins page stay kept.held
+            rw is (accessed_objects w.objects new.objects new.areas w.access_pins page stay.holders kept.held
             ∙ kept.accessed page listed);
+        spaces = stay.spaces p.spaces;
+      }
+  by_accesses new kept stay (OneAccessPin pin makes same admitted is) =
+      record {
+        held = rw (is, same.objects, same.areas)
+            (held_pins_more w.objects w.areas w.access_pins pin each ((admitted none).held p.spaces));
+        accessed = λ page listed. rw (same.objects, same.areas) refl;
+        spaces = stay.spaces p.spaces;
+      }
+  by_accesses new kept stay (LessAccessPin pin takes same held is) =
+      record {
+        held = rw (is, same.objects, same.areas) (held_pins_fewer w.objects w.areas w.access_pins pin each);
+        accessed = λ page listed. rw (same.objects, same.areas) refl;
+        spaces = stay.spaces p.spaces;
       }
 
   pub accesses_kept : AccessesKept w (changed at w e answer)
   accesses_kept =
-      by_accesses (changed at w e answer) (rows_fit at w e none p answer (changed at w e answer)
-      (changed_moves at w e answer).areas) (changed_moves at w e answer)
+      let m = changed_moves at w e answer in
+      by_accesses (changed at w e answer)
+      (areas_kept (changed at w e answer) (rows_fit at w e none p answer (changed at w e answer) m.areas) m.areas)
+      (m.holders none answers) m.accesses
 
 -- ---- pins
 
 -- where no pin comes or goes
-same_pinned : (at : ℕ) (w new : World) → Fits (at + 1) new.areas new.memory → PagesAlike w new
-    → AreHeld new.objects new.areas new.access_pins → new.pins ≡ w.pins
-    → ArePinned at w → ArePinned (at + 1) new
-same_pinned at w new fits same held is p =
+same_pinned : (at : ℕ) (w new : World) → Fits (at + 1) new.areas new.memory → PagesAlike w new → AccessesKept w new
+    → new.pins ≡ w.pins → ArePinned at w → ArePinned (at + 1) new
+same_pinned at w new fits same kept is p =
     record {
       numbers = fits.numbers;
       made = fits.made;
@@ -307,15 +337,15 @@ same_pinned at w new fits same held is p =
           (λ (pin : Pin). list_any (is_page (page_of_pin pin)) (pages_in new))
           w.pins (λ pin within. same (page_of_pin pin) ∙ within) p.only);
       once = rw is p.once;
-      held = held;
+      held = are_held new.objects new.areas new.access_pins kept.held;
+      spaces = kept.spaces;
     }
 
 -- where they follow
 settle_pinned : (at : ℕ) (w new : World) → Fits (at + 1) new.areas new.memory → ArePresent w new
-    → AreHeld new.objects new.areas new.access_pins → new.pins ≡ (settle w new).pins → ArePinned at w
-    → ArePinned (at + 1) new
+    → AccessesKept w new → new.pins ≡ (settle w new).pins → ArePinned at w → ArePinned (at + 1) new
 unfolding settle
-settle_pinned at w new fits present held is p = record {
+settle_pinned at w new fits present kept is p = record {
   numbers = fits.numbers;
   made = fits.made;
   sizes = fits.sizes;
@@ -324,7 +354,8 @@ settle_pinned at w new fits present held is p = record {
   only = rw is (settled_only (pages_in w) (pages_in new) new.memory new.user_pages w.pins);
   once = rw is (settled_once (pages_in w) (pages_in new) new.memory new.user_pages w.pins p.once p.only
       (pinned_differ new.objects new.areas new.memory new.access_pins fits.numbers) all_present);
-  held = held;
+  held = are_held new.objects new.areas new.access_pins kept.held;
+  spaces = kept.spaces;
 }
   where
     all_present : are_present (frame_now new.memory new.user_pages)
@@ -337,20 +368,25 @@ settle_pinned at w new fits present held is p = record {
 
 -- a page table comes over an address space: the pages that it adds are there
 pub table_pinned : (at : ℕ) (w : World) (file : FileNo) (ioas id : ObjId) (width : Width) (automatic : Bool)
-    → lacks_attached_page (view w) file ioas ≡ false
-    → HoldersStay w.objects (with_table file ioas id width automatic w.objects) w.access_pins → ArePinned at w
+    → lacks_attached_page (view w) file ioas ≡ false → is_fresh w.objects file id ≡ true → ArePinned at w
     → ArePinned (at + 1) (settle w (record w { objects = with_table file ioas id width automatic w.objects }))
 unfolding settle
-table_pinned at w file ioas id width automatic lacks stay p =
-    let new : World = record w { objects = with_table file ioas id width automatic w.objects } in
+table_pinned at w file ioas id width automatic lacks fresh p =
+    let table : Object = record { file = file; id = id; kind = kind.Hwpt ioas width automatic } in
+    let new : World = record w { objects = with_object table w.objects } in
     let q = later_pinned at w p in
     let each = each_held w.objects w.areas w.access_pins p.held in
+    let stay = more_accesses w table fresh refl in
+    let accessed : AccessedAlike w new =
+    λ page listed. accessed_objects w.objects new.objects w.areas w.access_pins page stay.holders each in
     settle_pinned at w (settle w new) (record { numbers = q.numbers; made = q.made; sizes = q.sizes; used = q.used })
     (λ page within before. table_present at w file ioas id width automatic page p lacks
-    (moved_new w w.areas new.objects page (λ objects number. refl)
-    (λ listed. accessed_objects w.objects new.objects w.areas w.access_pins page stay each) within before))
-    (are_held new.objects w.areas w.access_pins
-    (held_objects w.objects new.objects w.areas w.access_pins stay each)) refl p
+    (moved_new w w.areas new.objects page (λ objects number. refl) (accessed page) within before))
+    (record {
+      held = held_objects w.objects new.objects w.areas w.access_pins stay.holders each;
+      accessed = accessed;
+      spaces = stay.spaces p.spaces;
+    }) refl p
 
 -- ---- every event
 
@@ -364,11 +400,8 @@ keeps_pins at w e answer none answers p =
     by_move : (new : World) → Fits (at + 1) new.areas new.memory → AccessesKept w new → PinsMove at w e new
         → ArePinned (at + 1) new
     by_move new fits kept (SamePins is same) =
-        same_pinned at w new fits (pages_alike w new same kept.accessed)
-        (are_held new.objects new.areas new.access_pins kept.held) is p
-    by_move new fits kept (Settled is present) =
-        settle_pinned at w new fits (present none p kept.accessed)
-        (are_held new.objects new.areas new.access_pins kept.held) is p
+        same_pinned at w new fits (pages_alike w new same kept.accessed) kept is p
+    by_move new fits kept (Settled is present) = settle_pinned at w new fits (present none p kept.accessed) kept is p
 
 -- the frames of tables are no part of it
 pub tabled_pinned : (at : ℕ) (w : World) (taken given : List FrameNo) → ArePinned at w
@@ -383,15 +416,5 @@ tabled_pinned at w taken given p = record {
   only = p.only;
   once = p.once;
   held = p.held;
+  spaces = p.spaces;
 }
-
--- after a lawful record, a refused one too, access pins cover the same pages of the memory objects that there are
-pub after_accessed : {A : Type 0} (at : ℕ) (w : World) (r : Record A) → Lawful at w r → ArePinned at w
-    → AccessedAlike w (after at w r)
-unfolding Lawful after with_tables
-after_accessed at w r lawful p = by_refusal (refusal w r.event) refl lawful.0
-  where
-    by_refusal : (o : Option Cause) → refusal w r.event ≡ o → IsAnswer w r o
-        → AccessedAlike w (after_answer at w r o)
-    by_refusal (Some cause) is answers = λ page listed. refl
-    by_refusal None is answers = (accesses_kept at w r.event r.reply is answers p).accessed

@@ -6,7 +6,7 @@ use Rattle.std.proofs.Common.{refl, subst, sym, true, ℕ, ◌&&◌, ◌++◌, �
 use Rattle.std.specs.List.{filter, list_all, list_any}
 use Rattle.std.proofs.lemmas.Bool.{eqb-true}
 use Rattle.iofd_rows.proofs.Allowed.{allowed_without, allowed_closed}
-use Rattle.iofd_rows.proofs.Bools.{both_true}
+use Rattle.iofd_rows.proofs.Bools.{both_true, clash}
 use Rattle.iofd_rows.proofs.Each.{IsIn}
 use Rattle.iofd_rows.specs.Ids.{have_own_ids}
 use Rattle.iofd_runs.proofs.Branches.{by_attachment, by_found, by_target}
@@ -62,7 +62,7 @@ use Rattle.iofd_words.specs.declared.rows.Phase.{Phase}
 use Rattle.iofd_words.specs.declared.rows.UserPage.{UserPage}
 use Rattle.iofd_rows.proofs.Found.{all_filter, all_map, find-with_object}
 use Rattle.iofd_rows.proofs.OwnMemory.{all-with_area}
-use Rattle.iofd_runs.proofs.PagesToPin.{ArePresent, PagesAlike, alike_objects, alike_paid, alike_phases, moved_new}
+use Rattle.iofd_runs.proofs.PagesToPin.{ArePresent, alike_objects, alike_paid, alike_phases, moved_new}
 use Rattle.iofd_runs.proofs.PagesToPin.{none_comes, none_over, AccessedAlike, TranslatedAlike}
 use Rattle.iofd_runs.proofs.AttachedPages.{attached_present, none_new, table_present}
 use Rattle.iofd_runs.proofs.CopiedPages.{added_page, copied_present}
@@ -70,11 +70,18 @@ use Rattle.iofd_runs.proofs.MappedPages.{mapped_present}
 use Rattle.iofd_rows.proofs.PageTables.{hwpt-filter, hwpt-unbound, same_hwpt}
 use Rattle.iofd_rows.specs.Pinned.{ArePinned}
 use Rattle.iofd_runs.proofs.BoundStay.{BoundStay, closed_bound, destroyed_bound, detached_bound}
-use Rattle.iofd_runs.proofs.HoldersStay.{NoPinGoes, closed_free, closed_holders, destroyed_free, destroyed_holders}
-use Rattle.iofd_runs.proofs.HoldersStay.{detached_holders, more_holders, reattached_holders, same_holders}
-use Rattle.iofd_runs.proofs.HoldersStay.{unattached_other}
-use Rattle.iofd_runs.proofs.HoldersStay.{unbound_holders, unmapped_free, unpinned_other}
-use Rattle.iofd_runs.proofs.Accessed.{HoldersStay, EachHeld}
+use Rattle.iofd_runs.proofs.HoldersStay.{NoPinGoes, closed_accesses, closed_free, destroyed_accesses, destroyed_free}
+use Rattle.iofd_runs.proofs.HoldersStay.{AccessesStay, detached_accesses, more_accesses, reattached_accesses}
+use Rattle.iofd_runs.proofs.HoldersStay.{same_accesses, unattached_other, unbound_accesses, unmapped_free}
+use Rattle.iofd_runs.proofs.HoldersStay.{unpinned_other}
+use Rattle.iofd_runs.proofs.Accessed.{EachHeld}
+use Rattle.iofd_runs.proofs.AccessPins.{comes_by_pin, none_by_unpin, pin_fits, pin_held, pinned_present}
+use Rattle.iofd_runs.specs.PinsFit.{is_fitting_pin}
+use Rattle.iofd_runs.proofs.AccessesPassed.{access_unpin_passed, pin_passed}
+use Rattle.iofd_rows.specs.AccessPins.{IsHeld, are_in_spaces}
+use Rattle.iofd_words.specs.Accesses.{pin_of}
+use Rattle.iofd_words.specs.Pins.{has_most_pins, is_held, without_pin}
+use Rattle.iofd_words.specs.declared.rows.AccessPin.{AccessPin}
 use Rattle.iofd_rows.proofs.Bound.{attachments-unbound}
 use Rattle.iofd_rows.proofs.Accesses.{hwpt-reattached}
 use Rattle.iofd_rows.proofs.ObjectPages.{translated-map}
@@ -155,10 +162,11 @@ pub data AttachmentsMove {A : Type 0} (w : World) (e : Event A) (answer : Reply)
       → (refusal w e ≡ None → Answers w e answer → have_own_ids w.objects ≡ true → IsServed w new.objects a)
       → new.attachments ≡ with_attachment a w.attachments → AttachmentsMove w e answer new
 
--- a write that is carried out: a user's, and a device's that passes
+-- a write that is carried out: a user's, an access object's, and a device's that passes
 abbrev pub Writes : {A : Type 0} → Event A → Reply → Type 0
 Writes (event.UserWrite user va bytes) reply.Done = Unit {0}
 Writes (event.DeviceWrite device iova bytes) (reply.Passed frame) = Unit {0}
+Writes (event.AccessWrite file id iova bytes) reply.Done = Unit {0}
 Writes e answer = ⊥
 
 -- users' pages and what was written: the same, one page more in a free frame without its writes, fewer pages, or the
@@ -174,8 +182,41 @@ pub data MemoryMoves {A : Type 0} (w : World) (e : Event A) (answer : Reply) (ne
       → MemoryMoves w e answer new
   Written : Writes e answer → new.user_pages ≡ w.user_pages → MemoryMoves w e answer new
 
--- pins: the same, where page tables translate the same memory objects, or those that follow the areas and page tables
--- of the world after the event; which pages access pins cover is told by the other groups
+-- the access pin that an event makes, and the one that it takes away
+abbrev pub MakesPin : {A : Type 0} → Event A → AccessPin → Type 0
+MakesPin (event.AccessPin file id request) pin = pin_of file id request ≡ pin
+MakesPin e pin = ⊥
+
+abbrev pub TakesPin : {A : Type 0} → Event A → AccessPin → Type 0
+TakesPin (event.AccessUnpin file id request) pin = pin_of file id request ≡ pin
+TakesPin e pin = ⊥
+
+-- objects and areas are the same
+pub record SameSpaces (w new : World) : Type 0 where
+  pub objects : new.objects ≡ w.objects
+  pub areas : new.areas ≡ w.areas
+  pub memory : new.memory ≡ w.memory
+
+-- what the refusals leave of an access pin that comes: it is of whole pages, at least one, below 2^64, its access
+-- object holds fewer than it may, and it is held, where access objects are attached to address spaces of their file
+pub record IsPinAdmitted (w : World) (pin : AccessPin) : Type 0 where
+  pub fits : is_fitting_pin pin ≡ true
+  pub roomy : has_most_pins w.access_pins pin.file pin.access ≡ false
+  pub held : are_in_spaces w.objects ≡ true → IsHeld w.objects w.areas pin
+
+-- access pins: the same, or one more or one less, where objects and areas stay
+pub data AccessPinsMove {A : Type 0} (w : World) (e : Event A) (new : World) : Type 0 where
+  SameAccessPins : new.access_pins ≡ w.access_pins → AccessPinsMove w e new
+  OneAccessPin : (pin : AccessPin) → MakesPin e pin → SameSpaces w new
+      → (refusal w e ≡ None → IsPinAdmitted w pin)
+      → new.access_pins ≡ w.access_pins ++ pin ∷ [] → AccessPinsMove w e new
+  LessAccessPin : (pin : AccessPin) → TakesPin e pin → SameSpaces w new
+      → (refusal w e ≡ None → is_held w.access_pins pin ≡ true)
+      → new.access_pins ≡ without_pin pin w.access_pins → AccessPinsMove w e new
+
+-- pins: the same, where page tables translate the same memory objects and access pins are the same, or those that
+-- follow the areas, the page tables and the access pins of the world after the event; which pages access pins cover is
+-- told by the other groups
 pub data PinsMove {A : Type 0} (at : ℕ) (w : World) (e : Event A) (new : World) : Type 0 where
   SamePins : new.pins ≡ w.pins → TranslatedAlike w new → PinsMove at w e new
   Settled : new.pins ≡ (settle w new).pins
@@ -209,9 +250,9 @@ pub record Moves {A : Type 0} (at : ℕ) (w : World) (e : Event A) (answer : Rep
   -- no event changes what the server was opened with, nor rows of tables: the frames that its record takes and gives do
   pub settings : new.settings ≡ w.settings
   pub tables : new.table_frames ≡ w.table_frames
-  -- nor access pins, and who holds one stays attached
-  pub accesses : new.access_pins ≡ w.access_pins
-  pub holders : refusal w e ≡ None → Answers w e answer → HoldersStay w.objects new.objects w.access_pins
+  pub accesses : AccessPinsMove w e new
+  -- who holds an access pin stays attached, and who is attached has an address space
+  pub holders : refusal w e ≡ None → Answers w e answer → AccessesStay w.objects new.objects w.access_pins
 
 -- ---- what is known of rows that come
 
@@ -279,8 +320,8 @@ hwpt_binds device file ioas id width None objects =
 module _ {A : Type 0} (at : ℕ) (w : World) (e : Event A) (answer : Reply) (new : World) where
   moves : ObjectsMove w e answer new → AreasMove at w e answer new → AttachmentsMove w e answer new
       → MemoryMoves w e answer new → PinsMove at w e new → AllowedMove w e new → FilesMove w new
-      → new.settings ≡ w.settings → new.table_frames ≡ w.table_frames → new.access_pins ≡ w.access_pins
-      → (refusal w e ≡ None → Answers w e answer → HoldersStay w.objects new.objects w.access_pins)
+      → new.settings ≡ w.settings → new.table_frames ≡ w.table_frames → AccessPinsMove w e new
+      → (refusal w e ≡ None → Answers w e answer → AccessesStay w.objects new.objects w.access_pins)
       → Moves at w e answer new
   moves objects areas attachments memory pins allowed files settings tables accesses holders =
       record {
@@ -298,29 +339,29 @@ module _ {A : Type 0} (at : ℕ) (w : World) (e : Event A) (answer : Reply) (new
       }
 
 -- a page table comes with an attachment, or there is one
-table_holders : (w : World) (file : FileNo) (ioas id : ObjId) (width : Width) (o : Option Object)
-    → IsHwptFor w file id o → HoldersStay w.objects (with_hwpt file ioas id width o w.objects) w.access_pins
-table_holders w file ioas id width (Some automatic) made = same_holders w.objects w.access_pins
-table_holders w file ioas id width None made =
-    more_holders (record { file = file; id = id; kind = kind.Hwpt ioas width true }) w.objects w.access_pins made
+table_accesses : (w : World) (file : FileNo) (ioas id : ObjId) (width : Width) (o : Option Object)
+    → IsHwptFor w file id o → AccessesStay w.objects (with_hwpt file ioas id width o w.objects) w.access_pins
+table_accesses w file ioas id width (Some automatic) made = same_accesses w
+table_accesses w file ioas id width None made =
+    more_accesses w (record { file = file; id = id; kind = kind.Hwpt ioas width true }) made refl
 
 -- the world stays
 stays : {A : Type 0} (at : ℕ) (w : World) (e : Event A) (answer : Reply) → Moves at w e answer w
 stays at w e answer = moves at w e answer w (Same refl) (SameAreas refl refl) (SameAttachments refl)
-    (SameMemory refl refl) (SamePins refl (record { memory = refl; same = λ number. refl })) (SameAllowed refl)
-    (StayOpen refl) refl refl refl
-    (λ none answers. same_holders w.objects w.access_pins)
+    (SameMemory refl refl) (SamePins refl (record { memory = refl; accesses = refl; same = λ number. refl }))
+    (SameAllowed refl) (StayOpen refl) refl refl (SameAccessPins refl)
+    (λ none answers. same_accesses w)
 
 -- objects come or go, none of them a page table
 object_moves : {A : Type 0} (at : ℕ) (w : World) (e : Event A) (answer : Reply) (objects : List Object)
     → ObjectsMove w e answer (record w { objects = objects })
     → ((file : FileNo) (ioas : ObjId) → has_hwpt objects file ioas ≡ has_hwpt w.objects file ioas)
-    → (refusal w e ≡ None → Answers w e answer → HoldersStay w.objects objects w.access_pins)
+    → (refusal w e ≡ None → Answers w e answer → AccessesStay w.objects objects w.access_pins)
     → Moves at w e answer (record w { objects = objects })
 object_moves at w e answer objects move same holders =
     moves at w e answer (record w { objects = objects }) move (SameAreas refl refl) (SameAttachments refl)
     (SameMemory refl refl) (SamePins refl (alike_objects w objects same)) (SameAllowed refl) (StayOpen refl) refl refl
-    refl holders
+    (SameAccessPins refl) holders
 
 -- users' pages and what is written change
 memory_moves : {A : Type 0} (at : ℕ) (w : World) (e : Event A) (answer : Reply) (pages : List UserPage)
@@ -328,9 +369,21 @@ memory_moves : {A : Type 0} (at : ℕ) (w : World) (e : Event A) (answer : Reply
     → Moves at w e answer (record w { user_pages = pages; writes = writes })
 memory_moves at w e answer pages writes move =
     moves at w e answer (record w { user_pages = pages; writes = writes }) (Same refl) (SameAreas refl refl)
-    (SameAttachments refl) move (SamePins refl (record { memory = refl; same = λ number. refl })) (SameAllowed refl)
-    (StayOpen refl) refl refl refl
-    (λ none answers. same_holders w.objects w.access_pins)
+    (SameAttachments refl) move (SamePins refl (record { memory = refl; accesses = refl; same = λ number. refl }))
+    (SameAllowed refl) (StayOpen refl) refl refl (SameAccessPins refl)
+    (λ none answers. same_accesses w)
+
+-- access pins come or go, and pins follow
+access_moves : {A : Type 0} (at : ℕ) (w : World) (e : Event A) (answer : Reply) (access_pins : List AccessPin)
+    → (let new : World = record w { access_pins = access_pins } in
+    refusal w e ≡ None → ArePinned at w → ArePresent w new)
+    → AccessPinsMove w e (settle w (record w { access_pins = access_pins }))
+    → Moves at w e answer (settle w (record w { access_pins = access_pins }))
+unfolding settle
+access_moves at w e answer access_pins present accesses =
+    moves at w e answer (settle w (record w { access_pins = access_pins })) (Same refl) (SameAreas refl refl)
+    (SameAttachments refl) (SameMemory refl refl) (Settled refl (λ none p accessed. present none p)) (SameAllowed refl)
+    (StayOpen refl) refl refl accesses (λ none answers. same_accesses w)
 
 -- what devices reach changes, and pins follow or stay
 abbrev same_rest : World → World → World
@@ -344,14 +397,14 @@ same_rest w new = record w {
 
 reach_moves : {A : Type 0} (at : ℕ) (w : World) (e : Event A) (answer : Reply) (new : World) → new ≡ same_rest w new
     → ObjectsMove w e answer new → AreasMove at w e answer new → AttachmentsMove w e answer new → PinsMove at w e new
-    → (refusal w e ≡ None → Answers w e answer → HoldersStay w.objects new.objects w.access_pins)
+    → (refusal w e ≡ None → Answers w e answer → AccessesStay w.objects new.objects w.access_pins)
     → Moves at w e answer new
 reach_moves at w e answer new is objects areas attachments pins holders =
     moves at w e answer new objects areas attachments
     (SameMemory (ap (λ (x : World). x.user_pages) is) (ap (λ (x : World). x.writes) is)) pins
     (SameAllowed (ap (λ (x : World). x.allowed) is)) (StayOpen (ap (λ (x : World). x.closed) is))
-    (ap (λ (x : World). x.settings) is) (ap (λ (x : World). x.table_frames) is) (ap (λ (x : World). x.access_pins) is)
-    holders
+    (ap (λ (x : World). x.settings) is) (ap (λ (x : World). x.table_frames) is)
+    (SameAccessPins (ap (λ (x : World). x.access_pins) is)) holders
 
 pub changed_moves : {A : Type 0} → (at : ℕ) (w : World) (e : Event A) (answer : Reply)
     → Moves at w e answer (changed at w e answer)
@@ -367,13 +420,13 @@ changed_moves at w (event.IoasAlloc file) (reply.Id id) =
       wide = tt;
     })
     (λ makes. refl) refl) (λ own ioas. same_hwpt _ w.objects own ioas refl)
-    (λ none answers. more_holders _ w.objects w.access_pins answers)
+    (λ none answers. more_accesses w _ answers refl)
 changed_moves at w (event.AllowIovas file ioas ranges) reply.Done =
     moves at w _ _ _ (Same refl) (SameAreas refl refl) (SameAttachments refl) (SameMemory refl refl)
-    (SamePins refl (record { memory = refl; same = λ number. refl }))
+    (SamePins refl (record { memory = refl; accesses = refl; same = λ number. refl }))
     (Allows file ioas ranges (λ none. allow_passed (view w) file ioas ranges none)
-    (record { objects = refl; attachments = refl }) refl) (StayOpen refl) refl refl refl
-    (λ none answers. same_holders w.objects w.access_pins)
+    (record { objects = refl; attachments = refl }) refl) (StayOpen refl) refl refl (SameAccessPins refl)
+    (λ none answers. same_accesses w)
 changed_moves {A = A} at w (event.Map file request) (reply.Iova iova) =
     let e : Event A = event.Map file request in
     by_found (λ user. Moves at w e (reply.Iova iova) (map_changes at w file request iova user))
@@ -386,7 +439,7 @@ changed_moves {A = A} at w (event.Map file request) (reply.Iova iova) =
     (SameAttachments refl)
     (Settled refl (λ none p accessed page within before. mapped_present at w file request iova user page none is p.made
     (none_over at w.areas w.memory p.made p.sizes) (accessed page) within before))
-    (λ none answers. same_holders w.objects w.access_pins))
+    (λ none answers. same_accesses w))
 changed_moves {A = A} at w (event.Copy file request) (reply.Iova iova) =
     let e : Event A = event.Copy file request in
     by_found (λ source. Moves at w e (reply.Iova iova) (copy_changes w file request iova source))
@@ -401,7 +454,7 @@ changed_moves {A = A} at w (event.Copy file request) (reply.Iova iova) =
     (SameAttachments refl)
     (Settled refl (λ none p accessed page within before. copied_present at w file request iova source page p none is
     (added_page w (mapped_area source.memory file (placed_as request) iova) page (accessed page) within before)))
-    (λ none answers. same_holders w.objects w.access_pins))
+    (λ none answers. same_accesses w))
 changed_moves at w (event.Unmap file request) (reply.Bytes count) =
     reach_moves at w (event.Unmap file request) (reply.Bytes count)
     (settle w (without_areas (is_touched file request) w)) refl (Same refl)
@@ -409,12 +462,12 @@ changed_moves at w (event.Unmap file request) (reply.Bytes count) =
     (SameAttachments refl)
     (Settled refl (λ none p accessed page within before. absurd (none_comes w (is_touched file request) w.objects page
     (λ own ioas has. has) (accessed page) within before)))
-    (λ none answers. same_holders w.objects w.access_pins)
+    (λ none answers. same_accesses w)
 changed_moves at w (event.Unmap file request) (reply.Pending errno) =
     reach_moves at w (event.Unmap file request) (reply.Pending errno)
     (unmapped w file request (reply.Pending errno)) refl (Same refl)
     (OtherPhases _ (λ a live. leaving_live (is_touched file request a) _ _ a.phase live) refl refl)
-    (SameAttachments refl) (SamePins refl (alike_phases w _)) (λ none answers. same_holders w.objects w.access_pins)
+    (SameAttachments refl) (SamePins refl (alike_phases w _)) (λ none answers. same_accesses w)
 changed_moves {A = A} at w (event.HwptAlloc file request) (reply.Id id) =
     let e : Event A = event.HwptAlloc file request in
     by_found (λ settings. Moves at w e (reply.Id id) (hwpt_changes w file request.ioas id settings))
@@ -433,7 +486,7 @@ changed_moves {A = A} at w (event.HwptAlloc file request) (reply.Id id) =
     (Settled refl (λ none p accessed page within before. table_present at w file request.ioas id settings.width false
     page p (hwpt_passed (view w) file request none).present
     (moved_new w w.areas _ page (λ objects number. refl) (accessed page) within before)))
-    (λ none answers. more_holders _ w.objects w.access_pins answers))
+    (λ none answers. more_accesses w _ answers refl))
 changed_moves at w (event.Destroy file id) reply.Done =
     moves at w _ _ _ (Fewer _ (λ takes. destroyed_stay w file id takes)
     (λ none. destroyed_bound w file id (destroy_passed (view w) file id none).no_device) refl)
@@ -441,8 +494,8 @@ changed_moves at w (event.Destroy file id) reply.Done =
     (destroy_passed (view w) file id none).unused held)) (SameAttachments refl) (SameMemory refl refl)
     (Settled refl (λ none p accessed page within before. absurd (none_comes w (is_of file id) _ page
     (λ own ioas has. hwpt-filter _ w.objects own ioas has) (accessed page) within before)))
-    (FewerAllowed _ (λ f i. (_, allowed_without file id w.allowed f i)) refl) (StayOpen refl) refl refl refl
-    (λ none answers. destroyed_holders w file id (destroy_passed (view w) file id none).unused)
+    (FewerAllowed _ (λ f i. (_, allowed_without file id w.allowed f i)) refl) (StayOpen refl) refl refl
+    (SameAccessPins refl) (λ none answers. destroyed_accesses w file id (destroy_passed (view w) file id none).unused)
 changed_moves at w (event.Close file) reply.Done =
     moves at w _ _ _ (Fewer _ (λ takes. closed_stay w file takes)
     (λ none. closed_bound w file (close_passed (view w) file none).no_device) refl)
@@ -451,8 +504,8 @@ changed_moves at w (event.Close file) reply.Done =
     (FewerAttachments _ refl) (SameMemory refl refl)
     (Settled refl (λ none p accessed page within before. absurd (none_comes w (λ (a : Area). eqb a.file.0 file.0) _ page
     (λ own ioas has. hwpt-filter _ w.objects own ioas has) (accessed page) within before)))
-    (FewerAllowed _ (λ f i. (_, allowed_closed file w.allowed f i)) refl) (Closes file refl refl refl) refl refl refl
-    (λ none answers. closed_holders w file (close_passed (view w) file none).no_access)
+    (FewerAllowed _ (λ f i. (_, allowed_closed file w.allowed f i)) refl) (Closes file refl refl refl) refl refl
+    (SameAccessPins refl) (λ none answers. closed_accesses w file (close_passed (view w) file none).no_access)
 changed_moves at w (event.UserMap user va) (reply.Frame frame) =
     memory_moves at w (event.UserMap user va) (reply.Frame frame) _ _
     (OnePage user va frame (λ none. user_map_passed (view w) user va none) (λ answers. answers) refl refl refl)
@@ -471,12 +524,12 @@ changed_moves at w (event.Bind file device) (reply.Id id) =
       wide = tt;
     })
     (λ makes. refl) refl) (λ own ioas. same_hwpt _ w.objects own ioas refl)
-    (λ none answers. more_holders _ w.objects w.access_pins answers)
+    (λ none answers. more_accesses w _ answers refl)
 changed_moves at w (event.Unbind file id) reply.Done =
     object_moves at w (event.Unbind file id) reply.Done _ (Fewer _ (λ takes. unbound_stay w file id)
     (λ none own once bound. attachments-unbound w file id own once (unbind_passed (view w) file id none).unattached
     bound) refl)
-    (hwpt-unbound w.objects file id) (λ none answers. unbound_holders w file id)
+    (hwpt-unbound w.objects file id) (λ none answers. unbound_accesses w file id)
 changed_moves {A = A} at w (event.Attach device pt_id) (reply.Id id) =
     let e : Event A = event.Attach device pt_id in
     by_target w device pt_id id (Moves at w e (reply.Id id)) (λ nowhere. stays at w e (reply.Id id))
@@ -494,7 +547,7 @@ changed_moves {A = A} at w (event.Attach device pt_id) (reply.Id id) =
     (Settled refl (λ none p accessed page within before. attached_present at w device pt_id id object d.width automatic
     page p none bound space
     (moved_new w (all_paid device w.areas) _ page (alike_paid w device) (accessed page) within before)))
-    (λ none answers. table_holders w object.file pt_id id d.width automatic (made answers)))
+    (λ none answers. table_accesses w object.file pt_id id d.width automatic (made answers)))
     (λ object d ioas width automatic bound known table same.
     reach_moves at w e (reply.Id id) (joined w device id object) refl (Same refl)
     (OtherPhases _ (λ a live. paid_live device a.phase live) refl refl)
@@ -502,8 +555,12 @@ changed_moves {A = A} at w (event.Attach device pt_id) (reply.Id id) =
     (λ none. (join_passed (view w) device pt_id ioas width automatic object bound table none).unattached)
     (λ none answers own. joined_served w device object ioas id d width automatic known (rw (same answers) table)
     (join_passed (view w) device pt_id ioas width automatic object bound table none)) refl)
-    (SamePins refl (record { memory = refl; same = translated-map w.objects (λ a. paid device a.phase) w.areas }))
-    (λ none answers. same_holders w.objects w.access_pins))
+    (SamePins refl (record {
+      memory = refl;
+      accesses = refl;
+      same = translated-map w.objects (λ a. paid device a.phase) w.areas;
+    }))
+    (λ none answers. same_accesses w))
 changed_moves {A = A} at w (event.Detach device) reply.Done =
     let e : Event A = event.Detach device in
     by_attachment w device (Moves at w e reply.Done) (stays at w e reply.Done) (λ a is.
@@ -514,12 +571,12 @@ changed_moves {A = A} at w (event.Detach device) reply.Done =
     (Settled refl (λ none p accessed page within before. absurd (none_new w _ page
     (λ own ioas has. hwpt-filter _ w.objects own ioas has)
     (moved_new w (all_paid device w.areas) _ page (alike_paid w device) (accessed page) within before))))
-    (λ none answers. detached_holders w (without_attachment device w.attachments) a))
+    (λ none answers. detached_accesses w (without_attachment device w.attachments) a))
 changed_moves at w (event.Flush device) reply.Done =
     reach_moves at w (event.Flush device) reply.Done (device_flushed w device reply.Done) refl (Same refl)
     (OtherPhases _ (λ a live. paid_live device a.phase live) refl refl) (SameAttachments refl)
     (SamePins refl (alike_phases w (λ a. paid device a.phase)))
-    (λ none answers. same_holders w.objects w.access_pins)
+    (λ none answers. same_accesses w)
 changed_moves at w (event.DeviceWrite device iova bytes) (reply.Passed frame) =
     memory_moves at w (event.DeviceWrite device iova bytes) (reply.Passed frame) _ _ (Written tt refl)
 changed_moves at w (event.AccessCreate file) (reply.Id id) =
@@ -533,17 +590,40 @@ changed_moves at w (event.AccessCreate file) (reply.Id id) =
       wide = tt;
     })
     (λ makes. refl) refl) (λ own ioas. same_hwpt _ w.objects own ioas refl)
-    (λ none answers. more_holders _ w.objects w.access_pins answers)
+    (λ none answers. more_accesses w _ answers refl)
 changed_moves at w (event.AccessAttach file id ioas) reply.Done =
     object_moves at w (event.AccessAttach file id ioas) reply.Done _ (Reattached file id (Some ioas) refl)
     (hwpt-reattached file id (Some ioas) w.objects)
-    (λ none answers. reattached_holders w file id (Some ioas) (λ pin among over is. unattached_other w file id
-    (access_attach_passed (view w) file id ioas none).unattached pin.file pin.access over is))
+    (λ none answers. let passed = access_attach_passed (view w) file id ioas none in
+    reattached_accesses w file id (Some ioas) passed.space
+    (λ pin among over is. unattached_other w file id passed.unattached pin.file pin.access over is))
 changed_moves at w (event.AccessDetach file id) reply.Done =
     object_moves at w (event.AccessDetach file id) reply.Done _ (Reattached file id None refl)
     (hwpt-reattached file id None w.objects)
-    (λ none answers. reattached_holders w file id None (λ pin among over is. unpinned_other w file id
+    (λ none answers. reattached_accesses w file id None tt (λ pin among over is. unpinned_other w file id
     (access_detach_passed (view w) file id none).unpinned pin among))
+changed_moves at w (event.AccessPin file id request) reply.Done =
+    let pin = pin_of file id request in
+    access_moves at w (event.AccessPin file id request) reply.Done (w.access_pins ++ pin ∷ [])
+    (λ none p page within before.
+    let (listed, covers, old) = comes_by_pin w pin page within before in
+    let (ioas, passed) = pin_passed (view w) file id request none in
+    pinned_present at w file id ioas request page p passed listed covers old)
+    (OneAccessPin pin refl (record { objects = refl; areas = refl; memory = refl })
+    (λ none. let (ioas, passed) = pin_passed (view w) file id request none in
+    record {
+      fits = pin_fits (view w) file id ioas request passed;
+      roomy = passed.roomy;
+      held = pin_held w file id ioas request passed;
+    }) refl)
+changed_moves at w (event.AccessUnpin file id request) reply.Done =
+    let pin = pin_of file id request in
+    access_moves at w (event.AccessUnpin file id request) reply.Done (without_pin pin w.access_pins)
+    (λ none p page within before. absurd (clash _ before (none_by_unpin w pin page within)))
+    (LessAccessPin pin refl (record { objects = refl; areas = refl; memory = refl })
+    (λ none. (access_unpin_passed (view w) file id request none).held) refl)
+changed_moves at w (event.AccessWrite file id iova bytes) reply.Done =
+    memory_moves at w (event.AccessWrite file id iova bytes) reply.Done _ _ (Written tt refl)
 changed_moves at w e answer = stays at w e answer
 
 -- ---- all areas

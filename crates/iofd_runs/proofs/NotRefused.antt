@@ -51,7 +51,7 @@ use Rattle.iofd_runs.proofs.Runs.{tests_false}
 pub passes : {A : Type 0} → (w : World) (e : Event A) → refusal w e ≡ None → first_true (checks (view w) e) ≡ None
 passes w e none = none
 
-not_not : (b : Bool) → not b ≡ false → b ≡ true
+pub not_not : (b : Bool) → not b ≡ false → b ≡ true
 not_not true is = refl
 not_not false is = cc
 

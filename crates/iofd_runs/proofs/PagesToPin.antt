@@ -10,6 +10,7 @@ use Rattle.iofd_words.specs.Pins.{ObjectPage, frame_now, is_page, is_translated,
 use Rattle.iofd_words.specs.World.{World}
 use Rattle.iofd_words.specs.declared.numbers.FileNo.{FileNo}
 use Rattle.iofd_words.specs.declared.numbers.ObjId.{ObjId}
+use Rattle.iofd_words.specs.declared.rows.AccessPin.{AccessPin}
 use Rattle.iofd_words.specs.declared.rows.Area.{Area}
 use Rattle.iofd_words.specs.declared.rows.MemoryObject.{MemoryObject}
 use Rattle.iofd_words.specs.declared.rows.Object.{Object}
@@ -30,15 +31,17 @@ pages_in w = pinned_pages w.objects w.areas w.memory w.access_pins
 abbrev pub PagesAlike : World → World → Type 0
 PagesAlike w new = (page : ObjectPage) → list_any (is_page page) (pages_in new) ≡ list_any (is_page page) (pages_in w)
 
--- page tables translate the same memory objects, of the same ones
+-- page tables translate the same memory objects, of the same ones, and access pins are the same
 pub record TranslatedAlike (w new : World) : Type 0 where
   pub memory : new.memory ≡ w.memory
+  pub accesses : new.access_pins ≡ w.access_pins
   pub same : (number : ℕ) → is_translated new.objects new.areas number ≡ is_translated w.objects w.areas number
 
--- access pins cover the same pages of memory objects that there are
+-- the access pins of the new world cover the same pages of its memory objects by the objects and areas of both worlds:
+-- where other pages are covered, it is by the pins alone
 abbrev pub AccessedAlike : World → World → Type 0
 AccessedAlike w new = (page : ObjectPage) → is_listed new.memory page ≡ true
-    → is_accessed new.objects new.areas new.access_pins page ≡ is_accessed w.objects w.areas w.access_pins page
+    → is_accessed new.objects new.areas new.access_pins page ≡ is_accessed w.objects w.areas new.access_pins page
 
 pub pages_alike : (w new : World) → TranslatedAlike w new → AccessedAlike w new → PagesAlike w new
 pages_alike w new translated accessed page =
@@ -50,13 +53,18 @@ pages_alike w new translated accessed page =
         → (is_listed new.memory page && is_pinned new.objects new.areas new.access_pins page)
         ≡ (is_listed w.memory page && is_pinned w.objects w.areas w.access_pins page)
     by_listed false is same = rw (← same, is) refl
-    by_listed true is same = rw (← same, is, translated.same page.memory, accessed page is) refl
+    by_listed true is same = rw (
+      ← same,
+      is,
+      translated.same page.memory,
+      accessed page is ∙ ap (λ (pins : List AccessPin). is_accessed w.objects w.areas pins page) translated.accesses,
+    ) refl
 
 -- where objects come or go that are no page tables
 pub alike_objects : (w : World) (left : List Object)
     → ((file : FileNo) (ioas : ObjId) → has_hwpt left file ioas ≡ has_hwpt w.objects file ioas)
     → TranslatedAlike w (record w { objects = left })
-alike_objects w left same = record { memory = refl; same = translated w.areas }
+alike_objects w left same = record { memory = refl; accesses = refl; same = translated w.areas }
   where
     translated : (areas : List Area) (n : ℕ) → is_translated left areas n ≡ is_translated w.objects areas n
     translated [] n = refl
@@ -65,7 +73,7 @@ alike_objects w left same = record { memory = refl; same = translated w.areas }
 -- where areas have other phases
 pub alike_phases : (w : World) (phase : Area → Phase)
     → TranslatedAlike w (record w { areas = map (λ (a : Area). with_phase (phase a) a) w.areas })
-alike_phases w phase = record { memory = refl; same = translated-map w.objects phase w.areas }
+alike_phases w phase = record { memory = refl; accesses = refl; same = translated-map w.objects phase w.areas }
 
 -- ---- pages that come
 

@@ -77,8 +77,9 @@ area_pinned objects areas memory pins page sizes within =
     from some =
         both_true _ _
         (any_listed areas sizes some)
-        (or_left _ (is_accessed objects areas pins page) (any_weaker (pins_page objects page) (λ (a : Area). eqb a.memory page.memory
-        && has_hwpt objects a.file a.ioas) areas
+        (or_left _ (is_accessed objects areas pins page)
+        (any_weaker (pins_page objects page)
+        (λ (a : Area). eqb a.memory page.memory && has_hwpt objects a.file a.ioas) areas
         (λ a is. let parts = and_true (has_hwpt objects a.file a.ioas) (list_any (is_page page) (area_pages a)) is in
         both_true _ _ (memory_of_page a page parts.1) parts.0) some))
       where

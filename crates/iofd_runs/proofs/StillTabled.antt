@@ -1,7 +1,7 @@
 -- What an event leaves of the tables: where it makes no page table and no live area, none is missing after it; where it
 -- takes no page table away, each row stays with its page table. Then its record takes and gives no frames.
-use Rattle.std.proofs.Common.{length, ◌≡◌, ℕ, ◌-◌, map, Bool, true, false, cond, ◌&&◌, ◌||◌, not, eqb, Option}
-use Rattle.std.proofs.Common.{Some, None, List, [], ◌∷◌, refl, ap, sym, ◌∙◌, inl, inr, ⊎_elim, subst}
+use Rattle.std.proofs.Common.{length, ◌≡◌, ℕ, ◌-◌, map, Bool, true, false, ◌&&◌, ◌||◌, not, eqb, Option}
+use Rattle.std.proofs.Common.{Some, None, List, [], ◌∷◌, refl, ap, sym, ◌∙◌, ⊎_elim, subst}
 use Rattle.std.specs.List.{filter, flat_map, list_all, list_any}
 use Rattle.std.proofs.lemmas.List.Folds.{list_all-append}
 use Rattle.iofd_words.specs.After.{changed}

@@ -3,6 +3,7 @@ use Rattle.std.specs.Prelude.{ℕ, ◌/◌, Bool, true, false, ◌==◌, ◌&&�
 use Rattle.std.specs.Prelude.{◌∷◌, ◌++◌}
 use Rattle.std.specs.Prelude.{filter}
 use Rattle.std.specs.List.{list_any}
+use Rattle.iofd_words.specs.Accesses.{accessed_frame, pin_of}
 use Rattle.iofd_words.specs.Allowed.{with_allowed, without_allowed}
 use Rattle.iofd_words.specs.Areas.{areas_of, is_of, is_touched, with_area, with_leaving, all_paid}
 use Rattle.iofd_words.specs.Attachments.{attachment_of, has_device_on, devices_of, with_attachment, without_attachment}
@@ -13,16 +14,18 @@ use Rattle.iofd_words.specs.Frames.{frame_at, with_write, without_frame, without
 use Rattle.iofd_words.specs.Objects.{automatic_hwpt, binding_of, is_automatic, is_object, kind_of, settings_under}
 use Rattle.iofd_words.specs.Objects.{with_access, with_object, without_device_object, without_object}
 use Rattle.iofd_words.specs.Pages.{page_of, offset_of}
-use Rattle.iofd_words.specs.Pins.{pinned_pages, settled}
+use Rattle.iofd_words.specs.Pins.{pinned_pages, settled, without_pin}
 use Rattle.iofd_words.specs.Rights.{is_writeable, rights_of}
 use Rattle.iofd_words.specs.Settings.{DeviceSettings}
 use Rattle.iofd_words.specs.Span.{span_from}
+use Rattle.iofd_words.specs.View.{view}
 use Rattle.iofd_words.specs.World.{World}
 use Rattle.iofd_words.specs.declared.event.CopyRequest.{CopyRequest}
 use Rattle.iofd_words.specs.declared.event.Event.{Event}
 use Rattle.iofd_words.specs.declared.event.Event.TheVariants as event
 use Rattle.iofd_words.specs.declared.event.HwptRequest.{HwptRequest}
 use Rattle.iofd_words.specs.declared.event.MapRequest.{MapRequest}
+use Rattle.iofd_words.specs.declared.event.PinRequest.{PinRequest}
 use Rattle.iofd_words.specs.declared.event.UnmapRequest.{UnmapRequest}
 use Rattle.iofd_words.specs.declared.numbers.DeviceNo.{DeviceNo}
 use Rattle.iofd_words.specs.declared.numbers.FileNo.{FileNo}
@@ -282,6 +285,23 @@ abbrev pub access_detached : World → FileNo → ObjId → Reply → World
 access_detached w file id reply.Done = record w { objects = with_access file id None w.objects }
 access_detached w file id answer = w
 
+-- its pages are pinned from then on, if they weren't
+abbrev pub access_pinned : World → FileNo → ObjId → PinRequest → Reply → World
+access_pinned w file id request reply.Done =
+    settle w (record w { access_pins = w.access_pins ++ pin_of file id request ∷ [] })
+access_pinned w file id request answer = w
+
+-- pages that nothing else pins aren't any more
+abbrev pub access_unpinned : World → FileNo → ObjId → PinRequest → Reply → World
+access_unpinned w file id request reply.Done =
+    settle w (record w { access_pins = without_pin (pin_of file id request) w.access_pins })
+access_unpinned w file id request answer = w
+
+abbrev pub access_written : World → FileNo → ObjId → Iova → List ℕ → Reply → World
+access_written w file id iova bytes reply.Done =
+    record w { writes = with_write (accessed_frame (view w) file id iova.0) (offset_of iova.0) bytes w.writes }
+access_written w file id iova bytes answer = w
+
 -- the world after an event, at the record's position
 unfoldable pub changed : {A : Type 0} → ℕ → World → Event A → Reply → World
 changed at w (event.IoasAlloc file) answer = allocated w file answer
@@ -304,3 +324,6 @@ changed at w (event.DeviceWrite device iova bytes) answer = device_written w iov
 changed at w (event.AccessCreate file) answer = access_created w file answer
 changed at w (event.AccessAttach file id ioas) answer = access_attached w file id ioas answer
 changed at w (event.AccessDetach file id) answer = access_detached w file id answer
+changed at w (event.AccessPin file id request) answer = access_pinned w file id request answer
+changed at w (event.AccessUnpin file id request) answer = access_unpinned w file id request answer
+changed at w (event.AccessWrite file id iova bytes) answer = access_written w file id iova bytes answer

@@ -125,3 +125,6 @@ Answers w (event.DeviceWrite device iova bytes) answer =
 Answers w (event.AccessCreate file) answer = AnswersId (λ id. IsTrue (is_fresh w.objects file id)) answer
 Answers w (event.AccessAttach file id ioas) answer = AnswersDone answer
 Answers w (event.AccessDetach file id) answer = AnswersDone answer
+Answers w (event.AccessPin file id request) answer = AnswersDone answer
+Answers w (event.AccessUnpin file id request) answer = AnswersDone answer
+Answers w (event.AccessWrite file id iova bytes) answer = AnswersDone answer

@@ -5,6 +5,8 @@ use Rattle.std.specs.Prelude.{nat_le, nat_lt, Option, Some}
 use Rattle.std.specs.Prelude.{None, is_some, is_none, List, [], ◌∷◌, ◌++◌, filter, length}
 use Rattle.std.specs.Prelude.{map, sum_by, if◌then◌else◌}
 use Rattle.std.specs.List.{list_any, list_all, range_with_len}
+use Rattle.iofd_words.specs.Accesses.{has_gap, lacks_accessed_page, meets_leaving, meets_without_right}
+use Rattle.iofd_words.specs.Accesses.{newly_accessed, pin_of, pinned_span}
 use Rattle.iofd_words.specs.Allowed.{are_ranges}
 use Rattle.iofd_words.specs.Areas.{areas_meet, has_no_room, is_cut, is_everything, unmapped_span}
 use Rattle.iofd_words.specs.Attachments.{attachment_of, has_device_on}
@@ -32,7 +34,10 @@ use Rattle.iofd_words.specs.declared.event.Event.{Event}
 use Rattle.iofd_words.specs.declared.event.Event.TheVariants as event
 use Rattle.iofd_words.specs.declared.event.HwptRequest.{HwptRequest}
 use Rattle.iofd_words.specs.declared.event.MapRequest.{MapRequest}
+use Rattle.iofd_words.specs.declared.event.PinRequest.{PinRequest}
 use Rattle.iofd_words.specs.declared.event.UnmapRequest.{UnmapRequest}
+use Rattle.iofd_words.specs.declared.fault.AccessKind.{AccessKind}
+use Rattle.iofd_words.specs.declared.fault.AccessKind.TheVariants.{Read, Write}
 use Rattle.iofd_words.specs.declared.numbers.DeviceNo.{DeviceNo}
 use Rattle.iofd_words.specs.declared.numbers.FileNo.{FileNo}
 use Rattle.iofd_words.specs.declared.numbers.FrameNo.{FrameNo}
@@ -206,6 +211,11 @@ abbrev pub lacks_attached_frames : View → FileNo → ObjId → Option DeviceSe
 lacks_attached_frames v file ioas None = false
 lacks_attached_frames v file ioas (Some device) =
     is_none (automatic_hwpt v.objects file ioas device.width) && lacks_new_tables v file ioas (Some device)
+
+-- with the pages that a pin pins the user would have more than the limit allows
+abbrev pub passes_limit_accessed : View → FileNo → ObjId → Bounds → Bool
+passes_limit_accessed v file ioas span =
+    passes_limit v (user_of v.settings file) (length (newly_accessed v file ioas span))
 
 -- others stand on the object: page tables and access objects on an address space, devices on a page table; an access
 -- object is in use as long as it is attached
@@ -484,6 +494,48 @@ access_detach_checks v file id =
     ∷ (cause.InUse, v.holds_pin file id)
     ∷ []
 
+-- those of a pin in the address space to which the access object is attached
+abbrev pub pin_checks_in : View → FileNo → ObjId → PinRequest → Option ObjId → List (Cause × Bool)
+pin_checks_in v file id request None = (cause.Unattached, true) ∷ []
+pin_checks_in v file id request (Some ioas) =
+    (cause.Sum, is_above_sum request.iova.0 request.length)
+    ∷ (cause.Align, request.length == 0 || not (is_whole request.length && is_whole request.iova.0))
+    ∷ (cause.Span, has_gap (pinned_span request) (v.areas_of file ioas))
+    ∷ (cause.Leaving, meets_leaving (pinned_span request) (v.areas_of file ioas))
+    ∷ (cause.Rights, meets_without_right (pinned_span request) request.write (v.areas_of file ioas))
+    ∷ (cause.Full, v.has_most_pins file id)
+    ∷ (cause.Absent, lacks_accessed_page v file ioas (pinned_span request))
+    ∷ (cause.Account, passes_limit_accessed v file ioas (pinned_span request))
+    ∷ []
+
+unfoldable pub access_pin_checks : View → FileNo → ObjId → PinRequest → List (Cause × Bool)
+access_pin_checks v file id request =
+    (cause.Id, not (v.is_open file))
+    ∷ (cause.Id, not (has_access v.objects file id))
+    ∷ pin_checks_in v file id request (access_ioas_of v.objects file id)
+
+unfoldable pub access_unpin_checks : View → FileNo → ObjId → PinRequest → List (Cause × Bool)
+access_unpin_checks v file id request =
+    (cause.Id, not (v.is_open file))
+    ∷ (cause.Id, not (has_access v.objects file id))
+    ∷ (cause.Unattached, is_none (access_ioas_of v.objects file id))
+    ∷ (cause.NotHeld, not (v.is_held (pin_of file id request)))
+    ∷ []
+
+-- those of an access object's access to so many bytes, for reads and writes alike
+abbrev pub held_access_checks : View → FileNo → ObjId → Iova → ℕ → AccessKind → List (Cause × Bool)
+held_access_checks v file id iova len kind =
+    (cause.Id, not (v.is_open file))
+    ∷ (cause.Id, not (has_access v.objects file id))
+    ∷ (cause.Unattached, is_none (access_ioas_of v.objects file id))
+    ∷ (cause.Cross, crosses iova.0 len)
+    ∷ (cause.NotHeld, not (v.is_covered file id iova.0 Read))
+    ∷ (cause.Rights, not (v.is_covered file id iova.0 kind))
+    ∷ []
+
+unfoldable pub access_write_checks : View → FileNo → ObjId → Iova → List ℕ → List (Cause × Bool)
+access_write_checks v file id iova bytes = held_access_checks v file id iova (length bytes) Write
+
 -- the refusals of each event
 abbrev pub checks : {A : Type 0} → View → Event A → List (Cause × Bool)
 checks v (event.IoasAlloc file) = ioas_alloc_checks v file
@@ -506,6 +558,9 @@ checks v (event.DeviceWrite device iova bytes) = device_write_checks v device io
 checks v (event.AccessCreate file) = access_create_checks v file
 checks v (event.AccessAttach file id ioas) = access_attach_checks v file id ioas
 checks v (event.AccessDetach file id) = access_detach_checks v file id
+checks v (event.AccessPin file id request) = access_pin_checks v file id request
+checks v (event.AccessUnpin file id request) = access_unpin_checks v file id request
+checks v (event.AccessWrite file id iova bytes) = access_write_checks v file id iova bytes
 
 -- the cause for which an event is refused, if any
 abbrev pub refusal : {A : Type 0} → World → Event A → Option Cause

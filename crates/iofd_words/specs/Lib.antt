@@ -1,3 +1,4 @@
+pub mod Accesses
 pub mod After
 pub mod Allowed
 pub mod Answers

@@ -5,11 +5,12 @@ use Rattle.std.specs.List.{list_any}
 use Rattle.std.specs.Option.{option_map}
 use Rattle.iofd_words.specs.Attachments.{attachment_of}
 use Rattle.iofd_words.specs.Bounds.{Bounds}
-use Rattle.iofd_words.specs.Checks.{access_checks, unusable_in, user_access_checks}
+use Rattle.iofd_words.specs.Accesses.{accessed_frame}
+use Rattle.iofd_words.specs.Checks.{access_checks, held_access_checks, unusable_in, user_access_checks}
 use Rattle.iofd_words.specs.FirstTrue.{first_true}
 use Rattle.iofd_words.specs.Frames.{bytes_at, frame_at, free_count}
 use Rattle.iofd_words.specs.Files.{is_device, is_user}
-use Rattle.iofd_words.specs.Objects.{has_ioas}
+use Rattle.iofd_words.specs.Objects.{has_access, has_ioas}
 use Rattle.iofd_words.specs.Pages.{offset_of, page_of}
 use Rattle.iofd_words.specs.Pins.{held_by, pinned_frame}
 use Rattle.iofd_words.specs.Policy.{Outcome, Passes, Denied, outcomes, fault_of, is_pass_at}
@@ -28,7 +29,8 @@ use Rattle.iofd_words.specs.declared.numbers.ObjId.{ObjId}
 use Rattle.iofd_words.specs.declared.query.Answer.{Answer}
 use Rattle.iofd_words.specs.declared.query.Answer.TheVariants as answer
 use Rattle.iofd_words.specs.declared.query.Query.{Query}
-use Rattle.iofd_words.specs.declared.query.Query.TheVariants.{AttachedTo, DeviceRead, FreeFrames, Held, UserRead}
+use Rattle.iofd_words.specs.declared.query.Query.TheVariants.{AccessRead, AttachedTo, DeviceRead, FreeFrames, Held}
+use Rattle.iofd_words.specs.declared.query.Query.TheVariants.{UserRead}
 use Rattle.iofd_words.specs.declared.record.Record.{Record}
 use Rattle.iofd_words.specs.declared.refusal.Cause.{Cause}
 use Rattle.iofd_words.specs.declared.refusal.Cause.TheVariants as cause
@@ -37,6 +39,7 @@ use Rattle.iofd_words.specs.declared.refusal.Cause.TheVariants as cause
 abbrev pub query_checks : View → Query → List (Cause × Bool)
 query_checks v (DeviceRead device iova len) = access_checks v device iova len
 query_checks v (UserRead user va len) = user_access_checks v user va len
+query_checks v (AccessRead file access iova len) = held_access_checks v file access iova len Read
 query_checks v FreeFrames = []
 query_checks v (Held user) = (cause.Id, not (is_user v.settings user)) ∷ []
 query_checks v (AttachedTo device) = (cause.Id, not (is_device v.settings device)) ∷ []
@@ -46,6 +49,13 @@ abbrev pub ranges_checks : View → FileNo → ObjId → List (Cause × Bool)
 ranges_checks v file ioas =
     (cause.Id, not (v.is_open file))
     ∷ (cause.Id, not (has_ioas v.objects file ioas))
+    ∷ []
+
+-- those of the question for an access object's notices
+abbrev pub notices_checks : View → FileNo → ObjId → List (Cause × Bool)
+notices_checks v file access =
+    (cause.Id, not (v.is_open file))
+    ∷ (cause.Id, not (has_access v.objects file access))
     ∷ []
 
 -- the usable ranges of an address space: by rising start, no two of them overlap or adjoin, and they hold just the
@@ -59,16 +69,18 @@ abbrev pub read_answer : World → DeviceNo → ℕ → ℕ → Outcome → Answ
 read_answer w device address len (Passes frame) = answer.Read (bytes_at w.writes frame.0 (offset_of address) len)
 read_answer w device address len (Denied reason) = answer.Fault (fault_of w.settings device address Read reason)
 
--- the bytes that a user's page has in its frame, from the address on
-abbrev pub user_bytes : World → ℕ → ℕ → Option FrameNo → List Answer
-user_bytes w address len None = []
-user_bytes w address len (Some frame) = answer.Read (bytes_at w.writes frame.0 (offset_of address) len) ∷ []
+-- the bytes that a page has in its frame, from the address on
+abbrev pub page_bytes : World → ℕ → ℕ → Option FrameNo → List Answer
+page_bytes w address len None = []
+page_bytes w address len (Some frame) = answer.Read (bytes_at w.writes frame.0 (offset_of address) len) ∷ []
 
 -- the lawful answers to a question that nothing refuses, by the world and the records that led to it
 abbrev pub lawful_answers : {A : Type 0} → World → List (Record A) → Query → List Answer
 lawful_answers w records (DeviceRead device iova len) =
     map (read_answer w device iova.0 len) (outcomes w device iova.0 Read)
-lawful_answers w records (UserRead user va len) = user_bytes w va len (frame_at w.user_pages user (page_of va))
+lawful_answers w records (UserRead user va len) = page_bytes w va len (frame_at w.user_pages user (page_of va))
+lawful_answers w records (AccessRead file access iova len) =
+    page_bytes w iova.0 len (accessed_frame (view w) file access iova.0)
 lawful_answers w records FreeFrames =
     answer.Count (free_count w.settings.pool w.user_pages w.pins w.table_frames) ∷ []
 lawful_answers w records (Held user) = answer.Count (held_by (pinned_frame w.pins) w.memory user) ∷ []

@@ -1,15 +1,17 @@
 -- Pinned pages: those of memory objects that an area in an address space with a hardware page table translates, or that
 -- an access object has pinned (iommufd.rst, "User Objects", on struct iopt_pages). A page keeps the frame that it had
 -- when it was pinned, whatever its user does, for as long as it stays pinned.
-use Rattle.std.specs.Prelude.{ℕ, ◌+◌, ◌*◌, ◌/◌, Bool, false, ◌==◌, ◌&&◌, ◌||◌, not, Option}
+use Rattle.std.specs.Prelude.{ℕ, ◌+◌, ◌*◌, ◌/◌, Bool, true, false, ◌==◌, ◌&&◌, ◌||◌, not, nat_le, Option}
 use Rattle.std.specs.Prelude.{Some, None, is_some}
-use Rattle.std.specs.Prelude.{is_none, List, ◌++◌, map, filter, find}
+use Rattle.std.specs.Prelude.{is_none, List, [], ◌∷◌, ◌++◌, map, filter, find, if◌then◌else◌}
 use Rattle.std.specs.List.{count_by, list_any, list_all, flat_map, filter_map, range_with_len}
 use Rattle.iofd_words.specs.Bounds.{Bounds}
 use Rattle.iofd_words.specs.Pages.{page_of}
-use Rattle.iofd_words.specs.Span.{lies_in, meets, size_of, span_from}
+use Rattle.iofd_words.specs.Span.{holds, lies_in, meets, size_of, span_from}
 use Rattle.iofd_words.specs.Objects.{has_hwpt, is_access_to, kind_of}
 use Rattle.iofd_words.specs.Frames.{frame_at}
+use Rattle.iofd_words.specs.declared.fault.AccessKind.{AccessKind}
+use Rattle.iofd_words.specs.declared.fault.AccessKind.TheVariants.{Read, Write}
 use Rattle.iofd_words.specs.declared.numbers.FileNo.{FileNo}
 use Rattle.iofd_words.specs.declared.numbers.FrameNo.{FrameNo}
 use Rattle.iofd_words.specs.declared.numbers.ObjId.{ObjId}
@@ -75,6 +77,47 @@ has_pin_in objects access_pins area =
 abbrev pub holds_pin : List AccessPin → FileNo → ObjId → Bool
 holds_pin access_pins file access =
     list_any (λ pin. pin.file.0 == file.0 && pin.access.0 == access.0) access_pins
+
+-- the pin is one of this access object
+abbrev pub is_of_access : FileNo → ObjId → AccessPin → Bool
+is_of_access file access pin = pin.file.0 == file.0 && pin.access.0 == access.0
+
+-- an access object holds at most 65,535 pins, of which equal ones count each
+abbrev pub most_pins : ℕ
+most_pins = 65535
+
+abbrev pub has_most_pins : List AccessPin → FileNo → ObjId → Bool
+has_most_pins access_pins file access = nat_le most_pins (count_by (is_of_access file access) access_pins)
+
+-- the two are pins of one access object, of the same pages, and for the same
+abbrev pub is_equal : AccessPin → AccessPin → Bool
+is_equal a b =
+    is_of_access a.file a.access b && a.span.first == b.span.first && a.span.last == b.span.last
+    && (if a.write then b.write else not b.write)
+
+-- a pin that equals this one is held
+abbrev pub is_held : List AccessPin → AccessPin → Bool
+is_held access_pins pin = list_any (is_equal pin) access_pins
+
+-- all but one that equals this one
+abbrev pub without_pin : AccessPin → List AccessPin → List AccessPin
+without_pin pin [] = []
+without_pin pin (p ∷ pins) = if is_equal pin p then pins else (p ∷ without_pin pin pins)
+
+-- what a pin is for: each for reads, and some for writes too
+abbrev pub allows : Bool → AccessKind → Bool
+allows write Read = true
+allows write Write = write
+
+-- a pin of the access object covers the page at the address, and is for such an access
+abbrev pub is_covered : List AccessPin → FileNo → ObjId → ℕ → AccessKind → Bool
+is_covered access_pins file access address kind =
+    list_any (λ pin. is_of_access file access pin && (holds pin.span address && allows pin.write kind)) access_pins
+
+-- a pin of the access object and the span have an address in common
+abbrev pub meets_pin : List AccessPin → FileNo → ObjId → Bounds → Bool
+meets_pin access_pins file access span =
+    list_any (λ pin. is_of_access file access pin && meets span pin.span) access_pins
 
 -- some access pin covers the page, in some area over its memory object
 abbrev pub is_accessed : List Object → List Area → List AccessPin → ObjectPage → Bool

@@ -13,11 +13,13 @@ use Rattle.iofd_words.specs.Settings.{Settings}
 use Rattle.iofd_words.specs.TablePlaces as places
 use Rattle.iofd_words.specs.TablePlaces.{TablePlace}
 use Rattle.iofd_words.specs.World.{World}
+use Rattle.iofd_words.specs.declared.fault.AccessKind.{AccessKind}
 use Rattle.iofd_words.specs.declared.numbers.DeviceNo.{DeviceNo}
 use Rattle.iofd_words.specs.declared.numbers.FileNo.{FileNo}
 use Rattle.iofd_words.specs.declared.numbers.FrameNo.{FrameNo}
 use Rattle.iofd_words.specs.declared.numbers.ObjId.{ObjId}
 use Rattle.iofd_words.specs.declared.numbers.UserNo.{UserNo}
+use Rattle.iofd_words.specs.declared.rows.AccessPin.{AccessPin}
 use Rattle.iofd_words.specs.declared.rows.Area.{Area}
 use Rattle.iofd_words.specs.declared.rows.Attachment.{Attachment}
 use Rattle.iofd_words.specs.declared.rows.MemoryObject.{MemoryObject}
@@ -44,6 +46,14 @@ pub record View : Type 0 where
   pub pinned_frame : ObjectPage → Option FrameNo
   -- the access object of this id holds a pin
   pub holds_pin : FileNo → ObjId → Bool
+  -- as many as it may
+  pub has_most_pins : FileNo → ObjId → Bool
+  -- one that equals this
+  pub is_held : AccessPin → Bool
+  -- one that covers the page at an address, and is for such an access
+  pub is_covered : FileNo → ObjId → ℕ → AccessKind → Bool
+  -- one that has an address in common with the span
+  pub meets_pin : FileNo → ObjId → Bounds → Bool
   -- how many pinned pages a user has
   pub held_by : UserNo → ℕ
   -- how many frames nobody reaches
@@ -67,6 +77,10 @@ view w =
       frame_now = pin.frame_now w.memory w.user_pages;
       pinned_frame = pin.pinned_frame w.pins;
       holds_pin = pin.holds_pin w.access_pins;
+      has_most_pins = pin.has_most_pins w.access_pins;
+      is_held = pin.is_held w.access_pins;
+      is_covered = pin.is_covered w.access_pins;
+      meets_pin = pin.meets_pin w.access_pins;
       held_by = pin.held_by (pin.pinned_frame w.pins) w.memory;
       free_count = frame.free_count w.settings.pool w.user_pages w.pins w.table_frames;
       has_table = places.has_table w.table_frames;

@@ -49,6 +49,16 @@ pub struct HwptRequest {
     pub ioas: ObjId,
 }
 
+/// Which pages of its address space an access object pins (`iommufd.h` of the kernel, `iommufd_access_pin_pages`). The
+/// length and the address are in bytes.
+#[derive(Clone, Copy)]
+pub struct PinRequest {
+    pub iova: Iova,
+    pub length: u64,
+    /// Whether they are for writes too, and not for reads alone.
+    pub write: bool,
+}
+
 /// A step that is recorded. One with a list owns it.
 #[derive(Drop)]
 pub enum Event<A: Allocator = Global> {
@@ -92,6 +102,12 @@ pub enum Event<A: Allocator = Global> {
     AccessAttach(FileNo, ObjId, ObjId),
     /// Ends the attachment of the access object of this id.
     AccessDetach(FileNo, ObjId),
+    /// Pins pages of the address space to which the access object of this id is attached.
+    AccessPin(FileNo, ObjId, PinRequest),
+    /// Takes one of its pins of just these pages away.
+    AccessUnpin(FileNo, ObjId, PinRequest),
+    /// Writes memory at an address that one of its pins covers.
+    AccessWrite(FileNo, ObjId, Iova, Burst),
 }
 
 impl<A: Allocator + Copy> Event<A> {
@@ -124,6 +140,11 @@ impl<A: Allocator + Copy> Event<A> {
             Event::AccessCreate(file) => Event::AccessCreate(*file),
             Event::AccessAttach(file, id, ioas) => Event::AccessAttach(*file, *id, *ioas),
             Event::AccessDetach(file, id) => Event::AccessDetach(*file, *id),
+            Event::AccessPin(file, id, request) => Event::AccessPin(*file, *id, *request),
+            Event::AccessUnpin(file, id, request) => Event::AccessUnpin(*file, *id, *request),
+            Event::AccessWrite(file, id, iova, bytes) => {
+                Event::AccessWrite(*file, *id, *iova, *bytes)
+            }
         })
     }
 }

@@ -2,7 +2,7 @@
 
 use crate::burst::Burst;
 use crate::fault::Fault;
-use crate::numbers::{DeviceNo, Iova, ObjId, UserNo};
+use crate::numbers::{DeviceNo, FileNo, Iova, ObjId, UserNo};
 use crate::refusal::Refusal;
 
 /// A question about the world. It changes nothing and isn't recorded.
@@ -18,6 +18,13 @@ pub enum Query {
     UserRead {
         user: UserNo,
         va: u64,
+        len: u8,
+    },
+    /// An access object of a file reads `len` bytes at an address that one of its pins covers.
+    AccessRead {
+        file: FileNo,
+        access: ObjId,
+        iova: Iova,
         len: u8,
     },
     /// How many frames of the pool are free.

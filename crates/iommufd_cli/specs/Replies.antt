@@ -1,6 +1,7 @@
 -- The lines that a session answers to the steps of a script, in ASCII.
 use Rattle.std.specs.Prelude.{ℕ, false, nat_lt, Option, Some, None, List, length, ◌++◌}
 use Rattle.std.specs.Prelude.{codes, decimal, if◌then◌else◌}
+use Rattle.std.specs.List.{flat_map}
 use Rattle.std.specs.Int.{w16, to_be_bytes}
 use Rattle.std.specs.Fmt.{digits}
 use Rattle.hex.specs.Hex.{encode_lower}
@@ -97,6 +98,9 @@ command_of (event.Unbind file id) = None
 command_of (event.AccessCreate file) = None
 command_of (event.AccessAttach file id ioas) = None
 command_of (event.AccessDetach file id) = None
+command_of (event.AccessPin file id request) = None
+command_of (event.AccessUnpin file id request) = None
+command_of (event.AccessWrite file id iova bytes) = None
 command_of (event.Attach device pt_id) = None
 command_of (event.Detach device) = None
 command_of (event.Flush device) = None
@@ -122,6 +126,14 @@ answer_text (answer.Attached (Some id)) = codes "ok id " ++ decimal id.0
 answer_text (answer.Attached None) = codes "ok"
 answer_text (answer.Fault fault) = fault_text fault
 answer_text (answer.Refused refusal) = refusal_text refusal.cause
+
+-- a notice: the first and the last address of its span, in hex with no leading zeros
+abbrev pub notice_text : Bounds → List ℕ
+notice_text span = codes " " ++ digits 16 false span.first ++ codes "-" ++ digits 16 false span.last
+
+-- the notices of an access object
+abbrev pub notices_text : List Bounds → List ℕ
+notices_text spans = codes "ok" ++ flat_map notice_text spans
 
 -- no memory to read the script or to open the server: the whole output
 abbrev pub no_memory_text : List ℕ

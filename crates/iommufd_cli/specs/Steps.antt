@@ -1,14 +1,16 @@
 -- One step of a session: the line that it is answered with, and the server behind it.
 use Rattle.std.specs.Prelude.{◌≡◌, ◌⊎◌, ◌<◌, ℕ, Option, Some, None, List, Vec, length}
+use Rattle.iofd_words.specs.Accesses.{notices}
 use Rattle.iofd_words.specs.Bounds.{Bounds}
 use Rattle.iofd_words.specs.Checks.{refusal}
 use Rattle.iofd_words.specs.FirstTrue.{first_true}
-use Rattle.iofd_words.specs.Look.{AreUsableRanges, answers_to, ranges_checks}
+use Rattle.iofd_words.specs.Look.{AreUsableRanges, answers_to, notices_checks, ranges_checks}
 use Rattle.iofd_words.specs.Run.{IsRun}
 use Rattle.iofd_words.specs.View.{view}
 use Rattle.iofd_words.specs.declared.event.Event.{Event}
 use Rattle.iofd_words.specs.declared.event.Event.TheVariants as event
 use Rattle.iofd_words.specs.declared.numbers.FileNo.{FileNo}
+use Rattle.iofd_words.specs.declared.numbers.ObjId.{ObjId}
 use Rattle.iofd_words.specs.declared.query.Answer.{Answer}
 use Rattle.iofd_words.specs.declared.query.Query.{Query}
 use Rattle.iofd_words.specs.declared.query.Query.TheVariants as query
@@ -20,12 +22,17 @@ use Rattle.ioctl_codec.specs.Spelling.{Spells}
 use Rattle.ioctl_codec.specs.declared.command.Command.{Command}
 use Rattle.ioctl_codec.specs.declared.command.Command.TheVariants as command
 use Rattle.ioctl_codec.specs.declared.command.RangesRequest.{RangesRequest}
-use Rattle.iommufd_cli.specs.Replies.{answer_text, event_text, line, memory_text, ranges_text, refusal_text}
+use Rattle.iommufd_cli.specs.Replies.{answer_text, event_text, line, memory_text, notices_text, ranges_text}
+use Rattle.iommufd_cli.specs.Replies.{refusal_text}
 use Rattle.server_state.specs.Choice.{IsChosen, IsLooked}
 use Rattle.iommufd_core.specs.History.{HasOneMore, world}
 use Rattle.iommufd_core.specs.Server.{MayWant, Server}
 use Rattle.iommufd_script.specs.declared.line.Step.{Step}
 use Rattle.iommufd_script.specs.declared.line.Step.TheVariants as step
+
+-- the text tells the notices of these spans, or there are some and memory was wanting
+abbrev pub AreNotices : List Bounds → List ℕ → Type 0
+AreNotices spans text = (text ≡ line (notices_text spans)) ⊎ ((0 < length spans) × (text ≡ line memory_text))
 
 module _ {A : Type 0} where
   -- the bytes of an answer: those of the long line where there is one, and else of the one in place
@@ -70,6 +77,15 @@ module _ {A : Type 0} where
       × elim (first_true (ranges_checks (view (world s.history)) file request.ioas)) as (λ _. Type 0) [
         | Some cause ↦ text ≡ line (refusal_text cause)
         | None ↦ AreTold s file request text
+      ]
+
+  -- the question for an access object's notices: nothing changes. Where it isn't refused, the line tells them
+  abbrev pub IsNotices : Server A → FileNo → ObjId → List ℕ → Server A → Type 0
+  IsNotices s file access text after =
+      (after ≡ s)
+      × elim (first_true (notices_checks (view (world s.history)) file access)) as (λ _. Type 0) [
+        | Some cause ↦ text ≡ line (refusal_text cause)
+        | None ↦ AreNotices (notices (view (world s.history)) file access) text
       ]
 
   -- a command of a file
@@ -133,5 +149,12 @@ module _ {A : Type 0} where
   IsAnswered s (step.AccessCreate file) text after = IsApplied s (event.AccessCreate file) text after
   IsAnswered s (step.AccessAttach file id ioas) text after = IsApplied s (event.AccessAttach file id ioas) text after
   IsAnswered s (step.AccessDetach file id) text after = IsApplied s (event.AccessDetach file id) text after
+  IsAnswered s (step.AccessPin file id request) text after = IsApplied s (event.AccessPin file id request) text after
+  IsAnswered s (step.AccessUnpin file id request) text after =
+      IsApplied s (event.AccessUnpin file id request) text after
+  IsAnswered s (step.AccessRead file id iova len) text after = IsAsked s (query.AccessRead file id iova len) text after
+  IsAnswered s (step.AccessWrite file id iova bytes) text after =
+      IsApplied s (event.AccessWrite file id iova bytes) text after
+  IsAnswered s (step.Notices file id) text after = IsNotices s file id text after
   IsAnswered s step.FreeFrames text after = IsAsked s query.FreeFrames text after
   IsAnswered s (step.Held user) text after = IsAsked s (query.Held user) text after

@@ -15,6 +15,6 @@ mod steps;
 pub use command_line::{Choice, choose};
 pub use fault::{CliFault, InputFault};
 pub use line::Line;
-pub use replies::{bad_line, no_memory_line, ranges_line};
+pub use replies::{bad_line, no_memory_line, notices_line, ranges_line};
 pub use run::session;
 pub use steps::answer_step;

@@ -1,11 +1,11 @@
 //! The lines that a session answers to the steps of a script.
 
 ghost use Rattle.std.specs.Prelude.{◌≡◌, ◌≤◌, ◌<◌, ◌^◌, ◌+◌, ◌*◌, ◌++◌, IfOk};
-ghost use Rattle.std.specs.Prelude.{length, decimal};
+ghost use Rattle.std.specs.Prelude.{[], length, decimal};
 ghost use Rattle.hex.specs.Hex.{encode_lower};
 ghost use Rattle.iommufd_cli.specs.Replies.{line, refusal_text, pending_text, memory_text, no_memory_text};
 ghost use Rattle.iommufd_cli.specs.Replies.{bad_line_text, fault_text, reply_text, written_text, ioctl_text};
-ghost use Rattle.iommufd_cli.specs.Replies.{answer_text, places_text, ranges_text};
+ghost use Rattle.iommufd_cli.specs.Replies.{answer_text, notice_text, notices_text, places_text, ranges_text};
 
 use crate::line::Line;
 use crate::names::{name_of_cause, name_of_kind};
@@ -64,6 +64,13 @@ impl Line {
     {
         self.put_refusal(refusal);
         self.push_slice(b"\n");
+    }
+
+    /// Tells that an access object has no notice: `ok`. A line feed ends it.
+    pub fn tell_no_notice(&mut self)
+        ensures { self.new ≡ line (notices_text []) }
+    {
+        self.tell(b"ok");
     }
 
     /// Tells that a step was refused for want of memory: `12 Memory`. A line feed ends it.
@@ -189,6 +196,31 @@ pub fn ranges_line<A: Allocator + Copy>(
     text.extend_from_slice(digits.as_bytes())?;
     text.extend_from_slice(b"\n")?;
     Ok(text)
+}
+
+/// The line for the notices of an access object, which have these spans: `ok`, and for each a space and its first and
+/// last address in hex. A line feed ends it. It may be long, so it takes memory, and fails only where that does.
+pub fn notices_line<A: Allocator>(alloc: A, spans: &[Span]) -> Result<Vec<u8, A>, NoMemory>
+    ensures { IfOk result (λ text. text.items ≡ line (notices_text spans.now)) }
+{
+    let mut text = Vec::from_slice(alloc, b"ok")?;
+    for span in spans {
+        text.extend_from_slice(notice_words(*span).as_slice())?;
+    }
+    text.extend_from_slice(b"\n")?;
+    Ok(text)
+}
+
+// A notice, behind the space that parts it from what stands before.
+fn notice_words(span: Span) -> Line
+    ensures { result ≡ notice_text span }
+{
+    let mut words = Line::new();
+    words.push_slice(b" ");
+    words.push_hex_number(span.first());
+    words.push_slice(b"-");
+    words.push_hex_number(span.last());
+    words
 }
 
 // What stands before the digits: `0`, or the refusal where there are too few places for so many ranges.

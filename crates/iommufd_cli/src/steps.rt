@@ -2,15 +2,15 @@
 
 ghost use Rattle.std.specs.Prelude.{◌≡◌, ◌⊎◌, ◌<◌, ◌^◌, length};
 ghost use Rattle.iommufd_cli.specs.Replies.{command_of, event_text, line, memory_text, ranges_text};
-ghost use Rattle.iommufd_cli.specs.Steps.{IsAnswered, IsApplied, IsAsked, IsCommanded, IsDecoded, IsIoctl, IsRanges};
-ghost use Rattle.iommufd_cli.specs.Steps.{text_of};
+ghost use Rattle.iommufd_cli.specs.Steps.{AreNotices, IsAnswered, IsApplied, IsAsked, IsCommanded, IsDecoded, IsIoctl};
+ghost use Rattle.iommufd_cli.specs.Steps.{IsNotices, IsRanges, text_of};
 ghost use Rattle.iofd_words.specs.declared.event.Event.TheVariants as event;
 ghost use Rattle.iofd_words.specs.declared.query.Query.TheVariants as query;
 
 use crate::line::Line;
-use crate::replies::ranges_line;
+use crate::replies::{notices_line, ranges_line};
 use ioctl_codec::{Command, DecodeError, RangesRequest, decode};
-use iofd_words::{Act, CallError, Event, FileNo, PassNo, Query, Reply, Span};
+use iofd_words::{Act, CallError, Event, FileNo, ObjId, PassNo, Query, Reply, Span};
 use iommufd_core::Core;
 use iommufd_script::{HexBytes, Step};
 use std::alloc::Allocator;
@@ -22,8 +22,8 @@ const CALLER: PassNo = PassNo(0);
 const SHORT: usize = 64;
 
 /// Carries out a step of the script, and writes the line for it, in place of what `out` had: what the reply tells, or
-/// `12 Memory` where memory was wanting, and then nothing has changed. A line of ranges, which may be long, is
-/// answered in memory, and what `out` has isn't the answer then.
+/// `12 Memory` where memory was wanting, and then nothing has changed. A line of ranges or of notices, which may be long,
+/// is answered in memory, and what `out` has isn't the answer then.
 pub fn answer_step<A: Allocator + Copy>(
     alloc: A,
     core: &mut Core<A>,
@@ -67,6 +67,21 @@ pub fn answer_step<A: Allocator + Copy>(
         Step::AccessCreate(file) => Event::AccessCreate(*file),
         Step::AccessAttach(file, id, ioas) => Event::AccessAttach(*file, *id, *ioas),
         Step::AccessDetach(file, id) => Event::AccessDetach(*file, *id),
+        Step::AccessPin(file, id, request) => Event::AccessPin(*file, *id, *request),
+        Step::AccessUnpin(file, id, request) => Event::AccessUnpin(*file, *id, *request),
+        Step::AccessRead(file, access, iova, len) => {
+            let query = Query::AccessRead {
+                file: *file,
+                access: *access,
+                iova: *iova,
+                len: *len,
+            };
+            return answer_query(core, &query, out);
+        }
+        Step::AccessWrite(file, id, iova, bytes) => {
+            Event::AccessWrite(*file, *id, *iova, bytes.burst())
+        }
+        Step::Notices(file, access) => return answer_notices(alloc, core, *file, *access, out),
         Step::FreeFrames => return answer_query(core, &Query::FreeFrames, out),
         Step::Held(user) => return answer_query(core, &Query::Held(*user), out),
     };
@@ -236,6 +251,40 @@ fn told_ranges<A: Allocator + Copy>(
         ⊎ (text_of result out.new ≡ line memory_text) }
 {
     match ranges_line(alloc, request, ranges) {
+        Ok(text) => return Some(text),
+        Err(_) => out.tell_memory(),
+    }
+    None
+}
+
+// The line for the question for an access object's notices.
+fn answer_notices<A: Allocator + Copy>(
+    alloc: A,
+    core: &Core<A>,
+    file: FileNo,
+    access: ObjId,
+    out: &mut Line,
+) -> Option<Vec<u8, A>>
+    ensures { IsNotices core.now file access (text_of result out.new) core.now }
+{
+    match core.notices(file, access) {
+        Ok(spans) => return told_notices(alloc, spans.as_slice(), out),
+        Err(CallError::Refused(refusal)) => out.tell_refusal(refusal),
+        Err(CallError::Memory(_)) => out.tell_memory(),
+    }
+    None
+}
+
+// The line that tells the notices with these spans, or that there is no memory for it. Where there are none it takes
+// none.
+fn told_notices<A: Allocator>(alloc: A, spans: &[Span], out: &mut Line) -> Option<Vec<u8, A>>
+    ensures { AreNotices spans.now (text_of result out.new) }
+{
+    if spans.is_empty() {
+        out.tell_no_notice();
+        return None;
+    }
+    match notices_line(alloc, spans) {
         Ok(text) => return Some(text),
         Err(_) => out.tell_memory(),
     }

@@ -1,18 +1,21 @@
 -- What always holds of a run's world.
 use Rattle.std.proofs.Common.{◌≡◌, true, List, length, refl, arith}
 use Rattle.iofd_runs.proofs.KeepsApart.{keeps_apart}
+use Rattle.iofd_runs.proofs.KeepsFew.{keeps_few, opening_few, tabled_few}
 use Rattle.iofd_runs.proofs.KeepsFits.{keeps_fit, tabled_fit}
 use Rattle.iofd_runs.proofs.KeepsBoundOnce.{DevicesOnce, keeps_once, opening_once, tabled_once}
 use Rattle.iofd_runs.proofs.KeepsOwnMemory.{OwnPins, keeps_own_pins, later_own, tabled_own}
 use Rattle.iofd_runs.proofs.KeepsOwned.{OwnedPins, keeps_owned_pins, later_owned, opening_owned, tabled_owned}
 use Rattle.iofd_runs.proofs.KeepsPins.{opening_pinned}
+use Rattle.iofd_runs.proofs.KeepsPinsFit.{keeps_pins_fit, opening_pins_fit, tabled_pins_fit}
 use Rattle.iofd_runs.proofs.KeepsRising.{ObjectsRise, keeps_rising, opening_rises, tabled_rises}
 use Rattle.iofd_runs.proofs.KeepsTabled.{HasTables, keeps_tables, opening_tables}
 use Rattle.iofd_runs.proofs.KeepsUsable.{UsableSound, keeps_usable, opening_usable, tabled_usable}
 use Rattle.iofd_runs.proofs.Runs.{run_keeps, run_keeps_at, run_keeps_tables}
-use Rattle.iofd_runs.proofs.NoPins.{HasNoPins, keeps_without, opening_without, tabled_without}
 use Rattle.iofd_runs.specs.Apart.{are_apart}
+use Rattle.iofd_runs.specs.Few.{RowsFew}
 use Rattle.iofd_runs.specs.Fits.{RowsFit}
+use Rattle.iofd_runs.specs.PinsFit.{AccessPinsFit}
 use Rattle.iofd_words.specs.Run.{IsRun, world_of}
 use Rattle.iofd_words.specs.Settings.{Settings}
 use Rattle.iofd_words.specs.Tables.{with_tables}
@@ -63,6 +66,7 @@ module _ {A : Type 0} where
         usable = usable.areas;
         tabled =
             (run_keeps_tables HasTables keeps_tables 0 (opening settings) records run (opening_tables settings)).tables;
-        unaccessed = run_keeps HasNoPins tabled_without keeps_without 0 (opening settings) records run
-            (opening_without settings);
+        pins_fit = run_keeps AccessPinsFit tabled_pins_fit keeps_pins_fit 0 (opening settings) records run
+            (opening_pins_fit settings);
+        few = run_keeps RowsFew tabled_few keeps_few 0 (opening settings) records run (opening_few settings);
       }

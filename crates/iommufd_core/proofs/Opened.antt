@@ -10,6 +10,7 @@ use Rattle.iofd_words.specs.Settings.{Settings}
 use Rattle.iofd_words.specs.declared.numbers.FileNo.{FileNo}
 use Rattle.iofd_words.specs.declared.numbers.UserNo.{UserNo}
 use Rattle.iofd_words.specs.declared.rows.UserPage.{UserPage}
+use Rattle.server_state.specs.AccessPins.{AccessPinsShown}
 use Rattle.server_state.specs.declared.held.Held.{Held}
 use Rattle.user_memory_rows.specs.Shown.{FramesShown, PinsShown}
 use Rattle.object_table.specs.Table.{fresh_table, is_open}
@@ -68,12 +69,12 @@ frames_opened pool m pages objects = record {
         ∙ ap (λ (l : List MemoryEntry). 0 + pins_on l frame) objects
 
 -- no memory object is there
-pub pins_opened : (m : Memory) → m.objects ≡ [] → PinsShown [] [] [] [] m
+pub pins_opened : (m : Memory) → m.objects ≡ [] → PinsShown [] [] [] [] [] m
 pins_opened m objects = record {
   rows = sym (ap (λ (l : List MemoryEntry). entries.rows_of l) objects);
   areas = λ number. ap (λ (l : List MemoryEntry). areas_in (entries.object_at l number)) objects;
   tables = λ number. ap (λ (l : List MemoryEntry). pins_in (entries.object_at l number)) objects;
-  access = λ page. ap (λ (l : List MemoryEntry). entries.access_pins_on l page.memory page.index) objects;
+  access = λ page there. ap (λ (l : List MemoryEntry). entries.access_pins_on l page.memory page.index) objects;
   frames = λ page. sym (ap (λ (l : List MemoryEntry). entries.pinned_frame l page.memory page.index) objects);
   names = λ frame. sym (ap (λ (l : List MemoryEntry). ltb 0 (pins_on l frame)) objects);
   invariant = subst MemoryInvariant (sym objects) none;
@@ -81,3 +82,9 @@ pins_opened m objects = record {
   where
     none : MemoryInvariant []
     none = record { rising = refl; unpinned = refl; counted = refl; areas = refl }
+
+-- ---- the pins of access objects
+
+-- none is held
+pub access_pins_opened : AccessPinsShown [] [] []
+access_pins_opened = record { counts = λ test. refl; spaces = refl }

@@ -1,4 +1,4 @@
 pub mod History
 pub mod Kept
-pub mod Ranges
+pub mod Refused
 pub mod Server

@@ -38,6 +38,9 @@ takes_memory objects attachments (event.DeviceWrite device iova bytes) = false
 takes_memory objects attachments (event.AccessCreate file) = true
 takes_memory objects attachments (event.AccessAttach file id ioas) = false
 takes_memory objects attachments (event.AccessDetach file id) = false
+takes_memory objects attachments (event.AccessPin file id request) = true
+takes_memory objects attachments (event.AccessUnpin file id request) = false
+takes_memory objects attachments (event.AccessWrite file id iova bytes) = false
 
 -- the only time at which memory may be wanting: there is no place for the record, or for the list that the event
 -- carries, or nothing refuses the event and it is one that may take memory

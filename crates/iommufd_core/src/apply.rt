@@ -1,21 +1,22 @@
 //! The core: a state, and the records of all steps that led to it.
 
 ghost use Rattle.std.specs.Prelude.{◌≡◌, ◌<◌, ◌^◌, [], IfOk, IsTrue, OnErr, length, None};
+ghost use Rattle.iofd_words.specs.Accesses.{notices};
 ghost use Rattle.iofd_words.specs.Checks as checks;
 ghost use Rattle.iofd_words.specs.FirstTrue.{first_true};
-ghost use Rattle.iofd_words.specs.Look.{AreUsableRanges, answers_to, passes_in, ranges_checks};
+ghost use Rattle.iofd_words.specs.Look.{AreUsableRanges, answers_to, notices_checks, passes_in, ranges_checks};
 ghost use Rattle.iofd_words.specs.Run.{IsRun};
 ghost use Rattle.server_state.specs.Choice.{IsChosen, IsLooked};
 ghost use Rattle.iommufd_core.specs.History.{HasOneMore, may_apply, world};
-ghost use Rattle.iommufd_core.specs.Ranges.{refused_ranges};
+ghost use Rattle.iommufd_core.specs.Refused.{refused_cause};
 ghost use Rattle.iommufd_core.specs.Server.{MayWant};
 ghost use Rattle.iofd_words.specs.View.{view};
 
-use crate::{events, look, opening, ranges};
+use crate::{events, look, notices, opening, ranges};
 use event_device_access::access;
 use iofd_words::{
     AccessKind, Act, Answer, CallError, Config, DeviceNo, FileNo, FrameList, FrameNo, Iova,
-    NoMemory, ObjId, PassNo, Query, Record, Reply,
+    NoMemory, ObjId, PassNo, Query, Record, Reply, Span,
 };
 use iova_ranges::RangeSet;
 use server_state::State;
@@ -115,12 +116,28 @@ impl<A: Allocator + Copy> Core<A> {
     /// for the answer. Want of memory is also answered where there are more than 2^32 - 1 ranges, the most that the
     /// command's structure counts.
     pub fn ranges(&self, file: FileNo, ioas: ObjId) -> Result<RangeSet<A>, CallError>
-        ensures refused { refused_ranges result
+        ensures refused { refused_cause result
             ≡ first_true (ranges_checks (view (world self.now.history)) file ioas) }
         ensures ranges { IfOk result (λ set. AreUsableRanges (view (world self.now.history)) file ioas set.spans) }
         ensures few { IfOk result (λ set. length set.spans < 2 ^ 32) }
     {
         ranges::usable_ranges(&self.state, file, ioas)
+    }
+
+    /// The notices of the file's access object of this id, by which its driver is asked to let go (struct
+    /// iommufd_access_ops, `unmap`, of the kernel): the spans of the leaving areas in which it holds a pin, by rising
+    /// start. Attached to nothing it has none. The question changes nothing.
+    ///
+    /// Refused: Id (11, ENOENT), where the file isn't open or the id is no access object of it. It takes memory only
+    /// for the answer, so want of it comes only where there are notices.
+    pub fn notices(&self, file: FileNo, access: ObjId) -> Result<Vec<Span, A>, CallError>
+        ensures refused { refused_cause result
+            ≡ first_true (notices_checks (view (world self.now.history)) file access) }
+        ensures spans { IfOk result (λ spans. spans.items ≡ notices (view (world self.now.history)) file access) }
+        ensures memory { result ≡ Err (CallError.Memory (record {}))
+            → 0 < length (notices (view (world self.now.history)) file access) }
+    {
+        notices::notices(&self.state, file, access)
     }
 }
 

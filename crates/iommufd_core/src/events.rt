@@ -8,7 +8,10 @@ ghost use Rattle.server_state.specs.Seen.{seen};
 ghost use Rattle.iommufd_core.specs.Server.{takes_memory};
 ghost use Rattle.server_state.specs.Step.{Answered, IsCalled, IsGrantedFor, IsKnown, MovingSteps, TidyShowsSame};
 
-use access_pins::{attach as access_attach, create, detach as access_detach};
+use access_pins::{
+    attach as access_attach, create, detach as access_detach, pin as access_pin,
+    unpin as access_unpin, write as access_write,
+};
 use event_destroy::{close, destroy};
 use event_device_access::device_write;
 use event_ioas::{allow_iovas, ioas_alloc};
@@ -79,6 +82,11 @@ fn refusal<A: Allocator + Copy>(state: &State<A>, event: &Event<A>) -> Option<Ca
         Event::AccessCreate(file) => create::refusal(state, *file),
         Event::AccessAttach(file, id, ioas) => access_attach::refusal(state, *file, *id, *ioas),
         Event::AccessDetach(file, id) => access_detach::refusal(state, *file, *id),
+        Event::AccessPin(file, id, request) => access_pin::refusal(state, *file, *id, *request),
+        Event::AccessUnpin(file, id, request) => access_unpin::refusal(state, *file, *id, *request),
+        Event::AccessWrite(file, id, iova, bytes) => {
+            access_write::refusal(state, *file, *id, *iova, bytes)
+        }
     }
 }
 
@@ -127,5 +135,12 @@ fn commit<A: Allocator + Copy>(
             Ok(access_attach::commit(state, *file, *id, *ioas))
         }
         Event::AccessDetach(file, id) => Ok(access_detach::commit(state, *file, *id)),
+        Event::AccessPin(file, id, request) => access_pin::commit(state, *file, *id, *request),
+        Event::AccessUnpin(file, id, request) => {
+            Ok(access_unpin::commit(state, *file, *id, *request))
+        }
+        Event::AccessWrite(file, id, iova, bytes) => {
+            Ok(access_write::commit(state, *file, *id, *iova, bytes))
+        }
     }
 }

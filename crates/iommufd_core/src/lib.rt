@@ -5,6 +5,7 @@ mod apply;
 mod events;
 pub mod laws;
 mod look;
+mod notices;
 mod opening;
 mod ranges;
 

@@ -14,6 +14,7 @@ ghost use Rattle.server_state.specs.Seen.{seen};
 ghost use Rattle.server_state.specs.Shows.{Shows};
 ghost use Rattle.server_state.specs.Step.{IsAsked, IsKnown, IsTidy};
 
+use access_pins::read as access_read;
 use event_device_access::{access, device_read};
 use event_user_memory::{user_access, user_read};
 use iofd_words::{Answer, Cause, DeviceNo, ObjId, Query, Refusal, UserNo};
@@ -44,6 +45,12 @@ fn refusal<A: Allocator>(state: &State<A>, query: &Query) -> Option<Cause>
         Query::UserRead { user, va, len } => {
             user_access::refusal(state, *user, *va, usize::from(*len))
         }
+        Query::AccessRead {
+            file,
+            access,
+            iova,
+            len,
+        } => access_read::refusal(state, *file, *access, *iova, *len),
         Query::FreeFrames => None,
         Query::Held(user) => refusal_by_user(state, *user),
         Query::AttachedTo(device) => refusal_by_device(state, *device),
@@ -60,6 +67,12 @@ fn answer<A: Allocator>(state: &State<A>, query: &Query) -> Answer
     match query {
         Query::DeviceRead { device, iova, len } => device_read::read(state, *device, *iova, *len),
         Query::UserRead { user, va, len } => user_read::read(state, *user, *va, *len),
+        Query::AccessRead {
+            file,
+            access,
+            iova,
+            len,
+        } => access_read::read(state, *file, *access, *iova, *len),
         Query::FreeFrames => Answer::Count(u64::from(state.pool.free_count())),
         Query::Held(user) => Answer::Count(state.memory.held(*user)),
         Query::AttachedTo(device) => Answer::Attached(hwpt_of(state, *device)),

@@ -5,6 +5,7 @@ ghost use Rattle.iofd_words.specs.World.{opening};
 ghost use Rattle.server_state.specs.Shows.{Shows};
 
 use frame_memory::Pool;
+use held_pins::HeldPins;
 use iofd_words::{Config, NoMemory};
 use iova_ranges::AllowedTable;
 use object_table::ObjectTable;
@@ -34,5 +35,6 @@ pub(crate) fn opened<A: Allocator + Copy, B: Allocator>(
         bindings: Vec::new(alloc),
         page_tables: PageTables::new(alloc),
         attachments: Vec::new(alloc),
+        access_pins: HeldPins::new(alloc),
     })
 }

@@ -4,7 +4,7 @@ ghost use Rattle.std.specs.Prelude.{◌≡◌, ◌<◌, ◌^◌, IfOk, length};
 ghost use Rattle.iofd_words.specs.FirstTrue.{first_true};
 ghost use Rattle.iofd_words.specs.Look.{AreUsableRanges, ranges_checks};
 ghost use Rattle.server_state.specs.Seen.{seen};
-ghost use Rattle.iommufd_core.specs.Ranges.{refused_ranges};
+ghost use Rattle.iommufd_core.specs.Refused.{refused_cause};
 
 use event_ioas::usable_ranges;
 use iofd_words::{CallError, FileNo, NoMemory, ObjId, Refusal};
@@ -22,7 +22,7 @@ pub(crate) fn usable_ranges<A: Allocator + Copy>(
     file: FileNo,
     ioas: ObjId,
 ) -> Result<RangeSet<A>, CallError>
-    ensures refused { refused_ranges result ≡ first_true (ranges_checks (seen state.now) file ioas) }
+    ensures refused { refused_cause result ≡ first_true (ranges_checks (seen state.now) file ioas) }
     ensures ranges { IfOk result (λ set. AreUsableRanges (seen state.now) file ioas set.spans) }
     ensures few { IfOk result (λ set. length set.spans < 2 ^ 32) }
 {

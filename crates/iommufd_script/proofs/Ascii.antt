@@ -17,8 +17,8 @@ use Rattle.iofd_words.specs.FirstTrue.{first_true}
 use Rattle.iofd_words.specs.Settings.{is_between}
 use Rattle.iommufd_script.specs.Digits.{are_digits, number_of, decimal, hexadecimal, is_lower_digit, bytes_of, pairs}
 use Rattle.iommufd_script.specs.Fields.{fields, Kind, Decimal, Hex, Length, Source, AddressWidth, Bytes, Access, Mark}
-use Rattle.iommufd_script.specs.Fields.{Spans, ValueOf, Makes, kept_if, span_from_to, span_of_parts, span_of, are_spans}
-use Rattle.iommufd_script.specs.Fields.{spans_in, first_value, width_of, marked, next, read}
+use Rattle.iommufd_script.specs.Fields.{Purpose, Spans, ValueOf, Makes, kept_if, span_from_to, span_of_parts, span_of}
+use Rattle.iommufd_script.specs.Fields.{are_spans, spans_in, first_value, purpose_of, width_of, marked, next, read}
 use Rattle.iommufd_script.specs.Grammar.{head_keyword, head_row, head_of, step_keyword, step_row, step_at}
 use Rattle.iommufd_script.specs.Lines.{is_skipped, step_line, head_or_step, worded, line_of}
 use Rattle.iommufd_script.specs.declared.keyword.HeadKeyword.{HeadKeyword}
@@ -132,6 +132,12 @@ width_plain text e =
     where_either (bytes_eq text (codes "39")) Bits39 (cond is_48 (Some Bits48) None) (same_plain text (codes "39") refl)
     (λ some. let kept = where_kept is_48 (Some Bits48) some in same_plain text (codes "48") refl kept.0) e
 
+purpose_plain : (text : List ℕ) → is_some (purpose_of text) ≡ true → is_plain text ≡ true
+purpose_plain text e =
+    let is_w = bytes_eq text (codes "w") in
+    where_either (bytes_eq text (codes "r")) false (cond is_w (Some true) None) (same_plain text (codes "r") refl)
+    (λ some. let kept = where_kept is_w (Some true) some in same_plain text (codes "w") refl kept.0) e
+
 both_ends : (first last : List ℕ) (low high : Option ℕ)
     → is_some (option_and_then (λ n. option_and_then (span_from_to n) high) low) ≡ true
     → (is_some low ≡ true) × (is_some high ≡ true)
@@ -200,6 +206,7 @@ next_plain Bytes texts got e rest = first_plain bytes_of texts got bytes_plain e
 next_plain Access texts got e rest =
     first_plain (λ text. kept_if (λ bytes. is_between 1 64 (length bytes)) (bytes_of text)) texts got
     (λ text some. bytes_plain text (where_tested (λ bytes. is_between 1 64 (length bytes)) (bytes_of text) some)) e rest
+next_plain Purpose texts got e rest = first_plain purpose_of texts got purpose_plain e rest
 next_plain Mark texts got e rest = marked_plain texts (ap are_plain (ap behind e) ∙ rest)
 next_plain Spans texts got e rest =
     let kept = where_kept (are_spans texts) (Some (spans_in texts, [])) (ap is_some e) in weaken
@@ -245,8 +252,9 @@ step_names =
     ∷ (step.UserWrite, codes "uwrite") ∷ (step.Bind, codes "bind") ∷ (step.Unbind, codes "unbind")
     ∷ (step.Attach, codes "attach") ∷ (step.Detach, codes "detach") ∷ (step.Flush, codes "flush")
     ∷ (step.DeviceRead, codes "dread") ∷ (step.DeviceWrite, codes "dwrite") ∷ (step.AccessCreate, codes "access")
-    ∷ (step.AccessAttach, codes "aattach") ∷ (step.AccessDetach, codes "adetach") ∷ (step.FreeFrames, codes "free")
-    ∷ (step.Held, codes "held") ∷ []
+    ∷ (step.AccessAttach, codes "aattach") ∷ (step.AccessDetach, codes "adetach") ∷ (step.AccessPin, codes "apin")
+    ∷ (step.AccessUnpin, codes "aunpin") ∷ (step.AccessRead, codes "aread") ∷ (step.AccessWrite, codes "awrite")
+    ∷ (step.Notices, codes "notices") ∷ (step.FreeFrames, codes "free") ∷ (step.Held, codes "held") ∷ []
 
 head_plain : (word : List ℕ) → is_some (head_keyword word) ≡ true → is_plain word ≡ true
 unfolding head_names

@@ -36,6 +36,8 @@ pub data Kind : Type 0 where
   Bytes : Kind
   -- the same, of 1 to 64 bytes
   Access : Kind
+  -- what a pin is for: `r` for reads alone, `w` for writes too
+  Purpose : Kind
   -- the mark `x86`, or nothing: then no field is taken
   Mark : Kind
   -- all fields that are left, each a span
@@ -50,6 +52,8 @@ ValueOf Source = ℕ
 ValueOf AddressWidth = Width
 ValueOf Bytes = List ℕ
 ValueOf Access = List ℕ
+-- whether it is for writes too
+ValueOf Purpose = Bool
 ValueOf Mark = Bool
 ValueOf Spans = List Bounds
 
@@ -57,6 +61,11 @@ ValueOf Spans = List Bounds
 abbrev pub width_of : List ℕ → Option Width
 width_of text =
     if bytes_eq text (codes "39") then Some Bits39 else if bytes_eq text (codes "48") then Some Bits48 else None
+
+-- whether a pin is for writes too
+abbrev pub purpose_of : List ℕ → Option Bool
+purpose_of text =
+    if bytes_eq text (codes "r") then Some false else if bytes_eq text (codes "w") then Some true else None
 
 -- the value, if there is one and it passes
 abbrev pub kept_if : {A : Type 0} → (A → Bool) → Option A → Option A
@@ -113,6 +122,7 @@ next Source texts = first_value (λ text. if length text == 4 then hexadecimal 1
 next AddressWidth texts = first_value width_of texts
 next Bytes texts = first_value bytes_of texts
 next Access texts = first_value (λ text. kept_if (λ bytes. is_between 1 64 (length bytes)) (bytes_of text)) texts
+next Purpose texts = first_value purpose_of texts
 next Mark texts = Some (marked texts)
 next Spans texts = if are_spans texts then Some (spans_in texts, []) else None
 

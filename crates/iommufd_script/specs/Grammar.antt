@@ -1,9 +1,10 @@
 -- The lines of a script: each keyword, the kinds of the fields behind it, and what the line then is.
-use Rattle.std.specs.Prelude.{ℕ, List, [], ◌∷◌, codes, Option}
+use Rattle.std.specs.Prelude.{ℕ, Bool, List, [], ◌∷◌, codes, Option}
 use Rattle.std.specs.Str.{bytes_eq}
 use Rattle.iofd_words.specs.FirstTrue.{first_true}
-use Rattle.iommufd_script.specs.Fields.{Kind, Decimal, Hex, Length, Source, AddressWidth, Bytes, Access, Mark, Spans}
-use Rattle.iommufd_script.specs.Fields.{Makes, read}
+use Rattle.iofd_words.specs.declared.event.PinRequest.{PinRequest}
+use Rattle.iommufd_script.specs.Fields.{Kind, Decimal, Hex, Length, Source, AddressWidth, Bytes, Access, Purpose}
+use Rattle.iommufd_script.specs.Fields.{Mark, Spans, Makes, read}
 use Rattle.iommufd_script.specs.declared.keyword.HeadKeyword.{HeadKeyword}
 use Rattle.iommufd_script.specs.declared.keyword.HeadKeyword.TheVariants as head
 use Rattle.iommufd_script.specs.declared.keyword.StepKeyword.{StepKeyword}
@@ -63,9 +64,18 @@ step_keyword word = first_true (
     ∷ (step.AccessCreate, bytes_eq word (codes "access"))
     ∷ (step.AccessAttach, bytes_eq word (codes "aattach"))
     ∷ (step.AccessDetach, bytes_eq word (codes "adetach"))
+    ∷ (step.AccessPin, bytes_eq word (codes "apin"))
+    ∷ (step.AccessUnpin, bytes_eq word (codes "aunpin"))
+    ∷ (step.AccessRead, bytes_eq word (codes "aread"))
+    ∷ (step.AccessWrite, bytes_eq word (codes "awrite"))
+    ∷ (step.Notices, bytes_eq word (codes "notices"))
     ∷ (step.FreeFrames, bytes_eq word (codes "free"))
     ∷ (step.Held, bytes_eq word (codes "held"))
     ∷ [])
+
+-- the pages of a pin, and whether it is for writes too
+abbrev pub pin_request : ℕ → ℕ → Bool → PinRequest
+pin_request iova length write = record { iova = record { 0 = iova }; length = length; write = write }
 
 abbrev pub step_row : StepKeyword → Row Step
 -- file, command number, the command's bytes
@@ -134,6 +144,35 @@ step_row step.AccessAttach = record {
 step_row step.AccessDetach = record {
   kinds = Decimal 16 ∷ Decimal 32 ∷ [];
   makes = λ file id. made.AccessDetach (record { 0 = file }) (record { 0 = id });
+}
+-- file, id of an access object, address, length, what the pin is for
+step_row step.AccessPin = record {
+  kinds = Decimal 16 ∷ Decimal 32 ∷ Hex 64 ∷ Hex 64 ∷ Purpose ∷ [];
+  makes = λ file id iova length write.
+      made.AccessPin (record { 0 = file }) (record { 0 = id }) (pin_request iova length write);
+}
+-- file, id of an access object, address, length, what the pin is for
+step_row step.AccessUnpin = record {
+  kinds = Decimal 16 ∷ Decimal 32 ∷ Hex 64 ∷ Hex 64 ∷ Purpose ∷ [];
+  makes = λ file id iova length write.
+      made.AccessUnpin (record { 0 = file }) (record { 0 = id }) (pin_request iova length write);
+}
+-- file, id of an access object, address, how many bytes
+step_row step.AccessRead = record {
+  kinds = Decimal 16 ∷ Decimal 32 ∷ Hex 64 ∷ Length ∷ [];
+  makes = λ file id iova len.
+      made.AccessRead (record { 0 = file }) (record { 0 = id }) (record { 0 = iova }) len;
+}
+-- file, id of an access object, address, bytes
+step_row step.AccessWrite = record {
+  kinds = Decimal 16 ∷ Decimal 32 ∷ Hex 64 ∷ Access ∷ [];
+  makes = λ file id iova bytes.
+      made.AccessWrite (record { 0 = file }) (record { 0 = id }) (record { 0 = iova }) bytes;
+}
+-- file, id of an access object
+step_row step.Notices = record {
+  kinds = Decimal 16 ∷ Decimal 32 ∷ [];
+  makes = λ file id. made.Notices (record { 0 = file }) (record { 0 = id });
 }
 step_row step.FreeFrames = record { kinds = []; makes = made.FreeFrames }
 -- user

@@ -2,8 +2,8 @@
 
 ghost use Rattle.std.specs.Prelude.{◌≡◌, ◌==◌, [], ◌∷◌, MatchOption, if◌then◌else◌};
 ghost use Rattle.std.specs.Prelude.{Some, None, length};
-ghost use Rattle.iommufd_script.specs.Fields.{fields, fields_left, width_of, next, Decimal, Hex, Length, Source};
-ghost use Rattle.iommufd_script.specs.Fields.{AddressWidth, Bytes, Access, Mark, Spans};
+ghost use Rattle.iommufd_script.specs.Fields.{fields, fields_left, purpose_of, width_of, next, Decimal, Hex, Length};
+ghost use Rattle.iommufd_script.specs.Fields.{Source, AddressWidth, Bytes, Access, Purpose, Mark, Spans};
 
 use crate::access_bytes::AccessBytes;
 use crate::digits;
@@ -171,6 +171,15 @@ impl<'a> Fields<'a> {
         Some((AccessBytes::of(bytes)?, others))
     }
 
+    // Whether a pin is for writes too.
+    #[tactic(auto, unfolding(crate::specs::Fields::next))]
+    pub fn purpose(self) -> Option<(bool, Fields<'a>)>
+        ensures { result ≡ next Purpose self.entry }
+    {
+        let (field, others) = self.split()?;
+        Some((purpose_of(field)?, others))
+    }
+
     // Whether the mark `x86` is the first field, which is taken then.
     #[tactic(auto, unfolding(crate::specs::Fields::next))]
     pub fn mark(self) -> (bool, Fields<'a>)
@@ -189,6 +198,19 @@ impl<'a> Fields<'a> {
         ensures { result ≡ next Spans self.entry }
     {
         Some((SpanTexts::of(self)?, Fields { rest: None }))
+    }
+}
+
+// Whether a field says that a pin is for writes too.
+fn purpose_of(field: &[u8]) -> Option<bool>
+    ensures { result ≡ purpose_of field.now }
+{
+    if field == b"r".as_slice() {
+        Some(false)
+    } else if field == b"w".as_slice() {
+        Some(true)
+    } else {
+        None
     }
 }
 

@@ -33,6 +33,11 @@ pub enum StepKeyword {
     AccessCreate,
     AccessAttach,
     AccessDetach,
+    AccessPin,
+    AccessUnpin,
+    AccessRead,
+    AccessWrite,
+    Notices,
     FreeFrames,
     Held,
 }
@@ -89,6 +94,8 @@ fn step_keyword_of_4(word: &[u8]) -> Option<StepKeyword>
         Some(StepKeyword::FreeFrames)
     } else if is_word(word, b"held") {
         Some(StepKeyword::Held)
+    } else if is_word(word, b"apin") {
+        Some(StepKeyword::AccessPin)
     } else {
         None
     }
@@ -109,6 +116,8 @@ fn step_keyword_of_5(word: &[u8]) -> Option<StepKeyword>
         Some(StepKeyword::Flush)
     } else if is_word(word, b"dread") {
         Some(StepKeyword::DeviceRead)
+    } else if is_word(word, b"aread") {
+        Some(StepKeyword::AccessRead)
     } else {
         None
     }
@@ -133,6 +142,10 @@ fn step_keyword_of_6(word: &[u8]) -> Option<StepKeyword>
         Some(StepKeyword::DeviceWrite)
     } else if is_word(word, b"access") {
         Some(StepKeyword::AccessCreate)
+    } else if is_word(word, b"aunpin") {
+        Some(StepKeyword::AccessUnpin)
+    } else if is_word(word, b"awrite") {
+        Some(StepKeyword::AccessWrite)
     } else {
         None
     }
@@ -147,6 +160,8 @@ fn step_keyword_of_7(word: &[u8]) -> Option<StepKeyword>
         Some(StepKeyword::AccessAttach)
     } else if is_word(word, b"adetach") {
         Some(StepKeyword::AccessDetach)
+    } else if is_word(word, b"notices") {
+        Some(StepKeyword::Notices)
     } else {
         None
     }

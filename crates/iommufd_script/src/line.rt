@@ -3,7 +3,7 @@
 use crate::access_bytes::AccessBytes;
 use crate::hex_bytes::HexBytes;
 use crate::span_texts::SpanTexts;
-use iofd_words::{DeviceNo, FileNo, Iova, ObjId, SourceId, UserNo, Width};
+use iofd_words::{DeviceNo, FileNo, Iova, ObjId, PinRequest, SourceId, UserNo, Width};
 
 /// A line of the head.
 #[derive(Drop)]
@@ -55,6 +55,16 @@ pub enum Step<'a> {
     AccessAttach(FileNo, ObjId, ObjId),
     /// Ends the attachment of the access object of this id.
     AccessDetach(FileNo, ObjId),
+    /// The access object of this id pins pages.
+    AccessPin(FileNo, ObjId, PinRequest),
+    /// The access object of this id gives one of its pins of just these pages up.
+    AccessUnpin(FileNo, ObjId, PinRequest),
+    /// The access object of this id reads so many bytes, 1 to 64.
+    AccessRead(FileNo, ObjId, Iova, u8),
+    /// The access object of this id writes these bytes.
+    AccessWrite(FileNo, ObjId, Iova, AccessBytes<'a>),
+    /// Which ranges the access object of this id is asked to let go of.
+    Notices(FileNo, ObjId),
     /// How many frames are free.
     FreeFrames,
     /// How many pinned pages a user has.

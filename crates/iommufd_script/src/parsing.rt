@@ -13,7 +13,7 @@ ghost use Rattle.iommufd_script.specs.declared.keyword.StepKeyword.TheVariants a
 use crate::fields::Fields;
 use crate::keyword::{HeadKeyword, StepKeyword, head_keyword, step_keyword};
 use crate::line::{HeadLine, Line, Step};
-use iofd_words::{DeviceNo, FileNo, Iova, ObjId, SourceId, UserNo};
+use iofd_words::{DeviceNo, FileNo, Iova, ObjId, PinRequest, SourceId, UserNo};
 
 // `pool <n>`
 fn pool(fields: Fields<'_>) -> Option<HeadLine<'_>>
@@ -210,6 +210,73 @@ fn adetach<'a>(fields: Fields<'a>) -> Option<Step<'a>>
     fields.end(Step::AccessDetach(FileNo(file), ObjId(id)))
 }
 
+// `apin <file> <id> <x> <x> r|w`
+fn apin<'a>(fields: Fields<'a>) -> Option<Step<'a>>
+    ensures { result ≡ step_at step.AccessPin fields.entry }
+{
+    let (file, fields) = fields.decimal_u16()?;
+    let (id, fields) = fields.decimal_u32()?;
+    let (iova, fields) = fields.hexadecimal_u64()?;
+    let (length, fields) = fields.hexadecimal_u64()?;
+    let (write, fields) = fields.purpose()?;
+    let iova = Iova(iova);
+    let request = PinRequest {
+        iova,
+        length,
+        write,
+    };
+    fields.end(Step::AccessPin(FileNo(file), ObjId(id), request))
+}
+
+// `aunpin <file> <id> <x> <x> r|w`
+fn aunpin<'a>(fields: Fields<'a>) -> Option<Step<'a>>
+    ensures { result ≡ step_at step.AccessUnpin fields.entry }
+{
+    let (file, fields) = fields.decimal_u16()?;
+    let (id, fields) = fields.decimal_u32()?;
+    let (iova, fields) = fields.hexadecimal_u64()?;
+    let (length, fields) = fields.hexadecimal_u64()?;
+    let (write, fields) = fields.purpose()?;
+    let iova = Iova(iova);
+    let request = PinRequest {
+        iova,
+        length,
+        write,
+    };
+    fields.end(Step::AccessUnpin(FileNo(file), ObjId(id), request))
+}
+
+// `aread <file> <id> <x> <len>`
+fn aread<'a>(fields: Fields<'a>) -> Option<Step<'a>>
+    ensures { result ≡ step_at step.AccessRead fields.entry }
+{
+    let (file, fields) = fields.decimal_u16()?;
+    let (id, fields) = fields.decimal_u32()?;
+    let (iova, fields) = fields.hexadecimal_u64()?;
+    let (length, fields) = fields.length()?;
+    fields.end(Step::AccessRead(FileNo(file), ObjId(id), Iova(iova), length))
+}
+
+// `awrite <file> <id> <x> <h>`
+fn awrite<'a>(fields: Fields<'a>) -> Option<Step<'a>>
+    ensures { result ≡ step_at step.AccessWrite fields.entry }
+{
+    let (file, fields) = fields.decimal_u16()?;
+    let (id, fields) = fields.decimal_u32()?;
+    let (iova, fields) = fields.hexadecimal_u64()?;
+    let (bytes, fields) = fields.access()?;
+    fields.end(Step::AccessWrite(FileNo(file), ObjId(id), Iova(iova), bytes))
+}
+
+// `notices <file> <id>`
+fn notices<'a>(fields: Fields<'a>) -> Option<Step<'a>>
+    ensures { result ≡ step_at step.Notices fields.entry }
+{
+    let (file, fields) = fields.decimal_u16()?;
+    let (id, fields) = fields.decimal_u32()?;
+    fields.end(Step::Notices(FileNo(file), ObjId(id)))
+}
+
 // `held <user>`
 fn held<'a>(fields: Fields<'a>) -> Option<Step<'a>>
     ensures { result ≡ step_at step.Held fields.entry }
@@ -240,6 +307,11 @@ fn step<'a>(keyword: StepKeyword, fields: Fields<'a>) -> Option<Step<'a>>
         StepKeyword::AccessCreate => access(fields),
         StepKeyword::AccessAttach => aattach(fields),
         StepKeyword::AccessDetach => adetach(fields),
+        StepKeyword::AccessPin => apin(fields),
+        StepKeyword::AccessUnpin => aunpin(fields),
+        StepKeyword::AccessRead => aread(fields),
+        StepKeyword::AccessWrite => awrite(fields),
+        StepKeyword::Notices => notices(fields),
         StepKeyword::FreeFrames => fields.end(Step::FreeFrames),
         StepKeyword::Held => held(fields),
     }

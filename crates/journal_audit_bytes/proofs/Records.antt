@@ -69,6 +69,18 @@ access_wide : {tag : ℕ} {allows : List ℕ → Bool} {may_be : ℕ → Bool}
     })
 access_wide = record { numbers = (wide16, (wide64, tt)); list = record { count = wide8; element = (wide8, tt) } }
 
+written_wide : {tag : ℕ} {allows : List ℕ → Bool} {may_be : ℕ → Bool}
+    → RowWide (record {
+      tag = tag;
+      numbers = w16 ∷ w32 ∷ w64 ∷ [];
+      list = Some (record { count = w8; may_be = may_be; element = w8 ∷ [] });
+      allows = allows;
+    })
+written_wide = record {
+  numbers = (wide16, (wide32, (wide64, tt)));
+  list = record { count = wide8; element = (wide8, tt) };
+}
+
 ranges_wide : {tag : ℕ} {allows : List ℕ → Bool} {may_be : ℕ → Bool}
     → RowWide (record {
       tag = tag;
@@ -119,6 +131,7 @@ events_wide =
     let mapped : AreWide (w16 ∷ w32 ∷ w32 ∷ w64 ∷ w64 ∷ w64 ∷ []) =
     (wide16, (wide32, (wide32, (wide64, (wide64, (wide64, tt)))))) in
     let unmapped : AreWide (w16 ∷ w32 ∷ w64 ∷ w64 ∷ []) = (wide16, (wide32, (wide64, (wide64, tt)))) in
+    let pinned : AreWide (w16 ∷ w32 ∷ w64 ∷ w64 ∷ w8 ∷ []) = (wide16, (wide32, (wide64, (wide64, (wide8, tt))))) in
     let two_ids : AreWide (w16 ∷ w32 ∷ w32 ∷ []) = (wide16, (wide32, (wide32, tt))) in (
       plain_wide file,
       (
@@ -146,14 +159,23 @@ events_wide =
                             (
                               plain_wide id,
                               (
-                                plain_wide id,
+                                plain_wide pinned,
                                 (
-                                  plain_wide file,
+                                  plain_wide pinned,
                                   (
-                                    ranges_wide,
+                                    written_wide,
                                     (
-                                      plain_wide copied,
-                                      (plain_wide mapped, (plain_wide unmapped, (plain_wide two_ids, tt))),
+                                      plain_wide id,
+                                      (
+                                        plain_wide file,
+                                        (
+                                          ranges_wide,
+                                          (
+                                            plain_wide copied,
+                                            (plain_wide mapped, (plain_wide unmapped, (plain_wide two_ids, tt))),
+                                          ),
+                                        ),
+                                      ),
                                     ),
                                   ),
                                 ),

@@ -71,6 +71,10 @@ unfoldable pub is_kept : List ℕ → Bool
 is_kept numbers =
     nat_lt (slice_index numbers 1) 8 && (has_flag (slice_index numbers 1) 1 || slice_index numbers 5 == 0)
 
+-- what a pin is for (the fifth number) is 0 for reads alone, or 1 for writes too
+abbrev pub is_purpose : List ℕ → Bool
+is_purpose numbers = nat_lt (slice_index numbers 4) 2
+
 abbrev pub always : List ℕ → Bool
 always numbers = true
 
@@ -82,6 +86,11 @@ kept tag numbers = record { tag = tag; numbers = numbers; list = None; allows = 
 
 abbrev pub access : ℕ → Row
 access tag = record { tag = tag; numbers = w16 ∷ w64 ∷ []; list = Some burst; allows = always }
+
+-- file, id, address, length, what it is for
+abbrev pub pin : ℕ → Row
+pin tag =
+    record { tag = tag; numbers = w16 ∷ w32 ∷ w64 ∷ w64 ∷ w8 ∷ []; list = None; allows = is_purpose }
 
 -- a file is 16 bits wide, as are a user and a device; an id is 32 wide; an address and a length are 64
 abbrev pub event_rows : List Row
@@ -110,6 +119,11 @@ event_rows =
     ∷ plain 0x0c (w16 ∷ w32 ∷ w32 ∷ [])
     -- AccessDetach: file, id
     ∷ plain 0x0d (w16 ∷ w32 ∷ [])
+    -- AccessPin and AccessUnpin: file, id, address, length, what the pin is for
+    ∷ pin 0x0e
+    ∷ pin 0x0f
+    -- AccessWrite: file, id, address, bytes
+    ∷ record { tag = 0x10; numbers = w16 ∷ w32 ∷ w64 ∷ []; list = Some burst; allows = always }
     -- DESTROY: file, id
     ∷ plain 0x80 (w16 ∷ w32 ∷ [])
     -- IOAS_ALLOC: file

@@ -7,6 +7,7 @@ use Rattle.iofd_words.specs.declared.event.CopyRequest.{CopyRequest}
 use Rattle.iofd_words.specs.declared.event.Event.{Event}
 use Rattle.iofd_words.specs.declared.event.Event.TheVariants as event
 use Rattle.iofd_words.specs.declared.event.MapRequest.{MapRequest}
+use Rattle.iofd_words.specs.declared.event.PinRequest.{PinRequest}
 use Rattle.iofd_words.specs.declared.numbers.FrameNo.{FrameNo}
 use Rattle.journal_audit_bytes.specs.declared.spelled.SpelledReply.{SpelledReply}
 use Rattle.journal_audit_bytes.specs.declared.spelled.SpelledReply.TheVariants as reply
@@ -116,6 +117,13 @@ abbrev pub copy_numbers : ℕ → CopyRequest → List ℕ
 copy_numbers file c =
     file ∷ c.flags.0 ∷ c.dst_ioas.0 ∷ c.src_ioas.0 ∷ c.length ∷ c.dst_iova.0 ∷ c.src_iova.0 ∷ []
 
+-- 1 for writes too, 0 for reads alone
+abbrev pub purpose_number : Bool → ℕ
+purpose_number write = if write then 1 else 0
+
+abbrev pub pin_numbers : ℕ → ℕ → PinRequest → List ℕ
+pin_numbers file id p = file ∷ id ∷ p.iova.0 ∷ p.length ∷ purpose_number p.write ∷ []
+
 abbrev pub tagged_event : {A : Type 0} → Event A → Tagged
 tagged_event (event.Close file) = plainly 0x01 (file.0 ∷ [])
 tagged_event (event.UserMap user va) = plainly 0x02 (user.0 ∷ va ∷ [])
@@ -132,6 +140,10 @@ tagged_event (event.DeviceWrite device iova bytes) =
 tagged_event (event.AccessCreate file) = plainly 0x0b (file.0 ∷ [])
 tagged_event (event.AccessAttach file id ioas) = plainly 0x0c (file.0 ∷ id.0 ∷ ioas.0 ∷ [])
 tagged_event (event.AccessDetach file id) = plainly 0x0d (file.0 ∷ id.0 ∷ [])
+tagged_event (event.AccessPin file id request) = plainly 0x0e (pin_numbers file.0 id.0 request)
+tagged_event (event.AccessUnpin file id request) = plainly 0x0f (pin_numbers file.0 id.0 request)
+tagged_event (event.AccessWrite file id iova bytes) =
+    record { tag = 0x10; numbers = file.0 ∷ id.0 ∷ iova.0 ∷ []; list = singles bytes }
 tagged_event (event.Destroy file id) = plainly 0x80 (file.0 ∷ id.0 ∷ [])
 tagged_event (event.IoasAlloc file) = plainly 0x81 (file.0 ∷ [])
 tagged_event (event.AllowIovas file ioas ranges) =

@@ -12,8 +12,9 @@ use crate::lists::frames_at;
 use crate::numbers::{u8_at, u16_at, u32_at, u64_at};
 use crate::spelled::{ReadError, SpelledRecord, SpelledReply};
 use crate::steps::{
-    access_attach_at, access_create_at, access_detach_at, attach_at, bind_at, close_at, detach_at,
-    device_write_at, flush_at, unbind_at, user_map_at, user_unmap_at, user_write_at,
+    access_attach_at, access_create_at, access_detach_at, access_pin_at, access_unpin_at,
+    access_write_at, attach_at, bind_at, close_at, detach_at, device_write_at, flush_at, unbind_at,
+    user_map_at, user_unmap_at, user_write_at,
 };
 use iofd_words::{Event, PassNo};
 use std::alloc::Allocator;
@@ -41,6 +42,9 @@ fn event_of_tag<A: Allocator>(
         0x0b => access_create_at(bytes),
         0x0c => access_attach_at(bytes),
         0x0d => access_detach_at(bytes),
+        0x0e => access_pin_at(bytes),
+        0x0f => access_unpin_at(bytes),
+        0x10 => access_write_at(bytes),
         0x80 => destroy_at(bytes),
         0x81 => ioas_alloc_at(bytes),
         0x82 => allow_iovas_at(alloc, bytes),
@@ -140,8 +144,9 @@ fn record_at<A: Allocator + Copy>(
 
 /// The record at the front of the bytes, and the bytes after it, where there are so many passes. The error is Torn
 /// where the bytes begin with no record: they end within it, a tag is unknown, its pass isn't below the passes, an
-/// access has no byte or more than 64, flags have an unknown bit, or an address that they don't fix isn't 0. It is
-/// Memory where the memory for a list of the record was refused; a list for which the bytes are too few takes none.
+/// access has no byte or more than 64, what a pin is for is neither 0 nor 1, flags have an unknown bit, or an address
+/// that they don't fix isn't 0. It is Memory where the memory for a list of the record was refused; a list for which
+/// the bytes are too few takes none.
 pub fn read_record<A: Allocator + Copy>(
     alloc: A,
     passes: u16,

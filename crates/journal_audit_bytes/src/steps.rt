@@ -6,9 +6,9 @@ ghost use Rattle.journal_audit_bytes.specs.Format.{event_rows};
 ghost use Rattle.journal_audit_bytes.specs.Reading.{Gives, fields_of_tag, tagged_event};
 
 use crate::lists::burst_at;
-use crate::numbers::{u16_at, u32_at, u64_at};
+use crate::numbers::{u8_at, u16_at, u32_at, u64_at};
 use crate::spelled::ReadError;
-use iofd_words::{DeviceNo, Event, FileNo, Iova, ObjId, UserNo};
+use iofd_words::{DeviceNo, Event, FileNo, Iova, ObjId, PinRequest, UserNo};
 use std::alloc::Allocator;
 
 pub fn close_at<A: Allocator>(bytes: &[u8]) -> Result<(Event<A>, &[u8]), ReadError>
@@ -122,4 +122,59 @@ pub fn access_detach_at<A: Allocator>(bytes: &[u8]) -> Result<(Event<A>, &[u8]),
     let (file, rest) = u16_at(bytes)?;
     let (id, rest) = u32_at(rest)?;
     Ok((Event::AccessDetach(FileNo(file), ObjId(id)), rest))
+}
+
+pub fn access_pin_at<A: Allocator>(bytes: &[u8]) -> Result<(Event<A>, &[u8]), ReadError>
+    ensures { Gives (λ x. (tagged_event x.0, x.1.now)) result (fields_of_tag event_rows 0x0e bytes.now) }
+{
+    let (file, rest) = u16_at(bytes)?;
+    let (id, rest) = u32_at(rest)?;
+    let (iova, rest) = u64_at(rest)?;
+    let (length, rest) = u64_at(rest)?;
+    let (write, rest) = u8_at(rest)?;
+    if write > 1 {
+        return Err(ReadError::Torn);
+    }
+    let (iova, write) = (Iova(iova), write == 1);
+    let request = PinRequest {
+        iova,
+        length,
+        write,
+    };
+    Ok((Event::AccessPin(FileNo(file), ObjId(id), request), rest))
+}
+
+pub fn access_unpin_at<A: Allocator>(bytes: &[u8]) -> Result<(Event<A>, &[u8]), ReadError>
+    ensures { Gives (λ x. (tagged_event x.0, x.1.now)) result (fields_of_tag event_rows 0x0f bytes.now) }
+{
+    let (file, rest) = u16_at(bytes)?;
+    let (id, rest) = u32_at(rest)?;
+    let (iova, rest) = u64_at(rest)?;
+    let (length, rest) = u64_at(rest)?;
+    let (write, rest) = u8_at(rest)?;
+    if write > 1 {
+        return Err(ReadError::Torn);
+    }
+    let (iova, write) = (Iova(iova), write == 1);
+    let request = PinRequest {
+        iova,
+        length,
+        write,
+    };
+    Ok((Event::AccessUnpin(FileNo(file), ObjId(id), request), rest))
+}
+
+pub fn access_write_at<A: Allocator>(bytes: &[u8]) -> Result<(Event<A>, &[u8]), ReadError>
+    ensures { Gives (λ x. (tagged_event x.0, x.1.now)) result (fields_of_tag event_rows 0x10 bytes.now) }
+{
+    let (file, rest) = u16_at(bytes)?;
+    let (id, rest) = u32_at(rest)?;
+    let (iova, rest) = u64_at(rest)?;
+    match burst_at(rest) {
+        Ok((burst, rest)) => Ok((
+            Event::AccessWrite(FileNo(file), ObjId(id), Iova(iova), burst),
+            rest,
+        )),
+        Err(error) => Err(error),
+    }
 }

@@ -18,7 +18,7 @@ use Rattle.iofd_words.specs.declared.rows.ObjectKind.{ObjectKind}
 use Rattle.iofd_words.specs.declared.rows.ObjectKind.TheVariants as kind
 use Rattle.object_table.specs.Table.{Table}
 use Rattle.user_memory_rows.proofs.FramesFollow.{pins_moved, translated_same}
-use Rattle.user_memory_rows.proofs.PinsFollow.{count-cons}
+use Rattle.user_memory_rows.proofs.CountBy.{count-cons}
 use Rattle.server_state.proofs.AccessesHeld.{unattached_there}
 use Rattle.server_state.proofs.Counted.{counts_of, same_named, to_by}
 use Rattle.server_state.specs.Accesses.{HasAccess, one_at}
@@ -29,6 +29,8 @@ use Rattle.server_state.specs.Tables.{page_tables_among}
 use Rattle.server_state.specs.Users.{accesses_to, tables_over, users_at}
 use Rattle.server_state.specs.declared.held.Held.{Held}
 use Rattle.server_state.specs.declared.state.State.{State}
+use Rattle.iofd_runs.proofs.Accessed.{HoldersStay, each_held}
+use Rattle.server_state.proofs.AccessPinsStay.{covered_still, shown_still}
 
 -- ---- objects
 
@@ -135,8 +137,9 @@ module _ {A : Type 0} (at : ℕ) (w : World) (s : State A) (file : FileNo) (id :
       → counts f i ≡ counts_of (with_access file id attached w.objects) w.attachments f i)
       → ((f : FileNo) (i : ObjId) → has_ioas w.objects f i ≡ false
       → accesses_to (with_access file id attached w.objects) f i ≡ 0)
+      → HoldersStay w.objects (with_access file id attached w.objects) w.access_pins
       → Shows (record w { objects = with_access file id attached w.objects }) (record s { objects = table })
-  reattached_shown attached counts has counted spaces =
+  reattached_shown attached counts has counted spaces stay =
       record {
         settings = shows.settings;
         limits = shows.limits;
@@ -159,10 +162,13 @@ module _ {A : Type 0} (at : ℕ) (w : World) (s : State A) (file : FileNo) (id :
           attached = shows.devices.attached;
         };
         users = shows.users;
-        pins = pins_moved w.objects (with_access file id attached w.objects) w.areas w.areas w.memory w.pins s.memory
-            shows.pins (λ number. refl)
+        pins = pins_moved w.objects (with_access file id attached w.objects) w.areas w.areas w.memory w.pins
+            w.access_pins s.memory shows.pins (λ number. refl)
             (translated_same w.objects (with_access file id attached w.objects) w.areas
-            (λ own ioas. hwpt-reattached file id attached w.objects own ioas));
+            (λ own ioas. hwpt-reattached file id attached w.objects own ioas))
+            (covered_still w (with_access file id attached w.objects) tidy.pins stay);
+        access_pins = shown_still w.objects (with_access file id attached w.objects) w.areas w.access_pins s.access_pins
+            stay (each_held w.objects w.areas w.access_pins tidy.pins.held) shows.access_pins;
         frames = shows.frames;
         tables = record {
           tables = shows.tables.tables ∙ sym (same_tables w.objects file id attached);
@@ -174,8 +180,9 @@ module _ {A : Type 0} (at : ℕ) (w : World) (s : State A) (file : FileNo) (id :
   -- an object that was attached to nothing is attached to an address space
   pub attached_shown : (ioas : ObjId) → before ≡ None → has_ioas w.objects file ioas ≡ true
       → HasAccess file id (Some ioas) (λ f i. one_at file ioas f i + users_at s.objects.rows f i) s.objects table
+      → HoldersStay w.objects (with_access file id (Some ioas) w.objects) w.access_pins
       → Shows (record w { objects = with_access file id (Some ioas) w.objects }) (record s { objects = table })
-  attached_shown ioas none space has =
+  attached_shown ioas none space has stay =
       reattached_shown (Some ioas) (λ f i. one_at file ioas f i + users_at s.objects.rows f i) has
       (λ f i.
       let same = tables_same w.objects file id (Some ioas) f i in
@@ -186,7 +193,7 @@ module _ {A : Type 0} (at : ℕ) (w : World) (s : State A) (file : FileNo) (id :
       let all = more f i in
       let was = shows.objects.accesses f i other in
       let away = elsewhere f i other in
-      omega (arith, all, was, away))
+      omega (arith, all, was, away)) stay
     where
       more : (f : FileNo) (i : ObjId) → accesses_to (with_access file id (Some ioas) w.objects) f i
           ≡ one_at file ioas f i + accesses_to w.objects f i
@@ -211,8 +218,9 @@ module _ {A : Type 0} (at : ℕ) (w : World) (s : State A) (file : FileNo) (id :
   -- one that was attached to an address space is attached to nothing
   pub detached_shown : (ioas : ObjId) → before ≡ Some ioas
       → HasAccess file id None (λ f i. users_at s.objects.rows f i - one_at file ioas f i) s.objects table
+      → HoldersStay w.objects (with_access file id None w.objects) w.access_pins
       → Shows (record w { objects = with_access file id None w.objects }) (record s { objects = table })
-  detached_shown ioas some has =
+  detached_shown ioas some has stay =
       reattached_shown None (λ f i. users_at s.objects.rows f i - one_at file ioas f i) has
       (λ f i.
       let same = tables_same w.objects file id None f i in
@@ -222,7 +230,7 @@ module _ {A : Type 0} (at : ℕ) (w : World) (s : State A) (file : FileNo) (id :
       (λ f i other.
       let all = fewer f i in
       let was = shows.objects.accesses f i other in
-      omega (arith, all, was))
+      omega (arith, all, was)) stay
     where
       fewer : (f : FileNo) (i : ObjId) → accesses_to (with_access file id None w.objects) f i + one_at file ioas f i
           ≡ accesses_to w.objects f i

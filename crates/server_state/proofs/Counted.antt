@@ -23,7 +23,7 @@ use Rattle.iofd_words.specs.declared.rows.Object.{Object}
 use Rattle.iofd_words.specs.declared.rows.ObjectKind.{ObjectKind}
 use Rattle.iofd_words.specs.declared.rows.ObjectKind.TheVariants as kind
 use Rattle.iofd_words.specs.declared.width.Width.{Width}
-use Rattle.user_memory_rows.proofs.PinsFollow.{any_count, count-cons}
+use Rattle.user_memory_rows.proofs.CountBy.{any_count, count-cons}
 use Rattle.object_table.specs.Table.{Row, changed_at, inserted, is_at, is_own, is_same_kind, removed}
 use Rattle.object_table.specs.Table.{with_users}
 use Rattle.object_table.specs.declared.kind.Kind.{Kind}

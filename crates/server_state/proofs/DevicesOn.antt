@@ -24,7 +24,7 @@ use Rattle.iofd_words.specs.declared.rows.Attachment.{Attachment}
 use Rattle.iofd_words.specs.declared.rows.Object.{Object}
 use Rattle.iofd_words.specs.declared.rows.ObjectKind.{ObjectKind}
 use Rattle.iofd_words.specs.declared.rows.ObjectKind.TheVariants as kind
-use Rattle.user_memory_rows.proofs.PinsFollow.{any_count, count-cons}
+use Rattle.user_memory_rows.proofs.CountBy.{any_count, count-cons}
 use Rattle.server_state.specs.Users.{devices_on}
 
 -- the attachment is to this page table

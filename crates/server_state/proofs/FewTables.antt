@@ -25,7 +25,7 @@ use Rattle.iofd_words.specs.declared.config.ConfigError.{ConfigError}
 use Rattle.iofd_words.specs.declared.config.ConfigError.TheVariants as field
 use Rattle.iofd_words.specs.declared.rows.TableFrame.{TableFrame}
 use Rattle.user_memory_rows.proofs.Counts.{count_split}
-use Rattle.user_memory_rows.proofs.PinsFollow.{any_count, count-cons}
+use Rattle.user_memory_rows.proofs.CountBy.{any_count, count-cons}
 use Rattle.user_memory_rows.specs.Shown.{tables_in}
 use Rattle.server_state.specs.Leads.{leads_of}
 use Rattle.server_state.specs.Shows.{Shows}

@@ -15,7 +15,7 @@ use Rattle.iofd_words.specs.declared.rows.UserPage.{UserPage}
 use Rattle.memory_objects.specs.Invariant.{MemoryInvariant}
 use Rattle.memory_objects.specs.Objects.{pins_on}
 use Rattle.user_memory_rows.proofs.Named.{settles_named}
-use Rattle.user_memory_rows.proofs.PinsFollow.{count-cons}
+use Rattle.user_memory_rows.proofs.CountBy.{count-cons}
 use Rattle.user_memory_rows.specs.Shown.{FramesShown, tables_in}
 use Rattle.page_table_words.specs.Taken.{least_frames}
 use Rattle.user_memory.proofs.Found.{pinned_has}

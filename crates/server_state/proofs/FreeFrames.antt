@@ -178,8 +178,8 @@ module _ {A : Type 0} (w : World) (s : State A) (shows : Shows w s) where
       unheld k within =
           let below : ltb k (length s.pool.holds) ≡ true = search (within, arith, nat_tests) in
           ap (is_free w.settings.pool w.user_pages w.pins w.table_frames) (omega arith)
-          ∙ free_alike w.settings.pool w.writes w.table_frames w.user_pages w.objects w.areas w.memory w.pins s.memory
-          s.pool shows.users shows.pins shows.frames k
+          ∙ free_alike w.settings.pool w.writes w.table_frames w.user_pages w.objects w.areas w.memory w.pins
+          w.access_pins s.memory s.pool shows.users shows.pins shows.frames k
           ∙ ap (λ (b : Bool). b && eqb (get_or s.pool.holds k 0) 0) below
 
   -- each of them is free

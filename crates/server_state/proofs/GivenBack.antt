@@ -10,7 +10,7 @@ use Rattle.iofd_rows.proofs.Each.{IsIn, of_any}
 use Rattle.iofd_words.specs.Tables.{are_rising, is_among, kept_tables}
 use Rattle.iofd_words.specs.declared.numbers.FrameNo.{FrameNo}
 use Rattle.iofd_words.specs.declared.rows.TableFrame.{TableFrame}
-use Rattle.user_memory_rows.proofs.PinsFollow.{any_count, count-cons}
+use Rattle.user_memory_rows.proofs.CountBy.{any_count, count-cons}
 use Rattle.user_memory_rows.specs.Shown.{tables_in}
 
 -- ---- lists

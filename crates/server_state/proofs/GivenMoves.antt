@@ -17,7 +17,7 @@ use Rattle.iofd_words.specs.declared.event.Event.{Event}
 use Rattle.iofd_words.specs.declared.numbers.FrameNo.{FrameNo}
 use Rattle.iofd_words.specs.declared.reply.Reply.{Reply}
 use Rattle.iofd_words.specs.declared.rows.TableFrame.{TableFrame}
-use Rattle.user_memory_rows.proofs.PinsFollow.{any_count}
+use Rattle.user_memory_rows.proofs.CountBy.{any_count}
 use Rattle.user_memory_rows.specs.Shown.{tables_in}
 use Rattle.server_state.proofs.GivenBack.{among_is, kept_are, rising, given_once, some_time, times_in}
 use Rattle.server_state.specs.Choice.{AreFramesChosen}

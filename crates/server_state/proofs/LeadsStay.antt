@@ -23,8 +23,9 @@ use Rattle.iofd_words.specs.declared.rows.ObjectKind.TheVariants as kind
 use Rattle.iofd_words.specs.declared.rows.TableFrame.{TableFrame}
 use Rattle.frame_memory.specs.Pool.{FramePool}
 use Rattle.page_table_set.specs.PageTables.{AllStand, Hwpt}
-use Rattle.user_memory_rows.proofs.PinsFollow.{any_count, only_kept}
-use Rattle.user_memory_rows.specs.Shown.{PinsShown, translated}
+use Rattle.user_memory_rows.proofs.CountBy.{any_count}
+use Rattle.user_memory_rows.proofs.PinsFollow.{only_kept}
+use Rattle.user_memory_rows.specs.Shown.{PinsShown, has_page, translated}
 use Rattle.server_state.specs.Leads.{lead_by, leads_by_kind, leads_of, live_area_at, object_page, space_leads}
 use Rattle.server_state.specs.Tables.{page_tables_among}
 use Rattle.page_table_words.specs.Rows.{MappedPage}
@@ -128,13 +129,10 @@ is_translated objects areas file ioas page a has found =
     sym (any_count (λ (x : Area). eqb x.memory a.memory && has_hwpt objects x.file x.ioas) areas) ∙ some in
     search (counted, arith, nat_tests)
 
--- the object has the page
-abbrev pub has_page : List MemoryObject → ObjectPage → Bool
-has_page rows page = list_any (λ (row : MemoryObject). eqb page.memory row.number && ltb page.index row.count) rows
-
 module _ (at : ℕ) (w new : World) (old after : Memory) (before pool : FramePool) (pins : ArePinned at w)
-    (without : w.access_pins ≡ []) (was : PinsShown w.objects w.areas w.memory w.pins old)
-    (is : PinsShown new.objects new.areas new.memory new.pins after) (settles : Settles old after before pool) where
+    (was : PinsShown w.objects w.areas w.memory w.pins w.access_pins old)
+    (is : PinsShown new.objects new.areas new.memory new.pins new.access_pins after)
+    (settles : Settles old after before pool) where
   -- on an object on which pins stand before and after, each page stays pinned where it was
   pub pin_stays : (page : ObjectPage) → has_page (rows_of after) page ≡ has_page (rows_of old) page
       → 0 < table_pins old page.memory → 0 < table_pins after page.memory
@@ -152,4 +150,4 @@ module _ (at : ℕ) (w new : World) (old after : Memory) (before pool : FramePoo
           (memory.frame_now after page)) None ≡ pin.pinned_frame w.pins page
       by_page true there = rw (rows ∙ there, pinned_after, there, pinned) (sym (was.frames page))
       by_page false none =
-          rw (rows ∙ none) (sym (only_kept at w old pins without was page (rw none refl)) ∙ sym (was.frames page))
+          rw (rows ∙ none) (sym (only_kept at w old pins was page (rw none refl)) ∙ sym (was.frames page))

@@ -1,3 +1,4 @@
+pub mod AccessPinsStay
 pub mod AccessSpaces
 pub mod AccessesHeld
 pub mod AccessesShown

@@ -1,13 +1,16 @@
 -- Areas that go, or page tables: what they may let go of, and the memory objects, pins and frames that are shown
 -- afterwards.
-use Rattle.std.proofs.Common.{◌≡◌, ℕ, ◌+◌, ◌<◌, Bool, true, ◌&&◌, not, eqb, ltb, Some, List, [], get_or, map, sym, ◌∙◌}
-use Rattle.std.proofs.Common.{ap, arith}
+use Rattle.std.proofs.Common.{◌≡◌, ℕ, ◌+◌, ◌<◌, ◌≤◌, Bool, true, false, ◌&&◌, not, eqb, ltb, Some, List, [], get_or}
+use Rattle.std.proofs.Common.{map, sym, ◌∙◌}
+use Rattle.std.proofs.Common.{ap, refl, arith}
 use Rattle.std.specs.List.{count_by, filter}
 use Rattle.std.proofs.lemmas.Bool.Decides.{nat_tests}
 use Rattle.frame_memory.specs.Pool.{FramePool}
 use Rattle.iofd_rows.proofs.Bools.{and_true}
 use Rattle.iofd_rows.proofs.ListTests.{alike, any-filter, any_weaker}
 use Rattle.iofd_rows.specs.Pinned.{ArePinned}
+use Rattle.iofd_runs.proofs.Accessed.{of_areas}
+use Rattle.iofd_runs.proofs.HoldersStay.{NoPinGoes}
 use Rattle.iofd_words.specs.Areas.{areas_of}
 use Rattle.iofd_words.specs.Frames.{FrameWrite, frame_at}
 use Rattle.iofd_words.specs.Settings.{Settings}
@@ -18,12 +21,16 @@ use Rattle.iofd_words.specs.World.{World}
 use Rattle.iofd_words.specs.declared.numbers.FileNo.{FileNo}
 use Rattle.iofd_words.specs.declared.numbers.ObjId.{ObjId}
 use Rattle.iofd_words.specs.declared.numbers.UserNo.{UserNo}
+use Rattle.iofd_words.specs.declared.rows.AccessPin.{AccessPin}
 use Rattle.iofd_words.specs.declared.rows.Area.{Area}
 use Rattle.iofd_words.specs.declared.rows.MemoryObject.{MemoryObject}
 use Rattle.iofd_words.specs.declared.rows.Object.{Object}
 use Rattle.iofd_words.specs.declared.rows.Pin.{Pin}
 use Rattle.iofd_words.specs.declared.rows.TableFrame.{TableFrame}
 use Rattle.iofd_words.specs.declared.rows.UserPage.{UserPage}
+use Rattle.iofd_rows.proofs.ObjectPages.{listed_fewer, listed_is}
+use Rattle.user_memory_rows.proofs.AccessCounts.{counted_fewer, none_counted, unlisted_unpinned}
+use Rattle.user_memory_rows.proofs.AccessStays.{CoveredAlike}
 use Rattle.user_memory_rows.proofs.Counts.{count_map}
 use Rattle.user_memory_rows.proofs.FramesFollow as frames
 use Rattle.user_memory_rows.proofs.Gone.{few_translated, rows_left}
@@ -31,10 +38,10 @@ use Rattle.page_table_set.specs.PageTables.{AllStand, Hwpt}
 use Rattle.user_memory_rows.proofs.Named.{settles_named}
 use Rattle.user_memory_rows.proofs.PinsFollow.{only_kept, pins_follow}
 use Rattle.user_memory_rows.specs.Moves.{IsReleased, MayRelease}
-use Rattle.user_memory_rows.specs.Shown.{FramesShown, PinsShown, UsersShown, over, translated}
+use Rattle.user_memory_rows.specs.Shown.{accessed, FramesShown, PinsShown, UsersShown, has_page, over, translated}
 use Rattle.user_memory.specs.Changes.{HasLess}
-use Rattle.user_memory.specs.Memory.{Memory, areas_over, rows_of, table_pins}
-use Rattle.server_state.proofs.LeadsStay.{has_page, is_translated, lead_alike, pin_stays, spaces_alike}
+use Rattle.user_memory.specs.Memory.{Memory, access_pins, areas_over, rows_of, table_pins}
+use Rattle.server_state.proofs.LeadsStay.{is_translated, lead_alike, pin_stays, spaces_alike}
 use Rattle.server_state.proofs.TablesFollow.{tables_follow}
 use Rattle.server_state.specs.Leads.{leads_of, live_area_at, object_page, space_leads}
 use Rattle.server_state.specs.Shows.{Shows}
@@ -46,14 +53,27 @@ use Rattle.server_state.specs.declared.state.State.{State}
 pub record AreFewer (areas pins : ℕ → ℕ) (w : World) (objects : List Object) (left : List Area) : Type 0 where
   pub over_left : (n : ℕ) → over left n + areas n ≡ over w.areas n
   pub translated_left : (n : ℕ) → translated objects left n + pins n ≡ translated w.objects w.areas n
+  -- no access pin covers a page of a memory object over which none is left
+  pub uncovered : (page : ObjectPage) → has_page w.memory page ≡ true → over left page.memory ≡ 0
+      → accessed w.objects w.areas w.access_pins page ≡ 0
 
 -- what is shown afterwards of memory objects, users' pages and frames
 pub record AreShown (new : World) (writes : List FrameWrite) (tables : List TableFrame) (user_pages : List UserPage)
     (settings : Settings) (after : Memory) (pool : FramePool) : Type 0 where
   pub limits : after.limits ≡ settings.users
   pub users : UsersShown user_pages after.pages
-  pub pins : PinsShown new.objects new.areas new.memory new.pins after
+  pub pins : PinsShown new.objects new.areas new.memory new.pins new.access_pins after
   pub frames : FramesShown settings.pool writes tables after pool
+
+-- no access pin covers a page of a memory object of which all areas go, where none meets an area that goes
+pub gone_uncovered : {at : ℕ} → (w : World) (goes : Area → Bool) → ArePinned at w → NoPinGoes w goes
+    → (page : ObjectPage) → has_page w.memory page ≡ true
+    → over (filter (λ (a : Area). not (goes a)) w.areas) page.memory ≡ 0
+    → accessed w.objects w.areas w.access_pins page ≡ 0
+gone_uncovered w goes p free page there none =
+    sym (counted_fewer w.objects goes w.areas w.access_pins page
+    (of_areas w.memory w.areas page p.numbers p.sizes (listed_is w.memory page ∙ there)) free)
+    ∙ none_counted w.objects (filter (λ (a : Area). not (goes a)) w.areas) w.access_pins page none
 
 -- a memory object over which an area is left has the pages that it had
 page_left : (areas pins : ℕ → ℕ) (old after : Memory) → HasLess areas pins old after → (page : ObjectPage)
@@ -94,17 +114,28 @@ module _ {A : Type 0} (at : ℕ) (w : World) (s : State A) (tidy : IsTidy at w) 
           let same_areas = shows.pins.areas n in
           let few = few_translated objects left n in
           omega (arith, first, second, same_pins, same_areas, few);
-      access = shows.pins.access;
+      access = λ page gone. unpinned page gone (has_page w.memory page) refl;
       backed = frames.is_backed w.settings.pool w.writes rows s.memory before shown;
       invariant = shows.pins.invariant;
-      only = only_kept at w s.memory tidy.pins tidy.unaccessed shows.pins;
+      only = only_kept at w s.memory tidy.pins shows.pins;
     }
+      where
+        unpinned : (page : ObjectPage) → areas_over s.memory page.memory ≤ areas page.memory → (b : Bool)
+            → has_page w.memory page ≡ b → access_pins s.memory page ≡ 0
+        unpinned page gone true there =
+            let few = fewer.over_left page.memory in
+            let same = shows.pins.areas page.memory in
+            shows.pins.access page there ∙ fewer.uncovered page there (omega (arith, gone, few, same))
+        unpinned page gone false none =
+            unlisted_unpinned s.memory page shows.pins.invariant
+            (ap (λ (rows : List MemoryObject). has_page rows page) (sym shows.pins.rows) ∙ none)
 
     -- they have
     module _ (next : ℕ) (new : World) (after : Memory) (pool : FramePool) (pinned : ArePinned next new)
         (same_objects : new.objects ≡ objects) (same_areas : new.areas ≡ left)
         (memory : new.memory ≡ filter (λ (m : MemoryObject). ltb 0 (over left m.number)) w.memory)
         (same_pages : new.user_pages ≡ w.user_pages) (same_accesses : new.access_pins ≡ w.access_pins)
+        (covered : CoveredAlike w new)
         (is_settled : new.pins ≡ settled (pinned_pages w.objects w.areas w.memory w.access_pins)
         (pinned_pages new.objects new.areas new.memory new.access_pins) new.memory new.user_pages w.pins)
         (released : IsReleased areas pins s.memory after before pool) where
@@ -124,17 +155,25 @@ module _ {A : Type 0} (at : ℕ) (w : World) (s : State A) (tidy : IsTidy at w) 
       pages_after user page =
           shows.users.pages user page ∙ ap (λ l. frame_at l user page) (sym released.settles.pages)
 
-      pins_after : PinsShown new.objects new.areas new.memory new.pins after
+      pins_after : PinsShown new.objects new.areas new.memory new.pins new.access_pins after
       pins_after =
-          pins_follow at next w new s.memory after before pool tidy.pins pinned tidy.unaccessed same_accesses
-          shows.pins is_settled
+          pins_follow at next w new s.memory after before pool tidy.pins pinned shows.pins is_settled
           (λ user page. ap (λ l. frame_at l user page) same_pages ∙ pages_after user page)
           (memory ∙ rows_left after w.memory (rows_of s.memory) (over left) shows.pins.rows counts
           ∙ sym released.less.rows)
           (λ n. counts n ∙ ap (λ l. over l n) (sym same_areas))
           (λ n. tables n ∙ ap (λ l. translated l left n) (sym same_objects)
           ∙ ap (λ l. translated new.objects l n) (sym same_areas))
-          released.less.access released.settles
+          (λ page there. released.less.access page ∙ shows.pins.access page (was_there page there)
+          ∙ sym (covered page there)
+          ∙ ap (λ (pins : List AccessPin). accessed new.objects new.areas pins page) (sym same_accesses))
+          released.settles
+        where
+          was_there : (page : ObjectPage) → has_page new.memory page ≡ true → has_page w.memory page ≡ true
+          was_there page there =
+              sym (listed_is w.memory page)
+              ∙ listed_fewer (λ (m : MemoryObject). ltb 0 (over left m.number)) w.memory page
+              (listed_is _ page ∙ ap (λ (rows : List MemoryObject). has_page rows page) (sym memory) ∙ there)
 
       frames_after : FramesShown w.settings.pool w.writes rows after pool
       frames_after =
@@ -169,7 +208,7 @@ module _ {A : Type 0} (at : ℕ) (w : World) (s : State A) (tidy : IsTidy at w) 
               let pins_old = shows.pins.tables a.memory in
               let pins_new = tables a.memory in
               let areas_new = counts a.memory in
-              pin_stays at w new s.memory after before pool tidy.pins tidy.unaccessed shows.pins pins_after
+              pin_stays at w new s.memory after before pool tidy.pins shows.pins pins_after
               released.settles (object_page page a)
               (page_left areas pins s.memory after released.less (object_page page a)
               (omega (arith, areas_new, few, some)))
@@ -206,7 +245,7 @@ module _ {A : Type 0} (at : ℕ) (w : World) (s : State A) (tidy : IsTidy at w) 
       pub shown_after : (next : ℕ) (new : World) (after : Memory) (pool : FramePool) → ArePinned next new
           → new.objects ≡ objects → new.areas ≡ left
           → new.memory ≡ filter (λ (m : MemoryObject). ltb 0 (over left m.number)) w.memory
-          → new.user_pages ≡ w.user_pages → new.access_pins ≡ w.access_pins
+          → new.user_pages ≡ w.user_pages → new.access_pins ≡ w.access_pins → CoveredAlike w new
           → new.pins ≡ settled (pinned_pages w.objects w.areas w.memory w.access_pins)
           (pinned_pages new.objects new.areas new.memory new.access_pins) new.memory new.user_pages w.pins
           → IsReleased areas pins s.memory after s.pool pool
@@ -233,10 +272,13 @@ translated_map objects f areas same_memory same_file same_ioas n =
 
 -- areas that change keep their memory objects and their page tables
 pub pins_changed : (objects : List Object) (areas : List Area) (memory : List MemoryObject) (pins : List Pin)
-    (kept : Memory) (f : Area → Area)
+    (access_pins : List AccessPin) (kept : Memory) (f : Area → Area)
     → ((area : Area) → (f area).memory ≡ area.memory) → ((area : Area) → (f area).file ≡ area.file)
     → ((area : Area) → (f area).ioas ≡ area.ioas)
-    → PinsShown objects areas memory pins kept → PinsShown objects (map f areas) memory pins kept
-pins_changed objects areas memory pins kept f same_memory same_file same_ioas shown =
-    frames.pins_moved objects objects areas (map f areas) memory pins kept shown (over_map f areas same_memory)
-    (translated_map objects f areas same_memory same_file same_ioas)
+    → ((page : ObjectPage) → has_page memory page ≡ true
+    → accessed objects (map f areas) access_pins page ≡ accessed objects areas access_pins page)
+    → PinsShown objects areas memory pins access_pins kept
+    → PinsShown objects (map f areas) memory pins access_pins kept
+pins_changed objects areas memory pins access_pins kept f same_memory same_file same_ioas same_accessed shown =
+    frames.pins_moved objects objects areas (map f areas) memory pins access_pins kept shown
+    (over_map f areas same_memory) (translated_map objects f areas same_memory same_file same_ioas) same_accessed

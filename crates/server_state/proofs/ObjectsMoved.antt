@@ -28,6 +28,9 @@ use Rattle.server_state.specs.Users.{accesses_to, devices_on, tables_over, users
 use Rattle.server_state.specs.declared.held.Held.{Held}
 use Rattle.server_state.specs.declared.state.State.{State}
 use Rattle.object_table.specs.Table.{Row, Table, inserted, is_at, stands_before}
+use Rattle.iofd_runs.proofs.Accessed.{EachHeld, HoldersStay}
+use Rattle.server_state.proofs.AccessPinsStay.{shown_still}
+use Rattle.user_memory_rows.proofs.AccessCounts.{counted_objects}
 
 -- an object that is no page table comes among page tables
 pub tables_beside : (object : Object) (objects : List Object) → is_hwpt object.kind ≡ false
@@ -87,9 +90,12 @@ module _ {A : Type 0} where
       → ((device : DeviceNo) → binding_of (with_object (object_of row) w.objects) device ≡ find
       (λ object. is_bound_as device object.kind) bindings.items)
       → are_bindings bindings.items ≡ true
+      → HoldersStay w.objects (with_object (object_of row) w.objects) w.access_pins
+      → EachHeld w.objects w.areas w.access_pins
       → Shows (record w { objects = with_object (object_of row) w.objects })
       (record s { objects = table; bindings = bindings })
-  shows_inserted w s row table bindings shows proper no_users none unused no_table unattached rows files bound rising =
+  shows_inserted w s row table bindings shows proper no_users none unused no_table unattached rows files bound rising
+      stay held =
       record {
         settings = shows.settings;
         objects = record {
@@ -114,11 +120,15 @@ module _ {A : Type 0} where
         limits = shows.limits;
         allowed = shows.allowed;
         users = shows.users;
-        pins = pins_moved w.objects (with_object (object_of row) w.objects) w.areas w.areas w.memory w.pins s.memory
-            shows.pins (λ number. refl)
+        pins = pins_moved w.objects (with_object (object_of row) w.objects) w.areas w.areas w.memory w.pins
+            w.access_pins s.memory shows.pins (λ number. refl)
             (translated_same w.objects (with_object (object_of row) w.objects) w.areas
             (λ file ioas. same_hwpt (object_of row) w.objects file ioas
-            (over_no_other ioas (object_of row).kind no_table)));
+            (over_no_other ioas (object_of row).kind no_table)))
+            (λ page there. counted_objects w.objects (with_object (object_of row) w.objects) w.areas w.areas
+            w.access_pins page stay held);
+        access_pins = shown_still w.objects (with_object (object_of row) w.objects) w.areas w.access_pins s.access_pins
+            stay held shows.access_pins;
         frames = shows.frames;
         tables = record {
           tables = shows.tables.tables ∙ sym (tables_beside (object_of row) w.objects no_table);

@@ -18,7 +18,7 @@ use Rattle.iofd_words.specs.World.{World}
 use Rattle.iofd_words.specs.declared.rows.Object.{Object}
 use Rattle.iofd_words.specs.declared.rows.ObjectKind.{ObjectKind}
 use Rattle.iofd_words.specs.declared.rows.TableFrame.{TableFrame}
-use Rattle.user_memory_rows.proofs.PinsFollow.{any_count}
+use Rattle.user_memory_rows.proofs.CountBy.{any_count}
 use Rattle.user_memory_rows.specs.Shown.{FramesShown, tables_in}
 use Rattle.server_state.proofs.TakenShown.{taken_shown}
 use Rattle.server_state.specs.Leads.{leads_of}

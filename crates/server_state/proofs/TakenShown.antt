@@ -11,7 +11,7 @@ use Rattle.iofd_words.specs.declared.rows.TableFrame.{TableFrame}
 use Rattle.frame_memory.specs.Pool.{FramePool}
 use Rattle.page_table_set.proofs.Counted.{tables_append}
 use Rattle.page_table_set.specs.PageTables.{KeepsOthers}
-use Rattle.user_memory_rows.proofs.PinsFollow.{count-cons}
+use Rattle.user_memory_rows.proofs.CountBy.{count-cons}
 use Rattle.user_memory_rows.specs.Shown.{FramesShown, tables_in}
 use Rattle.server_state.proofs.GivenBack.{times_in}
 use Rattle.page_table_spans.proofs.LeastFrames.{length_held}

@@ -94,6 +94,9 @@ IsChosen w (event.DeviceWrite device iova bytes) via answer =
 IsChosen w (event.AccessCreate file) via answer = Unit {0}
 IsChosen w (event.AccessAttach file id ioas) via answer = Unit {0}
 IsChosen w (event.AccessDetach file id) via answer = Unit {0}
+IsChosen w (event.AccessPin file id request) via answer = Unit {0}
+IsChosen w (event.AccessUnpin file id request) via answer = Unit {0}
+IsChosen w (event.AccessWrite file id iova bytes) via answer = Unit {0}
 
 -- ---- frames of tables
 

@@ -1,3 +1,4 @@
+pub mod AccessPins
 pub mod Accesses
 pub mod Choice
 pub mod Devices

@@ -3,7 +3,7 @@ use Rattle.std.specs.Prelude.{ℕ, Bool, false, ◌==◌, not, Some, None, List,
 use Rattle.std.specs.List.{list_any}
 use Rattle.area_map_rows.specs.Areas.{areas_within}
 use Rattle.page_table_set.specs.PageTables.{PageTables, objects_of}
-use Rattle.iofd_words.specs.Areas.{owed_by}
+use Rattle.iofd_words.specs.Areas.{is_held_back}
 use Rattle.iofd_words.specs.Bounds.{Bounds}
 use Rattle.iofd_words.specs.Objects.{kind_of, has_hwpt, is_hwpt_over}
 use Rattle.iofd_words.specs.declared.numbers.FileNo.{FileNo}
@@ -33,7 +33,6 @@ abbrev pub untranslated_pins : {A : Type 0} → PageTables → Table (Held A) �
 untranslated_pins tables table file ioas =
     if has_hwpt (objects_of tables) file ioas then never else over (own_areas table file ioas)
 
--- some area that lies in the span waits for a device, where those attached are given
-abbrev pub some_waits : Bounds → List ℕ → List Area → Bool
-some_waits span attached areas =
-    list_any (λ area. not (length (owed_by attached area.phase) == 0)) (areas_within span areas)
+-- some area that lies in the span may not go yet, where the devices that are attached and the pins are given
+abbrev pub some_waits : Bounds → List ℕ → (Area → Bool) → List Area → Bool
+some_waits span attached is_pinned areas = list_any (is_held_back attached is_pinned) (areas_within span areas)

@@ -1,4 +1,4 @@
--- When what is kept shows a world: each question of the world has its answer there. Nine groups: the settings, the
+-- When what is kept shows a world: each question of the world has its answer there. Ten groups: the settings, the
 -- limits of users, the lists of rows, and the page tables in their frames.
 use Rattle.std.specs.Prelude.{◌≡◌, true, List, map}
 use Rattle.std.specs.List.{list_all}
@@ -14,6 +14,7 @@ use Rattle.iofd_words.specs.declared.numbers.ObjId.{ObjId}
 use Rattle.iofd_words.specs.declared.rows.Area.{Area}
 use Rattle.iofd_words.specs.declared.rows.Attachment.{Attachment}
 use Rattle.iofd_words.specs.declared.rows.Object.{Object}
+use Rattle.server_state.specs.AccessPins.{AccessPinsShown}
 use Rattle.server_state.specs.Devices.{are_bindings}
 use Rattle.server_state.specs.Held.{object_of, is_proper, areas_at}
 use Rattle.server_state.specs.declared.held.Held.{Held}
@@ -61,6 +62,7 @@ pub record Shows {A : Type 0} (w : World) (s : State A) : Type 0 where
   pub objects : ObjectsShown w.settings w.closed w.objects w.attachments w.areas s.objects
   pub devices : DevicesShown w.objects w.attachments s.bindings.items s.attachments.items
   pub users : UsersShown w.user_pages s.memory.pages
-  pub pins : PinsShown w.objects w.areas w.memory w.pins s.memory
+  pub pins : PinsShown w.objects w.areas w.memory w.pins w.access_pins s.memory
+  pub access_pins : AccessPinsShown w.objects w.access_pins s.access_pins
   pub frames : FramesShown w.settings.pool w.writes w.table_frames s.memory s.pool
   pub tables : TablesShown w s.page_tables s.pool

@@ -5,9 +5,11 @@ use Rattle.iofd_words.specs.Answers.{Answers}
 use Rattle.iofd_words.specs.Checks.{refusal}
 use Rattle.iofd_rows.specs.Debts.{DebtsAttached}
 use Rattle.iofd_runs.specs.Apart.{are_apart}
+use Rattle.iofd_runs.specs.Few.{RowsFew}
 use Rattle.iofd_runs.specs.Fits.{RowsFit}
 use Rattle.iofd_runs.specs.InUsable.{AreasUsable}
 use Rattle.iofd_runs.specs.Owned.{AreasOwned}
+use Rattle.iofd_runs.specs.PinsFit.{AccessPinsFit}
 use Rattle.iofd_runs.specs.Rising.{objects_rise}
 use Rattle.iofd_runs.specs.Tabled.{AreTabled}
 use Rattle.iofd_rows.specs.Ids.{AreBoundOnce, have_own_ids}
@@ -46,8 +48,9 @@ pub record IsTidy (at : ℕ) (w : World) : Type 0 where
   pub usable : AreasUsable w
   -- each page table has the tables that it needs
   pub tabled : AreTabled w
-  -- no event makes an access pin yet
-  pub unaccessed : w.access_pins ≡ []
+  -- access pins are of whole pages, and few, as objects and areas are
+  pub pins_fit : AccessPinsFit w
+  pub few : RowsFew w
 
 -- a record that took and gave back these frames for tables
 abbrev pub recorded : {A : Type 0} → PassNo → Event A → Reply → List FrameNo → List FrameNo → Record A

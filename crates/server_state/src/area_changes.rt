@@ -5,7 +5,8 @@ ghost use Rattle.std.specs.Prelude.{OnErr, OnOk, MatchOption};
 ghost use Rattle.std.specs.List.{list_any};
 ghost use Rattle.area_map_rows.specs.Areas.{AreKept, areas_outside, areas_within, marked, tried, with_area};
 ghost use Rattle.area_map.specs.Insertion.{insert_refusal};
-ghost use Rattle.iofd_words.specs.Areas.{all_paid, most_tries, owed_by};
+ghost use Rattle.held_pins.specs.HeldPins.{are_met};
+ghost use Rattle.iofd_words.specs.Areas.{all_paid, is_held_back, most_tries, owed_by};
 ghost use Rattle.iofd_words.specs.Objects.{has_ioas, is_ioas};
 ghost use Rattle.server_state.specs.Held.{areas_at, areas_in, kind_in, objects_in, room_at, room_in};
 ghost use Rattle.server_state.specs.Spaces.{IsOrderly, IsWith, HasAreas};
@@ -13,6 +14,7 @@ ghost use Rattle.server_state.specs.Mapping.{own_areas};
 
 use crate::held::Held;
 use area_map::{Areas, Iter};
+use held_pins::HeldPins;
 use iofd_words::{Area, DeviceNo, DeviceSet, FileNo, NoMemory, ObjId, Phase, Span};
 use object_table::{Kind, ObjectTable};
 use std::alloc::Allocator;
@@ -108,12 +110,18 @@ pub fn areas_within<'a, A: Allocator>(
     areas.within(span)
 }
 
-/// Whether a device still has to flush before these areas may go: one of those attached for a live area, one of those
-/// that it waits for for a leaving area.
-pub fn some_waits<A: Allocator>(mut areas: Iter<'_, A>, attached: &DeviceSet) -> bool
-    ensures { result ≡ list_any (λ area. not (length (owed_by attached.now area.phase) == 0)) areas.entry }
+/// Whether one of these areas of the address space may not go yet: a device still has to flush, one of those attached
+/// for a live area and one of those that it waits for for a leaving area, or an access object has pinned pages of it.
+pub fn some_waits<A: Allocator>(
+    mut areas: Iter<'_, A>,
+    attached: &DeviceSet,
+    file: FileNo,
+    ioas: ObjId,
+    pins: &HeldPins<A>,
+) -> bool
+    ensures { result ≡ list_any (is_held_back attached.now (λ area. are_met pins.now file ioas area.span)) areas.entry }
 {
-    areas.any(|area| waits(&area.phase, attached))
+    areas.any(|area| waits(&area.phase, attached) || pins.meets(file, ioas, area.span))
 }
 
 /// Whether some device still has to flush, where these are attached.

@@ -2,6 +2,7 @@
 
 use crate::held::Held;
 use frame_memory::Pool;
+use held_pins::HeldPins;
 use iofd_words::{Attachment, Config, Object};
 use iova_ranges::AllowedTable;
 use object_table::ObjectTable;
@@ -27,6 +28,8 @@ pub struct State<A: Allocator = Global> {
     pub page_tables: PageTables<A>,
     /// By which page table each device translates, by rising device.
     pub attachments: Vec<Attachment, A>,
+    /// The pins that access objects hold.
+    pub access_pins: HeldPins<A>,
     /// The users' pages and accounts, and the memory objects with their pins.
     pub memory: UserMemory<A>,
     /// The frames.

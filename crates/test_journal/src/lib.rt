@@ -2,4 +2,6 @@
 #![tactic(auto)]
 
 #[cfg(test)]
+mod pins;
+#[cfg(test)]
 mod records;

@@ -28,7 +28,8 @@ fn reads<A: Allocator + Copy>(alloc: A, bytes: &[u8], va: u64, frame: u32, left:
     }
 }
 
-fn is_torn<A: Allocator + Copy>(alloc: A, passes: u16, bytes: &[u8]) -> bool {
+// Whether the bytes begin with no record, where there are so many passes.
+pub fn is_torn<A: Allocator + Copy>(alloc: A, passes: u16, bytes: &[u8]) -> bool {
     match read_record(alloc, passes, bytes) {
         Ok(_) => false,
         Err(error) => error == ReadError::Torn,

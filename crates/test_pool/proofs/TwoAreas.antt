@@ -65,7 +65,7 @@ may_pin m holds count has few present room = record {
       eqb row.number run.number && leb (run.first + run.count) row.count) l) two_runs) has.rows;
   present = ap (list_any (λ page. is_none (frame_now m page))) (new_once m) ∙ present;
   room = ap (λ (l : List ObjectPage). has_room m (record { 0 = 1 }) (length l)) (new_once m) ∙ room;
-  few = λ page. by_test (covers page_run page.memory page.index) (access_pins m page) (times_in two_runs page)
+  few = λ page some. by_test (covers page_run page.memory page.index) (access_pins m page) (times_in two_runs page)
       (has.pins page) (are_twice page);
   backed = has.backed;
   invariant = has.invariant;

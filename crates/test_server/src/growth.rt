@@ -1,7 +1,8 @@
 //! Each growth refused in turn: the answer is want of memory, nothing has changed, and the step gives its reply later.
 
 use crate::scripts::{
-    COPIED, COPIES, ONE_SPACE, ONE_TABLE, Parts, RANGES, SPACES, Script, TWO_TABLES,
+    ACCESS, COPIED, COPIES, NOTICED, ONE_SPACE, ONE_TABLE, PINNED, Parts, RANGES, SPACES, Script,
+    TWO_TABLES,
 };
 use crate::steps::{Step, answered, config, event, read};
 use iofd_words::{Answer, Config, NoMemory, Query, Reply, UserNo};
@@ -182,4 +183,11 @@ static OF_RANGES: Run = (5, 43008, &[(ONE_SPACE, 0), (RANGES, 1)]);
 #[test]
 fn a_question_for_ranges_may_want_for_memory(rt: HostRuntime) {
     assert!(rt; grows(rt.alloc(), OF_RANGES));
+}
+
+static OF_PINS: Run = (5, 43008, &[(ACCESS, 0), (PINNED, 1), (NOTICED, 2)]);
+
+#[test]
+fn a_refused_growth_of_a_pin_changes_nothing(rt: HostRuntime) {
+    assert!(rt; grows(rt.alloc(), OF_PINS));
 }

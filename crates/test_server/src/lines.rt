@@ -20,9 +20,9 @@ enum Told {
     Memory,
 }
 
-// The largest id, an UNMAP that isn't to be called again, causes that no step is refused by, a refusal for want of
-// places with nothing written back, and want of memory.
-static TOLD: [(Told, &str); 7] = [
+// The largest id, an UNMAP that isn't to be called again, a refusal for want of places with nothing written back, and
+// want of memory.
+static TOLD: [(Told, &str); 4] = [
     (
         Told::Step(Reply::Id(ObjId(0x7fff_ffff))),
         "ok id 2147483647\n",
@@ -31,10 +31,7 @@ static TOLD: [(Told, &str); 7] = [
         Told::Unmap(Reply::Pending(Errno::EDEADLOCK)),
         "35 Pending\n",
     ),
-    (Told::Refused(Cause::Leaving), "22 Leaving\n"),
-    (Told::Refused(Cause::NotHeld), "22 NotHeld\n"),
     (Told::Refused(Cause::Places), "90 Places\n"),
-    (Told::Refused(Cause::Pending), "16 Pending\n"),
     (Told::Memory, "12 Memory\n"),
 ];
 

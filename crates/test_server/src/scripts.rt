@@ -1,6 +1,8 @@
 //! Steps whose growths are refused, each with its reply.
 
-use crate::steps::{AGAIN, BARRED, FIRST, IN_USE, NARROW, NO_FRAME, SECOND, Step, UNKNOWN, WIDE};
+use crate::steps::{
+    AGAIN, BARRED, FIRST, IN_USE, NARROW, NO_FRAME, NO_SPAN, NOT_HELD, SECOND, Step, UNKNOWN, WIDE,
+};
 use iofd_words::{AccessKind, DeviceNo, Fault, FaultReason, FrameNo, Iova, ObjId, Reply, SourceId};
 
 /// Steps and their replies.
@@ -122,3 +124,36 @@ pub(crate) const ONE_SPACE: Script = &[(Step::Alloc(FIRST), Reply::Id(ObjId(1)))
 
 /// All addresses can be used, since no device is attached.
 pub(crate) const RANGES: Script = &[(Step::Ranges, Reply::Iova(Iova(u64::MAX)))];
+
+/// An access object that is attached, and an area of one page.
+pub(crate) const ACCESS: Script = &[
+    (Step::Alloc(FIRST), Reply::Id(ObjId(1))),
+    (Step::Page(0x10000), Reply::Frame(FrameNo(0))),
+    (Step::Map(0x1000), Reply::Iova(Iova(0x1000))),
+    (Step::Access(FIRST), Reply::Id(ObjId(2))),
+    (Step::AccessAttach(2), Reply::Done),
+    (Step::Pin(2, 0x5000), NO_SPAN),
+];
+
+/// Its pin of the page. There is room for the record.
+pub(crate) const PINNED: Script = &[(Step::Pin(2, 0x1000), Reply::Done)];
+
+/// What is pinned is written and read, nothing else is, and an UNMAP waits for the pin. The second record's place and
+/// the notice alone may want for memory.
+pub(crate) const NOTICED: Script = &[
+    (Step::AccessWrite(2, 0x2ffe), NOT_HELD),
+    (Step::AccessWrite(2, 0x1ffe), Reply::Done),
+    (Step::AccessRead(2, 0x2ffe), NOT_HELD),
+    (Step::AccessRead(2, 0x1ffe), Reply::Done),
+    (Step::Notices(1), UNKNOWN),
+    (Step::Notices(2), Reply::Done),
+    (Step::Unmap(0x1000), AGAIN),
+    (Step::Notices(2), Reply::Iova(Iova(0x1fff))),
+    (Step::GiveUp(0x10000), Reply::Done),
+    (Step::AccessRead(2, 0x1ffe), Reply::Done),
+    (Step::Unpin(2, 0x5000), NOT_HELD),
+    (Step::Unpin(2, 0x1000), Reply::Done),
+    (Step::Notices(2), Reply::Done),
+    (Step::Unmap(0x1000), Reply::Bytes(0x1000)),
+    (Step::AccessRead(2, 0x1ffe), NOT_HELD),
+];

@@ -5,7 +5,8 @@ use iommufd_cli::{CliFault, InputFault, session};
 use std::alloc::Global;
 use std::io::ErrorKind;
 
-// A step for each kind of line: what is written back, the ranges that are, whose text takes memory, and short ones.
+// A step for each kind of line: what is written back, the ranges and the notices that are, whose text takes memory, and
+// short ones.
 const SCRIPT: &str = "pool 8
 user 4
 file 1
@@ -16,6 +17,16 @@ umap 1 10000
 uwrite 1 10ffe beef
 uread 1 10ffe 2
 uread 1 11000 1
+ioctl 1 3b85 28000000070000000100000000000000000001000000000000100000000000000010000000000000
+access 1
+aattach 1 2 1
+apin 1 2 1000 1000 w
+awrite 1 2 1fff ad
+ioctl 1 3b86 180000000100000000100000000000000010000000000000
+notices 1 2
+aread 1 2 1ffe 2
+aunpin 1 2 1000 1000 w
+aunpin 1 2 1000 1000 w
 free
 ";
 
@@ -25,6 +36,16 @@ ok frame 0
 ok
 ok beef
 14 Absent
+0 28000000070000000100000000000000000001000000000000100000000000000010000000000000
+ok id 2
+ok
+ok
+ok
+11 Pending
+ok 1000-1fff
+ok bead
+ok
+22 NotHeld
 ok 7
 ";
 

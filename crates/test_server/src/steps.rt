@@ -1,9 +1,10 @@
 //! Steps of the tests, and what a core answers to them.
 
 use iofd_words::{
-    AccessKind, Act, Answer, Burst, Cause, Config, CopyRequest, DeviceConfig, DeviceNo, Errno,
-    Event, FileNo, FrameNo, HwptRequest, Iova, IovaRange, MapFlags, MapRequest, ObjId, PassNo,
-    Query, RangeList, Refusal, Reply, SourceId, SpanList, UnmapRequest, UserNo, Width,
+    AccessKind, Act, Answer, Burst, CallError, Cause, Config, CopyRequest, DeviceConfig, DeviceNo,
+    Errno, Event, FileNo, FrameNo, HwptRequest, Iova, IovaRange, MapFlags, MapRequest, ObjId,
+    PassNo, PinRequest, Query, RangeList, Refusal, Reply, SourceId, Span, SpanList, UnmapRequest,
+    UserNo, Width,
 };
 use iommufd_core::Core;
 use std::alloc::{Allocator, Global};
@@ -67,6 +68,14 @@ pub(crate) enum Step {
     Detach(DeviceNo),
     /// The file gets an access object.
     Access(FileNo),
+    /// The access object of this id is attached.
+    AccessAttach(u32),
+    /// It pins the page at this address, for writes too.
+    Pin(u32, u64),
+    /// It lets that pin go.
+    Unpin(u32, u64),
+    /// It writes two bytes at this address.
+    AccessWrite(u32, u64),
     Destroy(FileNo, u32),
     Close(FileNo),
     /// The narrow device writes two bytes of the page at 0x1000 by this frame, which it has cached.
@@ -75,6 +84,10 @@ pub(crate) enum Step {
     Ranges,
     /// The question to which page table the device is attached, answered by its id, or by Done where it isn't.
     AttachedTo(DeviceNo),
+    /// The access object of this id reads the two bytes that are written, at this address: Done.
+    AccessRead(u32, u64),
+    /// The question for its notices, answered by the last address of the only one, or by Done where there is none.
+    Notices(u32),
 }
 
 fn map(iova: u64) -> MapRequest {
@@ -103,6 +116,14 @@ fn unmap(iova: u64) -> UnmapRequest {
         ioas: ObjId(1),
         iova: Iova(iova),
         length: 0x1000,
+    }
+}
+
+fn pin(iova: u64) -> PinRequest {
+    PinRequest {
+        iova: Iova(iova),
+        length: 0x1000,
+        write: true,
     }
 }
 
@@ -135,7 +156,8 @@ fn allowed<A: Allocator + Copy>(alloc: A) -> Option<Event<A>> {
     Some(Event::AllowIovas(FIRST, ObjId(1), ranges))
 }
 
-/// The event of a step, its list in memory of this allocator; None of the last two steps, and where there is no memory.
+/// The event of a step, its list in memory of this allocator; None of the last five steps, and where there is no
+/// memory.
 pub(crate) fn event<A: Allocator + Copy>(alloc: A, step: Step) -> Option<Event<A>> {
     let bytes = bytes()?;
     Some(match step {
@@ -154,9 +176,17 @@ pub(crate) fn event<A: Allocator + Copy>(alloc: A, step: Step) -> Option<Event<A
         Step::Flush(device) => Event::Flush(device),
         Step::Detach(device) => Event::Detach(device),
         Step::Access(file) => Event::AccessCreate(file),
+        Step::AccessAttach(id) => Event::AccessAttach(FIRST, ObjId(id), ObjId(1)),
+        Step::Pin(id, iova) => Event::AccessPin(FIRST, ObjId(id), pin(iova)),
+        Step::Unpin(id, iova) => Event::AccessUnpin(FIRST, ObjId(id), pin(iova)),
+        Step::AccessWrite(id, iova) => Event::AccessWrite(FIRST, ObjId(id), Iova(iova), bytes),
         Step::Destroy(file, id) => Event::Destroy(file, ObjId(id)),
         Step::Close(file) => Event::Close(file),
-        Step::Cached(_) | Step::Ranges | Step::AttachedTo(_) => return None,
+        Step::Cached(_)
+        | Step::Ranges
+        | Step::AttachedTo(_)
+        | Step::AccessRead(..)
+        | Step::Notices(_) => return None,
     })
 }
 
@@ -166,6 +196,12 @@ pub(crate) const IN_USE: Reply = Reply::Refused(Refusal {
     cause: Cause::InUse,
 });
 
+pub(crate) const NO_SPAN: Reply = Reply::Refused(Refusal { cause: Cause::Span });
+
+pub(crate) const NOT_HELD: Reply = Reply::Refused(Refusal {
+    cause: Cause::NotHeld,
+});
+
 pub(crate) const NO_FRAME: Reply = Reply::Refused(Refusal {
     cause: Cause::Frames,
 });
@@ -173,9 +209,9 @@ pub(crate) const NO_FRAME: Reply = Reply::Refused(Refusal {
 /// The UNMAP is to be called again.
 pub(crate) const AGAIN: Reply = Reply::Pending(Errno::EAGAIN);
 
-/// The cached frame may not be used, so it wasn't asked for: a refusal that no step has.
+/// The cached frame may not be used, so it wasn't asked for: a refusal that no event has.
 pub(crate) const BARRED: Reply = Reply::Refused(Refusal {
-    cause: Cause::NotHeld,
+    cause: Cause::Number,
 });
 
 /// What a read of the narrow device asks.
@@ -235,12 +271,46 @@ fn page_table_of<A: Allocator>(core: &Core<A>, device: DeviceNo) -> Reply {
     }
 }
 
-/// What one of the last three steps is answered; None where it wants for memory.
+/// Whether the access object reads the bytes that are written.
+fn accessed<A: Allocator>(core: &Core<A>, access: u32, iova: u64) -> Reply {
+    let query = Query::AccessRead {
+        file: FIRST,
+        access: ObjId(access),
+        iova: Iova(iova),
+        len: 2,
+    };
+    match core.look(&query) {
+        Answer::Read(read) if bytes() == Some(read) => Reply::Done,
+        Answer::Refused(refusal) => Reply::Refused(refusal),
+        _ => BARRED,
+    }
+}
+
+/// The last address of the only notice of the access object, if it has any; None where the question wants for memory.
+fn noticed<A: Allocator + Copy>(core: &Core<A>, access: u32) -> Option<Reply> {
+    match core.notices(FIRST, ObjId(access)) {
+        Ok(spans) => Some(last_of(spans.as_slice())),
+        Err(CallError::Refused(refusal)) => Some(Reply::Refused(refusal)),
+        Err(CallError::Memory(_)) => None,
+    }
+}
+
+fn last_of(spans: &[Span]) -> Reply {
+    match spans {
+        [] => Reply::Done,
+        [span] => Reply::Iova(Iova(span.last())),
+        _ => BARRED,
+    }
+}
+
+/// What one of the last five steps is answered; None where it wants for memory.
 fn questioned<A: Allocator + Copy>(core: &mut Core<A>, step: Step) -> Option<Reply> {
     match step {
         Step::Cached(frame) => written(core, FrameNo(frame)),
         Step::Ranges => ranged(core),
         Step::AttachedTo(device) => Some(page_table_of(core, device)),
+        Step::AccessRead(access, iova) => Some(accessed(core, access, iova)),
+        Step::Notices(access) => noticed(core, access),
         _ => None,
     }
 }

@@ -25,8 +25,9 @@ use Rattle.iofd_rows.proofs.Bools.{and_true, both_true}
 use Rattle.iofd_rows.proofs.Each.{IsIn, of_any}
 use Rattle.iofd_rows.specs.Pinned.{ArePinned}
 use Rattle.user_memory_rows.proofs.Counts.{count_with_area}
-use Rattle.user_memory_rows.proofs.PinsFollow.{any_count, pins_follow, still_some}
-use Rattle.user_memory_rows.specs.Shown.{PinsShown, over, translated}
+use Rattle.user_memory_rows.proofs.CountBy.{any_count}
+use Rattle.user_memory_rows.proofs.PinsFollow.{pins_follow, still_some}
+use Rattle.user_memory_rows.specs.Shown.{PinsShown, accessed, has_page, over, translated}
 use Rattle.memory_objects.specs.Invariant.{MemoryInvariant}
 use Rattle.memory_objects.specs.Objects as objects
 use Rattle.memory_objects.specs.Objects.{MemoryEntry, object_at}
@@ -150,8 +151,7 @@ module _ (count number : ℕ) (old new : Memory) (has : HasAreaMore count number
 
 module _ (at next : ℕ) (w new : World) (x : Area) (pinned : Bool) (kept after : Memory)
     (before_pool after_pool : FramePool) (is : ArePinned at w) (is_next : ArePinned next new)
-    (without : w.access_pins ≡ []) (same_accesses : new.access_pins ≡ w.access_pins)
-    (shown : PinsShown w.objects w.areas w.memory w.pins kept)
+    (shown : PinsShown w.objects w.areas w.memory w.pins w.access_pins kept)
     (is_settled : new.pins ≡ settled (pinned_pages w.objects w.areas w.memory w.access_pins)
     (pinned_pages new.objects new.areas new.memory new.access_pins) new.memory new.user_pages w.pins)
     (same_objects : new.objects ≡ w.objects) (same_pages : new.user_pages ≡ w.user_pages)
@@ -159,9 +159,12 @@ module _ (at next : ℕ) (w new : World) (x : Area) (pinned : Bool) (kept after 
     (pages : (user : UserNo) (page : ℕ) → frame_at w.user_pages user page ≡ frame_at kept.pages user page)
     (is_translated : pinned ≡ has_hwpt w.objects x.file x.ioas) where
   pub area_shown : new.memory ≡ rows_of after → HasAreaMore (cond pinned 1 0) x.memory kept after
-      → Settles kept after before_pool after_pool → PinsShown new.objects new.areas new.memory new.pins after
-  area_shown rows has settles =
-      pins_follow at next w new kept after before_pool after_pool is is_next without same_accesses shown is_settled
+      → ((page : ObjectPage) → has_page new.memory page ≡ true
+      → access_pins kept page ≡ accessed new.objects new.areas new.access_pins page)
+      → Settles kept after before_pool after_pool
+      → PinsShown new.objects new.areas new.memory new.pins new.access_pins after
+  area_shown rows has accesses settles =
+      pins_follow at next w new kept after before_pool after_pool is is_next shown is_settled
       (λ user page. ap (λ (l : List UserPage). frame_at l user page) same_pages ∙ pages user page
       ∙ ap (λ (l : List UserPage). frame_at l user page) (sym settles.pages))
       rows
@@ -169,24 +172,27 @@ module _ (at next : ℕ) (w new : World) (x : Area) (pinned : Bool) (kept after 
       (λ n. translated_more w.objects x w.areas kept after pinned is_translated shown.tables has.pins n
       ∙ ap (λ (l : List Area). translated w.objects l n) (sym area_more)
       ∙ ap (λ (l : List Object). translated l new.areas n) (sym same_objects))
-      has.access settles
+      (λ page there. has.access page ∙ accesses page there) settles
 
 -- the world with one area more over a memory object that was there
 abbrev pub shared_world : World → Area → World
 shared_world w x = settle w (record w { areas = with_area x w.areas })
 
 pub shared_shown : (at next : ℕ) (w : World) (x : Area) (pinned : Bool) (kept after : Memory)
-    (before_pool after_pool : FramePool) → ArePinned at w → ArePinned next (shared_world w x) → w.access_pins ≡ []
-    → PinsShown w.objects w.areas w.memory w.pins kept
+    (before_pool after_pool : FramePool) → ArePinned at w → ArePinned next (shared_world w x)
+    → PinsShown w.objects w.areas w.memory w.pins w.access_pins kept
+    → ((page : ObjectPage) → has_page w.memory page ≡ true
+    → accessed w.objects (with_area x w.areas) w.access_pins page ≡ accessed w.objects w.areas w.access_pins page)
     → ((user : UserNo) (page : ℕ) → frame_at w.user_pages user page ≡ frame_at kept.pages user page)
     → pinned ≡ has_hwpt w.objects x.file x.ioas → HasShare (cond pinned 1 0) x.memory kept after
     → Settles kept after before_pool after_pool
-    → PinsShown w.objects (with_area x w.areas) w.memory (shared_world w x).pins after
+    → PinsShown w.objects (with_area x w.areas) w.memory (shared_world w x).pins w.access_pins after
 unfolding settle
-shared_shown at next w x pinned kept after before_pool after_pool is is_next without shown pages is_translated has
+shared_shown at next w x pinned kept after before_pool after_pool is is_next shown same pages is_translated has
     settles =
-    area_shown at next w (shared_world w x) x pinned kept after before_pool after_pool is is_next without refl shown refl
-    refl refl refl pages is_translated (shown.rows ∙ sym has.rows) (more_shared _ _ _ _ has) settles
+    area_shown at next w (shared_world w x) x pinned kept after before_pool after_pool is is_next shown refl
+    refl refl refl pages is_translated (shown.rows ∙ sym has.rows) (more_shared _ _ _ _ has)
+    (λ page there. shown.access page there ∙ sym (same page there)) settles
 
 -- that of a COPY
 pub copied_world : (w : World) (file : FileNo) (request : CopyRequest) (iova : Iova) (source : Area)

@@ -3,7 +3,7 @@ use Rattle.std.proofs.Common.{◌≡◌, ℕ, ◌+◌, ◌≤◌, Bool, true, fa
 use Rattle.std.proofs.lemmas.Bool.Decides.{nat_tests}
 use Rattle.frame_memory.specs.Pool.{FramePool}
 use Rattle.iofd_words.specs.declared.rows.Area.{Area}
-use Rattle.user_memory_rows.proofs.PinsFollow.{count-cons}
+use Rattle.user_memory_rows.proofs.CountBy.{count-cons}
 use Rattle.user_memory_rows.proofs.Released.{less_none, may_further, released_as, released_further, settles_none}
 use Rattle.user_memory_rows.specs.Moves.{IsReleased, MayRelease, if_translated}
 use Rattle.user_memory_rows.specs.Shown.{over}
@@ -82,7 +82,7 @@ pub translated_first : (translated : Bool) (area : Area) (rest : List Area) (n :
 translated_first true area rest n = over_first area rest n
 translated_first false area rest n = refl
 
-once_own : (n : ℕ) → once n n ≡ 1
+pub once_own : (n : ℕ) → once n n ≡ 1
 once_own n = let own : eqb n n ≡ true = grind (arith, nat_tests) in rw own refl
 
 -- an area that is left
@@ -123,7 +123,7 @@ pub may_one : (translated : Bool) (all left rest : List Area) (area : Area) (fir
 may_one translated all left rest area first now before between is going = record {
   pins = λ n. pins translated n (going.may.pins n);
   areas = λ n. areas translated n (going.may.areas n);
-  access = going.may.access;
+  access = λ page gone. let less = few page.memory in going.may.access page (omega (arith, less, gone));
   backed = going.may.backed;
   invariant = going.may.invariant;
   only = going.may.only;

@@ -6,7 +6,7 @@ use Rattle.std.specs.List.{count_by, filter, find}
 use Rattle.std.proofs.lemmas.Bool.Decides.{nat_tests}
 use Rattle.iofd_words.specs.Areas.{is_of, with_area}
 use Rattle.iofd_words.specs.declared.rows.Area.{Area}
-use Rattle.user_memory_rows.proofs.PinsFollow.{count-cons}
+use Rattle.user_memory_rows.proofs.CountBy.{count-cons}
 
 -- ---- tests on rows
 

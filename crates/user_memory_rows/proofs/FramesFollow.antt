@@ -26,11 +26,14 @@ use Rattle.iofd_words.specs.declared.numbers.UserNo.{UserNo}
 use Rattle.iofd_words.specs.declared.rows.Area.{Area}
 use Rattle.iofd_words.specs.declared.rows.MemoryObject.{MemoryObject}
 use Rattle.iofd_words.specs.declared.rows.Object.{Object}
+use Rattle.iofd_words.specs.Pins.{ObjectPage}
+use Rattle.iofd_words.specs.declared.rows.AccessPin.{AccessPin}
 use Rattle.iofd_words.specs.declared.rows.Pin.{Pin}
 use Rattle.iofd_words.specs.declared.rows.TableFrame.{TableFrame}
 use Rattle.iofd_words.specs.declared.rows.UserPage.{UserPage}
-use Rattle.user_memory_rows.proofs.PinsFollow.{any_count, count-cons}
-use Rattle.user_memory_rows.specs.Shown.{FramesShown, PinsShown, UsersShown, over, tables_in, translated}
+use Rattle.user_memory_rows.proofs.CountBy.{any_count, count-cons}
+use Rattle.user_memory_rows.specs.Shown.{FramesShown, PinsShown, UsersShown, accessed, has_page, over, tables_in}
+use Rattle.user_memory_rows.specs.Shown.{translated}
 use Rattle.memory_objects.specs.Objects.{pins_on}
 use Rattle.user_memory.specs.Changes.{HoldsFollow, SameObjects}
 use Rattle.user_memory.specs.Memory.{IsBacked, Memory, reached}
@@ -74,35 +77,39 @@ is_backed pool writes tables m frames shown = record {
 
 -- the memory objects are the same
 pub pins_same : (objects : List Object) (areas : List Area) (memory_objects : List MemoryObject) (pins : List Pin)
-    (old new : Memory)
-    → PinsShown objects areas memory_objects pins old → SameObjects old new
-    → PinsShown objects areas memory_objects pins new
-pins_same objects areas memory_objects pins old new shown same = record {
+    (access_pins : List AccessPin) (old new : Memory)
+    → PinsShown objects areas memory_objects pins access_pins old → SameObjects old new
+    → PinsShown objects areas memory_objects pins access_pins new
+pins_same objects areas memory_objects pins access_pins old new shown same = record {
   rows = shown.rows ∙ sym same.rows;
   areas = λ number. same.areas number ∙ shown.areas number;
   tables = λ number. same.pins number ∙ shown.tables number;
-  access = λ page. same.access page ∙ shown.access page;
+  access = λ page there. same.access page ∙ shown.access page there;
   frames = λ page. shown.frames page ∙ sym (same.frames page);
   names = λ f. shown.names f ∙ ap (ltb 0) (sym (same.named f));
   invariant = same.kept;
 }
 
--- objects and areas change, and as many areas lie over each memory object, and are translated
+-- objects and areas change, and as many areas lie over each memory object, and are translated; access pins cover each
+-- page as often
 pub pins_moved : (objects new_objects : List Object) (areas new_areas : List Area)
-    (memory_objects : List MemoryObject) (pins : List Pin) (kept : Memory)
-    → PinsShown objects areas memory_objects pins kept
+    (memory_objects : List MemoryObject) (pins : List Pin) (access_pins : List AccessPin) (kept : Memory)
+    → PinsShown objects areas memory_objects pins access_pins kept
     → ((number : ℕ) → over new_areas number ≡ over areas number)
     → ((number : ℕ) → translated new_objects new_areas number ≡ translated objects areas number)
-    → PinsShown new_objects new_areas memory_objects pins kept
-pins_moved objects new_objects areas new_areas memory_objects pins kept shown same_over same_translated = record {
-  rows = shown.rows;
-  areas = λ number. shown.areas number ∙ sym (same_over number);
-  tables = λ number. shown.tables number ∙ sym (same_translated number);
-  access = shown.access;
-  frames = shown.frames;
-  names = shown.names;
-  invariant = shown.invariant;
-}
+    → ((page : ObjectPage) → has_page memory_objects page ≡ true
+    → accessed new_objects new_areas access_pins page ≡ accessed objects areas access_pins page)
+    → PinsShown new_objects new_areas memory_objects pins access_pins kept
+pins_moved objects new_objects areas new_areas memory_objects pins access_pins kept shown same_over same_translated
+    same_accessed = record {
+      rows = shown.rows;
+      areas = λ number. shown.areas number ∙ sym (same_over number);
+      tables = λ number. shown.tables number ∙ sym (same_translated number);
+      access = λ page there. shown.access page there ∙ sym (same_accessed page there);
+      frames = shown.frames;
+      names = shown.names;
+      invariant = shown.invariant;
+    }
 
 -- the same address spaces have page tables
 pub translated_same : (objects new_objects : List Object) (areas : List Area)
@@ -557,8 +564,8 @@ found p q (h ∷ holds) a each =
 
 module _ (pool : ℕ) (writes : List FrameWrite) (tables : List TableFrame) (user_pages : List UserPage)
     (objects : List Object) (areas : List Area) (memory_objects : List MemoryObject) (pins : List Pin)
-    (kept : Memory) (frames : FramePool) (users : UsersShown user_pages kept.pages)
-    (pinned : PinsShown objects areas memory_objects pins kept)
+    (access_pins : List AccessPin) (kept : Memory) (frames : FramePool) (users : UsersShown user_pages kept.pages)
+    (pinned : PinsShown objects areas memory_objects pins access_pins kept)
     (shown : FramesShown pool writes tables kept frames) where
   -- a frame is free just where no hold stands on it
   pub free_alike : (f : ℕ) → frame.is_free pool user_pages pins tables f ≡ is_free frames.holds f

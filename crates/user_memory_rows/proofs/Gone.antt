@@ -18,7 +18,7 @@ use Rattle.iofd_rows.proofs.Named.{file_is, id_is}
 use Rattle.iofd_rows.proofs.PageTables.{hwpt_alike}
 use Rattle.user_memory_rows.proofs.AreasGoing.{one_gone}
 use Rattle.user_memory_rows.proofs.Counts.{count_alike, count_fewer, count_parts, count_split, count_within}
-use Rattle.user_memory_rows.proofs.PinsFollow.{any_count, count-cons}
+use Rattle.user_memory_rows.proofs.CountBy.{any_count, count-cons}
 use Rattle.user_memory_rows.proofs.Released.{less_none, may_further, released_as, released_further, settles_none}
 use Rattle.user_memory_rows.specs.Moves.{IsReleased, MayRelease, if_translated}
 use Rattle.user_memory_rows.specs.Shown.{over, translated}
@@ -285,7 +285,8 @@ module _ (all_areas all_pins left_areas left_pins some_areas some_pins rest_area
     areas = λ n. fewer (left_areas n) (left_pins n) (some_areas n) (some_pins n) (rest_areas n) (rest_pins n)
         (table_pins now n) (areas_over now n) (areas_are n) (pins_are n) (few n) (leaving.may.areas n);
     backed = leaving.may.backed;
-    access = leaving.may.access;
+    access = λ page gone.
+        let sum = areas_are page.memory in leaving.may.access page (omega (arith, sum, gone));
     invariant = leaving.may.invariant;
     only = leaving.may.only;
   }

@@ -1,5 +1,8 @@
+pub mod AccessCounts
+pub mod AccessStays
 pub mod AreaComes
 pub mod AreasGoing
+pub mod CountBy
 pub mod Counts
 pub mod FramesFollow
 pub mod Gone

@@ -15,7 +15,7 @@ use Rattle.iofd_words.specs.declared.rows.UserPage.{UserPage}
 use Rattle.iofd_rows.proofs.Each.{in_found, of_any}
 use Rattle.memory_objects.specs.Objects.{are_rising, pins_on}
 use Rattle.user_memory.proofs.Found.{pinned_has}
-use Rattle.user_memory_rows.proofs.PinsFollow.{any_count}
+use Rattle.user_memory_rows.proofs.CountBy.{any_count}
 use Rattle.user_memory.proofs.PinsNamed.{named_counts, some_named}
 use Rattle.user_memory.specs.Changes.{Settles}
 use Rattle.user_memory.specs.Memory.{Memory, frame_now, is_pinned, pinned_frame, reached, rows_of}

@@ -111,6 +111,7 @@ module _ (at : ℕ) (w : World) (a : Area) (within : IsIn w.areas a) where
   object_under pinned = found_sized w.memory a.memory (size_of a.span) pinned.numbers
       (of_each (has_object w.memory) w.areas a pinned.sizes within)
 
-  pub area_there : (kept : Memory) → PinsShown w.objects w.areas w.memory w.pins kept → 1 ≤ areas_over kept a.memory
+  pub area_there : (kept : Memory) → PinsShown w.objects w.areas w.memory w.pins w.access_pins kept
+      → 1 ≤ areas_over kept a.memory
   area_there kept shown =
       let counted = area_counted w.areas a within in let same = shown.areas a.memory in omega (arith, counted, same)

@@ -11,7 +11,8 @@ use Rattle.frame_memory.specs.Pool.{FramePool}
 use Rattle.iofd_words.specs.Frames.{frame_at}
 use Rattle.iofd_words.specs.Objects.{has_hwpt}
 use Rattle.iofd_words.specs.Pages.{page_of}
-use Rattle.iofd_words.specs.Pins.{ObjectPage, frame_now, is_page, is_translated, page_of_pin, pinned_frame}
+use Rattle.iofd_words.specs.Pins.{ObjectPage, frame_now, is_accessed, is_page, is_translated, page_of_pin}
+use Rattle.iofd_words.specs.Pins.{pinned_frame}
 use Rattle.iofd_words.specs.Pins.{pinned_pages, settled}
 use Rattle.iofd_words.specs.World.{World}
 use Rattle.iofd_words.specs.declared.numbers.FrameNo.{FrameNo}
@@ -23,7 +24,7 @@ use Rattle.iofd_rows.specs.Pinned.{ArePinned, differ}
 use Rattle.iofd_rows.proofs.Bools.{and_true, clash, not_true}
 use Rattle.iofd_rows.proofs.Each.{IsIn, in_found, of_any}
 use Rattle.iofd_rows.proofs.ListTests.{alike}
-use Rattle.iofd_rows.proofs.ObjectPages.{in_pinned, listed_is, is_listed, pinned_without}
+use Rattle.iofd_rows.proofs.ObjectPages.{in_pinned, listed_is}
 use Rattle.iofd_rows.proofs.PageLists.{page_itself, same_page}
 use Rattle.iofd_rows.proofs.PinsFollow.{pin_is_of, settled_at, settled_frame}
 use Rattle.memory_objects.specs.Objects.{are_rising, object_at, pins_on}
@@ -32,7 +33,9 @@ use Rattle.user_memory.proofs.PinsNamed.{named_counts, some_named}
 use Rattle.user_memory.specs.Changes.{Settles}
 use Rattle.user_memory.specs.Memory as memory
 use Rattle.user_memory.specs.Memory.{Memory, access_pins, areas_over, is_pinned, rows_of, table_pins}
-use Rattle.user_memory_rows.specs.Shown.{PinsShown, over, translated}
+use Rattle.user_memory_rows.proofs.AccessCounts.{accessed_some}
+use Rattle.user_memory_rows.proofs.CountBy.{any_count}
+use Rattle.user_memory_rows.specs.Shown.{PinsShown, accessed, has_page, over, translated}
 
 -- ---- which frames pins name
 
@@ -98,40 +101,42 @@ frame_of_row (p ∷ pins) pin once within =
             ∙ among pins later))
         by_test false is = at_test false is ∙ rest later
 
--- ---- counts
-
-pub count-cons : {X : Type 0} (p : X → Bool) (x : X) (xs : List X)
-    → count_by p (x ∷ xs) ≡ cond (p x) 1 0 + count_by p xs
-count-cons p x xs = sum_by-cons (λ y. cond (p y) 1 0) x xs
-
--- some row passes a test just where the rows that pass are counted
-pub any_count : {X : Type 0} (p : X → Bool) (xs : List X) → list_any p xs ≡ ltb 0 (count_by p xs)
-any_count p [] = refl
-any_count p (x ∷ xs) = by_test (p x) (any_count p xs) ∙ ap (ltb 0) (sym (count-cons p x xs))
-  where
-    by_test : (b : Bool) → list_any p xs ≡ ltb 0 (count_by p xs)
-        → (b || list_any p xs) ≡ ltb 0 (cond b 1 0 + count_by p xs)
-    by_test true rest = search (arith, nat_tests)
-    by_test false rest = rest ∙ ap (ltb 0) (omega arith)
-
 -- ---- which pages are pinned
 
-pub pinned_is : (w : World) (kept : Memory) (page : ObjectPage) → w.access_pins ≡ [] → w.memory ≡ rows_of kept
-    → ((number : ℕ) → table_pins kept number ≡ translated w.objects w.areas number) → access_pins kept page ≡ 0
+-- what is shown of it
+pub record IsPinShown (w : World) (kept : Memory) : Type 0 where
+  pub rows : w.memory ≡ rows_of kept
+  pub tables : (number : ℕ) → table_pins kept number ≡ translated w.objects w.areas number
+  pub access : (page : ObjectPage) → has_page w.memory page ≡ true
+      → access_pins kept page ≡ accessed w.objects w.areas w.access_pins page
+
+pub is_pin_shown : (w : World) (kept : Memory) → PinsShown w.objects w.areas w.memory w.pins w.access_pins kept
+    → IsPinShown w kept
+is_pin_shown w kept shown = record { rows = shown.rows; tables = shown.tables; access = shown.access }
+
+pub pinned_is : (w : World) (kept : Memory) (page : ObjectPage) → IsPinShown w kept
     → list_any (is_page page) (pinned_pages w.objects w.areas w.memory w.access_pins) ≡ is_pinned kept page
-pinned_is w kept page without rows pins none =
+pinned_is w kept page shown =
     in_pinned w.objects w.areas w.memory w.access_pins page
-    ∙ ap (λ b. is_listed w.memory page && b) (pinned_without w.objects w.areas w.access_pins page without)
-    ∙ ap (λ b. b && is_translated w.objects w.areas page.memory) (listed_is w.memory page
-    ∙ ap (λ (l : List MemoryObject). list_any (λ row. eqb page.memory row.number && ltb page.index row.count) l)
-    rows)
-    ∙ ap (λ b. list_any (λ row. eqb page.memory row.number && ltb page.index row.count) (rows_of kept) && b)
-    (any_count (λ (area : Area). eqb area.memory page.memory && has_hwpt w.objects area.file area.ioas) w.areas
-    ∙ ap (ltb 0) (sym (pins page.memory)) ∙ by_none (ltb 0 (table_pins kept page.memory)) (access_pins kept page) none)
+    ∙ ap (λ b. b && (is_translated w.objects w.areas page.memory || is_accessed w.objects w.areas w.access_pins page))
+    (listed_is w.memory page)
+    ∙ by_page (has_page w.memory page) refl
+    ∙ ap (λ (l : List MemoryObject). has_page l page && (ltb 0 (table_pins kept page.memory)
+    || ltb 0 (access_pins kept page))) shown.rows
   where
-    by_none : (b : Bool) (k : ℕ) → k ≡ 0 → b ≡ (b || ltb 0 k)
-    by_none true k none = refl
-    by_none false k none = sym (ap (ltb 0) none)
+    by_page : (b : Bool) → has_page w.memory page ≡ b
+        → (has_page w.memory page && (is_translated w.objects w.areas page.memory
+        || is_accessed w.objects w.areas w.access_pins page))
+        ≡ (has_page w.memory page && (ltb 0 (table_pins kept page.memory) || ltb 0 (access_pins kept page)))
+    by_page true there =
+        ap (λ b. has_page w.memory page && b)
+        (rw (
+          any_count (λ (area : Area). eqb area.memory page.memory && has_hwpt w.objects area.file area.ioas) w.areas,
+          accessed_some w.objects w.areas w.access_pins page,
+          shown.tables page.memory,
+          shown.access page there,
+        ) refl)
+    by_page false none = rw none refl
 
 -- where a pin of some kind stood, one stands when none has gone
 pub still_some : (tables more access still : ℕ) → tables ≤ more → still ≡ access
@@ -201,23 +206,23 @@ module _ (pins : List Pin) (kept : Memory) (once : differ (map page_of_pin pins)
 -- ---- they follow
 
 -- no other page has a pin
-pub only_pinned : (at : ℕ) (w : World) (kept : Memory) → ArePinned at w → w.access_pins ≡ []
-    → PinsShown w.objects w.areas w.memory w.pins kept → (page : ObjectPage) → is_pinned kept page ≡ false
+pub only_pinned : (at : ℕ) (w : World) (kept : Memory) → ArePinned at w
+    → PinsShown w.objects w.areas w.memory w.pins w.access_pins kept → (page : ObjectPage) → is_pinned kept page ≡ false
     → pinned_frame w.pins page ≡ None
-only_pinned at w kept pinned without shown page not_pinned = by_frame (pinned_frame w.pins page) refl
+only_pinned at w kept pinned shown page not_pinned = by_frame (pinned_frame w.pins page) refl
   where
     by_frame : (o : Option FrameNo) → pinned_frame w.pins page ≡ o → pinned_frame w.pins page ≡ None
     by_frame None is = is
     by_frame (Some frame) is =
-        absurd (clash _ (pinned_is w kept page without shown.rows shown.tables (shown.access page) ∙ not_pinned)
+        absurd (clash _ (pinned_is w kept page (is_pin_shown w kept shown) ∙ not_pinned)
         (pin_is_of w.pins (pinned_pages w.objects w.areas w.memory w.access_pins) page
         (ap (λ (o : Option FrameNo). is_some o) is) pinned.only))
 
-pub only_kept : (at : ℕ) (w : World) (kept : Memory) → ArePinned at w → w.access_pins ≡ []
-    → PinsShown w.objects w.areas w.memory w.pins kept
+pub only_kept : (at : ℕ) (w : World) (kept : Memory) → ArePinned at w
+    → PinsShown w.objects w.areas w.memory w.pins w.access_pins kept
     → (page : ObjectPage) → is_pinned kept page ≡ false → memory.pinned_frame kept page ≡ None
-only_kept at w kept pinned without shown page not_pinned =
-    sym (shown.frames page) ∙ only_pinned at w kept pinned without shown page not_pinned
+only_kept at w kept pinned shown page not_pinned =
+    sym (shown.frames page) ∙ only_pinned at w kept pinned shown page not_pinned
 
 -- where a page is pinned, and was or wasn't before
 settles_at : (was is : Bool) (old now : Option FrameNo) → (was ≡ false → old ≡ None)
@@ -233,15 +238,16 @@ settles_at was false old now only = by_old was old
     by_old false o = refl
 
 module _ (at next : ℕ) (w new : World) (kept after : Memory) (before_pool after_pool : FramePool)
-    (pinned : ArePinned at w) (pinned_next : ArePinned next new) (without : w.access_pins ≡ [])
-    (same_accesses : new.access_pins ≡ w.access_pins) (shown : PinsShown w.objects w.areas w.memory w.pins kept)
+    (pinned : ArePinned at w) (pinned_next : ArePinned next new)
+    (shown : PinsShown w.objects w.areas w.memory w.pins w.access_pins kept)
     (is_settled : new.pins ≡ settled (pinned_pages w.objects w.areas w.memory w.access_pins)
     (pinned_pages new.objects new.areas new.memory new.access_pins) new.memory new.user_pages w.pins)
     (pages : (user : UserNo) (page : ℕ) → frame_at new.user_pages user page ≡ frame_at after.pages user page)
     (rows : new.memory ≡ rows_of after)
     (areas : (number : ℕ) → areas_over after number ≡ over new.areas number)
     (pins : (number : ℕ) → table_pins after number ≡ translated new.objects new.areas number)
-    (access : (page : ObjectPage) → access_pins after page ≡ access_pins kept page)
+    (access : (page : ObjectPage) → has_page new.memory page ≡ true
+    → access_pins after page ≡ accessed new.objects new.areas new.access_pins page)
     (settles : Settles kept after before_pool after_pool) where
   now_alike : (page : ObjectPage) → frame_now new.memory new.user_pages page ≡ memory.frame_now after page
   now_alike page =
@@ -252,30 +258,27 @@ module _ (at next : ℕ) (w new : World) (kept after : Memory) (before_pool afte
       now_by f = elim (find (λ m. eqb m.number page.memory) (rows_of after))
           [ Some m ↦ f m.user (page_of m.va + page.index) | None ↦ None ]
 
-  none_now : (page : ObjectPage) → access_pins after page ≡ 0
-  none_now page = access page ∙ shown.access page
-
   frames_follow : (page : ObjectPage) → pinned_frame new.pins page ≡ memory.pinned_frame after page
   frames_follow page =
       ap (λ (l : List Pin). pinned_frame l page) is_settled
       ∙ settled_frame (pinned_pages w.objects w.areas w.memory w.access_pins)
       (pinned_pages new.objects new.areas new.memory new.access_pins) new.memory new.user_pages w.pins page
       ∙ rw (
-        pinned_is w kept page without shown.rows shown.tables (shown.access page),
-        pinned_is new after page (same_accesses ∙ without) rows pins (none_now page),
+        pinned_is w kept page (is_pin_shown w kept shown),
+        pinned_is new after page (record { rows = rows; tables = pins; access = access }),
       ) refl
       ∙ settles_at (is_pinned kept page) (is_pinned after page) (pinned_frame w.pins page)
-      (frame_now new.memory new.user_pages page) (only_pinned at w kept pinned without shown page)
+      (frame_now new.memory new.user_pages page) (only_pinned at w kept pinned shown page)
       ∙ rw (shown.frames page, now_alike page) refl
       ∙ sym (settles.frames page)
 
-  pub pins_follow : PinsShown new.objects new.areas new.memory new.pins after
+  pub pins_follow : PinsShown new.objects new.areas new.memory new.pins new.access_pins after
   pins_follow =
       record {
         rows = rows;
         areas = areas;
         tables = pins;
-        access = none_now;
+        access = access;
         frames = frames_follow;
         names = reached_alike new.pins after pinned_next.once settles.kept.rising frames_follow
             (λ page is. settles.frames page ∙ rw is refl);

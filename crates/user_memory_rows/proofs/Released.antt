@@ -250,12 +250,17 @@ may_further areas pins some_areas some_pins rest_areas rest_pins old new before 
       areas = λ n. left (areas n) (pins n) (some_areas n) (some_pins n) (rest_areas n) (rest_pins n) (areas_over new n)
           (table_pins new n) (areas_over old n) (table_pins old n) (areas_are n) (pins_are n) (less.areas n)
           (less.pins n) (may.areas n);
-      access = λ page. less.access page ∙ may.access page;
+      access = λ page gone. less.access page ∙ may.access page
+          (left_areas (areas page.memory) (some_areas page.memory) (rest_areas page.memory) (areas_over new page.memory)
+          (areas_over old page.memory) (areas_are page.memory) (less.areas page.memory) gone);
       backed = settles.holds.backed may.backed;
       invariant = settles.kept;
       only = only_after old new before after settles;
     }
   where
+    left_areas : (a sa ra ao bo : ℕ) → a ≡ sa + ra → ao + sa ≡ bo → ao ≤ ra → bo ≤ a
+    left_areas a sa ra ao bo is less gone = omega (arith, is, less, gone)
+
     left_pins : (r s p t u : ℕ) → p ≡ s + r → p ≤ u → t + s ≡ u → r ≤ t
     left_pins r s p t u is most less = omega (arith, is, most, less)
 

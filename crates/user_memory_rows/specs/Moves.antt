@@ -22,8 +22,8 @@ pub record MayRelease (areas_gone pins_gone : ℕ → ℕ) (m : Memory) (holds :
   pub pins : (number : ℕ) → pins_gone number ≤ table_pins m number
   -- no pin stands on an object without an area
   pub areas : (number : ℕ) → table_pins m number + areas_gone number ≤ areas_over m number + pins_gone number
-  -- and none by an access on any page
-  pub access : (page : ObjectPage) → access_pins m page ≡ 0
+  -- and none by an access on a page of an object that goes
+  pub access : (page : ObjectPage) → areas_over m page.memory ≤ areas_gone page.memory → access_pins m page ≡ 0
   pub backed : IsBacked m holds
   pub invariant : MemoryInvariant m.objects
   -- no other page is pinned

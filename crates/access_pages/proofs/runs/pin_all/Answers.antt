@@ -4,11 +4,10 @@ use Rattle.iofd_words.specs.declared.rows.Area.{Area}
 use Rattle.memory_objects.specs.declared.run.PageRun.{PageRun}
 use Rattle.user_memory.specs.Changes.{HasRunPinned}
 use Rattle.access_pages.proofs.PinSteps.{Pinning, next_has_room, next_is_few, next_lies, next_meets, next_present}
-use Rattle.access_pages.proofs.PinSteps.{pinning_first, pinning_further}
-use Rattle.access_pages.proofs.Undone.{IsUnchanged, may_undo, none_done, nothing_done, undone}
+use Rattle.access_pages.proofs.PinSteps.{pinning_first, pinning_further, unpinned_in}
+use Rattle.access_pages.proofs.Undone.{may_undo, none_done, undone}
 use Rattle.access_pages.specs.Runs.{AreReleased, MayRelease, run_in, runs_in}
 use Rattle.access_pages.proofs.runs.pin_all.Goals as goal
-use Rattle.access_pages.proofs.runs.pin_all.Goals.{then-count-via-then-count, then-count-via-else-count+then-is_err}
 
 pub loop-area-init : goal.loop-area-init
 loop-area-init g c =
@@ -59,41 +58,38 @@ pin_by_access-requires-clause-few g c =
 
 pub unpin_first-requires-clause-may : goal.unpin_first-requires-clause-may
 unpin_first-requires-clause-may g c =
-    let same : IsUnchanged c.loop-area.memory c.then-count.memory c.loop-area.pool c.then-count.pool =
-    elim c.then-count.branch [
-      | then-count-via-then-count w ↦ nothing_done c.loop-area.memory c.then-count.memory c.loop-area.pool
-          c.then-count.pool w.memory-is w.pool-is c.loop-area.invariant.may.invariant
-      | then-count-via-else-count+then-is_err w ↦ none_done c.loop-area.memory c.then-count.memory
-          w.pin_by_access.new.self c.loop-area.pool c.then-count.pool w.pin_by_access.new.pool w.memory-is w.pool-is
-          (at_error w.pin_by_access.result (sym w.is_err.ensures.value ∙ w.if-is_err.true)
-          w.pin_by_access.ensures.err) w.pin_by_access.ensures.pages w.pin_by_access.ensures.limits
-          (at_error w.pin_by_access.result (sym w.is_err.ensures.value ∙ w.if-is_err.true)
-          w.pin_by_access.ensures.pool_err)
-    ] in
+    let failed = sym c.is_err.ensures.value ∙ c.if-is_err.true in
+    let same = none_done c.loop-area.memory c.pin_by_access.new.self c.pin_by_access.new.self c.loop-area.pool
+    c.pin_by_access.new.pool c.pin_by_access.new.pool refl refl
+    (at_error c.pin_by_access.result failed c.pin_by_access.ensures.err) c.pin_by_access.ensures.pages
+    c.pin_by_access.ensures.limits (at_error c.pin_by_access.result failed c.pin_by_access.ensures.pool_err) in
     let M : List Area → Type 0 = λ areas. MayRelease (runs_in c.args.span (take c.loop-area.count areas))
-    c.then-count.memory c.then-count.pool.holds in
+    c.pin_by_access.new.self c.pin_by_access.new.pool.holds in
     subst M (sym c.again-all.ensures)
     (may_undo c.args.span c.args.areas c.loop-area.area-iterator c.loop-area.count c.args.memory.now c.loop-area.memory
-    c.then-count.memory c.args.pool.now c.loop-area.pool c.then-count.pool c.loop-area.invariant same)
+    c.pin_by_access.new.self c.args.pool.now c.loop-area.pool c.pin_by_access.new.pool c.loop-area.invariant same)
 
-pub returns-then-count-clause-err : goal.returns-then-count-clause-err
-returns-then-count-clause-err g c =
-    let same : IsUnchanged c.loop-area.memory c.then-count.memory c.loop-area.pool c.then-count.pool =
-    elim c.then-count.branch [
-      | then-count-via-then-count w ↦ nothing_done c.loop-area.memory c.then-count.memory c.loop-area.pool
-          c.then-count.pool w.memory-is w.pool-is c.loop-area.invariant.may.invariant
-      | then-count-via-else-count+then-is_err w ↦ none_done c.loop-area.memory c.then-count.memory
-          w.pin_by_access.new.self c.loop-area.pool c.then-count.pool w.pin_by_access.new.pool w.memory-is w.pool-is
-          (at_error w.pin_by_access.result (sym w.is_err.ensures.value ∙ w.if-is_err.true)
-          w.pin_by_access.ensures.err) w.pin_by_access.ensures.pages w.pin_by_access.ensures.limits
-          (at_error w.pin_by_access.result (sym w.is_err.ensures.value ∙ w.if-is_err.true)
-          w.pin_by_access.ensures.pool_err)
-    ] in
+pub returns-then-is_err-clause-err : goal.returns-then-is_err-clause-err
+returns-then-is_err-clause-err g c =
+    let failed = sym c.is_err.ensures.value ∙ c.if-is_err.true in
+    let same = none_done c.loop-area.memory c.pin_by_access.new.self c.pin_by_access.new.self c.loop-area.pool
+    c.pin_by_access.new.pool c.pin_by_access.new.pool refl refl
+    (at_error c.pin_by_access.result failed c.pin_by_access.ensures.err) c.pin_by_access.ensures.pages
+    c.pin_by_access.ensures.limits (at_error c.pin_by_access.result failed c.pin_by_access.ensures.pool_err) in
     let R : List Area → Type 0 = λ areas. AreReleased (runs_in c.args.span (take c.loop-area.count areas))
-    c.then-count.memory c.unpin_first.new.memory c.then-count.pool c.unpin_first.new.pool in
+    c.pin_by_access.new.self c.unpin_first.new.memory c.pin_by_access.new.pool c.unpin_first.new.pool in
     undone c.args.span c.args.areas c.loop-area.area-iterator c.loop-area.count c.args.memory.now c.loop-area.memory
-    c.then-count.memory c.unpin_first.new.memory c.args.pool.now c.loop-area.pool c.then-count.pool
+    c.pin_by_access.new.self c.unpin_first.new.memory c.args.pool.now c.loop-area.pool c.pin_by_access.new.pool
     c.unpin_first.new.pool c.loop-area.invariant same (subst R c.again-all.ensures c.unpin_first.ensures)
+
+pub returns-then-is_err-clause-memory : goal.returns-then-is_err-clause-memory
+returns-then-is_err-clause-memory g c =
+    let P : List Area → Type 0 = λ left. Pinning c.args.span c.args.areas left c.loop-area.count c.args.memory.now
+    c.loop-area.memory c.args.pool.now c.loop-area.pool in
+    unpinned_in c.args.span c.args.areas c.next.new.self c.in-Some.area.now c.loop-area.count c.args.memory.now
+    c.loop-area.memory c.args.pool.now c.loop-area.pool (subst P c.in-Some.ensures.steps c.loop-area.invariant)
+    c.run_in.result c.run_in.ensures
+    (at_error c.pin_by_access.result (sym c.is_err.ensures.value ∙ c.if-is_err.true) c.pin_by_access.ensures.memory)
 
 pub loop-area-preserved : goal.loop-area-preserved
 loop-area-preserved g c =

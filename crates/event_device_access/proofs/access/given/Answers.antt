@@ -50,7 +50,7 @@ returns-in-Hit g c =
     ∙ sym c.is_beyond.ensures ∙ c.if-is_beyond.false in
     let uncached = ap (λ (o : Option FrameNo). given_outcome o (access_outcomes (seen s) c.args.device c.args.address
     c.args.kind)) c.in_default.is in
-    let shown = ap (given_outcome None) (same_outcomes w s known.shows known.tidy.tabled.owned known.tidy.unaccessed
+    let shown = ap (given_outcome None) (same_outcomes w s known.shows known.tidy.tabled.owned
     c.args.device c.args.address c.args.kind) in
     let passes = hit_given known.at w s known.tidy known.shows c.args.device a c.args.address small c.args.kind attached
     near c.in-Hit.frame c.in-Hit.rights (c.in-Hit.ensures w.table_frames (leads_of w) known.shows.tables.stand)
@@ -74,7 +74,7 @@ returns-in_default-walk g c =
     ∙ sym c.is_beyond.ensures ∙ c.if-is_beyond.false in
     let uncached = ap (λ (o : Option FrameNo). given_outcome o (access_outcomes (seen s) c.args.device c.args.address
     c.args.kind)) c.in_default.is in
-    let shown = ap (given_outcome None) (same_outcomes w s known.shows known.tidy.tabled.owned known.tidy.unaccessed
+    let shown = ap (given_outcome None) (same_outcomes w s known.shows known.tidy.tabled.owned
     c.args.device c.args.address c.args.kind) in
     let told = ap Denied c.denied.ensures in
     elim c.in_default-walk.branch [

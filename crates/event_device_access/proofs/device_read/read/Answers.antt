@@ -25,7 +25,7 @@ read-requires-clause-frame g c =
     let frame = c.in-Ok.frame in
     let told : Passes c.in-Ok.frame ≡ given_outcome None (outcomes w c.args.device c.args.iova.0 Read) =
     c.in-Ok.ensures ∙ ap (given_outcome None) (same_outcomes w c.args.state.now known.shows
-    known.tidy.tabled.owned known.tidy.unaccessed c.args.device
+    known.tidy.tabled.owned c.args.device
     c.args.iova.0 Read)
     in
     let chosen = chosen_read {A = g.row.A.Denot} known.at w [] c.args.device c.args.iova c.args.len (Passes frame)
@@ -55,7 +55,7 @@ returns-in-Some g c = λ at w records tidy shows none.
     (query_checks (view w) (query.DeviceRead c.args.device iova c.args.len)) 1 none) in
     let told : Passes frame ≡ given_outcome None (outcomes w c.args.device iova.0 Read) =
     c.in-Ok.ensures ∙ ap (given_outcome None)
-    (same_outcomes w c.args.state.now shows tidy.tabled.owned tidy.unaccessed c.args.device iova.0 Read) in
+    (same_outcomes w c.args.state.now shows tidy.tabled.owned c.args.device iova.0 Read) in
     let chosen = chosen_read at w records c.args.device iova c.args.len (Passes frame) tidy told in
     let within = pass_in_pool w tidy.fit.pin_frames c.args.device iova.0 Read frame chosen.0 in
     let bytes = read_shown w.settings.pool w.writes w.table_frames c.args.state.now.memory c.args.state.now.pool
@@ -76,7 +76,7 @@ returns-in-None g c = λ at w records tidy shows none.
 pub returns-in-Err : goal.returns-in-Err
 returns-in-Err g c = λ at w records tidy shows none.
     let told = c.in-Err.ensures ∙ ap (given_outcome None)
-    (same_outcomes w c.args.state.now shows tidy.tabled.owned tidy.unaccessed c.args.device c.args.iova.0 Read) in
+    (same_outcomes w c.args.state.now shows tidy.tabled.owned c.args.device c.args.iova.0 Read) in
     let chosen = chosen_read at w records c.args.device c.args.iova c.args.len _ tidy told in
     let fault = c.denied-in-Err.ensures ∙ ap
     (λ settings. answer.Fault (fault_of settings c.args.device c.args.iova.0 Read c.in-Err.reason))

@@ -27,7 +27,7 @@ write-requires-clause-frame g c =
     let iova = c.args.iova in
     let told : Passes c.in-Ok.frame ≡ given_outcome c.args.via (outcomes w c.args.device c.args.iova.0 Write) =
     c.in-Ok.ensures ∙ ap (given_outcome c.args.via) (same_outcomes w c.args.state.now known.shows
-    known.tidy.tabled.owned known.tidy.unaccessed c.args.device
+    known.tidy.tabled.owned c.args.device
     c.args.iova.0 Write)
     in
     let answer = chosen_answer c.requires.at w c.args.device iova c.args.via (Passes frame)
@@ -54,7 +54,7 @@ returns-in-Ok g c = λ at w tidy shows none may.
     let bytes = c.args.bytes.now in
     let told : Passes frame ≡ given_outcome c.args.via (outcomes w c.args.device iova.0 Write) =
     c.in-Ok.ensures ∙ ap (given_outcome c.args.via)
-    (same_outcomes w c.args.state.now shows tidy.tabled.owned tidy.unaccessed c.args.device iova.0 Write) in
+    (same_outcomes w c.args.state.now shows tidy.tabled.owned c.args.device iova.0 Write) in
     let answer = chosen_answer at w c.args.device iova c.args.via (Passes frame) tidy told may in
     let within = pass_in_pool w tidy.fit.pin_frames c.args.device iova.0 Write frame answer.0 in
     let within_page =
@@ -75,6 +75,7 @@ returns-in-Ok g c = λ at w tidy shows none may.
         devices = shows.devices;
         users = shows.users;
         pins = shows.pins;
+        access_pins = shows.access_pins;
         frames = rw put frames;
         tables = record {
           tables = shows.tables.tables;
@@ -92,7 +93,7 @@ unfolding changed Answers
 returns-in-Err g c = λ at w tidy shows none may.
     let iova = c.args.iova in
     let told = c.in-Err.ensures ∙ ap (given_outcome c.args.via)
-    (same_outcomes w c.args.state.now shows tidy.tabled.owned tidy.unaccessed c.args.device iova.0 Write) in
+    (same_outcomes w c.args.state.now shows tidy.tabled.owned c.args.device iova.0 Write) in
     let answer = chosen_answer at w c.args.device iova c.args.via _ tidy told may in
     let fault = c.fault_of.ensures ∙ ap (λ settings. fault_of settings c.args.device iova.0 Write c.in-Err.reason)
     (sym shows.settings) in

@@ -75,7 +75,7 @@ unreachable-requires-in_default-place_of g c =
     let known = c.requires.granted.granted in
     let w = known.world in
     has_place w c.args.file (placed_as c.args.request) (copy_place (view w) c.args.file c.args.request known.none)
-    (seen c.args.state.now) (sym (same_view w c.args.state.now known.shows known.tidy.tabled.owned known.tidy.unaccessed))
+    (seen c.args.state.now) (sym (same_view w c.args.state.now known.shows known.tidy.tabled.owned))
     (rw (c.placed_as-placed.ensures, c.in_default-place_of.is) at c.place_of.ensures)
 
 pub mapped_area-area-requires : goal.mapped_area-area-requires
@@ -183,7 +183,7 @@ returns-clause-ok g c = λ at via w tidy shows none may.
     rw (c.placed_as-placed.ensures, c.in-Some-place_of.is) at c.place_of.ensures in
     let rows = copy_place (view w) file request none in
     let (spanned, at_place, least_place) =
-    is_place w file (placed_as request) rows (seen s) (sym (same_view w s shows tidy.tabled.owned tidy.unaccessed)) span place in
+    is_place w file (placed_as request) rows (seen s) (sym (same_view w s shows tidy.tabled.owned)) span place in
     let first : span.first ≡ c.first.result = sym c.first.ensures.value in
     let mapped =
     subst (λ (old : List FrameNo). IfAllStand c.share.new.pool s.page_tables.tables
@@ -201,7 +201,7 @@ returns-clause-ok g c = λ at via w tidy shows none may.
     c.has_hwpt-pinned.ensures c.in_ok-share.ensures.share c.in_ok-share.ensures.settles
     (enough_there c.requires.granted.at s file request c.requires.granted.granted span place number)
     c.insert.new.table state.pool taken mapped c.len.ensures.bytes
-    (λ orderly. area_taken w s file (placed_as request) tidy.tabled tidy.unaccessed shows rows
+    (λ orderly. area_taken w s file (placed_as request) tidy.tabled shows rows
     number
     (record { 0 = span.first }) at_place (λ space free.
     area_comes s.objects c.reserve-2.new.table c.insert.new.table file request.dst_ioas new_area orderly space free

@@ -65,7 +65,7 @@ unreachable-requires-in_default-place_of g c =
     let known = c.requires.granted in
     let w = known.world in
     has_place w c.args.file c.args.request (map_place (view w) c.args.file c.args.request known.none)
-    (seen c.args.state.now) (sym (same_view w c.args.state.now known.shows known.tidy.tabled.owned known.tidy.unaccessed))
+    (seen c.args.state.now) (sym (same_view w c.args.state.now known.shows known.tidy.tabled.owned))
     (rw c.in_default-place_of.is at c.place_of.ensures)
 
 pub tables_to_map-count-requires-clause-pages : goal.tables_to_map-count-requires-clause-pages
@@ -178,7 +178,7 @@ returns-clause-ok g c = λ via w tidy shows none may.
     let is_user = sym c.user_of.ensures.value ∙ c.in-Some.is in
     let place : IsPlace (seen s) file request span = rw c.in-Some-place_of.is at c.place_of.ensures in
     let (spanned, at_place, least_place) = is_place w file request (map_place (view w) file request none) (seen s)
-    (sym (same_view w s shows tidy.tabled.owned tidy.unaccessed)) span place in
+    (sym (same_view w s shows tidy.tabled.owned)) span place in
     let first : span.first ≡ c.first.result = sym c.first.ensures.value in
     let mapped =
     subst (λ (old : List FrameNo). IfAllStand c.add.new.pool s.page_tables.tables
@@ -194,7 +194,7 @@ returns-clause-ok g c = λ via w tidy shows none may.
     c.in_ok-add.ensures.settles
     (enough_there c.args.at s file request user c.requires.granted is_user span place)
     state.pool taken mapped c.len.ensures.bytes
-    (λ orderly. area_taken w s file request tidy.tabled tidy.unaccessed shows (map_place (view w) file request none) c.args.at
+    (λ orderly. area_taken w s file request tidy.tabled shows (map_place (view w) file request none) c.args.at
     (record { 0 = span.first }) at_place (λ space free.
     area_comes s.objects c.reserve-2.new.table c.insert.new.table file request.ioas new_area orderly space free
     c.reserve-2.ensures.areas c.in_ok-reserve-2.ensures.ok

@@ -9,7 +9,7 @@ use Rattle.iofd_words.specs.declared.rows.Area.{Area}
 use Rattle.event_unmap.proofs.AreasToClear.{can_clear_within}
 use Rattle.event_unmap.proofs.Unmapped.{attached_is, bytes_fit, bytes_shown, errno_shown, may_remove, names_span}
 use Rattle.event_unmap.proofs.Unmapped.{never_strange}
-use Rattle.event_unmap.proofs.Unmapped.{shows_pending, shows_removed, unmapped_pins, waits_shown}
+use Rattle.event_unmap.proofs.Unmapped.{shows_pending, shows_removed, unmapped_covered, unmapped_pins, waits_shown}
 use Rattle.server_state.specs.Mapping.{own_areas}
 use Rattle.event_unmap.proofs.unmap.commit.Goals as goal
 
@@ -71,10 +71,17 @@ bytes_of-bytes-requires-clause-fit g c =
 pub remove-requires : goal.remove-requires
 remove-requires g c =
     let known = c.requires.granted in
+    let devices = attached_is c.requires.at known.world c.args.state.now c.args.file c.args.request known.tidy
+    known.shows c.in-Some-attached_to.attached c.args.state.now.attachments.items refl
+    c.in-Some-attached_to.ensures.some in
+    let waits = waits_shown c.requires.at known.world c.args.state.now c.args.file c.args.request known.tidy known.shows
+    known.none c.areas_within-areas.ensures.kept c.in-Some.span c.in-Some-attached_to.attached c.in-Some.ensures.value
+    devices in
+    let told = rw (c.again-2.ensures, c.areas_within-areas.ensures.areas) at c.some_waits.ensures in
     rw c.areas_within-areas.ensures.areas
     (may_remove c.requires.at known.world c.args.state.now c.args.file c.args.request known.tidy known.shows known.none
     c.areas_within-areas.ensures.kept c.in-Some.span c.has_hwpt-translated.result c.in-Some.ensures.value
-    c.has_hwpt-translated.ensures
+    c.has_hwpt-translated.ensures (not_false _ (waits ∙ sym told ∙ c.if-some_waits.false))
     c.clear.new.pool.holds c.clear.ensures.cleared.holds)
 
 pub returns : goal.returns
@@ -99,6 +106,7 @@ returns g c = λ at w tidy shows none.
           c.clear.new.pool c.clear.ensures.bytes clears
           c.remove.new.memory c.remove.new.pool
           (unmapped_pins at w c.args.file c.args.request c.bytes_of-bytes.result none answers tidy.pins)
+          (unmapped_covered at w c.args.file c.args.request c.bytes_of-bytes.result none answers tidy.pins) answers.0
           (rw c.areas_within-areas.ensures.areas at c.remove.ensures)
           c.remove-2.new.table c.clear.new.page_tables c.remove-2.ensures c.clear.ensures.same,
     )

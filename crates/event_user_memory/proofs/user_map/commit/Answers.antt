@@ -81,8 +81,9 @@ returns-clause-ok g c = λ at via w tidy shows none may.
         devices = shows.devices;
         users = users_more w.user_pages old.memory.pages c.map_page.new.self.pages
             (user_page c.args.user (page_of c.args.va) frame) shows.users told.pages;
-        pins = pins_same w.objects w.areas w.memory w.pins old.memory c.map_page.new.self shows.pins
+        pins = pins_same w.objects w.areas w.memory w.pins w.access_pins old.memory c.map_page.new.self shows.pins
             c.map_page.ensures.objects;
+        access_pins = shows.access_pins;
         frames = rw c.in_ok-frame.ensures.pool frames;
         tables = record {
           tables = shows.tables.tables;

@@ -75,7 +75,9 @@ returns g c = λ at w tidy shows none.
         devices = shows.devices;
         users = gone w.user_pages old.memory new.self c.args.user (page_of c.args.va)
             (frame_at old.memory.pages c.args.user (page_of c.args.va)) some shows.users c.unmap_page.ensures.pages;
-        pins = pins_same w.objects w.areas w.memory w.pins old.memory new.self shows.pins c.unmap_page.ensures.objects;
+        pins = pins_same w.objects w.areas w.memory w.pins w.access_pins old.memory new.self shows.pins
+            c.unmap_page.ensures.objects;
+        access_pins = shows.access_pins;
         frames = frames;
         tables = record {
           tables = shows.tables.tables;

@@ -74,6 +74,7 @@ returns-in-Some g c = λ at w tidy shows none.
         devices = shows.devices;
         users = shows.users;
         pins = shows.pins;
+        access_pins = shows.access_pins;
         frames = rw (put, found) frames;
         tables = record {
           tables = shows.tables.tables;

@@ -1,6 +1,7 @@
-use Rattle.std.proofs.Common.{◌∙◌, ap}
+use Rattle.std.proofs.Common.{◌≡◌, true, ◌∙◌, ap}
 use Rattle.iofd_words.specs.After.{changed}
 use Rattle.iofd_words.specs.Answers.{Answers}
+use Rattle.iofd_words.specs.Objects.{is_fresh}
 use Rattle.iofd_words.specs.View.{view}
 use Rattle.iofd_words.specs.declared.rows.Object.{Object}
 use Rattle.iofd_words.specs.declared.rows.ObjectKind.TheVariants as kind
@@ -24,11 +25,14 @@ returns-clause-ok g c = λ at w tidy shows none.
     let reserved = c.reserve.ensures in
     let unused = rw reserved.rows at inserted.unused in
     let object : Object =
-    record { file = c.args.file; id = c.insert_reserved-id.result; kind = kind.Device c.args.device } in (
-      rw shows.objects.rows (fresh_id c.args.state.now.objects.rows c.args.file c.insert_reserved-id.result
-          inserted.in_range.0 inserted.in_range.1 unused),
-      shows_bound w c.args.state.now c.args.file c.insert_reserved-id.result c.args.device c.insert_reserved-id.new.self
-          c.insert_binding.new.bindings shows (bind_passed (view w) c.args.file c.args.device none).unbound unused
+    record { file = c.args.file; id = c.insert_reserved-id.result; kind = kind.Device c.args.device } in
+    let fresh : is_fresh w.objects c.args.file c.insert_reserved-id.result ≡ true =
+    rw shows.objects.rows (fresh_id c.args.state.now.objects.rows c.args.file c.insert_reserved-id.result
+    inserted.in_range.0 inserted.in_range.1 unused) in (
+      fresh,
+      shows_bound at w c.args.state.now c.args.file c.insert_reserved-id.result c.args.device
+          c.insert_reserved-id.new.self c.insert_binding.new.bindings tidy shows
+          (bind_passed (view w) c.args.file c.args.device none).unbound fresh unused
           (rw reserved.rows at inserted.rows) (inserted.files ∙ reserved.files) (c.insert_binding.ensures
           ∙ ap (with_binding object) c.reserve-2.ensures.items),
     )

@@ -30,4 +30,5 @@ returns-clause-others g c = λ settings before r device run of_event answered.
       pins = refl;
       writes = refl;
       closed = refl;
+      access_pins = refl;
     })

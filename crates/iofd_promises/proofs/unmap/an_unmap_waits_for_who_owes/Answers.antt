@@ -1,4 +1,4 @@
-use Rattle.std.proofs.Common.{◌≡◌, refl, ◌∙◌}
+use Rattle.std.proofs.Common.{refl, ◌∙◌}
 use Rattle.iofd_words.specs.After.{changed}
 use Rattle.iofd_words.specs.Areas.{touched_tries}
 use Rattle.iofd_words.specs.Answers.{Answers}
@@ -52,4 +52,5 @@ returns-clause-others g c = λ settings before r file request errno run of_event
       pins = refl;
       writes = refl;
       closed = refl;
+      access_pins = refl;
     })

@@ -11,7 +11,7 @@ never cause is = cc
 
 pub returns-in-Some-clause-ok : goal.returns-in-Some-clause-ok
 returns-in-Some-clause-ok g c = rw (c.requires.none_taken, c.requires.none_given) (λ pass w tidy shows may.
-    let is = sym (c.refusal.ensures ∙ same_refusal w c.args.state.now shows tidy.tabled.owned tidy.unaccessed c.args.act.now.event)
+    let is = sym (c.refusal.ensures ∙ same_refusal w c.args.state.now shows tidy.tabled.owned c.args.act.now.event)
     ∙ c.in-Some.is in (
       refused_lawful _ c.args.at w pass c.args.act.now.event _ is,
       λ none. absurd (never _ (sym is ∙ none)),
@@ -21,7 +21,7 @@ returns-in-Some-clause-ok g c = rw (c.requires.none_taken, c.requires.none_given
 
 pub returns-in-None-clause-ok : goal.returns-in-None-clause-ok
 returns-in-None-clause-ok g c = if_ok c.commit.result _ _ (λ reply steps pass w tidy shows may.
-    let is = sym (c.refusal.ensures ∙ same_refusal w c.args.state.now shows tidy.tabled.owned tidy.unaccessed c.args.act.now.event)
+    let is = sym (c.refusal.ensures ∙ same_refusal w c.args.state.now shows tidy.tabled.owned c.args.act.now.event)
     ∙ c.in-None.is in
     let told = steps w tidy shows is (may is) in
     let e = c.args.act.now.event in
@@ -42,7 +42,7 @@ commit-requires-clause-granted g c =
     let called = c.requires.called in
     let event = c.args.act.now.event in
     let none : refusal called.world event ≡ None = sym (c.refusal.ensures
-    ∙ same_refusal called.world c.args.state.now called.shows called.tidy.tabled.owned called.tidy.unaccessed event) ∙ c.in-None.is in
+    ∙ same_refusal called.world c.args.state.now called.shows called.tidy.tabled.owned event) ∙ c.in-None.is in
     record {
       granted = record { world = called.world; tidy = called.tidy; shows = called.shows; none = none };
       may =

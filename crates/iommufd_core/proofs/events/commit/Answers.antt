@@ -52,6 +52,15 @@ returns-in-AccessCreate-clause-ok g c = if_ok c.commit-in-AccessCreate.result _ 
     (steps c.args.at) (λ w. tt)))
     c.commit-in-AccessCreate.ensures.ok
 
+pub returns-in-AccessPin-clause-ok : goal.returns-in-AccessPin-clause-ok
+returns-in-AccessPin-clause-ok g c = if_ok c.commit-in-AccessPin.result _ _
+    (λ reply steps. subst (λ (e : Event _). MovingSteps c.args.at e c.args.act.now.via c.args.state.now reply
+    c.args.taken.now.items c.args.given.now.items c.commit-in-AccessPin.new.state) (sym c.in-AccessPin.is)
+    (none_chosen c.args.at _ c.args.act.now.via c.args.state.now c.commit-in-AccessPin.new.state reply
+    c.args.taken.now.items c.args.given.now.items c.requires.none_taken c.requires.none_given (λ w. tt) (λ w. tt)
+    (steps c.args.at) (λ w. tt)))
+    c.commit-in-AccessPin.ensures.ok
+
 pub returns-in-Bind-clause-err : goal.returns-in-Bind-clause-err
 returns-in-Bind-clause-err g c =
     on_err c.commit-in-Bind.result _ _ (λ same w tidy shows. same w shows) c.commit-in-Bind.ensures.err
@@ -59,6 +68,10 @@ returns-in-Bind-clause-err g c =
 pub returns-in-AccessCreate-clause-err : goal.returns-in-AccessCreate-clause-err
 returns-in-AccessCreate-clause-err g c =
     on_err c.commit-in-AccessCreate.result _ _ (λ same w tidy shows. same w shows) c.commit-in-AccessCreate.ensures.err
+
+pub returns-in-AccessPin-clause-err : goal.returns-in-AccessPin-clause-err
+returns-in-AccessPin-clause-err g c = on_err c.commit-in-AccessPin.result _ _
+    (λ same w tidy shows. same c.args.at w tidy shows) c.commit-in-AccessPin.ensures.err
 
 pub returns-in-Unmap-clause-ok : goal.returns-in-Unmap-clause-ok
 returns-in-Unmap-clause-ok g c =
@@ -107,6 +120,22 @@ returns-in-AccessDetach-clause-ok g c =
     (none_chosen c.args.at _ c.args.act.now.via c.args.state.now c.commit-in-AccessDetach.new.state
     c.commit-in-AccessDetach.result c.args.taken.now.items c.args.given.now.items c.requires.none_taken
     c.requires.none_given (λ w. tt) (λ w. tt) (c.commit-in-AccessDetach.ensures c.args.at) (λ w. tt))
+
+pub returns-in-AccessUnpin-clause-ok : goal.returns-in-AccessUnpin-clause-ok
+returns-in-AccessUnpin-clause-ok g c =
+    subst (λ (e : Event _). MovingSteps c.args.at e c.args.act.now.via c.args.state.now c.commit-in-AccessUnpin.result
+    c.args.taken.now.items c.args.given.now.items c.commit-in-AccessUnpin.new.state) (sym c.in-AccessUnpin.is)
+    (none_chosen c.args.at _ c.args.act.now.via c.args.state.now c.commit-in-AccessUnpin.new.state
+    c.commit-in-AccessUnpin.result c.args.taken.now.items c.args.given.now.items c.requires.none_taken
+    c.requires.none_given (λ w. tt) (λ w. tt) (c.commit-in-AccessUnpin.ensures c.args.at) (λ w. tt))
+
+pub returns-in-AccessWrite-clause-ok : goal.returns-in-AccessWrite-clause-ok
+returns-in-AccessWrite-clause-ok g c =
+    subst (λ (e : Event _). MovingSteps c.args.at e c.args.act.now.via c.args.state.now c.commit-in-AccessWrite.result
+    c.args.taken.now.items c.args.given.now.items c.commit-in-AccessWrite.new.state) (sym c.in-AccessWrite.is)
+    (none_chosen c.args.at _ c.args.act.now.via c.args.state.now c.commit-in-AccessWrite.new.state
+    c.commit-in-AccessWrite.result c.args.taken.now.items c.args.given.now.items c.requires.none_taken
+    c.requires.none_given (λ w. tt) (λ w. tt) (c.commit-in-AccessWrite.ensures c.args.at) (λ w. tt))
 
 pub returns-in-Flush-clause-ok : goal.returns-in-Flush-clause-ok
 returns-in-Flush-clause-ok g c =
@@ -292,6 +321,18 @@ pub commit-requires-in-AccessDetach : goal.commit-requires-in-AccessDetach
 commit-requires-in-AccessDetach g c =
     granted_as c.args.at _ _ c.args.act.now.via c.args.state.now c.in-AccessDetach.is c.requires.granted
 
+pub commit-requires-in-AccessPin : goal.commit-requires-in-AccessPin
+commit-requires-in-AccessPin g c =
+    granted_as c.args.at _ _ c.args.act.now.via c.args.state.now c.in-AccessPin.is c.requires.granted
+
+pub commit-requires-in-AccessUnpin : goal.commit-requires-in-AccessUnpin
+commit-requires-in-AccessUnpin g c =
+    granted_as c.args.at _ _ c.args.act.now.via c.args.state.now c.in-AccessUnpin.is c.requires.granted
+
+pub commit-requires-in-AccessWrite : goal.commit-requires-in-AccessWrite
+commit-requires-in-AccessWrite g c =
+    granted_as c.args.at _ _ c.args.act.now.via c.args.state.now c.in-AccessWrite.is c.requires.granted
+
 pub commit-requires-in-Flush : goal.commit-requires-in-Flush
 commit-requires-in-Flush g c =
     granted_known c.args.at _ _ c.args.act.now.via c.args.state.now c.in-Flush.is c.requires.granted
@@ -330,6 +371,10 @@ returns-in-Bind-clause-memory g c =
 pub returns-in-AccessCreate-clause-memory : goal.returns-in-AccessCreate-clause-memory
 returns-in-AccessCreate-clause-memory g c =
     on_err_same c.commit-in-AccessCreate.result _ (takes_as c.args.state.now _ _ c.in-AccessCreate.is refl)
+
+pub returns-in-AccessPin-clause-memory : goal.returns-in-AccessPin-clause-memory
+returns-in-AccessPin-clause-memory g c =
+    on_err_same c.commit-in-AccessPin.result _ (takes_as c.args.state.now _ _ c.in-AccessPin.is refl)
 
 pub returns-in-Attach-clause-memory : goal.returns-in-Attach-clause-memory
 returns-in-Attach-clause-memory g c =

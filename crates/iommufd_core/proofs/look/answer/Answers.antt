@@ -17,11 +17,18 @@ pub read-requires-in-UserRead : goal.read-requires-in-UserRead
 read-requires-in-UserRead g c =
     subst (λ (query : Query). IsAsked query c.args.state.now) c.in-UserRead.is c.requires
 
+pub read-requires-in-AccessRead : goal.read-requires-in-AccessRead
+read-requires-in-AccessRead g c =
+    subst (λ (query : Query). IsAsked query c.args.state.now) c.in-AccessRead.is c.requires
+
 pub returns-in-DeviceRead : goal.returns-in-DeviceRead
 returns-in-DeviceRead g c = rw c.in-DeviceRead.is c.read.ensures
 
 pub returns-in-UserRead : goal.returns-in-UserRead
 returns-in-UserRead g c = rw c.in-UserRead.is c.read-in-UserRead.ensures
+
+pub returns-in-AccessRead : goal.returns-in-AccessRead
+returns-in-AccessRead g c = rw c.in-AccessRead.is c.read-in-AccessRead.ensures
 
 -- the one lawful answer
 one_count : (n m : ℕ) → m ≡ n → IsLooked (answer.Count n ∷ []) (answer.Count m)
@@ -39,7 +46,7 @@ pub returns-in-Held : goal.returns-in-Held
 returns-in-Held g c =
     rw c.in-Held.is (λ at w records tidy shows none. one_count _ _
     (c.held.ensures ∙ ap (λ (v : View). v.held_by c.in-Held.user)
-    (same_view w c.args.state.now shows tidy.tabled.owned tidy.unaccessed)))
+    (same_view w c.args.state.now shows tidy.tabled.owned)))
 
 -- its known page table
 pub hwpt_of-requires : goal.hwpt_of-requires
@@ -50,4 +57,4 @@ returns-in-AttachedTo g c =
     rw c.in-AttachedTo.is (λ at w records tidy shows none. one_attached _ _
     (c.hwpt_of.ensures
     ∙ ap (λ (v : View). option_map (λ a. a.hwpt) (attachment_of v.attachments c.in-AttachedTo.device))
-    (same_view w c.args.state.now shows tidy.tabled.owned tidy.unaccessed)))
+    (same_view w c.args.state.now shows tidy.tabled.owned)))

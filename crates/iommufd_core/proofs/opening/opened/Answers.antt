@@ -2,7 +2,7 @@ use Rattle.std.proofs.Common.{◌≡◌, ◌≤◌, Bool, true, false, None, ref
 use Rattle.std.proofs.lemmas.Bool.Decides.{nat_tests}
 use Rattle.iofd_words.specs.Limits.{first_outside}
 use Rattle.iofd_words.specs.Settings.{Settings, is_between}
-use Rattle.iommufd_core.proofs.Opened.{all_open, frames_opened, pins_opened}
+use Rattle.iommufd_core.proofs.Opened.{access_pins_opened, all_open, frames_opened, pins_opened}
 use Rattle.iommufd_core.proofs.opening.opened.Goals as goal
 
 pub returns-clause-shows : goal.returns-clause-shows
@@ -26,6 +26,7 @@ returns-clause-shows g c =
       allowed = λ file ioas. rw c.new-4.ensures refl;
       users = rw c.in_ok-new-2.ensures.pages (record { pages = λ user page. refl; counts = λ test. refl });
       pins = pins_opened c.in_ok-new-2.field-0 c.in_ok-new-2.ensures.objects;
+      access_pins = rw c.new-8.ensures access_pins_opened;
       frames = rw (c.in_ok-new-3.ensures, c.pool-pool.ensures.value)
           (frames_opened c.args.config.now.pool c.in_ok-new-2.field-0 c.in_ok-new-2.ensures.pages
           c.in_ok-new-2.ensures.objects);

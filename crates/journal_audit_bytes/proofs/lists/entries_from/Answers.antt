@@ -13,7 +13,8 @@ pub returns-in_err-start-clause-read : goal.returns-in_err-start-clause-read
 returns-in_err-start-clause-read g c =
     let p = err_from_is_err_and c.from_residual-in_err-start.result c.from_residual-in_err-start.ensures.1 in
     rw (p.1, p.2) (ends_by c.in_err-start.field-0.0 (w64 ∷ w64 ∷ []) (pairs c.loop.ranges.items) c.args.count
-    c.loop.counter c.loop.rest.now (elements_at c.args.count (w64 ∷ w64 ∷ []) c.args.bytes.now) c.loop-test.true c.in_err-start.ensures
+    c.loop.counter c.loop.rest.now (elements_at c.args.count (w64 ∷ w64 ∷ []) c.args.bytes.now) c.loop-test.true
+    c.in_err-start.ensures
     c.loop.invariant)
 
 pub loop-preserved : goal.loop-preserved

@@ -13,7 +13,8 @@ pub returns-in_err-frame-clause-read : goal.returns-in_err-frame-clause-read
 returns-in_err-frame-clause-read g c =
     let p = err_from_is_err_and c.from_residual-in_err-frame.result c.from_residual-in_err-frame.ensures.1 in
     rw (p.1, p.2) (ends_by c.in_err-frame.field-0.0 (w32 ∷ []) (of_frames c.loop.frames.items) c.args.count
-    c.loop.counter c.loop.rest.now (elements_at c.args.count (w32 ∷ []) c.args.bytes.now) c.loop-test.true c.in_err-frame.ensures
+    c.loop.counter c.loop.rest.now (elements_at c.args.count (w32 ∷ []) c.args.bytes.now) c.loop-test.true
+    c.in_err-frame.ensures
     c.loop.invariant)
 
 pub loop-preserved : goal.loop-preserved

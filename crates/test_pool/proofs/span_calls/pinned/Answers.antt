@@ -1,4 +1,4 @@
-use Rattle.std.proofs.Common.{◌≡◌, List, [], ◌∷◌, length, ap, subst, sym, ◌∙◌}
+use Rattle.std.proofs.Common.{◌≡◌, List, [], ◌∷◌, length, ap, subst, sym, ◌∙◌, arith}
 use Rattle.std.specs.Prelude.{is_none}
 use Rattle.std.specs.List.{list_any}
 use Rattle.access_pages.specs.Runs.{ArePinned, MayPin, runs_in}
@@ -19,6 +19,9 @@ pin_all-requires-clause-may g c =
     (sym (subst L c.page-2.ensures c.lacks_page_in.ensures) ∙ c.if-lacks_page_in.false)
     (ap (has_room c.args.memory.now (record { 0 = 1 }))
     (sym (c.from.ensures ∙ subst N c.page.ensures c.new_pages_in-count.ensures)) ∙ sym c.if-not-has_room.ensures))
+
+pub pin_all-requires-clause-few : goal.pin_all-requires-clause-few
+pin_all-requires-clause-few g c = rw (c.meeting.ensures, c.the_span.ensures, c.requires.areas) (omega arith)
 
 pub returns-in-Ok : goal.returns-in-Ok
 returns-in-Ok g c =

@@ -112,7 +112,7 @@ returns-in_default-answer-clause-memory g c =
     let tidy = tidy_run old.config records c.self.invariant.run in
     let wants = c.in_default-answer.ensures.memory in
     rw (← c.self.view_is) (inr (
-      sym (same_refusal (world_of old.config records) old c.self.invariant.shows tidy.tabled.owned tidy.unaccessed
+      sym (same_refusal (world_of old.config records) old c.self.invariant.shows tidy.tabled.owned
           c.args.act.now.event) ∙ wants.0,
       takes_in (world_of old.config records) old c.self.invariant.shows c.args.act.now.event wants.1,
     ))

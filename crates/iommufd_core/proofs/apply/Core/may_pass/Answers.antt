@@ -23,12 +23,12 @@ returns-then-is_none g c =
     let query = DeviceRead c.args.device c.args.iova c.args.len in
     let none : is_none (first_true (query_checks (view w) query)) ≡ true =
     ap is_none (sym ((rw c.from.ensures at c.refusal.ensures) ∙ same_query_refusal w state shows tidy.tabled.owned
-    tidy.unaccessed query))
+    query))
     ∙ none_if c.refusal.result c.if-is_none.ensures
     in
     rw (← c.self.view_is, none) (c.may_pass.ensures
     ∙ ap (list_any (is_pass_at c.args.frame))
-    (same_outcomes w state shows tidy.tabled.owned tidy.unaccessed c.args.device c.args.iova.0 c.args.right))
+    (same_outcomes w state shows tidy.tabled.owned c.args.device c.args.iova.0 c.args.right))
 
 pub refusal-requires : goal.refusal-requires
 refusal-requires g c =

@@ -1,0 +1,146 @@
+//! Whether the file's user may have pinned what a pin of an access object would pin anew.
+
+ghost use Rattle.std.specs.Prelude.{◌≡◌, ◌≤◌, ◌∷◌, [], length, not, true};
+ghost use Rattle.std.specs.List.{count_by, list_all};
+ghost use Rattle.access_pages.specs.Runs as runs;
+ghost use Rattle.iofd_words.specs.Areas.{most_areas};
+ghost use Rattle.iofd_words.specs.Checks.{passes_limit_accessed};
+ghost use Rattle.iofd_words.specs.Span.{is_whole_pages, meets};
+ghost use Rattle.memory_objects.specs.Runs.{covers};
+ghost use Rattle.server_state.specs.Held.{areas_at};
+ghost use Rattle.server_state.specs.Seen.{seen};
+ghost use Rattle.server_state.specs.Step.{IsKnown};
+ghost use Rattle.user_memory.specs.Memory.{is_in_runs, new_in_runs, run_lies};
+
+use access_pages::{meeting, run_in};
+use area_map::{Areas, Iter};
+use iofd_words::{FileNo, ObjId, Span};
+use server_state::{State, accounts};
+use std::alloc::Allocator;
+use user_memory::{PageRun, UserMemory};
+
+/// Whether with the pages that a pin of the span would pin anew the file's user would have more pinned pages than the
+/// limit allows. The areas are those of the address space. It takes no memory.
+pub(crate) fn passes_limit<A: Allocator>(
+    state: &State<A>,
+    file: FileNo,
+    ioas: ObjId,
+    areas: &Areas<A>,
+    span: Span,
+) -> bool
+    requires known { IsKnown state.now }
+    requires span { is_whole_pages span ≡ true }
+    requires there { areas_at state.now.objects.rows file ioas ≡ areas.now.areas }
+    ensures { result ≡ passes_limit_accessed (seen state.now) file ioas span }
+{
+    // The areas are few, and they and the span have addresses.
+    let _ = (areas.len(), span.first());
+    let most = most_new_pages(meeting(areas, span), span, &state.memory);
+    if !accounts::passes_limit(state, file, most) {
+        return false;
+    }
+    // Only here does it matter what areas share.
+    let count = new_pages(meeting(areas, span), span, &state.memory);
+    accounts::passes_limit(state, file, count)
+}
+
+/// How many pages these areas, which meet the span, have in it that aren't pinned, where one that several areas share
+/// counts for each: a pin of the span pins no more than that.
+fn most_new_pages<A: Allocator>(areas: Iter<'_, A>, span: Span, memory: &UserMemory<A>) -> u128
+    requires met { list_all (λ area. meets area.span span) areas ≡ true }
+    requires lies { list_all (run_lies memory.now) (runs.runs_in span areas) ≡ true }
+    requires few { length areas ≤ most_areas }
+    ensures { length (new_in_runs memory.now (runs.runs_in span areas.entry)) ≤ result }
+{
+    let mut count = 0;
+    for area in areas {
+        count += u128::from(memory.new_pages_in(run_in(area, span)));
+    }
+    count
+}
+
+/// The same, where each page counts once: for the last area that has it. It goes over the pages, and for each that
+/// isn't pinned over the areas behind.
+fn new_pages<A: Allocator>(areas: Iter<'_, A>, span: Span, memory: &UserMemory<A>) -> u128
+    requires met { list_all (λ area. meets area.span span) areas ≡ true }
+    requires lies { list_all (run_lies memory.now) (runs.runs_in span areas) ≡ true }
+    requires few { length areas ≤ most_areas }
+    ensures { result ≡ length (new_in_runs memory.now (runs.runs_in span areas.entry)) }
+{
+    let mut left = areas;
+    let mut count = 0;
+    while let Some(area) = left.next() {
+        count += u128::from(new_pages_of(run_in(area, span), left.again(), span, memory));
+    }
+    count
+}
+
+/// How many pages of the run aren't pinned, and are in none of the runs that these areas, which meet the span, have in
+/// it.
+fn new_pages_of<A: Allocator>(
+    run: PageRun,
+    others: Iter<'_, A>,
+    span: Span,
+    memory: &UserMemory<A>,
+) -> u64
+    requires lies { run_lies memory.now run ≡ true }
+    requires met { list_all (λ area. meets area.span span) others ≡ true }
+    ensures { result ≡ count_by (λ page. not (is_in_runs (runs.runs_in span others.entry) page))
+        (new_in_runs memory.now (run ∷ [])) }
+{
+    // An object has few pages.
+    memory.objects_told();
+    if memory.new_pages_in(run) == 0 {
+        return 0;
+    }
+    let mut count = 0;
+    for index in run.first..run.first + run.count {
+        let page = PageRun {
+            number: run.number,
+            first: index,
+            count: 1,
+        };
+        count += new_page(page, others.again(), span, memory);
+    }
+    count
+}
+
+/// The same, where the run has one page.
+fn new_page<A: Allocator>(
+    run: PageRun,
+    others: Iter<'_, A>,
+    span: Span,
+    memory: &UserMemory<A>,
+) -> u64
+    requires one { run.count ≡ 1 }
+    requires lies { run_lies memory.now run ≡ true }
+    requires met { list_all (λ area. meets area.span span) others ≡ true }
+    ensures { result ≡ count_by (λ page. not (is_in_runs (runs.runs_in span others.entry) page))
+        (new_in_runs memory.now (run ∷ [])) }
+{
+    let count = memory.new_pages_in(run);
+    if count > 0 && is_among(others, span, run.number, run.first) {
+        return 0;
+    }
+    count
+}
+
+/// Whether the page is in one of the runs that these areas, which meet the span, have in it.
+fn is_among<A: Allocator>(areas: Iter<'_, A>, span: Span, number: u64, index: u64) -> bool
+    requires { list_all (λ area. meets area.span span) areas ≡ true }
+    ensures { result ≡ is_in_runs (runs.runs_in span areas.entry) (record { memory = number; index = index }) }
+{
+    for area in areas {
+        if has_page(run_in(area, span), number, index) {
+            return true;
+        }
+    }
+    false
+}
+
+/// Whether the page is one of the run's.
+fn has_page(run: PageRun, number: u64, index: u64) -> bool
+    ensures { result ≡ covers run number index }
+{
+    run.number == number && run.first <= index && index - run.first < run.count
+}

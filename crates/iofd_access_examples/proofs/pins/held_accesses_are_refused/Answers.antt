@@ -1,0 +1,27 @@
+use Rattle.std.proofs.Common.{refl}
+use Rattle.iofd_words.specs.Checks.{access_write_checks}
+use Rattle.iofd_access_examples.proofs.pins.held_accesses_are_refused.Goals as goal
+
+pub returns-clause-all_writes : goal.returns-clause-all_writes
+unfolding access_write_checks
+returns-clause-all_writes c = refl
+
+pub returns-clause-first_writes : goal.returns-clause-first_writes
+unfolding access_write_checks
+returns-clause-first_writes c = refl
+
+pub returns-clause-all_for_reads : goal.returns-clause-all_for_reads
+unfolding access_write_checks
+returns-clause-all_for_reads c = refl
+
+pub returns-clause-first_for_reads : goal.returns-clause-first_for_reads
+unfolding access_write_checks
+returns-clause-first_for_reads c = refl
+
+pub returns-clause-reads : goal.returns-clause-reads
+unfolding access_write_checks
+returns-clause-reads c = refl
+
+pub returns-clause-reads_left : goal.returns-clause-reads_left
+unfolding access_write_checks
+returns-clause-reads_left c = refl
