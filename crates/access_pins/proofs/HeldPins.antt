@@ -18,7 +18,7 @@ use Rattle.iofd_words.specs.declared.numbers.ObjId.{ObjId}
 use Rattle.iofd_words.specs.declared.rows.Object.{Object}
 use Rattle.server_state.proofs.AccessPinsStay.{any_alike, any_kept}
 use Rattle.iofd_words.specs.Pages.{is_above_sum}
-use Rattle.access_pins.proofs.Asked.{held_fits, pin_ends}
+use Rattle.access_pins.proofs.AskedPins.{held_fits, pin_ends}
 use Rattle.server_state.specs.AccessPins.{is_in_space, row_of}
 use Rattle.server_state.specs.Held.{objects_in}
 use Rattle.server_state.specs.Step.{IsKnown}

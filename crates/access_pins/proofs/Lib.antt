@@ -1,4 +1,4 @@
-pub mod Asked
+pub mod AskedPins
 pub mod Created
 pub mod HeldFrames
 pub mod HeldPins

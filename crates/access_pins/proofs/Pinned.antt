@@ -9,7 +9,7 @@ use Rattle.std.proofs.lemmas.List.{append-nil}
 use Rattle.std.proofs.lemmas.List.Sums.{sum_by_push}
 use Rattle.access_pages.specs.Runs.{ArePinned as RunsPinned, MayPin, are_own, meeting, run_in}
 use Rattle.access_pages.specs.Runs.{runs_in, times_in}
-use Rattle.access_pins.proofs.Asked.{pin_areas, pin_attached}
+use Rattle.access_pins.proofs.AskedPins.{pin_areas, pin_attached}
 use Rattle.access_pins.proofs.KeptPins.{shown_more, sum_without}
 use Rattle.access_pins.proofs.NewAccessed.{new_accessed}
 use Rattle.access_pins.proofs.PinnedRuns.{runs_lie, times_covered, unlisted_none}

@@ -4,7 +4,7 @@ use Rattle.std.proofs.Common.{sym, ◌^◌}
 use Rattle.std.proofs.Common.{◌∙◌, arith}
 use Rattle.std.proofs.lemmas.Bool.Decides.{nat_tests}
 use Rattle.access_pages.specs.Runs.{AreReleased, MayRelease, meeting, runs_in, times_in}
-use Rattle.access_pins.proofs.Asked.{held_fits}
+use Rattle.access_pins.proofs.AskedPins.{held_fits}
 use Rattle.access_pins.proofs.KeptPins.{shown_less, sum_without}
 use Rattle.access_pins.proofs.PinnedRuns.{runs_lie, times_covered, unlisted_none}
 use Rattle.access_pins.proofs.SettledShown.{settled_shown, with_access_pins}

@@ -4,43 +4,42 @@ ghost use Rattle.std.specs.Prelude.{◌≡◌, ◌≤◌, ◌∷◌, [], length,
 ghost use Rattle.std.specs.List.{count_by, list_all};
 ghost use Rattle.access_pages.specs.Runs as runs;
 ghost use Rattle.iofd_words.specs.Areas.{most_areas};
-ghost use Rattle.iofd_words.specs.Checks.{passes_limit_accessed};
-ghost use Rattle.iofd_words.specs.Span.{is_whole_pages, meets};
+ghost use Rattle.iofd_words.specs.Checks.{passes_limit};
+ghost use Rattle.iofd_words.specs.Files.{user_of};
+ghost use Rattle.iofd_words.specs.Span.{meets};
 ghost use Rattle.memory_objects.specs.Runs.{covers};
-ghost use Rattle.server_state.specs.Held.{areas_at};
 ghost use Rattle.server_state.specs.Seen.{seen};
 ghost use Rattle.server_state.specs.Step.{IsKnown};
 ghost use Rattle.user_memory.specs.Memory.{is_in_runs, new_in_runs, run_lies};
 
-use access_pages::{meeting, run_in};
-use area_map::{Areas, Iter};
-use iofd_words::{FileNo, ObjId, Span};
+use access_pages::run_in;
+use area_map::Iter;
+use iofd_words::{FileNo, Span};
 use server_state::{State, accounts};
 use std::alloc::Allocator;
 use user_memory::{PageRun, UserMemory};
 
-/// Whether with the pages that a pin of the span would pin anew the file's user would have more pinned pages than the
-/// limit allows. The areas are those of the address space. It takes no memory.
+/// Whether with the pages that these areas, which meet the span, have in it and that aren't pinned yet the file's user
+/// would have more pinned pages than the limit allows. It takes no memory.
 pub(crate) fn passes_limit<A: Allocator>(
     state: &State<A>,
     file: FileNo,
-    ioas: ObjId,
-    areas: &Areas<A>,
+    areas: Iter<'_, A>,
     span: Span,
 ) -> bool
     requires known { IsKnown state.now }
-    requires span { is_whole_pages span ≡ true }
-    requires there { areas_at state.now.objects.rows file ioas ≡ areas.now.areas }
-    ensures { result ≡ passes_limit_accessed (seen state.now) file ioas span }
+    requires met { list_all (λ area. meets area.span span) areas ≡ true }
+    requires lies { list_all (run_lies state.now.memory) (runs.runs_in span areas) ≡ true }
+    requires few { length areas ≤ most_areas }
+    ensures { result ≡ passes_limit (seen state.now) (user_of state.now.config file)
+        (length (new_in_runs state.now.memory (runs.runs_in span areas.entry))) }
 {
-    // The areas are few, and they and the span have addresses.
-    let _ = (areas.len(), span.first());
-    let most = most_new_pages(meeting(areas, span), span, &state.memory);
+    let most = most_new_pages(areas.again(), span, &state.memory);
     if !accounts::passes_limit(state, file, most) {
         return false;
     }
     // Only here does it matter what areas share.
-    let count = new_pages(meeting(areas, span), span, &state.memory);
+    let count = new_pages(areas, span, &state.memory);
     accounts::passes_limit(state, file, count)
 }
 

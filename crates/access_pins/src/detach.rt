@@ -3,15 +3,13 @@
 ghost use Rattle.std.specs.Prelude.{◌≡◌, ℕ};
 ghost use Rattle.iofd_words.specs.Checks.{access_detach_checks};
 ghost use Rattle.iofd_words.specs.FirstTrue.{first_true};
-ghost use Rattle.iofd_words.specs.Objects as objects;
 ghost use Rattle.iofd_words.specs.declared.event.Event.TheVariants as event;
-ghost use Rattle.server_state.specs.Held.{objects_in};
 ghost use Rattle.server_state.specs.Seen.{seen};
 ghost use Rattle.server_state.specs.Step.{IsGranted, Steps};
 
+use crate::asked::attached_to;
 use iofd_words::{Cause, FileNo, ObjId, ObjectKind, Reply};
-use object_table::ObjectTable;
-use server_state::{Held, State, access_changes, lookups};
+use server_state::{State, access_changes, lookups};
 use std::alloc::Allocator;
 
 /// Why it is refused, by the first row of the definitions that holds. None where nothing refuses it.
@@ -36,20 +34,6 @@ pub fn refusal<A: Allocator>(state: &State<A>, file: FileNo, id: ObjId) -> Optio
         return Some(Cause::InUse);
     }
     None
-}
-
-/// The address space to which the file's access object of this id is attached.
-pub(crate) fn attached_to<A: Allocator>(
-    table: &ObjectTable<Held<A>, A>,
-    file: FileNo,
-    id: ObjId,
-) -> Option<ObjId>
-    ensures { result ≡ objects.access_ioas_of (objects_in table.now) file id }
-{
-    match lookups::kind_of(table, file, id) {
-        Some(ObjectKind::Access { ioas }) => ioas,
-        _ => None,
-    }
 }
 
 /// What it does where nothing refuses it: the access object is attached to nothing, and may be attached anew or

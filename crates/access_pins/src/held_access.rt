@@ -1,7 +1,8 @@
 //! An access to what an access object has pinned: why it is refused, and the frame that it reaches.
 
-ghost use Rattle.std.specs.Prelude.{◌≡◌, is_some, IfSome, Some};
+ghost use Rattle.std.specs.Prelude.{◌≡◌, ◌∷◌, [], is_some, not, IfSome, Some};
 ghost use Rattle.std.specs.Option.{option_copied};
+ghost use Rattle.held_pins.specs.HeldPins.{is_covered};
 ghost use Rattle.iofd_words.specs.Accesses.{accessed_frame};
 ghost use Rattle.iofd_words.specs.Areas.{area_at};
 ghost use Rattle.iofd_words.specs.Checks.{held_access_checks};
@@ -13,6 +14,7 @@ ghost use Rattle.server_state.specs.Seen.{seen};
 ghost use Rattle.server_state.specs.Step.{IsKnown};
 ghost use Rattle.user_memory.specs.Memory.{pinned_frame};
 
+use held_pins::HeldPins;
 use iofd_words::{AccessKind, Area, Cause, FileNo, FrameNo, Iova, ObjId, ObjectKind, PAGE_SIZE};
 use object_table::ObjectTable;
 use server_state::accesses::crosses;
@@ -49,13 +51,29 @@ pub(crate) fn refusal<A: Allocator>(
     if crosses(iova.0, len) {
         return Some(Cause::Cross);
     }
-    if !state.access_pins.covers(file, id, iova.0, AccessKind::Read) {
-        return Some(Cause::NotHeld);
+    refusal_by_pins(&state.access_pins, file, id, iova.0, kind)
+}
+
+/// The same of its pins: where one covers the page and is for such an access, which is asked first, nothing refuses it.
+fn refusal_by_pins<A: Allocator>(
+    pins: &HeldPins<A>,
+    file: FileNo,
+    id: ObjId,
+    address: u64,
+    kind: AccessKind,
+) -> Option<Cause>
+    ensures { result ≡ first_true (
+        (Cause.NotHeld, not (is_covered pins.now file id address kinds.Read))
+        ∷ (Cause.Rights, not (is_covered pins.now file id address kind))
+        ∷ []) }
+{
+    if pins.covers(file, id, address, kind) {
+        return None;
     }
-    if !state.access_pins.covers(file, id, iova.0, kind) {
+    if pins.covers(file, id, address, AccessKind::Read) {
         return Some(Cause::Rights);
     }
-    None
+    Some(Cause::NotHeld)
 }
 
 /// The frame at which the page at the address is pinned, if a pin of the access object covers it; None elsewhere, and

@@ -6,7 +6,7 @@ ghost use Rattle.access_pages.specs.Runs as runs;
 ghost use Rattle.iofd_runs.specs.Fits.{begins_at_page, is_of_pages};
 ghost use Rattle.iofd_words.specs.Accesses.{has_gap, lacks_accessed_page, lacks_right, meets_leaving};
 ghost use Rattle.iofd_words.specs.Accesses.{meets_without_right, pin_of};
-ghost use Rattle.iofd_words.specs.Checks.{access_pin_checks, pin_checks_in};
+ghost use Rattle.iofd_words.specs.Checks.{access_pin_checks, passes_limit_accessed, pin_checks_in};
 ghost use Rattle.iofd_words.specs.FirstTrue.{first_true};
 ghost use Rattle.iofd_words.specs.Objects.{access_ioas_of};
 ghost use Rattle.iofd_words.specs.Pages.{is_whole};
@@ -19,8 +19,7 @@ ghost use Rattle.server_state.specs.Step.{IsGranted, IsKnown, Steps, TidyShowsSa
 ghost use Rattle.user_memory.specs.Memory.{frame_now, new_in_runs, run_lies};
 
 use crate::account::passes_limit;
-use crate::detach::attached_to;
-use crate::unpin::asked_pin;
+use crate::asked::{asked_pin, attached_to};
 use access_pages::{meeting, run_in};
 use area_map::{Areas, Iter};
 use iofd_words::{
@@ -137,13 +136,7 @@ fn refusal_in<A: Allocator>(
         // It is attached to an address space.
         unreachable!()
     };
-    if let Some(cause) = refusal_under(state, file, id, ioas, areas, span, request.write) {
-        return Some(cause);
-    }
-    if passes_limit(state, file, ioas, areas, span) {
-        return Some(Cause::Account);
-    }
-    None
+    refusal_under(state, file, id, ioas, areas, span, request.write)
 }
 
 /// Whether the length and the address are of whole pages.
@@ -153,14 +146,8 @@ fn are_pages(request: PinRequest) -> bool
     request.length % PAGE_SIZE == 0 && request.iova.0 % PAGE_SIZE == 0
 }
 
-/// Why a pin of the span is refused, but for the account, where these are the areas of the address space: the rows from
-/// `Cause::Span` to `Cause::Absent`.
-///
-/// Refused by 10 (ENOENT, `Cause::Span`) where some page lies in no area, then by 17 (EINVAL, `Cause::Leaving`) where
-/// an area under it is leaving, then by 16 (EPERM, `Cause::Rights`) where one lacks a right, then by 23 (ENOSPC,
-/// `Cause::Full`) where the access object holds 65,535 pins, and then by 8 (EFAULT, `Cause::Absent`) where a page isn't
-/// pinned and isn't in its user's memory.
-pub(crate) fn refusal_under<A: Allocator>(
+/// Why a pin of the span is refused, where these are the areas of the address space: the rows from `Cause::Span` on.
+fn refusal_under<A: Allocator>(
     state: &State<A>,
     file: FileNo,
     id: ObjId,
@@ -178,22 +165,50 @@ pub(crate) fn refusal_under<A: Allocator>(
         ∷ (Cause.Rights, meets_without_right span write ((seen state.now).areas_of file ioas))
         ∷ (Cause.Full, (seen state.now).has_most_pins file id)
         ∷ (Cause.Absent, lacks_accessed_page (seen state.now) file ioas span)
+        ∷ (Cause.Account, passes_limit_accessed (seen state.now) file ioas span)
         ∷ []) }
 {
     if has_gap(areas, span) {
         return Some(Cause::Span);
     }
-    if meets_leaving(areas, span) {
+    let met = meeting(areas, span);
+    if some_leaving(met.again()) {
         return Some(Cause::Leaving);
     }
-    if meets_without_right(areas, span, write) {
+    if some_without_right(met.again(), write) {
         return Some(Cause::Rights);
     }
     if state.access_pins.is_full(file, id) {
         return Some(Cause::Full);
     }
-    if lacks_accessed_page(state, file, ioas, areas, span) {
+    refusal_by_pages(state, file, ioas, areas, span, met)
+}
+
+/// The same of the pages that the areas which meet the span have in it: the rows `Cause::Absent` and `Cause::Account`.
+fn refusal_by_pages<A: Allocator>(
+    state: &State<A>,
+    file: FileNo,
+    ioas: ObjId,
+    areas: &Areas<A>,
+    span: Span,
+    met: Iter<'_, A>,
+) -> Option<Cause>
+    requires known { IsKnown state.now }
+    requires span { is_whole_pages span ≡ true }
+    requires there { areas_at state.now.objects.rows file ioas ≡ areas.now.areas }
+    requires met { met ≡ runs.meeting span areas.now.areas }
+    ensures { result ≡ first_true (
+        (Cause.Absent, lacks_accessed_page (seen state.now) file ioas span)
+        ∷ (Cause.Account, passes_limit_accessed (seen state.now) file ioas span)
+        ∷ []) }
+{
+    // Their clauses say that the areas are few, and that they and the span have addresses.
+    let _ = (areas.len(), span.first());
+    if lacks_page(met.again(), span, &state.memory) {
         return Some(Cause::Absent);
+    }
+    if passes_limit(state, file, met, span) {
+        return Some(Cause::Account);
     }
     None
 }
@@ -209,32 +224,20 @@ fn has_gap<A: Allocator>(areas: &Areas<A>, span: Span) -> bool
     areas.covered(span).is_err()
 }
 
-/// Whether an area that has an address in common with the span is leaving.
-#[tactic(auto, using(crate::proofs::PinAsked::any_met))]
-fn meets_leaving<A: Allocator>(areas: &Areas<A>, span: Span) -> bool
-    ensures { result ≡ meets_leaving span areas.now.areas }
+/// Whether one of the areas is leaving.
+fn some_leaving<A: Allocator>(areas: Iter<'_, A>) -> bool
+    ensures { result ≡ list_any (λ area. not (is_live area.phase)) areas.entry }
 {
-    some_leaving(areas, span)
-}
-
-fn some_leaving<A: Allocator>(areas: &Areas<A>, span: Span) -> bool
-    ensures { result ≡ list_any (λ area. not (is_live area.phase)) (runs.meeting span areas.now.areas) }
-{
-    meeting(areas, span).any(|area| is_leaving(area))
+    let mut left = areas;
+    left.any(|area| is_leaving(area))
 }
 
 /// Whether one doesn't give a right that is asked for: each pin is for reads, and some for writes too.
-#[tactic(auto, using(crate::proofs::PinAsked::any_met))]
-fn meets_without_right<A: Allocator>(areas: &Areas<A>, span: Span, write: bool) -> bool
-    ensures { result ≡ meets_without_right span write areas.now.areas }
+fn some_without_right<A: Allocator>(areas: Iter<'_, A>, write: bool) -> bool
+    ensures { result ≡ list_any (lacks_right write) areas.entry }
 {
-    some_without_right(areas, span, write)
-}
-
-fn some_without_right<A: Allocator>(areas: &Areas<A>, span: Span, write: bool) -> bool
-    ensures { result ≡ list_any (lacks_right write) (runs.meeting span areas.now.areas) }
-{
-    meeting(areas, span).any(|area| lacks_right(area, write))
+    let mut left = areas;
+    left.any(|area| lacks_right(area, write))
 }
 
 /// Whether the area is leaving.
@@ -249,25 +252,6 @@ fn lacks_right(area: &Area, write: bool) -> bool
     ensures { result ≡ lacks_right write area.now }
 {
     !area.rights.allow(AccessKind::Read) || write && !area.rights.allow(AccessKind::Write)
-}
-
-/// Whether a page that a pin of the span would pin isn't pinned, and isn't in its user's memory. The areas are those of
-/// the address space.
-fn lacks_accessed_page<A: Allocator>(
-    state: &State<A>,
-    file: FileNo,
-    ioas: ObjId,
-    areas: &Areas<A>,
-    span: Span,
-) -> bool
-    requires known { IsKnown state.now }
-    requires span { is_whole_pages span ≡ true }
-    requires there { areas_at state.now.objects.rows file ioas ≡ areas.now.areas }
-    ensures { result ≡ lacks_accessed_page (seen state.now) file ioas span }
-{
-    // The areas and the span have addresses.
-    let _ = (areas.len(), span.first());
-    lacks_page(meeting(areas, span), span, &state.memory)
 }
 
 /// Whether a page of these areas, which meet the span, isn't pinned, and isn't in its user's memory.

@@ -1,12 +1,11 @@
 //! AccessUnpin: an access object lets a pin go.
 
-ghost use Rattle.std.specs.Prelude.{◌≡◌, ◌<◌, ℕ, false, Some, IfSome, IsSome};
+ghost use Rattle.std.specs.Prelude.{◌≡◌, ℕ, Some};
 ghost use Rattle.std.specs.List.{list_any};
 ghost use Rattle.iofd_words.specs.Accesses.{pin_of};
 ghost use Rattle.iofd_words.specs.Checks.{access_unpin_checks};
 ghost use Rattle.iofd_words.specs.FirstTrue.{first_true};
 ghost use Rattle.iofd_words.specs.Objects.{access_ioas_of};
-ghost use Rattle.iofd_words.specs.Pages.{is_above_sum};
 ghost use Rattle.iofd_words.specs.Pins.{is_equal};
 ghost use Rattle.iofd_words.specs.declared.event.Event.TheVariants as event;
 ghost use Rattle.server_state.specs.AccessPins.{row_of};
@@ -14,9 +13,8 @@ ghost use Rattle.server_state.specs.Held.{objects_in};
 ghost use Rattle.server_state.specs.Seen.{seen};
 ghost use Rattle.server_state.specs.Step.{IsGranted, IsKnown, Steps};
 
-use crate::detach::attached_to;
-use held_pins::HeldPin;
-use iofd_words::{Cause, FileNo, ObjId, ObjectKind, PinRequest, Reply, Span};
+use crate::asked::{asked_pin, attached_to};
+use iofd_words::{Cause, FileNo, ObjId, ObjectKind, PinRequest, Reply};
 use server_state::{State, lookups};
 use std::alloc::Allocator;
 
@@ -81,27 +79,6 @@ pub fn commit<A: Allocator + Copy>(
     access_pages::unpin_all(areas, pin.span, &mut state.memory, &mut state.pool);
     state.access_pins.unpin(pin);
     Reply::Done
-}
-
-/// The pin that is asked for, in this address space; None where it has no pages, or some at no address.
-pub(crate) fn asked_pin(
-    file: FileNo,
-    id: ObjId,
-    ioas: ObjId,
-    request: PinRequest,
-) -> Option<HeldPin>
-    ensures row { IfSome result (λ pin. row_of pin ≡ pin_of file id request) }
-    ensures space { IfSome result (λ pin. pin.ioas ≡ ioas) }
-    ensures some { 0 < request.length → is_above_sum request.iova.0 request.length ≡ false → IsSome result }
-{
-    let span = Span::of_length(request.iova.0, request.length)?;
-    Some(HeldPin {
-        file,
-        access: id,
-        ioas,
-        span,
-        write: request.write,
-    })
 }
 
 /// Whether the access object, which is attached to the address space, holds such a pin. Of no addresses, or of some

@@ -1,6 +1,6 @@
 -- What is asked of the counts is so of the pins.
-use Rattle.std.proofs.Common.{◌≡◌, ℕ, ◌+◌, ◌/◌, ◌<◌, ◌≤◌, Bool, true, false, ◌&&◌, ◌==◌, not, List, refl, ap, sym}
-use Rattle.std.proofs.Common.{◌∙◌, arith}
+use Rattle.std.proofs.Common.{◌≡◌, ℕ, ◌+◌, ◌/◌, ◌<◌, ◌≤◌, Bool, true, false, cond, ◌&&◌, ◌||◌, ◌==◌, not, List, refl}
+use Rattle.std.proofs.Common.{ap, sym, ◌∙◌, arith}
 use Rattle.std.specs.Bool.{IsFalse, IsTrue}
 use Rattle.std.specs.List.{count_by, list_any}
 use Rattle.std.specs.Prelude.{nat_lt}
@@ -13,12 +13,12 @@ use Rattle.iofd_words.specs.declared.numbers.FileNo.{FileNo}
 use Rattle.iofd_words.specs.declared.numbers.ObjId.{ObjId}
 use Rattle.held_pins.specs.Counts.{count_in}
 use Rattle.held_pins.specs.Held.{IsTied, is_over, is_reached, is_tallied, page_cmp, page_in, pins_of, tally}
-use Rattle.held_pins.specs.Held.Tally.{Pinned, Written}
+use Rattle.held_pins.specs.Held.Tally.{Pinned}
 use Rattle.held_pins.specs.HeldPins.{is_covered, is_of, is_whole}
 use Rattle.held_pins.specs.declared.keys.PageKey.{PageKey}
 use Rattle.held_pins.specs.declared.pin.HeldPin.{HeldPin}
 use Rattle.held_pins.specs.declared.pin_counts.PinCounts.{PinCounts}
-use Rattle.held_pins.proofs.Lists.{any_alike, any_counted, passing}
+use Rattle.held_pins.proofs.Lists.{any_alike, any_counted, any_either, passing}
 use Rattle.held_pins.proofs.Order.{reached_test, to_reached}
 use Rattle.held_pins.proofs.Over.{met_over, page_covered, shared_page}
 use Rattle.held_pins.proofs.PageKeys.{from_test, to_test}
@@ -26,46 +26,71 @@ use Rattle.held_pins.proofs.Pins.{Rows}
 
 -- ---- is the page at the address covered
 
-read_alike : (f a p h : Bool) → p ≡ h → (f && a && a && p) ≡ (f && a && h && true)
-read_alike true true p h same = same ∙ with_true h
+-- whether a key is counted, of which the count was read by a key that is the same
+pub counted_at : (rows : List (PageKey × ℕ)) (key same : PageKey) (n : ℕ) → n ≡ count_in page_cmp rows key
+    → key ≡ same → nat_lt 0 n ≡ nat_lt 0 (count_in page_cmp rows same)
+counted_at rows key same n read is = ap (λ m. nat_lt 0 m) (read ∙ ap (λ k. count_in page_cmp rows k) is)
+
+kind_alike : (f a w u p h : Bool) → w ≡ u → p ≡ h → (f && a && a && w && p) ≡ (f && a && h && u)
+kind_alike true true w u p h kind same = rw (kind, same) (swapped u h)
   where
-    with_true : (b : Bool) → b ≡ (b && true)
-    with_true true = refl
-    with_true false = refl
-read_alike true false p h same = refl
-read_alike false a p h same = refl
+    swapped : (x y : Bool) → (x && y) ≡ (y && x)
+    swapped true true = refl
+    swapped true false = refl
+    swapped false true = refl
+    swapped false false = refl
+kind_alike true false w u p h kind same = refl
+kind_alike false a w u p h kind same = refl
 
-write_alike : (f a p h w : Bool) → p ≡ h → (f && a && a && p && w) ≡ (f && a && h && w)
-write_alike true true p h w same = ap (λ b. b && w) same
-write_alike true false p h w same = refl
-write_alike false a p h w same = refl
+module _ {A : Type 0} (spans : Rows) (counts : PinCounts A) (file : FileNo) (access : ObjId) (address : ℕ)
+    (tied : IsTied spans counts) where
+  -- the pin is of the access object, covers the page at the address, and is for what is wanted
+  abbrev covered_for : (Bool → Bool) → HeldPin → Bool
+  covered_for wanted pin = is_of file access pin && holds pin.span address && wanted pin.write
 
-module _ {A : Type 0} where
-  pub read_covered : (spans : Rows) (counts : PinCounts A) (file : FileNo) (access : ObjId) (address : ℕ)
-      → IsTied spans counts
-      → nat_lt 0 (tally counts (Pinned (page_in file access address access)))
-      ≡ is_covered (pins_of spans) file access address Read
-  read_covered spans counts file access address tied =
-      let what = Pinned (page_in file access address access) in
+  abbrev page_for : Bool → PageKey
+  page_for write = page_in file access address access write
+
+  -- the page is counted for writes too, or for reads alone, where a pin for just that covers it
+  counted_for : (write : Bool) (wanted : Bool → Bool) → ((b : Bool) → cond b write (not write) ≡ wanted b)
+      → nat_lt 0 (tally counts (Pinned (page_for write))) ≡ list_any (covered_for wanted) (pins_of spans)
+  counted_for write wanted just =
+      let what = Pinned (page_for write) in
       ap (λ n. nat_lt 0 n) (tied.tallied what)
       ∙ sym (any_counted (is_tallied what) (pins_of spans))
-      ∙ any_alike is_whole (is_tallied what) (λ pin. is_of file access pin && holds pin.span address && true)
-      (pins_of spans) tied.whole
-      (λ pin whole. read_alike (pin.file.0 == file.0) (pin.access.0 == access.0) _ (holds pin.span address)
-      (page_covered pin address whole))
+      ∙ any_alike is_whole (is_tallied what) (covered_for wanted) (pins_of spans) tied.whole
+      (λ pin whole. kind_alike (pin.file.0 == file.0) (pin.access.0 == access.0) _ (wanted pin.write) _
+      (holds pin.span address) (just pin.write) (page_covered pin address whole))
 
-  pub write_covered : (spans : Rows) (counts : PinCounts A) (file : FileNo) (access : ObjId) (address : ℕ)
-      → IsTied spans counts
-      → nat_lt 0 (tally counts (Written (page_in file access address access)))
+  pub write_covered : nat_lt 0 (tally counts (Pinned (page_for true)))
       ≡ is_covered (pins_of spans) file access address Write
-  write_covered spans counts file access address tied =
-      let what = Written (page_in file access address access) in
-      ap (λ n. nat_lt 0 n) (tied.tallied what)
-      ∙ sym (any_counted (is_tallied what) (pins_of spans))
-      ∙ any_alike is_whole (is_tallied what) (λ pin. is_of file access pin && holds pin.span address && pin.write)
-      (pins_of spans) tied.whole
-      (λ pin whole. write_alike (pin.file.0 == file.0) (pin.access.0 == access.0) _ (holds pin.span address) pin.write
-      (page_covered pin address whole))
+  write_covered = counted_for true (λ write. write) for_writes
+    where
+      for_writes : (b : Bool) → cond b true false ≡ b
+      for_writes true = refl
+      for_writes false = refl
+
+  -- each pin is for reads; `write` is whether the page is counted for writes
+  pub read_covered : (write : Bool) → nat_lt 0 (tally counts (Pinned (page_for true))) ≡ write
+      → (write || nat_lt 0 (tally counts (Pinned (page_for false))))
+      ≡ is_covered (pins_of spans) file access address Read
+  read_covered write is =
+      ap (λ (b : Bool). b || nat_lt 0 (tally counts (Pinned (page_for false)))) (sym is ∙ write_covered)
+      ∙ ap (λ (b : Bool). is_covered (pins_of spans) file access address Write || b)
+      (counted_for false (λ write. not write) for_reads)
+      ∙ sym (any_either (covered_for (λ write. write)) (covered_for (λ write. not write)) (pins_of spans))
+      ∙ any_alike is_whole (λ pin. covered_for (λ write. write) pin || covered_for (λ write. not write) pin)
+      (covered_for (λ write. true)) (pins_of spans) tied.whole
+      (λ pin whole. for_either (is_of file access pin && holds pin.span address) pin.write)
+    where
+      for_reads : (b : Bool) → cond b false true ≡ not b
+      for_reads true = refl
+      for_reads false = refl
+
+      for_either : (there write : Bool) → ((there && write) || (there && not write)) ≡ (there && true)
+      for_either true true = refl
+      for_either true false = refl
+      for_either false write = refl
 
 -- ---- does some pin of an object meet the span
 
@@ -83,6 +108,18 @@ module _ (object_of : HeldPin → ObjId) (rows : List (PageKey × ℕ)) (pins : 
   abbrev is_met : HeldPin → Bool
   is_met pin = pin.file.0 == file.0 && (object_of pin).0 == object.0 && meets pin.span span
 
+  -- a pin that covers a page which the span reaches meets the span
+  over_met : (pin : HeldPin) (key : PageKey) → is_whole pin ≡ true → is_reached file object span key ≡ true
+      → is_over (object_of pin) pin key ≡ true → is_met pin ≡ true
+  over_met pin key good reached is =
+      let there = reached_test file object span key reached in
+      let here = from_test (page_in pin.file (object_of pin) pin.span.first pin.access pin.write)
+      (pin.span.last / 4096 + 1) key is in
+      rw (
+        same_number pin.file.0 file.0 (here.file ∙ there.same_file),
+        same_number (object_of pin).0 object.0 (here.object ∙ there.same_object),
+      ) (met_over pin span key.page good here.from here.below there.from there.to)
+
   met_there : (key : PageKey) → is_reached file object span key ≡ true → 0 < count_in page_cmp rows key
       → list_any is_met pins ≡ true
   met_there key reached counted =
@@ -90,14 +127,36 @@ module _ (object_of : HeldPin → ObjId) (rows : List (PageKey × ℕ)) (pins : 
       let many : 0 < count_by test pins = rw (← over key) counted in
       let some : nat_lt 0 (count_by test pins) ≡ true = grind (arith, nat_tests) in
       let found = passing is_whole test pins whole (any_counted test pins ∙ some) in
-      let there = reached_test file object span key reached in
-      let here = from_test (page_in found.it.file (object_of found.it) found.it.span.first found.it.access) _ key
-      found.passes in
-      found.among is_met
-      (rw (
-        same_number found.it.file.0 file.0 (here.file ∙ there.same_file),
-        same_number (object_of found.it).0 object.0 (here.object ∙ there.same_object),
-      ) (met_over found.it span key.page found.is_good here.from here.below there.from there.to))
+      found.among is_met (over_met found.it key found.is_good reached found.passes)
+
+  -- a pin that meets the span covers a page which the span reaches
+  met_page : span.first ≤ span.last → (pin : HeldPin) → is_whole pin ≡ true → is_met pin ≡ true
+      → (key : PageKey) × (is_reached file object span key ≡ true) × (is_over (object_of pin) pin key ≡ true)
+  met_page ordered pin good met =
+      let outer = and_parts (pin.file.0 == file.0 && (object_of pin).0 == object.0) (meets pin.span span) met in
+      let inner = and_parts (pin.file.0 == file.0) ((object_of pin).0 == object.0) outer.0 in
+      let shared = shared_page pin span good ordered outer.1 in
+      let key : PageKey = record {
+        file = pin.file.0;
+        object = (object_of pin).0;
+        page = shared.page;
+        access = pin.access.0;
+        write = pin.write;
+      } in
+      let same_file = number pin.file.0 file.0 inner.0 in
+      let same_object = number (object_of pin).0 object.0 inner.1 in (
+        key,
+        to_reached file object span key same_file same_object shared.from shared.to,
+        to_test (page_in pin.file (object_of pin) pin.span.first pin.access pin.write) (pin.span.last / 4096 + 1) key
+            (record {
+              file = refl;
+              object = refl;
+              access = refl;
+              write = refl;
+              from = shared.begins;
+              below = shared.ends;
+            }),
+      )
 
   none_there : span.first ≤ span.last
       → ((key : PageKey) → is_reached file object span key ≡ true → count_in page_cmp rows key ≡ 0)
@@ -105,25 +164,11 @@ module _ (object_of : HeldPin → ObjId) (rows : List (PageKey × ℕ)) (pins : 
   none_there ordered none false met = refl
   none_there ordered none true met =
       let found = passing is_whole is_met pins whole met in
-      let outer = and_parts (found.it.file.0 == file.0 && (object_of found.it).0 == object.0)
-      (meets found.it.span span) found.passes in
-      let inner = and_parts (found.it.file.0 == file.0) ((object_of found.it).0 == object.0) outer.0 in
-      let shared = shared_page found.it span found.is_good ordered outer.1 in
-      let key : PageKey = record {
-        file = found.it.file.0;
-        object = (object_of found.it).0;
-        page = shared.page;
-        access = found.it.access.0;
-      } in
-      let test = λ (pin : HeldPin). is_over (object_of pin) pin key in
-      let is = to_test (page_in found.it.file (object_of found.it) found.it.span.first found.it.access)
-      (found.it.span.last / 4096 + 1) key
-      (record { file = refl; object = refl; access = refl; from = shared.begins; below = shared.ends }) in
-      let some : nat_lt 0 (count_by test pins) ≡ true = sym (any_counted test pins) ∙ found.among test is in
+      let shared = met_page ordered found.it found.is_good found.passes in
+      let test = λ (pin : HeldPin). is_over (object_of pin) pin shared.0 in
+      let some : nat_lt 0 (count_by test pins) ≡ true = sym (any_counted test pins) ∙ found.among test shared.2 in
       let many : 0 < count_by test pins = search (some, arith, nat_tests) in
-      let reached = to_reached file object span key (number found.it.file.0 file.0 inner.0)
-      (number (object_of found.it).0 object.0 inner.1) shared.from shared.to in
-      absurd (omega (arith, over key, none key reached, many))
+      absurd (omega (arith, over shared.0, none shared.0 shared.1, many))
 
   pub met : span.first ≤ span.last → (b : Bool)
       → (IsTrue b → ((key : PageKey) × IsTrue (is_reached file object span key) × (0 < count_in page_cmp rows key)))

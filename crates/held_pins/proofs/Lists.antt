@@ -21,6 +21,22 @@ any_counted test (x ∷ xs) = rw (counted_first test x xs) (by_test (test x) (an
     by_test true rest = grind (arith, nat_tests)
     by_test false rest = rest ∙ ap (λ n. nat_lt 0 n) (omega arith)
 
+-- one of two tests finds where either does
+pub any_either : {X : Type 0} (p q : X → Bool) (xs : List X)
+    → list_any (λ x. p x || q x) xs ≡ (list_any p xs || list_any q xs)
+any_either p q [] = refl
+any_either p q (x ∷ xs) = ap (λ later. (p x || q x) || later) (any_either p q xs) ∙ sorted (p x) (q x)
+  where
+    sorted : (a b : Bool)
+        → ((a || b) || (list_any p xs || list_any q xs)) ≡ ((a || list_any p xs) || (b || list_any q xs))
+    sorted true b = refl
+    sorted false true = or_true (list_any p xs)
+      where
+        or_true : (c : Bool) → true ≡ (c || true)
+        or_true true = refl
+        or_true false = refl
+    sorted false false = refl
+
 pub count_all : {X : Type 0} (xs : List X) → count_by (λ _. true) xs ≡ length xs
 count_all [] = refl
 count_all (x ∷ xs) = omega (arith, counted_first (λ _. true) x xs, count_all xs)

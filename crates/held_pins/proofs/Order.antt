@@ -1,7 +1,7 @@
 -- Pages of one object stand side by side, by number.
 use Rattle.std.proofs.Common.{◌≡◌, ℕ, ◌/◌, ◌≤◌, ◌<◌, Bool, true, false, ◌&&◌, ◌==◌, refl, sym, ◌∙◌, arith}
 use Rattle.std.specs.BTreeMap.Range.{IsLeBy}
-use Rattle.std.specs.Ordering.{is_gt, nat_cmp, ordering_then}
+use Rattle.std.specs.Ordering.{bool_cmp, is_gt, nat_cmp, ordering_then}
 use Rattle.std.specs.Prelude.{nat_le, nat_lt}
 use Rattle.std.specs.declared.cmp.Ordering.{Ordering}
 use Rattle.std.specs.declared.cmp.Ordering.TheVariants.{Less, Equal, Greater}
@@ -100,13 +100,18 @@ to_reached file object span key same_file same_object from to =
 -- first page on
 module _ (file : FileNo) (object : ObjId) (span : Bounds) where
   abbrev start : PageKey
-  start = page_in file object span.first (record { 0 = 0 })
+  start = page_in file object span.first (record { 0 = 0 }) false
 
   from_start : (key : PageKey) → Reached file object span key → IsLeBy page_cmp start key
   from_start key is =
       joined_same file.0 key.file _ (sym is.same_file)
       (joined_same object.0 key.object _ (sym is.same_object)
-      (joined_less (span.first / 4096) key.page _ is.from (not_gt 0 key.access (omega arith))))
+      (joined_less (span.first / 4096) key.page _ is.from
+      (joined_less 0 key.access (bool_cmp false key.write) (omega arith) (reads_first key.write))))
+    where
+      reads_first : (write : Bool) → is_gt (bool_cmp false write) ≡ false
+      reads_first true = refl
+      reads_first false = refl
 
   between : (least key : PageKey) → IsLeBy page_cmp start least → IsLeBy page_cmp least key
       → Reached file object span key → is_reached file object span least ≡ true

@@ -1,13 +1,14 @@
 -- Pages of one object as keys, one after the other.
-use Rattle.std.proofs.Common.{◌≡◌, ℕ, ◌+◌, ◌≤◌, ◌<◌, Bool, true, false, ◌&&◌, ◌==◌, cond, refl, ap, sym, ◌∙◌, arith}
+use Rattle.std.proofs.Common.{◌≡◌, ℕ, ◌+◌, ◌≤◌, ◌<◌, Bool, true, false, ◌&&◌, ◌==◌, cond, not, refl, ap, sym}
+use Rattle.std.proofs.Common.{◌∙◌, arith}
 use Rattle.std.specs.BTreeMap.{is_at}
-use Rattle.std.specs.Ordering.{nat_cmp}
+use Rattle.std.specs.Ordering.{bool_cmp}
 use Rattle.std.specs.Prelude.{nat_le, nat_lt}
 use Rattle.std.proofs.lemmas.Bool.{and_parts}
 use Rattle.std.proofs.lemmas.Bool.Decides.{nat_tests}
 use Rattle.held_pins.specs.Held.{at_page, is_from, page_cmp}
 use Rattle.held_pins.specs.declared.keys.PageKey.{PageKey}
-use Rattle.held_pins.proofs.PinKeys.{numbers_eq, then_eq}
+use Rattle.held_pins.proofs.PinKeys.{alike_bools, bools_eq, same_bools, then_eq}
 
 -- once where it is so
 abbrev pub once : Bool → ℕ
@@ -18,18 +19,21 @@ pub one_further : (first key : PageKey) (page : ℕ) → first.page ≤ page
     → once (is_from first (page + 1) key)
     ≡ once (is_from first page key) + once (is_at (page_cmp (at_page first page)) key)
 one_further first key page from =
-    rw same
-    (by_object (first.file == key.file) (first.object == key.object) (first.access == key.access))
+    rw same (by_object (first.file == key.file) (first.object == key.object) (first.access == key.access) alike)
   where
+    alike : Bool
+    alike = cond first.write key.write (not key.write)
+
     same : is_at (page_cmp (at_page first page)) key
         ≡ ((first.file == key.file) && ((first.object == key.object)
-        && ((page == key.page) && (first.access == key.access))))
+        && ((page == key.page) && ((first.access == key.access) && alike))))
     same =
         then_eq first.file key.file _
-        ((first.object == key.object) && ((page == key.page) && (first.access == key.access)))
-        (then_eq first.object key.object _ ((page == key.page) && (first.access == key.access))
-        (then_eq page key.page (nat_cmp first.access key.access) (first.access == key.access)
-        (numbers_eq first.access key.access)))
+        ((first.object == key.object) && ((page == key.page) && ((first.access == key.access) && alike)))
+        (then_eq first.object key.object _ ((page == key.page) && ((first.access == key.access) && alike))
+        (then_eq page key.page _ ((first.access == key.access) && alike)
+        (then_eq first.access key.access (bool_cmp first.write key.write) alike
+        (bools_eq first.write key.write))))
 
     by_number : (from : ℕ) (n : ℕ) → from ≤ page → once (nat_le from n && nat_lt n (page + 1))
         ≡ once (nat_le from n && nat_lt n page) + once (page == n)
@@ -43,21 +47,23 @@ one_further first key page from =
     nowhere true = refl
     nowhere false = refl
 
-    by_object : (a b c : Bool)
-        → once (a && b && c && (nat_le first.page key.page && nat_lt key.page (page + 1)))
-        ≡ once (a && b && c && (nat_le first.page key.page && nat_lt key.page page))
-        + once (a && (b && ((page == key.page) && c)))
-    by_object true true true =
+    by_object : (a b c w : Bool)
+        → once (a && b && c && w && (nat_le first.page key.page && nat_lt key.page (page + 1)))
+        ≡ once (a && b && c && w && (nat_le first.page key.page && nat_lt key.page page))
+        + once (a && (b && ((page == key.page) && (c && w))))
+    by_object true true true true =
         by_number first.page key.page from
         ∙ ap (λ n. once (nat_le first.page key.page && nat_lt key.page page) + n) (sym (by_page (page == key.page)))
-    by_object true true false = nowhere (page == key.page)
-    by_object true false c = refl
-    by_object false b c = refl
+    by_object true true true false = nowhere (page == key.page)
+    by_object true true false w = nowhere (page == key.page)
+    by_object true false c w = refl
+    by_object false b c w = refl
 
 -- none are from a page on and below it
 pub none_between : (first key : PageKey) → is_from first first.page key ≡ false
 none_between first key =
-    by_object (first.file == key.file && first.object == key.object && first.access == key.access)
+    by_object (first.file == key.file && first.object == key.object && first.access == key.access
+    && cond first.write key.write (not key.write))
   where
     by_number : (x n : ℕ) → (nat_le x n && nat_lt n x) ≡ false
     by_number x n = grind (arith, nat_tests)
@@ -69,7 +75,8 @@ none_between first key =
 -- nor is a page below itself
 pub not_before : (first : PageKey) (page : ℕ) → is_from first page (at_page first page) ≡ false
 not_before first page =
-    by_object (first.file == first.file && first.object == first.object && first.access == first.access)
+    by_object (first.file == first.file && first.object == first.object && first.access == first.access
+    && cond first.write first.write (not first.write))
   where
     by_number : (x n : ℕ) → (nat_le x n && nat_lt n n) ≡ false
     by_number x n = grind (arith, nat_tests)
@@ -82,21 +89,26 @@ pub record IsFrom (first : PageKey) (end : ℕ) (key : PageKey) : Type 0 where
   pub file : first.file ≡ key.file
   pub object : first.object ≡ key.object
   pub access : first.access ≡ key.access
+  pub write : first.write ≡ key.write
   pub from : first.page ≤ key.page
   pub below : key.page < end
 
 pub from_test : (first : PageKey) (end : ℕ) (key : PageKey) → is_from first end key ≡ true → IsFrom first end key
 from_test first end key is =
-    let outer = and_parts (first.file == key.file && first.object == key.object && first.access == key.access)
-    (nat_le first.page key.page && nat_lt key.page end) is in
-    let objects = and_parts (first.file == key.file && first.object == key.object) (first.access == key.access)
+    let alike = cond first.write key.write (not key.write) in
+    let outer = and_parts (first.file == key.file && first.object == key.object && first.access == key.access
+    && alike) (nat_le first.page key.page && nat_lt key.page end) is in
+    let uses = and_parts (first.file == key.file && first.object == key.object && first.access == key.access) alike
     outer.0 in
+    let objects = and_parts (first.file == key.file && first.object == key.object) (first.access == key.access)
+    uses.0 in
     let files = and_parts (first.file == key.file) (first.object == key.object) objects.0 in
     let pages = and_parts (nat_le first.page key.page) (nat_lt key.page end) outer.1 in
     record {
       file = search (files.0, arith, nat_tests);
       object = search (files.1, arith, nat_tests);
       access = search (objects.1, arith, nat_tests);
+      write = same_bools first.write key.write uses.1;
       from = search (pages.0, arith, nat_tests);
       below = search (pages.1, arith, nat_tests);
     }
@@ -110,6 +122,7 @@ to_test first end key is =
       same_number first.file key.file is.file,
       same_number first.object key.object is.object,
       same_number first.access key.access is.access,
+      alike_bools first.write key.write is.write,
     ) (inside first.page key.page is.from is.below)
   where
     inside : (x n : ℕ) → x ≤ n → n < end → (nat_le x n && nat_lt n end) ≡ true
@@ -120,4 +133,4 @@ pub at_from : (first : PageKey) (page end : ℕ) → first.page ≤ page → pag
     → is_from first end (at_page first page) ≡ true
 at_from first page end from below =
     to_test first end (at_page first page)
-    (record { file = refl; object = refl; access = refl; from = from; below = below })
+    (record { file = refl; object = refl; access = refl; write = refl; from = from; below = below })

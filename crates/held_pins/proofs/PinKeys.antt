@@ -73,14 +73,26 @@ same_keys a b passes = exact_keys a b (equal_from_test (key_cmp a b) passes)
 
 -- ---- a key is another's where its pin is
 
-pub numbers_eq : (x y : ℕ) → is_eq (nat_cmp x y) ≡ (x == y)
+numbers_eq : (x y : ℕ) → is_eq (nat_cmp x y) ≡ (x == y)
 numbers_eq x y = grind (arith, nat_tests)
 
-bools_eq : (a b : Bool) → is_eq (bool_cmp a b) ≡ cond a b (not b)
+pub bools_eq : (a b : Bool) → is_eq (bool_cmp a b) ≡ cond a b (not b)
 bools_eq true true = refl
 bools_eq true false = refl
 bools_eq false true = refl
 bools_eq false false = refl
+
+pub same_bools : (x y : Bool) → cond x y (not y) ≡ true → x ≡ y
+same_bools true true is = refl
+same_bools true false is = cc
+same_bools false true is = cc
+same_bools false false is = refl
+
+pub alike_bools : (x y : Bool) → x ≡ y → cond x y (not y) ≡ true
+alike_bools true true is = refl
+alike_bools true false is = cc
+alike_bools false true is = cc
+alike_bools false false is = refl
 
 -- of what is compared by a number first
 pub then_eq : (x y : ℕ) (o : Ordering) (later : Bool) → is_eq o ≡ later

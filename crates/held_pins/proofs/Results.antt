@@ -14,3 +14,7 @@ from_err (Err e) P bad said = said
 pub on_err : {X Y : Type 0} (result : Result X Y) (P : Type 0) → P → OnErr result P
 on_err (Ok x) P holds = tt
 on_err (Err e) P holds = holds
+
+pub err_so : {X Y : Type 0} (result : Result X Y) (P Q : Type 0) → (P → Q) → OnErr result P → OnErr result Q
+err_so (Ok x) P Q so said = tt
+err_so (Err e) P Q so said = so said

@@ -1,13 +1,11 @@
 -- What becomes of the rows of counts.
-use Rattle.std.proofs.Common.{◌≡◌, ℕ, ◌+◌, ◌-◌, ◌<◌, ◌==◌, Bool, true, false, cond, Option, Some, None, List, [], ◌∷◌}
-use Rattle.std.proofs.Common.{refl, sym, ap, arith}
+use Rattle.std.proofs.Common.{◌≡◌, ℕ, ◌+◌, ◌-◌, ◌<◌, ◌==◌, Bool, true, false, cond, Option, Some, List, [], ◌∷◌}
+use Rattle.std.proofs.Common.{refl, sym, ap, ◌∙◌, arith}
 use Rattle.std.specs.BTreeMap.{insert_entry, is_at}
 use Rattle.std.specs.Cmp.{IsTotalOrder}
 use Rattle.std.specs.List.Sorted.{IsStrictlySortedBy}
 use Rattle.std.specs.Map.{keys_of, lookup, remove_entry}
 use Rattle.std.specs.Option.{unwrap_or}
-use Rattle.std.specs.Prelude.{Result, Ok, Err}
-use Rattle.std.specs.Result.{OnErr, OnOk}
 use Rattle.std.specs.Ordering.{is_eq, match_ordering}
 use Rattle.std.specs.declared.cmp.Ordering.{Ordering}
 use Rattle.std.specs.declared.cmp.Ordering.TheVariants.{Less, Equal, Greater}
@@ -16,12 +14,6 @@ use Rattle.std.proofs.lemmas.Map.{lookup-none}
 use Rattle.std.proofs.lemmas.Map.Entries.{none_below_head}
 use Rattle.std.proofs.lemmas.Map.Keys.{sorted_tail}
 use Rattle.held_pins.specs.Counts.{ArePositive, count_in, one_less, one_more}
-
--- what is said of a good result holds, where a bad one would mean that nothing is found
-pub stored : {X Y : Type 0} (result : Result X Y) (P : Type 0) (found : Option ℕ) → 0 < unwrap_or found 0
-    → OnErr result (found ≡ None) → OnOk result P → P
-stored (Ok x) P found some absent said = said
-stored (Err e) P found some absent said = absurd (omega (arith, some, ap (λ (o : Option ℕ). unwrap_or o 0) absent))
 
 module _ {K : Type 0} (cmp : K → K → Ordering) where
   -- ---- each row's count stays positive
@@ -38,15 +30,27 @@ module _ {K : Type 0} (cmp : K → K → Ordering) where
       by_order Equal rest = (some, all.1)
       by_order Greater rest = (all.0, rest)
 
-  pub positive_removed : (test : K → Bool) (rows : List (K × ℕ)) → ArePositive rows
-      → ArePositive (remove_entry test rows)
-  positive_removed test [] all = tt
-  positive_removed test (row ∷ rows) all = by_test (test row.0) (positive_removed test rows all.1)
+  pub positive_less : (rows : List (K × ℕ)) (key : K) → ArePositive rows → ArePositive (one_less cmp rows key)
+  positive_less [] key all = tt
+  positive_less (row ∷ rows) key all = by_test (is_at (cmp key) row.0) (positive_less rows key all.1)
     where
-      by_test : (b : Bool) → ArePositive (remove_entry test rows)
-          → ArePositive (cond b rows (row ∷ remove_entry test rows))
-      by_test true rest = all.1
+      by_count : (b : Bool) → (row.1 == 1) ≡ b → ArePositive (cond b rows ((row.0, row.1 - 1) ∷ rows))
+      by_count true is = all.1
+      by_count false is =
+          let some : 0 < row.1 - 1 = grind (arith, nat_tests, all.0) in
+          (some, all.1)
+
+      by_test : (b : Bool) → ArePositive (one_less cmp rows key)
+          → ArePositive (cond b (cond (row.1 == 1) rows ((row.0, row.1 - 1) ∷ rows)) (row ∷ one_less cmp rows key))
+      by_test true rest = by_count (row.1 == 1) refl
       by_test false rest = (all.0, rest)
+
+  -- keys that compare alike are counted alike
+  alike_counted : IsTotalOrder cmp → (rows : List (K × ℕ)) (key other : K) → cmp key other ≡ Equal
+      → count_in cmp rows key ≡ count_in cmp rows other
+  alike_counted order rows key other is =
+      ap (λ (compare : K → Ordering). unwrap_or (lookup (is_at compare) rows) 0)
+      (λ i z. order.congr key other z is i)
 
   -- ---- one more
 
@@ -72,6 +76,22 @@ module _ {K : Type 0} (cmp : K → K → Ordering) where
           (lookup-none (is_at (cmp key)) rows (none_below_head order key row rows sorted is).1)
       by_order Equal is rest = refl
       by_order Greater is rest = ap (λ later. row ∷ later) rest
+
+  pub counted_more : IsTotalOrder cmp → (rows new : List (K × ℕ)) (key : K) (n : ℕ) → n ≡ count_in cmp rows key
+      → ((q : K) → lookup (is_at (cmp q)) new
+      ≡ cond (is_at (cmp key) q) (Some (n + 1)) (lookup (is_at (cmp q)) rows))
+      → (other : K) → count_in cmp new other ≡ count_in cmp rows other + cond (is_at (cmp key) other) 1 0
+  counted_more order rows new key n counts found other =
+      ap (λ (o : Option ℕ). unwrap_or o 0) (found other) ∙ by_order (cmp key other) refl
+    where
+      by_order : (o : Ordering) → cmp key other ≡ o
+          → unwrap_or (cond (is_eq o) (Some (n + 1)) (lookup (is_at (cmp other)) rows)) 0
+          ≡ count_in cmp rows other + cond (is_eq o) 1 0
+      by_order Less is = omega arith
+      by_order Equal is =
+          let same = alike_counted order rows key other is in
+          omega (arith, counts, same)
+      by_order Greater is = omega arith
 
   -- ---- one less
 
@@ -109,3 +129,18 @@ module _ {K : Type 0} (cmp : K → K → Ordering) where
           let other : (row.1 == 1) ≡ false = grind (arith, nat_tests) in
           sym (ap (λ (b : Bool). cond b rows ((row.0, row.1 - 1) ∷ rows)) other)
       by_order Greater is more rest = ap (λ later. row ∷ later) (rest more)
+
+  pub counted_less : IsTotalOrder cmp → (rows new : List (K × ℕ)) (key : K) (left : Option ℕ)
+      → unwrap_or left 0 + 1 ≡ count_in cmp rows key
+      → ((q : K) → lookup (is_at (cmp q)) new ≡ cond (is_at (cmp key) q) left (lookup (is_at (cmp q)) rows))
+      → (other : K) → count_in cmp new other + cond (is_at (cmp key) other) 1 0 ≡ count_in cmp rows other
+  counted_less order rows new key left counts found other =
+      ap (λ (o : Option ℕ). unwrap_or o 0 + cond (is_at (cmp key) other) 1 0) (found other)
+      ∙ by_order (cmp key other) refl
+    where
+      by_order : (o : Ordering) → cmp key other ≡ o
+          → unwrap_or (cond (is_eq o) left (lookup (is_at (cmp other)) rows)) 0 + cond (is_eq o) 1 0
+          ≡ count_in cmp rows other
+      by_order Less is = omega arith
+      by_order Equal is = counts ∙ alike_counted order rows key other is
+      by_order Greater is = omega arith

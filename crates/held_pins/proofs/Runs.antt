@@ -10,8 +10,8 @@ use Rattle.held_pins.specs.declared.keys.PageKey.{PageKey}
 use Rattle.held_pins.specs.declared.pin.HeldPin.{HeldPin}
 
 pub over_run : (pin : HeldPin) (object : ObjId) (first : PageKey) (end : ℕ)
-    → first ≡ page_in pin.file object pin.span.first pin.access → end ≡ pin.span.last / 4096 + 1 → (key : PageKey)
-    → is_from first end key ≡ is_over object pin key
+    → first ≡ page_in pin.file object pin.span.first pin.access pin.write → end ≡ pin.span.last / 4096 + 1
+    → (key : PageKey) → is_from first end key ≡ is_over object pin key
 over_run pin object first end begins ends key = λ i. is_from (begins i) (ends i) key
 
 -- a page there that isn't counted

@@ -10,13 +10,14 @@ use Rattle.held_pins.specs.Counts.{ArePositive}
 use Rattle.held_pins.specs.Held.{AreMore, AreThere, HaveRoom, IsTied, Lack, Tally, is_any, is_over, is_tallied}
 use Rattle.held_pins.specs.Held.{page_in, pins_of, tally}
 use Rattle.held_pins.specs.HeldPins.{HasOneMore, count_of, is_held, is_of, is_pin, is_whole}
-use Rattle.held_pins.specs.Held.Tally.{InSpace, OfHolder, Pinned, Written}
+use Rattle.held_pins.specs.Held.Tally.{InSpace, OfHolder, Pinned}
 use Rattle.held_pins.specs.declared.keys.HolderKey.{HolderKey}
 use Rattle.held_pins.specs.declared.keys.PageKey.{PageKey}
 use Rattle.held_pins.specs.declared.pin.HeldPin.{HeldPin}
 use Rattle.held_pins.specs.declared.pin_counts.PinCounts.{PinCounts}
 use Rattle.held_pins.proofs.Lists.{any_counted, count_more, passing}
 use Rattle.held_pins.proofs.PageKeys.{from_test}
+use Rattle.held_pins.proofs.PinKeys.{same_bools}
 use Rattle.held_pins.proofs.Pins.{Rows}
 
 -- ---- what is counted for two pins is counted for one holder
@@ -28,8 +29,8 @@ same_number x y same = grind (arith, nat_tests)
 of_same_key : (object other_object : ObjId) (pin other : HeldPin) (key : PageKey) → is_over object pin key ≡ true
     → is_over other_object other key ≡ true → is_of pin.file pin.access other ≡ true
 of_same_key object other_object pin other key is there =
-    let here = from_test (page_in pin.file object pin.span.first pin.access) _ key is in
-    let back = from_test (page_in other.file other_object other.span.first other.access) _ key there in
+    let here = from_test (page_in pin.file object pin.span.first pin.access pin.write) _ key is in
+    let back = from_test (page_in other.file other_object other.span.first other.access other.write) _ key there in
     rw (
       same_number other.file.0 pin.file.0 (back.file ∙ sym here.file),
       same_number other.access.0 pin.access.0 (back.access ∙ sym here.access),
@@ -38,10 +39,6 @@ of_same_key object other_object pin other key is there =
 same_holder : (what : Tally) (pin other : HeldPin) → is_tallied what pin ≡ true → is_tallied what other ≡ true
     → is_of pin.file pin.access other ≡ true
 same_holder (Pinned key) pin other is there = of_same_key pin.access other.access pin other key is there
-same_holder (Written key) pin other is there =
-    of_same_key pin.access other.access pin other key
-    (and_parts (is_over pin.access pin key) pin.write is).0
-    (and_parts (is_over other.access other key) other.write there).0
 same_holder (InSpace key) pin other is there = of_same_key pin.ioas other.ioas pin other key is there
 same_holder (OfHolder key) pin other is there =
     let here = and_parts (pin.file.0 == key.file) (pin.access.0 == key.access) is in
@@ -71,7 +68,7 @@ one_pin a b same =
     let ioas = number a.ioas.0 b.ioas.0 ioas_is.1 in
     let first = number a.span.first b.span.first first_is.1 in
     let last = number a.span.last b.span.last last_is.1 in
-    let write = both a.write b.write write_is.1 in
+    let write = same_bools a.write b.write write_is.1 in
     λ i. record {
       file = record { 0 = file i };
       access = record { 0 = access i };
@@ -82,12 +79,6 @@ one_pin a b same =
   where
     number : (x y : ℕ) → (x == y) ≡ true → x ≡ y
     number x y is = grind (arith, nat_tests)
-
-    both : (x y : Bool) → cond x y (not y) ≡ true → x ≡ y
-    both true true is = refl
-    both true false is = cc
-    both false true is = cc
-    both false false is = refl
 
 counted_held : (pins : List HeldPin) (pin : HeldPin) (test : HeldPin → Bool)
     → count_by (λ x. not (is_whole x)) pins ≡ 0 → is_held pins pin ≡ true → test pin ≡ true

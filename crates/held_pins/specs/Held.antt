@@ -52,11 +52,11 @@ pins_of (row ∷ rows) = replicate row.1 (pin_of row.0) ++ pins_of rows
 
 -- ---- their pages and holders as keys
 
--- by file, then by object, by page, and by access object
+-- by file, then by object, by page, and by access object; pinned for reads alone before pinned for writes too
 abbrev pub page_cmp : PageKey → PageKey → Ordering
 page_cmp a b =
     ordering_then (nat_cmp a.file b.file) (ordering_then (nat_cmp a.object b.object)
-    (ordering_then (nat_cmp a.page b.page) (nat_cmp a.access b.access)))
+    (ordering_then (nat_cmp a.page b.page) (ordering_then (nat_cmp a.access b.access) (bool_cmp a.write b.write))))
 
 abbrev pub holder_cmp : HolderKey → HolderKey → Ordering
 holder_cmp a b = ordering_then (nat_cmp a.file b.file) (nat_cmp a.access b.access)
@@ -64,60 +64,58 @@ holder_cmp a b = ordering_then (nat_cmp a.file b.file) (nat_cmp a.access b.acces
 abbrev pub holder_of : FileNo → ObjId → HolderKey
 holder_of file access = record { file = file.0; access = access.0 }
 
--- the page at an address of an object, as the access object has pinned it
-abbrev pub page_in : FileNo → ObjId → ℕ → ObjId → PageKey
-page_in file object address access =
-    record { file = file.0; object = object.0; page = address / 4096; access = access.0 }
+-- the page at an address of an object, as the access object has pinned it, for writes too or for reads alone
+abbrev pub page_in : FileNo → ObjId → ℕ → ObjId → Bool → PageKey
+page_in file object address access write =
+    record { file = file.0; object = object.0; page = address / 4096; access = access.0; write = write }
 
--- another page of the same object
+-- another page of the same object, pinned alike
 abbrev pub at_page : PageKey → ℕ → PageKey
-at_page key page = record { file = key.file; object = key.object; page = page; access = key.access }
+at_page key page =
+    record { file = key.file; object = key.object; page = page; access = key.access; write = key.write }
 
--- the second is of the same object as the first, from its page on and below the end
+-- the second is of the same object as the first and pinned alike, from its page on and below the end
 abbrev pub is_from : PageKey → ℕ → PageKey → Bool
 is_from first end key =
     first.file == key.file && first.object == key.object && first.access == key.access
-    && (nat_le first.page key.page && nat_lt key.page end)
+    && (if first.write then key.write else not key.write) && (nat_le first.page key.page && nat_lt key.page end)
 
--- the key is of this object, whoever pinned it, and of a page at which the span has an address
+-- the key is of this object, whoever pinned it and for what, and of a page at which the span has an address
 abbrev pub is_reached : FileNo → ObjId → Bounds → PageKey → Bool
 is_reached file object span key =
     key.file == file.0 && key.object == object.0 && nat_le (span.first / 4096) key.page
     && nat_le key.page (span.last / 4096)
 
--- the key is of a page that the pin covers, by who holds the pin; the object is this one of the pin's two, its access
--- object or its address space
+-- the key is of a page that the pin covers, by who holds the pin and for what; the object is this one of the pin's two,
+-- its access object or its address space
 abbrev pub is_over : ObjId → HeldPin → PageKey → Bool
-is_over object pin key = is_from (page_in pin.file object pin.span.first pin.access) (pin.span.last / 4096 + 1) key
+is_over object pin key =
+    is_from (page_in pin.file object pin.span.first pin.access pin.write) (pin.span.last / 4096 + 1) key
 
 -- ---- what is counted
 
--- a page by the access object that pinned it; the same, pinned for writes; a page by its address space, and then by the
--- access object that pinned it; and who holds pins
+-- a page by the access object that pinned it; a page by its address space, and then by the access object that pinned
+-- it; each of these for writes too or for reads alone; and who holds pins
 pub data Tally : Type 0 where
   Pinned : PageKey → Tally
-  Written : PageKey → Tally
   InSpace : PageKey → Tally
   OfHolder : HolderKey → Tally
 
 -- how often it is counted
 abbrev pub tally : {A : Type 0} → PinCounts A → Tally → ℕ
 tally counts (Pinned key) = count_in page_cmp counts.pages key
-tally counts (Written key) = count_in page_cmp counts.written key
 tally counts (InSpace key) = count_in page_cmp counts.spaces key
 tally counts (OfHolder key) = count_in holder_cmp counts.holders key
 
 -- whether it is counted for this pin
 abbrev pub is_tallied : Tally → HeldPin → Bool
 is_tallied (Pinned key) pin = is_over pin.access pin key
-is_tallied (Written key) pin = is_over pin.access pin key && pin.write
 is_tallied (InSpace key) pin = is_over pin.ioas pin key
 is_tallied (OfHolder key) pin = pin.file.0 == key.file && pin.access.0 == key.access
 
 -- pages by access object alone
 abbrev pub is_own : Tally → Bool
 is_own (Pinned key) = true
-is_own (Written key) = true
 is_own (InSpace key) = false
 is_own (OfHolder key) = false
 

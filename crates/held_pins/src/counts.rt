@@ -8,6 +8,7 @@ ghost use Rattle.held_pins.specs.Counts.{count_in, one_more, one_less, ArePositi
 use iofd_words::NoMemory;
 use std::alloc::{Allocator, Global};
 use std::collections::BTreeMap;
+use std::collections::btree_map::Entry;
 use std::marker::Model;
 
 /// How often each key is counted. A contract sees the rows of those that are, by rising key. Each call costs the
@@ -58,9 +59,11 @@ impl<K: Ord + Copy, A: Allocator> Counts<K, A> {
         ensures full { OnErr result (count_in K.cmp self.old key ≡ 0) }
         ensures err { OnErr result (self.new ≡ self.old) }
     {
-        let count = self.count(key);
-        match self.rows.insert(key, count + 1) {
-            Ok(_) => Ok(()),
+        match self.rows.entry(key) {
+            Ok(row) => {
+                *row.or_insert(0) += 1;
+                Ok(())
+            }
             Err(_) => Err(NoMemory),
         }
     }
@@ -75,11 +78,14 @@ impl<K: Ord + Copy, A: Allocator> Counts<K, A> {
             ≡ count_in K.cmp self.old other }
         ensures positive { ArePositive self.new }
     {
-        let count = self.count(key);
-        if count == 1 {
-            let _ = self.rows.remove(&key);
+        let Ok(Entry::Occupied(mut row)) = self.rows.entry(key) else {
+            // It has a row, and an entry takes memory only where there is none.
+            unreachable!()
+        };
+        if *row.get() == 1 {
+            let _ = row.remove();
         } else {
-            let _ = self.rows.insert(key, count - 1);
+            *row.get_mut() -= 1;
         }
     }
 

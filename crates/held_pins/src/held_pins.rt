@@ -87,10 +87,13 @@ impl<A: Allocator> HeldPins<A> {
     pub fn covers(&self, file: FileNo, access: ObjId, address: u64, kind: AccessKind) -> bool
         ensures { result ≡ is_covered self.now file access address kind }
     {
-        let page = PageKey::new(file, access, address, access);
+        let pages = &self.counts.pages;
+        let written = pages.count(PageKey::new(file, access, address, access, true)) > 0;
         match kind {
-            AccessKind::Read => self.counts.pages.count(page) > 0,
-            AccessKind::Write => self.counts.written.count(page) > 0,
+            AccessKind::Read => {
+                written || pages.count(PageKey::new(file, access, address, access, false)) > 0
+            }
+            AccessKind::Write => written,
         }
     }
 

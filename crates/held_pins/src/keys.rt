@@ -17,14 +17,15 @@ pub(crate) struct PinKey {
     pub write: bool,
 }
 
-/// A page of an object of a file, as an access object has pinned it. The object is the address space, or the access
-/// object itself. So pages of one object stand side by side, by number.
+/// A page of an object of a file, as an access object has pinned it, for writes too or for reads alone. The object is
+/// the address space, or the access object itself. So pages of one object stand side by side, by number.
 #[derive(Clone, Copy, PartialEq, Eq, PartialOrd, Ord)]
 pub(crate) struct PageKey {
     pub file: u16,
     pub object: u32,
     pub page: u64,
     pub access: u32,
+    pub write: bool,
 }
 
 /// An access object.
@@ -51,9 +52,9 @@ pub(crate) fn key_of(pin: &HeldPin) -> PinKey
 
 /// The key of the first page of a pin, of its access object or its address space.
 pub(crate) fn first_of(pin: &HeldPin, object: ObjId) -> PageKey
-    ensures { result ≡ page_in pin.now.file object pin.now.span.first pin.now.access }
+    ensures { result ≡ page_in pin.now.file object pin.now.span.first pin.now.access pin.now.write }
 {
-    PageKey::new(pin.file, object, pin.span.first(), pin.access)
+    PageKey::new(pin.file, object, pin.span.first(), pin.access, pin.write)
 }
 
 impl HolderKey {
@@ -69,19 +70,27 @@ impl HolderKey {
 }
 
 impl PageKey {
-    /// The key of the page at the address, in bytes, of an object of the file, pinned by the access object.
-    pub(crate) fn new(file: FileNo, object: ObjId, address: u64, access: ObjId) -> PageKey
-        ensures { result ≡ page_in file object address access }
+    /// The key of the page at the address, in bytes, of an object of the file, pinned by the access object, for writes
+    /// too where `write` is true.
+    pub(crate) fn new(
+        file: FileNo,
+        object: ObjId,
+        address: u64,
+        access: ObjId,
+        write: bool,
+    ) -> PageKey
+        ensures { result ≡ page_in file object address access write }
     {
         PageKey {
             file: file.0,
             object: object.0,
             page: address / PAGE_SIZE,
             access: access.0,
+            write,
         }
     }
 
-    /// The key of another page of the same object, by its number.
+    /// The key of another page of the same object, pinned alike, by its number.
     pub(crate) fn at(self, page: u64) -> PageKey
         ensures { result ≡ at_page self page }
     {
@@ -90,6 +99,7 @@ impl PageKey {
             object: self.object,
             page,
             access: self.access,
+            write: self.write,
         }
     }
 

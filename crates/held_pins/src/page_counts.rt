@@ -18,8 +18,8 @@ pub(crate) fn end_of(span: Span) -> u64
     span.last() / PAGE_SIZE + 1
 }
 
-/// Counts each page of the key's object, from the key's page on and below the end, once more. Its only error is want
-/// of memory; it comes only where one of them isn't counted yet, and leaves each count as it was.
+/// Counts each page of the key's object, from the key's page on and below the end, once more as the key is pinned. Its
+/// only error is want of memory; it comes only where one of them isn't counted yet, and leaves each count as it was.
 pub(crate) fn add_pages<A: Allocator + Copy>(
     counts: &mut Counts<PageKey, A>,
     first: PageKey,
@@ -43,8 +43,8 @@ pub(crate) fn add_pages<A: Allocator + Copy>(
     Ok(())
 }
 
-/// Counts each page of the key's object, from the key's page on and below the end, once less. They are counted. It
-/// takes no memory.
+/// Counts each page of the key's object, from the key's page on and below the end, once less as the key is pinned. They
+/// are counted. It takes no memory.
 pub(crate) fn remove_pages<A: Allocator + Copy>(
     counts: &mut Counts<PageKey, A>,
     first: PageKey,
@@ -60,7 +60,8 @@ pub(crate) fn remove_pages<A: Allocator + Copy>(
     }
 }
 
-/// Whether a page of the object is counted, by whichever access object, at which the span has an address.
+/// Whether a page of the object is counted, by whichever access object and whether for writes too or for reads alone,
+/// at which the span has an address.
 pub(crate) fn reaches<A: Allocator>(
     counts: &Counts<PageKey, A>,
     file: FileNo,
@@ -73,7 +74,7 @@ pub(crate) fn reaches<A: Allocator>(
         → count_in page_cmp counts.now key ≡ 0 }
     ensures ordered { span.first ≤ span.last }
 {
-    let least = PageKey::new(file, object, span.first(), ObjId(0));
+    let least = PageKey::new(file, object, span.first(), ObjId(0), false);
     match counts.first_from(least) {
         Some(key) => key.is_reached(file, object, span),
         None => false,

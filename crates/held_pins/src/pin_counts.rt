@@ -15,8 +15,6 @@ use std::alloc::{Allocator, Global};
 pub(crate) struct PinCounts<A: Allocator = Global> {
     /// By the access object that pinned it.
     pub(crate) pages: Counts<PageKey, A>,
-    /// The same, of pins for writes alone.
-    pub(crate) written: Counts<PageKey, A>,
     /// By the address space, and then by the access object that pinned it.
     pub(crate) spaces: Counts<PageKey, A>,
     pub(crate) holders: Counts<HolderKey, A>,
@@ -26,13 +24,11 @@ impl<A: Allocator + Copy> PinCounts<A> {
     /// Nothing is counted. It takes no memory.
     pub(crate) fn new(alloc: A) -> PinCounts<A>
         ensures pages { result.pages ≡ [] }
-        ensures written { result.written ≡ [] }
         ensures spaces { result.spaces ≡ [] }
         ensures holders { result.holders ≡ [] }
     {
         PinCounts {
             pages: Counts::new(alloc),
-            written: Counts::new(alloc),
             spaces: Counts::new(alloc),
             holders: Counts::new(alloc),
         }
@@ -63,7 +59,7 @@ impl<A: Allocator + Copy> PinCounts<A> {
         self.remove_shared(pin);
     }
 
-    /// Counts the pages of the pin by its access object, and where it is for writes among those too.
+    /// Counts the pages of the pin by its access object.
     fn add_own(&mut self, pin: &HeldPin) -> Result<(), NoMemory>
         requires { HaveRoom is_own self.old pin.now }
         ensures more { OnOk result (AreMore is_own self.old self.new pin.now) }
@@ -71,13 +67,7 @@ impl<A: Allocator + Copy> PinCounts<A> {
         ensures err { OnErr result (AreAlike self.new self.old) }
     {
         let first = first_of(pin, pin.access);
-        let end = end_of(pin.span);
-        add_pages(&mut self.pages, first, end)?;
-        if pin.write && add_pages(&mut self.written, first, end).is_err() {
-            remove_pages(&mut self.pages, first, end);
-            return Err(NoMemory);
-        }
-        Ok(())
+        add_pages(&mut self.pages, first, end_of(pin.span))
     }
 
     /// Counts the pages of the pin by its access object no longer.
@@ -86,11 +76,7 @@ impl<A: Allocator + Copy> PinCounts<A> {
         ensures { AreMore is_own self.new self.old pin.now }
     {
         let first = first_of(pin, pin.access);
-        let end = end_of(pin.span);
-        remove_pages(&mut self.pages, first, end);
-        if pin.write {
-            remove_pages(&mut self.written, first, end);
-        }
+        remove_pages(&mut self.pages, first, end_of(pin.span));
     }
 
     /// Counts the pages of the pin by its address space, and the pin by its access object.

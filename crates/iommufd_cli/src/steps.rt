@@ -22,8 +22,8 @@ const CALLER: PassNo = PassNo(0);
 const SHORT: usize = 64;
 
 /// Carries out a step of the script, and writes the line for it, in place of what `out` had: what the reply tells, or
-/// `12 Memory` where memory was wanting, and then nothing has changed. A line of ranges or of notices, which may be long,
-/// is answered in memory, and what `out` has isn't the answer then.
+/// `12 Memory` where memory was wanting, and then nothing has changed. A line of ranges or of notices, which may be
+/// long, is answered in memory, and what `out` has isn't the answer then.
 pub fn answer_step<A: Allocator + Copy>(
     alloc: A,
     core: &mut Core<A>,

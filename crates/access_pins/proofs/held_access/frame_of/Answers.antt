@@ -1,6 +1,6 @@
 use Rattle.std.proofs.Common.{◌≡◌, true, Option, is_some, ap, sym, ◌∙◌}
 use Rattle.access_pins.proofs.HeldFrames.{has_frame}
-use Rattle.iofd_words.specs.View.{View, view}
+use Rattle.iofd_words.specs.View.{View}
 use Rattle.iofd_words.specs.declared.fault.AccessKind.TheVariants.{Read}
 use Rattle.iofd_words.specs.declared.numbers.FrameNo.{FrameNo}
 use Rattle.server_state.proofs.ViewShown.{same_view}

@@ -2,7 +2,7 @@ use Rattle.std.proofs.Common.{◌≡◌, Bool, true, ◌&&◌, Option, None, Lis
 use Rattle.std.proofs.Common.{sym, ◌∙◌, arith}
 use Rattle.std.proofs.lemmas.Bool.Decides.{nat_tests}
 use Rattle.std.specs.List.{list_all}
-use Rattle.access_pins.proofs.Asked.{never_unattached, pin_ends}
+use Rattle.access_pins.proofs.AskedPins.{never_unattached, pin_ends}
 use Rattle.access_pins.proofs.HeldPins.{held_alike}
 use Rattle.access_pins.proofs.PinPlace.{space_there}
 use Rattle.access_pins.proofs.Pinned.{has_room, may_pin_met, pinned_shown_met, unheld, unpinned_same, whole_pages}

@@ -1,8 +1,8 @@
 use Rattle.std.proofs.Common.{List, refl, ap, subst, sym, ◌∙◌}
 use Rattle.std.specs.List.{list_all}
 use Rattle.access_pages.specs.Runs.{AreReleased, MayRelease, meeting, runs_in}
-use Rattle.access_pins.proofs.Asked.{never_unattached, pin_areas, pin_attached}
-use Rattle.access_pins.proofs.Asked.{held_fits, pin_ends}
+use Rattle.access_pins.proofs.AskedPins.{never_unattached, pin_areas, pin_attached}
+use Rattle.access_pins.proofs.AskedPins.{held_fits, pin_ends}
 use Rattle.access_pins.proofs.HeldPins.{held_alike}
 use Rattle.access_pins.proofs.PinPlace.{space_there}
 use Rattle.access_pins.proofs.Unpinned.{may_unpin, unpinned_shown}

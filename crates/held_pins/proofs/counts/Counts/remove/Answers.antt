@@ -1,61 +1,71 @@
-use Rattle.std.proofs.Common.{◌≡◌, ◌-◌, ◌<◌, ap, sym, ◌∙◌, arith}
+use Rattle.std.proofs.Common.{◌≡◌, ℕ, ◌-◌, ◌<◌, cond, Option, None, Some, ap, sym, ◌∙◌, arith, rules}
 use Rattle.std.specs.BTreeMap.{insert_entry, is_at}
-use Rattle.std.specs.Map.{lookup}
+use Rattle.std.specs.Map.{lookup, remove_entry}
+use Rattle.std.specs.Option.{unwrap_or}
 use Rattle.held_pins.specs.Counts.{count_in, one_less}
-use Rattle.held_pins.proofs.Rows.{inserted_less, positive_inserted, positive_removed, removed_less, stored}
+use Rattle.held_pins.proofs.Rows.{counted_less, inserted_less, positive_less, removed_less}
 use Rattle.held_pins.proofs.counts.Counts.remove.Goals as goal
+use Rattle.held_pins.proofs.counts.Counts.remove.Goals.{then-get-eq1, else-get-eq1}
+
+-- the key is counted so often as its row says
+is_counted : (g : _) (c : goal.Joined-get-eq1 g)
+    → count_in g.K.Ord.cmp c.self.inside.rows.entries c.args.key ≡ c.get.result.now
+is_counted g c =
+    let rows = c.self.inside.rows.entries in
+    let found : lookup (is_at (g.K.Ord.cmp c.args.key)) rows ≡ Some c.get.result.now = search rules in
+    ap (λ (o : Option ℕ). unwrap_or o 0) found
+
+-- the rows are those with the key counted once less
+is_less : (g : _) (c : goal.Joined-get-eq1 g)
+    → c.if-get-eq1.self-inside.rows.entries ≡ one_less g.K.Ord.cmp c.self.inside.rows.entries c.args.key
+is_less g c =
+    let cmp = g.K.Ord.cmp in
+    let rows = c.self.inside.rows.entries in
+    let new = c.if-get-eq1.self-inside.rows.entries in
+    let key = c.args.key in
+    let n = c.get.result.now in
+    let counted = is_counted g c in
+    let some : 0 < count_in cmp rows key = rw c.self.view_is c.requires in
+    elim c.if-get-eq1.branch [
+      | then-get-eq1 w ↦
+          let removed : new ≡ remove_entry (is_at (cmp key)) rows = search rules in
+          removed ∙ removed_less cmp rows key (counted ∙ w.if-get-eq1.true)
+      | else-get-eq1 w ↦
+          let written : new ≡ insert_entry cmp rows key (n - 1) = search rules in
+          let often : 1 < count_in cmp rows key = omega (arith, some, counted, w.if-get-eq1.false) in
+          written
+          ∙ ap (λ m. insert_entry cmp rows key (m - 1)) (sym counted)
+          ∙ inserted_less cmp g.met.K.Ord.total rows key c.in-Ok-Occupied.ensures.ordered often
+    ]
 
 pub invariant_of-self : goal.invariant_of-self
 invariant_of-self g c =
-    rw c.remove.ensures.entries
-    (positive_removed g.K.Ord.cmp (is_at (g.K.Ord.cmp c.args.key)) c.self.inside.rows.entries c.self.invariant)
+    rw (is_less g c) (positive_less g.K.Ord.cmp c.self.inside.rows.entries c.args.key c.self.invariant)
 
-pub returns-then-count-eq1-clause-positive : goal.returns-then-count-eq1-clause-positive
-returns-then-count-eq1-clause-positive g c = invariant_of-self g c
+pub returns-clause-positive : goal.returns-clause-positive
+returns-clause-positive g c = invariant_of-self g c
 
-pub returns-then-count-eq1-clause-rows : goal.returns-then-count-eq1-clause-rows
-returns-then-count-eq1-clause-rows g c =
+pub returns-clause-rows : goal.returns-clause-rows
+returns-clause-rows g c = is_less g c ∙ ap (λ seen. one_less g.K.Ord.cmp seen c.args.key) c.self.view_is
+
+pub returns-clause-counts : goal.returns-clause-counts
+returns-clause-counts g c other =
     let cmp = g.K.Ord.cmp in
     let rows = c.self.inside.rows.entries in
+    let new = c.if-get-eq1.self-inside.rows.entries in
     let key = c.args.key in
-    let once : count_in cmp rows key ≡ 1 =
-    ap (λ seen. count_in cmp seen key) c.self.view_is ∙ sym c.count-count.ensures ∙ c.if-count-eq1.true in
-    c.remove.ensures.entries ∙ removed_less cmp rows key once ∙ ap (λ seen. one_less cmp seen key) c.self.view_is
-
--- the row is written anew, as it is there
-abbrev rewritten : (g : _) (c : goal.After-insert g) → Type 0
-rewritten g c =
-    c.insert.new.self.entries
-    ≡ insert_entry g.K.Ord.cmp c.self.inside.rows.entries c.args.key (c.count-count.result - 1)
-
-is_rewritten : (g : _) (c : goal.After-insert g) → rewritten g c
-is_rewritten g c =
-    let cmp = g.K.Ord.cmp in
-    let rows = c.self.inside.rows.entries in
-    let some : 0 < count_in cmp rows c.args.key = rw c.self.view_is c.requires in
-    stored c.insert.result (rewritten g c) (lookup (is_at (cmp c.args.key)) rows) some c.insert.ensures.absent
-    c.insert.ensures.entries
-
-pub returns-else-count-eq1-clause-rows : goal.returns-else-count-eq1-clause-rows
-returns-else-count-eq1-clause-rows g c =
-    let cmp = g.K.Ord.cmp in
-    let rows = c.self.inside.rows.entries in
-    let key = c.args.key in
-    let counted : c.count-count.result ≡ count_in cmp rows key =
-    c.count-count.ensures ∙ sym (ap (λ seen. count_in cmp seen key) c.self.view_is) in
+    let n = c.get.result.now in
+    let counted = is_counted g c in
     let some : 0 < count_in cmp rows key = rw c.self.view_is c.requires in
-    let often : 1 < count_in cmp rows key = omega (arith, some, counted, c.if-count-eq1.false) in
-    is_rewritten g c
-    ∙ ap (λ n. insert_entry cmp rows key (n - 1)) counted
-    ∙ inserted_less cmp g.met.K.Ord.total rows key c.insert.ensures.was_ordered often
-    ∙ ap (λ seen. one_less cmp seen key) c.self.view_is
-
-pub invariant_of-self-else-count-eq1 : goal.invariant_of-self-else-count-eq1
-invariant_of-self-else-count-eq1 g c =
-    let counted : 0 < c.count-count.result = rw c.count-count.ensures c.requires in
-    let some : 0 < c.count-count.result - 1 = omega (arith, counted, c.if-count-eq1.false) in
-    rw (is_rewritten g c) (positive_inserted g.K.Ord.cmp c.self.inside.rows.entries c.args.key
-    (c.count-count.result - 1) some c.self.invariant)
-
-pub returns-else-count-eq1-clause-positive : goal.returns-else-count-eq1-clause-positive
-returns-else-count-eq1-clause-positive g c = invariant_of-self-else-count-eq1 g c
+    elim c.if-get-eq1.branch [
+      | then-get-eq1 w ↦
+          let removed : (q : _) → lookup (is_at (cmp q)) new
+          ≡ cond (is_at (cmp key) q) None (lookup (is_at (cmp q)) rows) = λ q. search rules in
+          counted_less cmp g.met.K.Ord.total rows new key None (sym (counted ∙ w.if-get-eq1.true)) removed other
+          ∙ ap (λ seen. count_in cmp seen other) c.self.view_is
+      | else-get-eq1 w ↦
+          let written : (q : _) → lookup (is_at (cmp q)) new
+          ≡ cond (is_at (cmp key) q) (Some (n - 1)) (lookup (is_at (cmp q)) rows) = λ q. search rules in
+          counted_less cmp g.met.K.Ord.total rows new key (Some (n - 1)) (omega (arith, some, counted)) written other
+          ∙ ap (λ seen. count_in cmp seen other) c.self.view_is
+    ]

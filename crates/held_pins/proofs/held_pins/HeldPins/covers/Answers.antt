@@ -1,19 +1,36 @@
-use Rattle.std.proofs.Common.{ap, sym, ◌∙◌}
+use Rattle.std.proofs.Common.{◌≡◌, true, false, ap, sym, ◌∙◌, arith}
 use Rattle.std.specs.Prelude.{nat_lt}
+use Rattle.std.proofs.lemmas.Bool.Decides.{nat_tests}
 use Rattle.iofd_words.specs.declared.fault.AccessKind.TheVariants.{Read, Write}
-use Rattle.held_pins.specs.Counts.{count_in}
-use Rattle.held_pins.specs.Held.{page_cmp}
+use Rattle.held_pins.specs.Held.{page_in}
 use Rattle.held_pins.specs.HeldPins.{is_covered}
-use Rattle.held_pins.proofs.Asked.{read_covered, write_covered}
+use Rattle.held_pins.proofs.Asked.{counted_at, read_covered, write_covered}
 use Rattle.held_pins.proofs.held_pins.HeldPins.covers.Goals as goal
 
-pub returns-in-Read : goal.returns-in-Read
-returns-in-Read g c =
+pub returns-then-written : goal.returns-then-written
+returns-then-written g c =
     let held = c.self.inside in
     let file = c.args.file in
     let access = c.args.access in
-    ap (λ n. nat_lt 0 n) (c.count.ensures ∙ ap (λ key. count_in page_cmp held.counts.pages key) c.new-page.ensures)
-    ∙ read_covered held.spans held.counts file access c.args.address c.self.invariant
+    let some : nat_lt 0 c.count-written.result ≡ true = search (arith, nat_tests) in
+    let counted = counted_at held.counts.pages c.new.result (page_in file access c.args.address access true)
+    c.count-written.result c.count-written.ensures c.new.ensures in
+    some
+    ∙ read_covered held.spans held.counts file access c.args.address c.self.invariant true (sym counted ∙ some)
+    ∙ ap (λ pins. is_covered pins file access c.args.address Read) c.self.view_is
+    ∙ ap (λ kind. is_covered c.args.self.now file access c.args.address kind) (sym c.in-Read.is)
+
+pub returns-else-written : goal.returns-else-written
+returns-else-written g c =
+    let held = c.self.inside in
+    let file = c.args.file in
+    let access = c.args.access in
+    let none : nat_lt 0 c.count-written.result ≡ false = search (arith, nat_tests) in
+    let counted = counted_at held.counts.pages c.new.result (page_in file access c.args.address access true)
+    c.count-written.result c.count-written.ensures c.new.ensures in
+    counted_at held.counts.pages c.new-else-written.result (page_in file access c.args.address access false)
+    c.count.result c.count.ensures c.new-else-written.ensures
+    ∙ read_covered held.spans held.counts file access c.args.address c.self.invariant false (sym counted ∙ none)
     ∙ ap (λ pins. is_covered pins file access c.args.address Read) c.self.view_is
     ∙ ap (λ kind. is_covered c.args.self.now file access c.args.address kind) (sym c.in-Read.is)
 
@@ -22,8 +39,8 @@ returns-in-Write g c =
     let held = c.self.inside in
     let file = c.args.file in
     let access = c.args.access in
-    ap (λ n. nat_lt 0 n)
-    (c.count-in-Write.ensures ∙ ap (λ key. count_in page_cmp held.counts.written key) c.new-page.ensures)
+    counted_at held.counts.pages c.new.result (page_in file access c.args.address access true) c.count-written.result
+    c.count-written.ensures c.new.ensures
     ∙ write_covered held.spans held.counts file access c.args.address c.self.invariant
     ∙ ap (λ pins. is_covered pins file access c.args.address Write) c.self.view_is
     ∙ ap (λ kind. is_covered c.args.self.now file access c.args.address kind) (sym c.in-Write.is)
