@@ -49,7 +49,7 @@ abbrev pub size_of : List Width → ℕ
 size_of [] = 0
 size_of (w ∷ ws) = byte_len w + size_of ws
 
-number_left : (w : Width) (bytes : List ℕ) (x : ℕ × List ℕ) → number_at w bytes ≡ Some x
+pub number_left : (w : Width) (bytes : List ℕ) (x : ℕ × List ℕ) → number_at w bytes ≡ Some x
     → length x.1 + byte_len w ≡ length bytes
 number_left w bytes x is =
     let g = guard_none (ltb (length bytes) (byte_len w))

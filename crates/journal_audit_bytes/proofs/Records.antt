@@ -14,7 +14,7 @@ use Rattle.journal_audit_bytes.proofs.Fields.{AreWide, IsBytes, IsWide, Takes, T
 use Rattle.journal_audit_bytes.proofs.Fields.{fields_take, number_again, number_takes, some_is, wide8, wide16, wide32}
 use Rattle.journal_audit_bytes.proofs.Fields.{wide64}
 
-guard_some : {A : Type 0} (b : Bool) (x y : A) → cond b (Some x) None ≡ Some y → (b ≡ true) × (x ≡ y)
+pub guard_some : {A : Type 0} (b : Bool) (x y : A) → cond b (Some x) None ≡ Some y → (b ≡ true) × (x ≡ y)
 guard_some true x y is = (refl, cc)
 guard_some false x y is = absurd cc
 

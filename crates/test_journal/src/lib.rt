@@ -1,6 +1,10 @@
-//! Tests of `journal_audit_bytes`, through public calls.
+//! Tests of `journal_audit_bytes` and `journal_audit_writing`, through public calls.
 #![tactic(auto)]
 
+#[cfg(test)]
+mod heads;
+#[cfg(test)]
+mod journals;
 #[cfg(test)]
 mod pins;
 #[cfg(test)]

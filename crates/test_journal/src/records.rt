@@ -5,7 +5,7 @@ use journal_audit_bytes::{ReadError, SpelledRecord, SpelledReply, read_record};
 use std::alloc::Allocator;
 
 // Pass 0, a UserMap of user 1 at 0x10000 that was answered frame 0, and one at 0x11000 that was answered frame 1.
-const RECORDS: &[u8] = b"\0\0\x02\x01\0\0\0\x01\0\0\0\0\0\x05\0\0\0\0\0\0\0\0\
+pub const RECORDS: &[u8] = b"\0\0\x02\x01\0\0\0\x01\0\0\0\0\0\x05\0\0\0\0\0\0\0\0\
       \0\0\x02\x01\0\0\x10\x01\0\0\0\0\0\x05\x01\0\0\0\0\0\0\0";
 
 fn is_user_map<A: Allocator>(record: &SpelledRecord<A>, va: u64, frame: u32) -> bool {

@@ -1,0 +1,105 @@
+-- The bytes of a journal's head: its mark; the size of the pool; the limits of the users; the users of the files; the
+-- devices; how many passes there are. All numbers are little-endian, and each list stands behind its number.
+use Rattle.std.specs.Prelude.{◌≡◌, ℕ, ◌^◌, ◌<◌, ◌≤◌, Bool, ◌==◌, Option, Some, None, List, [], ◌∷◌, ◌++◌, find}
+use Rattle.std.specs.Prelude.{length, codes, if◌then◌else◌}
+use Rattle.std.specs.Int.{w8, w16, w32, w64, to_le_bytes}
+use Rattle.std.specs.List.{AllByRecursion}
+use Rattle.iofd_words.specs.Bounds.{Bounds}
+use Rattle.iofd_words.specs.Limits.{first_outside}
+use Rattle.iofd_words.specs.Settings.{DeviceSettings, Settings}
+use Rattle.iofd_words.specs.Width.{bits_of}
+use Rattle.iofd_words.specs.declared.numbers.UserNo.{UserNo}
+use Rattle.iofd_words.specs.declared.width.Width.{Width}
+use Rattle.iofd_words.specs.declared.width.Width.TheVariants.{Bits39, Bits48}
+
+-- ---- what this version of the format has, and another may have otherwise
+
+-- the first bytes of a journal
+abbrev pub mark : List ℕ
+mark = codes "IOFDJNL1"
+
+-- the widths of addresses that can be spelled
+abbrev pub widths : List Width
+widths = Bits39 ∷ Bits48 ∷ []
+
+-- ---- lists
+
+-- the bytes of each, one behind the other
+abbrev pub all_spelled : {X : Type 0} → (X → List ℕ) → List X → List ℕ
+all_spelled text [] = []
+all_spelled text (x ∷ xs) = text x ++ all_spelled text xs
+
+-- a list behind its number
+abbrev pub counted : {X : Type 0} → (X → List ℕ) → List X → List ℕ
+counted text xs = to_le_bytes w16 (length xs) ++ all_spelled text xs
+
+-- its number fits 16 bits, and each of it fits
+abbrev pub CountedFit : {X : Type 0} → (X → Type 0) → List X → Type 0
+CountedFit Fits xs = (length xs < 2 ^ 16) × AllByRecursion Fits xs
+
+-- ---- users and files
+
+-- how many pages a user may have pinned
+abbrev pub limit_spelled : ℕ → List ℕ
+limit_spelled limit = to_le_bytes w64 limit
+
+abbrev pub LimitFits : ℕ → Type 0
+LimitFits limit = limit < 2 ^ 64
+
+-- the user of a file
+abbrev pub user_spelled : UserNo → List ℕ
+user_spelled user = to_le_bytes w16 user.0
+
+abbrev pub UserFits : UserNo → Type 0
+UserFits user = user.0 < 2 ^ 16
+
+-- ---- devices
+
+-- a reserved span, by its first and last address
+abbrev pub span_spelled : Bounds → List ℕ
+span_spelled span = to_le_bytes w64 span.first ++ to_le_bytes w64 span.last
+
+pub record SpanFits (span : Bounds) : Type 0 where
+  pub ordered : span.first ≤ span.last
+  pub first : span.first < 2 ^ 64
+  pub last : span.last < 2 ^ 64
+
+-- the width of so many bits, if it can be spelled
+abbrev pub width_of : ℕ → Option Width
+width_of bits = find (λ width. bits_of width == bits) widths
+
+-- 1 for an x86 device, 0 for another
+abbrev pub x86_number : Bool → ℕ
+x86_number x86 = if x86 then 1 else 0
+
+-- its source id, how many bits its addresses have, its x86 mark, its reserved spans
+abbrev pub device_spelled : DeviceSettings → List ℕ
+device_spelled device =
+    to_le_bytes w16 device.source.0
+    ++ (to_le_bytes w8 (bits_of device.width)
+    ++ (to_le_bytes w8 (x86_number device.x86) ++ counted span_spelled device.reserved))
+
+pub record DeviceFits (device : DeviceSettings) : Type 0 where
+  pub source : device.source.0 < 2 ^ 16
+  pub width : width_of (bits_of device.width) ≡ Some device.width
+  pub reserved : CountedFit SpanFits device.reserved
+
+-- ---- the head
+
+abbrev pub head_spelled : Settings → List ℕ
+head_spelled s =
+    mark
+    ++ (to_le_bytes w32 s.pool
+    ++ (counted limit_spelled s.users
+    ++ (counted user_spelled s.files
+    ++ (counted device_spelled s.devices ++ to_le_bytes w16 s.passes))))
+
+-- these bytes are the head of a journal with these settings, which are within the limits of a configuration
+pub record SpellsHead (s : Settings) (bytes : List ℕ) : Type 0 where
+  pub within : first_outside s ≡ None
+  pub pool_fits : s.pool < 2 ^ 32
+  pub users_fit : CountedFit LimitFits s.users
+  pub files_fit : CountedFit UserFits s.files
+  pub devices_fit : CountedFit DeviceFits s.devices
+  pub passes_fit : s.passes < 2 ^ 16
+  pub bytes_are : bytes ≡ head_spelled s

@@ -1,0 +1,5 @@
+pub mod Appended
+pub mod Journals
+pub mod Limited
+pub mod Lists
+pub mod Written

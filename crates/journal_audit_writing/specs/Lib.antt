@@ -1,0 +1,3 @@
+pub mod Failing
+pub mod Texts
+pub mod Writing
