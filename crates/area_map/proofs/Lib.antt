@@ -8,3 +8,4 @@ pub mod RowsSame
 pub mod OneRow
 pub mod Room
 pub mod SomeLeaving
+pub mod HullEnds

@@ -3,7 +3,7 @@ use Rattle.std.specs.Prelude.{ℕ, suc, ◌+◌, ◌<◌, ◌≡◌, Bool, ◌||
 use Rattle.std.specs.Prelude.{Option, Some, None, IfSome, List, [], ◌∷◌, length, take, drop, if◌then◌else◌}
 use Rattle.iofd_words.specs.Bounds.{Bounds}
 use Rattle.iofd_words.specs.declared.rows.Area.{Area}
-use Rattle.area_map_rows.specs.Areas.{AreKept}
+use Rattle.area_map_rows.specs.Areas.{AreApart, AreKept, areas_outside}
 use Rattle.area_map_rows.specs.Rows.{in_rows, is_leaving, AreRows}
 
 -- for how many more areas there is memory, whichever row they go to
@@ -27,6 +27,14 @@ with_leaving hull area = if is_leaving area.phase then joined hull area.span els
 -- the least span that holds all leaving ones of these areas; none where none is leaving
 abbrev pub leaving_span : List Area → Option Bounds
 leaving_span areas = fold with_leaving None areas
+
+-- these are left of areas that lie apart, of which the leaving ones lie in the hull and in no lesser span, without those
+-- that lie in another span
+pub record IsLeft (hull : Option Bounds) (gone : Bounds) (left : List Area) : Type 0 where
+  pub before : List Area
+  pub apart : AreApart before
+  pub hull_is : hull ≡ leaving_span before
+  pub left_is : left ≡ areas_outside gone before
 
 -- a row and the one behind it, if there is one, together have more areas than half a row
 abbrev pub FillsHalf : List Area → List (List Area) → Type 0

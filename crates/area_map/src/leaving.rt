@@ -1,12 +1,12 @@
 //! Where the leaving areas lie, so that a flush looks at no others.
 
-ghost use Rattle.std.specs.Prelude.{◌≡◌, List, fold};
-ghost use Rattle.area_map_rows.specs.Areas.{AreApart, areas_outside};
-ghost use Rattle.area_map_rows.specs.Rows.{in_rows, AreRows};
-ghost use Rattle.area_map.specs.Kept.{joined, leaving_span, with_leaving};
-ghost use Rattle.iofd_words.specs.declared.rows.Area.{Area};
+ghost use Rattle.std.specs.Prelude.{◌≡◌, Some, fold};
+ghost use Rattle.area_map_rows.specs.Areas.{AreApart};
+ghost use Rattle.area_map_rows.specs.Rows.{in_rows, AreRows, LeaveIn};
+ghost use Rattle.area_map.specs.Kept.{joined, leaving_span, with_leaving, IsLeft};
 
-use area_map_rows::{Iter, Row, lookups};
+use area_map_rows::leaving::{first_leaving, last_leaving};
+use area_map_rows::{Iter, Row};
 use iofd_words::{Area, Phase, Span};
 use std::alloc::Allocator;
 
@@ -41,16 +41,32 @@ pub fn with_areas<A: Allocator>(hull: Option<Span>, areas: Iter<'_, A>) -> Optio
     hull
 }
 
-/// The span of leaving areas where those are gone that lay in another span, and these rows are left.
+/// The span of leaving areas where those are gone that lay in another span, and these rows are left. It looks for a
+/// leaving area only where the first or the last one may be gone.
 pub fn without<A: Allocator>(hull: Option<Span>, gone: Span, rows: &[Row<A>]) -> Option<Span>
     requires apart { AreApart (in_rows rows.now) }
     requires rows { AreRows rows.now }
-    ensures { (areas : List Area) → hull ≡ leaving_span areas → in_rows rows.now ≡ areas_outside gone areas
-        → result ≡ leaving_span (in_rows rows.now) }
+    requires left { IsLeft hull gone (in_rows rows.now) }
+    ensures { result ≡ leaving_span (in_rows rows.now) }
 {
     let hull = hull?;
     if hull.lies_in(gone) {
         return None;
     }
-    with_areas(None, lookups::within(rows, hull))
+    if hull.first() < gone.first() && gone.last() < hull.last() {
+        return Some(hull);
+    }
+    ends_in(rows, hull)
+}
+
+// The span from the first leaving area's start to the last one's end, where all that are leaving lie in the hull.
+fn ends_in<A: Allocator>(rows: &[Row<A>], hull: Span) -> Option<Span>
+    requires apart { AreApart (in_rows rows.now) }
+    requires rows { AreRows rows.now }
+    requires lie { LeaveIn (Some hull) (in_rows rows.now) }
+    ensures { result ≡ leaving_span (in_rows rows.now) }
+{
+    let first = first_leaving(rows, hull)?;
+    let last = last_leaving(rows, hull)?;
+    Span::new(first.span.first(), last.span.last())
 }

@@ -27,7 +27,7 @@ pub apart-lower : (low below : ℕ) (xs : List Area) → below ≤ low → AreAp
 apart-lower low below [] less apart = apart
 apart-lower low below (x ∷ xs) less apart = (omega (arith, apart.0), apart.1, apart.2)
 
-apart-filter : (p : Area → Bool) (low : ℕ) (xs : List Area) → AreApartFrom low xs → AreApartFrom low (filter p xs)
+pub apart-filter : (p : Area → Bool) (low : ℕ) (xs : List Area) → AreApartFrom low xs → AreApartFrom low (filter p xs)
 apart-filter p low [] apart = apart
 apart-filter p low (x ∷ xs) apart =
     let rest = apart-filter p (x.span.last + 1) xs apart.2 in

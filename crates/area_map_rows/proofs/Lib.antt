@@ -12,3 +12,5 @@ pub mod Widest
 pub mod RowCut
 pub mod Removed
 pub mod Numbers
+pub mod LeavingRows
+pub mod LeavingEnds

@@ -176,7 +176,7 @@ leave_right : (span : Option Bounds) (xs ys : List Area) → LeaveIn span (xs ++
 leave_right span [] ys leave = leave
 leave_right span (x ∷ xs) ys leave = leave_right span xs ys leave.1
 
-leave_each : (span : Option Bounds) (rows : List (List Area)) → LeaveIn span (in_rows rows)
+pub leave_each : (span : Option Bounds) (rows : List (List Area)) → LeaveIn span (in_rows rows)
     → EachRow (LeaveIn span) rows
 leave_each span [] leave = tt
 leave_each span (row ∷ rows) leave =

@@ -3,6 +3,8 @@ use Rattle.std.specs.Prelude.{ℕ, suc, zero, ◌+◌, ◌-◌, ◌<◌, ◌≤�
 use Rattle.std.specs.Prelude.{nat_le, max}
 use Rattle.std.specs.Prelude.{Option, Some, None, List, [], ◌∷◌, ◌++◌, length}
 use Rattle.std.specs.Prelude.{take, drop, if◌then◌else◌}
+use Rattle.std.specs.List.{list_any}
+use Rattle.std.specs.Option.{option_or}
 use Rattle.iofd_words.specs.Bounds.{Bounds}
 use Rattle.iofd_words.specs.Span.{lies_in}
 use Rattle.iofd_words.specs.declared.rows.Area.{Area}
@@ -82,6 +84,24 @@ up_to (Some last) (area ∷ areas) = if nat_le area.span.last last then area ∷
 abbrev pub is_leaving : Phase → Bool
 is_leaving Live = false
 is_leaving (Leaving owed tries) = true
+
+abbrev pub leaves : Area → Bool
+leaves area = is_leaving area.phase
+
+-- an UNMAP was called of one of them
+abbrev pub has_leaving : List Area → Bool
+has_leaving areas = list_any leaves areas
+
+-- the last of them of which an UNMAP was called
+abbrev pub last_leaving : List Area → Option Area
+last_leaving [] = None
+last_leaving (area ∷ areas) = option_or (last_leaving areas) (if leaves area then Some area else None)
+
+-- the change makes live areas leaving; each other is of areas that are leaving
+abbrev pub reaches_live : Change → Bool
+reaches_live (Leave owed) = true
+reaches_live (Pay device) = false
+reaches_live (SetTries tries) = false
 
 -- the area isn't leaving, or it lies in the span, if there is one
 abbrev pub LeavesIn : Option Bounds → Area → Type 0

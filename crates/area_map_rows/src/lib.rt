@@ -5,6 +5,7 @@
 pub mod changes;
 pub mod gaps;
 mod iter;
+pub mod leaving;
 pub mod lookups;
 mod marking;
 mod row;

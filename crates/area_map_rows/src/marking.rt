@@ -1,7 +1,8 @@
 //! Areas on their way out: what they owe to devices.
 
-ghost use Rattle.std.specs.Prelude.{◌≡◌, map, vec_capacity};
+ghost use Rattle.std.specs.Prelude.{◌≡◌, ◌&&◌, ◌||◌, map, vec_capacity};
 ghost use Rattle.area_map_rows.specs.Areas.{changed, marked, without_debt, tried};
+ghost use Rattle.area_map_rows.specs.Rows as rows;
 ghost use Rattle.iofd_words.specs.Areas.{tries_of};
 
 use iofd_words::{Area, DeviceNo, DeviceSet, Phase, Span};
@@ -16,6 +17,15 @@ pub enum Change {
     Pay(DeviceNo),
     /// Each leaving area that lies in the span has seen so many tries.
     SetTries(u8),
+}
+
+impl Change {
+    /// Whether it makes live areas leaving. Each other change is of areas that are leaving.
+    pub(crate) fn reaches_live(&self) -> bool
+        ensures { result ≡ rows.reaches_live self.now }
+    {
+        matches!(self, Change::Leave(_))
+    }
 }
 
 /// Changes each of the areas.
@@ -80,4 +90,32 @@ pub fn tries_of(phase: &Phase) -> u8
         Phase::Live => 0,
         Phase::Leaving { tries, .. } => *tries,
     }
+}
+
+/// Whether an UNMAP of the area was called.
+pub fn is_leaving(phase: &Phase) -> bool
+    ensures { result ≡ rows.is_leaving phase.now }
+{
+    matches!(phase, Phase::Leaving { .. })
+}
+
+/// Whether one of the areas is leaving.
+pub fn has_leaving(areas: &[Area]) -> bool
+    ensures { result ≡ rows.has_leaving areas.now }
+{
+    areas.iter().any(|area| is_leaving(&area.phase))
+}
+
+/// Whether one is leaving where there is one area more.
+pub fn leaves_with(leaves: bool, area: &Area) -> bool
+    ensures { result ≡ (leaves || rows.leaves area.now) }
+{
+    leaves || is_leaving(&area.phase)
+}
+
+/// Whether one is leaving where these are left. It looks at none where none was before.
+pub fn leaves_still(leaves: bool, areas: &[Area]) -> bool
+    ensures { result ≡ (leaves && rows.has_leaving areas.now) }
+{
+    leaves && has_leaving(areas)
 }

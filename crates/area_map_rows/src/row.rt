@@ -4,7 +4,7 @@ ghost use Rattle.std.specs.Prelude.{◌≡◌, ◌+◌, ◌<◌, ◌≤◌, ◌^
 ghost use Rattle.std.specs.Prelude.{IfOk, length, map, take, drop};
 ghost use Rattle.std.specs.Prelude.{vec_capacity};
 ghost use Rattle.area_map_rows.specs.Areas.{AreApart, with_area, changed, areas_outside};
-ghost use Rattle.area_map_rows.specs.Rows.{end_of, first_free, first_of, starts_from, widest_of, IsCutAt};
+ghost use Rattle.area_map_rows.specs.Rows.{end_of, first_free, first_of, has_leaving, starts_from, widest_of, IsCutAt};
 ghost use Rattle.iofd_words.specs.Areas.{areas_meet};
 
 use crate::marking::Change;
@@ -26,20 +26,23 @@ pub struct Row<A: Allocator = Global> {
     end: u64,
     // How many free addresses the widest gap between two neighbours has.
     widest: u64,
+    // Whether one of them is leaving: a flush looks at no others.
+    leaves: bool,
 }
 
 impl<A: Allocator> Model for Row<A> {
     ghost use Rattle.std.specs.Prelude.{List, ◌≡◌, ◌≤◌};
     ghost use Rattle.std.specs.Vec.{vec_capacity};
     ghost use Rattle.iofd_words.specs.declared.rows.Area.{Area};
-    ghost use Rattle.area_map_rows.specs.Rows.{end_of, first_of, widest_of};
+    ghost use Rattle.area_map_rows.specs.Rows.{end_of, first_of, has_leaving, widest_of};
 
     ghost Value = { List Area };
 
     ghost view = { λ row. row.areas.items };
 
     ghost invariant = { λ row. (32 ≤ vec_capacity row.areas) × (row.end ≡ end_of row.areas.items)
-        × (row.widest ≡ widest_of row.areas.items) × (row.first ≡ first_of row.areas.items) };
+        × (row.widest ≡ widest_of row.areas.items) × (row.first ≡ first_of row.areas.items)
+        × (row.leaves ≡ has_leaving row.areas.items) };
 }
 
 impl<A: Allocator> Row<A> {
@@ -53,6 +56,7 @@ impl<A: Allocator> Row<A> {
             first: u64::MAX,
             end: 0,
             widest: 0,
+            leaves: false,
         })
     }
 
@@ -91,6 +95,13 @@ impl<A: Allocator> Row<A> {
         self.widest
     }
 
+    /// Whether one of its areas is leaving.
+    pub fn has_leaving(&self) -> bool
+        ensures { result ≡ has_leaving self.now }
+    {
+        self.leaves
+    }
+
     /// Whether so many addresses from the place on end below its first area.
     pub fn starts_from(&self, at: u128, count: u64) -> bool
         requires at { at ≤ 2 ^ 64 }
@@ -125,6 +136,7 @@ impl<A: Allocator> Row<A> {
     {
         let place = lookups::count_below(&self.areas, area.span.first());
         let parted = gaps::gap_at(&self.areas, place);
+        self.leaves = marking::leaves_with(self.leaves, &area);
         self.areas.insert(place, area).unwrap();
         self.first = first_of(&self.areas);
         self.end = end_of(&self.areas);
@@ -146,9 +158,11 @@ impl<A: Allocator> Row<A> {
         self.first = first_of(&self.areas);
         self.end = end_of(&self.areas);
         self.widest = gaps::widest_of(&self.areas);
+        self.leaves = marking::has_leaving(&self.areas);
         upper.first = first_of(&upper.areas);
         upper.end = end_of(&upper.areas);
         upper.widest = gaps::widest_of(&upper.areas);
+        upper.leaves = marking::has_leaving(&upper.areas);
     }
 
     /// The areas of the next row come behind its own.
@@ -160,13 +174,17 @@ impl<A: Allocator> Row<A> {
         self.first = first_of(&self.areas);
         self.end = end_of(&self.areas);
         self.widest = gaps::widest_of(&self.areas);
+        self.leaves = self.leaves || next.leaves;
     }
 
-    /// Changes its areas.
+    /// Changes its areas. It looks at none where none is leaving and the change makes none so.
     pub fn change(&mut self, change: &Change, span: Span)
         ensures { self.new ≡ map (changed change.now span) self.old }
     {
-        marking::change_all(&mut self.areas, change, span);
+        if self.leaves || change.reaches_live() {
+            marking::change_all(&mut self.areas, change, span);
+            self.leaves = marking::has_leaving(&self.areas);
+        }
     }
 
     /// Takes away the areas that lie in the span, and says how many they were.
@@ -184,6 +202,7 @@ impl<A: Allocator> Row<A> {
             u64::MAX => gaps::widest_of(&self.areas),
             joined => self.widest.max(joined),
         };
+        self.leaves = marking::leaves_still(self.leaves, &self.areas);
         before - self.areas.len()
     }
 }

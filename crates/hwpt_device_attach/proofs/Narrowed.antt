@@ -1,7 +1,8 @@
 -- Areas and allowed ranges lie in addresses that can be used: so a device narrows just those that it leaves out itself.
 use Rattle.std.proofs.Common.{◌≡◌, Bool, true, false, ◌||◌, eqb, Option, Some, None, sym, List, [], ◌∷◌, ◌++◌, map}
-use Rattle.std.proofs.Common.{refl, ap, ◌∙◌, inl, inr}
+use Rattle.std.proofs.Common.{refl, ap, ◌∙◌, inl, inr, ◌&&◌, arith, if◌then◌else◌}
 use Rattle.std.specs.List.{list_any}
+use Rattle.std.proofs.lemmas.Bool.Decides.{nat_tests}
 use Rattle.std.proofs.lemmas.List.Folds.{list_any-append}
 use Rattle.iofd_rows.proofs.Bools.{and_true, clash, not_true, or_false, or_none}
 use Rattle.iofd_rows.proofs.Each.{IsIn, in_filter, of_any, of_each}
@@ -9,13 +10,13 @@ use Rattle.iofd_rows.proofs.ListTests.{false_else}
 use Rattle.iofd_rows.proofs.Named.{file_is, id_is}
 use Rattle.iofd_runs.specs.InUsable.{AreasUsable, is_in_usable}
 use Rattle.iofd_words.specs.Allowed.{allowed_of}
-use Rattle.iofd_words.specs.Areas.{areas_of, is_of}
+use Rattle.iofd_words.specs.Areas.{areas_meet, areas_of, is_of}
 use Rattle.iofd_words.specs.Bounds.{Bounds}
 use Rattle.iofd_words.specs.Checks.{narrows, narrows_by_width, narrows_without, unusable_in}
 use Rattle.iofd_words.specs.Ranges.{meets_some}
 use Rattle.iofd_words.specs.Settings.{DeviceSettings}
 use Rattle.iofd_words.specs.Span.{meets}
-use Rattle.iofd_words.specs.Usable.{beyond, reserved_by, unusable}
+use Rattle.iofd_words.specs.Usable.{beyond, interrupt_range, reserved_by, unusable}
 use Rattle.iofd_words.specs.View.{View, view}
 use Rattle.iofd_words.specs.World.{World}
 use Rattle.iofd_words.specs.declared.numbers.FileNo.{FileNo}
@@ -168,3 +169,60 @@ module _ {A : Type 0} (s : State A) (file : FileNo) (ioas : ObjId) where
       ∙ ap (λ b. list_any (λ (a : Area). meets (beyond width) a.span) (areas_at s.objects.rows file ioas) || b)
       (any_alike (meets_some (beyond width ∷ [])) (meets (beyond width)) (allowed_of s.allowed file ioas)
       (λ range within. or_none (meets (beyond width) range)))
+
+-- ---- areas by the spans that a device leaves out
+
+pub either : (p q : Area → Bool) (areas : List Area)
+    → list_any (λ (area : Area). p area || q area) areas ≡ (list_any p areas || list_any q areas)
+either p q [] = refl
+either p q (area ∷ areas) =
+    ap (λ b. (p area || q area) || b) (either p q areas)
+    ∙ turned (p area) (q area) (list_any p areas) (list_any q areas)
+  where
+    turned : (a b c d : Bool) → ((a || b) || (c || d)) ≡ ((a || c) || (b || d))
+    turned true b c d = refl
+    turned false true true d = refl
+    turned false true false d = refl
+    turned false false c d = refl
+
+meets_swap : (a b : Bounds) → meets a b ≡ meets b a
+meets_swap a b = grind (arith, nat_tests)
+
+any_same : (p q : Area → Bool) → ((area : Area) → p area ≡ q area) → (areas : List Area)
+    → list_any p areas ≡ list_any q areas
+any_same p q same [] = refl
+any_same p q same (area ∷ areas) = rw (same area, any_same p q same areas) refl
+
+-- the areas that a span meets, and those that meet it
+pub met_by : (span : Bounds) (areas : List Area) → areas_meet span areas ≡ list_any (λ (area : Area). meets span area.span) areas
+met_by span areas =
+    any_same (λ area. meets area.span span) (λ area. meets span area.span) (λ area. meets_swap area.span span) areas
+
+-- those that one of several spans meets
+pub met_by_some : (spans : List Bounds) (areas : List Area)
+    → list_any (λ (span : Bounds). areas_meet span areas) spans
+    ≡ list_any (λ (area : Area). meets_some spans area.span) areas
+met_by_some [] areas = sym (none areas)
+  where
+    none : (all : List Area) → list_any (λ (area : Area). false) all ≡ false
+    none [] = refl
+    none (area ∷ all) = none all
+met_by_some (span ∷ spans) areas =
+    ap (λ b. b || list_any (λ (one : Bounds). areas_meet one areas) spans) (met_by span areas)
+    ∙ ap (λ b. list_any (λ (area : Area). meets span area.span) areas || b) (met_by_some spans areas)
+    ∙ sym (either (λ area. meets span area.span) (λ area. meets_some spans area.span) areas)
+
+-- the spans that a device keeps are its interrupt range, if it is an x86 one, and those that are reserved
+pub met_by_kept : (device : DeviceSettings) (areas : List Area)
+    → (device.x86 && areas_meet interrupt_range areas
+    || list_any (λ (span : Bounds). areas_meet span areas) device.reserved)
+    ≡ list_any (λ (area : Area). meets_some (reserved_by device) area.span) areas
+met_by_kept device areas = by_mark device.x86 ∙ met_by_some (reserved_by device) areas
+  where
+    by_mark : (x86 : Bool)
+        → (x86 && areas_meet interrupt_range areas
+        || list_any (λ (span : Bounds). areas_meet span areas) device.reserved)
+        ≡ list_any (λ (span : Bounds). areas_meet span areas)
+        (if x86 then interrupt_range ∷ device.reserved else device.reserved)
+    by_mark true = refl
+    by_mark false = refl

@@ -2,7 +2,6 @@
 use Rattle.std.proofs.Common.{◌≡◌, ℕ, ◌+◌, ◌<◌, Bool, true, false, cond, ◌&&◌, ◌||◌, eqb, ltb, get_or, inl, inr}
 use Rattle.std.proofs.Common.{is_some, Option, Some, None, List, [], ◌∷◌, map, refl, sym, ◌∙◌, ap, arith}
 use Rattle.std.specs.List.{count_by, list_any}
-use Rattle.std.proofs.lemmas.Bool.Decides.{nat_tests}
 use Rattle.frame_memory.specs.Pool.{FramePool}
 use Rattle.page_table_set.specs.PageTables.{AllStand, Hwpt, hwpt_of}
 use Rattle.iofd_rows.specs.Pinned.{ArePinned}

@@ -18,8 +18,8 @@ use crate::{attachments, making, narrow, waiting};
 use iofd_words::{
     Attachment, Cause, Config, DeviceNo, FileNo, FrameNo, NoMemory, ObjId, ObjectKind, Reply, Width,
 };
-use object_table::{Kind, ObjectTable};
-use server_state::{Held, State, counts, lookups};
+use object_table::Kind;
+use server_state::{State, counts, lookups};
 use std::alloc::Allocator;
 
 /// Why it is refused, by the first row of the definitions that holds. None where nothing refuses it.
@@ -150,10 +150,11 @@ pub fn commit<A: Allocator + Copy>(
         // Each bound device is one of the configuration.
         unreachable!()
     };
+    let there = table_there(state, file, pt_id, width);
     state.attachments.reserve(1)?;
     // Its clause says that the configuration is within its limits: so there are few devices.
     let _ = state.config.pool();
-    if let Some(hwpt) = table_there(&state.objects, file, pt_id, width) {
+    if let Some(hwpt) = there {
         counts::one_more(&mut state.objects, file, Kind::Hwpt, hwpt);
         attachments::insert(&mut state.attachments, Attachment { device, file, hwpt });
         return Ok(Reply::Id(hwpt));
@@ -172,25 +173,27 @@ pub fn commit<A: Allocator + Copy>(
 /// The page table that is there for an attachment: the one that is named, or the automatic one of the width over the
 /// address space that is.
 fn table_there<A: Allocator>(
-    table: &ObjectTable<Held<A>, A>,
+    state: &State<A>,
     file: FileNo,
     pt_id: ObjId,
     width: Width,
 ) -> Option<ObjId>
-    ensures { result ≡ table_there (objects_in table.now) file pt_id width }
+    requires { IsKnown state.now }
+    ensures { result ≡ table_there (objects_in state.now.objects) file pt_id width }
 {
-    match lookups::kind_of(table, file, pt_id) {
+    match lookups::kind_of(&state.objects, file, pt_id) {
         Some(ObjectKind::Hwpt { .. }) => Some(pt_id),
-        _ => lookups::automatic_hwpt(table, file, pt_id, width),
+        _ => state.automatic_hwpt(file, pt_id, width),
     }
 }
 
 /// Whether a page table would have to be made for which the file has no room.
 fn lacks_room<A: Allocator>(state: &State<A>, device: DeviceNo, file: FileNo, ioas: ObjId) -> bool
+    requires { IsKnown state.now }
     ensures { result ≡ lacks_room_for_hwpt (seen state.now) file ioas (device_of state.now.config device) }
 {
     match width_of(&state.config, device) {
-        Some(width) => lookups::automatic_hwpt(&state.objects, file, ioas, width).is_none()
+        Some(width) => state.automatic_hwpt(file, ioas, width).is_none()
             && making::is_full(&state.objects, file),
         None => false,
     }
@@ -204,7 +207,7 @@ fn lacks_frames<A: Allocator>(state: &State<A>, device: DeviceNo, file: FileNo, 
     ensures { result ≡ lacks_attached_frames (seen state.now) file ioas (device_of state.now.config device) }
 {
     match width_of(&state.config, device) {
-        Some(width) => lookups::automatic_hwpt(&state.objects, file, ioas, width).is_none()
+        Some(width) => state.automatic_hwpt(file, ioas, width).is_none()
             && making::lacks_frames(state, file, ioas, width),
         None => false,
     }

@@ -1,14 +1,15 @@
 //! Whether a device would narrow an address space below what is mapped in it, or what it allows.
 
-ghost use Rattle.std.specs.Prelude.{◌≡◌, ◌||◌, false};
+ghost use Rattle.std.specs.Prelude.{◌≡◌, ◌&&◌, ◌||◌, false};
 ghost use Rattle.std.specs.List.{list_any};
 ghost use Rattle.hwpt_device_attach.specs.Narrow.{is_narrowed};
 ghost use Rattle.iofd_words.specs.Allowed.{allowed_of};
+ghost use Rattle.iofd_words.specs.Areas.{areas_meet};
 ghost use Rattle.iofd_words.specs.Checks.{narrows, narrows_by_width};
 ghost use Rattle.iofd_words.specs.Files.{device_of};
 ghost use Rattle.iofd_words.specs.Ranges.{meets_some};
 ghost use Rattle.iofd_words.specs.Span.{meets};
-ghost use Rattle.iofd_words.specs.Usable.{beyond, reserved_by};
+ghost use Rattle.iofd_words.specs.Usable.{beyond, interrupt_range, reserved_by};
 ghost use Rattle.server_state.specs.Held.{areas_at};
 ghost use Rattle.server_state.specs.Seen.{seen};
 ghost use Rattle.server_state.specs.Step.{IsKnown};
@@ -67,8 +68,26 @@ fn area_reaches_beyond<A: Allocator>(
     ensures { result ≡ list_any (λ area. meets (beyond width) area.span) (areas_at table.now.rows file ioas) }
 {
     match lookups::areas_of(table, file, ioas) {
-        Some(areas) => areas.iter().any(|area| width.end() <= area.span.last()),
+        Some(areas) => reach_beyond(width, areas),
         None => false,
+    }
+}
+
+/// Whether they don't translate all of some area.
+fn reach_beyond<A: Allocator>(width: Width, areas: &Areas<A>) -> bool
+    ensures { result ≡ list_any (λ area. meets (beyond width) area.span) areas.now.areas }
+{
+    areas.meets(beyond(width))
+}
+
+/// The addresses that they don't translate.
+fn beyond(width: Width) -> Span
+    ensures { result ≡ beyond width }
+{
+    match Span::new(width.end(), u64::MAX) {
+        Some(span) => span,
+        // Addresses have fewer than 64 bits.
+        None => unreachable!(),
     }
 }
 
@@ -116,18 +135,33 @@ fn narrows_areas<A: Allocator>(
     }
 }
 
-/// Whether the device doesn't translate some area, or keeps some of it for itself.
+/// Whether the device doesn't translate some area, or keeps some of it for itself. It looks the areas up by each span
+/// that the device leaves out.
 fn some_area_narrowed<A: Allocator>(settings: &DeviceConfig<A>, areas: &Areas<A>) -> bool
     ensures { result ≡ list_any (λ area. is_narrowed settings.now area.span) areas.now.areas }
 {
-    areas.iter().any(|area| is_narrowed(settings, area.span))
+    reach_beyond(settings.width(), areas) || keeps_some_area(settings, areas)
 }
 
-/// Whether the device doesn't translate all of the span, or keeps some of it for itself.
-fn is_narrowed<A: Allocator>(settings: &DeviceConfig<A>, span: Span) -> bool
-    ensures { result ≡ is_narrowed settings.now span }
+/// Whether the device keeps some of an area for itself.
+fn keeps_some_area<A: Allocator>(settings: &DeviceConfig<A>, areas: &Areas<A>) -> bool
+    ensures { result ≡ list_any (λ area. meets_some (reserved_by settings.now) area.span) areas.now.areas }
 {
-    settings.width().end() <= span.last() || settings.kept_meeting(span).is_some()
+    has_interrupts_in(settings, areas) || meet_some_area(settings.reserved(), areas)
+}
+
+/// Whether its interrupt range, which an x86 device has, meets an area.
+fn has_interrupts_in<A: Allocator>(settings: &DeviceConfig<A>, areas: &Areas<A>) -> bool
+    ensures { result ≡ (settings.now.x86 && areas_meet interrupt_range areas.now.areas) }
+{
+    settings.is_x86() && areas.meets(INTERRUPT_RANGE)
+}
+
+/// Whether one of the spans meets an area.
+fn meet_some_area<A: Allocator>(spans: &[Span], areas: &Areas<A>) -> bool
+    ensures { result ≡ list_any (λ span. areas_meet span areas.now.areas) spans.now }
+{
+    spans.iter().any(|span| areas.meets(*span))
 }
 
 /// Whether the device leaves out some of a range that the address space allows.

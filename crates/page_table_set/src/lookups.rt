@@ -11,7 +11,7 @@ ghost use Rattle.page_table_set.specs.PageTables.{are_by_file, hwpt_of};
 ghost use Rattle.page_table_set.specs.Removed.{id_of};
 
 use crate::hwpt::Hwpt;
-use iofd_words::{FileNo, ObjId, ObjectKind};
+use iofd_words::{FileNo, ObjId, ObjectKind, Width};
 
 /// Up to how many page tables each is looked at, which is quicker than a search then.
 const FEW: usize = 8;
@@ -81,6 +81,46 @@ pub(crate) fn is_over(hwpt: &Hwpt, file: FileNo, ioas: ObjId) -> bool
     hwpt.object.file == file
         && match hwpt.object.kind {
             ObjectKind::Hwpt { ioas: over, .. } => over == ioas,
+            _ => false,
+        }
+}
+
+/// The first of the file's over the address space that is automatic and of this width.
+pub(crate) fn automatic_over(
+    tables: &[Hwpt],
+    file: FileNo,
+    ioas: ObjId,
+    width: Width,
+) -> Option<&Hwpt>
+    requires { IsTrue (are_by_file tables.now) }
+    ensures { option_copied result ≡ find (λ h. h.object.file.0 == file.0
+        && objects.is_automatic_over ioas width h.object.kind) tables.now }
+{
+    automatic_in(of_file(tables, file), file, ioas, width)
+}
+
+/// The first of them that is, by looking at each.
+fn automatic_in(tables: &[Hwpt], file: FileNo, ioas: ObjId, width: Width) -> Option<&Hwpt>
+    ensures { option_copied result ≡ find (λ h. h.object.file.0 == file.0
+        && objects.is_automatic_over ioas width h.object.kind) tables.now }
+{
+    tables
+        .iter()
+        .find(|hwpt| is_automatic_over(hwpt, file, ioas, width))
+}
+
+/// Whether it is an automatic page table of this width over the file's address space of this id.
+fn is_automatic_over(hwpt: &Hwpt, file: FileNo, ioas: ObjId, width: Width) -> bool
+    ensures { result ≡ (hwpt.now.object.file.0 == file.0
+        && objects.is_automatic_over ioas width hwpt.now.object.kind) }
+{
+    hwpt.object.file == file
+        && match hwpt.object.kind {
+            ObjectKind::Hwpt {
+                ioas: over,
+                width: of,
+                automatic,
+            } => over == ioas && automatic && of.bits() == width.bits(),
             _ => false,
         }
 }

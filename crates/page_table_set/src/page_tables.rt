@@ -4,6 +4,7 @@ ghost use Rattle.std.specs.Prelude.{ℕ, ◌≡◌, ◌<◌, ◌-◌, length, Op
 ghost use Rattle.std.specs.Prelude.{◌++◌, IfSome, IsSome, OnErr};
 ghost use Rattle.std.specs.Prelude.{OnOk};
 ghost use Rattle.std.specs.Prelude.{vec_capacity, vec_len};
+ghost use Rattle.std.specs.Option.{option_map};
 ghost use Rattle.iofd_words.specs.Objects as objects;
 ghost use Rattle.iofd_words.specs.declared.rows.Object.{Object};
 ghost use Rattle.iofd_words.specs.declared.rows.TableFrame.{TableFrame};
@@ -74,6 +75,16 @@ impl<A: Allocator> PageTables<A> {
         ensures { result ≡ objects.has_hwpt (objects_of self.now) file ioas }
     {
         lookups::has_over(&self.tables, file, ioas)
+    }
+
+    /// The automatic one of this width over the file's address space of this id, by its own id. It goes over the file's
+    /// page tables.
+    #[tactic(auto, using(crate::proofs::Objects::automatic_rows))]
+    pub fn automatic_over(&self, file: FileNo, ioas: ObjId, width: Width) -> Option<ObjId>
+        ensures { result ≡ option_map (λ object. object.id)
+            (objects.automatic_hwpt (objects_of self.now) file ioas width) }
+    {
+        Some(lookups::automatic_over(&self.tables, file, ioas, width)?.object.id)
     }
 
     /// Adds a page table of this width, as this object of its file, which is none yet. It maps no page. Its root is the

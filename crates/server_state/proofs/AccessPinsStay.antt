@@ -1,9 +1,9 @@
 -- What is kept of access pins gives what is asked of the world's, and is shown still as long as none comes or goes and
 -- who holds one stays attached.
-use Rattle.std.proofs.Common.{◌≡◌, ℕ, Bool, true, false, cond, ◌&&◌, eqb, leb, ltb, Option, Some, None, List, [], ◌∷◌}
+use Rattle.std.proofs.Common.{◌≡◌, ℕ, Bool, true, false, ◌&&◌, eqb, leb, ltb, Option, Some, None, List, [], ◌∷◌}
 use Rattle.std.proofs.Common.{refl, eqb-true}
-use Rattle.std.proofs.Common.{ap, subst, sym, ◌∙◌, inl, inr, arith}
-use Rattle.std.specs.List.{count_by, list_all, list_any}
+use Rattle.std.proofs.Common.{ap, subst, sym, ◌∙◌, arith}
+use Rattle.std.specs.List.{list_all, list_any}
 use Rattle.std.proofs.lemmas.Bool.Decides.{nat_tests}
 use Rattle.held_pins.specs.HeldPins.{are_met, is_in}
 use Rattle.held_pins.specs.declared.pin.HeldPin.{HeldPin}

@@ -8,8 +8,8 @@ use Rattle.iofd_rows.specs.Reached.{ends_in, ends_in_kind}
 use Rattle.iofd_words.specs.Bounds.{Bounds}
 use Rattle.iofd_words.specs.Ranges.{meets_some}
 use Rattle.iofd_words.specs.Usable.{beyond_table}
-use Rattle.iofd_words.specs.Objects.{is_ioas, is_object, is_hwpt_over, is_automatic_over, kind_of, has_ioas, has_hwpt}
-use Rattle.iofd_words.specs.Objects.{automatic_hwpt, is_full, objects_of}
+use Rattle.iofd_words.specs.Objects.{is_ioas, is_object, is_hwpt_over, kind_of, has_ioas, has_hwpt}
+use Rattle.iofd_words.specs.Objects.{is_full, objects_of}
 use Rattle.iofd_words.specs.declared.numbers.FileNo.{FileNo}
 use Rattle.iofd_words.specs.declared.numbers.ObjId.{ObjId}
 use Rattle.iofd_words.specs.declared.rows.Area.{Area}
@@ -73,15 +73,6 @@ module _ {A : Type 0} where
           (cond b (row ∷ filter (is_of_file file) rows) (filter (is_of_file file) rows))
       by_file true is rest = ap (λ c. ends_in_kind ioas span (kind_in row.value) || c) rest
       by_file false is rest = rest
-
-  pub automatic_rows : (rows : List (Row (Held A))) (file : FileNo) (ioas : ObjId) (width : Width)
-      → option_map (λ (object : Object). object.id) (automatic_hwpt (map object_of rows) file ioas width)
-      ≡ option_map (λ (row : Row (Held A)). row.id)
-      (find (λ (row : Row (Held A)). is_automatic_over ioas width (kind_in row.value))
-      (filter (is_of_file file) rows))
-  automatic_rows [] file ioas width = refl
-  automatic_rows (row ∷ rows) file ioas width =
-      let rest = automatic_rows rows file ioas width in grind (arith, nat_tests)
 
   -- what is no address space has no areas
   pub no_space : (rows : List (Row (Held A))) (file : FileNo) (ioas : ObjId)

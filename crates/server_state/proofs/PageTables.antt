@@ -6,13 +6,14 @@ use Rattle.std.proofs.lemmas.Bool.{cases_Bool}
 use Rattle.std.specs.Option.{option_map}
 use Rattle.iofd_rows.proofs.Bools.{and_true, both_true}
 use Rattle.iofd_rows.proofs.ListTests.{alike, any-filter, any_weaker}
-use Rattle.iofd_words.specs.Objects.{has_hwpt, is_hwpt, is_hwpt_over, is_object}
+use Rattle.iofd_words.specs.Objects.{automatic_hwpt, has_hwpt, is_automatic_over, is_hwpt, is_hwpt_over, is_object}
 use Rattle.iofd_words.specs.World.{World}
 use Rattle.iofd_words.specs.declared.numbers.FileNo.{FileNo}
 use Rattle.iofd_words.specs.declared.numbers.ObjId.{ObjId}
 use Rattle.iofd_words.specs.declared.rows.Object.{Object}
 use Rattle.iofd_words.specs.declared.rows.ObjectKind.{ObjectKind}
 use Rattle.iofd_words.specs.declared.rows.ObjectKind.TheVariants as kind
+use Rattle.iofd_words.specs.declared.width.Width.{Width}
 use Rattle.page_table_set.specs.PageTables.{Hwpt, hwpt_of, objects_of}
 use Rattle.server_state.specs.Held.{objects_in}
 use Rattle.server_state.specs.Shows.{Shows}
@@ -31,6 +32,13 @@ over_no_other ioas kind.Ioas is = refl
 over_no_other ioas (kind.Hwpt own width automatic) is = cc
 over_no_other ioas (kind.Device device) is = refl
 over_no_other ioas (kind.Access attached) is = refl
+
+automatic_no_other : (ioas : ObjId) (width : Width) (k : ObjectKind) → is_hwpt k ≡ false
+    → is_automatic_over ioas width k ≡ false
+automatic_no_other ioas width kind.Ioas is = refl
+automatic_no_other ioas width (kind.Hwpt own of automatic) is = cc
+automatic_no_other ioas width (kind.Device device) is = refl
+automatic_no_other ioas width (kind.Access attached) is = refl
 
 any_swapped : (test : Object → Bool) (objects : List Object)
     → list_any (λ (o : Object). is_hwpt o.kind && test o) objects
@@ -67,6 +75,33 @@ module _ (tables objects : List Object) (are : tables ≡ page_tables_among obje
   has_hwpt_kept file ioas =
       sym (any_kept (λ (o : Object). eqb o.file.0 file.0 && is_hwpt_over ioas o.kind)
       (λ o passes. over_is_table ioas o.kind (and_true (eqb o.file.0 file.0) (is_hwpt_over ioas o.kind) passes).1))
+
+  pub automatic_kept : (file : FileNo) (ioas : ObjId) (width : Width)
+      → automatic_hwpt tables file ioas width ≡ automatic_hwpt objects file ioas width
+  automatic_kept file ioas width =
+      ap (find test) are ∙ find_filter objects
+    where
+      test : Object → Bool
+      test o = eqb o.file.0 file.0 && is_automatic_over ioas width o.kind
+
+      find_filter : (all : List Object) → find test (page_tables_among all) ≡ find test all
+      find_filter [] = refl
+      find_filter (o ∷ all) =
+          ⊎_elim
+          (λ (is : is_hwpt o.kind ≡ true). rw is (by_test (test o) (find_filter all)))
+          (λ (other : is_hwpt o.kind ≡ false).
+          let fails : test o ≡ false = rw (automatic_no_other ioas width o.kind other) (and_false (eqb o.file.0 file.0)) in
+          rw (other, fails) (find_filter all))
+          (cases_Bool (is_hwpt o.kind))
+        where
+          by_test : (b : Bool) → find test (page_tables_among all) ≡ find test all
+              → cond b (Some o) (find test (page_tables_among all)) ≡ cond b (Some o) (find test all)
+          by_test true rest = refl
+          by_test false rest = rest
+
+          and_false : (b : Bool) → (b && false) ≡ false
+          and_false true = refl
+          and_false false = refl
 
   -- a file has the page tables that are kept
   pub page_table_kept : (file : FileNo) (id : ObjId)

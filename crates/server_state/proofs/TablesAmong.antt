@@ -1,5 +1,5 @@
 -- The page tables among the objects: what is left of them where objects go, and the one that is kept for an attachment.
-use Rattle.std.proofs.Common.{◌≡◌, Bool, true, false, cond, not, List, [], ◌∷◌, map, refl, ap, sym, ◌∙◌}
+use Rattle.std.proofs.Common.{◌≡◌, Bool, true, false, cond, List, [], ◌∷◌, map, refl, ap, sym, ◌∙◌}
 use Rattle.std.proofs.Common.{Option, Some, None}
 use Rattle.std.specs.List.{filter, find}
 use Rattle.std.specs.Option.{option_map}

@@ -1,6 +1,6 @@
 -- What is kept gives the view of the world that is shown: so the same refuses an event, and the same may come of an
 -- access.
-use Rattle.std.proofs.Common.{◌≡◌, ℕ, ◌+◌, Bool, List, [], Option, Some, None, true, false, ◌&&◌, not, sym, ap, refl}
+use Rattle.std.proofs.Common.{◌≡◌, ℕ, ◌+◌, Bool, List, Option, Some, None, true, false, ◌&&◌, not, sym, ap, refl}
 use Rattle.std.proofs.Common.{eqb}
 use Rattle.std.proofs.Common.{leb, ◌∙◌}
 use Rattle.std.specs.List.{find, list_all, list_any, range_with_len}

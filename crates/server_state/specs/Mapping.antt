@@ -1,5 +1,5 @@
 -- Words for MAP and UNMAP: the pins that come, and the areas of one address space.
-use Rattle.std.specs.Prelude.{ℕ, Bool, false, ◌==◌, not, Some, None, List, [], length, if◌then◌else◌}
+use Rattle.std.specs.Prelude.{ℕ, Bool, false, Some, None, List, [], if◌then◌else◌}
 use Rattle.std.specs.List.{list_any}
 use Rattle.area_map_rows.specs.Areas.{areas_within}
 use Rattle.page_table_set.specs.PageTables.{PageTables, objects_of}

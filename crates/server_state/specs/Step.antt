@@ -1,5 +1,5 @@
 -- What one step does to what is kept.
-use Rattle.std.specs.Prelude.{◌≡◌, ℕ, true, Option, None, List, []}
+use Rattle.std.specs.Prelude.{◌≡◌, ℕ, true, Option, None, List}
 use Rattle.iofd_words.specs.After.{changed}
 use Rattle.iofd_words.specs.Answers.{Answers}
 use Rattle.iofd_words.specs.Checks.{refusal}

@@ -50,47 +50,6 @@ pub fn kind_of<A: Allocator>(
     Some(kind_in(table.value(file, id)?))
 }
 
-/// The automatic hardware page table of this width over the file's address space of this id.
-#[tactic(auto, using(crate::proofs::Objects::automatic_rows))]
-pub fn automatic_hwpt<A: Allocator>(
-    table: &ObjectTable<Held<A>, A>,
-    file: FileNo,
-    ioas: ObjId,
-    width: Width,
-) -> Option<ObjId>
-    ensures { result ≡ option_map (λ object. object.id)
-        (objects.automatic_hwpt (objects_in table.now) file ioas width) }
-{
-    Some(automatic_object(table, file, ioas, width)?.id)
-}
-
-fn automatic_object<A: Allocator>(
-    table: &ObjectTable<Held<A>, A>,
-    file: FileNo,
-    ioas: ObjId,
-    width: Width,
-) -> Option<ObjectRef<'_, Held<A>>>
-    ensures { option_map row_shown result
-        ≡ find (λ row. objects.is_automatic_over ioas width (kind_in row.value)) (rows_of table.now file) }
-{
-    table
-        .iter(file)
-        .find(|object| is_automatic_over(object.value, ioas, width))
-}
-
-fn is_automatic_over<A: Allocator>(held: &Held<A>, ioas: ObjId, width: Width) -> bool
-    ensures { result ≡ objects.is_automatic_over ioas width (kind_in held.now) }
-{
-    match held {
-        Held::Hwpt {
-            ioas: over,
-            width: of,
-            automatic,
-        } => *over == ioas && *automatic && of.bits() == width.bits(),
-        _ => false,
-    }
-}
-
 /// The areas of the file's address space of this id. None where the id is no address space of the file.
 #[tactic(auto, using(crate::proofs::Objects::has_ioas_rows, crate::proofs::Objects::areas_at_rows))]
 pub fn areas_of<A: Allocator>(
@@ -141,6 +100,16 @@ impl<A: Allocator> State<A> {
         ensures { result ≡ objects.has_hwpt (objects_in self.now.objects) file ioas }
     {
         self.page_tables.has_over(file, ioas)
+    }
+
+    /// The automatic hardware page table of this width over the file's address space of this id. It goes over the file's
+    /// page tables.
+    pub fn automatic_hwpt(&self, file: FileNo, ioas: ObjId, width: Width) -> Option<ObjId>
+        requires { IsKnown self.now }
+        ensures { result ≡ option_map (λ object. object.id)
+            (objects.automatic_hwpt (objects_in self.now.objects) file ioas width) }
+    {
+        self.page_tables.automatic_over(file, ioas, width)
     }
 
     /// Whether the file's address space of this id has users: page tables that stand over it, or access objects that

@@ -31,23 +31,23 @@ returns-in_err-reserve-clause-err g c =
 pub insert-requires : goal.insert-requires
 insert-requires g c = omega (arith, c.in_ok-reserve.ensures.ok)
 
-pub returns-in-Some-table_there-clause-ok : goal.returns-in-Some-table_there-clause-ok
-returns-in-Some-table_there-clause-ok g c =
+pub returns-in-Some-there-clause-ok : goal.returns-in-Some-there-clause-ok
+returns-in-Some-there-clause-ok g c =
     λ at via.
     subst (λ (taken : List FrameNo). MovingSteps at (event.Attach c.args.device c.args.pt_id) via c.args.state.now
-    (reply.Id c.in-Some-table_there.hwpt) taken []
+    (reply.Id c.in-Some-there.hwpt) taken []
     (record c.args.state.now { objects = c.one_more.new.table; attachments = c.insert.new.list }))
     (sym c.requires.empty)
     (λ w tidy shows none may.
     shows_there at w c.args.state.now c.one_more.new.table c.insert.new.list c.args.device c.args.pt_id
-    c.in-Some-table_there.hwpt
+    c.in-Some-there.hwpt
     c.in-Some.bound.now c.in-Some-width_of.width via tidy shows none
-    (sym c.in-Some.ensures) (sym c.in-Some-width_of.ensures) (sym c.in-Some-table_there.ensures)
+    (sym c.in-Some.ensures) (sym c.in-Some-width_of.ensures) (sym c.in-Some-there.ensures)
     c.pool.ensures.within c.one_more.ensures.rows c.one_more.ensures.others
     (c.insert.ensures ∙ ap (with_attachment (record {
       device = c.args.device;
       file = c.in-Some.bound.now.file;
-      hwpt = c.in-Some-table_there.hwpt;
+      hwpt = c.in-Some-there.hwpt;
     })) c.reserve.ensures.items))
 
 pub make-requires-clause-may : goal.make-requires-clause-may
@@ -55,7 +55,7 @@ make-requires-clause-may g c =
     may_come c.requires.granted.at c.args.state.now c.reserve.new.self c.args.device c.args.pt_id c.in-Some.bound.now
     c.in-Some-width_of.width c.requires.granted.granted
     (sym c.in-Some.ensures) (sym c.in-Some-width_of.ensures)
-    (sym c.in_default-table_there.ensures) c.reserve.ensures.items
+    (sym c.in_default-there.ensures) c.reserve.ensures.items
 
 pub returns-in_err-made-clause-err : goal.returns-in_err-made-clause-err
 returns-in_err-made-clause-err g c =
@@ -74,11 +74,11 @@ returns-clause-ok g c =
     let shows_room = room_unseen w c.args.state.now c.reserve.new.self c.reserve.ensures.items shows in
     let roomy = attach_roomy at w c.args.state.now c.args.device c.args.pt_id c.in-Some.bound.now
     c.in-Some-width_of.width tidy shows none (sym c.in-Some.ensures) (sym c.in-Some-width_of.ensures)
-    (sym c.in_default-table_there.ensures) in
+    (sym c.in_default-there.ensures) in
     shows_new at w c.args.state.now c.make.new.state c.one_more-2.new.table c.insert-2.new.list c.args.device
     c.args.pt_id c.in_ok-made.made
     c.in-Some.bound.now c.in-Some-width_of.width via c.make.new.taken.items tidy shows none
-    (sym c.in-Some.ensures) (sym c.in-Some-width_of.ensures) (sym c.in_default-table_there.ensures)
+    (sym c.in-Some.ensures) (sym c.in-Some-width_of.ensures) (sym c.in_default-there.ensures)
     (c.in_ok-made.ensures.ok at w tidy shows_room roomy) c.pool.ensures.within c.one_more-2.ensures.rows
     c.one_more-2.ensures.others
     c.insert-2.ensures

@@ -22,9 +22,8 @@ invariant_of-self g c =
     let counted = c.self.invariant.0.counted in
     let count = c.remove.ensures.count in
     let left : c.self.inside.count - c.remove.result ≡ length (in_rows new) = omega (arith, counted, count) in
-    let told = rw c.deref.ensures.value at c.without-self-inside.ensures in
     let leave : c.without-self-inside.result ≡ leaving_span (in_rows new) =
-    told (in_rows rows) c.self.invariant.0.leave c.remove.ensures.areas in (
+    rw c.deref.ensures.value at c.without-self-inside.ensures in (
       rows_without c.args.span rows new c.self.inside.count (c.self.inside.count - c.remove.result)
           c.self.inside.leaving c.without-self-inside.result c.self.invariant.0 c.remove.ensures.rows
           c.remove.ensures.joined c.remove.ensures.areas left leave,
@@ -57,3 +56,12 @@ returns-clause-room g c = rw (← c.self.view_is) (le_refl (room_of c.self.insid
 
 pub returns-clause-rows : goal.returns-clause-rows
 returns-clause-rows g c = few_rows c.remove.new.rows.items c.remove.ensures.joined
+
+pub without-self-inside-requires-clause-left : goal.without-self-inside-requires-clause-left
+without-self-inside-requires-clause-left g c =
+    record {
+      before = in_rows c.self.inside.rows.items;
+      apart = c.self.invariant.0.kept.apart;
+      hull_is = c.self.invariant.0.leave;
+      left_is = rw c.deref.ensures.value c.remove.ensures.areas;
+    }
