@@ -143,13 +143,47 @@ function attach() {
     print "attach 1 1"
 }
 
+function unmap_everything() {
+    print "ioctl 1 3b86 18000000010000000000000000000000ffffffffffffffff"
+}
+
 # One UNMAP of so many areas.
 function unmap_all() {
     head(8)
     alloc(1)
     maps_rising(size)
     measured()
-    print "ioctl 1 3b86 18000000010000000000000000000000ffffffffffffffff"
+    unmap_everything()
+}
+
+# UNMAPs of one area each, where so many are leaving and owed by nobody. Of the areas of a page each every `step`th goes,
+# round and round until all have gone but for the last ones.
+function unmap_leaving(step,    i, at) {
+    head(256)
+    alloc(1)
+    give(1)
+    maps_rising(size)
+    bind_and_attach()
+    unmap_everything()
+    print "flush 1"
+    measured()
+    for (i = 0; i < count; i++) {
+        at = (i * step) % size
+        print "ioctl 1 3b86 1800000001000000" little(at * 4096, 8) little(4096, 8)
+    }
+}
+
+# A device is attached and detached in turn, in a file that has so many address spaces besides.
+function attach_beside_objects(    i) {
+    head(8)
+    alloc(1)
+    print "bind 1 1"
+    allocs(size)
+    measured()
+    for (i = 0; i < count / 2; i++) {
+        print "attach 1 1"
+        print "detach 1"
+    }
 }
 
 # Objects of a file.
@@ -178,6 +212,9 @@ BEGIN {
     else if (kind == "attached") attached()
     else if (kind == "attach") attach()
     else if (kind == "unmap_all") unmap_all()
+    else if (kind == "unmap_leaving") unmap_leaving(1)
+    else if (kind == "unmap_leaving_spread") unmap_leaving(7919)
+    else if (kind == "attach_beside_objects") attach_beside_objects()
     else if (kind == "objects") objects()
     else if (kind == "maps_beside_objects") maps_beside_objects()
     else {

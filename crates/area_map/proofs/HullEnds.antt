@@ -1,6 +1,6 @@
 -- The least span that holds all leaving areas goes from the first one's start to the last one's end.
-use Rattle.std.proofs.Common.{◌≡◌, ◌∙◌, ℕ, ◌+◌, ◌≤◌, ◌<◌, min, max, Bool, true, false, not, Option, Some, None, List, [], ◌∷◌, ◌⊎◌, inl, inr}
-use Rattle.std.proofs.Common.{refl, sym, ap, arith, ⊎_elim}
+use Rattle.std.proofs.Common.{◌≡◌, ◌∙◌, ℕ, ◌+◌, ◌≤◌, ◌<◌, min, max, Bool, true, false, not, Option, Some, None, List}
+use Rattle.std.proofs.Common.{[], ◌∷◌, ◌⊎◌, inl, inr, refl, sym, ap, arith, ⊎_elim}
 use Rattle.std.specs.List.{filter, find, fold}
 use Rattle.std.specs.Option.{option_or}
 use Rattle.std.proofs.lemmas.Bool.{cases_Bool}
@@ -194,7 +194,8 @@ hull_stays h gone xs apart is front back =
     outside : Area → Bool
     outside a = not (lies_in a.span gone)
 
-    left : leaving_span (areas_outside gone xs) ≡ ends (find leaves (filter outside xs)) (last_leaving (filter outside xs))
+    left : leaving_span (areas_outside gone xs)
+        ≡ ends (find leaves (filter outside xs)) (last_leaving (filter outside xs))
     left = span_ends 0 (areas_outside gone xs) (apart-filter outside 0 xs apart)
 
     by_ends : (first last : Option Area) → find leaves xs ≡ first → last_leaving xs ≡ last → ends first last ≡ Some h

@@ -28,8 +28,8 @@ with_leaving hull area = if is_leaving area.phase then joined hull area.span els
 abbrev pub leaving_span : List Area → Option Bounds
 leaving_span areas = fold with_leaving None areas
 
--- these are left of areas that lie apart, of which the leaving ones lie in the hull and in no lesser span, without those
--- that lie in another span
+-- these are left of areas that lie apart, of which the leaving ones lie in the hull and in no lesser span: those that
+-- lie in another span are gone
 pub record IsLeft (hull : Option Bounds) (gone : Bounds) (left : List Area) : Type 0 where
   pub before : List Area
   pub apart : AreApart before

@@ -1,6 +1,7 @@
 -- The first and the last leaving area, in rows and in those of them that a span meets.
-use Rattle.std.proofs.Common.{◌≡◌, ◌∙◌, ℕ, ◌+◌, ◌≤◌, Bool, true, false, not, ◌||◌, min, ltb, Option, Some, None, List, [], ◌∷◌}
-use Rattle.std.proofs.Common.{◌++◌, length, take, drop, map, cond, refl, sym, ap, append-nil, append_assoc, ⊎_elim, if◌then◌else◌}
+use Rattle.std.proofs.Common.{◌≡◌, ◌∙◌, ℕ, ◌+◌, ◌≤◌, Bool, true, false, not, ◌||◌, min, ltb, Option, Some, None, List}
+use Rattle.std.proofs.Common.{[], ◌∷◌, ◌++◌, length, take, drop, map, cond, refl, sym, ap, append-nil, append_assoc}
+use Rattle.std.proofs.Common.{⊎_elim, if◌then◌else◌}
 use Rattle.std.specs.List.{between, filter, find, prefix_len}
 use Rattle.std.specs.Option.{option_or}
 use Rattle.std.proofs.lemmas.Bool.{cases_Bool}

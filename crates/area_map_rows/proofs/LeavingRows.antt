@@ -1,5 +1,6 @@
 -- Areas that are leaving, where some come, go or change.
-use Rattle.std.proofs.Common.{◌≡◌, ◌∙◌, Bool, true, false, ◌||◌, ◌&&◌, ltb, ℕ, List, [], ◌∷◌, refl, sym, ap, map, ⊎_elim}
+use Rattle.std.proofs.Common.{◌≡◌, ◌∙◌, Bool, true, false, ◌||◌, ◌&&◌, ltb, ℕ, List, [], ◌∷◌, refl, sym, ap, map}
+use Rattle.std.proofs.Common.{⊎_elim}
 use Rattle.std.specs.List.{filter}
 use Rattle.std.proofs.lemmas.Bool.{cases_Bool}
 use Rattle.iofd_words.specs.Bounds.{Bounds}

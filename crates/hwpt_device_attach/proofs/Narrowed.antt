@@ -194,7 +194,8 @@ any_same p q same [] = refl
 any_same p q same (area ∷ areas) = rw (same area, any_same p q same areas) refl
 
 -- the areas that a span meets, and those that meet it
-pub met_by : (span : Bounds) (areas : List Area) → areas_meet span areas ≡ list_any (λ (area : Area). meets span area.span) areas
+pub met_by : (span : Bounds) (areas : List Area)
+    → areas_meet span areas ≡ list_any (λ (area : Area). meets span area.span) areas
 met_by span areas =
     any_same (λ area. meets area.span span) (λ area. meets span area.span) (λ area. meets_swap area.span span) areas
 

@@ -84,7 +84,11 @@ impl<A: Allocator> PageTables<A> {
         ensures { result ≡ option_map (λ object. object.id)
             (objects.automatic_hwpt (objects_of self.now) file ioas width) }
     {
-        Some(lookups::automatic_over(&self.tables, file, ioas, width)?.object.id)
+        Some(
+            lookups::automatic_over(&self.tables, file, ioas, width)?
+                .object
+                .id,
+        )
     }
 
     /// Adds a page table of this width, as this object of its file, which is none yet. It maps no page. Its root is the

@@ -90,7 +90,8 @@ module _ (tables objects : List Object) (are : tables ≡ page_tables_among obje
           ⊎_elim
           (λ (is : is_hwpt o.kind ≡ true). rw is (by_test (test o) (find_filter all)))
           (λ (other : is_hwpt o.kind ≡ false).
-          let fails : test o ≡ false = rw (automatic_no_other ioas width o.kind other) (and_false (eqb o.file.0 file.0)) in
+          let fails : test o ≡ false =
+          rw (automatic_no_other ioas width o.kind other) (and_false (eqb o.file.0 file.0)) in
           rw (other, fails) (find_filter all))
           (cases_Bool (is_hwpt o.kind))
         where

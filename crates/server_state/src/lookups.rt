@@ -102,8 +102,8 @@ impl<A: Allocator> State<A> {
         self.page_tables.has_over(file, ioas)
     }
 
-    /// The automatic hardware page table of this width over the file's address space of this id. It goes over the file's
-    /// page tables.
+    /// The automatic hardware page table of this width over the file's address space of this id. It goes over the
+    /// file's page tables.
     pub fn automatic_hwpt(&self, file: FileNo, ioas: ObjId, width: Width) -> Option<ObjId>
         requires { IsKnown self.now }
         ensures { result ≡ option_map (λ object. object.id)

@@ -153,8 +153,15 @@ fn is_keeper<A: Allocator>(
 ) -> bool
     ensures { result ≡ reached.keeps_of config.now (objects_in table.now) file ioas span attachment.now }
 {
-    lookups::is_attached_to(table, file, ioas, attachment)
-        && kept_by(config, attachment.device, span).is_some()
+    // Most devices keep nothing there, which is told by fewer steps than to what they are attached.
+    keeps(config, attachment.device, span) && lookups::is_attached_to(table, file, ioas, attachment)
+}
+
+/// Whether the device keeps some of the span for itself.
+fn keeps<A: Allocator>(config: &Config<A>, device: DeviceNo, span: Span) -> bool
+    ensures { result ≡ meets_some (usable.reserved_of (device_of config.now device)) span }
+{
+    kept_by(config, device, span).is_some()
 }
 
 /// The first span that the device keeps for itself and that meets this one.

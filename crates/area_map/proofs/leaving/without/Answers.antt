@@ -12,7 +12,8 @@ pub returns-in_err-hull : goal.returns-in_err-hull
 returns-in_err-hull g c =
     let left = c.requires.left in
     let outside : Area → Bool = λ a. not (lies_in a.span c.args.gone) in
-    let none = leave-filter outside None left.before (rw c.in_err-hull.was at (leave_in c.args.hull left.before left.hull_is)) in
+    let none = leave-filter outside None left.before
+    (rw c.in_err-hull.was at (leave_in c.args.hull left.before left.hull_is)) in
     rw (left.left_is, c.from_residual.ensures) (sym (none_leaving (areas_outside c.args.gone left.before) None none))
 
 pub returns-then-lies_in : goal.returns-then-lies_in
@@ -27,7 +28,8 @@ returns-then-last g c =
     let left = c.requires.left in
     let h = c.in_ok-hull.hull in
     let is : leaving_span left.before ≡ Some h = sym left.hull_is ∙ c.in_ok-hull.was in
-    let front : h.first < c.args.gone.first = omega (arith, c.if-first.true, c.first.ensures.value, c.first-2.ensures.value) in
+    let front : h.first < c.args.gone.first =
+    omega (arith, c.if-first.true, c.first.ensures.value, c.first-2.ensures.value) in
     let back : c.args.gone.last < h.last =
     omega (arith, c.if-last.true, c.last.ensures.value, c.last-then-first.ensures.value) in
     rw left.left_is (sym (hull_stays h c.args.gone left.before left.apart is front back))

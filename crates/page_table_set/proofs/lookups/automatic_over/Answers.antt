@@ -8,6 +8,7 @@ use Rattle.page_table_set.proofs.lookups.automatic_over.Goals as goal
 pub returns : goal.returns
 returns c =
     c.automatic_in.ensures
-    ∙ ap (find (λ (h : Hwpt). eqb h.object.file.0 c.args.file.0 && is_automatic_over c.args.ioas c.args.width h.object.kind))
+    ∙ ap (find (λ (h : Hwpt).
+        eqb h.object.file.0 c.args.file.0 && is_automatic_over c.args.ioas c.args.width h.object.kind))
     c.of_file.ensures
     ∙ find_of c.args.file.0 (λ h. is_automatic_over c.args.ioas c.args.width h.object.kind) c.args.tables.now

@@ -1,0 +1,55 @@
+//! AccessAttach: an access object is attached to an address space.
+
+ghost use Rattle.std.specs.Prelude.{◌≡◌, ℕ};
+ghost use Rattle.iofd_words.specs.After.{changed};
+ghost use Rattle.iofd_words.specs.Checks.{access_attach_checks};
+ghost use Rattle.iofd_words.specs.FirstTrue.{first_true};
+ghost use Rattle.iofd_words.specs.View.{view};
+ghost use Rattle.iofd_words.specs.declared.event.Event.TheVariants as event;
+ghost use Rattle.journal_audit_world.specs.Unwritten.{unwritten};
+
+use iofd_words::{Cause, FileNo, ObjId, Reply};
+use journal_audit_world::{World, objects};
+use std::alloc::Allocator;
+
+/// Why it is refused, if it is.
+#[tactic(auto, unfolding(iofd_words::specs::Checks::access_attach_checks))]
+pub fn refusal<A: Allocator>(
+    world: &World<A>,
+    file: FileNo,
+    id: ObjId,
+    ioas: ObjId,
+) -> Option<Cause>
+    ensures { result ≡ first_true (access_attach_checks (view world.now) file id ioas) }
+{
+    if !world.is_open(file) {
+        return Some(Cause::Id);
+    }
+    if !objects::has_access(&world.objects, file, id) {
+        return Some(Cause::Id);
+    }
+    if !objects::has_ioas(&world.objects, file, ioas) {
+        return Some(Cause::Id);
+    }
+    if objects::access_ioas_of(&world.objects, file, id).is_some() {
+        return Some(Cause::Bound);
+    }
+    None
+}
+
+/// What comes of it.
+#[tactic(auto, unfolding(iofd_words::specs::After::changed))]
+pub fn change<A: Allocator>(
+    world: &mut World<A>,
+    file: FileNo,
+    id: ObjId,
+    ioas: ObjId,
+    reply: Reply,
+)
+    ensures { (at : ℕ) →
+        unwritten world.new ≡ unwritten (changed {A = A} at world.old (event.AccessAttach file id ioas) reply) }
+{
+    if matches!(reply, Reply::Done) {
+        objects::attach_access(&mut world.objects, file, id, Some(ioas));
+    }
+}

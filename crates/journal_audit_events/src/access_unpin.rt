@@ -1,0 +1,65 @@
+//! AccessUnpin: an access object lets a pin go.
+
+ghost use Rattle.std.specs.Prelude.{◌≡◌, None};
+ghost use Rattle.iofd_words.specs.After.{changed};
+ghost use Rattle.iofd_words.specs.Checks.{access_unpin_checks, refusal};
+ghost use Rattle.iofd_words.specs.FirstTrue.{first_true};
+ghost use Rattle.iofd_words.specs.View.{view};
+ghost use Rattle.iofd_words.specs.declared.event.Event.TheVariants as event;
+ghost use Rattle.journal_audit_world.specs.Kept.{IsKept};
+ghost use Rattle.journal_audit_world.specs.Unwritten.{unwritten};
+
+use iofd_words::{Cause, FileNo, ObjId, PinRequest, Reply};
+use journal_audit_world::{World, access_pins, objects, pins};
+use std::alloc::Allocator;
+
+/// Why it is refused, if it is.
+#[tactic(auto, unfolding(iofd_words::specs::Checks::access_unpin_checks))]
+pub fn refusal<A: Allocator>(
+    world: &World<A>,
+    file: FileNo,
+    id: ObjId,
+    request: PinRequest,
+) -> Option<Cause>
+    ensures { result ≡ first_true (access_unpin_checks (view world.now) file id request) }
+{
+    if !world.is_open(file) {
+        return Some(Cause::Id);
+    }
+    if !objects::has_access(&world.objects, file, id) {
+        return Some(Cause::Id);
+    }
+    if objects::access_ioas_of(&world.objects, file, id).is_none() {
+        return Some(Cause::Unattached);
+    }
+    if !access_pins::is_held(&world.access_pins, file, id, request) {
+        return Some(Cause::NotHeld);
+    }
+    None
+}
+
+/// What comes of it, where nothing refuses it, at this position: pages that nothing else pins aren't pinned any more.
+#[tactic(auto, unfolding(iofd_words::specs::After::changed))]
+pub fn change<A: Allocator>(
+    at: u64,
+    world: &mut World<A>,
+    file: FileNo,
+    id: ObjId,
+    request: PinRequest,
+    reply: Reply,
+)
+    requires kept { IsKept at world.old }
+    requires granted { refusal {A = A} world.old (event.AccessUnpin file id request) ≡ None }
+    ensures { unwritten world.new ≡ unwritten (changed {A = A} at world.old (event.AccessUnpin file id request) reply) }
+{
+    let Reply::Done = reply else {
+        return;
+    };
+    access_pins::remove(&mut world.access_pins, file, id, request);
+    pins::keep_pinned(
+        &mut world.pins,
+        &world.objects,
+        &world.areas,
+        &world.access_pins,
+    );
+}

@@ -1,0 +1,9 @@
+pub mod AccessPinned
+pub mod AttachedDevices
+pub mod Gapless
+pub mod Gathered
+pub mod HeldBy
+pub mod PagesAsked
+pub mod SettledMore
+pub mod Unmapped
+pub mod Waits

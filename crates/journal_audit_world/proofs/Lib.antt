@@ -1,0 +1,11 @@
+pub mod Alike
+pub mod Covered
+pub mod Differ
+pub mod InPlace
+pub mod KeptRun
+pub mod Marks
+pub mod PinTaken
+pub mod PoolFew
+pub mod Rising
+pub mod Settling
+pub mod Swapped

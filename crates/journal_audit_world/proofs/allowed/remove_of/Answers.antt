@@ -1,0 +1,9 @@
+use Rattle.std.proofs.Common.{not, ◌&&◌, eqb, rules}
+use Rattle.std.proofs.lemmas.Fn.{filter_same}
+use Rattle.iofd_words.specs.Allowed.{AllowedRanges}
+use Rattle.journal_audit_world.proofs.allowed.remove_of.Goals as goal
+
+pub returns : goal.returns
+returns g c = filter_same _ (λ (row : AllowedRanges). not (eqb row.file.0 c.args.file.0 && eqb row.ioas.0
+    c.args.ioas.0)) _
+    (λ x b f k. search rules) _ _ c.retain.ensures.filtered

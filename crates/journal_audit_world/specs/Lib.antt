@@ -1,0 +1,4 @@
+pub mod Covered
+pub mod Decides
+pub mod Kept
+pub mod Unwritten

@@ -1,0 +1,17 @@
+//! The world of the definitions as plain vectors, and the questions that the definitions ask of it.
+#![tactic(auto)]
+
+pub mod access_pins;
+pub mod allowed;
+pub mod areas;
+pub mod attachments;
+pub mod files;
+pub mod frames;
+pub mod objects;
+pub mod pages;
+pub mod pins;
+pub mod tables;
+pub mod usable;
+mod world;
+
+pub use world::{AllowedRow, World};
