@@ -69,7 +69,7 @@ came {A = A} at w e answer m there = by_move (changed_moves at w e answer).areas
 
     by_move : AreasMove at w e answer new → IsIn w.memory m ⊎ (m.number ≡ at)
     by_move (SameAreas areas same) = still same
-    by_move (FewerAreas goes areas same free) =
+    by_move (FewerAreas goes by areas same free) =
         inl (in_filter _ w.memory m (subst (λ (l : List MemoryObject). IsIn l m) same there)).0
     by_move (OtherPhases phase dead areas same) = still same
     by_move (OneArea number file request iova placed lies makes translations areas memory) =

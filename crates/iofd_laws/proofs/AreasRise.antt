@@ -79,7 +79,7 @@ keeps_rise at w e answer none answers rise =
     by_move : (new : World) → AreasMove at w e answer new
         → starts_rise new.areas ≡ true
     by_move new (SameAreas is same) = rw is rise
-    by_move new (FewerAreas goes is left free) = rw is (rise-filter (λ (a : Area). not (goes a)) w.areas rise)
+    by_move new (FewerAreas goes by is left free) = rw is (rise-filter (λ (a : Area). not (goes a)) w.areas rise)
     by_move new (OtherPhases phase lives is same) = rw is (rise-map phase w.areas ∙ rise)
     by_move new (OneArea number file request iova passed lies makes alike is under) =
         rw is (rise-with_area (mapped_area number file request iova) w.areas rise)

@@ -241,7 +241,7 @@ keeps_object at w e answer number some has =
         → list_any (λ (a : Area). eqb a.memory number) new.areas ≡ true
         → object_numbered new.memory number ≡ object_numbered w.memory number
     by_move new (SameAreas is same) has = rw same refl
-    by_move new (FewerAreas goes is left free) has =
+    by_move new (FewerAreas goes by is left free) has =
         rw left (gone_object goes w.areas w.memory number (rw is at has))
     by_move new (OtherPhases phase lives is same) has = rw same refl
     by_move new (OneArea own file request iova passed lies makes alike is under) has = by_memory under

@@ -140,7 +140,7 @@ keeps_apart at w e answer none answers apart =
     by_move : (new : World) → AreasMove at w e answer new
         → are_apart new.areas ≡ true
     by_move new (SameAreas is same) = rw is apart
-    by_move new (FewerAreas goes is left free) = rw is (are_apart-filter (λ (a : Area). not (goes a)) w.areas apart)
+    by_move new (FewerAreas goes by is left free) = rw is (are_apart-filter (λ (a : Area). not (goes a)) w.areas apart)
     by_move new (OtherPhases phase lives is same) = rw is (are_apart-map phase w.areas ∙ apart)
     by_move new (OneArea number file request iova passed lies makes alike is under) =
         rw is (are_apart-with_area (mapped_area number file request iova) w.areas (lies none answers).apart apart)

@@ -110,7 +110,7 @@ few_areas : {A : Type 0} (file : FileNo) (ioas : ObjId) (at : ℕ) (w : World) (
     (new : World) → AreasMove at w e answer new → refusal w e ≡ None → count_by (is_of file ioas) w.areas ≤ 65535
     → count_by (is_of file ioas) new.areas ≤ 65535
 few_areas file ioas at w e answer new (SameAreas is same) none few = rw is few
-few_areas file ioas at w e answer new (FewerAreas goes is left free) none few =
+few_areas file ioas at w e answer new (FewerAreas goes by is left free) none few =
     let less = count_fewer (is_of file ioas) (λ (a : Area). not (goes a)) w.areas in rw is (omega (arith, less, few))
 few_areas file ioas at w e answer new (OtherPhases phase lives is same) none few =
     rw (is, same_spaces file ioas phase w.areas) few

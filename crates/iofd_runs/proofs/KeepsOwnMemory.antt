@@ -47,7 +47,7 @@ keeps_own_memory at w e answer p own =
     by_move : (new : World) → AreasMove at w e answer new
         → share_in_files new.areas ≡ true
     by_move new (SameAreas is same) = rw is own
-    by_move new (FewerAreas goes is left free) = rw is (shared-filter (λ (a : Area). not (goes a)) w.areas own)
+    by_move new (FewerAreas goes by is left free) = rw is (shared-filter (λ (a : Area). not (goes a)) w.areas own)
     by_move new (OtherPhases phase lives is same) = rw is (shared-map phase w.areas own)
     by_move new (OneArea number file request iova passed lies makes alike is under) =
         rw is (shared-with_area (mapped_area number file request iova) w.areas

@@ -114,7 +114,7 @@ keeps_owned at w e answer p o = record {
     by_move : (new : World) → AreasMove at w e answer new
         → list_all (is_over_own w.settings new.memory) new.areas ≡ true
     by_move new (SameAreas is same) = rw (is, same) o.owned
-    by_move new (FewerAreas goes is left free) =
+    by_move new (FewerAreas goes by is left free) =
         rw (is, left) (all_filter (is_over_own w.settings _) (λ (a : Area). not (goes a)) w.areas
         (fewer_owned w.settings _ w.memory w.areas o.owned))
     by_move new (OtherPhases phase lives is same) =

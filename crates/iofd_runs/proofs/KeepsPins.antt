@@ -224,7 +224,7 @@ module _ {A : Type 0} (at : ℕ) (w : World) (e : Event A) (none : refusal w e �
   rows_fit answer new (SameAreas is same) =
       let q = later_pinned at w p in
       rw (is, same) (record { numbers = q.numbers; made = q.made; sizes = q.sizes; used = q.used })
-  rows_fit answer new (FewerAreas goes is left free) =
+  rows_fit answer new (FewerAreas goes by is left free) =
       rw (is, left) (record {
         numbers = numbers-filter _ w.memory p.numbers;
         made = all_filter (λ (m : MemoryObject). ltb m.number (at + 1)) _ w.memory (later_pinned at w p).made;
@@ -265,7 +265,7 @@ module _ {A : Type 0} (at : ℕ) (w : World) (e : Event A) (answer : Reply) (non
 
   areas_kept : (new : World) → Fits (at + 1) new.areas new.memory → AreasMove at w e answer new → AreasKept new
   areas_kept new fits (SameAreas is same) = record { held = rw is each; accessed = λ page listed. rw is refl }
-  areas_kept new fits (FewerAreas goes is left free) =
+  areas_kept new fits (FewerAreas goes by is left free) =
       let gone = free none answers each in
       record {
         held = rw is (held_fewer w.objects goes w.areas w.access_pins gone each);

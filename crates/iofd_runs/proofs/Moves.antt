@@ -6,7 +6,7 @@ use Rattle.std.proofs.Common.{refl, subst, sym, true, ℕ, ◌&&◌, ◌++◌, �
 use Rattle.std.specs.List.{filter, list_all, list_any}
 use Rattle.std.proofs.lemmas.Bool.{eqb-true}
 use Rattle.iofd_rows.proofs.Allowed.{allowed_without, allowed_closed}
-use Rattle.iofd_rows.proofs.Bools.{both_true, clash}
+use Rattle.iofd_rows.proofs.Bools.{and_true, both_true, clash}
 use Rattle.iofd_rows.proofs.Each.{IsIn}
 use Rattle.iofd_rows.specs.Ids.{have_own_ids}
 use Rattle.iofd_runs.proofs.Branches.{by_attachment, by_found, by_target}
@@ -134,11 +134,20 @@ pub record SameTranslations (w new : World) : Type 0 where
   pub objects : new.objects ≡ w.objects
   pub attachments : new.attachments ≡ w.attachments
 
+-- the event takes the area away, if it takes areas away: an UNMAP that answers bytes those of an address space that it
+-- names, DESTROY those of the address space that goes, and Close those of the file
+abbrev pub takes_area : {A : Type 0} → Event A → Reply → Area → Bool
+takes_area (event.Unmap file request) (reply.Bytes count) area = is_of file request.ioas area
+takes_area (event.Destroy file id) answer area = is_of file id area
+takes_area (event.Close file) answer area = eqb area.file.0 file.0
+takes_area e answer area = false
+
 -- areas with their memory objects: the same, fewer, the same areas in other phases, of which none becomes live, or one
 -- more, placed as a MAP or a COPY that nothing refuses places it
 pub data AreasMove {A : Type 0} (at : ℕ) (w : World) (e : Event A) (answer : Reply) (new : World) : Type 0 where
   SameAreas : new.areas ≡ w.areas → new.memory ≡ w.memory → AreasMove at w e answer new
-  FewerAreas : (goes : Area → Bool) → new.areas ≡ filter (λ (a : Area). not (goes a)) w.areas
+  FewerAreas : (goes : Area → Bool) → ((a : Area) → goes a ≡ true → takes_area e answer a ≡ true)
+      → new.areas ≡ filter (λ (a : Area). not (goes a)) w.areas
       → new.memory ≡ filter (λ m. list_any (λ (a : Area). eqb a.memory m.number && not (goes a)) w.areas) w.memory
       → (refusal w e ≡ None → Answers w e answer → EachHeld w.objects w.areas w.access_pins → NoPinGoes w goes)
       → AreasMove at w e answer new
@@ -458,7 +467,7 @@ changed_moves {A = A} at w (event.Copy file request) (reply.Iova iova) =
 changed_moves at w (event.Unmap file request) (reply.Bytes count) =
     reach_moves at w (event.Unmap file request) (reply.Bytes count)
     (settle w (without_areas (is_touched file request) w)) refl (Same refl)
-    (FewerAreas (is_touched file request) refl refl (λ none answers held. unmapped_free w file request answers.0))
+    (FewerAreas (is_touched file request) (λ a goes. (and_true (is_of file request.ioas a) _ goes).0) refl refl (λ none answers held. unmapped_free w file request answers.0))
     (SameAttachments refl)
     (Settled refl (λ none p accessed page within before. absurd (none_comes w (is_touched file request) w.objects page
     (λ own ioas has. has) (accessed page) within before)))
@@ -490,7 +499,7 @@ changed_moves {A = A} at w (event.HwptAlloc file request) (reply.Id id) =
 changed_moves at w (event.Destroy file id) reply.Done =
     moves at w _ _ _ (Fewer _ (λ takes. destroyed_stay w file id takes)
     (λ none. destroyed_bound w file id (destroy_passed (view w) file id none).no_device) refl)
-    (FewerAreas (is_of file id) refl refl (λ none answers held. destroyed_free w file id
+    (FewerAreas (is_of file id) (λ a goes. goes) refl refl (λ none answers held. destroyed_free w file id
     (destroy_passed (view w) file id none).unused held)) (SameAttachments refl) (SameMemory refl refl)
     (Settled refl (λ none p accessed page within before. absurd (none_comes w (is_of file id) _ page
     (λ own ioas has. hwpt-filter _ w.objects own ioas has) (accessed page) within before)))
@@ -499,7 +508,7 @@ changed_moves at w (event.Destroy file id) reply.Done =
 changed_moves at w (event.Close file) reply.Done =
     moves at w _ _ _ (Fewer _ (λ takes. closed_stay w file takes)
     (λ none. closed_bound w file (close_passed (view w) file none).no_device) refl)
-    (FewerAreas (λ (a : Area). eqb a.file.0 file.0) refl refl
+    (FewerAreas (λ (a : Area). eqb a.file.0 file.0) (λ a goes. goes) refl refl
     (λ none answers held. closed_free w file (close_passed (view w) file none).no_access held))
     (FewerAttachments _ refl) (SameMemory refl refl)
     (Settled refl (λ none p accessed page within before. absurd (none_comes w (λ (a : Area). eqb a.file.0 file.0) _ page
@@ -638,7 +647,7 @@ pub all_areas : {A : Type 0} (p : Area → Bool)
     → MemoryUnder at w e file request iova number new.memory → p (mapped_area number file request iova) ≡ true)
     → list_all p w.areas ≡ true → list_all p new.areas ≡ true
 all_areas p phases at w e answer new (SameAreas is same) one all = rw is all
-all_areas p phases at w e answer new (FewerAreas goes is left free) one all = rw is (all_filter p _ w.areas all)
+all_areas p phases at w e answer new (FewerAreas goes by is left free) one all = rw is (all_filter p _ w.areas all)
 all_areas p phases at w e answer new (OtherPhases phase lives is same) one all =
     rw is (all_map p p _ w.areas (λ a here. phases (phase a) a here) all)
 all_areas p phases at w e answer new (OneArea number file request iova passed lies makes alike is under) one all =

@@ -193,7 +193,7 @@ none_after at w e answer makes none =
 
     lived : (new : World) → AreasMove at w e answer new → LiveIn w.areas new.areas
     lived new (SameAreas is same) = rw is (live_same w.areas)
-    lived new (FewerAreas goes is left free) = rw is (live_fewer (λ (a : Area). not (goes a)) w.areas)
+    lived new (FewerAreas goes by is left free) = rw is (live_fewer (λ (a : Area). not (goes a)) w.areas)
     lived new (OtherPhases phase lives is same) = rw is (live_phases phase w.areas lives)
     lived new (OneArea number file request iova passed lies never alike is under) = absurd (never makes)
 

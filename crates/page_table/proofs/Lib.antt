@@ -1,5 +1,6 @@
 pub mod CutBefore
 pub mod Cutting
+pub mod Emptying
 pub mod Lessening
 pub mod Mapping
 pub mod NextLevel

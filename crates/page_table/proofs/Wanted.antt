@@ -112,7 +112,7 @@ page_used (m ∷ pages) level n page to is through =
     ∙ is) through))
     (cases_Bool (eqb m.page page))
 
-used_page : (pages : List MappedPage) (level n : ℕ) → is_used pages level n ≡ true
+pub used_page : (pages : List MappedPage) (level n : ℕ) → is_used pages level n ≡ true
     → (page : ℕ) × (number_at level page ≡ n) × (is_some (page_at pages page) ≡ true)
 unfolding page_at
 used_page [] level n used = absurd (false≢true used)

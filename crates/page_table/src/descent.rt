@@ -1,7 +1,8 @@
 //! The way of a page from a table down.
 
-ghost use Rattle.std.specs.Prelude.{ℕ, ◌≡◌, ◌≤◌, ◌<◌, List};
+ghost use Rattle.std.specs.Prelude.{ℕ, ◌≡◌, ◌≤◌, ◌<◌, List, is_some, true};
 ghost use Rattle.iofd_words.specs.declared.numbers.FrameNo.{FrameNo};
+ghost use Rattle.page_table_words.specs.Emptied.{GoesDown};
 ghost use Rattle.page_table_words.specs.Reached.{GoesThrough, IsLowest};
 ghost use Rattle.page_table_words.specs.Rows.{MappedPage, TableRow, table_at};
 ghost use Rattle.page_table_words.specs.Stands.{Stands};
@@ -47,4 +48,30 @@ pub(crate) fn descend<A: Allocator>(pool: &Pool<A>, from: Reached, page: u64) ->
         };
     }
     reached
+}
+
+/// The table of this level through which the page goes, which is there, from an upper one of its tables down: its
+/// frame. It costs the levels between them.
+pub(crate) fn descend_to<A: Allocator>(
+    pool: &Pool<A>,
+    from: FrameNo,
+    top: u8,
+    level: u8,
+    page: u64,
+) -> FrameNo
+    requires some { 0 < level }
+    requires down { level ≤ top }
+    requires few { top ≤ 5 }
+    requires table { GoesDown pool.now from top level page }
+    ensures { (levels : ℕ) (root : FrameNo) (rows : List TableRow) (pages : List MappedPage) →
+        Stands pool.now levels root rows pages → table_at rows top page ≡ Some from →
+        is_some (table_at rows level page) ≡ true → table_at rows level page ≡ Some result }
+{
+    let mut frame = from;
+    let mut above = top;
+    while above > level {
+        frame = Entry::read(pool, frame, above, page).frame();
+        above -= 1;
+    }
+    frame
 }

@@ -24,7 +24,7 @@ pub fn number(level: u8, page: u64) -> u64
 }
 
 /// The first page that goes through the level's table of this number.
-pub(crate) fn first_page(level: u8, number: u64) -> u64
+pub fn first_page(level: u8, number: u64) -> u64
     requires few { level ≤ 5 }
     requires fits { first_page level number < 2 ^ 64 }
     ensures { result ≡ first_page level number }

@@ -1,11 +1,12 @@
 //! A hardware page table.
 
 ghost use Rattle.std.specs.Prelude.{◌≡◌, ◌≤◌, ◌<◌, ◌+◌, ◌-◌, ◌*◌, ◌^◌, []};
-ghost use Rattle.std.specs.Prelude.{◌∷◌, ◌++◌, IfOk, IfSome, IfNone};
+ghost use Rattle.std.specs.Prelude.{◌∷◌, ◌++◌, not, IfOk, IfSome, IfNone};
 ghost use Rattle.std.specs.Prelude.{OnOk, OnErr, length, vec_len, vec_capacity};
 ghost use Rattle.std.specs.List.{count_by, range_with_len};
 ghost use Rattle.frame_memory.specs.Pool.{free_count, given, least_free};
 ghost use Rattle.iofd_words.specs.Levels.{levels_of};
+ghost use Rattle.page_table_words.specs.Emptied.{GivesUp, HasEmpty, IsEmpty, without_table};
 ghost use Rattle.page_table_words.specs.Mapped.{Becomes, HasRoom, IsBelow, IsTable, root_row};
 ghost use Rattle.page_table_words.specs.Needed.{AreOrdered, is_absent, needed, needed_at};
 ghost use Rattle.page_table_words.specs.Pruned.{CanPrune, Prunes, gone, left};
@@ -16,7 +17,7 @@ ghost use Rattle.page_table_words.specs.Stands.{IfStands, TableStands};
 ghost use Rattle.page_table_words.specs.Taken.{least_frames, missing, with_tables};
 ghost use Rattle.page_table.specs.Walks.{walk_of};
 
-use crate::descent::{Reached, descend};
+use crate::descent::{Reached, descend, descend_to};
 use crate::entry::Entry;
 use crate::extension::extend;
 use crate::levels::{first_page, levels, number};
@@ -253,6 +254,50 @@ impl Table {
         cut_idle(pool, levels(self.width), 0, self.root, kept, out);
         sort_from(out, start);
         release_all(pool, &out[start..]);
+    }
+
+    /// Whether this level's table of this number is there. It costs the levels, and takes no memory.
+    pub fn has<A: Allocator>(&self, pool: &Pool<A>, level: u8, number: u64) -> bool
+        requires table { IsTable pool.now self.now }
+        requires some { 0 < level }
+        requires low { level < levels_of self.now.width }
+        requires number { number < 2 ^ (9 * (levels_of self.now.width - level)) }
+        ensures { IfStands pool.now self.now (λ rows pages.
+            result ≡ not (is_absent rows level number)) }
+    {
+        self.lowest(pool, first_page(level, number)).level <= level
+    }
+
+    /// Takes this level's table of this number away, which is there, below the root, and through which no mapped page
+    /// goes, with no table below it. Its frame is given back: the hold on it goes off, and it is appended to `out`,
+    /// where there is room. Every other table stays, and every mapped page. It costs the levels, and takes no memory.
+    pub fn remove_empty<A: Allocator, B: Allocator>(
+        &mut self,
+        pool: &mut Pool<A>,
+        level: u8,
+        number: u64,
+        out: &mut Vec<FrameNo, B>,
+    )
+        requires table { HasEmpty pool.old self.old (levels_of self.old.width) level number }
+        requires some { 0 < level }
+        requires number { number < 2 ^ (9 * (levels_of self.old.width - level)) }
+        requires room { vec_len out.old < vec_capacity out.old }
+        ensures same { self.new ≡ self.old }
+        ensures table { IfStands pool.old self.old (λ rows pages.
+            IsEmpty (levels_of self.old.width) rows pages level number →
+            TableStands pool.new self.new (without_table level number rows) pages) }
+        ensures given { IfStands pool.old self.old (λ rows pages.
+            IsEmpty (levels_of self.old.width) rows pages level number →
+            GivesUp pool.old pool.new rows (without_table level number rows) out.old.items out.new.items) }
+        ensures len { vec_len out.new ≡ vec_len out.old + 1 }
+        ensures capacity { vec_capacity out.new ≡ vec_capacity out.old }
+    {
+        let page = first_page(level, number);
+        let above = descend_to(pool, self.root, levels(self.width), level + 1, page);
+        let frame = descend_to(pool, above, level + 1, level, page);
+        Entry(0).write(pool, above, level + 1, page);
+        pool.release(frame);
+        out.push_reserved(frame);
     }
 
     // The lowest table through which the page goes. It costs the levels.

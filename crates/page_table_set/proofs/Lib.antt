@@ -17,6 +17,7 @@ pub mod OwnIds
 pub mod Partly
 pub mod PlaceOfFile
 pub mod Placed
+pub mod Shed
 pub mod Staying
 pub mod TakenOut
 pub mod Walked

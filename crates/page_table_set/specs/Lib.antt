@@ -1,3 +1,4 @@
+pub mod Idle
 pub mod Kept
 pub mod OverSpans
 pub mod PageTables

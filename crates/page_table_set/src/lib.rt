@@ -4,6 +4,7 @@
 #![tactic(auto)]
 
 mod hwpt;
+mod idle;
 mod insertion;
 mod laws;
 mod lookups;

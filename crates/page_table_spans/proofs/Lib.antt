@@ -1,10 +1,14 @@
 pub mod AreaTables
 pub mod ByLevel
+pub mod IdleAreas
+pub mod IdleTables
 pub mod Lacking
 pub mod LeastFrames
 pub mod LevelNumbers
 pub mod OnePage
 pub mod OneTable
+pub mod ShedSteps
+pub mod Shedding
 pub mod SpanMapped
 pub mod SpanNeeds
 pub mod SpanPages

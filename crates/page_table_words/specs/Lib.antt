@@ -1,4 +1,5 @@
 pub mod Cut
+pub mod Emptied
 pub mod Entries
 pub mod Extended
 pub mod Mapped

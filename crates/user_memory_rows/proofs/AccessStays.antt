@@ -33,7 +33,7 @@ module _ {A : Type 0} (at : ℕ) (w : World) (e : Event A) (answer : Reply) (non
       → has_page new.memory page ≡ true
       → accessed w.objects new.areas w.access_pins page ≡ accessed w.objects w.areas w.access_pins page
   by_areas new next (SameAreas is same) page there = rw is refl
-  by_areas new next (FewerAreas goes is left free) page there =
+  by_areas new next (FewerAreas goes by is left free) page there =
       rw is (counted_fewer w.objects goes w.areas w.access_pins page
       (of_areas w.memory w.areas page p.numbers p.sizes
       (listed_fewer _ w.memory page (rw left at (listed_is new.memory page ∙ there)))) (free none answers each))

@@ -9,6 +9,6 @@ pub returns : goal.returns
 returns c =
     c.automatic_in.ensures
     ∙ ap (find (λ (h : Hwpt).
-        eqb h.object.file.0 c.args.file.0 && is_automatic_over c.args.ioas c.args.width h.object.kind))
+    eqb h.object.file.0 c.args.file.0 && is_automatic_over c.args.ioas c.args.width h.object.kind))
     c.of_file.ensures
     ∙ find_of c.args.file.0 (λ h. is_automatic_over c.args.ioas c.args.width h.object.kind) c.args.tables.now
