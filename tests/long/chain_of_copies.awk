@@ -1,5 +1,6 @@
 # A page is mapped and copied a thousand times, each copy from the one before it; then all areas go, in an odd order,
-# each with a flush. The page stays pinned once, until the last area is gone.
+# each with a flush. The page stays pinned once, until the last area is gone, and each table of the last level goes with
+# the last area below it.
 #
 #     awk -v part=script -f ../steps.awk -f chain_of_copies.awk      # the script
 #     awk -v part=expected -f ../steps.awk -f chain_of_copies.awk    # its replies
@@ -22,6 +23,12 @@ function counts(held, free) {
     step("free", "ok " free)
 }
 
+# How many frames are free, where so many areas are left below each of the two tables of the last level: those of the
+# pool but the page's, the root's, one for each of these two that has an area, and one for the table above them.
+function free_frames() {
+    return 8 - 1 - 1 - (left[0] > 0) - (left[1] > 0) - (left[0] + left[1] > 0)
+}
+
 BEGIN {
     PAGE = 4096
     AREAS = 1001
@@ -41,13 +48,16 @@ BEGIN {
         # From page 512 on there is one more table of level 1.
         counts(1, page + 1 < 512 ? 4 : 3)
     }
+    left[0] = 511
+    left[1] = AREAS - 511
     for (turn = 0; turn < AREAS; turn++) {
         page = AREAS - (turn * 3) % AREAS
         unmap(page * PAGE, "11 Pending")
         step("flush 1", "ok")
-        counts(1, 3)
+        counts(1, free_frames())
         unmap(page * PAGE)
+        left[page < 512 ? 0 : 1]--
     }
-    # Tables stay with their page table; the user has its page still.
-    counts(0, 3)
+    # The root stays with its page table, and the user has its page still.
+    counts(0, 6)
 }

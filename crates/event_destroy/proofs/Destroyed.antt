@@ -93,7 +93,7 @@ use Rattle.object_table.specs.Table.{Row, Table, destroy_refusal, is_at, own, re
 use Rattle.object_table.specs.declared.kind.Kind.TheVariants as tablekind
 use Rattle.server_state.proofs.AccessPinsStay.{holders_stay, shown_still}
 use Rattle.user_memory_rows.proofs.AccessStays.{CoveredAlike, accessed_stays}
-use Rattle.iofd_runs.proofs.Accessed.{EachHeld, each_held}
+use Rattle.iofd_runs.proofs.Accessed.{each_held}
 use Rattle.iofd_runs.proofs.HoldersStay.{destroyed_free}
 
 -- ---- what goes of the counts
@@ -369,7 +369,8 @@ module _ {A : Type 0} where
       Answers {A = A} w (event.Destroy file id) reply.Done × IsChosen {A = A} w (event.Destroy file id) via reply.Done
       × MovesTables {A = A} w (changed {A = A} at w (event.Destroy file id) reply.Done)
       (event.Destroy file id) reply.Done [] given
-      × AreFramesChosen w (changed {A = A} at w (event.Destroy file id) reply.Done) [] given
+      × AreFramesChosen {A = A} w (changed {A = A} at w (event.Destroy file id) reply.Done) (event.Destroy file id)
+      reply.Done [] given
       × Shows (with_tables [] given (changed {A = A} at w (event.Destroy file id) reply.Done)) new
 
   -- ---- the four ways
@@ -453,7 +454,7 @@ module _ {A : Type 0} where
     unfolding changed Answers
     space_moves via given new is after =
         subst (λ (fs : List FrameNo). Moves at w file id via fs new) (sym is)
-        (still {A = A} at (event.Destroy file id) via reply.Done new w tidy tt tt after tt
+        (still {A = A} at (event.Destroy file id) via reply.Done new (λ gone t. refl) w tidy tt tt after tt
         (ap (λ (o : Option ObjectKind). elim o as (λ _. Bool) [ Some k ↦ is_hwpt k | None ↦ false ])
         space_kind))
 
@@ -551,7 +552,7 @@ module _ {A : Type 0} where
     unfolding changed Answers
     access_moves via given new is after =
         subst (λ (fs : List FrameNo). Moves at w file id via fs new) (sym is)
-        (still {A = A} at (event.Destroy file id) via reply.Done new w tidy tt tt after tt
+        (still {A = A} at (event.Destroy file id) via reply.Done new (λ gone t. refl) w tidy tt tt after tt
         (ap (λ (o : Option ObjectKind). elim o as (λ _. Bool) [ Some k ↦ is_hwpt k | None ↦ false ])
         access_kind))
 
@@ -663,7 +664,7 @@ module _ {A : Type 0} where
       unfolding changed settle without_areas Answers
       table_moves via out given new none_out gives after =
           gives_back {A = A} at w s new (event.Destroy file id) via reply.Done (is_table_of file id) table_rows
-          given tidy shows none tt tt
+          given tidy shows none tt tt (λ gone t. refl)
           (orphans_are (λ (o : Object). not (is_object file id o)) (is_table_of file id) w.objects w.table_frames
           (of_one file id) tidy.tabled.owned)
           (subst (λ (l : List FrameNo). GivesBack table_rows l given) none_out

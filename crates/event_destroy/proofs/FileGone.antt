@@ -8,7 +8,7 @@ use Rattle.frame_memory.specs.Pool.{FramePool}
 use Rattle.user_memory_rows.proofs.Counts.{count_alike, count_within}
 use Rattle.user_memory_rows.proofs.Gone.{objects_left, over_parts, translated_parts}
 use Rattle.user_memory_rows.specs.Moves.{IsReleased, MayRelease}
-use Rattle.user_memory_rows.specs.Shown.{over, tables_in, translated, accessed, has_page}
+use Rattle.user_memory_rows.specs.Shown.{over, tables_in, translated}
 use Rattle.user_memory.specs.Memory.{Memory}
 use Rattle.server_state.proofs.Orderly.{orderly}
 use Rattle.server_state.proofs.MemoryReleased.{AreFewer, may_release, shown_after, tables_lead, tables_stand}
@@ -476,12 +476,13 @@ module _ {A : Type 0} where
             → Answers {A = A} w (event.Close file) reply.Done × IsChosen {A = A} w (event.Close file) via reply.Done
             × MovesTables {A = A} w (changed {A = A} at w (event.Close file) reply.Done)
             (event.Close file) reply.Done [] given
-            × AreFramesChosen w (changed {A = A} at w (event.Close file) reply.Done) [] given
+            × AreFramesChosen {A = A} w (changed {A = A} at w (event.Close file) reply.Done) (event.Close file)
+            reply.Done [] given
             × Shows (with_tables [] given (changed {A = A} at w (event.Close file) reply.Done)) new
         unfolding changed settle without_areas Answers
         close_moves via out given new none_out gives after =
             gives_back {A = A} at w s new (event.Close file) via reply.Done (λ (t : TableFrame). eqb t.file.0 file.0)
-            table_rows given tidy shows none tt tt
+            table_rows given tidy shows none tt tt (λ gone t. refl)
             (orphans_are (λ (o : Object). not (eqb o.file.0 file.0)) (λ (t : TableFrame). eqb t.file.0 file.0) w.objects
             w.table_frames (of_file file) tidy.tabled.owned)
             (subst (λ (l : List FrameNo). GivesBack table_rows l given) none_out

@@ -1,5 +1,5 @@
 -- An event by which page tables go gives the frames of their tables back, and moves no others.
-use Rattle.std.proofs.Common.{◌≡◌, ℕ, Bool, not, Option, None, List, [], ap, sym, subst, ◌∙◌}
+use Rattle.std.proofs.Common.{◌≡◌, ℕ, Bool, false, not, Option, None, List, [], ap, sym, subst, ◌∙◌}
 use Rattle.std.specs.List.{filter}
 use Rattle.event_destroy.proofs.TablesGone.{given_rises, given_times}
 use Rattle.page_table_set.proofs.Counted.{rows_in_frame}
@@ -10,7 +10,7 @@ use Rattle.iofd_runs.proofs.StillTabled.{MakesNone, none_after}
 use Rattle.iofd_words.specs.After.{changed}
 use Rattle.iofd_words.specs.Answers.{Answers}
 use Rattle.iofd_words.specs.Checks.{refusal}
-use Rattle.iofd_words.specs.Tables.{MovesTables, is_orphan, missing_tables, tables_after, with_tables}
+use Rattle.iofd_words.specs.Tables.{MovesTables, is_orphan, may_go, missing_tables, tables_after, with_tables}
 use Rattle.iofd_words.specs.World.{World}
 use Rattle.iofd_words.specs.declared.event.Event.{Event}
 use Rattle.iofd_words.specs.declared.numbers.FrameNo.{FrameNo}
@@ -34,6 +34,7 @@ module _ {A : Type 0} (at : ℕ) (w : World) (s new : State A) (e : Event A) (vi
     (goes : TableFrame → Bool) (rows : List TableRow) (given : List FrameNo)
     (tidy : IsTidy at w) (shows : Shows w s) (none : refusal w e ≡ None)
     (answers : Answers w e answer) (makes : MakesNone w e)
+    (never : (left : World) (t : TableFrame) → may_go left e answer t ≡ false)
     (orphans : (t : TableFrame) → IsIn w.table_frames t → is_orphan (changed at w e answer).objects t ≡ goes t)
     (back : GivesBack rows [] given)
     (counted : (f : ℕ) → rows_in_frame rows f ≡ tables_in (filter goes w.table_frames) f) where
@@ -41,7 +42,7 @@ module _ {A : Type 0} (at : ℕ) (w : World) (s new : State A) (e : Event A) (vi
       → Shows (record (changed at w e answer) { table_frames = filter (λ table. not (goes table)) w.table_frames }) new
       → Answers w e answer × IsChosen w e via answer
       × MovesTables w (changed at w e answer) e answer [] given
-      × AreFramesChosen w (changed at w e answer) [] given
+      × AreFramesChosen w (changed at w e answer) e answer [] given
       × Shows (with_tables [] given (changed at w e answer)) new
   gives_back chosen after =
       let left = changed at w e answer in
@@ -51,7 +52,7 @@ module _ {A : Type 0} (at : ℕ) (w : World) (s new : State A) (e : Event A) (vi
       let lacks_none : missing_tables left.objects left.areas left.table_frames ≡ [] =
       ap (missing_tables left.objects left.areas) stay ∙ none_after at w e answer makes tidy.tabled.needed in
       let (moves, are_chosen) = gives w left e answer goes given shows.frames.once same rises orphans stay
-      (keeps_own_ids at w e answer none answers tidy.ids) lacks_none in (
+      (keeps_own_ids at w e answer none answers tidy.ids) lacks_none (never left) in (
         answers,
         chosen,
         moves,

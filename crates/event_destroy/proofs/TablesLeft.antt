@@ -5,11 +5,11 @@ use Rattle.std.proofs.lemmas.Bool.Decides.{nat_tests}
 use Rattle.page_table_set.proofs.OwnIds.{first_alone, own_parts}
 use Rattle.page_table_set.specs.PageTables.{Hwpt}
 use Rattle.page_table_set.specs.Removed.{without_file, without_hwpt}
-use Rattle.iofd_rows.proofs.Each.{in_filter, of_all}
+use Rattle.iofd_rows.proofs.Each.{of_all}
 use Rattle.iofd_rows.proofs.Found.{all_filter}
 use Rattle.iofd_rows.proofs.ListTests.{filter_all}
 use Rattle.iofd_rows.specs.Ids.{have_own_ids}
-use Rattle.iofd_words.specs.Objects.{is_hwpt, is_object, without_object}
+use Rattle.iofd_words.specs.Objects.{is_object, without_object}
 use Rattle.iofd_words.specs.declared.numbers.FileNo.{FileNo}
 use Rattle.iofd_words.specs.declared.numbers.ObjId.{ObjId}
 use Rattle.iofd_words.specs.declared.rows.Object.{Object}

@@ -18,7 +18,7 @@ use Rattle.iofd_words.specs.Areas.{areas_meet, areas_of}
 use Rattle.iofd_words.specs.Checks.{tables_to_map}
 use Rattle.iofd_words.specs.Frames.{frame_at, is_free}
 use Rattle.iofd_words.specs.Objects.{has_hwpt, is_hwpt, is_hwpt_over}
-use Rattle.iofd_words.specs.Tables.{MissingTable, MovesTables, are_different, in_frames, is_orphan, missing_tables}
+use Rattle.iofd_words.specs.Tables.{MissingTable, MovesTables, are_different, in_frames, is_orphan, may_go, missing_tables}
 use Rattle.iofd_words.specs.Tables.{tables_after, with_tables}
 use Rattle.iofd_words.specs.World.{World}
 use Rattle.iofd_words.specs.declared.event.Event.{Event}
@@ -139,10 +139,11 @@ module _ {A : Type 0} (at : ℕ) (w : World) (s : State A) (tidy : IsTidy at w) 
     -- the step moves the frames that it may, and those that are chosen
     pub moves_mapped : {E : Type 0} (e : Event E) (answer : Reply)
         → list_all (λ table. not (is_orphan w.objects table)) w.table_frames ≡ true
-        → MovesTables w left e answer taken [] × AreFramesChosen w left taken []
+        → ((t : TableFrame) → may_go left e answer t ≡ false)
+        → MovesTables w left e answer taken [] × AreFramesChosen w left e answer taken []
     unfolding settle
-    moves_mapped e answer owned = free_frames.takes w s shows left e answer taken (length missing)
-        (ap (λ (l : List MissingTable). length l) (sym missing_is)) missing_few least refl owned
+    moves_mapped e answer owned never = free_frames.takes w s shows left e answer taken (length missing)
+        (ap (λ (l : List MissingTable). length l) (sym missing_is)) missing_few least refl owned never
 
     -- ---- the frames
 

@@ -1,5 +1,5 @@
 -- The world after a COPY is shown.
-use Rattle.std.proofs.Common.{◌≡◌, ℕ, ◌+◌, ◌<◌, ◌≤◌, ◌^◌, Bool, true, false, Option, Some, None, List, [], length, sym}
+use Rattle.std.proofs.Common.{refl, ◌≡◌, ℕ, ◌+◌, ◌<◌, ◌≤◌, ◌^◌, Bool, true, false, Option, Some, None, List, [], length, sym}
 use Rattle.std.proofs.Common.{◌∙◌, ap, subst}
 use Rattle.std.specs.Prelude.{if◌then◌else◌}
 use Rattle.area_map_rows.specs.Areas as own
@@ -79,7 +79,8 @@ module _ {A : Type 0} where
   IsCopiedAs at w file request iova taken new =
       MovesTables {A = A} w (changed {A = A} at w (event.Copy file request) (reply.Iova iova)) (event.Copy file request)
       (reply.Iova iova) taken []
-      × AreFramesChosen w (changed {A = A} at w (event.Copy file request) (reply.Iova iova)) taken []
+      × AreFramesChosen {A = A} w (changed {A = A} at w (event.Copy file request) (reply.Iova iova))
+      (event.Copy file request) (reply.Iova iova) taken []
       × Shows (with_tables taken [] (changed {A = A} at w (event.Copy file request) (reply.Iova iova))) new
 
   module _ (at : ℕ) (w : World) (s : State A) (tidy : IsTidy at w) (shows : Shows w s) (file : FileNo)
@@ -143,10 +144,11 @@ module _ {A : Type 0} where
         (areas_at s.objects.rows file request.dst_ioas)) s.objects table) back inserted in
         let moves = moves_mapped at w s tidy shows source.memory file (placed_as request) iova w.memory after pool
         coming enough made taken is bytes apart {E = A} (event.Copy file request)
-        (reply.Iova iova) tidy.tabled.owned in
+        (reply.Iova iova) tidy.tabled.owned (λ t. refl) in
         let P = λ (o : Option Area).
         MovesTables {A = A} w (copy_changes w file request iova o) (event.Copy file request) (reply.Iova iova) taken []
-        × AreFramesChosen w (copy_changes w file request iova o) taken []
+        × AreFramesChosen {A = A} w (copy_changes w file request iova o) (event.Copy file request) (reply.Iova iova)
+        taken []
         × Shows (with_tables taken [] (copy_changes w file request iova o))
         (record s { objects = table; memory = after; pool = made }) in
         subst P (sym over.found) (

@@ -1,5 +1,5 @@
 -- The world after a MAP is shown.
-use Rattle.std.proofs.Common.{◌≡◌, ℕ, Bool, Option, Some, None, List, [], ◌∷◌, ◌++◌, length, sym, ◌+◌, ◌≤◌, subst}
+use Rattle.std.proofs.Common.{refl, ◌≡◌, ℕ, Bool, Option, Some, None, List, [], ◌∷◌, ◌++◌, length, sym, ◌+◌, ◌≤◌, subst}
 use Rattle.iofd_words.specs.Answers.{Answers, IsMappedAt}
 use Rattle.area_map_rows.specs.Areas as own
 use Rattle.user_memory_rows.proofs.AccessStays.{PinsNext, pins_next}
@@ -56,7 +56,8 @@ module _ {A : Type 0} where
   IsMappedAs at w file request iova taken new =
       MovesTables {A = A} w (changed {A = A} at w (event.Map file request) (reply.Iova iova)) (event.Map file request)
       (reply.Iova iova) taken []
-      × AreFramesChosen w (changed {A = A} at w (event.Map file request) (reply.Iova iova)) taken []
+      × AreFramesChosen {A = A} w (changed {A = A} at w (event.Map file request) (reply.Iova iova))
+      (event.Map file request) (reply.Iova iova) taken []
       × Shows (with_tables taken [] (changed {A = A} at w (event.Map file request) (reply.Iova iova))) new
 
   module _ (at : ℕ) (w : World) (s : State A) (tidy : IsTidy at w) (shows : Shows w s) (file : FileNo)
@@ -88,10 +89,11 @@ module _ {A : Type 0} where
         let coming = map_comes at w s tidy shows file request iova user after pool pinned next pinned_is has settles in
         let objects = w.memory ++ object at w file request iova user ∷ [] in
         let moves = moves_mapped at w s tidy shows at file request iova objects after pool coming enough made taken
-        is bytes apart {E = A} (event.Map file request) (reply.Iova iova) tidy.tabled.owned in
+        is bytes apart {E = A} (event.Map file request) (reply.Iova iova) tidy.tabled.owned (λ t. refl) in
         let P = λ (o : Option UserNo).
         MovesTables {A = A} w (map_changes at w file request iova o) (event.Map file request) (reply.Iova iova) taken []
-        × AreFramesChosen w (map_changes at w file request iova o) taken []
+        × AreFramesChosen {A = A} w (map_changes at w file request iova o) (event.Map file request) (reply.Iova iova)
+        taken []
         × Shows (with_tables taken [] (map_changes at w file request iova o))
         (record s { objects = table; memory = after; pool = made }) in
         subst P (sym known) (

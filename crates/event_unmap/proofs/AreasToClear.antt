@@ -61,7 +61,7 @@ module _ {A : Type 0} (at : ℕ) (w : World) (s : State A) (file : FileNo) (ioas
       (list_any (keeps_of w.settings w.objects file ioas a.span) w.attachments)
       (sym (by_rows w.settings w.objects w.attachments file ioas a.span) ∙ here)).0
 
-  none_beyond : (h : Hwpt) → IsIn s.page_tables.tables h → is_over file ioas h.object ≡ true → (a : Area)
+  pub none_beyond : (h : Hwpt) → IsIn s.page_tables.tables h → is_over file ioas h.object ≡ true → (a : Area)
       → IsIn (areas_of w.areas file ioas) a → is_beyond h a ≡ false
   none_beyond h there over a within =
       let listed : IsIn (page_tables_among w.objects) h.object =

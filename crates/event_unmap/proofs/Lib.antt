@@ -1,5 +1,6 @@
 pub mod AreasToClear
 pub mod AttachedDevices
+pub mod IdleGone
 pub mod LeavingAreas
 pub mod PagesCleared
 pub mod PinsLeft
@@ -7,4 +8,5 @@ pub mod SpacesCleared
 pub mod Touched
 pub mod UnmapRows
 pub mod Unmapped
+pub mod TablesLeave
 pub mod TriesCounted

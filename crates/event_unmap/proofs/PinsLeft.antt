@@ -1,6 +1,6 @@
 -- As areas go, or page tables do, the pages of the live areas that are left and that a page table translates stay
 -- pinned where they were: so they lead where they did.
-use Rattle.std.proofs.Common.{◌≡◌, ℕ, ◌<◌, Bool, true, ◌&&◌, not, eqb, ltb, Some, List, refl, ap, ◌∙◌, arith, []}
+use Rattle.std.proofs.Common.{◌≡◌, ℕ, ◌<◌, Bool, true, ◌&&◌, not, eqb, ltb, Some, List, refl, ap, ◌∙◌, arith}
 use Rattle.std.proofs.lemmas.Bool.Decides.{nat_tests}
 use Rattle.frame_memory.specs.Pool.{FramePool}
 use Rattle.iofd_rows.proofs.Bools.{and_true}

@@ -1,12 +1,12 @@
 -- The areas that an UNMAP touches, among all areas and among those of its address space.
-use Rattle.std.proofs.Common.{◌≡◌, ℕ, ◌+◌, ◌≤◌, Bool, true, false, cond, ◌&&◌, not, eqb, length, List, [], ◌∷◌, map}
+use Rattle.std.proofs.Common.{◌≡◌, ℕ, ◌+◌, ◌≤◌, Bool, true, false, cond, ◌&&◌, not, List, [], ◌∷◌, map}
 use Rattle.std.proofs.Common.{refl, ap, arith}
 use Rattle.std.specs.List.{filter, list_any}
 use Rattle.std.proofs.lemmas.Bool.Decides.{nat_tests}
 use Rattle.area_map_rows.specs.Areas.{AreApartFrom, areas_outside, areas_within}
 use Rattle.iofd_rows.proofs.Bools.{or_false}
 use Rattle.event_unmap.specs.Waiting.{waiting}
-use Rattle.iofd_words.specs.Areas.{areas_of, is_cut, is_held_back, is_of, is_touched, is_waiting, leaving, owed_by}
+use Rattle.iofd_words.specs.Areas.{areas_of, is_cut, is_held_back, is_of, is_touched, is_waiting, leaving}
 use Rattle.iofd_words.specs.Areas.{touched, tried}
 use Rattle.iofd_words.specs.Areas.{unmapped_span, with_phase}
 use Rattle.iofd_words.specs.Bounds.{Bounds}
@@ -15,8 +15,6 @@ use Rattle.iofd_words.specs.declared.event.UnmapRequest.{UnmapRequest}
 use Rattle.iofd_words.specs.declared.numbers.FileNo.{FileNo}
 use Rattle.iofd_words.specs.declared.numbers.ObjId.{ObjId}
 use Rattle.iofd_words.specs.declared.rows.Area.{Area}
-use Rattle.iofd_words.specs.declared.rows.Object.{Object}
-use Rattle.iofd_words.specs.Pins.{has_pin_in}
 use Rattle.server_state.specs.Spaces.{is_space}
 
 -- ---- where no area is cut

@@ -11,7 +11,7 @@ use Rattle.iofd_rows.proofs.Found.{all_filter}
 use Rattle.iofd_runs.proofs.NotRefused.{unmap_passed}
 use Rattle.iofd_words.specs.After.{changed, settle, unmapped, without_areas}
 use Rattle.iofd_words.specs.Answers.{Answers, UnmapAnswers, waits}
-use Rattle.iofd_words.specs.Areas.{areas_of, is_cut, is_of, is_held_back, is_touched, most_tries, owed_by}
+use Rattle.iofd_words.specs.Areas.{areas_of, is_cut, is_of, is_held_back, is_touched, most_tries}
 use Rattle.iofd_words.specs.Areas.{pending_errno}
 use Rattle.iofd_words.specs.Areas.{touched, touched_bytes, touched_tries, unmapped_span, with_leaving}
 use Rattle.iofd_words.specs.Attachments.{devices_of}
@@ -28,7 +28,7 @@ use Rattle.user_memory_rows.specs.Moves.{IsReleased, MayRelease, if_translated}
 use Rattle.user_memory_rows.specs.Shown.{FramesShown, over, translated}
 use Rattle.user_memory_rows.proofs.FramesFollow.{frames_follow}
 use Rattle.user_memory_rows.proofs.Named.{settles_named}
-use Rattle.user_memory.specs.Memory.{Memory, reached, access_pins}
+use Rattle.user_memory.specs.Memory.{Memory, reached}
 use Rattle.iofd_words.specs.Pages.{is_above_sum, is_whole}
 use Rattle.iofd_words.specs.Pins.{pinned_frame, has_pin_in}
 use Rattle.iofd_words.specs.Span.{lies_in, size_of, meets}
@@ -42,7 +42,6 @@ use Rattle.iofd_words.specs.declared.numbers.ObjId.{ObjId}
 use Rattle.iofd_words.specs.declared.rows.Area.{Area}
 use Rattle.iofd_words.specs.declared.rows.Attachment.{Attachment}
 use Rattle.iofd_words.specs.declared.rows.Object.{Object}
-use Rattle.iofd_words.specs.declared.rows.AccessPin.{AccessPin}
 use Rattle.server_state.proofs.Orderly.{orderly}
 use Rattle.server_state.proofs.AreasBecome.{areas_become, own_at}
 use Rattle.server_state.proofs.MemoryReleased.{AreFewer, AreShown, may_release, pins_changed, shown_after}
@@ -373,7 +372,7 @@ module _ {A : Type 0} where
               released.settles.holds released.settles.bytes named
 
           -- the page tables stand, and the pages that are left lead where they did
-          tables_left : AllStand pool w.table_frames (leads_of new) s.page_tables.tables
+          pub tables_left : AllStand pool w.table_frames (leads_of new) s.page_tables.tables
           unfolding settle without_areas
           tables_left =
               let gone = areas_within span (own_areas s.objects file request.ioas) in

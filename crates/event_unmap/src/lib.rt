@@ -3,5 +3,6 @@
 
 mod clearing;
 mod devices;
+mod idle;
 pub mod unmap;
 mod waiting;

@@ -1,19 +1,28 @@
 //! UNMAP: areas go, or are on their way out until devices have flushed.
 
 ghost use Rattle.std.specs.Prelude.{◌≡◌, ◌<◌, ◌≤◌, ◌^◌, ◌&&◌, ◌∷◌, [], ℕ, false};
-ghost use Rattle.std.specs.Prelude.{length, not, IfSome, IsSome};
-ghost use Rattle.area_map_rows.specs.Areas.{bytes_of};
+ghost use Rattle.std.specs.Prelude.{length, not, None, IfOk, IfSome, IsSome, IsTrue, OnErr, Option};
+ghost use Rattle.area_map_rows.specs.Areas.{AreKept, bytes_of};
 ghost use Rattle.iofd_words.specs.Areas.{areas_meet, is_cut, is_everything, most_areas, unmapped_span};
+ghost use Rattle.iofd_words.specs.Answers.{waits};
 ghost use Rattle.iofd_words.specs.Checks.{unmap_checks};
 ghost use Rattle.iofd_words.specs.FirstTrue.{first_true};
 ghost use Rattle.iofd_words.specs.Pages.{is_above_sum};
+ghost use Rattle.iofd_words.specs.View.{view};
+ghost use Rattle.iofd_words.specs.World.{World};
 ghost use Rattle.iofd_words.specs.declared.event.Event.TheVariants as event;
+ghost use Rattle.held_pins.specs.HeldPins.{are_met};
+ghost use Rattle.server_state.specs.Mapping.{own_areas, some_waits};
 ghost use Rattle.server_state.specs.Seen.{seen};
-ghost use Rattle.server_state.specs.Step.{IsGranted, Steps};
+ghost use Rattle.server_state.specs.Held.{objects_in};
+ghost use Rattle.server_state.specs.Shows.{Shows};
+ghost use Rattle.server_state.specs.Step.{IsGranted, IsTidy, MovingSteps, ShowsSame};
+ghost use Rattle.iofd_words.specs.Objects.{has_hwpt};
+ghost use Rattle.iofd_words.specs.declared.numbers.FrameNo.{FrameNo};
 
-use crate::{clearing, devices, waiting};
+use crate::{clearing, devices, idle, waiting};
 use area_map::{Areas, Iter};
-use iofd_words::{Cause, FileNo, Reply, Span, UnmapRequest};
+use iofd_words::{Cause, DeviceSet, FileNo, FrameNo, NoMemory, ObjId, Reply, Span, UnmapRequest};
 use server_state::addresses::is_above_sum;
 use server_state::{State, area_changes, lookups, release};
 use std::alloc::Allocator;
@@ -60,13 +69,27 @@ fn refusal_by_areas<A: Allocator>(
 }
 
 /// What it does where nothing refuses it. In the page tables of the address space the pages of the areas that it names
-/// lead nowhere from then on; their tables stay. Where a device still has to flush before all these areas may go, or an
-/// access object has pinned pages of one, they are on their way out, with a try more, and the reply is EAGAIN, or
-/// EDEADLOCK after a hundred tries. Else they go, with their memory objects and pins, and the reply is how many bytes
-/// they had. It takes no memory.
-pub fn commit<A: Allocator>(state: &mut State<A>, file: FileNo, request: UnmapRequest) -> Reply
-    requires { IsGranted (event.Unmap file request) state.old }
-    ensures { (at : ℕ) → Steps at (event.Unmap file request) state.old result state.new }
+/// lead nowhere from then on. Where a device still has to flush before all these areas may go, or an access object has
+/// pinned pages of one, they are on their way out, with a try more, and the reply is EAGAIN, or EDEADLOCK after a
+/// hundred tries; their tables stay. Else they go, with their memory objects and pins, the reply is how many bytes they
+/// had, and the tables that no area needs any more give their frames back, which are listed by rising number.
+///
+/// The only error is want of memory for that list, where there is a page table over the address space and nothing is on
+/// its way out. It leaves the world as it was.
+pub fn commit<A: Allocator>(
+    state: &mut State<A>,
+    file: FileNo,
+    request: UnmapRequest,
+    given: &mut Vec<FrameNo, A>,
+) -> Result<Reply, NoMemory>
+    requires granted { IsGranted (event.Unmap file request) state.old }
+    requires none { given.old.items ≡ [] }
+    ensures ok { IfOk result (λ reply. (at : ℕ) (via : Option FrameNo) →
+        MovingSteps at (event.Unmap file request) via state.old reply [] given.new.items state.new) }
+    ensures err { OnErr result (ShowsSame state.old state.new) }
+    ensures memory { OnErr result (IsTrue (has_hwpt (objects_in state.old.objects) file request.ioas)) }
+    ensures pending { OnErr result ((at : ℕ) (w : World) → IsTidy at w → Shows w state.old →
+        first_true (unmap_checks (view w) file request) ≡ None → waits w file request ≡ false) }
 {
     let Some(span) = unmapped_span(request) else {
         // It was refused.
@@ -78,6 +101,10 @@ pub fn commit<A: Allocator>(state: &mut State<A>, file: FileNo, request: UnmapRe
         unreachable!()
     };
     let translated = state.has_hwpt(file, ioas);
+    let waits = must_wait(state, file, ioas, span, &attached);
+    // Its clause says that the configuration is within its limits: so there are few page tables.
+    let _ = state.config.pool();
+    idle::reserve_given(state, file, ioas, span, translated, waits, given)?;
     let areas = area_changes::areas_within(&state.objects, file, ioas, span);
     clearing::clear(
         areas.again(),
@@ -86,13 +113,38 @@ pub fn commit<A: Allocator>(state: &mut State<A>, file: FileNo, request: UnmapRe
         &mut state.page_tables,
         &mut state.pool,
     );
-    if area_changes::some_waits(areas.again(), &attached, file, ioas, &state.access_pins) {
-        return waiting::wait(&mut state.objects, file, ioas, span, &attached);
+    if waits {
+        return Ok(waiting::wait(&mut state.objects, file, ioas, span, &attached));
     }
     let bytes = bytes_of(areas.again());
     release::remove(areas, translated, &mut state.memory, &mut state.pool);
+    idle::give_back(
+        &state.objects,
+        file,
+        ioas,
+        span,
+        &mut state.page_tables,
+        &mut state.pool,
+        given,
+    );
     area_changes::remove(&mut state.objects, file, ioas, span);
-    Reply::Bytes(bytes)
+    Ok(Reply::Bytes(bytes))
+}
+
+/// Whether an area in the span may not go yet, where these devices are attached.
+fn must_wait<A: Allocator>(
+    state: &State<A>,
+    file: FileNo,
+    ioas: ObjId,
+    span: Span,
+    attached: &DeviceSet,
+) -> bool
+    ensures waits { result ≡ some_waits span attached.now (λ area. are_met state.now.access_pins file ioas area.span)
+        (own_areas state.now.objects file ioas) }
+    ensures kept { AreKept (own_areas state.now.objects file ioas) }
+{
+    let areas = area_changes::areas_within(&state.objects, file, ioas, span);
+    area_changes::some_waits(areas, attached, file, ioas, &state.access_pins)
 }
 
 /// How many bytes the areas have: at most 65,535 areas of at most 2^48 bytes.

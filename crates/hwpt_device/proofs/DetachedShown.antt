@@ -186,7 +186,8 @@ module _ {A : Type 0} where
       Answers {A = A} w (event.Detach device) reply.Done × IsChosen {A = A} w (event.Detach device) via reply.Done
       × MovesTables {A = A} w (changed {A = A} at w (event.Detach device) reply.Done)
       (event.Detach device) reply.Done [] given
-      × AreFramesChosen w (changed {A = A} at w (event.Detach device) reply.Done) [] given
+      × AreFramesChosen {A = A} w (changed {A = A} at w (event.Detach device) reply.Done) (event.Detach device)
+      reply.Done [] given
       × Shows (with_tables [] given (changed {A = A} at w (event.Detach device) reply.Done)) new
 
   -- whether the page table goes is told before by its users: the device is the only one
@@ -436,7 +437,7 @@ module _ {A : Type 0} where
         (still {A = A} at (event.Detach device) via reply.Done (record s {
           objects = less;
           attachments = attachments;
-        }) w tidy tt tt
+        }) (λ gone t. refl) w tidy tt tt
         (subst (λ (v : World). Shows v (record s { objects = less; attachments = attachments })) (sym ends) shown)
         tt takes)
 
@@ -550,12 +551,12 @@ module _ {A : Type 0} where
               (none_after {A = A} at w (event.Detach device) reply.Done tt tidy.tabled.needed)
 
           moved : MovesTables {A = A} w (settle w (detached w device a)) (event.Detach device) reply.Done [] given
-              × AreFramesChosen w (settle w (detached w device a)) [] given
+              × AreFramesChosen {A = A} w (settle w (detached w device a)) (event.Detach device) reply.Done [] given
           unfolding settle detached
           moved =
               gives {A = A} w (settle w (detached w device a)) (event.Detach device) reply.Done
               (is_table_of a.file a.hwpt) given shows.frames.once given_once sorted orphans refl
-              (own_ids-filter _ w.objects tidy.ids) none_missing
+              (own_ids-filter _ w.objects tidy.ids) none_missing (λ t. refl)
 
           rows_after : tables_after [] given (settle w (detached w device a)) ≡ others_rows
           unfolding settle detached
@@ -587,7 +588,7 @@ module _ {A : Type 0} where
                 pool = pool;
               } in
               let Left : World → Type 0 = λ (v : World).
-              MovesTables {A = A} w v (event.Detach device) reply.Done [] given × AreFramesChosen w v [] given
+              MovesTables {A = A} w v (event.Detach device) reply.Done [] given × AreFramesChosen {A = A} w v (event.Detach device) reply.Done [] given
               × Shows (with_tables [] given v) to in
               let of_rows : List TableFrame → Type 0 =
               λ (rows : List TableFrame). Shows (record (settle w (detached w device a)) { table_frames = rows })

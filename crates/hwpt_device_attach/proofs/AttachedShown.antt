@@ -489,7 +489,8 @@ module _ {A : Type 0} where
       × IsChosen {A = A} w (event.Attach device pt_id) via (reply.Id id)
       × MovesTables {A = A} w (changed {A = A} at w (event.Attach device pt_id) (reply.Id id))
       (event.Attach device pt_id) (reply.Id id) [] []
-      × AreFramesChosen w (changed {A = A} at w (event.Attach device pt_id) (reply.Id id)) [] []
+      × AreFramesChosen {A = A} w (changed {A = A} at w (event.Attach device pt_id) (reply.Id id))
+      (event.Attach device pt_id) (reply.Id id) [] []
       × Shows (with_tables [] [] (changed {A = A} at w (event.Attach device pt_id) (reply.Id id)))
       (record s { objects = table; attachments = attachments })
   shows_there at w s table attachments device pt_id id bound width via tidy shows none binding wide there inside counts
@@ -512,7 +513,7 @@ module _ {A : Type 0} where
       ∙ ap (finds_table w.objects pt_id (Some bound)) known
       ∙ finds w pt_id id bound d (kind_of w.objects bound.file pt_id) there_w in
       still {A = A} at (event.Attach device pt_id) via (reply.Id id)
-      (record s { objects = table; attachments = attachments }) w tidy
+      (record s { objects = table; attachments = attachments }) (λ gone t. refl) w tidy
       answers tt shown makes tt
 
   -- ---- by a new page table
@@ -607,7 +608,8 @@ module _ {A : Type 0} where
       × IsChosen {A = A} w (event.Attach device pt_id) via (reply.Id id)
       × MovesTables {A = A} w (changed {A = A} at w (event.Attach device pt_id) (reply.Id id))
       (event.Attach device pt_id) (reply.Id id) taken []
-      × AreFramesChosen w (changed {A = A} at w (event.Attach device pt_id) (reply.Id id)) taken []
+      × AreFramesChosen {A = A} w (changed {A = A} at w (event.Attach device pt_id) (reply.Id id))
+      (event.Attach device pt_id) (reply.Id id) taken []
       × Shows (with_tables taken [] (changed {A = A} at w (event.Attach device pt_id) (reply.Id id)))
       (record made { objects = new; attachments = attachments })
   unfolding settle changed Answers with_tables
@@ -654,7 +656,7 @@ module _ {A : Type 0} where
       let moves = moves_made {A = A} at w s tidy shows bound.file pt_id id width true roomy fresh taken chosen many left
       (event.Attach device pt_id) (reply.Id id)
       (ap (λ (v : World). v.objects) left_is) (ap (λ (v : World). v.areas) left_is)
-      (ap (λ (v : World). v.table_frames) left_is) owned in
+      (ap (λ (v : World). v.table_frames) left_is) owned (λ t. refl) in
       let shown = more_attached (with_tables taken [] table) made new attachments a with objects added in (
         answers,
         tt,

@@ -152,7 +152,8 @@ module _ {A : Type 0} where
       × IsChosen {A = A} w (event.HwptAlloc file request) via (reply.Id id)
       × MovesTables {A = A} w (changed {A = A} at w (event.HwptAlloc file request) (reply.Id id))
       (event.HwptAlloc file request) (reply.Id id) taken []
-      × AreFramesChosen w (changed {A = A} at w (event.HwptAlloc file request) (reply.Id id)) taken []
+      × AreFramesChosen {A = A} w (changed {A = A} at w (event.HwptAlloc file request) (reply.Id id))
+      (event.HwptAlloc file request) (reply.Id id) taken []
       × Shows (with_tables taken [] (changed {A = A} at w (event.HwptAlloc file request) (reply.Id id))) new
   unfolding changed Answers
   shows_allocated at w s new file request id device width via taken tidy shows roomy under wide
@@ -175,5 +176,5 @@ module _ {A : Type 0} where
       (ap (λ (v : World). v.objects) is ∙ objects_with w (made_object file request.ioas id width false))
       (ap (λ (v : World). v.areas) is ∙ areas_with w (made_object file request.ioas id width false))
       (ap (λ (v : World). v.table_frames) is ∙ frames_with w (made_object file request.ioas id width false))
-      owned in
+      owned (λ t. refl) in
       (fresh, tt, moves.0, moves.1, subst (λ v. Shows (with_tables taken [] v) new) (sym is) with)

@@ -11,7 +11,7 @@ use Rattle.iofd_words.specs.Checks.{lacks_new_tables}
 use Rattle.iofd_words.specs.Objects.{is_fresh, with_object}
 use Rattle.iofd_words.specs.Settings.{DeviceSettings}
 use Rattle.iofd_words.specs.TablePlaces.{lacking, live_pages, places_of}
-use Rattle.iofd_words.specs.Tables.{MovesTables, is_orphan, missing_tables}
+use Rattle.iofd_words.specs.Tables.{MovesTables, is_orphan, may_go, missing_tables}
 use Rattle.iofd_words.specs.View.{View, view}
 use Rattle.iofd_words.specs.World.{World}
 use Rattle.iofd_words.specs.declared.event.Event.{Event}
@@ -74,8 +74,9 @@ module _ {A : Type 0} (at : ℕ) (w : World) (s : State A) (tidy : IsTidy at w) 
       → left.objects ≡ with_object (made_object file ioas id width automatic) w.objects → left.areas ≡ w.areas
       → left.table_frames ≡ w.table_frames
       → list_all (λ table. not (is_orphan left.objects table)) w.table_frames ≡ true
-      → MovesTables w left e answer taken [] × AreFramesChosen w left taken []
-  moves_made left e answer objects areas frames owned =
+      → ((t : TableFrame) → may_go left e answer t ≡ false)
+      → MovesTables w left e answer taken [] × AreFramesChosen w left e answer taken []
+  moves_made left e answer objects areas frames owned never =
       let missing : length (missing_tables left.objects left.areas left.table_frames) ≡ length
       (missing_with w (made_object file ioas id width automatic)) =
       ap (λ (os : List Object). length (missing_tables os left.areas left.table_frames)) objects
@@ -84,4 +85,4 @@ module _ {A : Type 0} (at : ℕ) (w : World) (s : State A) (tidy : IsTidy at w) 
       ∙ ap (λ (l : List TableFrame). length (missing_tables
       (with_object (made_object file ioas id width automatic) w.objects) w.areas l)) frames in
       takes w s shows left e answer taken (length taken) (many ∙ sym missing) enough (chosen
-      ∙ sym (least_frames_free w s shows (length taken))) frames owned
+      ∙ sym (least_frames_free w s shows (length taken))) frames owned never

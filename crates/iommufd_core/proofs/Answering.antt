@@ -1,19 +1,20 @@
 -- The record of an event that is refused, and of one that is carried out, with the frames of tables that it moves or
 -- doesn't.
-use Rattle.std.proofs.Common.{◌≡◌, ℕ, Option, Some, None, Result, Ok, Err, List, refl, sym, subst, []}
+use Rattle.std.proofs.Common.{◌≡◌, ℕ, false, Option, Some, None, Result, Ok, Err, List, refl, sym, subst, []}
 use Rattle.std.specs.Prelude.{IsTrue}
 use Rattle.std.specs.Result.{IfOk, OnErr}
 use Rattle.iofd_words.specs.After.{changed}
 use Rattle.iofd_words.specs.Answers.{Answers}
 use Rattle.iofd_words.specs.Checks.{refusal}
 use Rattle.iofd_words.specs.Run.{IsAnswer, Lawful, MovesFrames, after, after_answer}
-use Rattle.iofd_words.specs.Tables.{MovesTables, with_tables}
+use Rattle.iofd_words.specs.Tables.{MovesTables, may_go, with_tables}
 use Rattle.iofd_words.specs.World.{World}
 use Rattle.iofd_words.specs.declared.event.Event.{Event}
 use Rattle.iofd_words.specs.declared.numbers.FrameNo.{FrameNo}
 use Rattle.iofd_words.specs.declared.numbers.PassNo.{PassNo}
 use Rattle.iofd_words.specs.declared.refusal.Cause.{Cause}
 use Rattle.iofd_words.specs.declared.reply.Reply.{Reply}
+use Rattle.iofd_words.specs.declared.rows.TableFrame.{TableFrame}
 use Rattle.iommufd_core.specs.Server.{takes_memory}
 use Rattle.iofd_words.specs.declared.reply.Reply.TheVariants as reply
 use Rattle.iofd_runs.proofs.StillTabled.{MakesNone, TakesNone}
@@ -63,9 +64,10 @@ on_err (Err e) P Q weaker known = weaker known
 -- a commit that moves no frames of tables
 module _ {A : Type 0} (at : ℕ) (e : Event A) (via : Option FrameNo) (old new : State A) (answer : Reply)
     (taken given : List FrameNo) (no_taken : taken ≡ []) (no_given : given ≡ []) (makes : (w : World)
-    → MakesNone w e) (takes : (w : World) → TakesNone w e) where
+    → MakesNone w e) (takes : (w : World) → TakesNone w e)
+    (never : (left : World) (t : TableFrame) → may_go left e answer t ≡ false) where
   pub none_moved : ChosenSteps at e via old answer new → MovingSteps at e via old answer taken given new
-  none_moved steps = rw (no_taken, no_given) (chosen_moves at e via answer new old steps makes (λ w tidy none. takes w))
+  none_moved steps = rw (no_taken, no_given) (chosen_moves at e via answer new never old steps makes (λ w tidy none. takes w))
 
   -- and of which there is one answer, or the server's is any
   pub none_chosen : Steps at e old answer new → ((w : World) → IsChosen w e via answer)

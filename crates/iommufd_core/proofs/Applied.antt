@@ -7,7 +7,7 @@ use Rattle.iofd_rows.proofs.Bools.{and_true}
 use Rattle.iofd_words.specs.After.{changed}
 use Rattle.iofd_words.specs.Checks.{refusal}
 use Rattle.iofd_words.specs.Policy.{Outcome, Passes, Denied, outcomes}
-use Rattle.iofd_words.specs.Run.{Lawful, after, after_answer, world_of}
+use Rattle.iofd_words.specs.Run.{IsAnswer, IsRun, Lawful, after, after_answer, world_of}
 use Rattle.iofd_words.specs.Tables.{with_tables}
 use Rattle.iofd_words.specs.World.{World}
 use Rattle.iofd_words.specs.declared.event.Event.{Event}
@@ -19,15 +19,17 @@ use Rattle.iofd_words.specs.declared.record.Record.{Record}
 use Rattle.iofd_words.specs.declared.refusal.Cause.{Cause}
 use Rattle.iofd_words.specs.declared.reply.Reply.{Reply}
 use Rattle.iofd_runs.proofs.OneMore.{run_more, world_more}
+use Rattle.iofd_runs.specs.Fits.{RowsFit}
+use Rattle.server_state.proofs.KeepsUsed.{keeps_used}
 use Rattle.iofd_runs.proofs.SameSettings.{changed_settings}
-use Rattle.iommufd_core.proofs.Histories.{tidy_run}
-use Rattle.server_state.specs.Choice.{AreFramesChosen, IsChosen, MayUse}
+use Rattle.iommufd_core.proofs.Histories.{fit_run, tidy_run}
+use Rattle.server_state.specs.Choice.{AreFramesChosen, IsChosen, MayUse, NoneIdle}
 use Rattle.iommufd_core.specs.History.{History, may_apply, world}
 use Rattle.iofd_words.specs.Policy.{is_pass_at}
 use Rattle.server_state.specs.Step.{recorded}
 use Rattle.iommufd_core.specs.Kept.{IsKept}
 use Rattle.server_state.specs.Shows.{Shows}
-use Rattle.server_state.specs.Step.{Answered, TidyShowsSame}
+use Rattle.server_state.specs.Step.{Answered, IsTidy, TidyShowsSame}
 use Rattle.server_state.specs.declared.state.State.{State}
 
 -- ---- no event changes what the core was opened with
@@ -63,6 +65,21 @@ may_use h (event.DeviceWrite device iova bytes) (Some frame) is =
     (and_true (is_none _) (list_any (is_pass_at frame) (outcomes (world h) device iova.0 Write)) is).1
 may_use h e (Some frame) is = cc
 
+-- ---- no table is idle after the record
+
+module _ {A : Type 0} (at : ℕ) (w : World) (r : Record A) (tidy : IsTidy at w) (lawful : Lawful at w r)
+    (chosen : refusal w r.event ≡ None
+    → AreFramesChosen w (changed at w r.event r.reply) r.event r.reply r.taken r.given) (fit : RowsFit (after at w r)) where
+  used_after : NoneIdle (after at w r)
+  unfolding after Lawful with_tables
+  used_after = by_cause (refusal w r.event) refl lawful.0 fit
+    where
+      by_cause : (o : Option Cause) → refusal w r.event ≡ o → IsAnswer w r o → RowsFit (after_answer at w r o)
+          → NoneIdle (after_answer at w r o)
+      by_cause None none answers fit = keeps_used at w r.event r.reply r.taken r.given none answers (chosen none) tidy.ids
+          tidy.tabled tidy.debts.areas fit.starts tidy.used
+      by_cause (Some cause) none answers fit = tidy.used
+
 -- ---- the fields
 
 module _ {A : Type 0} (old new : State A) (records : List (Record A)) (kept : IsKept old records) where
@@ -72,7 +89,7 @@ module _ {A : Type 0} (old new : State A) (records : List (Record A)) (kept : Is
 
   pub unchanged_config : TidyShowsSame (length records) old new → new.config ≡ old.config
   unchanged_config stays = same_config (world_of old.config records) kept.shows
-      (stays (world_of old.config records) (tidy_run old.config records kept.run) kept.shows) refl
+      (stays (world_of old.config records) (tidy_run old.config records kept.run kept.used) kept.shows) refl
 
   pub unchanged_kept : TidyShowsSame (length records) old new → IsKept new records
   unchanged_kept stays =
@@ -80,7 +97,8 @@ module _ {A : Type 0} (old new : State A) (records : List (Record A)) (kept : Is
       record {
         run = rw config kept.run;
         shows = subst (λ settings. Shows (world_of settings records) new) (sym config)
-            (stays (world_of old.config records) (tidy_run old.config records kept.run) kept.shows);
+            (stays (world_of old.config records) (tidy_run old.config records kept.run kept.used) kept.shows);
+        used = rw config kept.used;
       }
 
   module _ (pass : PassNo) (e : Event A) (via : Option FrameNo) (answer : Reply) (taken given : List FrameNo)
@@ -90,9 +108,9 @@ module _ {A : Type 0} (old new : State A) (records : List (Record A)) (kept : Is
         × (refusal (world_of old.config records) e ≡ None
         → IsChosen (world_of old.config records) e via answer
         × AreFramesChosen (world_of old.config records)
-        (changed (length records) (world_of old.config records) e answer) taken given)
+        (changed (length records) (world_of old.config records) e answer) e answer taken given)
         × Shows (after (length records) (world_of old.config records) (recorded {A = A} pass e answer taken given)) new
-    told = answered pass (world_of old.config records) (tidy_run old.config records kept.run) kept.shows (λ none. may)
+    told = answered pass (world_of old.config records) (tidy_run old.config records kept.run kept.used) kept.shows (λ none. may)
 
     pub applied_config : new.config ≡ old.config
     applied_config =
@@ -100,13 +118,27 @@ module _ {A : Type 0} (old new : State A) (records : List (Record A)) (kept : Is
         kept.shows told.2
         (after_settings (length records) (world_of old.config records) (recorded pass e answer taken given))
 
+    one_more : IsRun old.config (records ++ recorded pass e answer taken given ∷ [])
+    one_more = run_more old.config records (recorded pass e answer taken given) kept.run told.0
+
+    none_idle : NoneIdle (world_of old.config (records ++ recorded pass e answer taken given ∷ []))
+    none_idle =
+        let all : RowsFit (world_of old.config (records ++ recorded pass e answer taken given ∷ [])) =
+        fit_run old.config (records ++ recorded pass e answer taken given ∷ []) one_more in
+        let fit : RowsFit (after (length records) (world_of old.config records) (recorded pass e answer taken given)) =
+        rw (world_more old.config records (recorded pass e answer taken given)) at all in
+        rw (world_more old.config records (recorded pass e answer taken given))
+        (used_after (length records) (world_of old.config records) (recorded pass e answer taken given)
+        (tidy_run old.config records kept.run kept.used) told.0 (λ none. (told.1 none).1) fit)
+
     pub applied_kept : IsKept new (records ++ recorded pass e answer taken given ∷ [])
     applied_kept =
         record {
-          run = rw applied_config (run_more old.config records (recorded pass e answer taken given) kept.run told.0);
+          run = rw applied_config one_more;
           shows = subst (λ settings. Shows (world_of settings (records ++ recorded pass e answer taken given ∷ [])) new)
               (sym applied_config)
               (rw (world_more old.config records (recorded pass e answer taken given)) told.2);
+          used = rw applied_config none_idle;
         }
 
     pub applied_chosen : refusal (world_of old.config records) e ≡ None
@@ -115,5 +147,5 @@ module _ {A : Type 0} (old new : State A) (records : List (Record A)) (kept : Is
 
     pub applied_frames : refusal (world_of old.config records) e ≡ None
         → AreFramesChosen (world_of old.config records)
-        (changed (length records) (world_of old.config records) e answer) taken given
+        (changed (length records) (world_of old.config records) e answer) e answer taken given
     applied_frames none = (told.1 none).1

@@ -21,6 +21,7 @@ use Rattle.iofd_words.specs.Settings.{Settings}
 use Rattle.iofd_words.specs.Tables.{with_tables}
 use Rattle.iofd_words.specs.World.{opening}
 use Rattle.iofd_words.specs.declared.record.Record.{Record}
+use Rattle.server_state.specs.Choice.{NoneIdle}
 use Rattle.server_state.specs.Step.{IsTidy}
 
 module _ {A : Type 0} where
@@ -30,22 +31,28 @@ module _ {A : Type 0} where
   apart_run settings records run = run_keeps (λ w. are_apart w.areas ≡ true) (λ w taken given apart. apart) keeps_apart
       0 (opening settings) records run refl
 
-  pub tidy_run : (settings : Settings) (records : List (Record A)) → IsRun settings records
-      → IsTidy (length records) (world_of settings records)
+  pub fit_run : (settings : Settings) (records : List (Record A)) → IsRun settings records
+      → RowsFit (world_of settings records)
   unfolding IsRun world_of
-  tidy_run settings records run =
+  fit_run settings records run = run_keeps RowsFit tabled_fit keeps_fit 0 (opening settings) records run (record {
+    pages = refl;
+    starts = refl;
+    rights = refl;
+    rise = refl;
+    user_frames = refl;
+    pin_frames = refl;
+    known = refl;
+    attached = refl;
+  })
+
+  -- and where no table is idle
+  pub tidy_run : (settings : Settings) (records : List (Record A)) → IsRun settings records
+      → NoneIdle (world_of settings records) → IsTidy (length records) (world_of settings records)
+  unfolding IsRun world_of
+  tidy_run settings records run used =
       let usable =
       run_keeps UsableSound tabled_usable keeps_usable 0 (opening settings) records run (opening_usable settings) in
-      let fit = run_keeps RowsFit tabled_fit keeps_fit 0 (opening settings) records run (record {
-        pages = refl;
-        starts = refl;
-        rights = refl;
-        rise = refl;
-        user_frames = refl;
-        pin_frames = refl;
-        known = refl;
-        attached = refl;
-      }) in
+      let fit = fit_run settings records run in
       let pins = run_keeps_at OwnPins tabled_own later_own keeps_own_pins 0 (length records) (opening settings) records
       (omega arith) run (record { pins = opening_pinned settings; own = refl }) in
       let owned = run_keeps_at OwnedPins tabled_owned later_owned keeps_owned_pins 0 (length records)
@@ -66,6 +73,7 @@ module _ {A : Type 0} where
         usable = usable.areas;
         tabled =
             (run_keeps_tables HasTables keeps_tables 0 (opening settings) records run (opening_tables settings)).tables;
+        used = used;
         pins_fit = run_keeps AccessPinsFit tabled_pins_fit keeps_pins_fit 0 (opening settings) records run
             (opening_pins_fit settings);
         few = run_keeps RowsFew tabled_few keeps_few 0 (opening settings) records run (opening_few settings);

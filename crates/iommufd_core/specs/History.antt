@@ -1,5 +1,5 @@
 -- What a core is seen as: what it was opened with, and its records.
-use Rattle.std.specs.Prelude.{◌≡◌, ℕ, Bool, true, false, Option, Some, None, List, []}
+use Rattle.std.specs.Prelude.{◌≡◌, Bool, true, false, Option, Some, None, List, []}
 use Rattle.std.specs.Prelude.{◌∷◌, ◌++◌, length}
 use Rattle.iofd_words.specs.After.{changed}
 use Rattle.iofd_words.specs.Checks.{refusal}
@@ -25,7 +25,8 @@ module _ {A : Type 0} where
   abbrev pub world : History A → World
   world h = world_of h.settings h.records
 
-  -- one more record, of this caller and event and with this reply; for new tables it took the least free frames
+  -- one more record, of this caller and event and with this reply; for new tables it took the least free frames, and
+  -- after an UNMAP that answered bytes it gave those of all idle tables back
   pub record HasOneMore (caller : PassNo) (e : Event A) (answer : Reply) (old new : History A) : Type 0 where
     pub made : Record A
     pub records : new ≡ record old { records = old.records ++ made ∷ [] }
@@ -33,7 +34,8 @@ module _ {A : Type 0} where
     pub event : made.event ≡ e
     pub reply : made.reply ≡ answer
     pub frames : refusal (world old) e ≡ None
-        → AreFramesChosen (world old) (changed (length old.records) (world old) e answer) made.taken made.given
+        → AreFramesChosen (world old) (changed (length old.records) (world old) e answer) e answer made.taken
+        made.given
 
   -- an act may be applied: it has no cached frame, or is a device's write that may pass at that frame
   abbrev pub may_apply : History A → Event A → Option FrameNo → Bool

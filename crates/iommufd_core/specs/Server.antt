@@ -2,6 +2,7 @@
 use Rattle.std.specs.Prelude.{◌≡◌, ◌<◌, ◌⊎◌, ℕ, Bool, true, false, None, IsTrue, List, length, nat_lt}
 use Rattle.iofd_words.specs.Allowed.{ranges_of}
 use Rattle.iofd_words.specs.Checks.{refusal}
+use Rattle.iofd_words.specs.Objects.{has_hwpt}
 use Rattle.iofd_words.specs.declared.event.Event.{Event}
 use Rattle.iofd_words.specs.declared.event.Event.TheVariants as event
 use Rattle.iofd_words.specs.declared.rows.Attachment.{Attachment}
@@ -16,13 +17,13 @@ pub record Server (A : Type 0) : Type 0 where
   pub room : ℕ
 
 -- the events that may take memory beside their record's, where these objects and attachments stand: those by which
--- something comes, and those by which page tables go, for the list of the frames that they give back
+-- something comes, and those by which page tables or their tables go, for the list of the frames that they give back
 abbrev pub takes_memory : {A : Type 0} → List Object → List Attachment → Event A → Bool
 takes_memory objects attachments (event.IoasAlloc file) = true
 takes_memory objects attachments (event.AllowIovas file ioas ranges) = nat_lt 0 (length ranges)
 takes_memory objects attachments (event.Map file request) = true
 takes_memory objects attachments (event.Copy file request) = true
-takes_memory objects attachments (event.Unmap file request) = false
+takes_memory objects attachments (event.Unmap file request) = has_hwpt objects file request.ioas
 takes_memory objects attachments (event.HwptAlloc file request) = true
 takes_memory objects attachments (event.Destroy file id) = has_page_table objects file id
 takes_memory objects attachments (event.Close file) = has_page_tables objects file

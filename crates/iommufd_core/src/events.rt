@@ -115,7 +115,7 @@ fn commit<A: Allocator + Copy>(
         }
         Event::Map(file, request) => map::commit(state, at, *file, *request, taken),
         Event::Copy(file, request) => copy::commit(state, *file, *request, taken),
-        Event::Unmap(file, request) => Ok(unmap::commit(state, *file, *request)),
+        Event::Unmap(file, request) => unmap::commit(state, *file, *request, given),
         Event::HwptAlloc(file, request) => hwpt_alloc::commit(state, *file, *request, taken),
         Event::Destroy(file, id) => destroy::commit(state, *file, *id, given),
         Event::Close(file) => close::commit(state, *file, given),

@@ -365,7 +365,7 @@ none_left p (x ∷ xs) = by_test (p x) refl (none_left p xs)
 -- ---- a table that nothing goes through
 
 -- a table's addresses hold those of a page that goes through it
-page_inside : (level page : ℕ) → ((span_at level (number_at level page)).first ≤ page * 4096)
+pub page_inside : (level page : ℕ) → ((span_at level (number_at level page)).first ≤ page * 4096)
     × (page * 4096 + 4095 ≤ (span_at level (number_at level page)).last)
 unfolding number_at
 page_inside level page =

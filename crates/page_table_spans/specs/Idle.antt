@@ -9,7 +9,7 @@ use Rattle.iofd_words.specs.Span.{span_from}
 use Rattle.iofd_words.specs.declared.numbers.FrameNo.{FrameNo}
 use Rattle.iofd_words.specs.declared.rows.Area.{Area}
 use Rattle.iofd_words.specs.declared.width.Width.{Width}
-use Rattle.area_map_rows.specs.Areas.{areas_outside}
+use Rattle.area_map_rows.specs.Areas.{areas_outside, areas_within}
 use Rattle.frame_memory.specs.Pool.{FramePool}
 use Rattle.page_table_words.specs.Emptied.{GivesUp, number_of}
 use Rattle.page_table_words.specs.Rows.{MappedPage, TableRow, page_at}
@@ -38,13 +38,13 @@ abbrev pub is_idle_between : ℕ → List Area → ℕ → ℕ → ℕ → Table
 is_idle_between levels areas level first end row =
     is_idle_at levels areas level row && (nat_le first (number_of row) && nat_lt (number_of row) end)
 
--- the areas of an address space, of whole pages below the end of the width, of which the span cuts none
+-- of the areas of an address space those in the span are of whole pages below the end of the width, and it cuts none
 pub record CanLeave (width : Width) (areas : List Area) (span : Bounds) : Type 0 where
-  pub pages : All (λ area. IsOfPages width area.span) areas
+  pub pages : All (λ area. IsOfPages width area.span) (areas_within span areas)
   pub uncut : is_cut span areas ≡ false
 
--- while these areas stand no table is idle; mapped pages are of those alone that the span leaves; and of the tables that
--- those leave idle none is below the level
+-- while these areas stand no table is idle; mapped pages are of those alone that the span leaves; and of the tables
+-- that those leave idle none is below the level
 pub record MayShed (levels : ℕ) (areas : List Area) (span : Bounds) (level : ℕ) (rows : List TableRow)
     (pages : List MappedPage) : Type 0 where
   pub needed : list_any (is_idle levels areas) rows ≡ false

@@ -12,7 +12,7 @@ use Rattle.iofd_rows.proofs.Found.{all_weaker}
 use Rattle.iofd_rows.proofs.ListTests.{or_left}
 use Rattle.iofd_runs.proofs.StillTabled.{none_given}
 use Rattle.iofd_words.specs.Frames.{is_free}
-use Rattle.iofd_words.specs.Tables.{MovesTables, are_different, is_among, is_orphan, missing_tables}
+use Rattle.iofd_words.specs.Tables.{MovesTables, are_different, is_among, is_orphan, may_go, missing_tables}
 use Rattle.iofd_words.specs.World.{World}
 use Rattle.iofd_words.specs.declared.event.Event.{Event}
 use Rattle.iofd_words.specs.declared.numbers.FrameNo.{FrameNo}
@@ -21,6 +21,7 @@ use Rattle.iofd_words.specs.declared.rows.TableFrame.{TableFrame}
 use Rattle.user_memory_rows.proofs.FramesFollow.{free_alike}
 use Rattle.server_state.specs.Choice as choice
 use Rattle.server_state.specs.Choice.{AreFramesChosen}
+use Rattle.server_state.proofs.Still.{none_go}
 use Rattle.server_state.specs.Shows.{Shows}
 use Rattle.server_state.specs.declared.state.State.{State}
 use Rattle.page_table_spans.proofs.LeastFrames.{length_least}
@@ -201,8 +202,9 @@ module _ {A : Type 0} (w : World) (s : State A) (shows : Shows w s) where
       → n ≡ length (missing_tables left.objects left.areas left.table_frames) → n ≤ free_count s.pool.holds
       → taken ≡ least_frames s.pool.holds n → left.table_frames ≡ w.table_frames
       → list_all (λ table. not (is_orphan left.objects table)) w.table_frames ≡ true
-      → MovesTables w left e answer taken [] × AreFramesChosen w left taken []
-  takes left e answer taken n missing enough are same owned =
+      → ((t : TableFrame) → may_go left e answer t ≡ false)
+      → MovesTables w left e answer taken [] × AreFramesChosen w left e answer taken []
+  takes left e answer taken n missing enough are same owned never =
       let many : length taken ≡ n = ap length are ∙ length_least s.pool.holds n enough in (
         record {
           enough = many ∙ missing ∙ ap (λ (tables : List TableFrame). length
@@ -215,5 +217,5 @@ module _ {A : Type 0} (w : World) (s : State A) (shows : Shows w s) where
           may = refl;
           rising = refl;
         },
-        record { taken = are ∙ least_frames_free n ∙ ap (choice.least_free w) (sym many); given = refl },
+        record { taken = are ∙ least_frames_free n ∙ ap (choice.least_free w) (sym many); given = none_go _ [] w.table_frames never },
       )

@@ -19,6 +19,7 @@ use Rattle.iofd_words.specs.declared.reply.Reply.{Reply}
 use Rattle.iofd_words.specs.declared.rows.TableFrame.{TableFrame}
 use Rattle.user_memory_rows.proofs.CountBy.{any_count}
 use Rattle.user_memory_rows.specs.Shown.{tables_in}
+use Rattle.server_state.proofs.Still.{none_go}
 use Rattle.server_state.proofs.GivenBack.{among_is, kept_are, rising, given_once, some_time, times_in}
 use Rattle.server_state.specs.Choice.{AreFramesChosen}
 
@@ -68,8 +69,9 @@ module _ {A : Type 0} (w left : World) (e : Event A) (answer : Reply) (goes : Ta
       swapped false false = refl
 
   pub gives : have_own_ids left.objects ≡ true → missing_tables left.objects left.areas left.table_frames ≡ []
-      → MovesTables w left e answer [] given × AreFramesChosen w left [] given
-  gives own none = (
+      → ((t : TableFrame) → may_go left e answer t ≡ false)
+      → MovesTables w left e answer [] given × AreFramesChosen w left e answer [] given
+  gives own none never = (
     moves_given w left e answer given own none stay
         (of_all (λ (t : TableFrame). not (is_orphan left.objects t) || is_among given t.frame) w.table_frames
         (λ t within. rw (orphan t within, among_is goes w.table_frames given once same t within)
@@ -83,8 +85,7 @@ module _ {A : Type 0} (w left : World) (e : Event A) (answer : Reply) (goes : Ta
         (rising given sorted (given_once goes w.table_frames given once same)),
     record {
       taken = refl;
-      given = of_all (λ (frame : FrameNo). list_any (λ (t : TableFrame). eqb t.frame.0 frame.0
-          && is_orphan left.objects t) w.table_frames) given due;
+      given = none_go _ given w.table_frames never;
     },
   )
     where

@@ -37,6 +37,8 @@ pub mod TablesToMap
 pub mod TablesTold
 pub mod TablesUnreached
 pub mod TakenShown
+pub mod UsedTables
+pub mod KeepsUsed
 pub mod Users
 pub mod UsersTold
 pub mod ViewShown

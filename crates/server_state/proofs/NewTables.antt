@@ -25,7 +25,7 @@ use Rattle.server_state.specs.Step.{IsKnown}
 use Rattle.server_state.specs.declared.state.State.{State}
 use Rattle.page_table_spans.specs.Spans.{IsOfPages}
 
-abbrev ends_from : ℕ → Area → Bool
+abbrev pub ends_from : ℕ → Area → Bool
 ends_from end area = leb end area.span.last
 
 -- an area that ends at the end of the width or above it would meet what lies beyond
@@ -50,7 +50,7 @@ whole_pages area ordered pages starts =
     both_true _ _ starts (search (last, arith, nat_tests))
 
 -- each is of pages below the end, in order
-each_below : (width : Width) (low : ℕ) (areas : List Area) → AreApartFrom low areas → list_all is_of_pages areas ≡ true
+pub each_below : (width : Width) (low : ℕ) (areas : List Area) → AreApartFrom low areas → list_all is_of_pages areas ≡ true
     → list_all begins_at_page areas ≡ true → list_any (ends_from (2 ^ bits_of width)) areas ≡ false
     → All (λ area. IsOfPages width area.span) areas
 each_below width low [] apart pages starts none k d within = absurd (omega (arith, within))

@@ -1,11 +1,12 @@
 -- Events that move no frames of tables: the world after the event is the one that is shown.
-use Rattle.std.proofs.Common.{◌≡◌, ℕ, Option, None, List, [], ◌∷◌, ◌++◌, refl, ap, ◌∙◌}
+use Rattle.std.proofs.Common.{◌≡◌, ℕ, Bool, true, false, not, ◌||◌, Option, None, List, [], ◌∷◌, ◌++◌, refl, ap, ◌∙◌}
+use Rattle.std.specs.List.{list_all}
 use Rattle.std.proofs.lemmas.List.{append-nil}
 use Rattle.iofd_runs.proofs.StillTabled.{MakesNone, TakesNone, none_given, stays_tabled}
 use Rattle.iofd_words.specs.After.{changed}
 use Rattle.iofd_words.specs.Answers.{Answers}
 use Rattle.iofd_words.specs.Checks.{refusal}
-use Rattle.iofd_words.specs.Tables.{MissingTable, MovesTables, in_frames, kept_tables, missing_tables, tables_after}
+use Rattle.iofd_words.specs.Tables.{MissingTable, MovesTables, in_frames, is_among, kept_tables, may_go, missing_tables, tables_after}
 use Rattle.iofd_words.specs.Tables.{with_tables}
 use Rattle.iofd_words.specs.World.{World}
 use Rattle.iofd_words.specs.declared.event.Event.{Event}
@@ -33,19 +34,26 @@ pub same_world : (w : World) → with_tables [] [] w ≡ w
 unfolding with_tables
 same_world w = ap (λ (tables : List TableFrame). record w { table_frames = tables }) (none_moved w)
 
-module _ {A : Type 0} (at : ℕ) (e : Event A) (via : Option FrameNo) (answer : Reply) (new : State A) where
+-- where none may go, each that may does
+pub none_go : (may : TableFrame → Bool) (given : List FrameNo) (tables : List TableFrame)
+    → ((t : TableFrame) → may t ≡ false) → list_all (λ t. not (may t) || is_among given t.frame) tables ≡ true
+none_go may given [] never = refl
+none_go may given (t ∷ tables) never = let here = never t in rw here (none_go may given tables never)
+
+module _ {A : Type 0} (at : ℕ) (e : Event A) (via : Option FrameNo) (answer : Reply) (new : State A)
+    (never : (left : World) (t : TableFrame) → may_go left e answer t ≡ false) where
   -- from one world
   pub still : (w : World) → IsTidy at w → Answers w e answer → IsChosen w e via answer
       → Shows (changed at w e answer) new → MakesNone w e → TakesNone w e
       → Answers w e answer × IsChosen w e via answer
       × MovesTables w (changed at w e answer) e answer [] []
-      × AreFramesChosen w (changed at w e answer) [] []
+      × AreFramesChosen w (changed at w e answer) e answer [] []
       × Shows (with_tables [] [] (changed at w e answer)) new
   still w tidy answers chosen shows makes takes = (
     answers,
     chosen,
     stays_tabled at w e answer answers makes takes tidy.tabled,
-    record { taken = refl; given = refl },
+    record { taken = refl; given = none_go _ [] w.table_frames (never (changed at w e answer)) },
     rw (same_world (changed at w e answer)) shows,
   )
 

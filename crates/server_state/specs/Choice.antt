@@ -1,7 +1,8 @@
 -- Which of the lawful answers is given: where a flush is owed the fault, to a user's new page and to each new table the
--- least free frame, and to a MAP without a fixed address the least that may be chosen.
-use Rattle.std.specs.Prelude.{◌≡◌, ℕ, ◌≤◌, ◌==◌, Bool, true, false, Option, Some, None, List, []}
-use Rattle.std.specs.Prelude.{◌∷◌, ◌&&◌, filter}
+-- least free frame, to a MAP without a fixed address the least that may be chosen, and after an UNMAP each idle table
+-- goes.
+use Rattle.std.specs.Prelude.{◌≡◌, ℕ, ◌≤◌, Bool, true, false, not, ◌||◌, Option, Some, None, List, []}
+use Rattle.std.specs.Prelude.{◌∷◌, filter}
 use Rattle.std.specs.Prelude.{find, length, map, take, Contains}
 use Rattle.std.specs.List.{list_all, list_any, range_with_len}
 use Rattle.std.specs.Option.{option_map}
@@ -11,11 +12,12 @@ use Rattle.iofd_words.specs.Frames.{is_free}
 use Rattle.iofd_words.specs.Policy.{Outcome, Passes, Denied, outcomes}
 use Rattle.iofd_words.specs.Copies.{placed_as}
 use Rattle.iofd_words.specs.Rights.{is_fixed}
-use Rattle.iofd_words.specs.Tables.{is_orphan}
+use Rattle.iofd_words.specs.Tables.{is_among, is_idle, may_go}
 use Rattle.iofd_words.specs.View.{view}
 use Rattle.iofd_words.specs.World.{World}
 use Rattle.iofd_words.specs.declared.event.MapRequest.{MapRequest}
 use Rattle.iofd_words.specs.declared.numbers.FileNo.{FileNo}
+use Rattle.iofd_words.specs.declared.numbers.ObjId.{ObjId}
 use Rattle.iofd_words.specs.declared.event.Event.{Event}
 use Rattle.iofd_words.specs.declared.event.Event.TheVariants as event
 use Rattle.iofd_words.specs.declared.fault.AccessKind.TheVariants.{Write}
@@ -107,8 +109,15 @@ least_free w count =
     (take count (filter (is_free w.settings.pool w.user_pages w.pins w.table_frames)
     (range_with_len 0 w.settings.pool)))
 
--- new tables get the least free frames in turn, and only the tables of page tables that are gone give theirs back
-pub record AreFramesChosen (w left : World) (new old : List FrameNo) : Type 0 where
+-- new tables get the least free frames in turn, and each table that may go does: after an UNMAP that answers bytes all
+-- that are idle then. No others go but those of page tables that are gone, and after a pending UNMAP none
+-- (`Tables.MovesTables`)
+pub record AreFramesChosen {A : Type 0} (w left : World) (e : Event A) (answer : Reply)
+    (new old : List FrameNo) : Type 0 where
   pub taken : new ≡ least_free w (length new)
-  pub given : list_all (λ frame. list_any (λ table. table.frame.0 == frame.0 && is_orphan left.objects table)
-      w.table_frames) old ≡ true
+  pub given : list_all (λ table. not (may_go left e answer table) || is_among old table.frame) w.table_frames ≡ true
+
+-- while that is chosen no table is idle: below each root an area of the address space goes through each table
+abbrev pub NoneIdle : World → Type 0
+NoneIdle w =
+    (file : FileNo) (ioas : ObjId) → list_any (is_idle w.objects w.areas file ioas) w.table_frames ≡ false

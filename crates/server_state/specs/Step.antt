@@ -26,7 +26,7 @@ use Rattle.iofd_words.specs.declared.reply.Reply.{Reply}
 use Rattle.iofd_words.specs.Run.{Lawful, after}
 use Rattle.iofd_words.specs.Tables.{MovesTables, with_tables}
 use Rattle.iofd_words.specs.declared.numbers.PassNo.{PassNo}
-use Rattle.server_state.specs.Choice.{AreFramesChosen, IsChosen, MayUse}
+use Rattle.server_state.specs.Choice.{AreFramesChosen, IsChosen, MayUse, NoneIdle}
 use Rattle.server_state.specs.Shows.{Shows}
 use Rattle.server_state.specs.declared.state.State.{State}
 
@@ -48,6 +48,8 @@ pub record IsTidy (at : ℕ) (w : World) : Type 0 where
   pub usable : AreasUsable w
   -- each page table has the tables that it needs
   pub tabled : AreTabled w
+  -- and below its root none without an area: by what this server chooses, and not of every run
+  pub used : NoneIdle w
   -- access pins are of whole pages, and few, as objects and areas are
   pub pins_fit : AccessPinsFit w
   pub few : RowsFew w
@@ -126,7 +128,7 @@ module _ {A : Type 0} where
       (w : World) → IsTidy at w → Shows w old → refusal w event ≡ None → MayUse w event via
       → Answers w event reply × IsChosen w event via reply
       × MovesTables w (changed at w event reply) event reply taken given
-      × AreFramesChosen w (changed at w event reply) taken given
+      × AreFramesChosen w (changed at w event reply) event reply taken given
       × Shows (with_tables taken given (changed at w event reply)) new
 
   -- whatever the event: its record is one that may be made, its reply and its frames are those that are chosen, and the
@@ -137,5 +139,5 @@ module _ {A : Type 0} where
       (pass : PassNo) (w : World) → IsTidy at w → Shows w old → (refusal w event ≡ None → MayUse w event via)
       → Lawful at w (recorded {A = A} pass event reply taken given)
       × (refusal w event ≡ None →
-      IsChosen w event via reply × AreFramesChosen w (changed at w event reply) taken given)
+      IsChosen w event via reply × AreFramesChosen w (changed at w event reply) event reply taken given)
       × Shows (after at w (recorded {A = A} pass event reply taken given)) new

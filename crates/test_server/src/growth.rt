@@ -1,8 +1,8 @@
 //! Each growth refused in turn: the answer is want of memory, nothing has changed, and the step gives its reply later.
 
 use crate::scripts::{
-    ACCESS, COPIED, COPIES, NOTICED, ONE_SPACE, ONE_TABLE, PINNED, Parts, RANGES, SPACES, Script,
-    TWO_TABLES,
+    ACCESS, COPIED, COPIES, EMPTIED, NOTICED, ONE_SPACE, ONE_TABLE, PINNED, Parts, RANGES, SPACES,
+    Script, TAKEN_DOWN, TWO_TABLES,
 };
 use crate::steps::{Step, answered, config, event, read};
 use iofd_words::{Answer, Config, NoMemory, Query, Reply, UserNo};
@@ -164,7 +164,7 @@ fn a_refused_growth_changes_nothing(rt: HostRuntime) {
     assert!(rt; grows(rt.alloc(), OF_ONE_TABLE));
 }
 
-static OF_TWO_TABLES: Run = (13, 81920, &[(TWO_TABLES, 8)]);
+static OF_TWO_TABLES: Run = (13, 81920, &[(TWO_TABLES, 6), (EMPTIED, 1), (TAKEN_DOWN, 2)]);
 
 #[test]
 fn a_refused_growth_leaves_two_page_tables(rt: HostRuntime) {

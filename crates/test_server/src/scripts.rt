@@ -78,7 +78,14 @@ pub(crate) const TWO_TABLES: Script = &[
     (Step::Flush(NARROW), Reply::Done),
     (Step::Unmap(0x1000), AGAIN),
     (Step::Flush(WIDE), Reply::Done),
-    (Step::Unmap(0x1000), Reply::Bytes(0x1000)),
+];
+
+/// Of the tables of the page that goes the other area needs three still, the roots and 5: a list of four is needed.
+pub(crate) const EMPTIED: Script = &[(Step::Unmap(0x1000), Reply::Bytes(0x1000))];
+
+/// The least of these four is given out again.
+pub(crate) const TAKEN_DOWN: Script = &[
+    (Step::Page(0x13000), Reply::Frame(FrameNo(3))),
     (Step::Detach(WIDE), Reply::Done),
     (Step::Destroy(FIRST, 4), IN_USE),
     (Step::Detach(NARROW), Reply::Done),

@@ -1,4 +1,4 @@
-use Rattle.std.proofs.Common.{[], IsTrue, refl, sym, subst}
+use Rattle.std.proofs.Common.{[], refl, sym, subst}
 use Rattle.iofd_words.specs.declared.event.Event.{Event}
 use Rattle.iommufd_core.proofs.Answering.{granted_as, granted_at, granted_known, granted_via, if_ok, none_chosen}
 use Rattle.iommufd_core.proofs.Answering.{none_moved, on_err, takes_as}
@@ -13,7 +13,7 @@ returns-in-IoasAlloc-clause-ok g c = if_ok c.commit.result _ _
     (λ reply steps. subst (λ (e : Event _). MovingSteps c.args.at e c.args.act.now.via c.args.state.now reply
     c.args.taken.now.items c.args.given.now.items c.commit.new.state) (sym c.in-IoasAlloc.is)
     (none_chosen c.args.at _ c.args.act.now.via c.args.state.now c.commit.new.state reply c.args.taken.now.items
-    c.args.given.now.items c.requires.none_taken c.requires.none_given (λ w. tt) (λ w. tt)
+    c.args.given.now.items c.requires.none_taken c.requires.none_given (λ w. tt) (λ w. tt) (λ left t. refl)
     (steps c.args.at) (λ w. tt)))
     c.commit.ensures.ok
 
@@ -26,8 +26,7 @@ returns-in-AllowIovas-clause-ok g c = if_ok c.commit-in-AllowIovas.result _ _
     (λ reply steps. subst (λ (e : Event _). MovingSteps c.args.at e c.args.act.now.via c.args.state.now reply
     c.args.taken.now.items c.args.given.now.items c.commit-in-AllowIovas.new.state) (sym c.in-AllowIovas.is)
     (none_chosen c.args.at _ c.args.act.now.via c.args.state.now c.commit-in-AllowIovas.new.state reply
-    c.args.taken.now.items c.args.given.now.items c.requires.none_taken c.requires.none_given (λ w. tt)
-    (λ w. tt) (steps c.args.at) (λ w. tt)))
+    c.args.taken.now.items c.args.given.now.items c.requires.none_taken c.requires.none_given (λ w. tt) (λ w. tt) (λ left t. refl) (steps c.args.at) (λ w. tt)))
     c.commit-in-AllowIovas.ensures.ok
 
 pub returns-in-AllowIovas-clause-err : goal.returns-in-AllowIovas-clause-err
@@ -39,7 +38,7 @@ returns-in-Bind-clause-ok g c = if_ok c.commit-in-Bind.result _ _
     (λ reply steps. subst (λ (e : Event _). MovingSteps c.args.at e c.args.act.now.via c.args.state.now reply
     c.args.taken.now.items c.args.given.now.items c.commit-in-Bind.new.state) (sym c.in-Bind.is)
     (none_chosen c.args.at _ c.args.act.now.via c.args.state.now c.commit-in-Bind.new.state reply c.args.taken.now.items
-    c.args.given.now.items c.requires.none_taken c.requires.none_given (λ w. tt) (λ w. tt)
+    c.args.given.now.items c.requires.none_taken c.requires.none_given (λ w. tt) (λ w. tt) (λ left t. refl)
     (steps c.args.at) (λ w. tt)))
     c.commit-in-Bind.ensures.ok
 
@@ -48,7 +47,7 @@ returns-in-AccessCreate-clause-ok g c = if_ok c.commit-in-AccessCreate.result _ 
     (λ reply steps. subst (λ (e : Event _). MovingSteps c.args.at e c.args.act.now.via c.args.state.now reply
     c.args.taken.now.items c.args.given.now.items c.commit-in-AccessCreate.new.state) (sym c.in-AccessCreate.is)
     (none_chosen c.args.at _ c.args.act.now.via c.args.state.now c.commit-in-AccessCreate.new.state reply
-    c.args.taken.now.items c.args.given.now.items c.requires.none_taken c.requires.none_given (λ w. tt) (λ w. tt)
+    c.args.taken.now.items c.args.given.now.items c.requires.none_taken c.requires.none_given (λ w. tt) (λ w. tt) (λ left t. refl)
     (steps c.args.at) (λ w. tt)))
     c.commit-in-AccessCreate.ensures.ok
 
@@ -57,7 +56,7 @@ returns-in-AccessPin-clause-ok g c = if_ok c.commit-in-AccessPin.result _ _
     (λ reply steps. subst (λ (e : Event _). MovingSteps c.args.at e c.args.act.now.via c.args.state.now reply
     c.args.taken.now.items c.args.given.now.items c.commit-in-AccessPin.new.state) (sym c.in-AccessPin.is)
     (none_chosen c.args.at _ c.args.act.now.via c.args.state.now c.commit-in-AccessPin.new.state reply
-    c.args.taken.now.items c.args.given.now.items c.requires.none_taken c.requires.none_given (λ w. tt) (λ w. tt)
+    c.args.taken.now.items c.args.given.now.items c.requires.none_taken c.requires.none_given (λ w. tt) (λ w. tt) (λ left t. refl)
     (steps c.args.at) (λ w. tt)))
     c.commit-in-AccessPin.ensures.ok
 
@@ -73,21 +72,13 @@ pub returns-in-AccessPin-clause-err : goal.returns-in-AccessPin-clause-err
 returns-in-AccessPin-clause-err g c = on_err c.commit-in-AccessPin.result _ _
     (λ same w tidy shows. same c.args.at w tidy shows) c.commit-in-AccessPin.ensures.err
 
-pub returns-in-Unmap-clause-ok : goal.returns-in-Unmap-clause-ok
-returns-in-Unmap-clause-ok g c =
-    subst (λ (e : Event _). MovingSteps c.args.at e c.args.act.now.via c.args.state.now c.commit-in-Unmap.result
-    c.args.taken.now.items c.args.given.now.items c.commit-in-Unmap.new.state) (sym c.in-Unmap.is)
-    (none_chosen c.args.at _ c.args.act.now.via c.args.state.now c.commit-in-Unmap.new.state c.commit-in-Unmap.result
-    c.args.taken.now.items c.args.given.now.items c.requires.none_taken c.requires.none_given (λ w. tt)
-    (λ w. tt) (c.commit-in-Unmap.ensures c.args.at) (λ w. tt))
-
 pub returns-in-UserUnmap-clause-ok : goal.returns-in-UserUnmap-clause-ok
 returns-in-UserUnmap-clause-ok g c =
     subst (λ (e : Event _). MovingSteps c.args.at e c.args.act.now.via c.args.state.now c.commit-in-UserUnmap.result
     c.args.taken.now.items c.args.given.now.items c.commit-in-UserUnmap.new.state) (sym c.in-UserUnmap.is)
     (none_chosen c.args.at _ c.args.act.now.via c.args.state.now c.commit-in-UserUnmap.new.state
     c.commit-in-UserUnmap.result c.args.taken.now.items c.args.given.now.items c.requires.none_taken
-    c.requires.none_given (λ w. tt) (λ w. tt) (c.commit-in-UserUnmap.ensures c.args.at) (λ w. tt))
+    c.requires.none_given (λ w. tt) (λ w. tt) (λ left t. refl) (c.commit-in-UserUnmap.ensures c.args.at) (λ w. tt))
 
 pub returns-in-UserWrite-clause-ok : goal.returns-in-UserWrite-clause-ok
 returns-in-UserWrite-clause-ok g c =
@@ -95,15 +86,14 @@ returns-in-UserWrite-clause-ok g c =
     c.args.taken.now.items c.args.given.now.items c.commit-in-UserWrite.new.state) (sym c.in-UserWrite.is)
     (none_chosen c.args.at _ c.args.act.now.via c.args.state.now c.commit-in-UserWrite.new.state
     c.commit-in-UserWrite.result c.args.taken.now.items c.args.given.now.items c.requires.none_taken
-    c.requires.none_given (λ w. tt) (λ w. tt) (c.commit-in-UserWrite.ensures c.args.at) (λ w. tt))
+    c.requires.none_given (λ w. tt) (λ w. tt) (λ left t. refl) (c.commit-in-UserWrite.ensures c.args.at) (λ w. tt))
 
 pub returns-in-Unbind-clause-ok : goal.returns-in-Unbind-clause-ok
 returns-in-Unbind-clause-ok g c =
     subst (λ (e : Event _). MovingSteps c.args.at e c.args.act.now.via c.args.state.now c.commit-in-Unbind.result
     c.args.taken.now.items c.args.given.now.items c.commit-in-Unbind.new.state) (sym c.in-Unbind.is)
     (none_chosen c.args.at _ c.args.act.now.via c.args.state.now c.commit-in-Unbind.new.state c.commit-in-Unbind.result
-    c.args.taken.now.items c.args.given.now.items c.requires.none_taken c.requires.none_given (λ w. tt)
-    (λ w. tt) (c.commit-in-Unbind.ensures c.args.at) (λ w. tt))
+    c.args.taken.now.items c.args.given.now.items c.requires.none_taken c.requires.none_given (λ w. tt) (λ w. tt) (λ left t. refl) (c.commit-in-Unbind.ensures c.args.at) (λ w. tt))
 
 pub returns-in-AccessAttach-clause-ok : goal.returns-in-AccessAttach-clause-ok
 returns-in-AccessAttach-clause-ok g c =
@@ -111,7 +101,7 @@ returns-in-AccessAttach-clause-ok g c =
     c.args.taken.now.items c.args.given.now.items c.commit-in-AccessAttach.new.state) (sym c.in-AccessAttach.is)
     (none_chosen c.args.at _ c.args.act.now.via c.args.state.now c.commit-in-AccessAttach.new.state
     c.commit-in-AccessAttach.result c.args.taken.now.items c.args.given.now.items c.requires.none_taken
-    c.requires.none_given (λ w. tt) (λ w. tt) (c.commit-in-AccessAttach.ensures c.args.at) (λ w. tt))
+    c.requires.none_given (λ w. tt) (λ w. tt) (λ left t. refl) (c.commit-in-AccessAttach.ensures c.args.at) (λ w. tt))
 
 pub returns-in-AccessDetach-clause-ok : goal.returns-in-AccessDetach-clause-ok
 returns-in-AccessDetach-clause-ok g c =
@@ -119,7 +109,7 @@ returns-in-AccessDetach-clause-ok g c =
     c.args.taken.now.items c.args.given.now.items c.commit-in-AccessDetach.new.state) (sym c.in-AccessDetach.is)
     (none_chosen c.args.at _ c.args.act.now.via c.args.state.now c.commit-in-AccessDetach.new.state
     c.commit-in-AccessDetach.result c.args.taken.now.items c.args.given.now.items c.requires.none_taken
-    c.requires.none_given (λ w. tt) (λ w. tt) (c.commit-in-AccessDetach.ensures c.args.at) (λ w. tt))
+    c.requires.none_given (λ w. tt) (λ w. tt) (λ left t. refl) (c.commit-in-AccessDetach.ensures c.args.at) (λ w. tt))
 
 pub returns-in-AccessUnpin-clause-ok : goal.returns-in-AccessUnpin-clause-ok
 returns-in-AccessUnpin-clause-ok g c =
@@ -127,7 +117,7 @@ returns-in-AccessUnpin-clause-ok g c =
     c.args.taken.now.items c.args.given.now.items c.commit-in-AccessUnpin.new.state) (sym c.in-AccessUnpin.is)
     (none_chosen c.args.at _ c.args.act.now.via c.args.state.now c.commit-in-AccessUnpin.new.state
     c.commit-in-AccessUnpin.result c.args.taken.now.items c.args.given.now.items c.requires.none_taken
-    c.requires.none_given (λ w. tt) (λ w. tt) (c.commit-in-AccessUnpin.ensures c.args.at) (λ w. tt))
+    c.requires.none_given (λ w. tt) (λ w. tt) (λ left t. refl) (c.commit-in-AccessUnpin.ensures c.args.at) (λ w. tt))
 
 pub returns-in-AccessWrite-clause-ok : goal.returns-in-AccessWrite-clause-ok
 returns-in-AccessWrite-clause-ok g c =
@@ -135,23 +125,21 @@ returns-in-AccessWrite-clause-ok g c =
     c.args.taken.now.items c.args.given.now.items c.commit-in-AccessWrite.new.state) (sym c.in-AccessWrite.is)
     (none_chosen c.args.at _ c.args.act.now.via c.args.state.now c.commit-in-AccessWrite.new.state
     c.commit-in-AccessWrite.result c.args.taken.now.items c.args.given.now.items c.requires.none_taken
-    c.requires.none_given (λ w. tt) (λ w. tt) (c.commit-in-AccessWrite.ensures c.args.at) (λ w. tt))
+    c.requires.none_given (λ w. tt) (λ w. tt) (λ left t. refl) (c.commit-in-AccessWrite.ensures c.args.at) (λ w. tt))
 
 pub returns-in-Flush-clause-ok : goal.returns-in-Flush-clause-ok
 returns-in-Flush-clause-ok g c =
     subst (λ (e : Event _). MovingSteps c.args.at e c.args.act.now.via c.args.state.now c.commit-in-Flush.result
     c.args.taken.now.items c.args.given.now.items c.commit-in-Flush.new.state) (sym c.in-Flush.is)
     (none_chosen c.args.at _ c.args.act.now.via c.args.state.now c.commit-in-Flush.new.state c.commit-in-Flush.result
-    c.args.taken.now.items c.args.given.now.items c.requires.none_taken c.requires.none_given (λ w. tt)
-    (λ w. tt) (c.commit-in-Flush.ensures c.args.at) (λ w. tt))
+    c.args.taken.now.items c.args.given.now.items c.requires.none_taken c.requires.none_given (λ w. tt) (λ w. tt) (λ left t. refl) (c.commit-in-Flush.ensures c.args.at) (λ w. tt))
 
 pub returns-in-UserMap-clause-ok : goal.returns-in-UserMap-clause-ok
 returns-in-UserMap-clause-ok g c = if_ok c.commit-in-UserMap.result _ _
     (λ reply steps. subst (λ (e : Event _). MovingSteps c.args.at e c.args.act.now.via c.args.state.now reply
     c.args.taken.now.items c.args.given.now.items c.commit-in-UserMap.new.state) (sym c.in-UserMap.is)
     (none_moved c.args.at _ c.args.act.now.via c.args.state.now c.commit-in-UserMap.new.state reply
-    c.args.taken.now.items c.args.given.now.items c.requires.none_taken c.requires.none_given (λ w. tt)
-    (λ w. tt) (steps c.args.at c.args.act.now.via)))
+    c.args.taken.now.items c.args.given.now.items c.requires.none_taken c.requires.none_given (λ w. tt) (λ w. tt) (λ left t. refl) (steps c.args.at c.args.act.now.via)))
     c.commit-in-UserMap.ensures.ok
 
 pub returns-in-UserMap-clause-err : goal.returns-in-UserMap-clause-err
@@ -164,7 +152,7 @@ returns-in-DeviceWrite-clause-ok g c =
     c.args.taken.now.items c.args.given.now.items c.commit-in-DeviceWrite.new.state) (sym c.in-DeviceWrite.is)
     (none_moved c.args.at _ c.args.act.now.via c.args.state.now c.commit-in-DeviceWrite.new.state
     c.commit-in-DeviceWrite.result c.args.taken.now.items c.args.given.now.items c.requires.none_taken
-    c.requires.none_given (λ w. tt) (λ w. tt) (c.commit-in-DeviceWrite.ensures c.args.at))
+    c.requires.none_given (λ w. tt) (λ w. tt) (λ left t. refl) (c.commit-in-DeviceWrite.ensures c.args.at))
 
 -- ---- events that take frames, or give them back
 
@@ -208,6 +196,17 @@ pub returns-in-Attach-clause-err : goal.returns-in-Attach-clause-err
 returns-in-Attach-clause-err g c =
     on_err c.commit-in-Attach.result _ _ (λ same w tidy shows. same w shows) c.commit-in-Attach.ensures.err
 
+pub returns-in-Unmap-clause-ok : goal.returns-in-Unmap-clause-ok
+returns-in-Unmap-clause-ok g c = rw c.requires.none_taken (if_ok c.commit-in-Unmap.result _ _
+    (λ reply steps. subst (λ (e : Event _). MovingSteps c.args.at e c.args.act.now.via c.args.state.now reply []
+    c.commit-in-Unmap.new.given.items c.commit-in-Unmap.new.state) (sym c.in-Unmap.is) (steps
+    c.args.at c.args.act.now.via))
+    c.commit-in-Unmap.ensures.ok)
+
+pub returns-in-Unmap-clause-err : goal.returns-in-Unmap-clause-err
+returns-in-Unmap-clause-err g c =
+    on_err c.commit-in-Unmap.result _ _ (λ same w tidy shows. same w shows) c.commit-in-Unmap.ensures.err
+
 pub returns-in-Destroy-clause-ok : goal.returns-in-Destroy-clause-ok
 returns-in-Destroy-clause-ok g c = rw c.requires.none_taken (if_ok c.commit-in-Destroy.result _ _
     (λ reply steps. subst (λ (e : Event _). MovingSteps c.args.at e c.args.act.now.via c.args.state.now reply []
@@ -242,6 +241,10 @@ returns-in-Detach-clause-err g c =
     on_err c.commit-in-Detach.result _ _ (λ same w tidy shows. same w shows) c.commit-in-Detach.ensures.err
 
 -- ---- want of memory, where page tables may go
+
+pub returns-in-Unmap-clause-memory : goal.returns-in-Unmap-clause-memory
+returns-in-Unmap-clause-memory g c = on_err c.commit-in-Unmap.result _ _
+    (takes_as c.args.state.now _ _ c.in-Unmap.is) c.commit-in-Unmap.ensures.memory
 
 pub returns-in-Destroy-clause-memory : goal.returns-in-Destroy-clause-memory
 returns-in-Destroy-clause-memory g c = on_err c.commit-in-Destroy.result _ _
@@ -293,8 +296,8 @@ pub commit-requires-in-AccessCreate : goal.commit-requires-in-AccessCreate
 commit-requires-in-AccessCreate g c =
     granted_as c.args.at _ _ c.args.act.now.via c.args.state.now c.in-AccessCreate.is c.requires.granted
 
-pub commit-requires-in-Unmap : goal.commit-requires-in-Unmap
-commit-requires-in-Unmap g c =
+pub commit-requires-in-Unmap-clause-granted : goal.commit-requires-in-Unmap-clause-granted
+commit-requires-in-Unmap-clause-granted g c =
     granted_as c.args.at _ _ c.args.act.now.via c.args.state.now c.in-Unmap.is c.requires.granted
 
 pub commit-requires-in-UserMap : goal.commit-requires-in-UserMap

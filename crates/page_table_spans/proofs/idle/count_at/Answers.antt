@@ -1,7 +1,7 @@
 use Rattle.std.proofs.Common.{◌||◌, ◌≡◌, ℕ, ◌+◌, ◌≤◌, false, List, [], ◌∷◌, max, sym, ap, ◌∙◌, arith, subst}
 use Rattle.std.specs.List.{All}
 use Rattle.std.proofs.lemmas.Bool.{false≢true}
-use Rattle.std.proofs.lemmas.List.Elements.{All-filter, All-head, All-tail}
+use Rattle.std.proofs.lemmas.List.Elements.{All-head, All-tail}
 use Rattle.iofd_words.specs.Levels.{levels_of, number_at}
 use Rattle.iofd_words.specs.Pages.{page_of}
 use Rattle.iofd_words.specs.Span.{lies_in}
@@ -27,7 +27,7 @@ loop-area-init g c =
     rw (c.into_iter-area-iterator.ensures.into_iter_gives, c.within-area-items.ensures.value) (record {
       are = all_left c.args.level (areas_within c.args.span own)
           (kept-filter in_span own c.within-area-items.ensures.kept).apart;
-      pages = All-filter in_span (λ (area : Area). IsOfPages c.args.table.now.width area.span) own c.requires.areas.pages;
+      pages = c.requires.areas.pages;
       few = omega arith;
       bound = omega arith;
       idle = λ rows pages stands needed. sym (count_never (is_idle_between (levels_of c.args.table.now.width)

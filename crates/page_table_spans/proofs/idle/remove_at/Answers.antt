@@ -3,7 +3,7 @@ use Rattle.std.proofs.Common.{◌∙◌, arith, subst, vec_len}
 use Rattle.std.specs.Prelude.{vec_capacity}
 use Rattle.std.specs.List.{All, AllByRecursion}
 use Rattle.std.proofs.lemmas.Bool.{false≢true}
-use Rattle.std.proofs.lemmas.List.Elements.{All-filter, All-head, All-tail}
+use Rattle.std.proofs.lemmas.List.Elements.{All-head, All-tail}
 use Rattle.iofd_words.specs.Levels.{levels_of, number_at}
 use Rattle.iofd_words.specs.Pages.{page_of}
 use Rattle.iofd_words.specs.Span.{lies_in}
@@ -29,7 +29,7 @@ loop-area-init g c =
     rw (c.into_iter-area-iterator.ensures.into_iter_gives, c.within-area-items.ensures.value) (record {
       are = all_left c.args.level (areas_within c.args.span own)
           (kept-filter in_span own c.within-area-items.ensures.kept).apart;
-      pages = All-filter in_span (λ (area : Area). IsOfPages c.args.table.now.width area.span) own c.requires.areas.pages;
+      pages = c.requires.areas.pages;
       bound = omega arith;
       table = refl;
       capacity = refl;

@@ -1,4 +1,4 @@
-use Rattle.std.proofs.Common.{◌≡◌, IsTrue, length, inl, inr, refl, ◌∙◌, ap, subst, sym, arith, vec_capacity, vec_len}
+use Rattle.std.proofs.Common.{◌≡◌, length, inl, inr, refl, ◌∙◌, ap, subst, sym, arith, vec_capacity, vec_len}
 use Rattle.iofd_words.specs.Run.{world_of}
 use Rattle.iommufd_core.proofs.Applied.{may_use, unchanged_config, unchanged_kept, applied_chosen, applied_config}
 use Rattle.iommufd_core.proofs.Applied.{applied_frames, applied_kept}
@@ -109,7 +109,7 @@ pub returns-in_default-answer-clause-memory : goal.returns-in_default-answer-cla
 returns-in_default-answer-clause-memory g c =
     let old = c.self.inside.state in
     let records = c.self.inside.records.items in
-    let tidy = tidy_run old.config records c.self.invariant.run in
+    let tidy = tidy_run old.config records c.self.invariant.run c.self.invariant.used in
     let wants = c.in_default-answer.ensures.memory in
     rw (← c.self.view_is) (inr (
       sym (same_refusal (world_of old.config records) old c.self.invariant.shows tidy.tabled.owned
@@ -128,7 +128,7 @@ answer-requires-clause-called g c =
     (rw (← c.self.view_is) at c.requires) in
     let called : IsCalled (length records) act.event act.via state = record {
       world = world_of state.config records;
-      tidy = tidy_run state.config records c.self.invariant.run;
+      tidy = tidy_run state.config records c.self.invariant.run c.self.invariant.used;
       shows = c.self.invariant.shows;
       may = λ none. may;
     } in

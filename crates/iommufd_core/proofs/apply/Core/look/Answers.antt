@@ -8,7 +8,7 @@ returns g c =
     let settings = c.self.inside.state.config in
     let records = c.self.inside.records.items in
     rw (← c.self.view_is) (c.look.ensures (length records) (world_of settings records) records
-    (tidy_run settings records c.self.invariant.run) c.self.invariant.shows)
+    (tidy_run settings records c.self.invariant.run c.self.invariant.used) c.self.invariant.shows)
 
 pub look-requires : goal.look-requires
 look-requires g c =
@@ -18,6 +18,6 @@ look-requires g c =
       at = length records;
       world = world_of settings records;
       tidy =
-          tidy_run settings records c.self.invariant.run;
+          tidy_run settings records c.self.invariant.run c.self.invariant.used;
       shows = c.self.invariant.shows;
     }

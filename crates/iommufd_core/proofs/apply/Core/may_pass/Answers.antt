@@ -19,7 +19,7 @@ returns-then-is_none g c =
     let state = c.self.inside.state in
     let w = world_of state.config c.self.inside.records.items in
     let shows = c.self.invariant.shows in
-    let tidy = tidy_run state.config c.self.inside.records.items c.self.invariant.run in
+    let tidy = tidy_run state.config c.self.inside.records.items c.self.invariant.run c.self.invariant.used in
     let query = DeviceRead c.args.device c.args.iova c.args.len in
     let none : is_none (first_true (query_checks (view w) query)) ≡ true =
     ap is_none (sym ((rw c.from.ensures at c.refusal.ensures) ∙ same_query_refusal w state shows tidy.tabled.owned
@@ -37,7 +37,7 @@ refusal-requires g c =
     record {
       at = length records;
       world = world_of settings records;
-      tidy = tidy_run settings records c.self.invariant.run;
+      tidy = tidy_run settings records c.self.invariant.run c.self.invariant.used;
       shows = c.self.invariant.shows;
     }
 
@@ -48,6 +48,6 @@ may_pass-requires g c =
     record {
       at = length records;
       world = world_of settings records;
-      tidy = tidy_run settings records c.self.invariant.run;
+      tidy = tidy_run settings records c.self.invariant.run c.self.invariant.used;
       shows = c.self.invariant.shows;
     }

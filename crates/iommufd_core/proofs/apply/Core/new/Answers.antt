@@ -1,4 +1,4 @@
-use Rattle.std.proofs.Common.{sym, subst}
+use Rattle.std.proofs.Common.{refl, sym, subst}
 use Rattle.iofd_words.specs.Run.{IsRun, world_of}
 use Rattle.iofd_words.specs.World.{opening}
 use Rattle.server_state.specs.Shows.{Shows}
@@ -10,4 +10,5 @@ invariant_of-result g c = rw c.new.ensures.items (record {
   run = tt;
   shows = subst (λ settings. Shows (opening settings) c.in_ok-opened.field-0) (sym c.in_ok-opened.ensures.config)
       c.in_ok-opened.ensures.shows;
+  used = λ file ioas. refl;
 })

@@ -17,7 +17,7 @@ use Rattle.iommufd_core.proofs.apply.Core.notices.Goals as goal
 same_kept : {A : Type 0} (state : State A) (records : List (Record A)) → IsKept state records
     → seen state ≡ view (world_of state.config records)
 same_kept state records kept =
-    same_view (world_of state.config records) state kept.shows (tidy_run state.config records kept.run).tabled.owned
+    same_view (world_of state.config records) state kept.shows (tidy_run state.config records kept.run kept.used).tabled.owned
 
 pub returns-clause-refused : goal.returns-clause-refused
 returns-clause-refused g c =
