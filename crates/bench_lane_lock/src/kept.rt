@@ -29,6 +29,10 @@ impl Kept for Entries {
 
     ghost maker = { λ pass. pass.0 };
 
+    ghost AHEAD = { 0 };
+
+    const AHEAD: u64 = 0;
+
     ghost may = { λ _ _. Unit {0} };
 
     ghost gives = { λ _ _ _ _ _. Unit {0} };

@@ -1,16 +1,11 @@
 //! Which tables go with an event.
 
-ghost use Rattle.std.specs.Prelude.{◌≡◌, ◌==◌, ◌&&◌};
-ghost use Rattle.std.specs.List.{list_all, list_any};
+ghost use Rattle.std.specs.Prelude.{◌≡◌};
 ghost use Rattle.iofd_words.specs.Attachments.{attachment_of, has_device_on, without_attachment};
-ghost use Rattle.iofd_words.specs.Tables.{is_among};
-ghost use Rattle.journal_audit_events.specs.Gone.{are_given, are_moved, gives_back, gone_with, gone_with_attachment};
-ghost use Rattle.journal_audit_events.specs.Gone.{is_automatic_kind, is_gone, is_same};
+ghost use Rattle.journal_audit_events.specs.Gone.{gone_with, gone_with_attachment, is_automatic_kind};
 
-use iofd_words::{
-    Attachment, DeviceNo, Event, FileNo, FrameNo, ObjId, ObjectKind, Record, TableFrame,
-};
-use journal_audit_world::{World, attachments, objects, tables};
+use iofd_words::{Attachment, DeviceNo, Event, FileNo, ObjId, ObjectKind};
+use journal_audit_world::{World, attachments, objects};
 use std::alloc::Allocator;
 
 /// Which rows of tables go.
@@ -67,68 +62,4 @@ fn has_other_on(attachments: &[Attachment], device: DeviceNo, file: FileNo, hwpt
         .iter()
         .filter(|attachment| attachment.device.0 != device.0)
         .any(|attachment| attachment.file.0 == file.0 && attachment.hwpt.0 == hwpt.0)
-}
-
-// Whether the row is one that goes.
-fn is_gone(gone: Gone, table: &TableFrame) -> bool
-    ensures { result ≡ is_gone gone table.now }
-{
-    match gone {
-        Gone::Nothing => false,
-        Gone::PageTable(file, hwpt) => table.file.0 == file.0 && table.hwpt.0 == hwpt.0,
-        Gone::File(file) => table.file.0 == file.0,
-    }
-}
-
-/// Whether the record takes no frames, and gives just those of the rows that go back, by rising frame.
-pub fn are_moved<A: Allocator>(record: &Record<A>, gone: Gone, tables: &[TableFrame]) -> bool
-    ensures { result ≡ are_moved gone tables.now record.now.taken record.now.given }
-{
-    record.taken.as_slice().is_empty() && are_given(gone, tables, record.given.as_slice())
-}
-
-// Whether just those are given back.
-fn are_given(gone: Gone, tables: &[TableFrame], given: &[FrameNo]) -> bool
-    ensures { result ≡ are_given gone tables.now given.now }
-{
-    match gone {
-        Gone::Nothing => given.is_empty(),
-        _ => gives_back(gone, tables, given),
-    }
-}
-
-fn gives_back(gone: Gone, tables: &[TableFrame], given: &[FrameNo]) -> bool
-    ensures { result ≡ gives_back gone tables.now given.now }
-{
-    tables::are_rising(given) && are_so(gone, tables, given) && have_rows(gone, tables, given)
-}
-
-// Whether each row goes if its frame is given back, and else stays.
-fn are_so(gone: Gone, tables: &[TableFrame], given: &[FrameNo]) -> bool
-    ensures { result
-        ≡ list_all (λ table. is_same (is_gone gone table) (is_among given.now table.frame)) tables.now }
-{
-    tables.iter().all(|table| is_same(is_gone(gone, table), tables::is_among(given, table.frame)))
-}
-
-fn is_same(a: bool, b: bool) -> bool
-    ensures { result ≡ is_same a b }
-{
-    if a { b } else { !b }
-}
-
-// Whether each frame that is given back is that of a row that goes.
-fn have_rows(gone: Gone, tables: &[TableFrame], given: &[FrameNo]) -> bool
-    ensures { result
-        ≡ list_all (λ frame. list_any (λ table. table.frame.0 == frame.0 && is_gone gone table) tables.now) given.now }
-{
-    given.iter().all(|frame| has_row(gone, tables, *frame))
-}
-
-fn has_row(gone: Gone, tables: &[TableFrame], frame: FrameNo) -> bool
-    ensures { result ≡ list_any (λ table. table.frame.0 == frame.0 && is_gone gone table) tables.now }
-{
-    tables
-        .iter()
-        .any(|table| table.frame.0 == frame.0 && is_gone(gone, table))
 }

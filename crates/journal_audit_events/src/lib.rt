@@ -17,5 +17,4 @@ pub mod events;
 pub mod gone;
 pub mod ioas_alloc;
 pub mod outcomes;
-pub mod step;
 pub mod user_memory;

@@ -21,7 +21,7 @@ use Rattle.iofd_words.specs.declared.rows.Pin.{Pin}
 use Rattle.iofd_words.specs.declared.rows.UserPage.{UserPage}
 use Rattle.journal_audit_maps.specs.Newly.{Gathers, newly_spanned}
 
-pins_long : (memory : List MemoryObject) (user_pages : List UserPage) (pages : List ObjectPage)
+pub pins_long : (memory : List MemoryObject) (user_pages : List UserPage) (pages : List ObjectPage)
     → list_any (λ page. is_none (frame_now memory user_pages page)) pages ≡ false
     → length (filter_map (pin_now memory user_pages) pages) ≡ length pages
 pins_long memory user_pages [] there = refl

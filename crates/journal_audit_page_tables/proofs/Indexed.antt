@@ -1,21 +1,28 @@
 -- Pages under their keys.
 use Rattle.std.proofs.Common.{◌≡◌, ◌<◌, ℕ, ◌+◌, Bool, true, false, cond, ◌&&◌, ◌||◌, eqb, is_some, Option, Some, None}
-use Rattle.std.proofs.Common.{List, [], ◌∷◌, length, find, get_or, drop, refl, sym, ap, ◌∙◌}
+use Rattle.std.proofs.Common.{List, [], ◌∷◌, length, find, get_or, drop, refl, sym, ap, ◌∙◌, Less, Equal, Greater, ltb}
+use Rattle.std.proofs.Common.{arith}
 use Rattle.std.specs.BTreeMap.{BTreeMap, get_by, is_at}
 use Rattle.std.specs.List.{list_any}
-use Rattle.std.specs.Ordering.{nat_cmp, ordering_then}
+use Rattle.std.specs.Ordering.{is_eq, nat_cmp, ordering_then}
 use Rattle.std.proofs.lemmas.Bool.{eqb-true}
+use Rattle.std.proofs.lemmas.Bool.Decides.{nat_tests}
 use Rattle.std.proofs.lemmas.List.{drop_more}
 use Rattle.iofd_rows.proofs.Bools.{and_true}
+use Rattle.iofd_rows.proofs.ListTests.{any-filter}
+use Rattle.iofd_words.specs.Areas.{areas_of, is_of}
 use Rattle.iofd_words.specs.Frames.{frame_at}
 use Rattle.iofd_words.specs.Pins.{ObjectPage, is_page, page_of_pin, pinned_frame}
 use Rattle.iofd_words.specs.TablePlaces.{TablePlace}
+use Rattle.iofd_words.specs.declared.numbers.FileNo.{FileNo}
 use Rattle.iofd_words.specs.declared.numbers.FrameNo.{FrameNo}
+use Rattle.iofd_words.specs.declared.numbers.ObjId.{ObjId}
 use Rattle.iofd_words.specs.declared.numbers.UserNo.{UserNo}
+use Rattle.iofd_words.specs.declared.rows.Area.{Area}
 use Rattle.iofd_words.specs.declared.rows.Pin.{Pin}
 use Rattle.iofd_words.specs.declared.rows.UserPage.{UserPage}
 use Rattle.journal_audit_tables.proofs.Adding.{KnowsMore, knows_more, same_key}
-use Rattle.journal_audit_page_tables.specs.Index.{frame_in, frame_of_row, has_pair, or_else}
+use Rattle.journal_audit_page_tables.specs.Index.{frame_in, frame_of_row, has_number, has_pair, or_else}
 
 -- ---- pinned pages
 
@@ -142,3 +149,68 @@ row_new old new row none updates user page =
         ap (λ (n : ℕ). frame_in old (record { 0 = n }) row.page) (eqb-true row.user.0 user.0 parts.0)
         ∙ ap (frame_in old user) (eqb-true row.page page parts.1) in
         ap (λ o. or_else o (Some row.frame)) (sym (sym same ∙ absent (frame_in old row.user row.page) none))
+
+-- ---- numbers of memory objects
+
+same_number : (n key : ℕ) → is_at (nat_cmp n) key ≡ eqb n key
+same_number n key = by_tests (ltb n key) (eqb n key) (apart n key)
+  where
+    apart : (m n : ℕ) → ltb m n ≡ true → eqb m n ≡ false
+    apart m n is = grind (arith, nat_tests)
+
+    by_tests : (a b : Bool) → (a ≡ true → b ≡ false) → is_eq (cond a Less (cond b Equal Greater)) ≡ b
+    by_tests true true x = let never = x refl in cc
+    by_tests true false x = refl
+    by_tests false true x = refl
+    by_tests false false x = refl
+
+number_is : (n : ℕ) (keys : List ℕ) → list_any (is_at (nat_cmp n)) keys ≡ has_number keys n
+number_is n [] = refl
+number_is n (key ∷ keys) = rw (same_number n key, number_is n keys) refl
+
+pub number_added : (old new : List ℕ) (number : ℕ) (b : Bool) → b ≡ true
+    → ((q : ℕ) → list_any (is_at (nat_cmp q)) new
+    ≡ cond (is_at (nat_cmp number) q) true (list_any (is_at (nat_cmp q)) old))
+    → (other : ℕ) → has_number new other ≡ (has_number old other || (b && eqb number other))
+number_added old new number false is more other = cc
+number_added old new number true is more other =
+    sym (number_is other new) ∙ more other
+    ∙ ap (λ b. cond b true (list_any (is_at (nat_cmp other)) old)) (same_number number other)
+    ∙ ap (λ b. cond (eqb number other) true b) (number_is other old)
+    ∙ flipped (eqb number other) (has_number old other)
+  where
+    flipped : (a b : Bool) → cond a true b ≡ (b || a)
+    flipped true true = refl
+    flipped true false = refl
+    flipped false true = refl
+    flipped false false = refl
+
+module _ (areas : List Area) (file : FileNo) (ioas : ObjId) where
+  abbrev pub is_over : ℕ → Area → Bool
+  is_over n area = is_of file ioas area && eqb area.memory n
+
+  pub none_numbered : (keys : List ℕ) → keys ≡ [] → (n : ℕ)
+      → (has_number keys n || list_any (is_over n) areas)
+      ≡ list_any (λ (area : Area). eqb area.memory n) (areas_of areas file ioas)
+  none_numbered keys none n =
+      ap (λ (ks : List ℕ). has_number ks n || list_any (is_over n) areas) none
+      ∙ sym (any-filter (λ (area : Area). eqb area.memory n) (is_of file ioas) areas)
+
+  pub row_numbered : (old new : List ℕ) (i : ℕ) (area : Area) (b : Bool) → i < length areas
+      → area ≡ get_or areas i area → b ≡ is_of file ioas area
+      → ((n : ℕ) → has_number new n ≡ (has_number old n || (b && eqb area.memory n)))
+      → ((n : ℕ) → (has_number old n || list_any (is_over n) (drop i areas))
+      ≡ list_any (λ (area : Area). eqb area.memory n) (areas_of areas file ioas))
+      → (n : ℕ) → (has_number new n || list_any (is_over n) (drop (i + 1) areas))
+      ≡ list_any (λ (area : Area). eqb area.memory n) (areas_of areas file ioas)
+  row_numbered old new i area b within is test more before n =
+      ap (λ c. c || list_any (is_over n) (drop (i + 1) areas)) (more n)
+      ∙ ap (λ c. (has_number old n || (c && eqb area.memory n)) || list_any (is_over n) (drop (i + 1) areas)) test
+      ∙ tidy (has_number old n) (is_over n area) (list_any (is_over n) (drop (i + 1) areas))
+      ∙ ap (λ (a : Area). has_number old n || list_any (is_over n) (a ∷ drop (i + 1) areas)) is
+      ∙ ap (λ rows. has_number old n || list_any (is_over n) rows) (sym (drop_more areas i area within))
+      ∙ before n
+    where
+      tidy : (a b c : Bool) → ((a || b) || c) ≡ (a || (b || c))
+      tidy true b c = refl
+      tidy false b c = refl

@@ -1,2 +1,10 @@
+pub mod Attached
 pub mod Indexed
+pub mod Joined
+pub mod ListedObjects
 pub mod ListedPages
+pub mod Narrowed
+pub mod PagesRefused
+pub mod SetWidths
+pub mod TableComes
+pub mod Told

@@ -25,7 +25,7 @@ module _ (now : ObjectPage → Option FrameNo) where
   pub listed_none : (pins : List Pin) → Listed now pins pins true []
   listed_none pins = record { present = refl; pins = λ holds. sym (append-nil pins) }
 
-  listed_more : (a b c : List Pin) (whole : Bool) (xs ys : List ObjectPage) → Listed now a b true xs
+  pub listed_more : (a b c : List Pin) (whole : Bool) (xs ys : List ObjectPage) → Listed now a b true xs
       → Listed now b c whole ys → Listed now a c whole (xs ++ ys)
   listed_more a b c whole xs ys first rest = record {
     present =
@@ -39,7 +39,8 @@ module _ (now : ObjectPage → Option FrameNo) where
         ∙ ap (λ ps. a ++ ps) (sym (pins-append (pin_at now) xs ys));
   }
 
-  listed_stop : (a b : List Pin) (xs ys : List ObjectPage) → Listed now a b false xs → Listed now a b false (xs ++ ys)
+  pub listed_stop : (a b : List Pin) (xs ys : List ObjectPage) → Listed now a b false xs
+      → Listed now a b false (xs ++ ys)
   listed_stop a b xs ys first = record {
     present =
         sym (list_all-append (λ page. is_some (now page)) xs ys

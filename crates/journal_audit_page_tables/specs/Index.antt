@@ -11,6 +11,10 @@ use Rattle.iofd_words.specs.declared.rows.UserPage.{UserPage}
 abbrev pub has_pair : List (ℕ × ℕ) → ℕ → ℕ → Bool
 has_pair keys a b = list_any (λ key. a == key.0 && b == key.1) keys
 
+-- the set has the number
+abbrev pub has_number : List ℕ → ℕ → Bool
+has_number keys number = list_any (λ key. number == key) keys
+
 -- the frame under a user and a page
 abbrev pub frame_in : BTreeMap (ℕ × ℕ) FrameNo → UserNo → ℕ → Option FrameNo
 frame_in index user page = get_by (λ key. ordering_then (nat_cmp user.0 key.0) (nat_cmp page key.1)) index

@@ -1,2 +1,5 @@
 pub mod Index
 pub mod Listed
+pub mod Pinning
+pub mod Unusable
+pub mod Widths

@@ -1,14 +1,16 @@
-//! Pins and users' pages by what is asked for: each list of rows is gone through once, and a page is found at the
-//! cost of
-//! a logarithm.
+//! Pins, users' pages and memory objects by what is asked for: each list of rows is gone through once, and a page is
+//! found at the cost of a logarithm.
 
-ghost use Rattle.std.specs.Prelude.{◌≡◌, ℕ, IfOk, is_some};
+ghost use Rattle.std.specs.Prelude.{◌≡◌, ◌==◌, ◌&&◌, ◌||◌, ℕ, IfOk, is_some};
+ghost use Rattle.std.specs.List.{list_any};
+ghost use Rattle.iofd_words.specs.Areas.{areas_of};
 ghost use Rattle.iofd_words.specs.Frames.{frame_at};
 ghost use Rattle.iofd_words.specs.Pins.{ObjectPage, pinned_frame};
 ghost use Rattle.iofd_words.specs.declared.numbers.UserNo.{UserNo};
-ghost use Rattle.journal_audit_page_tables.specs.Index.{frame_in, frame_of_row, has_pair, or_else};
+ghost use Rattle.journal_audit_page_tables.specs.Index.{frame_in, frame_of_row, has_number, has_pair, or_else};
 
-use iofd_words::{FrameNo, NoMemory, Pin, UserPage};
+use iofd_words::{Area, FileNo, FrameNo, NoMemory, ObjId, Pin, UserPage};
+use journal_audit_world::areas::is_of;
 use std::alloc::Allocator;
 use std::collections::{BTreeMap, BTreeSet};
 
@@ -54,5 +56,37 @@ fn add<A: Allocator + Copy>(
         return Ok(());
     }
     index.insert((row.user.0, row.page), row.frame)?;
+    Ok(())
+}
+
+/// The numbers of the memory objects that areas of the address space are over.
+pub fn numbers_under<A: Allocator + Copy>(
+    alloc: A,
+    areas: &[Area],
+    file: FileNo,
+    ioas: ObjId,
+) -> Result<BTreeSet<u64, A>, NoMemory>
+    ensures { IfOk result (λ set. (number : ℕ) → has_number set.keys number
+        ≡ list_any (λ area. area.memory == number) (areas_of areas.now file ioas)) }
+{
+    let mut set = BTreeSet::new(alloc);
+    for area in areas {
+        add_number(&mut set, area.memory, is_of(file, ioas, area))?;
+    }
+    Ok(set)
+}
+
+// The number too, if it is asked for.
+fn add_number<A: Allocator + Copy>(
+    set: &mut BTreeSet<u64, A>,
+    number: u64,
+    is_asked: bool,
+) -> Result<(), NoMemory>
+    ensures { IfOk result (λ _. (other : ℕ) → has_number set.new.keys other
+        ≡ (has_number set.old.keys other || (is_asked && number == other))) }
+{
+    if is_asked {
+        set.insert(number)?;
+    }
     Ok(())
 }

@@ -3,6 +3,12 @@
 #![tactic(auto)]
 
 pub mod answers;
+pub mod attach;
+pub mod hwpt_alloc;
 pub mod index;
 pub mod listing;
+pub mod narrowing;
+pub mod pinning;
 pub mod rows;
+pub mod unusable;
+pub mod widths;

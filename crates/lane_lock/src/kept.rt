@@ -19,6 +19,12 @@ pub trait Kept: Drop {
     /// The number of the pass that made a record.
     ghost maker: { Self.Record → ℕ };
 
+    /// How many entries of the history stand before its first record: those that tell what the value was opened with.
+    ghost AHEAD: { ℕ };
+
+    /// The same number, for the code.
+    const AHEAD: u64;
+
     /// Where an act may be applied.
     ghost may: { Self → Self.Act → Type 0 };
 

@@ -28,7 +28,7 @@ pub struct Pass<K: Kept> {
 }
 
 impl<K: Kept> Pass<K> {
-    ghost use Rattle.std.specs.Prelude.{◌≡◌, length};
+    ghost use Rattle.std.specs.Prelude.{◌≡◌, ◌-◌, length};
     ghost use Rattle.lane_lock.specs.Passes.{view_of, number_of, lane_of};
 
     /// Its number.
@@ -45,10 +45,10 @@ impl<K: Kept> Pass<K> {
         self.lane
     }
 
-    /// How many records of the history it has seen.
+    /// How many records of the history it has seen. What the value was opened with isn't counted.
     pub fn seen(&self) -> u64
-        ensures { result ≡ length (view_of self.now).seen }
+        ensures { result ≡ length (view_of self.now).seen - K.AHEAD }
     {
-        self.seen
+        self.seen.saturating_sub(K::AHEAD)
     }
 }

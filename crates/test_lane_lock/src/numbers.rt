@@ -62,6 +62,10 @@ impl Kept for Numbers {
 
     ghost maker = { λ entry. entry.pass.0 };
 
+    ghost AHEAD = { 0 };
+
+    const AHEAD: u64 = 0;
+
     ghost may = { λ _ _. Unit {0} };
 
     ghost gives = { λ before pass number stamp after. (stamp ≡ length before.entries.items)

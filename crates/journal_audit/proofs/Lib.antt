@@ -1,0 +1,4 @@
+mod Again
+mod Judged
+mod Reached
+mod Verdicts

@@ -1,0 +1,279 @@
+-- Bytes have one verdict.
+use Rattle.std.proofs.Common.{◌≡◌, ◌⊎◌, inl, inr, ℕ, zero, suc, ◌+◌, Some, List, [], ◌∷◌, ◌++◌, length, refl, sym, ap}
+use Rattle.std.proofs.Common.{◌∙◌, subst, arith, append_assoc, Result, Ok, Err, IfOk}
+use Rattle.iofd_words.specs.Run.{IsRun, IsRunFrom, Lawful, after, world_from, world_of}
+use Rattle.iofd_words.specs.Settings.{Settings}
+use Rattle.iofd_words.specs.World.{World, opening}
+use Rattle.iofd_words.specs.declared.record.Record.{Record}
+use Rattle.iofd_words.specs.declared.refusal.NoMemory.{NoMemory}
+use Rattle.journal_audit.specs.Verdict.{BeginNoHead, BeginNoRecord, BeginWithRun, IsVerdict, NoneFollows}
+use Rattle.journal_audit.specs.declared.verdict.Verdict.{Verdict}
+use Rattle.journal_audit.specs.declared.verdict.Verdict.TheVariants.{Run, NotRun, Torn}
+use Rattle.journal_audit_bytes.specs.Format.{Raw, Spells}
+use Rattle.journal_audit_bytes.specs.Head.{SpellsHead}
+use Rattle.journal_audit_bytes.specs.HeadReading.{head_at}
+use Rattle.journal_audit_bytes.specs.Journal.{SpellRecords, SpellsRecord, raw_record}
+use Rattle.journal_audit_bytes.specs.Reading.{record_at}
+use Rattle.journal_audit_bytes.proofs.Fields.{some_is}
+use Rattle.journal_audit_bytes.proofs.Heads.{head_again}
+use Rattle.journal_audit_bytes.proofs.Records.{record_again}
+use Rattle.journal_audit.proofs.Again.{one_record, spelled_here}
+
+pub grouped : (a b c : List ℕ) → (a ++ b) ++ c ≡ a ++ (b ++ c)
+grouped a b c = simp append_assoc
+
+one_settings : (s t : Settings) (text other rest behind : List ℕ) → SpellsHead s text → SpellsHead t other
+    → text ++ rest ≡ other ++ behind → (s ≡ t) × (rest ≡ behind)
+one_settings s t text other rest behind p q same =
+    let read = some_is (s, rest) (t, behind) (sym (head_again s text rest p) ∙ ap head_at same
+    ∙ head_again t other behind q) in
+    (ap (λ (x : Settings × List ℕ). x.0) read, ap (λ (x : Settings × List ℕ). x.1) read)
+
+nothing_read : (passes : ℕ) (x : Raw × List ℕ) → record_at passes [] ≡ Some x → ⊥
+unfolding record_at
+nothing_read passes x is = cc
+
+-- a record has bytes
+pub some_text : (passes : ℕ) (r : Raw) (text rest : List ℕ) → Spells passes r text → [] ≡ text ++ rest → ⊥
+some_text passes r text rest spells none =
+    let read = ap (record_at passes) none ∙ record_again passes r text rest spells in nothing_read passes (r, rest) read
+
+module _ {A : Type 0} where
+  -- ---- two lists of records at the front of the same bytes
+
+  -- behind the records comes this one, at the front of the rest, and then others
+  record Behind (s : Settings) (records more : List (Record A)) (rest : List ℕ) : Type 0 where
+    r : Record A
+    later : List (Record A)
+    text : List ℕ
+    left : List ℕ
+    spells : SpellsRecord s r text
+    rest_is : rest ≡ text ++ left
+    more_is : more ≡ records ++ r ∷ later
+
+  -- they are one list, or one of them goes on behind the other
+  abbrev Compared : Settings → List (Record A) → List ℕ → List (Record A) → List ℕ → Type 0
+  Compared s p rest q other = ((p ≡ q) × (rest ≡ other)) ⊎ (Behind s p q rest ⊎ Behind s q p other)
+
+  one_before : (s : Settings) (r : Record A) (p q : List (Record A)) (rest other : List ℕ) → Compared s p rest q other
+      → Compared s (r ∷ p) rest (r ∷ q) other
+  one_before s r p q rest other (inl same) = inl (ap (λ (rs : List (Record A)). r ∷ rs) same.0, same.1)
+  one_before s r p q rest other (inr (inl b)) =
+      inr (inl (record {
+        r = b.r;
+        later = b.later;
+        text = b.text;
+        left = b.left;
+        spells = b.spells;
+        rest_is = b.rest_is;
+        more_is = ap (λ (rs : List (Record A)). r ∷ rs) b.more_is;
+      }))
+  one_before s r p q rest other (inr (inr b)) =
+      inr (inr (record {
+        r = b.r;
+        later = b.later;
+        text = b.text;
+        left = b.left;
+        spells = b.spells;
+        rest_is = b.rest_is;
+        more_is = ap (λ (rs : List (Record A)). r ∷ rs) b.more_is;
+      }))
+
+  compare : (s : Settings) (p q : List (Record A)) (front ahead rest other : List ℕ) → SpellRecords s p front
+      → SpellRecords s q ahead → front ++ rest ≡ ahead ++ other → Compared s p rest q other
+  compare s [] [] front ahead rest other of_p of_q same =
+      inl (refl, sym (ap (λ (x : List ℕ). x ++ rest) of_p) ∙ same ∙ ap (λ (x : List ℕ). x ++ other) of_q)
+  compare s [] (r ∷ q) front ahead rest other of_p of_q same =
+      inr (inl (record {
+        r = r;
+        later = q;
+        text = of_q.0;
+        left = of_q.1 ++ other;
+        spells = of_q.2;
+        rest_is = sym (ap (λ (x : List ℕ). x ++ rest) of_p) ∙ same ∙ ap (λ (x : List ℕ). x ++ other) of_q.4
+            ∙ grouped of_q.0 of_q.1 other;
+        more_is = refl;
+      }))
+  compare s (r ∷ p) [] front ahead rest other of_p of_q same =
+      inr (inr (record {
+        r = r;
+        later = p;
+        text = of_p.0;
+        left = of_p.1 ++ rest;
+        spells = of_p.2;
+        rest_is = sym (ap (λ (x : List ℕ). x ++ other) of_q) ∙ sym same ∙ ap (λ (x : List ℕ). x ++ rest) of_p.4
+            ∙ grouped of_p.0 of_p.1 rest;
+        more_is = refl;
+      }))
+  compare s (r ∷ p) (x ∷ q) front ahead rest other of_p of_q same =
+      let bytes = sym (grouped of_p.0 of_p.1 rest) ∙ sym (ap (λ (y : List ℕ). y ++ rest) of_p.4) ∙ same
+      ∙ ap (λ (y : List ℕ). y ++ other) of_q.4 ∙ grouped of_q.0 of_q.1 other in
+      let one = one_record s r x of_p.0 of_q.0 (of_p.1 ++ rest) (of_q.1 ++ other) of_p.2 of_q.2 bytes in
+      subst (λ (y : Record A). Compared s (r ∷ p) rest (y ∷ q) other) one.0
+      (one_before s r p q rest other (compare s p q of_p.1 of_q.1 rest other of_p.3 of_q.3 one.1))
+
+  -- ---- two beginnings of the same bytes
+
+  -- the bytes as head, records and rest
+  parted : (bytes : List ℕ) (s : Settings) (p : List (Record A)) (rest : List ℕ) (b : BeginWithRun bytes s p rest)
+      → bytes ≡ b.journal.head ++ (b.journal.records ++ rest)
+  parted bytes s p rest b =
+      b.bytes_are ∙ ap (λ (x : List ℕ). x ++ rest) b.journal.bytes_are
+      ∙ grouped b.journal.head b.journal.records rest
+
+  same_start : (bytes : List ℕ) (s t : Settings) (p q : List (Record A)) (rest other : List ℕ)
+      → (b : BeginWithRun bytes s p rest) → (d : BeginWithRun bytes t q other)
+      → (s ≡ t) × (b.journal.records ++ rest ≡ d.journal.records ++ other)
+  same_start bytes s t p q rest other b d =
+      one_settings s t b.journal.head d.journal.head (b.journal.records ++ rest) (d.journal.records ++ other)
+      b.journal.head_is d.journal.head_is (sym (parted bytes s p rest b) ∙ parted bytes t q other d)
+
+  compared : (bytes : List ℕ) (s t : Settings) (p q : List (Record A)) (rest other : List ℕ)
+      → BeginWithRun bytes s p rest → BeginWithRun bytes t q other → (s ≡ t) × Compared s p rest q other
+  compared bytes s t p q rest other b d =
+      let start = same_start bytes s t p q rest other b d in (
+        start.0,
+        compare s p q b.journal.records d.journal.records rest other b.journal.records_are
+            (subst (λ (x : Settings). SpellRecords x q d.journal.records) (sym start.0) d.journal.records_are)
+            start.1,
+      )
+
+  -- ---- a run that goes on
+
+  lawful_from : (at : ℕ) (w : World) (p : List (Record A)) (r : Record A) (later : List (Record A))
+      → IsRunFrom at w (p ++ r ∷ later) → Lawful (at + length p) (world_from at w p) r
+  lawful_from at w [] r later run =
+      let here : at ≡ at + 0 = omega arith in subst (λ (n : ℕ). Lawful n w r) here run.0
+  lawful_from at w (x ∷ p) r later run =
+      let here : at + 1 + length p ≡ at + suc (length p) = omega arith in
+      subst (λ (n : ℕ). Lawful n (world_from (at + 1) (after at w x) p) r) here
+      (lawful_from (at + 1) (after at w x) p r later run.1)
+
+  lawful_behind : (s : Settings) (p : List (Record A)) (r : Record A) (later : List (Record A))
+      → IsRun s (p ++ r ∷ later) → Lawful (length p) (world_of s p) r
+  unfolding IsRun world_of
+  lawful_behind s p r later run =
+      let here : 0 + length p ≡ length p = omega arith in
+      subst (λ (n : ℕ). Lawful n (world_from 0 (opening s) p) r) here (lawful_from 0 (opening s) p r later run)
+
+  -- where a run goes on behind the records, a lawful record stands there
+  goes_on : (bytes : List ℕ) (s t : Settings) (p q : List (Record A)) (rest other : List ℕ) → s ≡ t
+      → BeginWithRun bytes t q other → (b : Behind s p q rest) → Lawful (length p) (world_of s p) b.r
+  goes_on bytes s t p q rest other same d b =
+      lawful_behind s p b.r b.later (subst (λ (rs : List (Record A)). IsRun s rs) b.more_is
+      (subst (λ (x : Settings). IsRun x q) (sym same) d.run))
+
+  -- and where none follows there is none
+  none_there : (bytes : List ℕ) (s t : Settings) (p q : List (Record A)) (rest other : List ℕ) → s ≡ t
+      → BeginWithRun bytes t q other → Behind s p q rest → NoneFollows s p rest → ⊥
+  none_there bytes s t p q rest other same d b n =
+      n.none b.r
+      (spelled_here s n.raw b.r n.text b.text n.behind b.left n.spells b.spells (sym n.rest_is ∙ b.rest_is))
+      (goes_on bytes s t p q rest other same d b)
+
+  none_torn : (s : Settings) (p q : List (Record A)) (rest : List ℕ) → Behind s p q rest
+      → BeginNoRecord s.passes rest → ⊥
+  none_torn s p q rest b torn =
+      torn (raw_record b.r b.spells.reply) b.text b.left b.spells.spells b.rest_is
+
+  none_unspelt : (s : Settings) (p : List (Record A)) (rest : List ℕ) → NoneFollows s p rest
+      → BeginNoRecord s.passes rest → ⊥
+  none_unspelt s p rest n torn = torn n.raw n.text n.behind n.spells n.rest_is
+
+  none_at_end : (s : Settings) (p q : List (Record A)) (rest : List ℕ) → rest ≡ [] → Behind s p q rest → ⊥
+  none_at_end s p q rest ends b =
+      some_text s.passes (raw_record b.r b.spells.reply) b.text b.left b.spells.spells (sym ends ∙ b.rest_is)
+
+  no_head_there : (bytes : List ℕ) (s : Settings) (p : List (Record A)) (rest : List ℕ) → BeginWithRun bytes s p rest
+      → BeginNoHead bytes → ⊥
+  no_head_there bytes s p rest b none =
+      none s b.journal.head (b.journal.records ++ rest) b.journal.head_is (parted bytes s p rest b)
+
+  -- ---- verdicts of the same bytes
+
+  same_length : (p q : List (Record A)) (m n : ℕ) → p ≡ q → m ≡ length p → n ≡ length q → m ≡ n
+  same_length p q m n same first second = first ∙ ap length same ∙ sym second
+
+  -- a run that ends with the bytes, and one behind which something stands
+  ended : (bytes : List ℕ) (s t : Settings) (p q : List (Record A)) (other : List ℕ) → BeginWithRun bytes s p []
+      → (d : BeginWithRun bytes t q other) → (other ≡ [] → ⊥) → ((s ≡ t) → Behind s q p other → ⊥) → ⊥
+  ended bytes s t p q other b d more not_behind =
+      let is = compared bytes s t p q [] other b d in
+      elim is.1 [
+        | inl same ↦ more (sym same.1)
+        | inr (inl behind) ↦ none_at_end s p q [] refl behind
+        | inr (inr behind) ↦ not_behind is.0 behind
+      ]
+
+  runs : (bytes : List ℕ) (m n : ℕ) → IsVerdict A bytes (Run m) → IsVerdict A bytes (Run n) → m ≡ n
+  runs bytes m n (s, p, b, count) (t, q, d, other) =
+      let is = compared bytes s t p q [] [] b d in
+      elim is.1 [
+        | inl same ↦ same_length p q m n same.0 count other
+        | inr (inl behind) ↦ absurd (none_at_end s p q [] refl behind)
+        | inr (inr behind) ↦ absurd (none_at_end s q p [] refl behind)
+      ]
+
+  run_not : (bytes : List ℕ) (m n : ℕ) → IsVerdict A bytes (Run m) → IsVerdict A bytes (NotRun n) → ⊥
+  run_not bytes m n (s, p, b, count) (t, q, other, d, none, index) =
+      ended bytes s t p q other b d
+      (λ ends. some_text t.passes none.raw none.text none.behind none.spells (sym ends ∙ none.rest_is))
+      (λ same behind. none_there bytes s s q p other [] refl b behind
+      (subst (λ (x : Settings). NoneFollows x q other) (sym same) none))
+
+  run_torn : (bytes : List ℕ) (m offset : ℕ) → IsVerdict A bytes (Run m) → IsVerdict A bytes (Torn offset) → ⊥
+  run_torn bytes m zero (s, p, b, count) torn = no_head_there bytes s p [] b torn
+  run_torn bytes m (suc offset) (s, p, b, count) (t, q, other, d, torn, more, place) =
+      ended bytes s t p q other b d more
+      (λ same behind. none_torn s q p other behind (subst (λ (x : Settings). BeginNoRecord x.passes other) (sym same)
+      torn))
+
+  nots : (bytes : List ℕ) (m n : ℕ) → IsVerdict A bytes (NotRun m) → IsVerdict A bytes (NotRun n) → m ≡ n
+  nots bytes m n (s, p, rest, b, none, index) (t, q, other, d, nothing, place) =
+      let is = compared bytes s t p q rest other b d in
+      elim is.1 [
+        | inl same ↦ same_length p q m n same.0 index place
+        | inr (inl behind) ↦ absurd (none_there bytes s t p q rest other is.0 d behind none)
+        | inr (inr behind) ↦ absurd (none_there bytes s s q p other rest refl b behind
+            (subst (λ (x : Settings). NoneFollows x q other) (sym is.0) nothing))
+      ]
+
+  not_torn : (bytes : List ℕ) (m offset : ℕ) → IsVerdict A bytes (NotRun m) → IsVerdict A bytes (Torn offset) → ⊥
+  not_torn bytes m zero (s, p, rest, b, none, index) torn = no_head_there bytes s p rest b torn
+  not_torn bytes m (suc offset) (s, p, rest, b, none, index) (t, q, other, d, torn, more, place) =
+      let is = compared bytes s t p q rest other b d in
+      let here = subst (λ (x : Settings). BeginNoRecord x.passes other) (sym is.0) torn in
+      elim is.1 [
+        | inl same ↦ none_unspelt s p rest none (subst (λ (x : List ℕ). BeginNoRecord s.passes x) (sym same.1) here)
+        | inr (inl behind) ↦ none_there bytes s t p q rest other is.0 d behind none
+        | inr (inr behind) ↦ none_torn s q p other behind here
+      ]
+
+torns : (A : Type 0) (bytes : List ℕ) (a b : ℕ) → IsVerdict A bytes (Torn a) → IsVerdict A bytes (Torn b) → a ≡ b
+torns A bytes zero zero p q = refl
+torns A bytes zero (suc n) none (t, q, other, d, torn, more, place) = absurd (no_head_there {A = A} bytes t q other d none)
+torns A bytes (suc m) zero (s, p, rest, b, torn, more, place) none = absurd (no_head_there {A = A} bytes s p rest b none)
+torns A bytes (suc m) (suc n) (s, p, rest, b, torn, more, place) (t, q, other, d, broken, beyond, offset) =
+    let is = compared bytes s t p q rest other b d in
+    let here = subst (λ (x : Settings). BeginNoRecord x.passes other) (sym is.0) broken in
+    elim is.1 [
+      | inl same ↦ let long : length rest ≡ length other = ap length same.1 in omega (arith, long, place, offset)
+      | inr (inl behind) ↦ absurd (none_torn s p q rest behind torn)
+      | inr (inr behind) ↦ absurd (none_torn s q p other behind here)
+    ]
+
+one_verdict : (A : Type 0) (bytes : List ℕ) (u v : Verdict) → IsVerdict A bytes u → IsVerdict A bytes v → u ≡ v
+one_verdict A bytes (Run m) (Run n) p q = ap (λ (k : ℕ). Run k) (runs bytes m n p q)
+one_verdict A bytes (Run m) (NotRun n) p q = absurd (run_not bytes m n p q)
+one_verdict A bytes (Run m) (Torn n) p q = absurd (run_torn bytes m n p q)
+one_verdict A bytes (NotRun m) (Run n) p q = absurd (run_not bytes n m q p)
+one_verdict A bytes (NotRun m) (NotRun n) p q = ap (λ (k : ℕ). NotRun k) (nots bytes m n p q)
+one_verdict A bytes (NotRun m) (Torn n) p q = absurd (not_torn bytes m n p q)
+one_verdict A bytes (Torn m) (Run n) p q = absurd (run_torn bytes n m q p)
+one_verdict A bytes (Torn m) (NotRun n) p q = absurd (not_torn bytes n m q p)
+one_verdict A bytes (Torn m) (Torn n) p q = ap (λ (k : ℕ). Torn k) (torns A bytes m n p q)
+
+pub only : (A : Type 0) (bytes : List ℕ) (r : Result Verdict NoMemory) → IfOk r (λ u. IsVerdict A bytes u)
+    → (v : Verdict) → IsVerdict A bytes v → IfOk r (λ u. u ≡ v)
+only A bytes (Ok u) is v q = one_verdict A bytes u v is q
+only A bytes (Err e) is v q = tt

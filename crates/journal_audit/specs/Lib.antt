@@ -1,0 +1,2 @@
+pub mod Next
+pub mod Verdict

@@ -1,0 +1,85 @@
+//! One record of a journal.
+
+ghost use Rattle.std.specs.Prelude.{◌≡◌, IfNone, IfOk, IfSome};
+ghost use Rattle.iofd_words.specs.declared.record.Record.{Record};
+ghost use Rattle.journal_audit.specs.Next.{IsJudged, IsNext, Tells, next_of};
+ghost use Rattle.journal_audit_bytes.specs.Reading.{raw_of};
+ghost use Rattle.journal_audit_world.specs.Kept.{IsKept};
+
+use iofd_words::{Config, NoMemory, Record};
+use journal_audit_bytes::{ReadError, SpelledRecord, read_record, typed_reply};
+use journal_audit_records::step;
+use journal_audit_world::World;
+use std::alloc::Allocator;
+
+/// What stands at the front of the bytes.
+#[derive(Clone, Copy)]
+pub enum Next {
+    /// A lawful record.
+    Follows,
+    /// A record that isn't lawful.
+    Not,
+    /// No record.
+    Torn,
+}
+
+fn next_of(lawful: bool) -> Next
+    ensures { result ≡ next_of lawful }
+{
+    if lawful { Next::Follows } else { Next::Not }
+}
+
+// The record that is told by what its bytes spell, if they tell one.
+fn typed<A: Allocator>(config: &Config<A>, spelled: SpelledRecord<A>) -> Option<Record<A>>
+    ensures told { IfSome result (λ told. Tells config.now (raw_of spelled) told) }
+    ensures none { IfNone result ((r : Record A) → Tells config.now (raw_of spelled) r → ⊥) }
+{
+    let Some(reply) = typed_reply(config, &spelled.event, spelled.reply) else {
+        return None;
+    };
+    Some(Record {
+        pass: spelled.pass,
+        event: spelled.event,
+        reply,
+        taken: spelled.taken,
+        given: spelled.given,
+    })
+}
+
+// Whether what the bytes spell tells a record that is lawful at this position. If so the world becomes the one after
+// it.
+fn judge<A: Allocator + Copy>(
+    alloc: A,
+    at: u64,
+    world: &mut World<A>,
+    spelled: SpelledRecord<A>,
+) -> Result<bool, NoMemory>
+    requires kept { IsKept at world.old }
+    ensures { IfOk result (λ lawful. IsJudged A at world.old world.new (raw_of spelled) lawful) }
+{
+    match typed(&world.config, spelled) {
+        Some(record) => step(alloc, at, world, &record),
+        None => Ok(false),
+    }
+}
+
+/// What stands at the front of the bytes, at this position, and the bytes behind it. If it is a lawful record the world
+/// becomes the one after it. The error is want of memory; the world is in any state then.
+pub fn read_next<'a, A: Allocator + Copy>(
+    alloc: A,
+    at: u64,
+    world: &mut World<A>,
+    bytes: &'a [u8],
+) -> Result<(Next, &'a [u8]), NoMemory>
+    requires kept { IsKept at world.old }
+    ensures { IfOk result (λ x. IsNext A at world.old world.new bytes.now x.1.now x.0) }
+{
+    match read_record(alloc, world.config.passes(), bytes) {
+        Ok((spelled, rest)) => {
+            let lawful = judge(alloc, at, world, spelled)?;
+            Ok((next_of(lawful), rest))
+        }
+        Err(ReadError::Torn) => Ok((Next::Torn, bytes)),
+        Err(ReadError::Memory) => Err(NoMemory),
+    }
+}

@@ -1,0 +1,62 @@
+//! A whole journal.
+
+ghost use Rattle.std.specs.Prelude.{◌≡◌, ◌++◌, List, ℕ, IfOk};
+ghost use Rattle.iofd_words.specs.World.{opening};
+ghost use Rattle.journal_audit.specs.Verdict.{IsVerdict};
+ghost use Rattle.journal_audit.specs.declared.verdict.Verdict.{Verdict};
+ghost use Rattle.journal_audit_bytes.specs.Head.{SpellsHead};
+
+use crate::next::{Next, read_next};
+use crate::verdict::Verdict;
+use iofd_words::NoMemory;
+use journal_audit_bytes::{ReadError, read_head};
+use journal_audit_world::World;
+use std::alloc::Allocator;
+
+/// What these bytes are, by the definitions alone: a journal whose records are a run, and how many; or which record is
+/// the first that doesn't go on with the run; or where no record, or no head, begins. Its only error is want of memory.
+/// It takes memory by what the records hold and leave, and never by a number that stands in them.
+pub fn audit<A: Allocator + Copy>(alloc: A, bytes: &[u8]) -> Result<Verdict, NoMemory>
+    ensures found { IfOk result (λ verdict. IsVerdict A bytes.now verdict) }
+    ensures only { (v : Verdict) → IsVerdict A bytes.now v → IfOk result (λ verdict. verdict ≡ v) }
+{
+    match read_head(alloc, bytes) {
+        Ok((config, rest)) => {
+            let mut world = World::opening(alloc, config);
+            go_through(alloc, &mut world, bytes, rest)
+        }
+        Err(ReadError::Torn) => Ok(Verdict::Torn { offset: 0 }),
+        Err(ReadError::Memory) => Err(NoMemory),
+    }
+}
+
+// The same of bytes that begin with a head: it goes from record to record of the rest.
+fn go_through<A: Allocator + Copy>(
+    alloc: A,
+    world: &mut World<A>,
+    bytes: &[u8],
+    records: &[u8],
+) -> Result<Verdict, NoMemory>
+    requires opening { world.old ≡ opening world.old.settings }
+    requires head { (text : List ℕ) × SpellsHead world.old.settings text × (bytes.now ≡ text ++ records.now) }
+    ensures { IfOk result (λ verdict. IsVerdict A bytes.now verdict) }
+{
+    let mut rest = records;
+    let mut index = 0;
+    while !rest.is_empty() {
+        let (found, behind) = read_next(alloc, index as u64, world, rest)?;
+        match found {
+            Next::Follows => {
+                rest = behind;
+                index += 1;
+            }
+            Next::Not => return Ok(Verdict::NotRun { index }),
+            Next::Torn => {
+                return Ok(Verdict::Torn {
+                    offset: bytes.len() - rest.len(),
+                });
+            }
+        }
+    }
+    Ok(Verdict::Run { records: index })
+}

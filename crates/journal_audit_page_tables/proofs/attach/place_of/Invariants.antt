@@ -1,0 +1,8 @@
+use Rattle.std.proofs.Common.{◌≡◌, ◌++◌, take, drop}
+use Rattle.iofd_words.specs.Attachments.{with_attachment}
+use Rattle.journal_audit_page_tables.proofs.attach.place_of.Given as goal
+
+abbrev pub invariant-loop-index : goal.invariant-loop-index
+invariant-loop-index l =
+    take l.index l.attachments ++ with_attachment l.attachment (drop l.index l.attachments)
+    ≡ with_attachment l.attachment l.attachments

@@ -1,0 +1,2 @@
+mod ComingFits
+mod Lawfully

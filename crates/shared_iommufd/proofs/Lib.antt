@@ -1,0 +1,5 @@
+pub mod Bounds
+pub mod Entered
+pub mod Ended
+pub mod Guards
+pub mod Shown

@@ -1,0 +1,130 @@
+-- What a guard shows, and what a commit makes, said of settings and records.
+use Rattle.std.proofs.Common.{◌≡◌, ℕ, List, [], ◌∷◌, ◌++◌, length, drop, ap, refl, sym, ◌∙◌, subst}
+use Rattle.std.proofs.Common.{append_assoc, append-nil, Result, Ok, Err, IfOk, Vec}
+use Rattle.std.proofs.lemmas.List.{append_cancel_left}
+use Rattle.iofd_words.specs.Bounds.{Bounds}
+use Rattle.iofd_words.specs.Look.{answers_to}
+use Rattle.iofd_words.specs.Run.{IsRun}
+use Rattle.iofd_words.specs.Settings.{Settings}
+use Rattle.iofd_words.specs.declared.call_error.CallError.{CallError}
+use Rattle.iofd_words.specs.declared.event.Act.{Act}
+use Rattle.iofd_words.specs.declared.numbers.FileNo.{FileNo}
+use Rattle.iofd_words.specs.declared.numbers.ObjId.{ObjId}
+use Rattle.iofd_words.specs.declared.query.Answer.{Answer}
+use Rattle.iofd_words.specs.declared.query.Query.{Query}
+use Rattle.iommufd_core.specs.History.{History}
+use Rattle.iommufd_core.specs.declared.apply.Stamp.{Stamp}
+use Rattle.lane_lock.specs.History.{Legal, StartsWith, made_by}
+use Rattle.lane_lock.specs.Outcomes.{OnlySees}
+use Rattle.lane_lock.specs.Passes.{SamePass, number_of, view_of}
+use Rattle.server_state.specs.Choice.{IsLooked}
+use Rattle.shared_iommufd.specs.Applied.{IsApplied}
+use Rattle.shared_iommufd.specs.Entries.{history_of, maker_of, told}
+use Rattle.shared_iommufd.specs.Made.{Makes}
+use Rattle.shared_iommufd.specs.Passes.{CoreGhosts, CorePass}
+use Rattle.shared_iommufd.specs.Seen.{AreNotices, HasSeen, IsAnswered}
+use Rattle.shared_iommufd.specs.Told.{TellsNotices}
+use Rattle.shared_iommufd.specs.declared.kept_core.Entry.{Entry}
+use Rattle.shared_iommufd.specs.declared.kept_core.Entry.TheVariants as entry
+use Rattle.shared_iommufd.proofs.Entered.{is_history, one_entry, same_settings, told_more}
+
+module _ {A : Type 0} where
+  -- the history begins with what begins what it begins with
+  starts_so : (h b a : List (Entry A)) → StartsWith h b → StartsWith b a → StartsWith h a
+  starts_so h b a s t = (t.0 ++ s.0, s.1 ∙ (ap (λ (l : List (Entry A)). l ++ s.0) t.1 ∙ append_assoc a t.0 s.0))
+
+module _ {A : Type 0} {g : CoreGhosts A} where
+  -- the pass has seen all that the core h tells, which begins with the opening o
+  pub has_seen : (settings : Settings) (o h : History A) (p : CorePass A g) → o.settings ≡ settings → o.records ≡ []
+      → StartsWith (told h) (told o) → IsRun h.settings h.records → (view_of p).seen ≡ told h
+      → Legal maker_of (length (told o)) (told h) (number_of p) (view_of p).seen (view_of p).made
+      → HasSeen settings p h.records
+  has_seen settings o h p opened fresh starts run seen legal =
+      let e : h.settings ≡ settings = same_settings h o starts ∙ opened in
+      let is : h ≡ history_of settings h.records = is_history h settings e in
+      let base : length (told o) ≡ 1 = one_entry o fresh in
+      record {
+        seen = seen ∙ ap (told {A = A}) is;
+        run = subst (λ (s : Settings). IsRun s h.records) e run;
+        legal = subst
+            (λ (c : ℕ × History A). Legal maker_of c.0 (told c.1) (number_of p) (view_of p).seen (view_of p).made)
+            (λ i. (base i, is i)) legal;
+      }
+
+  -- and the core h has answered a question so
+  pub answered : (settings : Settings) (o h : History A) (p : CorePass A g) (query : Query) (answer : Answer)
+      → o.settings ≡ settings → o.records ≡ [] → StartsWith (told h) (told o) → IsRun h.settings h.records
+      → (view_of p).seen ≡ told h
+      → Legal maker_of (length (told o)) (told h) (number_of p) (view_of p).seen (view_of p).made
+      → IsLooked (answers_to h.settings h.records query) answer → IsAnswered settings p query answer
+  answered settings o h p query answer opened fresh starts run seen legal looked =
+      let e : h.settings ≡ settings = same_settings h o starts ∙ opened in
+      record {
+        records = h.records;
+        seen = has_seen settings o h p opened fresh starts run seen legal;
+        looked = subst (λ (s : Settings). IsLooked (answers_to s h.records query) answer) e looked;
+      }
+
+  -- and has told notices so
+  pub notified : (settings : Settings) (o h : History A) (p : CorePass A g) (file : FileNo) (access : ObjId)
+      (answer : Result (Vec Bounds A) CallError) → o.settings ≡ settings → o.records ≡ []
+      → StartsWith (told h) (told o) → IsRun h.settings h.records → (view_of p).seen ≡ told h
+      → Legal maker_of (length (told o)) (told h) (number_of p) (view_of p).seen (view_of p).made
+      → TellsNotices h file access answer → AreNotices settings p file access answer
+  notified settings o h p file access answer opened fresh starts run seen legal tells =
+      let e : h.settings ≡ settings = same_settings h o starts ∙ opened in
+      record {
+        records = h.records;
+        seen = has_seen settings o h p opened fresh starts run seen legal;
+        tells = subst (λ (x : History A). TellsNotices x file access answer) (is_history h settings e) tells;
+      }
+
+  -- The pass is p as the call begins, q before the act and r after it; the core tells old before the act, and new after
+  -- it.
+  pub makes : (settings : Settings) (o old new : History A) (p q r : CorePass A g) (act : Act A) (stamp : Stamp)
+      (x : Entry A) → o.settings ≡ settings → o.records ≡ [] → StartsWith (told old) (told o) → SamePass p q
+      → OnlySees (view_of p) (view_of q) → StartsWith (told old) (view_of q).seen
+      → made_by maker_of (number_of q) (drop (length (told o)) (told old)) ≡ (view_of q).made
+      → IsApplied (record { 0 = number_of q }) act stamp old new → (view_of r).seen ≡ told new
+      → (view_of r).seen ≡ told old ++ x ∷ [] → (view_of r).made ≡ (view_of q).made ++ x ∷ []
+      → Makes settings p act stamp r
+  makes settings o old new p q r act stamp x opened fresh starts same sees later mine applied seen grown own =
+      let e : old.settings ≡ settings = same_settings old o starts ∙ opened in
+      let was : old ≡ history_of settings old.records = is_history old settings e in
+      let made = applied.one_more.made in
+      let more : new ≡ record old { records = old.records ++ made ∷ [] } = applied.one_more.records in
+      let is : new ≡ history_of settings (old.records ++ made ∷ []) =
+      more ∙ is_history (record old { records = old.records ++ made ∷ [] }) settings e in
+      let both : told old ++ x ∷ [] ≡ told old ++ entry.Made made ∷ [] =
+      sym grown ∙ (seen ∙ (ap (told {A = A}) more ∙ told_more old made)) in
+      let last : x ∷ [] ≡ entry.Made made ∷ [] = append_cancel_left (told old) (x ∷ []) (entry.Made made ∷ []) both in
+      record {
+        before = old.records;
+        made = made;
+        later = subst (λ (h : History A). StartsWith (told h) (view_of p).seen) was
+            (starts_so (told old) (view_of q).seen (view_of p).seen later sees.later);
+        mine = subst (λ (c : ℕ × ℕ × List (Entry A)). made_by maker_of c.0 (drop c.1 (told old)) ≡ c.2)
+            (λ i. (same.number i, one_entry o fresh i, sees.made i)) mine;
+        applied = subst (λ (c : ℕ × History A × History A). IsApplied (record { 0 = c.0 }) act stamp c.1 c.2)
+            (λ i. (same.number i, was i, is i)) applied;
+        seen = seen ∙ ap (told {A = A}) is;
+        own = own ∙ (λ i. sees.made i ++ last i);
+      }
+
+  -- a pass is itself, and has seen what it has seen
+  pub same_pass : (p : CorePass A g) → SamePass p p
+  same_pass p = record { table = refl; number = refl; lane = refl }
+
+  pub sees_same : (p : CorePass A g) → OnlySees (view_of p) (view_of p)
+  sees_same p = record {
+    number = refl;
+    opening = refl;
+    passes = refl;
+    made = refl;
+    later = ([], sym (append-nil (view_of p).seen));
+  }
+
+-- what follows of the value of `Ok`
+pub if_ok : {X E : Type 0} (r : Result X E) (P Q : X → Type 0) → IfOk r P → ((x : X) → P x → Q x) → IfOk r Q
+if_ok (Ok x) P Q p follows = follows x p
+if_ok (Err e) P Q p follows = tt

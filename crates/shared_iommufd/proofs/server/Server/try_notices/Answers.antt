@@ -1,0 +1,31 @@
+use Rattle.std.proofs.Common.{refl, rules, Ok, Err, subst}
+use Rattle.iofd_words.specs.Run.{IsRun}
+use Rattle.shared_iommufd.specs.Opening.{opened_with}
+use Rattle.shared_iommufd.specs.Servers.{settings_of}
+use Rattle.shared_iommufd.specs.Told.{TellsNotices}
+use Rattle.shared_iommufd.proofs.Shown.{notified}
+use Rattle.shared_iommufd.proofs.server.Server.try_notices.Goals as goal
+
+pub returns-in-Ok-Ok-clause-notices : goal.returns-in-Ok-Ok-clause-notices
+returns-in-Ok-Ok-clause-notices g c =
+    let server = c.args.self.now in
+    let shown = c.in-Ok-Ok.ensures.shown in
+    let h = shown.0.core.history in
+    let k = shown.1 in
+    let run : IsRun h.settings h.records = search rules in
+    let tells : TellsNotices h c.args.file c.args.access c.in-Ok-Ok.field-0 = search rules in
+    notified (settings_of server) (opened_with server.lock) h c.try_show.new.pass c.args.file c.args.access
+    (Ok c.in-Ok-Ok.notices) refl server.fresh k.opened run k.seen k.legal
+    (subst (TellsNotices h c.args.file c.args.access) c.in-Ok-Ok.field-0-is tells)
+
+pub returns-in-Ok-Err-clause-notices : goal.returns-in-Ok-Err-clause-notices
+returns-in-Ok-Err-clause-notices g c =
+    let server = c.args.self.now in
+    let shown = c.in-Ok-Err.ensures.shown in
+    let h = shown.0.core.history in
+    let k = shown.1 in
+    let run : IsRun h.settings h.records = search rules in
+    let tells : TellsNotices h c.args.file c.args.access c.in-Ok-Err.field-0 = search rules in
+    notified (settings_of server) (opened_with server.lock) h c.try_show.new.pass c.args.file c.args.access
+    (Err c.in-Ok-Err.failed) refl server.fresh k.opened run k.seen k.legal
+    (subst (TellsNotices h c.args.file c.args.access) c.in-Ok-Err.field-0-is tells)

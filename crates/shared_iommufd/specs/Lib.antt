@@ -1,0 +1,13 @@
+pub mod Applied
+pub mod Ends
+pub mod Entries
+pub mod GivenBack
+pub mod Guarded
+pub mod Limits
+pub mod Made
+pub mod OfPort
+pub mod Opening
+pub mod Passes
+pub mod Seen
+pub mod Servers
+pub mod Told

@@ -1,0 +1,27 @@
+-- What a call makes.
+use Rattle.std.specs.Prelude.{◌≡◌, List, [], ◌∷◌, ◌++◌, map}
+use Rattle.iofd_words.specs.Settings.{Settings}
+use Rattle.iofd_words.specs.declared.event.Act.{Act}
+use Rattle.iofd_words.specs.declared.record.Record.{Record}
+use Rattle.iommufd_core.specs.declared.apply.Stamp.{Stamp}
+use Rattle.lane_lock.specs.History.{StartsWith, made_by}
+use Rattle.lane_lock.specs.Passes.{number_of, view_of}
+use Rattle.shared_iommufd.specs.Applied.{IsApplied}
+use Rattle.shared_iommufd.specs.Entries.{history_of, maker_of, told}
+use Rattle.shared_iommufd.specs.Passes.{CoreGhosts, CorePass}
+use Rattle.shared_iommufd.specs.declared.kept_core.Entry.TheVariants as entry
+
+module _ {A : Type 0} {g : CoreGhosts A} where
+  -- The pass made one record: of this act, with its own number, and with the reply and at the place of the stamp. It
+  -- stands behind all records that there were, which are all that the pass had seen and maybe more, and of which those
+  -- of the pass are just those that it had made. It is the last record that the pass has seen now.
+  pub record Makes (settings : Settings) (p : CorePass A g) (act : Act A) (stamp : Stamp) (q : CorePass A g)
+      : Type 0 where
+    pub before : List (Record A)
+    pub made : Record A
+    pub later : StartsWith (told (history_of settings before)) (view_of p).seen
+    pub mine : made_by maker_of (number_of p) (map entry.Made before) ≡ (view_of p).made
+    pub applied : IsApplied (record { 0 = number_of p }) act stamp (history_of settings before)
+        (history_of settings (before ++ made ∷ []))
+    pub seen : (view_of q).seen ≡ told (history_of settings (before ++ made ∷ []))
+    pub own : (view_of q).made ≡ (view_of p).made ++ entry.Made made ∷ []

@@ -1,0 +1,50 @@
+-- What a question shows to its pass.
+use Rattle.std.specs.Prelude.{◌≡◌, List, Result, Ok, Err, Vec}
+use Rattle.iofd_words.specs.Bounds.{Bounds}
+use Rattle.iofd_words.specs.Look.{answers_to}
+use Rattle.iofd_words.specs.Run.{IsRun}
+use Rattle.iofd_words.specs.Settings.{Settings}
+use Rattle.iofd_words.specs.declared.call_error.CallError.{CallError}
+use Rattle.iofd_words.specs.declared.numbers.FileNo.{FileNo}
+use Rattle.iofd_words.specs.declared.numbers.ObjId.{ObjId}
+use Rattle.iofd_words.specs.declared.query.Answer.{Answer}
+use Rattle.iofd_words.specs.declared.query.Query.{Query}
+use Rattle.iofd_words.specs.declared.record.Record.{Record}
+use Rattle.lane_lock.specs.History.{Legal}
+use Rattle.lane_lock.specs.Outcomes.{RefusesRead}
+use Rattle.lane_lock.specs.Passes.{lane_of, number_of, view_of}
+use Rattle.server_state.specs.Choice.{IsLooked}
+use Rattle.shared_iommufd.specs.Entries.{history_of, maker_of, told}
+use Rattle.shared_iommufd.specs.Passes.{CoreGhosts, CorePass}
+use Rattle.shared_iommufd.specs.Told.{TellsNotices}
+use Rattle.shared_iommufd.specs.declared.error.TryError.{TryError}
+use Rattle.shared_iommufd.specs.declared.error.TryError.TheVariants as tried
+
+module _ {A : Type 0} {g : CoreGhosts A} where
+  -- the pass has seen just these records of a server that was opened with the settings; they are a run, and legal for
+  -- the pass: its own among them are those that it made
+  pub record HasSeen (settings : Settings) (p : CorePass A g) (records : List (Record A)) : Type 0 where
+    pub seen : (view_of p).seen ≡ told (history_of settings records)
+    pub run : IsRun settings records
+    pub legal : Legal maker_of 1 (told (history_of settings records)) (number_of p) (view_of p).seen (view_of p).made
+
+  -- the question has this answer after all records that the pass has seen
+  pub record IsAnswered (settings : Settings) (p : CorePass A g) (query : Query) (answer : Answer) : Type 0 where
+    pub records : List (Record A)
+    pub seen : HasSeen settings p records
+    pub looked : IsLooked (answers_to settings records query) answer
+
+  -- the access object's driver is told these notices, or why there are none, after all records that the pass has seen
+  pub record AreNotices (settings : Settings) (p : CorePass A g) (file : FileNo) (access : ObjId)
+      (answer : Result (Vec Bounds A) CallError) : Type 0 where
+    pub records : List (Record A)
+    pub seen : HasSeen settings p records
+    pub tells : TellsNotices (history_of settings records) file access answer
+
+  -- the same of a question that doesn't wait; where the lane of the pass was held or empty, the pass has seen no more
+  abbrev pub AreTriedNotices : Settings → CorePass A g → CorePass A g → FileNo → ObjId
+      → Result (Vec Bounds A) (TryError CallError) → Type 0
+  AreTriedNotices settings p q file access (Ok spans) = AreNotices settings q file access (Ok spans)
+  AreTriedNotices settings p q file access (Err (tried.Call failed)) = AreNotices settings q file access (Err failed)
+  AreTriedNotices settings p q file access (Err (tried.NotNow refused)) =
+      RefusesRead (view_of p) (view_of q) (lane_of p) refused

@@ -1,0 +1,42 @@
+//! Why a call of a shared server fails.
+
+use crate::kept_core::KeptCore;
+use crate::server::{Pass, Server};
+use lane_lock::{Kept, NotNow};
+use std::alloc::{Allocator, Global};
+use std::sync::Arc;
+
+/// Why a server can't be opened so.
+#[derive(Clone, Copy, PartialEq, Eq, Debug)]
+pub enum ConfigError {
+    /// There are 1 to 64 lanes.
+    Lanes,
+    /// A cache has 1 to 4096 pages.
+    Cache,
+    /// There was no memory for the server.
+    Memory,
+}
+
+/// Why a call that doesn't wait did nothing.
+#[derive(Clone, Copy, PartialEq, Eq, Debug)]
+pub enum TryError<E> {
+    /// A lane is held, or the lane of the pass is empty: the call can't be served now.
+    NotNow(NotNow),
+    /// The call was served, and failed.
+    Call(E),
+}
+
+/// Why a server didn't give its core back.
+#[derive(Drop)]
+pub enum CloseError<A: Allocator + Copy = Global>
+where
+    KeptCore<A>: Kept,
+{
+    /// A pass is missing. Server and passes come back.
+    NotAll {
+        server: Server<A>,
+        passes: Vec<Pass<A>>,
+    },
+    /// A share of the core is still held elsewhere. The server has ended; this is another share.
+    Shared(Arc<KeptCore<A>, Global>),
+}

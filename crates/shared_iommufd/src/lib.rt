@@ -1,0 +1,22 @@
+//! The server for threads: the core behind a lock, whose history is what the server was opened with and then all
+//! records. Each caller has a pass. A changing call is one record of that history, and a look answers of a history
+//! that its pass has then seen.
+#![tactic(auto)]
+
+mod call;
+mod close;
+mod error;
+mod guarded;
+mod kept_core;
+mod limits;
+mod look;
+mod notices;
+mod of_port;
+mod server;
+
+pub use error::{CloseError, ConfigError, TryError};
+pub use iommufd_core::{Core, Stamp};
+pub use kept_core::{Entry, KeptCore};
+pub use lane_lock::{Busy, NotNow};
+pub use of_port::{is_event_of_port, is_query_of_port};
+pub use server::{Pass, Server};

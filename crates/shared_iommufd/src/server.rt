@@ -1,0 +1,65 @@
+//! The server, and how it is opened.
+
+ghost use Rattle.std.specs.Prelude.{◌≡◌, []};
+ghost use Rattle.lane_lock.specs.Passes.{passes_of};
+ghost use Rattle.shared_iommufd.specs.Opening.{opened_with};
+
+use crate::error::ConfigError;
+use crate::kept_core::KeptCore;
+use crate::limits::first_outside;
+use iofd_words::Config;
+use iommufd_core::Core;
+use lane_lock::LaneLock;
+use std::alloc::{Allocator, Global};
+
+/// The right to call a server, for one caller at a time. It carries what was seen of the server's history, and the
+/// records that were made by it.
+pub type Pass<A = Global> = lane_lock::Pass<KeptCore<A>>;
+
+/// A server for any number of callers, in threads of their own, each with a pass.
+#[derive(Drop)]
+pub struct Server<A: Allocator + Copy = Global> {
+    pub(crate) lock: LaneLock<KeptCore<A>>,
+    ghost fresh: { (opened_with lock).records ≡ [] },
+    ghost counted: { passes_of lock ≡ (opened_with lock).settings.passes },
+}
+
+impl<A: Allocator + Copy> Server<A> {
+    ghost use Rattle.std.specs.Prelude.{IfErr, IfOk, None, OnOk};
+    ghost use Rattle.lane_lock.specs.Passes.{AllNew, lanes_of};
+    ghost use Rattle.shared_iommufd.specs.Limits.{IsRefusedFor, first_outside};
+    ghost use Rattle.shared_iommufd.specs.Servers.{settings_of};
+
+    /// A server with this configuration and no record, and as many passes as the configuration says, in the order of
+    /// their numbers. The core takes memory of the first allocator, the lock of the second. The limits are 1 to 64
+    /// lanes, and 1 to 4096 pages for the cache of a port; nothing is cached yet.
+    ///
+    /// The error is the first of lanes and cache that is outside its limits, or that memory was wanting.
+    pub fn new<B: Allocator>(
+        alloc: A,
+        global: Global,
+        config: &Config<B>,
+        lanes: u16,
+        cache: u16,
+    ) -> Result<(Server<A>, Vec<Pass<A>>), ConfigError>
+        ensures limits { OnOk result (first_outside lanes cache ≡ None) }
+        ensures settings { IfOk result (λ r. settings_of r.0 ≡ config.now) }
+        ensures lanes { IfOk result (λ r. lanes_of r.0.lock ≡ lanes) }
+        ensures passes { IfOk result (λ r. AllNew r.0.lock config.now.passes r.1.items) }
+        ensures refused { IfErr result (IsRefusedFor lanes cache) }
+    {
+        if let Some(error) = first_outside(lanes, cache) {
+            return Err(error);
+        }
+        // Whoever asks a configuration for its pool learns that it is within its limits.
+        let _pool = config.pool();
+        let passes = config.passes();
+        let Ok(core) = Core::new(alloc, config) else {
+            return Err(ConfigError::Memory);
+        };
+        match LaneLock::new(global, KeptCore { core }, lanes, passes) {
+            Ok((lock, passes)) => Ok((Server { lock }, passes)),
+            Err(_) => Err(ConfigError::Memory),
+        }
+    }
+}

@@ -1,0 +1,15 @@
+//! Tests of `journal_audit`, through its public call: the example of the journals' page, whole, cut and altered
+//! (`example`), a journal with a refusal (`refusal`), those of sessions (`sessions`), an UNMAP that waits (`waits`),
+//! and want of memory (`heaps`).
+#![tactic(auto)]
+
+#[cfg(test)]
+mod example;
+#[cfg(test)]
+mod heaps;
+#[cfg(test)]
+mod refusal;
+#[cfg(test)]
+mod sessions;
+#[cfg(test)]
+mod waits;
