@@ -37,7 +37,7 @@ fn flushed_session<R: Read, W: Write>(
     reader: &mut R,
     writer: &mut W,
 ) -> Result<u8, CliFault> {
-    let status = session(alloc, reader, writer)?;
+    let status = session(alloc, reader, writer, false)?;
     writer.flush().map_err(CliFault::Output)?;
     Ok(status)
 }

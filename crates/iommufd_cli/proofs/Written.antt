@@ -1,13 +1,15 @@
 -- What is written in turn.
-use Rattle.std.proofs.Common.{◌≡◌, ℕ, zero, suc, ◌<◌, ◌≤◌, Option, Some, None, List, [], ◌∷◌, ◌++◌, length, take}
-use Rattle.std.proofs.Common.{Result, Ok, Err, IfOk, OnErr, inl, inr, refl, sym, ◌∙◌, ap, subst, arith}
+use Rattle.std.proofs.Common.{◌≡◌, ℕ, zero, suc, ◌<◌, ◌≤◌, Bool, true, false, Option, Some, None, List, [], ◌∷◌, ◌++◌, length, take}
+use Rattle.std.proofs.Common.{Result, Ok, Err, IfOk, OnErr, OnOk, inl, inr, refl, sym, ◌∙◌, ap, subst, arith}
 use Rattle.std.proofs.lemmas.List.{append_assoc, append-nil}
 use Rattle.std.specs.Io.KnownBytes.{Appends}
 use Rattle.std.specs.Option.{IfSome, option_map}
 use Rattle.iofd_words.specs.Settings.{Settings}
-use Rattle.iommufd_cli.specs.Failures.{BeginsLines, BeginsRunText, BeginsText}
-use Rattle.iommufd_cli.specs.Output.{IsFront}
-use Rattle.iommufd_cli.specs.Session.{IsReadText, IsRunText, StepsText}
+use Rattle.iofd_words.specs.declared.record.Record.{Record}
+use Rattle.iommufd_cli.specs.Failures.{BeginsEnd, BeginsLines, BeginsRunText, BeginsSteps, BeginsText}
+use Rattle.iommufd_cli.specs.Journal.{EndText}
+use Rattle.iommufd_cli.specs.Output.{IsFront, Writes}
+use Rattle.iommufd_cli.specs.Session.{IsReadText, IsRunText, StepsLines, StepsText}
 use Rattle.iommufd_cli.specs.Steps.{IsAnswered}
 use Rattle.iommufd_core.specs.Server.{Server}
 use Rattle.iommufd_script.specs.Opening.{script_of}
@@ -36,54 +38,88 @@ pub split_on : (steps first left others : List Step) (step : Step) → steps ≡
 split_on steps first left others step split next =
     split ∙ ap (λ l. first ++ l) next ∙ sym (append_assoc first (step ∷ []) others)
 
--- from one server on, the lines of some steps are out, which leads to another
+-- lines from one server to another
 module _ {A : Type 0} where
-  abbrev pub Leads : Server A → List Step → List ℕ → Server A → Type 0
-  Leads s first out now =
-      (others : List Step) (rest : List ℕ) → StepsText now others rest → StepsText s (first ++ others) (out ++ rest)
-
-  pub leads_on : (s now after : Server A) (first : List Step) (step : Step) (out line : List ℕ) → Leads s first out now
-      → IsAnswered now step line after
-      → Leads s (first ++ step ∷ []) (out ++ line) after
-  leads_on s now after first step out line leads answered others rest later =
-      rw (append_assoc first (step ∷ []) others, append_assoc out line rest)
-      (leads (step ∷ others) (line ++ rest) (line, after, rest, answered, later, refl))
+  pub lines_on : (s now after : Server A) (first : List Step) (step : Step) (out line : List ℕ)
+      → StepsLines s first out now → IsAnswered now step line after
+      → StepsLines s (first ++ step ∷ []) (out ++ line) after
+  lines_on s now after [] step out line lines answered = (
+    line,
+    after,
+    [],
+    subst (λ (x : Server A). IsAnswered x step line after) lines.1 answered,
+    (refl, refl),
+    ap (λ l. l ++ line) lines.0 ∙ sym (append-nil line),
+  )
+  lines_on s now after (one ∷ first) step out line (text, next, rest, is, lines, whole) answered = (
+    text,
+    next,
+    rest ++ line,
+    is,
+    lines_on next now after first step rest line lines answered,
+    ap (λ l. l ++ line) whole ∙ append_assoc text rest line,
+  )
 
   -- no step is left
-  pub whole_text : (s now : Server A) (steps first left : List Step) (out : List ℕ) → Leads s first out now
-      → steps ≡ first ++ left → left ≡ [] → StepsText s steps out
-  whole_text s now steps first left out leads split none =
-      let all : steps ≡ first ++ [] = split ∙ ap (λ l. first ++ l) none in
-      rw all (subst (StepsText s (first ++ [])) (append-nil out) (leads [] [] refl))
+  pub all_lines : (s now : Server A) (steps first left : List Step) (out : List ℕ) → StepsLines s first out now
+      → steps ≡ first ++ left → left ≡ [] → StepsLines s steps out now
+  all_lines s now steps first left out lines split none =
+      let all : first ≡ steps = sym (split ∙ ap (λ l. first ++ l) none ∙ append-nil first) in
+      subst (λ (l : List Step). StepsLines s l out now) all lines
 
   -- of the next step's line there's a front
   pub begun_text : (s now after : Server A) (steps first left others : List Step) (step : Step)
-      (out line front : List ℕ) → Leads s first out now → steps ≡ first ++ left
-      → left ≡ step ∷ others → IsAnswered now step line after → IsFront front line → BeginsLines s steps (out ++ front)
-  begun_text s now after steps first left others step out line front leads split next answered short = record {
+      (out line front : List ℕ) → StepsLines s first out now → steps ≡ first ++ left
+      → left ≡ step ∷ others → IsAnswered now step line after → IsFront front line → BeginsSteps s steps (out ++ front)
+  begun_text s now after steps first left others step out line front lines split next answered short = record {
     first = first ++ step ∷ [];
     others = others;
     split = split_on steps first left others step split next;
+    last = after;
     text = out ++ line;
-    lines = subst (λ l. StepsText s (first ++ step ∷ []) (out ++ l)) (append-nil line)
-        (leads (step ∷ []) (line ++ []) (line, after, [], answered, refl, refl));
+    lines = lines_on s now after first step out line lines answered;
     front = (short.0, short.1, ap (λ l. out ++ l) short.2 ∙ sym (append_assoc out front short.0));
   }
 
+  -- nothing is asked for behind the lines
+  pub plain_text : (settings : Settings) (s now : Server A) (steps : List Step) (out : List ℕ)
+      → StepsLines s steps out now → StepsText false settings s steps out
+  plain_text settings s now steps out lines =
+      record { last = now; lines = out; lines_are = lines; end = []; end_is = refl; out_is = sym (append-nil out) }
+
+  -- the journal stands there
+  pub journal_text : (settings : Settings) (s now : Server A) (steps : List Step) (out end : List ℕ)
+      → StepsLines s steps out now → EndText true settings now.history.records end
+      → StepsText true settings s steps (out ++ end)
+  journal_text settings s now steps out end lines is =
+      record { last = now; lines = out; lines_are = lines; end = end; end_is = is; out_is = refl }
+
+  -- or a front of it does
+  pub journal_begun : (settings : Settings) (s now : Server A) (steps : List Step) (out front : List ℕ)
+      → StepsLines s steps out now → BeginsEnd true settings now.history.records front
+      → BeginsLines true settings s steps (out ++ front)
+  journal_begun settings s now steps out front lines (end, is, short) =
+      inr (
+        out ++ end,
+        journal_text settings s now steps out end lines is,
+        (short.0, short.1, ap (λ l. out ++ l) short.2 ∙ sym (append_assoc out front short.0)),
+      )
+
   -- a beginning of what is written for a head and steps is one of the script's text
-  pub begins_text : (input out : List ℕ) (settings : Settings) (steps : List Step)
-      → script_of input ≡ Ok (settings, steps) → BeginsRunText A settings steps out → BeginsText A input out
-  begins_text input out settings steps good begun = elim begun [
+  pub begins_text : (input out : List ℕ) (journal : Bool) (settings : Settings) (steps : List Step)
+      → script_of input ≡ Ok (settings, steps) → BeginsRunText A settings steps journal out
+      → BeginsText A input journal out
+  begins_text input out journal settings steps good begun = elim begun [
     | inl lines ↦ inr (inl (record { settings = settings; steps = steps; good = good; lines = lines }))
     | inr front ↦ inr (inr front)
   ]
 
 module _ {A : Type 0} where
   -- what is written for a head and steps is a text of the script that says them
-  pub read_text : (input out : List ℕ) (status : ℕ) (settings : Settings) (steps : List Step)
-      → script_of input ≡ Ok (settings, steps) → IsRunText A settings steps out status
-      → IsReadText A input out status
-  read_text input out status settings steps good text = elim text [
+  pub read_text : (input out : List ℕ) (journal : Bool) (status : ℕ) (settings : Settings) (steps : List Step)
+      → script_of input ≡ Ok (settings, steps) → IsRunText A settings steps journal out status
+      → IsReadText A input journal out status
+  read_text input out journal status settings steps good text = elim text [
     | inl lines ↦ inr (inl (record {
       settings = settings;
       steps = steps;
@@ -95,19 +131,34 @@ module _ {A : Type 0} where
   ]
 
   -- the lines of the steps, from a server on that was just opened, are what is written for a head and steps
-  pub run_text : (settings : Settings) (steps : List Step) (s : Server A) (out : List ℕ) (status : ℕ)
-      → s.history ≡ record { settings = settings; records = [] } → StepsText s steps out × (status ≡ 0)
-      → IsRunText A settings steps out status
-  run_text settings steps s out status opened text = inl ((s, opened, text.0), text.1)
+  pub run_text : (settings : Settings) (steps : List Step) (journal : Bool) (s : Server A) (out : List ℕ) (status : ℕ)
+      → s.history ≡ record { settings = settings; records = [] }
+      → StepsText journal settings s steps out × (status ≡ 0) → IsRunText A settings steps journal out status
+  run_text settings steps journal s out status opened text = inl ((s, opened, text.0), text.1)
 
-  pub begins_run_text : (settings : Settings) (steps : List Step) (s : Server A) (out : List ℕ)
-      → s.history ≡ record { settings = settings; records = [] } → BeginsLines s steps out
-      → BeginsRunText A settings steps out
-  begins_run_text settings steps s out opened begun = inl (s, opened, begun)
+  pub begins_run_text : (settings : Settings) (steps : List Step) (journal : Bool) (s : Server A) (out : List ℕ)
+      → s.history ≡ record { settings = settings; records = [] } → BeginsLines journal settings s steps out
+      → BeginsRunText A settings steps journal out
+  begins_run_text settings steps journal s out opened begun = inl (s, opened, begun)
 
 pub if_ok_weaker : {T E : Type 0} (r : Result T E) (P Q : T → Type 0) → ((x : T) → P x → Q x) → IfOk r P → IfOk r Q
 if_ok_weaker (Ok x) P Q more p = more x p
 if_ok_weaker (Err e) P Q more p = tt
+
+-- the text of the end is written, or a front of it
+module _ {A T E : Type 0} where
+  pub end_written : (r : Result T E) (settings : Settings) (records : List (Record A)) (text : List ℕ)
+      (old new : Option (List ℕ)) → EndText true settings records text → OnOk r (Appends old new text)
+      → OnOk r (Writes (EndText true settings records) old new)
+  end_written (Ok x) settings records text old new is written = (text, is, written)
+  end_written (Err e) settings records text old new is written = tt
+
+  pub end_begun : (r : Result T E) (settings : Settings) (records : List (Record A)) (text : List ℕ)
+      (old new : Option (List ℕ)) → EndText true settings records text
+      → OnErr r (Writes (λ front. IsFront front text) old new)
+      → OnErr r (Writes (BeginsEnd true settings records) old new)
+  end_begun (Ok x) settings records text old new is written = tt
+  end_begun (Err e) settings records text old new is (front, short, written) = (front, (text, is, short), written)
 
 -- ---- reading
 

@@ -5,3 +5,5 @@ pub mod Session
 pub mod Output
 pub mod Failures
 pub mod CommandLine
+pub mod Audit
+pub mod Journal

@@ -1,7 +1,7 @@
 //! The lines that a session answers to the steps of a script.
 
 ghost use Rattle.std.specs.Prelude.{◌≡◌, ◌≤◌, ◌<◌, ◌^◌, ◌+◌, ◌*◌, ◌++◌, IfOk};
-ghost use Rattle.std.specs.Prelude.{[], length, decimal};
+ghost use Rattle.std.specs.Prelude.{[], codes, length, decimal};
 ghost use Rattle.hex.specs.Hex.{encode_lower};
 ghost use Rattle.iommufd_cli.specs.Replies.{line, refusal_text, pending_text, memory_text, no_memory_text};
 ghost use Rattle.iommufd_cli.specs.Replies.{bad_line_text, fault_text, reply_text, written_text, ioctl_text};
@@ -90,8 +90,8 @@ impl Line {
         self.push_slice(b"\n");
     }
 
-    // A text with a decimal number behind it.
-    fn tell_number(&mut self, text: &[u8], number: u64)
+    /// A text with a decimal number behind it. A line feed ends it.
+    pub(crate) fn tell_number(&mut self, text: &[u8], number: u64)
         requires { length text.now ≤ 171 }
         ensures { self.new ≡ line (text.now ++ decimal number) }
     {
@@ -166,6 +166,24 @@ pub fn no_memory_line() -> Line
 {
     let mut line = Line::new();
     line.tell(b"no memory");
+    line
+}
+
+/// The line where there is no memory for a journal: `12 Memory`. A line feed ends it.
+pub fn memory_line() -> Line
+    ensures { result ≡ line memory_text }
+{
+    let mut line = Line::new();
+    line.tell_memory();
+    line
+}
+
+/// The line for an audited input that is no hex: `bad hex`. A line feed ends it.
+pub fn bad_hex_line() -> Line
+    ensures { result ≡ line (codes "bad hex") }
+{
+    let mut line = Line::new();
+    line.tell(b"bad hex");
     line
 }
 

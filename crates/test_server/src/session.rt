@@ -80,7 +80,7 @@ fn end_by_write(kind: ErrorKind) -> End {
 
 // How a session over these ends.
 fn end_of(alloc: Global, reader: &mut Input<'_>, writer: &mut Output<'_>) -> End {
-    match session(alloc, reader, writer) {
+    match session(alloc, reader, writer, false) {
         Ok(status) => End::Status(status),
         Err(CliFault::Input(InputFault::TooLong)) => End::TooLong,
         Err(CliFault::Input(InputFault::Read(_))) => End::BadRead,

@@ -4,12 +4,12 @@ use Rattle.iommufd_cli.proofs.run.run_script.Goals as goal
 
 pub returns-in-Ok-clause-begun : goal.returns-in-Ok-clause-begun
 returns-in-Ok-clause-begun g c =
-    on_err_weaker c.run_steps.result
-    (λ h. (h.0, begins_run_text c.args.config.now c.args.steps.now c.in-Ok.core h.0 c.in-Ok.ensures h.1, h.2))
-    c.run_steps.ensures.begun
+    on_err_weaker c.run_whole.result
+    (λ h. (h.0, begins_run_text c.args.config.now c.args.steps.now c.args.journal c.in-Ok.core h.0 c.in-Ok.ensures h.1, h.2))
+    c.run_whole.ensures.begun
 
 pub returns-in-Ok-clause-text : goal.returns-in-Ok-clause-text
 returns-in-Ok-clause-text g c =
-    if_ok_weaker c.run_steps.result _ _ (λ status h.
-    (h.0, run_text c.args.config.now c.args.steps.now c.in-Ok.core h.0 status c.in-Ok.ensures h.1, h.2))
-    c.run_steps.ensures.text
+    if_ok_weaker c.run_whole.result _ _ (λ status h.
+    (h.0, run_text c.args.config.now c.args.steps.now c.args.journal c.in-Ok.core h.0 status c.in-Ok.ensures h.1, h.2))
+    c.run_whole.ensures.text

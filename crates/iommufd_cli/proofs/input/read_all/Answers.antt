@@ -1,6 +1,6 @@
 use Rattle.std.proofs.Common.{◌≡◌, ◌<◌, length, arith, ◌∙◌, sym}
 use Rattle.iommufd_cli.proofs.Written.{all_read, long_read}
-use Rattle.iommufd_cli.proofs.run.read_all.Goals as goal
+use Rattle.iommufd_cli.proofs.input.read_all.Goals as goal
 
 pub returns-in-Ok-clause-bytes : goal.returns-in-Ok-clause-bytes
 returns-in-Ok-clause-bytes g c =

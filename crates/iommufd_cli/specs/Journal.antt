@@ -1,0 +1,18 @@
+-- What stands behind the lines of a session's steps.
+use Rattle.std.specs.Prelude.{◌≡◌, ◌⊎◌, ℕ, Bool, true, false, List, [], ◌++◌, codes}
+use Rattle.hex.specs.Hex.{encode_lower}
+use Rattle.iofd_words.specs.Settings.{Settings}
+use Rattle.iofd_words.specs.declared.record.Record.{Record}
+use Rattle.iommufd_cli.specs.Replies.{line, memory_text}
+use Rattle.journal_audit_bytes.specs.Journal.{IsJournal}
+
+module _ {A : Type 0} where
+  -- the journal of these records in hex
+  abbrev pub IsJournalLine : Settings → List (Record A) → List ℕ → Type 0
+  IsJournalLine settings records out =
+      (bytes : List ℕ) × IsJournal settings records bytes × (out ≡ line (codes "journal " ++ encode_lower bytes))
+
+  -- nothing; or where it is asked for the journal's line, or that this can't be had
+  abbrev pub EndText : Bool → Settings → List (Record A) → List ℕ → Type 0
+  EndText false settings records out = out ≡ []
+  EndText true settings records out = IsJournalLine settings records out ⊎ (out ≡ line memory_text)
