@@ -1,7 +1,7 @@
 //! The program: it does what its words ask for, with its input and output.
 #![tactic(auto)]
 
-use iommufd_cli::{Choice, CliFault, choose, session};
+use iommufd_cli::{Choice, CliFault, audit, choose, session};
 use std::alloc::Global;
 use std::env;
 use std::io::{self, BufReader, BufWriter, Read, Write};
@@ -13,16 +13,16 @@ const OUTPUT: usize = 0x1_0000;
 fn main(rt: HostRuntime) -> io::Result<ExitCode> {
     let alloc = rt.alloc();
     let words: Vec<String> = env::args(&rt)?.collect(alloc)?;
-    match choose(alloc, words.as_slice()) {
-        Ok(Choice::Session) => {}
+    let choice = match choose(alloc, words.as_slice()) {
+        Ok(choice) => choice,
         Err(error) => {
             eprint!(rt; "{error}")?;
             return Ok(ExitCode::FAILURE);
         }
-    }
+    };
     let mut reader = BufReader::new(alloc, rt.reader())?;
     let mut writer = BufWriter::with_capacity(alloc, OUTPUT, io::writer(&rt))?;
-    match flushed_session(alloc, &mut reader, &mut writer) {
+    match carried_out(alloc, choice, &mut reader, &mut writer) {
         Ok(status) => Ok(ExitCode::from(status)),
         Err(fault) => {
             eprintln!(rt; "error: {fault}")?;
@@ -31,13 +31,17 @@ fn main(rt: HostRuntime) -> io::Result<ExitCode> {
     }
 }
 
-// A session, and all its lines handed on.
-fn flushed_session<R: Read, W: Write>(
+// What was chosen is done, and all its lines are handed on.
+fn carried_out<R: Read, W: Write>(
     alloc: Global,
+    choice: Choice,
     reader: &mut R,
     writer: &mut W,
 ) -> Result<u8, CliFault> {
-    let status = session(alloc, reader, writer, false)?;
+    let status = match choice {
+        Choice::Session { journal } => session(alloc, reader, writer, journal)?,
+        Choice::Audit => audit(alloc, reader, writer)?,
+    };
     writer.flush().map_err(CliFault::Output)?;
     Ok(status)
 }
