@@ -1,3 +1,4 @@
+pub mod Events
 pub mod Layout
 pub mod Table
 pub mod Entries

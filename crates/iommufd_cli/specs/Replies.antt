@@ -1,5 +1,5 @@
 -- The lines that a session answers to the steps of a script, in ASCII.
-use Rattle.std.specs.Prelude.{ℕ, false, nat_lt, Option, Some, None, List, length, ◌++◌}
+use Rattle.std.specs.Prelude.{ℕ, false, nat_lt, Some, None, List, length, ◌++◌}
 use Rattle.std.specs.Prelude.{codes, decimal, if◌then◌else◌}
 use Rattle.std.specs.List.{flat_map}
 use Rattle.std.specs.Int.{w16, to_be_bytes}
@@ -16,11 +16,10 @@ use Rattle.iofd_words.specs.declared.query.Answer.{Answer}
 use Rattle.iofd_words.specs.declared.query.Answer.TheVariants as answer
 use Rattle.iofd_words.specs.Bounds.{Bounds}
 use Rattle.iofd_words.specs.declared.event.Event.{Event}
-use Rattle.iofd_words.specs.declared.event.Event.TheVariants as event
 use Rattle.iofd_words.specs.declared.refusal.Cause.TheVariants as cause
+use Rattle.ioctl_codec.specs.Events.{command_of}
 use Rattle.ioctl_codec.specs.Spelling.{ranges_written_back, written_back}
 use Rattle.ioctl_codec.specs.declared.command.Command.{Command}
-use Rattle.ioctl_codec.specs.declared.command.Command.TheVariants as command
 use Rattle.ioctl_codec.specs.declared.command.RangesRequest.{RangesRequest}
 use Rattle.iommufd_cli.specs.Names.{cause_name, kind_name}
 
@@ -79,32 +78,6 @@ ioctl_text command (reply.Bytes count) = written_text command (reply.Bytes count
 ioctl_text command (reply.Frame frame) = written_text command (reply.Frame frame)
 ioctl_text command (reply.Passed frame) = written_text command (reply.Passed frame)
 ioctl_text command (reply.Fault fault) = written_text command (reply.Fault fault)
-
--- the command whose event it is, if it is one's
-abbrev pub command_of : {A : Type 0} → Event A → Option (Command A)
-command_of (event.IoasAlloc file) = Some command.IoasAlloc
-command_of (event.AllowIovas file ioas ranges) = Some (command.IoasAllowIovas ioas ranges)
-command_of (event.Map file request) = Some (command.IoasMap request)
-command_of (event.Copy file request) = Some (command.IoasCopy request)
-command_of (event.Unmap file request) = Some (command.IoasUnmap request)
-command_of (event.HwptAlloc file request) = Some (command.HwptAlloc request)
-command_of (event.Destroy file id) = Some (command.Destroy id)
-command_of (event.Close file) = None
-command_of (event.UserMap user va) = None
-command_of (event.UserUnmap user va) = None
-command_of (event.UserWrite user va bytes) = None
-command_of (event.Bind file device) = None
-command_of (event.Unbind file id) = None
-command_of (event.AccessCreate file) = None
-command_of (event.AccessAttach file id ioas) = None
-command_of (event.AccessDetach file id) = None
-command_of (event.AccessPin file id request) = None
-command_of (event.AccessUnpin file id request) = None
-command_of (event.AccessWrite file id iova bytes) = None
-command_of (event.Attach device pt_id) = None
-command_of (event.Detach device) = None
-command_of (event.Flush device) = None
-command_of (event.DeviceWrite device iova bytes) = None
 
 -- the reply to an event: a command's is told as an ioctl's
 abbrev pub event_text : {A : Type 0} → Event A → Reply → List ℕ

@@ -16,11 +16,13 @@ use Rattle.iofd_words.specs.declared.query.Query.{Query}
 use Rattle.iofd_words.specs.declared.query.Query.TheVariants as query
 use Rattle.iofd_words.specs.declared.refusal.Cause.{Cause}
 use Rattle.iofd_words.specs.declared.reply.Reply.{Reply}
+use Rattle.ioctl_codec.specs.Events.{asked}
 use Rattle.ioctl_codec.specs.Refusals as codec
 use Rattle.ioctl_codec.specs.Refusals.{SpellsEntries}
 use Rattle.ioctl_codec.specs.Spelling.{Spells}
 use Rattle.ioctl_codec.specs.declared.command.Command.{Command}
-use Rattle.ioctl_codec.specs.declared.command.Command.TheVariants as command
+use Rattle.ioctl_codec.specs.declared.events.Asked.{Asked}
+use Rattle.ioctl_codec.specs.declared.events.Asked.TheVariants as asks
 use Rattle.ioctl_codec.specs.declared.command.RangesRequest.{RangesRequest}
 use Rattle.iommufd_cli.specs.Replies.{answer_text, event_text, line, memory_text, notices_text, ranges_text}
 use Rattle.iommufd_cli.specs.Replies.{refusal_text}
@@ -88,17 +90,10 @@ module _ {A : Type 0} where
         | None ↦ AreNotices (notices (view (world s.history)) file access) text
       ]
 
-  -- a command of a file
-  abbrev pub IsCommanded : Server A → FileNo → Command A → List ℕ → Server A → Type 0
-  IsCommanded s file (command.Destroy id) text after = IsApplied s (event.Destroy file id) text after
-  IsCommanded s file command.IoasAlloc text after = IsApplied s (event.IoasAlloc file) text after
-  IsCommanded s file (command.IoasAllowIovas ioas ranges) text after =
-      IsApplied s (event.AllowIovas file ioas ranges) text after
-  IsCommanded s file (command.IoasIovaRanges request) text after = IsRanges s file request text after
-  IsCommanded s file (command.IoasMap request) text after = IsApplied s (event.Map file request) text after
-  IsCommanded s file (command.IoasCopy request) text after = IsApplied s (event.Copy file request) text after
-  IsCommanded s file (command.IoasUnmap request) text after = IsApplied s (event.Unmap file request) text after
-  IsCommanded s file (command.HwptAlloc request) text after = IsApplied s (event.HwptAlloc file request) text after
+  -- what a command of a file asks for: an event, or the ranges
+  abbrev pub IsServed : Server A → FileNo → Asked A → List ℕ → Server A → Type 0
+  IsServed s file (asks.Event e) text after = IsApplied s e text after
+  IsServed s file (asks.Ranges request) text after = IsRanges s file request text after
 
   -- bytes that spell no command are refused
   pub record IsUndecoded (s : Server A) (number : ℕ) (bytes text : List ℕ) (after : Server A) : Type 0 where
@@ -117,7 +112,7 @@ module _ {A : Type 0} where
   abbrev pub IsDecoded : Server A → FileNo → ℕ → List ℕ → List ℕ → Server A → Type 0
   IsDecoded s file number bytes text after =
       IsUndecoded s number bytes text after ⊎ IsUnlisted s number bytes text after
-      ⊎ ((c : Command A) × Spells number bytes c × IsCommanded s file c text after)
+      ⊎ ((c : Command A) × Spells number bytes c × IsServed s file (asked file c) text after)
 
   -- an ioctl, unless memory was wanting for its bytes
   abbrev pub IsIoctl : Server A → FileNo → ℕ → List ℕ → List ℕ → Server A → Type 0

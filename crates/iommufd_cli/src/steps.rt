@@ -1,15 +1,16 @@
 //! One step of a session: carried out, and answered with a line.
 
 ghost use Rattle.std.specs.Prelude.{◌≡◌, ◌⊎◌, ◌<◌, ◌^◌, length};
-ghost use Rattle.iommufd_cli.specs.Replies.{command_of, event_text, line, memory_text, ranges_text};
-ghost use Rattle.iommufd_cli.specs.Steps.{AreNotices, IsAnswered, IsApplied, IsAsked, IsCommanded, IsDecoded, IsIoctl};
-ghost use Rattle.iommufd_cli.specs.Steps.{IsNotices, IsRanges, text_of};
+ghost use Rattle.iommufd_cli.specs.Replies.{event_text, line, memory_text, ranges_text};
+ghost use Rattle.iommufd_cli.specs.Steps.{AreNotices, IsAnswered, IsApplied, IsAsked, IsDecoded, IsIoctl, IsNotices};
+ghost use Rattle.iommufd_cli.specs.Steps.{IsRanges, IsServed, text_of};
+ghost use Rattle.ioctl_codec.specs.Events.{asked};
 ghost use Rattle.iofd_words.specs.declared.event.Event.TheVariants as event;
 ghost use Rattle.iofd_words.specs.declared.query.Query.TheVariants as query;
 
 use crate::line::Line;
 use crate::replies::{notices_line, ranges_line};
-use ioctl_codec::{Command, DecodeError, RangesRequest, decode};
+use ioctl_codec::{Asked, Command, DecodeError, RangesRequest, decode};
 use iofd_words::{Act, CallError, Event, FileNo, ObjId, PassNo, Query, Reply, Span};
 use iommufd_core::Core;
 use iommufd_script::{HexBytes, Step};
@@ -108,25 +109,9 @@ fn answer_event<A: Allocator + Copy>(
 fn tell_event<A: Allocator>(event: Event<A>, reply: &Reply, out: &mut Line)
     ensures { out.new ≡ line (event_text event reply.now) }
 {
-    match command_of(event) {
+    match Command::of_event(event) {
         Some(command) => out.tell_ioctl(&command, reply),
         None => out.tell_reply(reply),
-    }
-}
-
-// The command whose event it is, if it is one's.
-fn command_of<A: Allocator>(event: Event<A>) -> Option<Command<A>>
-    ensures { result ≡ command_of event }
-{
-    match event {
-        Event::IoasAlloc(_) => Some(Command::IoasAlloc),
-        Event::AllowIovas(_, ioas, ranges) => Some(Command::IoasAllowIovas(ioas, ranges)),
-        Event::Map(_, request) => Some(Command::IoasMap(request)),
-        Event::Copy(_, request) => Some(Command::IoasCopy(request)),
-        Event::Unmap(_, request) => Some(Command::IoasUnmap(request)),
-        Event::HwptAlloc(_, request) => Some(Command::HwptAlloc(request)),
-        Event::Destroy(_, id) => Some(Command::Destroy(id)),
-        _ => None,
     }
 }
 
@@ -204,21 +189,12 @@ fn answer_command<A: Allocator + Copy>(
     command: Command<A>,
     out: &mut Line,
 ) -> Option<Vec<u8, A>>
-    ensures { IsCommanded core.old file command (text_of result out.new) core.new }
+    ensures { IsServed core.old file (asked file command) (text_of result out.new) core.new }
 {
-    let event = match command {
-        Command::Destroy(id) => Event::Destroy(file, id),
-        Command::IoasAlloc => Event::IoasAlloc(file),
-        Command::IoasAllowIovas(ioas, ranges) => Event::AllowIovas(file, ioas, ranges),
-        Command::IoasIovaRanges(request) => {
-            return answer_ranges(alloc, core, file, request, out);
-        }
-        Command::IoasMap(request) => Event::Map(file, request),
-        Command::IoasCopy(request) => Event::Copy(file, request),
-        Command::IoasUnmap(request) => Event::Unmap(file, request),
-        Command::HwptAlloc(request) => Event::HwptAlloc(file, request),
-    };
-    answer_event(core, event, out)
+    match command.asked(file) {
+        Asked::Event(event) => answer_event(core, event, out),
+        Asked::Ranges(request) => answer_ranges(alloc, core, file, request, out),
+    }
 }
 
 // The line for the question for usable ranges.

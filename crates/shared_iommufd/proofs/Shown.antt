@@ -7,23 +7,28 @@ use Rattle.iofd_words.specs.Look.{answers_to}
 use Rattle.iofd_words.specs.Run.{IsRun}
 use Rattle.iofd_words.specs.Settings.{Settings}
 use Rattle.iofd_words.specs.declared.call_error.CallError.{CallError}
+use Rattle.iofd_words.specs.declared.call_error.CallError.TheVariants as error
 use Rattle.iofd_words.specs.declared.event.Act.{Act}
 use Rattle.iofd_words.specs.declared.numbers.FileNo.{FileNo}
 use Rattle.iofd_words.specs.declared.numbers.ObjId.{ObjId}
 use Rattle.iofd_words.specs.declared.query.Answer.{Answer}
 use Rattle.iofd_words.specs.declared.query.Query.{Query}
+use Rattle.ioctl_codec.specs.declared.command.RangesRequest.{RangesRequest}
 use Rattle.iommufd_core.specs.History.{History}
 use Rattle.iommufd_core.specs.declared.apply.Stamp.{Stamp}
+use Rattle.iova_ranges.specs.declared.range_set.RangeSet.{RangeSet}
 use Rattle.lane_lock.specs.History.{Legal, StartsWith, made_by}
 use Rattle.lane_lock.specs.Outcomes.{OnlySees}
 use Rattle.lane_lock.specs.Passes.{SamePass, number_of, view_of}
 use Rattle.server_state.specs.Choice.{IsLooked}
 use Rattle.shared_iommufd.specs.Applied.{IsApplied}
 use Rattle.shared_iommufd.specs.Entries.{history_of, maker_of, told}
+use Rattle.shared_iommufd.specs.Ioctls.{AnswersRanges, AnswersSet, IsTold, TellsRanges}
 use Rattle.shared_iommufd.specs.Made.{Makes}
 use Rattle.shared_iommufd.specs.Passes.{CoreGhosts, CorePass}
 use Rattle.shared_iommufd.specs.Seen.{AreNotices, HasSeen, IsAnswered}
 use Rattle.shared_iommufd.specs.Told.{TellsNotices}
+use Rattle.shared_iommufd.specs.declared.ioctl.IoctlAnswer.{IoctlAnswer}
 use Rattle.shared_iommufd.specs.declared.kept_core.Entry.{Entry}
 use Rattle.shared_iommufd.specs.declared.kept_core.Entry.TheVariants as entry
 use Rattle.shared_iommufd.proofs.Entered.{is_history, one_entry, same_settings, told_more}
@@ -32,6 +37,15 @@ module _ {A : Type 0} where
   -- the history begins with what begins what it begins with
   starts_so : (h b a : List (Entry A)) → StartsWith h b → StartsWith b a → StartsWith h a
   starts_so h b a s t = (t.0 ++ s.0, s.1 ∙ (ap (λ (l : List (Entry A)). l ++ s.0) t.1 ∙ append_assoc a t.0 s.0))
+
+  -- what is answered to the core's word on ranges tells the ranges of its world
+  answers_ranges : {Z : Type 0} (h : History A) (file : FileNo) (request : RangesRequest)
+      (ranges : Result (RangeSet Z) CallError) (answer : IoctlAnswer A) → TellsRanges Z h file request.ioas ranges
+      → AnswersSet Z request ranges answer → AnswersRanges h file request answer
+  answers_ranges h file request (Ok set) answer tells answers =
+      rw (AnswersRanges, ← tells.refused) (set.spans, tells.ranges, answers)
+  answers_ranges h file request (Err (error.Refused refusal)) answer tells answers = rw (AnswersRanges, ← tells.refused) answers
+  answers_ranges h file request (Err (error.Memory no_memory)) answer tells answers = absurd answers
 
 module _ {A : Type 0} {g : CoreGhosts A} where
   -- the pass has seen all that the core h tells, which begins with the opening o
@@ -77,6 +91,24 @@ module _ {A : Type 0} {g : CoreGhosts A} where
         records = h.records;
         seen = has_seen settings o h p opened fresh starts run seen legal;
         tells = subst (λ (x : History A). TellsNotices x file access answer) (is_history h settings e) tells;
+      }
+
+  -- and the core h has told ranges so
+  pub ranges_told : {Z : Type 0} (settings : Settings) (o h : History A) (p q : CorePass A g) (file : FileNo)
+      (request : RangesRequest) (ranges : Result (RangeSet Z) CallError) (answer : IoctlAnswer A)
+      → o.settings ≡ settings → o.records ≡ [] → StartsWith (told h) (told o) → IsRun h.settings h.records
+      → (view_of q).seen ≡ told h
+      → Legal maker_of (length (told o)) (told h) (number_of q) (view_of q).seen (view_of q).made
+      → OnlySees (view_of p) (view_of q) → TellsRanges Z h file request.ioas ranges
+      → AnswersSet Z request ranges answer → IsTold settings p file request answer q
+  ranges_told settings o h p q file request ranges answer opened fresh starts run seen legal sees tells answers =
+      let e : h.settings ≡ settings = same_settings h o starts ∙ opened in
+      record {
+        sees = sees;
+        records = h.records;
+        seen = has_seen settings o h q opened fresh starts run seen legal;
+        answers = subst (λ (x : History A). AnswersRanges x file request answer) (is_history h settings e)
+            (answers_ranges h file request ranges answer tells answers);
       }
 
   -- The pass is p as the call begins, q before the act and r after it; the core tells old before the act, and new after

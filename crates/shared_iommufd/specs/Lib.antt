@@ -3,6 +3,7 @@ pub mod Ends
 pub mod Entries
 pub mod GivenBack
 pub mod Guarded
+pub mod Ioctls
 pub mod Limits
 pub mod Made
 pub mod OfPort

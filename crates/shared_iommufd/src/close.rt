@@ -21,7 +21,7 @@ impl<A: Allocator + Copy> Server<A> {
         ensures ends { IfOk result (λ core. Ends self.lock passes.items core.history) }
         ensures refused { IfErr result (GivesBack self passes.items) }
     {
-        let Server { lock } = self;
+        let Server { lock, alloc } = self;
         match lock.close(passes) {
             Ok(kept) => {
                 let KeptCore { core } = kept;
@@ -29,7 +29,7 @@ impl<A: Allocator + Copy> Server<A> {
                 Ok(core)
             }
             Err(LockError::NotAll { lock, passes }) => Err(CloseError::NotAll {
-                server: Server { lock },
+                server: Server { lock, alloc },
                 passes,
             }),
             Err(LockError::Shared(share)) => {

@@ -4,12 +4,14 @@ ghost use Rattle.std.specs.Prelude.{◌≡◌};
 ghost use Rattle.iofd_words.specs.Look.{answers_to};
 ghost use Rattle.iofd_words.specs.Run.{IsRun};
 ghost use Rattle.server_state.specs.Choice.{IsLooked};
+ghost use Rattle.shared_iommufd.specs.Ioctls.{TellsRanges};
 ghost use Rattle.shared_iommufd.specs.Told.{TellsNotices};
 
 use iofd_words::{
     Act, Answer, CallError, Config, FileNo, NoMemory, ObjId, PassNo, Query, Record, Span,
 };
 use iommufd_core::{Core, Stamp};
+use iova_ranges::RangeSet;
 use lane_lock::Kept;
 use std::alloc::{Allocator, Global};
 
@@ -43,6 +45,14 @@ impl<A: Allocator + Copy> KeptCore<A> {
         ensures run { IsRun self.now.core.history.settings self.now.core.history.records }
     {
         self.core().notices(file, access)
+    }
+
+    // What the core answers to the question for usable ranges.
+    pub(crate) fn ranges(&self, file: FileNo, ioas: ObjId) -> Result<RangeSet<A>, CallError>
+        ensures ranges { TellsRanges A self.now.core.history file ioas result }
+        ensures run { IsRun self.now.core.history.settings self.now.core.history.records }
+    {
+        self.core().ranges(file, ioas)
     }
 
     // What the core answers to the question.

@@ -7,6 +7,7 @@ mod call;
 mod close;
 mod error;
 mod guarded;
+mod ioctl;
 mod kept_core;
 mod limits;
 mod look;
@@ -15,6 +16,7 @@ mod of_port;
 mod server;
 
 pub use error::{CloseError, ConfigError, TryError};
+pub use ioctl::IoctlAnswer;
 pub use iommufd_core::{Core, Stamp};
 pub use kept_core::{Entry, KeptCore};
 pub use lane_lock::{Busy, NotNow};

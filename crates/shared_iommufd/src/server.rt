@@ -20,6 +20,8 @@ pub type Pass<A = Global> = lane_lock::Pass<KeptCore<A>>;
 #[derive(Drop)]
 pub struct Server<A: Allocator + Copy = Global> {
     pub(crate) lock: LaneLock<KeptCore<A>>,
+    // Memory of answers.
+    pub(crate) alloc: A,
     ghost fresh: { (opened_with lock).records ≡ [] },
     ghost counted: { passes_of lock ≡ (opened_with lock).settings.passes },
 }
@@ -58,7 +60,7 @@ impl<A: Allocator + Copy> Server<A> {
             return Err(ConfigError::Memory);
         };
         match LaneLock::new(global, KeptCore { core }, lanes, passes) {
-            Ok((lock, passes)) => Ok((Server { lock }, passes)),
+            Ok((lock, passes)) => Ok((Server { lock, alloc }, passes)),
             Err(_) => Err(ConfigError::Memory),
         }
     }

@@ -5,6 +5,8 @@
 #[cfg(test)]
 mod growth;
 #[cfg(test)]
+mod ioctl;
+#[cfg(test)]
 mod limits;
 #[cfg(test)]
 mod one_pass;

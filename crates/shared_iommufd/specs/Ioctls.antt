@@ -1,0 +1,122 @@
+-- What a call of ioctl makes and answers.
+use Rattle.std.specs.Prelude.{◌≡◌, ◌⊎◌, ◌<◌, ◌^◌, ℕ, Option, Some, None, List, [], length, Result, Ok, Err, IfOk}
+use Rattle.iofd_words.specs.Bounds.{Bounds}
+use Rattle.iofd_words.specs.FirstTrue.{first_true}
+use Rattle.iofd_words.specs.Look.{AreUsableRanges, ranges_checks}
+use Rattle.iofd_words.specs.Refusal as refusals
+use Rattle.iofd_words.specs.Settings.{Settings}
+use Rattle.iofd_words.specs.View.{view}
+use Rattle.iofd_words.specs.declared.call_error.CallError.{CallError}
+use Rattle.iofd_words.specs.declared.call_error.CallError.TheVariants as error
+use Rattle.iofd_words.specs.declared.event.Act.{Act}
+use Rattle.iofd_words.specs.declared.event.Event.{Event}
+use Rattle.iofd_words.specs.declared.numbers.FileNo.{FileNo}
+use Rattle.iofd_words.specs.declared.numbers.ObjId.{ObjId}
+use Rattle.iofd_words.specs.declared.record.Record.{Record}
+use Rattle.iofd_words.specs.declared.refusal.Cause.{Cause}
+use Rattle.iofd_words.specs.declared.refusal.Errno.{Errno}
+use Rattle.iofd_words.specs.declared.refusal.NoMemory.{NoMemory}
+use Rattle.iofd_words.specs.declared.reply.Reply.{Reply}
+use Rattle.ioctl_codec.specs.Events.{asked, command_of, errno_of, ranges_errno}
+use Rattle.ioctl_codec.specs.Refusals as codec
+use Rattle.ioctl_codec.specs.Spelling.{Spells, ranges_written_back, written_back}
+use Rattle.ioctl_codec.specs.declared.command.Command.{Command}
+use Rattle.ioctl_codec.specs.declared.command.RangesRequest.{RangesRequest}
+use Rattle.ioctl_codec.specs.declared.events.Asked.{Asked}
+use Rattle.ioctl_codec.specs.declared.events.Asked.TheVariants as asks
+use Rattle.iommufd_core.specs.History.{History, world}
+use Rattle.iommufd_core.specs.Refused.{refused_cause}
+use Rattle.iommufd_core.specs.declared.apply.Stamp.{Stamp}
+use Rattle.iova_ranges.specs.declared.range_set.RangeSet.{RangeSet}
+use Rattle.lane_lock.specs.Outcomes.{OnlySees, RefusesRead}
+use Rattle.lane_lock.specs.Passes.{view_of}
+use Rattle.lane_lock.specs.declared.table.View.{View}
+use Rattle.shared_iommufd.specs.Entries.{history_of}
+use Rattle.shared_iommufd.specs.Guarded.{RefusesCommit}
+use Rattle.shared_iommufd.specs.Made.{Makes}
+use Rattle.shared_iommufd.specs.Passes.{CoreGhosts, CorePass}
+use Rattle.shared_iommufd.specs.Seen.{HasSeen}
+use Rattle.shared_iommufd.specs.declared.error.TryError.{TryError}
+use Rattle.shared_iommufd.specs.declared.error.TryError.TheVariants as tried
+use Rattle.shared_iommufd.specs.declared.ioctl.IoctlAnswer.{IoctlAnswer}
+
+module _ {A : Type 0} where
+  -- this error is answered, if any, and these bytes are written back
+  abbrev pub Answers : IoctlAnswer A → Option Errno → List ℕ → Type 0
+  Answers answer errno bytes = (answer.errno ≡ errno) × (answer.bytes.items ≡ bytes)
+
+  -- what is written back for an event that has this reply: that of the command that asks for it
+  abbrev pub event_written_back : Event A → Reply → List ℕ
+  event_written_back e reply = elim (command_of e) [ None ↦ [] | Some command ↦ written_back command reply ]
+
+  -- it is answered so
+  abbrev pub AnswersEvent : Event A → Reply → IoctlAnswer A → Type 0
+  AnswersEvent e reply answer = Answers answer (errno_of reply) (event_written_back e reply)
+
+  -- these are the usable ranges in the world of the history, few enough to be counted, or why there are none
+  pub record TellsRanges (Z : Type 0) (h : History A) (file : FileNo) (ioas : ObjId)
+      (told : Result (RangeSet Z) CallError) : Type 0 where
+    pub refused : refused_cause told ≡ first_true (ranges_checks (view (world h)) file ioas)
+    pub ranges : IfOk told (λ set. AreUsableRanges (view (world h)) file ioas set.spans)
+    pub few : IfOk told (λ set. length set.spans < 2 ^ 32)
+
+  -- and so is what a core tells of ranges: the list of them, or why there is none
+  abbrev pub AnswersSet : (Z : Type 0) → RangesRequest → Result (RangeSet Z) CallError → IoctlAnswer A → Type 0
+  AnswersSet Z request (Ok set) answer =
+      Answers answer (ranges_errno request (length set.spans)) (ranges_written_back request set.spans)
+  AnswersSet Z request (Err (error.Refused refusal)) answer = Answers answer (Some (refusals.errno_of refusal.cause)) []
+  AnswersSet Z request (Err (error.Memory no_memory)) answer = ⊥
+
+  -- the question for ranges is answered in the world of the history: by why it is refused, or by the ranges
+  abbrev pub AnswersRanges : History A → FileNo → RangesRequest → IoctlAnswer A → Type 0
+  AnswersRanges h file request answer =
+      elim (first_true (ranges_checks (view (world h)) file request.ioas)) as (λ _. Type 0) [
+        | Some cause ↦ Answers answer (Some (refusals.errno_of cause)) []
+        | None ↦ (ranges : List Bounds) × AreUsableRanges (view (world h)) file request.ioas ranges
+            × Answers answer (ranges_errno request (length ranges)) (ranges_written_back request ranges)
+      ]
+
+  module _ {g : CoreGhosts A} where
+    -- the event made one record, whose reply is answered to the command that asks for it
+    pub record IsMade (settings : Settings) (p : CorePass A g) (e : Event A) (answer : IoctlAnswer A)
+        (q : CorePass A g) : Type 0 where
+      pub stamp : Stamp
+      pub makes : Makes settings p (record { event = e; via = None }) stamp q
+      pub answers : AnswersEvent e stamp.reply answer
+
+    -- no record was made; the ranges are those after all records that the pass has then seen
+    pub record IsTold (settings : Settings) (p : CorePass A g) (file : FileNo) (request : RangesRequest)
+        (answer : IoctlAnswer A) (q : CorePass A g) : Type 0 where
+      pub sees : OnlySees (view_of p) (view_of q)
+      pub records : List (Record A)
+      pub seen : HasSeen settings q records
+      pub answers : AnswersRanges (history_of settings records) file request answer
+
+    -- what the command asks for was carried out
+    abbrev pub IsServed : Settings → CorePass A g → FileNo → Asked A → IoctlAnswer A → CorePass A g → Type 0
+    IsServed settings p file (asks.Event e) answer q = IsMade settings p e answer q
+    IsServed settings p file (asks.Ranges request) answer q = IsTold settings p file request answer q
+
+    -- the bytes spell no command, and are refused by the first cause; the pass is as it was
+    pub record IsUndecoded (p : CorePass A g) (number : ℕ) (bytes : List ℕ) (answer : IoctlAnswer A) (q : CorePass A g)
+        : Type 0 where
+      pub cause : Cause
+      pub first : codec.refusal number bytes ≡ Some cause
+      pub same : q ≡ p
+      pub answers : Answers answer (Some (refusals.errno_of cause)) []
+
+    -- the bytes are refused, or the command that they spell was carried out
+    abbrev pub IsDecoded : Settings → CorePass A g → FileNo → ℕ → List ℕ → IoctlAnswer A → CorePass A g → Type 0
+    IsDecoded settings p file number bytes answer q =
+        IsUndecoded p number bytes answer q
+        ⊎ ((command : Command A) × Spells number bytes command
+        × IsServed settings p file (asked file command) answer q)
+
+-- no look was had: the lane of the pass was held or empty, or memory was wanting
+abbrev pub RefusesLook : {E : Type 0} → ℕ → View E → View E → TryError NoMemory → Type 0
+RefusesLook lane v w (tried.NotNow refused) = RefusesRead v w lane refused
+RefusesLook lane v w (tried.Call no_memory) = OnlySees v w
+
+-- nothing was made, by a call of this lane, where so many lanes are
+abbrev pub RefusesIoctl : {E : Type 0} → ℕ → ℕ → View E → View E → TryError NoMemory → Type 0
+RefusesIoctl lanes lane v w error = RefusesCommit lanes v w error ⊎ RefusesLook lane v w error
