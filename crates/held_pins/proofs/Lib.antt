@@ -1,5 +1,6 @@
 pub mod Alike
 pub mod Asked
+pub mod InOrder
 pub mod Lists
 pub mod Order
 pub mod Over

@@ -1,4 +1,4 @@
--- Pins as keys: keys that compare alike are one.
+-- Pins and pages as keys: keys that compare alike are one.
 use Rattle.std.proofs.Common.{◌≡◌, ℕ, Bool, true, false, ◌&&◌, ◌==◌, cond, not, refl, ap, sym, ◌∙◌, arith}
 use Rattle.std.specs.BTreeMap.{is_at}
 use Rattle.std.specs.Cmp.{tied_then}
@@ -7,8 +7,9 @@ use Rattle.std.specs.declared.cmp.Ordering.{Ordering}
 use Rattle.std.specs.declared.cmp.Ordering.TheVariants.{Less, Equal, Greater}
 use Rattle.std.proofs.lemmas.Bool.Decides.{nat_tests}
 use Rattle.std.proofs.lemmas.Map.Lookups.{CmpEqualImpliesEq, exact_pairs, exact_unsigned}
-use Rattle.held_pins.specs.Held.{key_cmp, pin_of}
+use Rattle.held_pins.specs.Held.{key_cmp, page_cmp, pin_of}
 use Rattle.held_pins.specs.HeldPins.{is_pin}
+use Rattle.held_pins.specs.declared.keys.PageKey.{PageKey}
 use Rattle.held_pins.specs.declared.keys.PinKey.{PinKey}
 
 exact_bools : CmpEqualImpliesEq bool_cmp
@@ -42,12 +43,15 @@ cmp4 x y = ordering_then (nat_cmp x.0 y.0) (cmp3 x.1 y.1)
 abbrev cmp5 : Fields5 → Fields5 → Ordering
 cmp5 x y = ordering_then (nat_cmp x.0 y.0) (cmp4 x.1 y.1)
 
-exact5 : CmpEqualImpliesEq cmp5
-exact5 =
-    exact_pairs nat_cmp cmp4 exact_unsigned (exact_pairs nat_cmp cmp3 exact_unsigned (exact_pairs nat_cmp cmp2
-    exact_unsigned (exact_pairs nat_cmp bool_cmp exact_unsigned exact_bools)))
+exact4 : CmpEqualImpliesEq cmp4
+exact4 =
+    exact_pairs nat_cmp cmp3 exact_unsigned (exact_pairs nat_cmp cmp2 exact_unsigned (exact_pairs nat_cmp bool_cmp
+    exact_unsigned exact_bools))
 
-pub exact_keys : CmpEqualImpliesEq key_cmp
+exact5 : CmpEqualImpliesEq cmp5
+exact5 = exact_pairs nat_cmp cmp4 exact_unsigned exact4
+
+exact_keys : CmpEqualImpliesEq key_cmp
 exact_keys a b same =
     ap
     (λ (k : ℕ × Fields5). record {
@@ -70,6 +74,25 @@ equal_from_test Greater passes = cc
 
 pub same_keys : (a b : PinKey) → is_at (key_cmp a) b ≡ true → a ≡ b
 same_keys a b passes = exact_keys a b (equal_from_test (key_cmp a b) passes)
+
+-- keys of pages by their fields
+exact_pages : CmpEqualImpliesEq page_cmp
+exact_pages a b same =
+    ap
+    (λ (k : ℕ × Fields4). record {
+      file = k.0;
+      object = k.1.0;
+      page = k.1.1.0;
+      access = k.1.1.1.0;
+      write = k.1.1.1.1;
+    })
+    (exact_pairs nat_cmp cmp4 exact_unsigned exact4
+    (a.file, (a.object, (a.page, (a.access, a.write))))
+    (b.file, (b.object, (b.page, (b.access, b.write))))
+    same)
+
+pub same_pages : (a b : PageKey) → is_at (page_cmp a) b ≡ true → a ≡ b
+same_pages a b passes = exact_pages a b (equal_from_test (page_cmp a b) passes)
 
 -- ---- a key is another's where its pin is
 

@@ -1,23 +1,21 @@
 -- The pins that rows of keys and counts stand for, by how they are counted.
-use Rattle.std.proofs.Common.{◌≡◌, ℕ, zero, suc, ◌+◌, ◌-◌, ◌*◌, ◌<◌, ◌≤◌, Bool, true, false, cond, ◌||◌, Some}
-use Rattle.std.proofs.Common.{List, [], ◌∷◌, ◌++◌, replicate, refl, sym, ap, subst, ◌∙◌, arith}
+use Rattle.std.proofs.Common.{◌≡◌, ℕ, zero, suc, ◌+◌, ◌*◌, ◌<◌, ◌≤◌, Bool, true, false, cond, ◌||◌, Some}
+use Rattle.std.proofs.Common.{List, [], ◌∷◌, ◌++◌, replicate, refl, sym, ap, ◌∙◌, arith}
 use Rattle.std.specs.BTreeMap.{is_at}
 use Rattle.std.specs.List.{count_by, list_any}
 use Rattle.std.specs.Map.{lookup}
 use Rattle.std.specs.Option.{unwrap_or}
-use Rattle.std.specs.Ordering.{match_ordering}
-use Rattle.std.specs.Prelude.{nat_lt, ◌==◌}
-use Rattle.std.specs.declared.cmp.Ordering.{Ordering}
-use Rattle.std.specs.declared.cmp.Ordering.TheVariants.{Less, Equal, Greater}
+use Rattle.std.specs.Prelude.{nat_lt}
 use Rattle.std.proofs.lemmas.Bool.Decides.{nat_tests}
 use Rattle.std.proofs.lemmas.List.Folds.{sum_by-replicate}
 use Rattle.std.proofs.lemmas.List.Sums.{sum_by-append}
-use Rattle.held_pins.specs.Counts.{ArePositive, count_in, one_less, one_more}
+use Rattle.held_pins.specs.Counts.{ArePositive, WeighsMore, count_in, weighed}
 use Rattle.held_pins.specs.Held.{key_cmp, key_of, pin_of, pins_of}
 use Rattle.held_pins.specs.HeldPins.{HasOneMore, is_held, is_pin}
 use Rattle.held_pins.specs.declared.keys.PinKey.{PinKey}
 use Rattle.held_pins.specs.declared.pin.HeldPin.{HeldPin}
-use Rattle.held_pins.proofs.PinKeys.{exact_keys, same_keys, same_pins}
+use Rattle.held_pins.proofs.PinKeys.{same_keys, same_pins}
+use Rattle.held_pins.proofs.Rows.{weighed_row}
 
 abbrev pub Rows : Type 0
 Rows = List (PinKey × ℕ)
@@ -33,84 +31,26 @@ counted_row test row rows =
     sum_by-append (weight test) (replicate row.1 (pin_of row.0)) (pins_of rows)
     ∙ ap (λ n. n + count_by test (pins_of rows)) (sum_by-replicate (weight test) row.1 (pin_of row.0))
 
--- ---- one more
+-- ---- one more, or one less
 
-once_more : (n w : ℕ) → (n + 1) * w ≡ n * w + w
-once_more n w = grind arith
+-- how often a test counts them is what the keys weigh, each as its pin is counted
+weighed_pins : (test : HeldPin → Bool) (rows : Rows)
+    → count_by test (pins_of rows) ≡ weighed (λ key. weight test (pin_of key)) rows
+weighed_pins test [] = refl
+weighed_pins test (row ∷ rows) =
+    counted_row test row rows
+    ∙ ap (λ n. row.1 * weight test (pin_of row.0) + n) (weighed_pins test rows)
+    ∙ sym (weighed_row (λ key. weight test (pin_of key)) row rows)
 
-more_pins : (rows : Rows) (key : PinKey)
-    → HasOneMore (pins_of rows) (pins_of (one_more key_cmp rows key)) (pin_of key)
-more_pins [] key test = counted_row test (key, 1) [] ∙ omega arith
-more_pins (row ∷ rows) key test = by_order (key_cmp key row.0) refl (more_pins rows key test)
-  where
-    by_order : (o : Ordering) → key_cmp key row.0 ≡ o
-        → count_by test (pins_of (one_more key_cmp rows key)) ≡ count_by test (pins_of rows) + weight test (pin_of key)
-        → count_by test (pins_of (match_ordering o ((key, 1) ∷ row ∷ rows) ((row.0, row.1 + 1) ∷ rows)
-        (row ∷ one_more key_cmp rows key)))
-        ≡ count_by test (pins_of (row ∷ rows)) + weight test (pin_of key)
-    by_order Less is rest = counted_row test (key, 1) (row ∷ rows) ∙ omega arith
-    by_order Equal is rest =
-        let same : pin_of row.0 ≡ pin_of key = ap pin_of (sym (exact_keys key row.0 is)) in
-        let here = counted_row test row rows in
-        let more = once_more row.1 (weight test (pin_of row.0)) in
-        counted_row test (row.0, row.1 + 1) rows ∙ omega (arith, here, more)
-        ∙ ap (λ pin. count_by test (pins_of (row ∷ rows)) + weight test pin) same
-    by_order Greater is rest =
-        let here = counted_row test row rows in
-        counted_row test row (one_more key_cmp rows key) ∙ omega (arith, here, rest)
-
-pub pins_after : (rows new : Rows) (key : PinKey) (pin : HeldPin) → key ≡ key_of pin
-    → new ≡ one_more key_cmp rows key → HasOneMore (pins_of rows) (pins_of new) pin
-pins_after rows new key pin same more =
-    subst (λ (all : Rows). HasOneMore (pins_of rows) (pins_of all) pin)
-    (sym (more ∙ ap (λ k. one_more key_cmp rows k) same)) (more_pins rows (key_of pin))
-
--- ---- one less
-
-less_pins : (rows : Rows) (key : PinKey) → 0 < count_in key_cmp rows key
-    → HasOneMore (pins_of (one_less key_cmp rows key)) (pins_of rows) (pin_of key)
-less_pins [] key some test = absurd (omega (arith, some))
-less_pins (row ∷ rows) key some test =
-    by_test (is_at (key_cmp key) row.0) refl some (λ more. less_pins rows key more test)
-  where
-    by_count : (n : ℕ) → 0 < n → (b : Bool) → (n == 1) ≡ b
-        → n * weight test (pin_of row.0) + count_by test (pins_of rows)
-        ≡ count_by test (pins_of (cond b rows ((row.0, n - 1) ∷ rows))) + weight test (pin_of row.0)
-    by_count n more true is =
-        let once : n ≡ 1 = grind (arith, nat_tests) in
-        rw once (omega arith)
-    by_count n more false is =
-        let less : (n - 1) + 1 ≡ n = omega (arith, more) in
-        let here = counted_row test (row.0, n - 1) rows in
-        let mult : n * weight test (pin_of row.0) ≡ (n - 1) * weight test (pin_of row.0) + weight test (pin_of row.0) =
-        ap (λ m. m * weight test (pin_of row.0)) (sym less) ∙ once_more (n - 1) (weight test (pin_of row.0)) in
-        omega (arith, here, mult)
-
-    by_test : (b : Bool) → is_at (key_cmp key) row.0 ≡ b
-        → 0 < unwrap_or (cond b (Some row.1) (lookup (is_at (key_cmp key)) rows)) 0
-        → (0 < count_in key_cmp rows key → count_by test (pins_of rows)
-        ≡ count_by test (pins_of (one_less key_cmp rows key)) + weight test (pin_of key))
-        → count_by test (pins_of (row ∷ rows))
-        ≡ count_by test (pins_of (cond b (cond (row.1 == 1) rows ((row.0, row.1 - 1) ∷ rows))
-        (row ∷ one_less key_cmp rows key))) + weight test (pin_of key)
-    by_test true is more rest =
-        let same : pin_of row.0 ≡ pin_of key = ap pin_of (sym (same_keys key row.0 is)) in
-        counted_row test row rows
-        ∙ by_count row.1 more (row.1 == 1) refl
-        ∙ ap (λ pin. count_by test (pins_of (cond (row.1 == 1) rows ((row.0, row.1 - 1) ∷ rows))) + weight test pin)
-        same
-    by_test false is more rest =
-        let here = counted_row test row rows in
-        let there = counted_row test row (one_less key_cmp rows key) in
-        let less = rest more in
-        omega (arith, here, there, less)
-
-pub pins_before : (rows new : Rows) (key : PinKey) (pin : HeldPin) → key ≡ key_of pin
-    → 0 < count_in key_cmp rows (key_of pin) → new ≡ one_less key_cmp rows key
-    → HasOneMore (pins_of new) (pins_of rows) pin
-pins_before rows new key pin same some less =
-    subst (λ (all : Rows). HasOneMore (pins_of all) (pins_of rows) pin)
-    (sym (less ∙ ap (λ k. one_less key_cmp rows k) same)) (less_pins rows (key_of pin) some)
+pub pins_after : (less more : Rows) (key : PinKey) (pin : HeldPin) → key ≡ key_of pin
+    → WeighsMore key_cmp less more key → HasOneMore (pins_of less) (pins_of more) pin
+pins_after less more key pin same heavier test =
+    let weigh : PinKey → ℕ = λ k. weight test (pin_of k) in
+    let alike = λ (other : PinKey) (is : is_at (key_cmp key) other ≡ true). ap weigh (sym (same_keys key other is)) in
+    weighed_pins test more
+    ∙ heavier weigh alike
+    ∙ ap (λ n. n + weigh key) (sym (weighed_pins test less))
+    ∙ ap (λ k. count_by test (pins_of less) + weigh k) same
 
 -- ---- which are held
 

@@ -1,4 +1,5 @@
 -- How the counts of pins and of their pages belong together.
+pub use Rattle.held_pins.specs.PageOrder.{page_cmp}
 use Rattle.std.specs.Prelude.{ℕ, ◌≡◌, ◌<◌, ◌≤◌, ◌+◌, ◌/◌, Bool, true, false, ◌==◌, ◌&&◌, not, nat_le, nat_lt}
 use Rattle.std.specs.Prelude.{IsTrue, List, [], ◌∷◌, ◌++◌, replicate, if◌then◌else◌}
 use Rattle.std.specs.List.{count_by}
@@ -51,12 +52,6 @@ pins_of [] = []
 pins_of (row ∷ rows) = replicate row.1 (pin_of row.0) ++ pins_of rows
 
 -- ---- their pages and holders as keys
-
--- by file, then by object, by page, and by access object; pinned for reads alone before pinned for writes too
-abbrev pub page_cmp : PageKey → PageKey → Ordering
-page_cmp a b =
-    ordering_then (nat_cmp a.file b.file) (ordering_then (nat_cmp a.object b.object)
-    (ordering_then (nat_cmp a.page b.page) (ordering_then (nat_cmp a.access b.access) (bool_cmp a.write b.write))))
 
 abbrev pub holder_cmp : HolderKey → HolderKey → Ordering
 holder_cmp a b = ordering_then (nat_cmp a.file b.file) (nat_cmp a.access b.access)

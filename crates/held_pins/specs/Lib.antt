@@ -1,3 +1,4 @@
 pub mod Counts
 pub mod Held
 pub mod HeldPins
+pub mod PageOrder

@@ -141,7 +141,7 @@ impl<A: Allocator> HeldPins<A> {
         requires { IsTrue (is_held self.old pin) }
         ensures less { HasOneMore self.new self.old pin }
     {
-        self.spans.remove(key_of(&pin));
+        let _ = self.spans.remove(key_of(&pin));
         self.counts.remove(&pin);
     }
 }

@@ -7,7 +7,7 @@ use crate::pin::HeldPin;
 use iofd_words::{FileNo, ObjId, PAGE_SIZE, Span};
 
 /// All that a pin is.
-#[derive(Clone, Copy, PartialEq, Eq, PartialOrd, Ord)]
+#[derive(Clone, Copy, PartialEq, Eq, PartialOrd, Ord, Hash)]
 pub(crate) struct PinKey {
     pub file: u16,
     pub access: u32,
@@ -19,7 +19,7 @@ pub(crate) struct PinKey {
 
 /// A page of an object of a file, as an access object has pinned it, for writes too or for reads alone. The object is
 /// the address space, or the access object itself. So pages of one object stand side by side, by number.
-#[derive(Clone, Copy, PartialEq, Eq, PartialOrd, Ord)]
+#[derive(Clone, Copy, PartialEq, Eq, PartialOrd, Ord, Hash)]
 pub(crate) struct PageKey {
     pub file: u16,
     pub object: u32,
@@ -29,7 +29,7 @@ pub(crate) struct PageKey {
 }
 
 /// An access object.
-#[derive(Clone, Copy, PartialEq, Eq, PartialOrd, Ord)]
+#[derive(Clone, Copy, PartialEq, Eq, PartialOrd, Ord, Hash)]
 pub(crate) struct HolderKey {
     pub file: u16,
     pub access: u32,

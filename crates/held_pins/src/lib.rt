@@ -1,6 +1,7 @@
 //! The pins that access objects hold: a contract sees the list of them.
 #![tactic(auto)]
 
+mod counted_pages;
 mod counts;
 mod held_pins;
 mod keys;

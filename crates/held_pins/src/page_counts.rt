@@ -5,7 +5,7 @@ ghost use Rattle.held_pins.specs.Counts.{count_in};
 ghost use Rattle.held_pins.specs.Held.{is_from, is_reached, page_cmp};
 ghost use Rattle.held_pins.specs.declared.keys.PageKey.{PageKey};
 
-use crate::counts::Counts;
+use crate::counted_pages::CountedPages;
 use crate::keys::PageKey;
 use iofd_words::{FileNo, NoMemory, ObjId, PAGE_SIZE, Span};
 use std::alloc::Allocator;
@@ -21,7 +21,7 @@ pub(crate) fn end_of(span: Span) -> u64
 /// Counts each page of the key's object, from the key's page on and below the end, once more as the key is pinned. Its
 /// only error is want of memory; it comes only where one of them isn't counted yet, and leaves each count as it was.
 pub(crate) fn add_pages<A: Allocator + Copy>(
-    counts: &mut Counts<PageKey, A>,
+    counts: &mut CountedPages<A>,
     first: PageKey,
     end: u64,
 ) -> Result<(), NoMemory>
@@ -46,7 +46,7 @@ pub(crate) fn add_pages<A: Allocator + Copy>(
 /// Counts each page of the key's object, from the key's page on and below the end, once less as the key is pinned. They
 /// are counted. It takes no memory.
 pub(crate) fn remove_pages<A: Allocator + Copy>(
-    counts: &mut Counts<PageKey, A>,
+    counts: &mut CountedPages<A>,
     first: PageKey,
     end: u64,
 )
@@ -63,7 +63,7 @@ pub(crate) fn remove_pages<A: Allocator + Copy>(
 /// Whether a page of the object is counted, by whichever access object and whether for writes too or for reads alone,
 /// at which the span has an address.
 pub(crate) fn reaches<A: Allocator>(
-    counts: &Counts<PageKey, A>,
+    counts: &CountedPages<A>,
     file: FileNo,
     object: ObjId,
     span: Span,

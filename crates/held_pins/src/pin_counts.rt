@@ -3,8 +3,9 @@
 ghost use Rattle.std.specs.Prelude.{◌≡◌, [], OnOk, OnErr};
 ghost use Rattle.held_pins.specs.Held.{is_any, is_own, is_shared, AreAlike, AreMore, AreThere, HaveRoom, Lack};
 
+use crate::counted_pages::CountedPages;
 use crate::counts::Counts;
-use crate::keys::{HolderKey, PageKey, first_of};
+use crate::keys::{HolderKey, first_of};
 use crate::page_counts::{add_pages, end_of, remove_pages};
 use crate::pin::HeldPin;
 use iofd_words::NoMemory;
@@ -14,9 +15,9 @@ use std::alloc::{Allocator, Global};
 #[derive(Drop)]
 pub(crate) struct PinCounts<A: Allocator = Global> {
     /// By the access object that pinned it.
-    pub(crate) pages: Counts<PageKey, A>,
+    pub(crate) pages: CountedPages<A>,
     /// By the address space, and then by the access object that pinned it.
-    pub(crate) spaces: Counts<PageKey, A>,
+    pub(crate) spaces: CountedPages<A>,
     pub(crate) holders: Counts<HolderKey, A>,
 }
 
@@ -28,8 +29,8 @@ impl<A: Allocator + Copy> PinCounts<A> {
         ensures holders { result.holders ≡ [] }
     {
         PinCounts {
-            pages: Counts::new(alloc),
-            spaces: Counts::new(alloc),
+            pages: CountedPages::new(alloc),
+            spaces: CountedPages::new(alloc),
             holders: Counts::new(alloc),
         }
     }
@@ -104,6 +105,6 @@ impl<A: Allocator + Copy> PinCounts<A> {
     {
         let first = first_of(pin, pin.ioas);
         remove_pages(&mut self.spaces, first, end_of(pin.span));
-        self.holders.remove(HolderKey::new(pin.file, pin.access));
+        let _ = self.holders.remove(HolderKey::new(pin.file, pin.access));
     }
 }

@@ -1,71 +1,68 @@
-use Rattle.std.proofs.Common.{◌≡◌, ℕ, ◌-◌, ◌<◌, cond, Option, None, Some, ap, sym, ◌∙◌, arith, rules}
-use Rattle.std.specs.BTreeMap.{insert_entry, is_at}
+use Rattle.std.proofs.Common.{◌≡◌, ℕ, ◌*◌, ◌<◌, Bool, false, Option, None, Some, cond, ap, sym, subst, ◌∙◌}
+use Rattle.std.proofs.Common.{arith}
+use Rattle.std.specs.BTreeMap.{is_at}
+use Rattle.std.specs.List.Sorted.{IsPermutation}
 use Rattle.std.specs.Map.{lookup, remove_entry}
 use Rattle.std.specs.Option.{unwrap_or}
-use Rattle.held_pins.specs.Counts.{count_in, one_less}
-use Rattle.held_pins.proofs.Rows.{counted_less, inserted_less, positive_less, removed_less}
+use Rattle.std.specs.Prelude.{nat_lt}
+use Rattle.std.proofs.lemmas.Bool.Decides.{nat_tests}
+use Rattle.std.proofs.lemmas.List.Sorted.{sum_by-IsPermutation}
+use Rattle.held_pins.specs.Counts.{count_in, weighed}
+use Rattle.held_pins.proofs.Rows.{by_order, counted_less, once_found, positive_less, weighed_removed}
 use Rattle.held_pins.proofs.counts.Counts.remove.Goals as goal
-use Rattle.held_pins.proofs.counts.Counts.remove.Goals.{then-get-eq1, else-get-eq1}
 
--- the key is counted so often as its row says
-is_counted : (g : _) (c : goal.Joined-get-eq1 g)
-    → count_in g.K.Ord.cmp c.self.inside.rows.entries c.args.key ≡ c.get.result.now
-is_counted g c =
-    let rows = c.self.inside.rows.entries in
-    let found : lookup (is_at (g.K.Ord.cmp c.args.key)) rows ≡ Some c.get.result.now = search rules in
-    ap (λ (o : Option ℕ). unwrap_or o 0) found
+once : (n : ℕ) → 0 < n → false ≡ nat_lt 1 n → n ≡ 1
+once n some few = grind (arith, nat_tests)
 
--- the rows are those with the key counted once less
-is_less : (g : _) (c : goal.Joined-get-eq1 g)
-    → c.if-get-eq1.self-inside.rows.entries ≡ one_less g.K.Ord.cmp c.self.inside.rows.entries c.args.key
-is_less g c =
-    let cmp = g.K.Ord.cmp in
-    let rows = c.self.inside.rows.entries in
-    let new = c.if-get-eq1.self-inside.rows.entries in
-    let key = c.args.key in
-    let n = c.get.result.now in
-    let counted = is_counted g c in
-    let some : 0 < count_in cmp rows key = rw c.self.view_is c.requires in
-    elim c.if-get-eq1.branch [
-      | then-get-eq1 w ↦
-          let removed : new ≡ remove_entry (is_at (cmp key)) rows = search rules in
-          removed ∙ removed_less cmp rows key (counted ∙ w.if-get-eq1.true)
-      | else-get-eq1 w ↦
-          let written : new ≡ insert_entry cmp rows key (n - 1) = search rules in
-          let often : 1 < count_in cmp rows key = omega (arith, some, counted, w.if-get-eq1.false) in
-          written
-          ∙ ap (λ m. insert_entry cmp rows key (m - 1)) (sym counted)
-          ∙ inserted_less cmp g.met.K.Ord.total rows key c.in-Ok-Occupied.ensures.ordered often
-    ]
+-- the rows are still those of the call
+rows_are : (g : _) (c : goal.After-remove g) → c.self.inside.rows.entries ≡ c.args.self.now
+rows_are g c = c.self.view_is ∙ c.remove_one.ensures.unchanged c.if-remove_one.false
+
+-- the key is counted once
+counted : (g : _) (c : goal.After-remove g)
+    → lookup (is_at (g.K.Ord.cmp c.args.key)) c.self.inside.rows.entries ≡ Some 1
+counted g c =
+    let test = is_at (g.K.Ord.cmp c.args.key) in
+    let is = once (count_in g.K.Ord.cmp c.args.self.now c.args.key) c.requires
+    (sym c.if-remove_one.false ∙ c.remove_one.ensures.test) in
+    once_found test c.self.inside.rows.entries
+    (ap (λ all. count_in g.K.Ord.cmp all c.args.key) (rows_are g c) ∙ is)
+
+-- without the first row of the key, in some order
+removed : (g : _) (c : goal.After-remove g)
+    → IsPermutation (remove_entry (is_at (g.K.Ord.cmp c.args.key)) c.self.inside.rows.entries) c.remove.new.self.entries
+removed g c =
+    let same = by_order g.K.Ord.cmp g.K.PartialEq.eq g.met.K.Ord.matches_eq in
+    subst (λ (eq : _ → _ → Bool).
+    IsPermutation (remove_entry (eq c.args.key) c.self.inside.rows.entries) c.remove.new.self.entries) same
+    c.remove.ensures.entries
 
 pub invariant_of-self : goal.invariant_of-self
 invariant_of-self g c =
-    rw (is_less g c) (positive_less g.K.Ord.cmp c.self.inside.rows.entries c.args.key c.self.invariant)
+    positive_less (is_at (g.K.Ord.cmp c.args.key)) c.self.inside.rows.entries c.remove.new.self.entries (removed g c)
+    c.self.invariant
 
 pub returns-clause-positive : goal.returns-clause-positive
 returns-clause-positive g c = invariant_of-self g c
-
-pub returns-clause-rows : goal.returns-clause-rows
-returns-clause-rows g c = is_less g c ∙ ap (λ seen. one_less g.K.Ord.cmp seen c.args.key) c.self.view_is
 
 pub returns-clause-counts : goal.returns-clause-counts
 returns-clause-counts g c other =
     let cmp = g.K.Ord.cmp in
     let rows = c.self.inside.rows.entries in
-    let new = c.if-get-eq1.self-inside.rows.entries in
+    let new = c.remove.new.self.entries in
     let key = c.args.key in
-    let n = c.get.result.now in
-    let counted = is_counted g c in
-    let some : 0 < count_in cmp rows key = rw c.self.view_is c.requires in
-    elim c.if-get-eq1.branch [
-      | then-get-eq1 w ↦
-          let removed : (q : _) → lookup (is_at (cmp q)) new
-          ≡ cond (is_at (cmp key) q) None (lookup (is_at (cmp q)) rows) = λ q. search rules in
-          counted_less cmp g.met.K.Ord.total rows new key None (sym (counted ∙ w.if-get-eq1.true)) removed other
-          ∙ ap (λ seen. count_in cmp seen other) c.self.view_is
-      | else-get-eq1 w ↦
-          let written : (q : _) → lookup (is_at (cmp q)) new
-          ≡ cond (is_at (cmp key) q) (Some (n - 1)) (lookup (is_at (cmp q)) rows) = λ q. search rules in
-          counted_less cmp g.met.K.Ord.total rows new key (Some (n - 1)) (omega (arith, some, counted)) written other
-          ∙ ap (λ seen. count_in cmp seen other) c.self.view_is
-    ]
+    let same = by_order cmp g.K.PartialEq.eq g.met.K.Ord.matches_eq in
+    counted_less cmp g.met.K.Ord.total rows new key None (sym (ap (λ (o : Option ℕ). unwrap_or o 0) (counted g c)))
+    (subst (λ (eq : _ → _ → Bool). (q : _) → lookup (eq q) new ≡ cond (eq key q) None (lookup (eq q) rows)) same
+    c.remove.ensures.updates.0) other
+    ∙ ap (λ seen. count_in cmp seen other) (rows_are g c)
+
+pub returns-clause-weights : goal.returns-clause-weights
+returns-clause-weights g c weight alike =
+    let test = is_at (g.K.Ord.cmp c.args.key) in
+    let rows = c.self.inside.rows.entries in
+    let less = weighed_removed weight test (weight c.args.key) alike rows 1 (counted g c) in
+    let moved = sum_by-IsPermutation (λ row. row.1 * weight row.0) (remove_entry test rows) c.remove.new.self.entries
+    (removed g c) in
+    let seen = ap (weighed weight) (rows_are g c) in
+    omega (arith, less, moved, seen)

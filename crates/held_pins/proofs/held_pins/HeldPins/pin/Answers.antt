@@ -1,7 +1,7 @@
 use Rattle.std.proofs.Common.{◌≡◌, ◌+◌, ◌<◌, cond, ap, sym, subst, ◌∙◌, arith}
 use Rattle.std.specs.Bool.{IsFalse}
 use Rattle.std.specs.List.{count_by}
-use Rattle.held_pins.specs.Counts.{count_in, one_more}
+use Rattle.held_pins.specs.Counts.{WeighsMore, count_in}
 use Rattle.held_pins.specs.Held.{key_cmp, key_of, pins_of}
 use Rattle.held_pins.specs.HeldPins.{count_of, is_held, is_of}
 use Rattle.held_pins.specs.declared.keys.PinKey.{PinKey}
@@ -54,16 +54,16 @@ invariant_of-self-else-is_err g c =
     let held = c.self.inside in
     let pin = c.args.pin in
     let room = room_left held.spans held.counts pin c.self.invariant (rw c.self.view_is c.requires.few) in
-    let rows = from_ok c.add-2.result (c.add-2.new.self ≡ one_more key_cmp held.spans c.key_of.result)
-    (sym c.is_err.ensures.value ∙ c.if-is_err.false) c.add-2.ensures.rows in
+    let heavier = from_ok c.add-2.result (WeighsMore key_cmp held.spans c.add-2.new.self c.key_of.result)
+    (sym c.is_err.ensures.value ∙ c.if-is_err.false) c.add-2.ensures.weights in
     tied_more held.spans c.add-2.new.self held.counts c.add.new.self pin c.self.invariant room
     (whole_pin pin c.requires.whole c.key_of.ensures.ordered) c.add-2.ensures.positive
-    (pins_after held.spans c.add-2.new.self c.key_of.result pin c.key_of.ensures.value rows) c.in_ok-add.ensures.more
+    (pins_after held.spans c.add-2.new.self c.key_of.result pin c.key_of.ensures.value heavier) c.in_ok-add.ensures.more
 
 pub returns-clause-more : goal.returns-clause-more
 returns-clause-more g c test =
     let spans = c.self.inside.spans in
-    let rows = from_ok c.add-2.result (c.add-2.new.self ≡ one_more key_cmp spans c.key_of.result)
-    (sym c.is_err.ensures.value ∙ c.if-is_err.false) c.add-2.ensures.rows in
-    pins_after spans c.add-2.new.self c.key_of.result c.args.pin c.key_of.ensures.value rows test
+    let heavier = from_ok c.add-2.result (WeighsMore key_cmp spans c.add-2.new.self c.key_of.result)
+    (sym c.is_err.ensures.value ∙ c.if-is_err.false) c.add-2.ensures.weights in
+    pins_after spans c.add-2.new.self c.key_of.result c.args.pin c.key_of.ensures.value heavier test
     ∙ ap (λ pins. count_by test pins + cond (test c.args.pin) 1 0) c.self.view_is

@@ -1,10 +1,11 @@
 use Rattle.std.proofs.Common.{◌≡◌, ◌<◌, ap, refl, subst, sym, ◌∙◌}
 use Rattle.held_pins.specs.Counts.{count_in}
-use Rattle.held_pins.specs.Held.{holder_cmp, holder_of, is_shared, Lack}
+use Rattle.held_pins.specs.Held.{AreAlike, holder_cmp, holder_of, is_shared, Lack}
 use Rattle.held_pins.specs.Held.Tally.{InSpace, OfHolder}
 use Rattle.held_pins.specs.declared.keys.HolderKey.{HolderKey}
+use Rattle.held_pins.specs.declared.pin_counts.PinCounts.{PinCounts}
 use Rattle.held_pins.proofs.Results.{from_err, on_err}
-use Rattle.held_pins.proofs.Runs.{own_holder, over_run}
+use Rattle.held_pins.proofs.Runs.{own_holder, over_run, same_but_spaces}
 use Rattle.held_pins.proofs.pin_counts.PinCounts.add_shared.Goals as goal
 
 pub add_pages-requires-clause-room : goal.add_pages-requires-clause-room
@@ -20,6 +21,12 @@ returns-in_err-add_pages-clause-full g c =
     let lacking = c.in_err-add_pages.ensures.full in
     on_err c.from_residual.result (Lack is_shared c.args.self.now c.args.pin.now)
     (InSpace lacking.0, refl, sym (over lacking.0) ∙ lacking.1, lacking.2)
+
+pub returns-in_err-add_pages-clause-err : goal.returns-in_err-add_pages-clause-err
+returns-in_err-add_pages-clause-err g c =
+    let old = c.args.self.now in
+    let new : PinCounts _ = record { pages = old.pages; spaces = c.add_pages.new.counts; holders = old.holders } in
+    on_err c.from_residual.result (AreAlike new old) (same_but_spaces old new refl refl c.in_err-add_pages.ensures.err)
 
 pub add-requires : goal.add-requires
 add-requires g c =
